@@ -76,8 +76,8 @@ pub(crate) fn bounds_of(later: &[u32]) -> Known
     known
 }
 
-/// A place before which all areas are too small. It is `from` at most, before which they were too small with
-/// fewer bytes free.
+/// The place before which all areas are too small and from which on none is, by one before which all were too small after
+/// fewer free bytes.
 pub(crate) fn too_small(free: u32, bytes: u32, areas: &[u32], from: usize) -> usize
     requires free { free ≤ 511 }
     requires areas { All (λ n. n ≤ 1441) areas.now }

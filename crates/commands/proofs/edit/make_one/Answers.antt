@@ -20,12 +20,12 @@ write_output-requires-clause-apart g c =
 pub returns-clause-done : goal.returns-clause-done
 returns-clause-done g c =
     one_done (g.E.Edit.task c.args.edit.now) c.args.output.now (sym c.clash.ensures ∙ c.in_default.is) (g.E.Edit.file_of c.in_ok-work.work) _ (seen (g.D.Folder.files c.prepare.new.folder) (g.D.Folder.counts c.prepare.new.folder)) _ (ap₂ seen c.prepare.ensures.files c.in_ok-work.ensures.done)
-    c.in_ok-work.ensures.making c.write_output.ensures.told c.write_output.result c.write_output.ensures.written c.write_output.ensures.done
+    c.in_ok-work.ensures.making c.write_output.ensures.touches c.write_output.result c.write_output.ensures.written c.write_output.ensures.done
 
 pub returns-clause-left : goal.returns-clause-left
 returns-clause-left g c =
     one_left (g.E.Edit.task c.args.edit.now) c.args.output.now (sym c.clash.ensures ∙ c.in_default.is) (g.E.Edit.file_of c.in_ok-work.work) _ (seen (g.D.Folder.files c.prepare.new.folder) (g.D.Folder.counts c.prepare.new.folder)) _ (ap₂ seen c.prepare.ensures.files c.in_ok-work.ensures.done)
-    c.in_ok-work.ensures.making c.write_output.ensures.told c.write_output.result c.write_output.ensures.left
+    c.in_ok-work.ensures.making c.write_output.ensures.touches c.write_output.result c.write_output.ensures.left
 
 pub returns-clause-streams : goal.returns-clause-streams
 returns-clause-streams g c =

@@ -1,7 +1,7 @@
 -- The output is created, and then written by a pass over the inputs, which stay.
-use Rattle.std.proofs.Common.{◌≡◌, List, ℕ, None, map, string_bytes, sym, ◌∙◌, ap, subst, arith}
+use Rattle.std.proofs.Common.{◌≡◌, List, ℕ, None, map, string_bytes, refl, sym, ◌∙◌, ap, subst, arith}
 use Rattle.outside.specs.Files.{Holds, IsThere}
-use Rattle.outside.proofs.FilesLaws.{emptied_there}
+use Rattle.outside.proofs.FilesLaws.{emptied_there, fails_touches}
 use Rattle.std.proofs.lemmas.List.{length-map}
 use Rattle.frame_writer.proofs.WritingLaws.{ok-map}
 use Rattle.std.specs.Prelude.{IfSome}
@@ -9,7 +9,7 @@ use Rattle.sync_survey.specs.Faults.{SurveyFields, tells}
 use Rattle.laying.specs.Passing.{IsFresh}
 use Rattle.commands.specs.One.{most_frames, holding, IsPassFault, first_input}
 use Rattle.commands.specs.Left.{seen}
-use Rattle.commands.proofs.OutputLaws.{output_whole, touches_whole, touches_prefix}
+use Rattle.commands.proofs.OutputLaws.{output_whole, touches_whole, touches_prefix, not_begun}
 use Rattle.joining.specs.Join.{joined_file}
 use Rattle.joining.specs.Inputs.{CanBeJoined, AreAlike, class_in, told_parts}
 use Rattle.joining.specs.Laying.{AreSources}
@@ -78,3 +78,16 @@ returns-clause-left g c =
     subst (λ n. left (joined_file (told_parts old (map string_bytes c.args.inputs.now) (map tells c.args.surveys.now))) n fault) (sym (ap first_input c.name_at.ensures))
     (subst (λ bytes. left bytes c.name_at.result.now fault) (same g at)
     (join-fault _ c.name_at.result.now c.args.output.now source.apart old _ _ c.in-Ok.ensures.created (counts c.args.folder.now) _ _ c.in-Ok.ensures.done _ fault prefix cause)))
+
+-- the output wasn't created
+pub returns-in_default-clause-touches : goal.returns-in_default-clause-touches
+returns-in_default-clause-touches g c = fails_touches _ _ c.args.output.now c.in_default.ensures.kept
+
+pub returns-in_default-clause-left : goal.returns-in_default-clause-left
+returns-in_default-clause-left g c = (
+  refl,
+  record {
+    rose = c.in_default.ensures.failed;
+    files = not_begun (λ _. joined_file (told_parts (g.D.Folder.files c.args.folder.now) (map string_bytes c.args.inputs.now) (map tells c.args.surveys.now))) (first_input (map string_bytes c.args.inputs.now)) c.args.output.now _ _ c.in_default.ensures.kept;
+  },
+)

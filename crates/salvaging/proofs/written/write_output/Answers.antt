@@ -1,9 +1,10 @@
 -- The output is created, and then written by a pass over the input, which stays.
-use Rattle.std.proofs.Common.{sym, subst}
+use Rattle.std.proofs.Common.{refl, sym, subst}
 use Rattle.sync_survey.specs.Faults.{tells}
 use Rattle.commands.specs.Left.{seen}
 use Rattle.commands.specs.One.{IsPassFault}
-use Rattle.commands.proofs.OutputLaws.{output_whole, touches_whole, touches_prefix, pass_fault}
+use Rattle.commands.proofs.OutputLaws.{output_whole, touches_whole, touches_prefix, pass_fault, not_begun}
+use Rattle.outside.proofs.FilesLaws.{fails_touches}
 use Rattle.frame_edits.specs.Selected.{selected_file}
 use Rattle.frame_edits.proofs.LaidPass.{relay-ready}
 use Rattle.salvaging.proofs.written.write_output.Goals as goal
@@ -34,3 +35,11 @@ returns-in-Err-clause-left g c =
     (sym c.into.ensures)
     (pass_fault made c.args.input.now c.args.output.now c.requires.apart (files c.args.folder.now) _ _ c.in-Ok.ensures.created c.in-Err.fault
     c.length.result (counts c.args.folder.now) _ _ c.in-Ok.ensures.done c.in-Err.ensures.prefix c.in-Err.ensures.cause)
+
+-- the output wasn't created
+pub returns-in_default-clause-touches : goal.returns-in_default-clause-touches
+returns-in_default-clause-touches g c = fails_touches _ _ c.args.output.now c.in_default.ensures.kept
+
+pub returns-in_default-clause-left : goal.returns-in_default-clause-left
+returns-in_default-clause-left g c =
+    (refl, record { rose = c.in_default.ensures.failed; files = not_begun (selected_file (tells c.args.survey.now) c.args.selection.now) c.args.input.now c.args.output.now _ _ c.in_default.ensures.kept })

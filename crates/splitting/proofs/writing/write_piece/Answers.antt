@@ -1,5 +1,8 @@
 -- The output is created, and then written by a pass over the input, which stays.
-use Rattle.std.proofs.Common.{◌≢◌, ◌∙◌}
+use Rattle.std.proofs.Common.{◌≢◌, [], ◌∷◌, refl, ◌∙◌, subst}
+use Rattle.outside.specs.Files.{OnlyTouches, FailsToCreate}
+use Rattle.outside.proofs.FilesLaws.{fails_touches}
+use Rattle.commands.proofs.OutputLaws.{not_begun}
 use Rattle.sync_survey.specs.Faults.{tells}
 use Rattle.frame_edits.specs.Selected.{selected_file}
 use Rattle.laying.proofs.ChosenFrames.{survey-had}
@@ -29,3 +32,12 @@ pub returns-clause-left : goal.returns-clause-left
 returns-clause-left g c =
     piece-left (selected_file (tells c.args.survey.now) c.args.piece.now.selection) c.length.result c.args.input.now c.as_str-output.result.now _ c.as_str-output.ensures.value c.requires.apart (g.D.Folder.files c.args.folder.now) _ _ c.in-Ok.ensures.created c.write_selection.result
     (g.D.Folder.counts c.args.folder.now) (g.D.Folder.counts c.create.new.self) (g.D.Folder.counts c.write_selection.new.folder) c.in-Ok.ensures.done c.write_selection.ensures.prefix c.write_selection.ensures.cause
+
+-- the output wasn't created
+pub returns-in_default-clause-touches : goal.returns-in_default-clause-touches
+returns-in_default-clause-touches g c =
+    subst (λ n. OnlyTouches (n ∷ []) (g.D.Folder.files c.args.folder.now) (g.D.Folder.files c.create.new.self)) c.as_str-output.ensures.value (fails_touches _ _ c.as_str-output.result.now c.in_default.ensures.kept)
+
+pub returns-in_default-clause-left : goal.returns-in_default-clause-left
+returns-in_default-clause-left g c =
+    (refl, record { rose = c.in_default.ensures.failed; files = not_begun _ c.args.input.now _ _ _ (subst (λ n. FailsToCreate n (g.D.Folder.files c.args.folder.now) (g.D.Folder.files c.create.new.self)) c.as_str-output.ensures.value c.in_default.ensures.kept) })
