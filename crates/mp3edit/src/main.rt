@@ -1,15 +1,15 @@
 //! The program.
 #![tactic(auto)]
 
-ghost use Rattle.std.specs.Prelude.{◌≡◌, ◌≢◌, ◌↔◌, Some, map, string_bytes, IfOk, IfErr, IfSome, OnErr};
+ghost use Rattle.std.specs.Prelude.{◌≡◌, ◌≢◌, ◌↔◌, map, string_bytes, IfOk, IfErr, IfSome, OnErr};
 ghost use Rattle.std.specs.IoError.{error_kind};
 ghost use Rattle.std.specs.declared.io.ErrorKind.TheVariants.{OutOfMemory};
 ghost use Rattle.outside.specs.Counts.{Rose};
-ghost use Rattle.outside.specs.Files.{Contents, sent_more};
+ghost use Rattle.outside.specs.Files.{Contents, Told, OnlyTouches, sent_more};
 ghost use Rattle.commands.specs.Left.{seen};
 ghost use Rattle.commands.specs.Said.{heard};
 ghost use Rattle.job_words.specs.Words.{job_of};
-ghost use Rattle.mp3_cli.specs.Run.{always_of, world, AnswersWords, IsLegal, HoldsAllStreams};
+ghost use Rattle.mp3_cli.specs.Run.{always_of, world, AnswersWords, IsLegal, HoldsAllStreams, outputs_asked};
 
 use mp3_cli::run;
 use on_disk::{DiskFolder, StdSink};
@@ -52,7 +52,7 @@ fn answer<D: Folder, T: Sink, E: Sink>(
         (world (seen (D.files folder.new) (D.counts folder.new))
         (heard (T.sent out.new) (T.faults out.new)) (heard (E.sent err.new) (E.faults err.new)))
         result (job_of (map string_bytes v.items))) }
-    ensures accepted { IfOk words (λ v. (files : Contents) → D.files folder.old ≡ Some files
+    ensures accepted { IfOk words (λ v. (files : Contents) → D.files folder.old ≡ Told files
         → (Rose (D.counts folder.old).read_faults (D.counts folder.new).read_faults → ⊥)
         → (Rose (D.counts folder.old).write_faults (D.counts folder.new).write_faults → ⊥)
         → (Rose (T.faults out.old) (T.faults out.new) → ⊥) → result ≢ 4
@@ -62,6 +62,11 @@ fn answer<D: Folder, T: Sink, E: Sink>(
     ensures text { IfOk words (λ v. result ≡ 0
         → IfSome (always_of (job_of (map string_bytes v.items)))
         (λ text. T.sent out.new ≡ sent_more (T.sent out.old) text)) }
+
+    ensures touches { IfOk words (λ v. OnlyTouches (outputs_asked (job_of (map string_bytes v.items)))
+        (D.files folder.old) (D.files folder.new)) }
+    ensures kept { IfOk words (λ v. result ≢ 0 → result ≢ 3
+        → D.files folder.new ≡ D.files folder.old) }
 
     // The clauses of `status_without_words`.
     ensures memory { IfErr words (λ error. error_kind error ≡ OutOfMemory → result ≡ 4) }

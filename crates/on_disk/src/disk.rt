@@ -1,10 +1,10 @@
 //! Real files.
-ghost use Rattle.std.specs.Prelude.{◌≡◌, ℕ, ◌<◌, ◌≤◌, List, length, take, drop, IfOk, OnOk, OnErr, IsErrOf, if◌then◌else◌, ◌==◌, ◌&&◌, nat_lt, ◌⊎◌, ◌-◌, ◌≢◌, Some, IfSome, IsTrue, true, ◌↔◌, min};
+ghost use Rattle.std.specs.Prelude.{◌≡◌, ℕ, ◌<◌, ◌≤◌, List, length, take, drop, IfOk, OnOk, OnErr, IsErrOf, if◌then◌else◌, ◌==◌, ◌&&◌, nat_lt, ◌⊎◌, ◌-◌, ◌≢◌, Some, IfSome, IsTrue, true, false, ◌↔◌, min};
 ghost use Rattle.std.specs.List.{list_any};
 ghost use Rattle.std.specs.Fs.{new_options};
 ghost use Rattle.std.specs.Io.KnownBytes.{Appends, Keeps, WriteAppends};
 ghost use Rattle.on_disk.specs.Real.{open_name, TellsBytes, ReadsOn};
-ghost use Rattle.outside.specs.Files.{emptied, appended, FailsToCreate, Holds, IsThere, IsMissing, AreOctets};
+ghost use Rattle.outside.specs.Files.{Untold, emptied, appended, FailsToCreate, Holds, IsThere, IsMissing, AreOctets};
 ghost use Rattle.outside.specs.Counts.{none_counted, with_miss, with_end, with_read_fault, with_write_fault, OnlyReads, OnlyWrites, NothingFailed, Rose};
 
 use crate::noted::{FileId, Noted, Opening, opening_of};
@@ -88,9 +88,10 @@ pub struct DiskFolder<'a, R: Files> {
 impl<'a, R: Files> DiskFolder<'a, R> {
     ghost use Rattle.on_disk.specs.Real.{disk_counts, disk_files, found_name, found_file, created_name, created_bytes, EndsAt, HasOpen};
 
-    /// A folder with all counts 0. It takes no memory.
+    /// A folder with all counts 0 that has touched no name. It takes no memory.
     pub fn new(rt: &'a R, alloc: Global) -> Self
-        ensures { disk_counts result ≡ none_counted }
+        ensures counts { disk_counts result ≡ none_counted }
+        ensures untouched { disk_files result ≡ Untold (λ _. false) }
     {
         DiskFolder {
             rt,
