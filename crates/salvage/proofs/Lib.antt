@@ -1,6 +1,7 @@
 -- The lemmas of this crate.
 pub mod UsableLaws
 pub mod ReadFaults
+pub mod SaidLaws
 pub mod SearchLaws
 pub mod WalkLaws
 pub mod SoundLaws

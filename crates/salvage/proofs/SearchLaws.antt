@@ -1,17 +1,8 @@
 -- The next usable frame.
-use Rattle.std.proofs.Common.{◌≡◌, ℕ, zero, suc, ◌+◌, ◌-◌, ◌*◌, ◌/◌, ◌%◌, ◌^◌, ◌<◌, ◌≤◌, ◌&&◌, ◌⊎◌, ◌==◌, leb, Bool, true, false, cond, inl, inr, List, [], ◌∷◌, length, take, drop, get_or, Option, Some, None, Result, Ok, Err, refl, sym, ◌∙◌, ap, ap₂, subst, arith}
-use Rattle.std.proofs.lemmas.Bool.{false≢true, eqb-true, eq-eqb, leb-true, leb-false}
-use Rattle.bit_fields.specs.Bits.{bits, number}
-use Rattle.bit_fields.specs.Groups.{group}
-use Rattle.bit_fields.proofs.BitsLaws.{number-nil, bits-nil, number-bits-push, number-within, AreBits-bits, length-bits}
-use Rattle.frame_header.specs.Fields.{HeaderFields, ClassFields}
+use Rattle.std.proofs.Common.{◌≡◌, ℕ, zero, suc, ◌+◌, ◌-◌, ◌<◌, ◌≤◌, ◌&&◌, ◌⊎◌, leb, Bool, true, false, cond, inl, inr, List, [], ◌∷◌, length, drop, get_or, Option, Some, None, Result, Ok, Err, refl, sym, ◌∙◌, ap, ap₂, subst, arith}
+use Rattle.std.proofs.lemmas.Bool.{false≢true, leb-true, leb-false}
+use Rattle.frame_header.specs.Fields.{HeaderFields}
 use Rattle.frame_header.specs.Tables.{class_of, length_of}
-use Rattle.tag_blocks.specs.declared.block.Kind.{Kind}
-use Rattle.tag_blocks.specs.declared.block.Kind.TheVariants.{Id3v2, Id3v1, Ape}
-use Rattle.tag_blocks.proofs.BlocksLaws.{first_byte, block_front-first}
-use Rattle.frame_header.specs.Reading.{is_readable, rate_bits, header_fields, header_in, header_at}
-use Rattle.frame_header.specs.declared.header.NotHeader.TheVariants.{Free as FreeHeader, No}
-use Rattle.sync_survey.proofs.RunsLaws.{both}
 use Rattle.sync_survey.specs.declared.items.Item.{Item}
 use Rattle.sync_survey.specs.declared.items.Item.TheVariants.{Frame, Free, Block, Zero, End, Nothing}
 use Rattle.sync_survey.specs.declared.places.PlacedFrame.{PlacedFrame}
@@ -26,78 +17,14 @@ use Rattle.salvage.specs.declared.usable.Role.{Role}
 use Rattle.salvage.specs.Usable.{is_usable, if_usable, usable_anchored, next_usable}
 use Rattle.salvage.specs.declared.usable.Role.TheVariants.{First}
 use Rattle.salvage.specs.Walk.{item_read, first_frame}
-use Rattle.salvage.specs.Steps.{may_begin, may_begin_block, IsBare}
-use Rattle.salvage.proofs.UsableLaws.{header_four, usable_behind}
+use Rattle.salvage.specs.Steps.{may_begin, IsBare}
+use Rattle.salvage.proofs.UsableLaws.{usable_behind}
+use Rattle.salvage.proofs.SaidLaws.{header_begins}
 use Rattle.std.specs.Prelude.{option_and_then, IfOk}
 use Rattle.std.specs.Option.{option_or}
 use Rattle.outside.specs.Files.{Files, Holds}
 use Rattle.sync_survey.specs.declared.survey_fault.SurveyFault.{SurveyFault}
 use Rattle.sync_survey.specs.Runs.{frame_as}
-
--- ---- the first two bytes of a header
-
-module _ (a b c d : ℕ) (a_few : a < 256) (b_few : b < 256) (c_few : c < 256) (d_few : d < 256) where
-  number_four : number (bits (a ∷ b ∷ c ∷ d ∷ [])) ≡ ((a * 256 + b) * 256 + c) * 256 + d
-  number_four =
-      number-bits-push (a ∷ b ∷ c ∷ []) d d_few
-      ∙ ap (λ n. n * 256 + d) (number-bits-push (a ∷ b ∷ []) c c_few)
-      ∙ ap (λ n. (n * 256 + c) * 256 + d) (number-bits-push (a ∷ []) b b_few)
-      ∙ ap (λ n. ((n * 256 + b) * 256 + c) * 256 + d) (number-bits-push [] a a_few ∙ ap (λ n. n * 256 + a) (ap number bits-nil ∙ number-nil) ∙ nothing_more)
-    where
-      nothing_more : 0 * 256 + a ≡ a
-      nothing_more = omega arith
-
-  group_four : (from width : ℕ) → from + width ≤ 32 → group from width (bits (a ∷ b ∷ c ∷ d ∷ [])) ≡ (((a * 256 + b) * 256 + c) * 256 + d) / 2 ^ (32 - from - width) % 2 ^ width
-  unfolding group
-  group_four from width within =
-      let four = a ∷ b ∷ c ∷ d ∷ [] in
-      number-within from width (bits four) (AreBits-bits four) (omega (arith, within, length-bits four))
-      ∙ ap₂ (λ (n len : ℕ). n / 2 ^ (len - from - width) % 2 ^ width) number_four (length-bits four)
-
-  sync_said : group 0 11 (bits (a ∷ b ∷ c ∷ d ∷ [])) ≡ 2047 → a ≡ 255
-  sync_said is = omega (arith, sym (group_four 0 11 (omega arith)) ∙ is, a_few, b_few, c_few, d_few)
-
-  layer_said : group 13 2 (bits (a ∷ b ∷ c ∷ d ∷ [])) ≡ 1 → b / 2 % 4 ≡ 1
-  layer_said is = omega (arith, sym (group_four 13 2 (omega arith)) ∙ is, a_few, b_few, c_few, d_few)
-
-  begins_by : is_readable (bits (a ∷ b ∷ c ∷ d ∷ [])) ≡ true → may_begin a b ≡ true
-  unfolding is_readable
-  begins_by passes =
-      let parts = both _ _ passes in
-      let first = both _ _ parts.0 in
-      let front = both _ _ first.0 in
-      let marks = both _ _ front.0 in
-      let sync = eq-eqb a 255 (sync_said (eqb-true _ _ marks.0)) in
-      let layer = eq-eqb (b / 2 % 4) 1 (layer_said (eqb-true _ _ front.1)) in
-      ap₂ (λ (x y : Bool). x && y) sync layer
-
-read_cases : (h : List ℕ) (r z : Bool) (fields : HeaderFields) → is_readable h ≡ r → cond r (cond z (Err FreeHeader) (Ok (header_fields h))) (Err No) ≡ Ok fields → r ≡ true
-read_cases h true z fields is e = refl
-read_cases h false z fields is e = absurd cc
-
-readable_by : (h : List ℕ) (fields : HeaderFields) → header_in h ≡ Ok fields → is_readable h ≡ true
-unfolding header_in
-readable_by h fields e = read_cases h (is_readable h) (rate_bits h == 0) fields refl e
-
-readable_at : (four : List ℕ) (fields : HeaderFields) → header_at four ≡ Ok fields → is_readable (bits four) ≡ true
-unfolding header_at
-readable_at four fields e = readable_by (bits four) fields e
-
-abbrev AreFew : List ℕ → Type 0
-AreFew bytes = (i : ℕ) → get_or bytes i 0 < 256
-
-begun : (bytes : List ℕ) (h : HeaderFields) → AreFew bytes → 4 ≤ length bytes → header_at (take 4 bytes) ≡ Ok h → may_begin (get_or bytes 0 0) (get_or bytes 1 0) ≡ true
-begun [] h few many e = absurd (omega (arith, many))
-begun (a ∷ []) h few many e = absurd (omega (arith, many))
-begun (a ∷ b ∷ []) h few many e = absurd (omega (arith, many))
-begun (a ∷ b ∷ c ∷ []) h few many e = absurd (omega (arith, many))
-begun (a ∷ b ∷ c ∷ d ∷ rest) h few many e = begins_by a b c d (few 0) (few 1) (few 2) (few 3) (readable_at (a ∷ b ∷ c ∷ d ∷ []) h e)
-
--- where a header begins, it may begin
-header_begins : (bytes : List ℕ) (h : HeaderFields) → AreFew bytes → header_front bytes ≡ Ok h → may_begin (get_or bytes 0 0) (get_or bytes 1 0) ≡ true
-header_begins bytes h few e =
-    let four = header_four bytes h e in
-    begun bytes h few four.0 four.1
 
 -- ---- no usable anchored frame
 
@@ -123,26 +50,6 @@ bare_at front few k bare h is =
     let begins = header_begins (drop k front) h (λ i. subst (λ n. n < 256) (sym (get_drop front k i)) (few (k + i))) header in
     let same = ap₂ (λ (m n : ℕ). may_begin m n) (get_drop front k 0 ∙ ap (λ n. get_or front n 0) (omega arith)) (get_drop front k 1) in
     false≢true (sym bare ∙ sym same ∙ begins)
-
--- ---- what is no anchor
-
-not_letter : (kind : Kind) (first : ℕ) → first ≡ first_byte kind → may_begin_block first ≡ false → ⊥
-not_letter Id3v2 first is none = false≢true (sym none ∙ ap may_begin_block is)
-not_letter Id3v1 first is none = false≢true (sym none ∙ ap may_begin_block is)
-not_letter Ape first is none = false≢true (sym none ∙ ap may_begin_block is)
-
--- neither a header nor a block begins with these bytes, and they aren't none
-pub not_anchor : (bytes : List ℕ) (class : ClassFields) → ((i : ℕ) → get_or bytes i 0 < 256) → 2 ≤ length bytes → may_begin (get_or bytes 0 0) (get_or bytes 1 0) ≡ false → may_begin_block (get_or bytes 0 0) ≡ false
-    → is_anchor class (item_front bytes) ≡ false
-not_anchor bytes class few many bare letter = by_item (item_front bytes) refl (stands bytes)
-  where
-    by_item : (item : Item) → item_front bytes ≡ item → Stands bytes item → is_anchor class item ≡ false
-    by_item (Frame h) is here = absurd (false≢true (sym bare ∙ header_begins bytes h few here))
-    by_item Free is here = refl
-    by_item (Block b) is here = absurd (not_letter b.kind (get_or bytes 0 0) (block_front-first bytes b here) letter)
-    by_item Zero is here = refl
-    by_item End is here = absurd (omega (arith, ap length here, many))
-    by_item Nothing is here = refl
 
 -- ---- where there is no anchored frame
 

@@ -12,16 +12,13 @@ use Rattle.sync_survey.specs.Runs.{run, blocks_of}
 use Rattle.sync_survey.specs.Start.{front_end_of}
 use Rattle.sync_survey.specs.Walk.{head_of, numbered_at}
 use Rattle.sync_survey.specs.Faults.{SurveyFields, tells, longest_file}
+pub use Rattle.sync_survey.specs.Limits.{most_frames}
 use Rattle.sync_survey.specs.Kinds.{kind_of, by_kind, HasRightNumbers}
 use Rattle.sync_survey.specs.Survey.{HasShrunk, AsksForMemory}
 use Rattle.salvage.specs.declared.damaged.Damaged.{Damaged}
 use Rattle.salvage.specs.declared.gap.Gap.{Gap}
 use Rattle.salvage.specs.Walk.{first_frame, PlacedThing, things, gaps_of, blocks_in}
 use Rattle.salvage.specs.Sound.{runs_of, judged_runs}
-
--- the greatest number of frames of a file
-abbrev pub most_frames : ℕ
-most_frames = 2900000
 
 -- What is read: the frames, of which those that become empty ones are marked, the blocks outside of gaps, and the head, as a survey tells
 -- of them; and the gaps.

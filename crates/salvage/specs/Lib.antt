@@ -5,6 +5,7 @@ pub mod Sound
 pub mod Damaged
 pub mod Judged
 pub mod Steps
+pub mod Said
 pub mod Progress
 pub mod Text
 pub mod Stream

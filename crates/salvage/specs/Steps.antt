@@ -1,10 +1,10 @@
 -- What is read at an offset, by what a look has shown.
-use Rattle.std.specs.Prelude.{◌≡◌, ℕ, ◌+◌, ◌≤◌, ◌/◌, ◌%◌, ◌==◌, ◌&&◌, ◌||◌, ◌⊎◌, Bool, true, false, List, drop, Option, Some, None}
+use Rattle.std.specs.Prelude.{◌≡◌, ℕ, ◌+◌, ◌≤◌, ◌/◌, ◌%◌, ◌==◌, ◌&&◌, ◌⊎◌, Bool, true, false, List, drop, Option, Some, None, Ok}
 use Rattle.sync_survey.specs.declared.items.Item.{Item}
 use Rattle.sync_survey.specs.declared.items.Item.TheVariants.{Frame}
 use Rattle.frame_header.specs.Fields.{HeaderFields}
 use Rattle.frame_header.specs.Tables.{class_of, length_of}
-use Rattle.sync_survey.specs.Items.{item_front}
+use Rattle.sync_survey.specs.Items.{header_front, item_front}
 use Rattle.sync_survey.specs.Start.{is_anchor}
 use Rattle.sync_survey.specs.declared.runs.Step.{Step}
 use Rattle.salvage.specs.declared.usable.Role.{Role}
@@ -15,10 +15,6 @@ use Rattle.salvage.specs.Walk.{item_read}
 abbrev pub may_begin : ℕ → ℕ → Bool
 may_begin first second = (first == 255) && (second / 2 % 4 == 1)
 
--- a block may begin with this byte: `I`, `T` or `A`
-abbrev pub may_begin_block : ℕ → Bool
-may_begin_block first = (first == 73) || ((first == 84) || (first == 65))
-
 -- how many bytes of a look are searched at once: 32 are seen after each of them
 abbrev pub reach : ℕ
 reach = 4064
@@ -27,6 +23,10 @@ reach = 4064
 abbrev pub HasNoHeader : List ℕ → ℕ → Type 0
 HasNoHeader front k = (h : HeaderFields) → item_front (drop k front) ≡ Frame h → ⊥
 
+-- a frame that these bytes begin with isn't usable
+abbrev pub IsUnusable : List ℕ → Type 0
+IsUnusable bytes = (role : Role) (offset : ℕ) (h : HeaderFields) → header_front bytes ≡ Ok h → is_usable role (record { offset = offset; header = h }) bytes ≡ false
+
 -- No usable anchored frame is at this place of a look at the offset: there is no header, or the look shows that there is no anchor at the
 -- frame's end, or that the frame isn't usable.
 abbrev pub IsBare : Role → ℕ → List ℕ → ℕ → Type 0
@@ -34,6 +34,10 @@ IsBare role offset front k =
     (h : HeaderFields) → item_front (drop k front) ≡ Frame h
     → (k + length_of (class_of h) h.slot ≤ reach)
     × ((is_anchor (class_of h) (item_front (drop (k + length_of (class_of h) h.slot) front)) ≡ false) ⊎ (is_usable role (record { offset = offset + k; header = h }) (drop k front) ≡ false))
+
+-- whatever the look's offset is, and the frame's role
+abbrev pub IsPlainlyBare : List ℕ → ℕ → Type 0
+IsPlainlyBare front k = (role : Role) (offset : ℕ) → IsBare role offset front k
 
 -- a whole item at an offset is read, by the bytes from there on: it isn't a frame, or is a usable one
 abbrev pub admits_item : Role → ℕ → Item → List ℕ → Bool

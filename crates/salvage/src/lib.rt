@@ -9,6 +9,7 @@ mod gap;
 mod laws;
 mod mended;
 mod reading;
+mod said;
 mod search;
 mod usable;
 

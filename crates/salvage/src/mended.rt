@@ -2,7 +2,7 @@
 ghost use Rattle.std.specs.Prelude.{◌≡◌, ◌≤◌, ◌++◌, length, map, option_to_list, IfOk, OnOk};
 ghost use Rattle.sync_survey.specs.Faults.{tells};
 ghost use Rattle.sync_survey.specs.Survey.{IsLaidOut as IsLaidSurvey};
-ghost use Rattle.salvage.specs.Damaged.{tells_of};
+ghost use Rattle.salvage.specs.Damaged.{tells_of, most_frames};
 ghost use Rattle.salvage.specs.Progress.{IsLaidOut};
 ghost use Rattle.salvage.specs.Mended.{mended_row, mended, emptied_as, emptied_from};
 
@@ -16,7 +16,7 @@ use sync_survey::{Row, Survey};
 #[derive(Clone, Copy, Debug, PartialEq, Eq)]
 pub struct Emptied {
     pub number: u32,
-    pub offset: u64,
+    pub offset: u32,
 }
 
 /// What is read of a damaged file, as it is written: a survey in which each frame that isn't sound is one
@@ -37,7 +37,7 @@ fn push_emptied(emptied: &mut Vec<Emptied>, number: u32, row: &Row) -> Result<()
         ++ option_to_list (emptied_as number row.now)) }
 {
     if row.lost {
-        let offset = u64::from(row.offset);
+        let offset = row.offset;
         emptied.push(Emptied { number, offset })?;
     }
     Ok(())
@@ -48,7 +48,7 @@ fn push_emptied(emptied: &mut Vec<Emptied>, number: u32, row: &Row) -> Result<()
 /// # Errors
 /// Where there is no memory.
 fn emptied_of(alloc: Global, rows: &[Row]) -> Result<Vec<Emptied>, AllocError>
-    requires few { length rows.now ≤ 2900000 }
+    requires few { length rows.now ≤ most_frames }
     ensures { IfOk result (λ emptied. emptied.items ≡ emptied_from 0 rows.now) }
 {
     let mut emptied = Vec::new(alloc);

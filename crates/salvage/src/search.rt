@@ -1,19 +1,18 @@
 //! Finds the next usable frame.
-ghost use Rattle.std.specs.Prelude.{◌≡◌, ◌+◌, ◌^◌, ◌<◌, ◌≤◌, ℕ, List, Ok, false, length, IfOk, IfErr, IfSome, OnOk};
-ghost use Rattle.frame_header.specs.Fields.{ClassFields, HeaderFields};
+ghost use Rattle.std.specs.Prelude.{◌≡◌, ◌+◌, ◌^◌, ◌<◌, ◌≤◌, ℕ, List, true, false, length, IfOk, IfErr, IfSome, OnOk};
 ghost use Rattle.sync_survey.specs.Start.{is_anchor as is_anchor_lem};
 ghost use Rattle.outside.specs.Files.{Holds};
 ghost use Rattle.outside.specs.Counts.{OnlyReads};
 ghost use Rattle.outside.specs.Feed.{IsFedFrom};
 ghost use Rattle.sync_survey.specs.declared.items.Item.TheVariants.{Frame};
-ghost use Rattle.sync_survey.specs.Items.{size_of, header_front as header_front_lem, item_front as item_front_lem};
-ghost use Rattle.sync_survey.specs.Looks.{ReachArea};
+ghost use Rattle.sync_survey.specs.Items.{size_of, item_front as item_front_lem};
 ghost use Rattle.sync_survey.specs.Survey.{HasLength};
-ghost use Rattle.salvage.specs.Usable.{is_usable, next_usable as next_usable_lem};
+ghost use Rattle.salvage.specs.Usable.{next_usable as next_usable_lem};
 ghost use Rattle.salvage.specs.Walk.{first_frame as first_frame_lem};
 ghost use Rattle.salvage.specs.Damaged.{IsReadRefusal};
-ghost use Rattle.salvage.specs.Steps.{may_begin as may_begin_lem, may_begin_block as may_begin_block_lem, HasNoHeader, IsBare};
+ghost use Rattle.salvage.specs.Steps.{may_begin as may_begin_lem, HasNoHeader, IsPlainlyBare, IsBare};
 
+use crate::said::{has_wrong_word, length_said, may_anchor};
 use crate::usable::Role;
 use frame_header::Class;
 use outside::{Feed, Folder};
@@ -31,32 +30,10 @@ fn may_begin(first: u8, second: u8) -> bool
     first == 0xff && second / 2 % 4 == 1
 }
 
-/// Whether a block may begin with this byte.
-fn may_begin_block(first: u8) -> bool
-    ensures { result ≡ may_begin_block_lem first }
-{
-    first == b'I' || first == b'T' || first == b'A'
-}
-
-/// Whether an anchor may begin with these bytes: a header by its first two, a block by its first, or the end
-/// of the file.
-fn may_anchor(bytes: &[u8]) -> bool
-    ensures { result ≡ false → (class : ClassFields)
-        → is_anchor_lem class (item_front_lem bytes.now) ≡ false }
-{
-    if bytes.len() < 2 {
-        return true;
-    }
-    may_begin(bytes[0], bytes[1]) || may_begin_block(bytes[0])
-}
-
 /// Whether the bytes begin with an anchor of the class.
 fn is_anchor(class: Class, bytes: &[u8]) -> bool
     ensures { result ≡ is_anchor_lem class (item_front_lem bytes.now) }
 {
-    if !may_anchor(bytes) {
-        return false;
-    }
     match item_front(bytes) {
         Item::Frame(header) => is_same_class(header.class(), class),
         Item::Block(_) | Item::End => true,
@@ -66,21 +43,25 @@ fn is_anchor(class: Class, bytes: &[u8]) -> bool
 
 /// Whether the frame with which these bytes begin is usable for the role. They are those at the offset.
 // It is apart, and reads the header once more, so that a search reads no more of a header than it needs.
-#[inline(never)]
-fn admits_front(role: &Role, bytes: &[u8], offset: u64) -> bool
-    requires room { (h : HeaderFields) → header_front_lem bytes.now ≡ Ok h → ReachArea h bytes.now }
-    ensures { (h : HeaderFields) → header_front_lem bytes.now ≡ Ok h
-        → result ≡ is_usable role.now (record { offset = offset; header = h }) bytes.now }
+fn is_plainly_bare(front: &[u8], place: usize) -> bool
+    requires within { place < length front.now }
+    ensures { result ≡ true → IsPlainlyBare front.now place }
 {
-    let Ok(header) = header_front(bytes) else {
+    let own = &front[place..];
+    if own.len() < 4 {
         return false;
-    };
-    role.admits(&PlacedFrame { offset, header }, bytes)
+    }
+    let size = length_said(own[1], own[2]);
+    if place + size > REACH || size + 4 > own.len() {
+        return false;
+    }
+    !may_anchor(own, &own[size..]) || has_wrong_word(own, size)
 }
 
 /// Whether a usable anchored frame may be at this place of a look at the offset. This is judged if the look
 /// shows all of the frame and the 32 bytes after it; else it may be.
-fn may_stand(role: &Role, front: &[u8], place: usize, offset: u64) -> bool
+#[inline(never)]
+fn may_stand_by_header(role: &Role, front: &[u8], place: usize, offset: u64) -> bool
     requires within { place < 2 ^ 32 }
     requires early { offset < 2 ^ 32 }
     ensures { result ≡ false → IsBare role.now offset front.now place }
@@ -93,10 +74,21 @@ fn may_stand(role: &Role, front: &[u8], place: usize, offset: u64) -> bool
     if end > REACH || end > front.len() {
         return true;
     }
-    if !is_anchor(header.class(), bytes_behind(front, end)) {
+    let offset = offset + place as u64;
+    if !role.admits(&PlacedFrame { offset, header }, bytes) {
         return false;
     }
-    admits_front(role, bytes, offset + place as u64)
+    is_anchor(header.class(), bytes_behind(front, end))
+}
+
+/// Whether a usable anchored frame may be at this place of a look at the offset.
+fn may_stand(role: &Role, front: &[u8], place: usize, offset: u64) -> bool
+    requires within { place < length front.now }
+    requires few { place < 2 ^ 32 }
+    requires early { offset < 2 ^ 32 }
+    ensures { result ≡ false → IsBare role.now offset front.now place }
+{
+    !is_plainly_bare(front, place) && may_stand_by_header(role, front, place, offset)
 }
 
 /// The first place of a look, from `from` on and before `to`, at which a header may begin; `to` if there is

@@ -78,7 +78,8 @@ impl Role {
 
     /// Whether a whole item at the offset is read. The bytes begin with its own.
     fn admits_item(&self, item: &Item, bytes: &[u8], at: u64) -> bool
-        requires own { (h : HeaderFields) → item.now ≡ Item.Frame h → header_front bytes.now ≡ Ok h }
+        requires own { (h : HeaderFields) → item.now ≡ Item.Frame h
+            → header_front bytes.now ≡ Ok h }
         requires room { (h : HeaderFields) → item.now ≡ Item.Frame h → ReachArea h bytes.now }
         ensures { result ≡ admits_item_lem self.now at item.now bytes.now }
     {

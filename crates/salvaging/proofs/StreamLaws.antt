@@ -1,5 +1,5 @@
 -- The stream of the file that is written of a damaged one: what is left, run by run.
-use Rattle.std.proofs.Common.{◌≡◌, ℕ, ◌+◌, ◌-◌, cond, Bool, true, false, List, [], ◌∷◌, length, map, Option, Ok, refl, sym, ◌∙◌, ap, ap₂, subst, arith, ◌++◌}
+use Rattle.std.proofs.Common.{◌≡◌, ℕ, ◌+◌, cond, Bool, true, false, List, [], ◌∷◌, length, map, Option, Ok, refl, sym, ◌∙◌, ap, ap₂, subst, arith, ◌++◌}
 use Rattle.std.specs.Prelude.{flat_map, slice_range}
 use Rattle.std.specs.List.{enumerate_from}
 use Rattle.std.proofs.lemmas.List.{length-map}

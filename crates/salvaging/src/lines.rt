@@ -62,7 +62,7 @@ impl<'a> Lines<'a> {
         ensures { result ≡ option_map line_place (first_of (emptied_left self.now)) }
     {
         let emptied = self.emptied.get(self.next_emptied)?;
-        Some(emptied.offset)
+        Some(u64::from(emptied.offset))
     }
 
     /// The next frame that becomes an empty one.
@@ -93,7 +93,7 @@ pub(crate) fn set_line(line: &mut Line, told: &Told)
         }
         Told::Empty(emptied) => {
             line.put(b"\n");
-            line.put_number(emptied.offset);
+            line.put_number(u64::from(emptied.offset));
             line.put(b" at ");
             line.put_number(u64::from(emptied.number));
             line.put(b"empty frame ");

@@ -1,0 +1,48 @@
+-- No header is there, or the frame isn't usable or has no anchor.
+use Rattle.std.proofs.Common.{◌≡◌, ◌+◌, ◌≤◌, length, drop, Ok, refl, sym, ◌∙◌, ap, arith, length-drop}
+use Rattle.frame_header.specs.Tables.{class_of, length_of}
+use Rattle.sync_survey.specs.declared.items.Item.TheVariants.{Frame}
+use Rattle.sync_survey.specs.Items.{header_front, item_front}
+use Rattle.sync_survey.specs.Start.{is_anchor}
+use Rattle.sync_survey.proofs.StepLaws.{overhead_few}
+use Rattle.salvage.specs.Usable.{is_usable}
+use Rattle.salvage.proofs.SearchLaws.{header_of, frame_of_header, bare_unanchored, bare_unusable}
+use Rattle.salvage.proofs.search.may_stand_by_header.Goals as goal
+
+pub returns-in_default : goal.returns-in_default
+returns-in_default c = λ _ h is. absurd (c.in_default.not-Ok h (c.header_front.ensures ∙ ap header_front c.bytes_behind-bytes.ensures ∙ header_of (drop c.args.place c.args.front.now) h is))
+
+pub admits-requires : goal.admits-requires
+admits-requires c =
+    let h = c.in-Ok.header in
+    let bytes = drop c.args.place c.args.front.now in
+    let here : header_front bytes ≡ Ok h = ap header_front (sym c.bytes_behind-bytes.ensures) ∙ sym c.header_front.ensures ∙ c.in-Ok.is in
+    let room = overhead_few bytes (Frame h) h (sym (frame_of_header bytes h here)) refl in record {
+      own = sym c.header_front.ensures ∙ c.in-Ok.is;
+      room = omega (arith, room, c.if-end-front.false, c.length.ensures.length, length-drop c.args.place c.args.front.now, ap length c.bytes_behind-bytes.ensures);
+    }
+
+pub returns-then-not-admits : goal.returns-then-not-admits
+returns-then-not-admits c = λ _.
+    let h = c.in-Ok.header in
+    let place = c.args.place in
+    let front = c.args.front.now in
+    let here : header_front (drop place front) ≡ Ok h = ap header_front (sym c.bytes_behind-bytes.ensures) ∙ sym c.header_front.ensures ∙ c.in-Ok.is in
+    let near : place + length_of (class_of h) h.slot ≤ 4064 = omega (arith, c.if-end-gt-REACH.false, c.length.ensures.length) in
+    bare_unusable c.args.role.now c.args.offset front place h here near
+    (ap (is_usable c.args.role.now (record { offset = c.args.offset + place; header = h })) (sym c.bytes_behind-bytes.ensures)
+    ∙ sym c.admits.ensures
+    ∙ c.if-not-admits.true)
+
+pub returns : goal.returns
+returns c = λ none.
+    let h = c.in-Ok.header in
+    let place = c.args.place in
+    let front = c.args.front.now in
+    let here : header_front (drop place front) ≡ Ok h = ap header_front (sym c.bytes_behind-bytes.ensures) ∙ sym c.header_front.ensures ∙ c.in-Ok.is in
+    let near : place + length_of (class_of h) h.slot ≤ 4064 = omega (arith, c.if-end-gt-REACH.false, c.length.ensures.length) in
+    bare_unanchored c.args.role.now c.args.offset front place h here near
+    (ap (λ l. is_anchor (class_of h) (item_front l)) (sym (c.bytes_behind.ensures ∙ ap (λ n. drop (place + n) front) c.length.ensures.length))
+    ∙ ap (λ k. is_anchor k (item_front c.bytes_behind.result.now)) (sym c.class.ensures)
+    ∙ sym c.is_anchor.ensures
+    ∙ none)
