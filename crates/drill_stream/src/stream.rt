@@ -1,6 +1,6 @@
 //! A stream, written to a file of a folder.
 ghost use Rattle.std.specs.Prelude.{◌≡◌, ◌⊎◌, OnOk, IsErrOf};
-ghost use Rattle.outside.specs.Files.{emptied, appended};
+ghost use Rattle.outside.specs.Files.{emptied, appended, FailsToCreate};
 ghost use Rattle.outside.specs.Passed.{AppendedPrefix};
 ghost use Rattle.outside.specs.Counts.{OnlyWrites};
 ghost use Rattle.frame_writer.specs.Writing.{WriteFailed};
@@ -26,8 +26,8 @@ pub fn write_stream<D: Folder>(
 ) -> Result<(), StreamFault>
     ensures written { OnOk result (D.files folder.new ≡
         appended (emptied (D.files folder.old) name.now) name.now (drill_stream seed count)) }
-    ensures part { IsErrOf result StreamFault.Write → (D.files folder.new ≡ D.files folder.old) ⊎
-        AppendedPrefix name.now (drill_stream seed count)
+    ensures part { IsErrOf result StreamFault.Write
+        → FailsToCreate name.now (D.files folder.old) (D.files folder.new) ⊎ AppendedPrefix name.now (drill_stream seed count)
         (emptied (D.files folder.old) name.now) (D.files folder.new) }
     ensures failed { IsErrOf result StreamFault.Write →
         WriteFailed (D.counts folder.old) (D.counts folder.new) }
