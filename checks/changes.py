@@ -399,3 +399,7 @@ def commands(random, files):
     at = random.randint(0, len(words))
     words[at : at + random.randint(0, 2)] = random.choice(([], ["-w"], ["0.60"], ["x"], ["o"], ["p03.mp3"], ["none"], ["256"], [""]))
     yield words
+    # Drawn apart, as the sheet of a fade is.
+    yield ["salvage", "x", "o"]
+    others = ("salvage", "salvage x", "salvage x x", "salvage o x", "salvage none o", "salvage -w x o", "salvage s o", "salvage y o")
+    yield Random(zlib.crc32(data)).choice(others).split()

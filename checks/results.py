@@ -5,8 +5,8 @@
                          status of the program
 
 The words are those of README's "Usage", the lines and their order those of its "Statuses and lines". Files are bytes by name.
-frames.py says what is in a file and moves gains, laid.py lays main data, fades.py reads places and the sheets of fades, and drill.py
-makes streams from numbers.
+frames.py says what is in a file and moves gains, laid.py lays main data, fades.py reads places and the sheets of fades, drill.py makes
+streams from numbers, and damaged.py says what can be read of a damaged file.
 """
 import re
 import sys
@@ -15,6 +15,7 @@ from functools import lru_cache
 from pathlib import Path
 
 sys.dont_write_bytecode = True
+import damaged  # noqa: E402
 import drill as drills  # noqa: E402
 import fades  # noqa: E402
 import frames  # noqa: E402
@@ -91,6 +92,7 @@ FORMS += [
     (["join", name, name], 64),
     (["fade", name, name, name], 1),
     (["fade", "--back", name, name, name], 1),
+    (["salvage", name, name], 1),
     (["drill", seed, frame_count], 1),
 ]
 
@@ -289,6 +291,26 @@ def fade(words, files):
     return Result(outputs={output: new}, chosen={output: [(source, 0, len(found.frames))]}, faded=[(it, it) for it in steps])
 
 
+@lru_cache(maxsize=8)
+def damaged_or_fault(data):
+    try:
+        return damaged.Damaged(data)
+    except damaged.Refused as it:
+        return it
+
+
+def salvage(words, files):
+    source, output = words[1:]
+    judge_names([source], [output])
+    if source not in files:
+        raise Answer(3, f"{source}: absent")
+    found = damaged_or_fault(files[source])
+    if isinstance(found, damaged.Refused):
+        raise Answer(1, f"{source}: {found}")
+    new = laid.laid_file(files[source], found, 0, None, None)[0]
+    return Result(text=found.text(), outputs={output: new}, chosen={output: [(source, 0, len(found.frames))]})
+
+
 def drill(words, files):
     stream = drills.stream(int(words[1]), int(words[2]))
     packed, written = laid.laid_file(stream, frames.survey_of(stream), 0, None, laid.SLOTS)
@@ -296,7 +318,10 @@ def drill(words, files):
     return Result(text=f"{int(words[2])} frames, {len(stream)} bytes in, {len(packed)} bytes out, {lead_ins} lead-ins\n")
 
 
-COMMANDS = {"list": list_file, "gain": gain, "cut": cut, "pack": pack, "split": split, "join": join, "fade": fade, "drill": drill}
+COMMANDS = {
+    **{"list": list_file, "gain": gain, "cut": cut, "pack": pack, "split": split, "join": join, "fade": fade, "salvage": salvage},
+    "drill": drill,
+}
 
 
 def result_of(words, files):
