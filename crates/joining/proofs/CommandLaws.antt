@@ -29,7 +29,7 @@ inputs-making files (name ∷ names) (s ∷ ss) some are = record { there = are.
 
 -- ---- streams
 
-sound : (first : Option ClassFields) (allowed : ℕ) (f : Contents) (names : List (List ℕ)) (ss : List SurveyFields) → AreInputs first allowed (Some f) names ss → AreSound f names
+sound : (first : Option ClassFields) (allowed : ℕ) (f : Contents) (names : List (List ℕ)) (ss : List SurveyFields) → AreInputs first allowed (Told f) names ss → AreSound f names
 sound first allowed f [] [] are = tt
 sound first allowed f [] (s ∷ ss) are = absurd are
 sound first allowed f (name ∷ names) [] are = absurd are
@@ -37,11 +37,11 @@ sound first allowed f (name ∷ names) (s ∷ ss) are =
     let held = there_holds f name are.0.there in
     ((held.0, held.1, survey_of-sound held.0 allowed s (are.0.exact held.0 held.1)), sound (Some (unwrap_or first s.class)) (allowed - length s.frames) f names ss are.2)
 
-holds-at : (output : List ℕ) (f : Contents) (names : List (List ℕ)) (ss : List SurveyFields) → clash_from (output ∷ []) 0 names ≡ None → CanBeJoined ss → AreInputs None most_frames (Some f) names ss → HoldsStream (joined_file (parts_in f names ss)) (joined_stream (parts_in f names ss))
+holds-at : (output : List ℕ) (f : Contents) (names : List (List ℕ)) (ss : List SurveyFields) → clash_from (output ∷ []) 0 names ≡ None → CanBeJoined ss → AreInputs None most_frames (Told f) names ss → HoldsStream (joined_file (parts_in f names ss)) (joined_stream (parts_in f names ss))
 holds-at output f [] [] apart can are = absurd can
 holds-at output f [] (s ∷ ss) apart can are = absurd are
 holds-at output f (name ∷ names) [] apart can are = absurd are
-holds-at output f (name ∷ names) (s ∷ ss) apart can are = joined-holds output f name names s ss can (sources-inputs s.class output 0 None most_frames (Some f) (name ∷ names) (s ∷ ss) apart can.0 are)
+holds-at output f (name ∷ names) (s ∷ ss) apart can are = joined-holds output f name names s ss can (sources-inputs s.class output 0 None most_frames (Told f) (name ∷ names) (s ∷ ss) apart can.0 are)
 
 pub inputs-hold : (output : List ℕ) (files : Files) (names : List (List ℕ)) (ss : List SurveyFields) → clash_from (output ∷ []) 0 names ≡ None → CanBeJoined ss → AreInputs None most_frames files names ss
     → IfTold files (λ f. (bytes : List ℕ) → f (first_input names) ≡ Some bytes → AreSound f names × HoldsStream (joined_file (told_parts files names ss)) ((join_task names).stream f))

@@ -77,7 +77,7 @@ follows-may (Some first) class follows = ap (λ c. same_class c first) follows �
 part-survey : (place : ℕ) (first : Option ClassFields) (file : List ℕ) (allowed : ℕ) (s : SurveyFields) → survey_of file allowed ≡ Ok s → Follows first s.class → part_of place first allowed (Some file) ≡ Ok (whole_part file s)
 part-survey place first file allowed s is follows = ap (part_by place first file) is ∙ by_follows (may_follow first s.class) (whole_part file s) (Refused (Differ place)) (follows-may first s.class follows)
 
-part-ok : (place : ℕ) (first : Option ClassFields) (allowed : ℕ) (f : Contents) (name : List ℕ) (s : SurveyFields) → IsInput allowed (Some f) name s → Follows first s.class
+part-ok : (place : ℕ) (first : Option ClassFields) (allowed : ℕ) (f : Contents) (name : List ℕ) (s : SurveyFields) → IsInput allowed (Told f) name s → Follows first s.class
     → part_of place first allowed (f name) ≡ Ok (whole_part (unwrap_or (f name) []) s)
 part-ok place first allowed f name s is follows =
     let held = there_holds f name is.there in
@@ -96,7 +96,7 @@ then-then (Ok parts) g h = refl
 then-then (Err fault) g h = refl
 
 -- the parts of inputs, some of which have their surveys, are those and then the parts of the others
-pub parts-behind : (place : ℕ) (first : Option ClassFields) (allowed : ℕ) (f : Contents) (before after : List (List ℕ)) (ss : List SurveyFields) → AreInputs first allowed (Some f) before ss
+pub parts-behind : (place : ℕ) (first : Option ClassFields) (allowed : ℕ) (f : Contents) (before after : List (List ℕ)) (ss : List SurveyFields) → AreInputs first allowed (Told f) before ss
     → parts_from place first allowed f (before ++ after) ≡ then_made (parts_from (place + length before) (class_after first ss) (allowed - frames_of ss) f after) (λ parts. ok_parts (parts_in f before ss ++ parts))
 unfolding parts_from parts_in frames_of
 parts-behind place first allowed f [] after [] are =
@@ -132,7 +132,7 @@ parts_next place first allowed f name names fault is =
     is
 
 -- all inputs have their surveys
-pub parts-all : (f : Contents) (names : List (List ℕ)) (ss : List SurveyFields) → AreInputs None most_frames (Some f) names ss → parts_of f names ≡ Ok (parts_in f names ss)
+pub parts-all : (f : Contents) (names : List (List ℕ)) (ss : List SurveyFields) → AreInputs None most_frames (Told f) names ss → parts_of f names ≡ Ok (parts_in f names ss)
 parts-all f names ss are =
     ap (parts_of f) (sym (append-nil names))
     ∙ parts-behind 0 None most_frames f names [] ss are
@@ -140,7 +140,7 @@ parts-all f names ss are =
     ∙ ap (λ (parts : List Part). ok_parts parts) (append-nil (parts_in f names ss))
 
 -- the first refusal
-pub parts-fault : (f : Contents) (before : List (List ℕ)) (name : List ℕ) (after : List (List ℕ)) (ss : List SurveyFields) (fault : EditFault) → AreInputs None most_frames (Some f) before ss
+pub parts-fault : (f : Contents) (before : List (List ℕ)) (name : List ℕ) (after : List (List ℕ)) (ss : List SurveyFields) (fault : EditFault) → AreInputs None most_frames (Told f) before ss
     → part_of (length before) (class_after None ss) (most_frames - frames_of ss) (f name) ≡ Err fault → parts_of f (before ++ name ∷ after) ≡ Err fault
 parts-fault f before name after ss fault are is =
     let place : 0 + length before ≡ length before = omega arith in

@@ -59,9 +59,9 @@ sources-needs class output (Told f) key file [] [] holds are = tt
 sources-needs class output (Told f) key file [] (s ∷ ss) holds are = absurd are
 sources-needs class output (Told f) key file (name ∷ names) [] holds are = absurd are
 sources-needs class output (Told f) key file (name ∷ names) (s ∷ ss) holds are =
-    needs-append (map need_of s.frames) (needs_of (rows_of ss)) (frames_in (whole_part (unwrap_or (f name) []) s)) (told_frames (Some f) names ss)
-    (whole-needs (unwrap_or (f name) []) s (are.0.exact (unwrap_or (f name) []) (told-holds (Some f) key file name holds are.0.there)))
-    (sources-needs class output (Some f) key file names ss holds are.2)
+    needs-append (map need_of s.frames) (needs_of (rows_of ss)) (frames_in (whole_part (unwrap_or (f name) []) s)) (told_frames (Told f) names ss)
+    (whole-needs (unwrap_or (f name) []) s (are.0.exact (unwrap_or (f name) []) (told-holds (Told f) key file name holds are.0.there)))
+    (sources-needs class output (Told f) key file names ss holds are.2)
 
 -- where they are told, an input's frames are before those of the inputs after it
 pub own-split : (files : Files) (key told name : List ℕ) (s : SurveyFields) (names : List (List ℕ)) (ss : List SurveyFields) (placed : List Placed) → Holds files key told
@@ -70,8 +70,8 @@ unfolding parts_in
 own-split (Untold touched) key told name s names ss placed holds = absurd holds
 own-split (Told f) key told name s names ss placed holds =
     let file = unwrap_or (f name) [] in
-    relaid-append (slice_range (all_frames file s) 0 (length s.frames)) (told_frames (Some f) names ss) placed
-    ∙ ap (λ n. whole_frames s placed file ++ relaid (told_frames (Some f) names ss) (drop (places_for n placed) placed)) (whole-length file s)
+    relaid-append (slice_range (all_frames file s) 0 (length s.frames)) (told_frames (Told f) names ss) placed
+    ∙ ap (λ n. whole_frames s placed file ++ relaid (told_frames (Told f) names ss) (drop (places_for n placed) placed)) (whole-length file s)
 
 pub told-none : (files : Files) (ss : List SurveyFields) (placed : List Placed) → relaid (told_frames files [] ss) placed ≡ []
 unfolding parts_in

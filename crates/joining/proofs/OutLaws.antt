@@ -52,7 +52,7 @@ sources-emptied class output old new names ss created =
     sources-at class output old new names ss (λ name there. subst (λ f. IsThere f name) (sym created) (emptied_keeps old output name there))
     (λ name file apart holds. emptied_held_other old output name file apart (subst (λ f. Holds f name file) created holds))
 
-parts-same : (class : ClassFields) (output : List ℕ) (f g : Contents) (names : List (List ℕ)) (ss : List SurveyFields) → ((name : List ℕ) → name ≢ output → g name ≡ f name) → AreSources class output (Some f) names ss
+parts-same : (class : ClassFields) (output : List ℕ) (f g : Contents) (names : List (List ℕ)) (ss : List SurveyFields) → ((name : List ℕ) → name ≢ output → g name ≡ f name) → AreSources class output (Told f) names ss
     → parts_in g names ss ≡ parts_in f names ss
 unfolding parts_in
 parts-same class output f g [] [] same are = refl

@@ -4,7 +4,7 @@ use Rattle.std.specs.Prelude.{slice_get, flat_map, Contains, unwrap_or}
 use Rattle.std.specs.List.{range_with_len}
 use Rattle.std.proofs.lemmas.List.{length-map}
 use Rattle.std.proofs.lemmas.List.FromFn.{length-range_with_len}
-use Rattle.outside.specs.Files.{Contents, Files}
+use Rattle.outside.specs.Files.{Contents, Files, Told}
 use Rattle.outside.proofs.FilesLaws.{there_holds}
 use Rattle.frame_header.specs.Fields.{SlotFields, ClassFields, IsSlot, IsHeader}
 use Rattle.frame_header.specs.Tables.{class_of, window_of}
@@ -65,7 +65,7 @@ first-source class {output} {files} {names} {later} {ss} {behind} {name} {s} nam
 own-part : (class : ClassFields) (file : List ℕ) (s : SurveyFields) → HasSurvey file s → s.class ≡ class → 0 < length s.frames → IsPart class (whole_part file s)
 own-part class file s has same some = record { has = has; class = same; some = some; within = omega arith }
 
-pub sources-parts : (class : ClassFields) (output : List ℕ) (f : Contents) (names : List (List ℕ)) (ss : List SurveyFields) → AreAlike class ss → AreSources class output (Some f) names ss → AreParts class (parts_in f names ss)
+pub sources-parts : (class : ClassFields) (output : List ℕ) (f : Contents) (names : List (List ℕ)) (ss : List SurveyFields) → AreAlike class ss → AreSources class output (Told f) names ss → AreParts class (parts_in f names ss)
 unfolding parts_in
 sources-parts class output f [] [] alike are = tt
 sources-parts class output f [] (s ∷ ss) alike are = absurd are
@@ -76,7 +76,7 @@ sources-parts class output f (name ∷ names) (s ∷ ss) alike are =
       sources-parts class output f names ss alike.3 are.2,
     )
 
-parts-rows : (class : ClassFields) (output : List ℕ) (f : Contents) (names : List (List ℕ)) (ss : List SurveyFields) → AreSources class output (Some f) names ss → map needs_in (parts_in f names ss) ≡ map (map need_of) (rows_of ss)
+parts-rows : (class : ClassFields) (output : List ℕ) (f : Contents) (names : List (List ℕ)) (ss : List SurveyFields) → AreSources class output (Told f) names ss → map needs_in (parts_in f names ss) ≡ map (map need_of) (rows_of ss)
 unfolding parts_in
 parts-rows class output f [] [] are = refl
 parts-rows class output f [] (s ∷ ss) are = absurd are
@@ -112,7 +112,7 @@ same_slot own slot has = let first : has.0 ≡ 0 = omega (arith, has.1) in sym (
 own_slots : AreSlots own_choice
 own_slots h slot is has = subst IsSlot (same_slot h.slot slot has) is.slot
 
-module _ (output : List ℕ) (f : Contents) (name : List ℕ) (names : List (List ℕ)) (s : SurveyFields) (ss : List SurveyFields) (can : CanBeJoined (s ∷ ss)) (are : AreSources s.class output (Some f) (name ∷ names) (s ∷ ss)) where
+module _ (output : List ℕ) (f : Contents) (name : List ℕ) (names : List (List ℕ)) (s : SurveyFields) (ss : List SurveyFields) (can : CanBeJoined (s ∷ ss)) (are : AreSources s.class output (Told f) (name ∷ names) (s ∷ ss)) where
   abbrev parts : List Part
   parts = parts_in f (name ∷ names) (s ∷ ss)
 

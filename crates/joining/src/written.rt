@@ -1,5 +1,5 @@
 //! The second pass of a join.
-ghost use Rattle.std.specs.Prelude.{◌≡◌, ◌≤◌, ◌++◌, List, ℕ, [], ◌∷◌, length, map, drop, string_bytes, None, is_some, IfOk, IfErr, IfSome, OnOk, OnErr};
+ghost use Rattle.std.specs.Prelude.{◌≡◌, ◌≤◌, ◌++◌, List, ℕ, [], ◌∷◌, length, map, drop, string_bytes, None, IfOk, IfErr, IfSome, OnOk, OnErr};
 ghost use Rattle.outside.specs.Files.{IsThere, Holds, is_told, OnlyTouches};
 ghost use Rattle.outside.specs.Counts.{NoneFell};
 ghost use Rattle.std.specs.List.{concat};

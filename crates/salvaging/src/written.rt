@@ -1,5 +1,5 @@
 //! The second pass: the output is created and written.
-ghost use Rattle.std.specs.Prelude.{◌≡◌, ◌≢◌, ℕ, List, [], is_some, IfErr, OnOk};
+ghost use Rattle.std.specs.Prelude.{◌≡◌, ◌≢◌, ℕ, List, [], ◌∷◌, IfErr, OnOk};
 ghost use Rattle.outside.specs.Files.{Files, Holds, IsThere, is_told, OnlyTouches};
 ghost use Rattle.outside.specs.Counts.{NoneFell};
 ghost use Rattle.outside.specs.Feed.{IsFedFrom};

@@ -292,6 +292,9 @@ module _ (points : Points) (input prefix : List ℕ) where
         range-left _ same (inr h) = absurd h.0
 
         module _ (pieces : List Piece) (named : ArePieces prefix s 1 pieces) (chosen : chosen_at s.class (length s.frames) places ≡ Ok (map chosen_of pieces)) where
+          names-touched : length pieces ≤ 99 → (before after : Files) → OnlyTouches (names_of pieces) before after → OnlyTouches (piece_names prefix) before after
+          names-touched few before after only = touches_more (names_of pieces) (piece_names prefix) before after (λ other. names-all prefix s pieces (λ name. other ≢ name) few named) only
+
           pub split-done : ((bytes : List ℕ) → Holds mid.files input bytes → new.files ≡ with_outputs (outputs_of s pieces bytes) mid.files) → length pieces ≤ 99 → OnlyTouches (names_of pieces) mid.files new.files → new.counts ≡ mid.counts → IsDone command old new
           split-done wrote few touches counts = record {
             made = whole s old.files there surveyed places are pieces named chosen new.files (subst (λ (m : Seen). (bytes : List ℕ) → Holds m.files input bytes → new.files ≡ with_outputs (outputs_of s pieces bytes) m.files) stays wrote);
@@ -301,9 +304,6 @@ module _ (points : Points) (input prefix : List ℕ) where
 
           part-left : (k : ℕ) → length pieces ≤ 99 → IsWrittenPart (outputs_of s pieces) (names_of pieces) input k old.files new.files → IsWrittenTo command k old.files new.files
           part-left k few h = part s old.files there surveyed places are pieces named chosen k new.files few h
-
-          names-touched : length pieces ≤ 99 → (before after : Files) → OnlyTouches (names_of pieces) before after → OnlyTouches (piece_names prefix) before after
-          names-touched few before after only = touches_more (names_of pieces) (piece_names prefix) before after (λ other. names-all prefix s pieces (λ name. other ≢ name) few named) only
 
           split-left-by : (fault : EditFault) (why : Why) → length pieces ≤ 99 → OnlyTouches (names_of pieces) old.files new.files → IsPiecesFaultBy (outputs_of s pieces) (names_of pieces) input old new why → LeavesBy command old new fault why
           split-left-by fault Unread few only h = record { rose = h.rose; files = inr (h.place, part-left h.place few h.files) }

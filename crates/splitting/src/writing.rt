@@ -1,5 +1,5 @@
 //! The second pass: pieces are written one after the other.
-ghost use Rattle.std.specs.Prelude.{◌≡◌, ◌≢◌, ◌≤◌, List, ℕ, [], length, Ok, is_some, string_bytes, IfErr, OnOk};
+ghost use Rattle.std.specs.Prelude.{◌≡◌, ◌≢◌, ◌≤◌, List, ℕ, [], ◌∷◌, length, Ok, string_bytes, IfErr, OnOk};
 ghost use Rattle.outside.specs.Files.{Holds, IsThere, is_told, OnlyTouches};
 ghost use Rattle.outside.specs.Counts.{NoneFell};
 ghost use Rattle.outside.specs.Feed.{IsFedFrom};
@@ -9,7 +9,7 @@ ghost use Rattle.frame_edits.specs.Chosen.{chosen_in, chosen_file};
 ghost use Rattle.commands.specs.One.{most_frames, holding, IsPassFault};
 ghost use Rattle.commands.specs.PassFaults.{of_pass};
 ghost use Rattle.commands.specs.Left.{seen};
-ghost use Rattle.splitting.specs.Steps.{IsReady, CanBeWritten, outputs_of, with_outputs, IsPiecesFault, of_piece as of_piece_lem, IsOfPieces, IsOfCopy};
+ghost use Rattle.splitting.specs.Steps.{IsReady, CanBeWritten, outputs_of, names_of, with_outputs, IsPiecesFault, of_piece as of_piece_lem, IsOfPieces, IsOfCopy};
 
 use crate::piece::Piece;
 use commands::EditFault;
