@@ -1,5 +1,5 @@
-"""Small MP3 files, and changes of them by chance, for mutated-files: each function takes the source of chance. A file is changed as a
-list of pieces, which are frames, blocks and other bytes; then its bytes are.
+"""Small MP3 files, and random changes of them, for mutated-files: each function takes the source of random numbers. A file is changed
+first as a list of pieces, which are frames, blocks and other bytes, and then as bytes.
 """
 import array
 import shutil
@@ -23,7 +23,7 @@ OTHER_POINTS = (b"", b"# x", b"\t#", b"0", b"EOF 1 1", b"0.0 1", b"1 256", b"EOF
 HEADER_FIELDS = ((11, 1), (12, 1), (13, 2), (15, 1), (16, 4), (20, 2), (22, 1), (23, 1), (24, 2), (26, 2), (28, 1), (29, 1), (30, 2))
 
 
-# ---- files to begin with: lists of pieces, as frames and blocks
+# ---- files to begin with: lists of pieces, such as frames and blocks
 
 
 def pieces_of(data):
@@ -69,7 +69,7 @@ def with_bits(data, at, width, value):
 
 
 def with_lengths(random, shape, side, bits):
-    """Side information whose granules have so many bits of main data together, or nearly so many."""
+    """Side information whose granules have this number of bits of main data together, or nearly."""
     count = shape.version.granules * shape.channels
     for number in range(count):
         here = min(4095, bits if number == count - 1 else random.choice((0, bits // 2, random.randint(0, bits))))
@@ -79,7 +79,7 @@ def with_lengths(random, shape, side, bits):
 
 
 def made(random):
-    """Up to 40 frames of any class, whose main data begin and end anywhere."""
+    """Up to 40 frames of any class, whose main data begin and end anywhere in the areas that they may use."""
     bits, version = random.choice(VERSION_BITS)
     kind = random.randrange(3) << 2, random.choice((0, 1, 2, 3)) << 6
     window, rate, protection = (1 << version.begin_bits) - 1, random.randint(1, 14), random.choice((0, 1, None))
@@ -148,7 +148,7 @@ def block(random):
 
 
 def letters(random):
-    """Bytes that are no part of a stream, up to a little more than may be before it."""
+    """Bytes that don't belong to a stream, up to a little more than the 65,536 that may be before it."""
     most = random.choice((3, 40, 500, 500))
     if random.random() < 0.1:
         return b"U" * random.randint(65_535, 65_537)
@@ -156,7 +156,7 @@ def letters(random):
 
 
 def frame_places(pieces):
-    """Where whole frames are among the pieces."""
+    """The indices of the pieces that begin with a whole frame."""
     found = [(at, frames.header_at(it, 0), len(it)) for at, it in enumerate(pieces)]
     return [at for at, it, length in found if isinstance(it, frames.Frame) and it.length <= length]
 
@@ -190,7 +190,7 @@ def take_out(random, pieces, _):
 
 
 def leave_few(random, pieces, _):
-    """Other bytes, a frame or another piece, and a front of the next."""
+    """Other bytes, a frame or another piece, and a prefix of the next one."""
     at = random.randrange(len(pieces))
     pieces[:] = [letters(random), *pieces[at : at + 1], *[it[: random.randint(0, len(it))] for it in pieces[at + 1 : at + 2]]]
 
@@ -222,7 +222,7 @@ def change_header(random, pieces, _):
 
 
 def change_side(random, pieces, _):
-    """Another number in a field of the side information, mostly with the check word that is right then."""
+    """Another number in a field of the side information, mostly with the check word that is right for it."""
     places = frame_places(pieces)
     for _ in range(random.choice((1, 1, 3)) if places else 0):
         at = random.choice((*places[:2], random.choice(places)))
@@ -277,7 +277,7 @@ def any_pieces(random, sources):
 
 
 def changed(random, pieces, sources):
-    """What comes of some pieces by some changes."""
+    """The bytes of some pieces after some changes."""
     pieces = list(pieces)
     if random.random() < 0.3:
         at = random.randrange(len(pieces))
@@ -327,11 +327,11 @@ def fade_sheet(random, data):
 
 
 def files(random, sources):
-    """A file and another one, which is mostly made of the same frames, two sheets, and maybe an output that is there."""
+    """A file and another one, which is mostly made of the same frames, two sheets, and maybe an output that exists already."""
     pieces = any_pieces(random, sources)
     others = pieces if random.random() < 0.7 else any_pieces(random, sources)
     found = {"x": changed(random, pieces, sources), "y": changed(random, others, sources), "s": sheet(random)}
-    # The sheet of a fade is drawn apart, so that all others are as they were without it.
+    # The sheet of a fade has random numbers of its own, so that it changes none of the others.
     fade = {"f": fade_sheet(Random(zlib.crc32(found["x"])), found["x"])}
     return found | fade | ({"o": b"old" * random.choice((1, 50_000))} if random.random() < 0.3 else {})
 
@@ -340,7 +340,7 @@ def files(random, sources):
 
 
 def places(random, count, frames_there):
-    """So many words of places, mostly rising."""
+    """This number of words for positions, mostly rising."""
     numbers = sorted(random.sample(range(frames_there + 1), min(count, frames_there + 1)))
     if random.random() < 0.1:
         random.shuffle(numbers)
@@ -355,7 +355,7 @@ def places(random, count, frames_there):
 
 
 def mode(random, data):
-    """Words that say how gains are to move: mostly as far as they may, or a step more."""
+    """Words that say by how many steps gains are to move: mostly a few, or as many as they may, or one more."""
     found = results.survey_or_fault(data)
     gains = [it.gain for frame in getattr(found, "frames", []) for it in frame.moving()] or [100]
     edges = [255 - max(gains), 256 - max(gains), -min(gains), -1 - min(gains)]

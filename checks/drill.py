@@ -1,6 +1,6 @@
 #!/usr/bin/env python3
-"""Writes to standard output the stream that `mp3edit drill SEED COUNT` makes and packs, by the rules of its generator, and shares
-no code with the program.
+"""Writes to standard output the stream that `mp3edit drill SEED COUNT` makes and packs, by the rules of its generator. It shares no
+code with the program.
 
   drill.py SEED COUNT
 """

@@ -1,17 +1,17 @@
 #!/usr/bin/env python3
-"""Fades of MP3 files by a sheet, apart from the program that it helps to check.
+"""Fades of MP3 files by a sheet. It shares no code with the program that it helps to check.
 
   fades.py faded IN SHEET WAY OUT        writes OUT: IN with the gains of each frame moved by its steps, or by as many the other way (WAY is
-                                         'there' or 'back'), but the silent ones and those of lost frames, with right check words, without junk
+                                         'there' or 'back'), except silent ones and those of lost frames, with right check words, without junk
   fades.py levels IN SHEET BEFORE AFTER  BEFORE and AFTER are what a decoder makes of IN and of the faded file: 32-bit floats, no sample left
-                                         out. The level of each frame is what its steps say within 0.1 dB where those before it have the same
-                                         steps too, and else between what these say
+                                         out. The level of each frame has to be what its steps say within 0.1 dB, if the frames before it that it
+                                         overlaps have the same steps, and else between what their steps say
   fades.py table IN SHEET BEFORE AFTER OTHER SECONDS     for each quarter of a second of the fade the steps, the levels of AFTER and of OTHER
                                          against BEFORE in dB, and how far the two are apart, as rows of a table; status 1 where they are 1.7 dB
                                          apart or more
 
-A point of a sheet is a place (a frame, a time or EOF) and steps of 1.5 dB, which are 2 to the power of 1/4. From point to point the steps go
-evenly, rounded toward zero.
+A point of a sheet is a position (a frame, a time or EOF) and a number of steps of 1.5 dB, a factor of 2 to the power of 1/4 each. From
+point to point the steps go evenly, rounded toward zero.
 """
 import array
 import math
@@ -28,14 +28,14 @@ LEAST = 1e-5
 
 
 class Fault(Exception):
-    """What the program's line says behind the name of the sheet."""
+    """What the program's line says after the name of the sheet."""
 
 
-# ---- places
+# ---- positions
 
 
 def place(word):
-    """A frame's number, a pair of a time and its parts of a second, or 'EOF'; or None."""
+    """A frame's number, a pair of a time and of its units in a second, or 'EOF'; or None."""
     time = re.fullmatch(r"([0-9]{1,4})\.([0-9]{1,2})(?:\.([0-9]{1,2}))?", word)
     if time and int(time[2]) < 60:
         return (60 * int(time[1]) + int(time[2])) * 100 + int(time[3] or 0), 100
@@ -58,10 +58,10 @@ def frame_at(place, found):
 
 
 def point_of(words):
-    """The place and the steps that the words of a line say, or None."""
+    """The position and the steps that the words of a line say, or None."""
     if len(words) != 2 or not re.fullmatch(rb"[+-]?[0-9]{1,3}", words[1]) or abs(int(words[1])) > 255:
         return None
-    # A word of other bytes is no place.
+    # A word of other bytes is no position.
     where = place(words[0].decode("latin-1")) if words[0].isascii() else None
     return None if where is None else (where, int(words[1]))
 
@@ -106,13 +106,13 @@ def steps_at(curve, frame):
 
 
 def all_steps(sheet, found, back):
-    """Those of each frame."""
+    """The steps of each frame."""
     curve = curve_of(sheet, found)
     return [-it if back else it for it in (steps_at(curve, number) for number in range(len(found.frames)))]
 
 
 def fade(data, found, steps):
-    """The file with each frame moved by its own steps, on both channels."""
+    """The file with the gains of each frame moved by its own steps, on both channels."""
     return frames.with_steps(data, found, [(it, it) for it in steps], False, None)
 
 
@@ -138,7 +138,7 @@ def power(values, at, end):
 
 
 def level(before, after, at, end):
-    """How much louder a stretch is after than before in dB, or None where it is too quiet to say."""
+    """By how many dB a stretch is louder after than before, or None where it is too quiet to say."""
     a, b = power(before, at, end), power(after, at, end)
     return 10 * math.log10(b / a) if min(a, b) > LEAST**2 else None
 
@@ -152,7 +152,7 @@ def levels(name, sheet, before, after):
     steps = all_steps(frames.bytes_of(sheet), found, False)
     a, b = floats(before), floats(after)
     granules, each = found.frames[0].version.granules, len(a) // len(found.frames)
-    # The samples of a granule come of it and of the two before it: one it overlaps, and the filter bank holds 480 samples.
+    # A granule's samples depend on it and on the two granules before: it overlaps one, and the filter bank holds 480 samples.
     reach = -(-2 // granules)
     measured, held, between, farthest = 0, 0.0, 0.0, set()
     for number in range(len(steps)):

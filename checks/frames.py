@@ -1,36 +1,36 @@
 #!/usr/bin/env python3
-"""Reads MP3 files (Layer III of MPEG-1, MPEG-2 and MPEG-2.5), apart from the program that it helps to check.
+"""Reads MP3 files (Layer III of MPEG-1, MPEG-2 and MPEG-2.5). It shares no code with the program that it helps to check.
 
   frames.py survey FILE            what is in the file; or why it is refused, and status 1
   frames.py list FILE              what 'mp3edit list FILE' sends to standard output
   frames.py heard LISTING WAV      compares the last line of a listing with what mpg123 made of the file, without leaving out a sample
-  frames.py counted LISTING HZ,CHANNELS,PACKETS   compares it with what ffprobe tells of the file
+  frames.py counted LISTING HZ,CHANNELS,PACKETS   compares it with what ffprobe says of the file
   frames.py refusal FILE           of a file that is refused: what the program's line says after the name
   frames.py past FILE N            'gain V out of range at O, granule G, channel C' for the first gain that N steps lead out of 0 to 255
   frames.py ends FILE              the least and the greatest gain, except silent ones and those of lost frames
-  frames.py moved IN N OUT         writes OUT: IN with each gain moved by N, but the silent ones and those of lost frames, with right
+  frames.py moved IN N OUT         writes OUT: IN with each gain moved by N steps, except silent ones and those of lost frames, with right
                                    check words, and without junk; and says what is in IN
   frames.py wrapped IN C N OUT     the same where gains wrap, of channel C alone (0 or 1), or of 'both'
   frames.py noted IN C N W OUT     the same of both or of one, where gains wrap if W is 'W', and not if it is 'N', with the change noted in the tag
-  frames.py undone IN OUT          the same with all changes taken back that the tag notes, and without the note
+  frames.py undone IN OUT          writes OUT: IN with all changes undone that its tag notes, and without the note
   frames.py items FILE             the items of the tag, each in a line: KEY: VALUE
   frames.py note FILE              the value of the undo item
   frames.py stripped IN OUT        writes OUT: IN without its tag
   frames.py without-junk IN OUT    writes OUT: IN without the bytes between its blocks and its first frame
   frames.py spoilt IN PLACE OUT    writes OUT: IN with a wrong check word in its 'first' or 'last' frame
-  frames.py differ A B N           says where A and B differ; status 1 where B is not A with the gains of silent granules and of lost
-                                   frames alone moved by N, and with the check words that are right for them
-  frames.py sounds WHOLE LISTING FROM TO WAV   the frames of WAV, listed so, are a lead-in or none and the frames of WHOLE from FROM on and
-                                   before TO: within 1 they sound as there, from frame 0 on or after a granule and 480 samples
-  frames.py beside WAV LISTING FROM TO BEGIN OTHER   the frames of WAV, listed so, are a lead-in or none and those of a stream from FROM on and
-                                   before TO: within 1 they sound from sample BEGIN of the stream on as OTHER does
+  frames.py differ A B N           says where A and B differ; status 1 unless B is A with only the gains of silent granules and of lost
+                                   frames moved by N steps, and with the check words that are right for them
+  frames.py sounds WHOLE LISTING FROM TO WAV   the file that WAV was decoded from has this listing: at most one lead-in, and the frames of WHOLE
+                                   from FROM on and before TO. They sound as there, within 1, from frame 0 on or after a granule and 480 samples
+  frames.py beside WAV LISTING FROM TO BEGIN OTHER   the file that WAV was decoded from has this listing: at most one lead-in, and the frames of a
+                                   stream from FROM on and before TO. From sample BEGIN of the stream on they sound as OTHER, within 1
   frames.py decoded A B FACTOR     compares two WAV files of 16 bits: B is A times FACTOR, within rounding, and A is not silent
 
-Layout of frames: ISO/IEC 11172-3 and 13818-3, 2.4.1 and 2.4.2; of blocks: ID3v2, ID3v1 and APEv2. The tag is the
-first APEv2 block. Its item MP3GAIN_UNDO has the steps that take all changes back, left and right, and W where gains wrap. A granule of a channel is
-silent where its part2_3_length is 0. The main bytes of a file are the areas of its frames (what is left of a frame after
-header, check word and side information) end to end; a frame's main data begin main_data_begin bytes before its own area there.
-A frame is lost where that is before the first area, and no frame before it has main data, but lost ones: a plain cutter left it.
+Layout of frames: ISO/IEC 11172-3 and 13818-3, 2.4.1 and 2.4.2; of blocks: ID3v2, ID3v1 and APEv2. The tag is the first APEv2 block.
+Its item MP3GAIN_UNDO has the steps that undo all changes, left and right, and W if gains wrap. A granule of a channel is silent if its
+part2_3_length is 0. The main data bytes of a file are the areas of its frames (what is left of a frame after header, check word and side
+information) end to end; a frame's main data begin main_data_begin bytes before its own area there. A frame is lost if that is before the
+first area, and no frame before it has main data, except lost ones: a program that cuts at frames leaves such.
 """
 import array
 import re
@@ -46,7 +46,7 @@ MOST_FRAMES = 2_900_000
 
 @dataclass(frozen=True)
 class Version:
-    """What the versions have apart. Pairs are for one channel and for two."""
+    """In what the versions differ. Pairs are for one channel and for two."""
 
     name: str
     rates: tuple  # kbit/s
@@ -82,7 +82,7 @@ MPEG_2 = Version(
     granule_bits=63,
 )
 
-# The side information and the rates of MPEG-2, at half its frequencies.
+# The side information and the bit rates of MPEG-2, at half its frequencies.
 MPEG_2_5 = replace(MPEG_2, name="MPEG-2.5", frequencies=(11025, 12000, 8000))
 
 
@@ -91,7 +91,7 @@ class Refused(Exception):
 
 
 class Unfit(Exception):
-    """What the program's line says where it names no file: the change can't be made."""
+    """What the program's line says if it names no file: the change can't be made."""
 
 
 def check_word(data):
@@ -224,7 +224,7 @@ def four(number):
 
 
 def item_at(block, at, end):
-    """The item at a place, and where it ends; or nothing where none is whole before the end."""
+    """The item at an offset in a block, and where it ends; or nothing if none is whole before the end."""
     end_of_key = block.find(b"\0", at + 8, end)
     key = block[at + 8 : end_of_key]
     if end_of_key < 0 or not re.fullmatch(rb"[ -~]{2,255}", key):
@@ -262,7 +262,7 @@ class Tag:
             at = found[1]
         self.judge(at == end, at)
         self.flags = number_of(block, 20), number_of(block, end + 20)
-        # The header is the one that is written of the items, so only the footer can differ.
+        # The header is that which is written for these items, so only the footer can differ.
         self.judge(bytes(self) == block and not self.flags[1] >> 29 & 1, end)
 
     def __bytes__(self):
@@ -271,7 +271,7 @@ class Tag:
         return ends[0] + items + ends[1]
 
     def place_of_note(self):
-        """How many items are before the undo item, or None where there is none."""
+        """How many items are before the undo item, or None if there is none."""
         return next((place for place, it in enumerate(self.items) if it[0].upper() == UNDO_KEY), None)
 
     def note(self):
@@ -334,7 +334,7 @@ class Survey:
 
 
 def passed(data, at, blocks):
-    """The offset after the blocks and zero bytes that are there from an offset on."""
+    """The offset after the blocks and zero bytes that begin at an offset."""
     while at < len(data):
         block = block_at(data, at)
         if block and block.end > len(data):
@@ -394,7 +394,7 @@ def stream_from(data, first, blocks):
 
 
 def judge_main_data(frame, before, ended):
-    """Where the main data end with the frame, whose own area begins after so many main bytes; or what is at fault in them."""
+    """Where the main data end after this frame, before whose own area there are `before` bytes of areas; or what is at fault in them."""
     at = frame.offset
     if frame.begin > before:
         raise Refused(f"back pointer at {at} is {frame.begin}, present {before}")
@@ -473,7 +473,7 @@ def time_of(samples, frequency):
 
 
 def lines_of(it):
-    """The lines that list a survey."""
+    """The lines of `mp3edit list`, from a survey."""
     lines = [(block.offset, f"block {block.kind} at {block.offset}: {block.end - block.offset} bytes") for block in it.blocks]
     if it.junk[0] < it.junk[1]:
         lines.append((it.junk[0], f"junk at {it.junk[0]}: {it.junk[1] - it.junk[0]} bytes"))
@@ -551,7 +551,7 @@ def side_of(frame, steps, wraps):
 
 
 def steps_of(channel, steps):
-    """Those of the left and of the right channel."""
+    """The steps of the left and of the right channel."""
     return tuple(int(steps) if channel in ("both", number) else 0 for number in "01")
 
 
@@ -583,7 +583,7 @@ def tag_of(data, found):
 
 
 def judge_channel(found, channel):
-    """Whether one channel may change alone."""
+    """Refuses a change of one channel alone where that can't be made."""
     if channel != "both":
         if found.frames[0].channels == 1:
             raise Unfit("one channel only")
@@ -593,7 +593,7 @@ def judge_channel(found, channel):
 
 
 def add_to_note(tag, old, steps, wraps):
-    """Notes a change in the tag, whose note had the old numbers."""
+    """Notes a change in the tag; `old` is what its note said before."""
     sums = [number - step for number, step in zip(old, steps)]
     for it in sums:
         if not -999 <= it <= 999:
@@ -616,7 +616,7 @@ def gained(data, found, channel, steps, wraps, with_note):
 
 
 def taken_back(data, found):
-    """The file with all changes taken back that its tag has a note of."""
+    """The file with all changes undone that its tag notes."""
     tag, place = tag_of(data, found)
     if tag.note() is None:
         raise Unfit("no undo item")
@@ -642,21 +642,21 @@ def with_gains(data, found, steps, wraps, tag):
 
 
 def with_steps(data, found, steps, wraps, tag):
-    """The same, each frame by its own steps."""
+    """The same, with the gains of each frame moved by its own steps."""
     new = bytearray(data)
     for frame, own in zip(found.frames, steps):
         side = side_of(frame, own, wraps)
         new[frame.side_at : frame.side_end] = side.to_bytes(frame.side_size, "big")
         if frame.protected:
             new[frame.offset + 4 : frame.side_at] = frame.right_word(side).to_bytes(2, "big")
-    # The last place first, so that the others stay where they are.
+    # From the end to the beginning, so that the other offsets stay right.
     for place, there in sorted([(found.junk, b"")] + ([tag] if tag else []), reverse=True):
         new[slice(*place)] = there
     return bytes(new)
 
 
 def change(name, output, how, *words):
-    """Writes the file as it is changed, and tells what is in it."""
+    """Writes the changed file, and says what is in the file."""
     data = bytes_of(name)
     found = survey_of(data)
     write(output, how(data, found, *words))

@@ -1,25 +1,25 @@
 #!/usr/bin/env python3
-"""Writes the frames of an MP3 file with all main data laid into new areas, apart from the program that it helps to check.
+"""Writes the frames of an MP3 file with all main data laid into new areas. It shares no code with the program that it helps to check.
 
   laid.py cut IN FROM TO OUT      writes OUT: the frames of IN from number FROM on and before TO, in their own slots
   laid.py least IN FROM TO OUT    the same, each in the least slot with which all main data have room
-  laid.py pack IN OUT             so all frames of IN, with the quality and the extension of its head
-  laid.py constant B IN OUT       the same in slots of B kbit/s alone, of frames and lead-in alike
+  laid.py pack IN OUT             all frames of IN in these slots, with the quality and the extension of its head
+  laid.py constant B IN OUT       the same in slots of B kbit/s alone, also of the lead-in
   laid.py floor B IN OUT          the same in slots of at least B kbit/s
   laid.py best IN OUT             the same in the slots that take the fewest bytes in all
   laid.py tried N                 compares the two ways to find these for N random parts of one to four frames
-  laid.py join OUT IN..           all frames of these, in their own slots, with the lead-ins that each has alone; no tags but ID3v2 of
-                                  the first in front
+  laid.py join OUT IN..           all frames of these, in their own slots, with the lead-ins that each has alone; of the tags only ID3v2 ones
+                                  before the first frame of the first input
 
 A slot is a bit rate and a padding bit. Of the lists of slots in which all main data have room the first in the order of the areas
-is taken; a lead-in, one empty frame, comes first where the frames alone have no such list. Main data begin as early as they
-may, at most 511 bytes (MPEG-1) or 255 before the frame's own area (main_data_begin; ISO/IEC 11172-3 and 13818-3, 2.4.2.7). What
-frames.py calls a lost frame is an empty one here. In slots of some bit rates alone a frame may have no room: the first up to which
-there is none, even with the greatest slots and a lead-in. The slots that take the fewest bytes are those of the list with the least
-sum of areas, and of several such lists of the first in the order of the areas; few frames are tried in all lists, and of more a table
-has the least sums after each number of free bytes. The Info frame in front has the number of frames, the bytes from its first to the
-last frame's last, and of these the 256th parts that are before each hundredth of the frames. Tags follow the frames, except ID3v2
-in front.
+is taken; a lead-in, one silent frame, comes first if the frames alone have no such list. Main data begin as early as they
+may, at most 511 bytes (MPEG-1) or 255 before the frame's own area (main_data_begin; ISO/IEC 11172-3 and 13818-3, 2.4.2.7). A frame
+that frames.py calls lost has no main data here. With some bit rates alone there may be no room: then the fault names the first
+frame up to which there is none, even with the largest slots and a lead-in. The slots that take the fewest bytes are those of the list
+with the least sum of areas, and of several such lists of the first in the order of the areas. For few frames all lists are tried; for
+more a table has the least sums after each number of free bytes. The Info frame has the number of frames, the bytes of itself and of
+all of them, and how many 256ths of these bytes are before each hundredth of the frames. ID3v2 tags that were before the first frame
+come first, and all other tags follow the frames.
 """
 import itertools
 import math
@@ -32,12 +32,12 @@ import frames  # noqa: E402
 
 HEAD_BYTES = 156
 SLOTS = [(index, padding) for index in range(1, 15) for padding in (0, 1)]
-# In place of slots: those that take the fewest bytes.
+# In the place of a list of slots: those that take the fewest bytes.
 BEST = "best"
 
 
 def in_slot(header, slot, protected):
-    """The frame of such a header in a slot, with a check word or without."""
+    """The frame with this header in a slot, with a check word or without."""
     index, padding = slot
     first = header[1] & 0xFE | (0 if protected else 1)
     return frames.Frame(bytes([header[0], first, header[2] & 0x0D | index << 4 | padding << 1, header[3]]), 0)
@@ -139,8 +139,8 @@ def has_room(areas, sizes, window):
 
 
 def best_by_trying(choices, sizes, window):
-    """Of each list of areas, which ascend, the place of one, so that main data of these sizes have room: those with the least sum, and of
-    several lists the first; nothing where there is none. Each list is tried, in the order of the areas."""
+    """For each frame the index of one of its areas, which ascend, so that main data of these sizes have room: those with the least sum, and
+    of several such lists the first; nothing if there is none. Each list is tried, in the order of the areas."""
     least, best = math.inf, None
     for places in itertools.product(*(range(len(it)) for it in choices)):
         areas = [it[at] for it, at in zip(choices, places)]
@@ -150,7 +150,7 @@ def best_by_trying(choices, sizes, window):
 
 
 def best_by_table(choices, sizes, window):
-    """The same by the least sums from each frame on, behind each number of free bytes."""
+    """The same by a table of the least sums from each frame on, after each number of free bytes."""
     later, rows = [0] * (window + 1), []
     for areas, size in zip(reversed(choices), reversed(sizes)):
         sums, places = [], []
@@ -196,7 +196,7 @@ def best_placed(needs):
 
 
 def try_parts(count):
-    """Both ways to find the best list for so many random parts: of one to four frames, each with some areas of a class."""
+    """Compares both ways to find the best list for this number of random parts: of one to four frames, each with some areas of a class."""
     chance = random.Random(1)
     headers = [bytes.fromhex(it) for it in ("fffb9000", "fffa9000", "fffb94c0", "fff398c0", "fff290c0")]
     none = 0
@@ -245,7 +245,7 @@ def info_frame(found, written, quality, extension):
 
 
 def head_fields(data, head):
-    """The quality and the extension that a head tells, or zeros."""
+    """The quality and the extension of a head, or zeros."""
     quality, extension = bytes(4), bytes(36)
     if head is None:
         return quality, extension
@@ -268,7 +268,7 @@ def front_blocks(found):
 
 
 def laid_file(data, found, first, end, slots, keeps_head=False):
-    """The bytes of the frames from one number on and before another in these slots, in their own, or in the best; and how many frames
+    """The file of the frames from one number on and before another in these slots, in their own, or in the best; and how many frames
     are written."""
     quality, extension = head_fields(data, found.head if keeps_head else None)
     needs = main_data(data, found)[first:end]
@@ -283,7 +283,7 @@ def laid_file(data, found, first, end, slots, keeps_head=False):
 
 
 def joined_file(files, surveys):
-    """The bytes of all frames of the files, and how many frames are written."""
+    """The file of all frames of the files, and how many frames are written."""
     places = placed([main_data(data, found) for data, found in zip(files, surveys)], None, SLOTS)
     written = laid(places)
     parts = [files[0][it.offset : it.end] for it in front_blocks(surveys[0])]
@@ -292,7 +292,7 @@ def joined_file(files, surveys):
 
 
 def menu_of(found, mode, rate):
-    """The slots of a file's class by a mode of packing; none where the bit rate isn't one of the class."""
+    """The slots of a file's class by a mode of packing; none if the bit rate isn't one of the class."""
     header = found.frames[0].header
     if not slots_with(header, lambda it: it == rate):
         return []

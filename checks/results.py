@@ -1,12 +1,13 @@
 #!/usr/bin/env python3
-"""What mp3edit answers to its words, from the files that are there: apart from the program that it helps to check.
+"""What mp3edit answers to its words, from the files that are there. It shares no code with the program
+that it helps to check.
 
   results.py WORD..      of the files that the words name: the files that are written, as NAME and length, the text, and the line and the
                          status of the program
 
-The words are those of README's "Usage", the lines and their order those of its "Statuses and lines". Files are bytes by name.
-frames.py says what is in a file and moves gains, laid.py lays main data, fades.py reads places and the sheets of fades, drill.py makes
-streams from numbers, and damaged.py says what can be read of a damaged file.
+The words are those of "Synopsis" in docs/MANUAL.md, the lines those of its "Messages", and their order is "The order of refusals" in
+docs/DECISIONS.md. Files are bytes by name. frames.py says what is in a file and moves gains, laid.py lays main data, fades.py reads
+positions and the sheets of fades, drill.py draws streams from seeds, and damaged.py says what can be read of a damaged file.
 """
 import re
 import sys
@@ -27,8 +28,8 @@ LONGEST_SHEET = 65_536
 
 @dataclass
 class Result:
-    """Status, text, line, and the bytes of the files that are written; besides which frames of which inputs each of them has, and by
-    how many steps the gains of the left and of the right channel are moved in them: of all frames, or of each."""
+    """Status, text, line, and the bytes of the files that are written; and for each of these which frames of which inputs it has, and by
+    how many steps the gains of the left and of the right channel are moved in it: of all frames alike (moved), or of each (faded)."""
 
     status: int = 0
     text: str = ""
@@ -74,7 +75,7 @@ def frame_count(word):
     return re.fullmatch(r"[0-9]{1,5}", word) and 1 <= int(word) <= 20_000
 
 
-# The kinds of the words of each form, a fixed word by itself, and how often the last of them may come.
+# The kinds of the words of each form, a fixed word as itself, and how often the last kind may come.
 FRONTS = [[], ["-s", "s"], ["-w"], ["-s", "s", "-w"], ["-w", "-s", "s"]]
 MODES = [["-g", steps], ["-l", channel, steps]]
 FORMS = [(["gain", *front, *mode, name, name], 1) for front in FRONTS for mode in MODES]
@@ -98,7 +99,7 @@ FORMS += [
 
 
 def judge_words(words):
-    """Refuses the first word that no form takes, or the place after the last word where one is missing."""
+    """Refuses the first word that fits no form, or the word after the last one if a word is missing."""
     longest = 0
     for kinds, most in FORMS:
         kinds_of_words = kinds + kinds[-1:] * (most - 1)
@@ -113,11 +114,11 @@ def judge_words(words):
     raise Answer(2, f"bad word {longest + 1}")
 
 
-# ---- places and sheets
+# ---- positions and sheets
 
 
 def ranges_of(places, found):
-    """The pairs of frames from place to place."""
+    """The pairs of frame numbers from each position to the next."""
     at = [frame_at(it, found) for it in places]
     count = len(found.frames)
     for pair in zip(at, at[1:]):
@@ -173,7 +174,7 @@ def bytes_of_sheet(word, files):
 
 
 def places_of(word, files):
-    """The places where the tracks of a sheet start, and the end."""
+    """The positions where the tracks of a sheet start, and the end."""
     data, sheet = bytes_of_sheet(word, files), Sheet()
     for number, line in enumerate(data.removeprefix(b"\xef\xbb\xbf").split(b"\n"), 1):
         fault = sheet.take([it for it in re.split(rb"[ \t]+", line.removesuffix(b"\r")) if it])
