@@ -1,6 +1,6 @@
 #!/usr/bin/env python3
-"""What mp3edit answers to its words, from the files that are there. It shares no code with the program
-that it helps to check.
+"""What mp3edit answers to its words, from the files that are there. It shares no code with the program that it
+helps to check.
 
   results.py WORD..      of the files that the words name: the files that are written, as NAME and length, the text, and the line and the
                          status of the program
