@@ -165,14 +165,14 @@ module _ (input : List ℕ) where
         let told = telling-text (λ f. text_where (f input)) (one_command (salvage_task input) output) files all is in
         told.2 ∙ at files told.1 ready.there ready.read ∙ sym (report-text ready.of work.report ready.reports) ∙ sym (ap (λ n. text_of n work.report) frames-same)
       where
-        some-same : (f g : Contents) → Some f ≡ Some g → f ≡ g
-        some-same f g e = cc
+        told-same : (f g : Contents) → Told f ≡ Told g → f ≡ g
+        told-same f g e = cc
 
-        at : (fs : Files) {f : Contents} → fs ≡ Some f → IsThere fs input → IsReadOf input fs ready.of → text_where (f input) ≡ salvage_text ready.of
+        at : (fs : Files) {f : Contents} → fs ≡ Told f → IsThere fs input → IsReadOf input fs ready.of → text_where (f input) ≡ salvage_text ready.of
         at (Untold touched) e there read = absurd cc
         at (Told g) {f} e there read =
             let held = there_holds g input there in
-            ap (λ (h : Contents). text_where (h input)) (sym (some-same g f e)) ∙ ap text_where held.1 ∙ ap text_by (read held.0 held.1)
+            ap (λ (h : Contents). text_where (h input)) (sym (told-same g f e)) ∙ ap text_where held.1 ∙ ap text_by (read held.0 held.1)
 
     pub ready-order : IsInOrder work.report
     ready-order = reports-order ready.of work.report ready.laid ready.reports
