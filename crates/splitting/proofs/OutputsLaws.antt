@@ -3,10 +3,11 @@ use Rattle.std.proofs.Common.{◌≡◌, ◌≢◌, ℕ, ◌+◌, List, [], ◌�
 use Rattle.std.specs.Prelude.{IfErr, OnOk, OnErr}
 use Rattle.std.proofs.Math.Seq.{take-append_seam, drop-append_seam}
 use Rattle.std.proofs.lemmas.List.{map-append, length-map}
+use Rattle.std.proofs.lemmas.List.Elements.{All-take}
 use Rattle.outside.specs.Files.{Contents, Files, Told, Untold, with_file, emptied, Holds, IsThere, OnlyTouches}
 use Rattle.outside.specs.Counts.{Counts, Rose, NothingFailed}
 use Rattle.outside.specs.Feed.{Fed, IsFedFrom}
-use Rattle.outside.proofs.FilesLaws.{there_holds, with_file_other, emptied_held_other, touches_none, touches_both, touches_told}
+use Rattle.outside.proofs.FilesLaws.{there_holds, with_file_other, emptied_held_other, touches_none, touches_both, touches_more, touches_told}
 use Rattle.sync_survey.specs.Faults.{SurveyFields}
 use Rattle.outside.specs.declared.pass.PassFault.{PassFault}
 use Rattle.outside.specs.declared.pass.PassFault.TheVariants.{Read, Shrunk, Write}
@@ -155,6 +156,14 @@ module _ (s : SurveyFields) (input : List ℕ) (done : List Piece) (piece : Piec
       append_assoc (names_of done) (string_bytes piece.name ∷ []) (names_of rest) ∙ sym (map-append (λ (p : Piece). string_bytes p.name) done (piece ∷ rest)) ∙ ap names_of split in
       sym (take-append_seam first (names_of rest)) ∙ ap₂ (λ n names. take n names) size whole
 
+  touched-here : (place : ℕ) → place ≡ length done → OnlyTouches (take (place + 1) (names_of all)) old new
+  touched-here place is = subst (λ names. OnlyTouches names old new) (touched-first place is) (touches_both (names_of done) (string_bytes piece.name ∷ []) old now new wrote.touches touches)
+
+  pub all-touched : OnlyTouches (names_of all) old new
+  all-touched =
+      touches_more (take (length done + 1) (names_of all)) (names_of all) old new (λ other apart. All-take (λ name. other ≢ name) (length done + 1) (names_of all) apart)
+      (touched-here (length done) refl)
+
   part-written : ((bytes : List ℕ) → Holds now input bytes → HoldsPrefix (string_bytes piece.name) (piece_made s piece bytes) now new) → (place : ℕ) → place ≡ length done → IsWrittenPart (outputs_of s all) (names_of all) input place old new
   part-written begun place is = record {
     files = λ bytes holds.
@@ -166,7 +175,7 @@ module _ (s : SurveyFields) (input : List ℕ) (done : List Piece) (piece : Piec
           part.0,
           part.1 ∙ ap₂ (λ n l. with_part n part.0 l old) size all_is,
         );
-    touches = subst (λ names. OnlyTouches names old new) (touched-first place is) (touches_both (names_of done) (string_bytes piece.name ∷ []) old now new wrote.touches touches);
+    touches = touched-here place is;
   }
 
   pub pieces-fault : (fault : PassFault) (place : ℕ) (before between after : Counts) → place ≡ length done → between ≡ before

@@ -4,7 +4,7 @@ use Rattle.std.specs.Vec.Iter.{into_iter_items}
 use Rattle.sync_survey.specs.Faults.{tells}
 use Rattle.commands.specs.Left.{seen}
 use Rattle.splitting.specs.Steps.{CanBeWritten, outputs_of, names_of, IsPiecesFault}
-use Rattle.splitting.proofs.OutputsLaws.{none-wrote, more-wrote, pieces-fault}
+use Rattle.splitting.proofs.OutputsLaws.{none-wrote, more-wrote, pieces-fault, all-touched}
 use Rattle.splitting.proofs.writing.write_pieces.Given as given
 use Rattle.splitting.proofs.writing.write_pieces.Goals as goal
 use Rattle.splitting.proofs.writing.write_pieces.Goals.{After-write_piece}
@@ -39,6 +39,13 @@ returns-in-Err-clause-left g c =
     subst (IsPiecesFault (outputs_of s c.args.pieces.items) (names_of c.args.pieces.items) c.args.input.now (seen (files c.args.folder.now) (counts c.args.folder.now)) (seen (files c.write_piece.new.folder) (counts c.write_piece.new.folder))) (sym c.of_piece.ensures)
     (pieces-fault s c.args.input.now at.yielded c.in-Some.piece (into_iter_items c.next.new.self) c.args.pieces.items (files c.args.folder.now) (files at.folder) (files c.write_piece.new.folder) (split g (goal.at.returns-in-Err-clause-left g c).After-write_piece)
     at.invariant.4 c.write_piece.ensures.touches c.in-Err.fault at.place (counts c.args.folder.now) (counts at.folder) (counts c.write_piece.new.folder) at.invariant.3 at.invariant.7 c.in-Err.ensures.left)
+
+pub returns-in-Err-clause-touches : goal.returns-in-Err-clause-touches
+returns-in-Err-clause-touches g c =
+    let files = g.D.Folder.files in
+    let at = c.loop-piece in
+    all-touched (tells c.args.survey.now) c.args.input.now at.yielded c.in-Some.piece (into_iter_items c.next.new.self) c.args.pieces.items (files c.args.folder.now) (files at.folder) (files c.write_piece.new.folder)
+    (split g (goal.at.returns-in-Err-clause-touches g c).After-write_piece) at.invariant.4 c.write_piece.ensures.touches
 
 pub loop-piece-preserved : goal.loop-piece-preserved
 loop-piece-preserved g c =
