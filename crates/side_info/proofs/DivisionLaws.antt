@@ -1,13 +1,13 @@
 -- The division of bits: what it makes of exclusive ors, and a byte at a time by a table.
-use Rattle.std.proofs.Common.{◌≡◌, ℕ, zero, suc, ◌+◌, ◌*◌, ◌/◌, ◌%◌, ◌^◌, ◌<◌, ◌≤◌, Bool, true, cond, ◌&&◌, eqb, List, [], ◌∷◌, ◌++◌, bit_xor, length, get_or, take, refl, sym, ap, ap₂, ◌∙◌, subst, inl, inr, add-zero, arith, lit<}
+use Rattle.std.proofs.Common.{◌≡◌, ℕ, zero, suc, ◌+◌, ◌*◌, ◌/◌, ◌%◌, ◌^◌, ◌<◌, ◌≤◌, Bool, true, cond, ◌&&◌, eqb, List, [], ◌∷◌, ◌++◌, bit_xor, length, get_or, take, drop, refl, sym, ap, ap₂, ◌∙◌, subst, inl, inr, add-zero, arith, lit<}
 use lib.Bits.{xor_assoc, xor_self, xor_zero_r, xor_shifted}
 use Rattle.std.proofs.lemmas.Nat.{xor_comm, xor_shr, xor_mod, xor_block, xor_lt, mod_below}
 use Rattle.std.proofs.lemmas.Bool.{eqb-true, and_parts, cases_lt}
-use Rattle.std.proofs.lemmas.List.{take_more}
+use Rattle.std.proofs.lemmas.List.{take_more, take-take, drop-take, take-append-drop}
 use Rattle.std.specs.Int.{bit_at}
 use Rattle.bit_fields.specs.Bits.{bits, bits_of, AreBits}
-use Rattle.bit_fields.proofs.BitsLaws.{AreBits-bits_of, bits-append, bits-one}
-use Rattle.side_info.specs.declared.division.TheConstants.{REMAINDERS, REMAINDERS_2, REMAINDERS_3, REMAINDERS_4}
+use Rattle.bit_fields.proofs.BitsLaws.{AreBits-bits_of, bits-append, bits-one, bits-nil}
+use Rattle.side_info.specs.declared.division.TheConstants.{REMAINDERS, REMAINDERS_2, REMAINDERS_3, REMAINDERS_4, REMAINDERS_5, REMAINDERS_6, REMAINDERS_7, REMAINDERS_8}
 use Rattle.side_info.specs.CheckWord.{polynomial, bit_step, remainder}
 
 -- ---- one bit
@@ -160,7 +160,7 @@ module _ (word byte : ℕ) (small : word < 2 ^ 16) (few : byte < 256) where
       ∙ ap₂ bit_xor entry (moved ∙ sym lowest)
       ∙ xor_comm (get_or REMAINDERS left 0) (word * 256 % 65536))
 
--- ---- four bytes, by a table for each
+-- ---- two and eight bytes, by a table for each
 
 -- the word after eight zero bits
 abbrev behind : ℕ → ℕ
@@ -203,20 +203,48 @@ tabled-4 : all_below 256 (λ b. eqb (remainder (get_or REMAINDERS_3 b 0) eight_z
 unfolding remainder bit_step
 tabled-4 = refl
 
+tabled-5 : all_below 256 (λ b. eqb (remainder (get_or REMAINDERS_4 b 0) eight_zeros) (get_or REMAINDERS_5 b 0)) ≡ true
+unfolding remainder bit_step
+tabled-5 = refl
+
+tabled-6 : all_below 256 (λ b. eqb (remainder (get_or REMAINDERS_5 b 0) eight_zeros) (get_or REMAINDERS_6 b 0)) ≡ true
+unfolding remainder bit_step
+tabled-6 = refl
+
+tabled-7 : all_below 256 (λ b. eqb (remainder (get_or REMAINDERS_6 b 0) eight_zeros) (get_or REMAINDERS_7 b 0)) ≡ true
+unfolding remainder bit_step
+tabled-7 = refl
+
+tabled-8 : all_below 256 (λ b. eqb (remainder (get_or REMAINDERS_7 b 0) eight_zeros) (get_or REMAINDERS_8 b 0)) ≡ true
+unfolding remainder bit_step
+tabled-8 = refl
+
 module _ (byte : ℕ) (few : byte < 256) where
   entry : behind (byte * 256) ≡ get_or REMAINDERS byte 0
   entry = eqb-true _ _ (passes 256 (λ b. eqb (remainder (b * 256) eight_zeros) (get_or REMAINDERS b 0)) byte tabled few)
 
-  entry-2 : behind (behind (byte * 256)) ≡ get_or REMAINDERS_2 byte 0
-  entry-2 = ap behind entry ∙ eqb-true _ _ (passes 256 (λ b. eqb (remainder (get_or REMAINDERS b 0) eight_zeros) (get_or REMAINDERS_2 b 0)) byte tabled-2 few)
+  next-2 : behind (get_or REMAINDERS byte 0) ≡ get_or REMAINDERS_2 byte 0
+  next-2 = eqb-true _ _ (passes 256 (λ b. eqb (remainder (get_or REMAINDERS b 0) eight_zeros) (get_or REMAINDERS_2 b 0)) byte tabled-2 few)
 
-  entry-3 : behind (behind (behind (byte * 256))) ≡ get_or REMAINDERS_3 byte 0
-  entry-3 = ap behind entry-2 ∙ eqb-true _ _ (passes 256 (λ b. eqb (remainder (get_or REMAINDERS_2 b 0) eight_zeros) (get_or REMAINDERS_3 b 0)) byte tabled-3 few)
+  next-3 : behind (get_or REMAINDERS_2 byte 0) ≡ get_or REMAINDERS_3 byte 0
+  next-3 = eqb-true _ _ (passes 256 (λ b. eqb (remainder (get_or REMAINDERS_2 b 0) eight_zeros) (get_or REMAINDERS_3 b 0)) byte tabled-3 few)
 
-  entry-4 : behind (behind (behind (behind (byte * 256)))) ≡ get_or REMAINDERS_4 byte 0
-  entry-4 = ap behind entry-3 ∙ eqb-true _ _ (passes 256 (λ b. eqb (remainder (get_or REMAINDERS_3 b 0) eight_zeros) (get_or REMAINDERS_4 b 0)) byte tabled-4 few)
+  next-4 : behind (get_or REMAINDERS_3 byte 0) ≡ get_or REMAINDERS_4 byte 0
+  next-4 = eqb-true _ _ (passes 256 (λ b. eqb (remainder (get_or REMAINDERS_3 b 0) eight_zeros) (get_or REMAINDERS_4 b 0)) byte tabled-4 few)
 
-module _ (word a b c d : ℕ) (small : word < 2 ^ 16) (a_few : a < 256) (b_few : b < 256) (c_few : c < 256) (d_few : d < 256) where
+  next-5 : behind (get_or REMAINDERS_4 byte 0) ≡ get_or REMAINDERS_5 byte 0
+  next-5 = eqb-true _ _ (passes 256 (λ b. eqb (remainder (get_or REMAINDERS_4 b 0) eight_zeros) (get_or REMAINDERS_5 b 0)) byte tabled-5 few)
+
+  next-6 : behind (get_or REMAINDERS_5 byte 0) ≡ get_or REMAINDERS_6 byte 0
+  next-6 = eqb-true _ _ (passes 256 (λ b. eqb (remainder (get_or REMAINDERS_5 b 0) eight_zeros) (get_or REMAINDERS_6 b 0)) byte tabled-6 few)
+
+  next-7 : behind (get_or REMAINDERS_6 byte 0) ≡ get_or REMAINDERS_7 byte 0
+  next-7 = eqb-true _ _ (passes 256 (λ b. eqb (remainder (get_or REMAINDERS_6 b 0) eight_zeros) (get_or REMAINDERS_7 b 0)) byte tabled-7 few)
+
+  next-8 : behind (get_or REMAINDERS_7 byte 0) ≡ get_or REMAINDERS_8 byte 0
+  next-8 = eqb-true _ _ (passes 256 (λ b. eqb (remainder (get_or REMAINDERS_7 b 0) eight_zeros) (get_or REMAINDERS_8 b 0)) byte tabled-8 few)
+
+module _ (word a b : ℕ) (small : word < 2 ^ 16) (a_few : a < 256) (b_few : b < 256) where
   -- what meets the upper byte of the word, and what meets the lower
   abbrev upper : ℕ
   upper = bit_xor (word / 256) a
@@ -241,33 +269,83 @@ module _ (word a b c d : ℕ) (small : word < 2 ^ 16) (a_few : a < 256) (b_few :
       ∙ ap behind (xor_assoc (behind (upper * 256)) (word % 256 * 256) (b * 256) ∙ ap (bit_xor (behind (upper * 256))) (both_high (word % 256) b))
       ∙ behind-xor (behind (upper * 256)) (lower * 256)
 
-  after_c : remainder (remainder (remainder word (bits_of 8 a)) (bits_of 8 b)) (bits_of 8 c)
-      ≡ bit_xor (bit_xor (behind (behind (behind (upper * 256)))) (behind (behind (lower * 256)))) (behind (c * 256))
-  after_c =
-      let x = behind (behind (upper * 256)) in
-      let y = behind (lower * 256) in
-      ap (λ w. remainder w (bits_of 8 c)) after_b
-      ∙ remainder-top (bit_xor x y) c c_few
-      ∙ behind-xor (bit_xor x y) (c * 256)
-      ∙ ap (λ w. bit_xor w (behind (c * 256))) (behind-xor x y)
+  upper_few : upper < 256
+  upper_few = xor_lt 8 (word / 256) a (omega (arith, small)) a_few
 
-  after_d : remainder (remainder (remainder (remainder word (bits_of 8 a)) (bits_of 8 b)) (bits_of 8 c)) (bits_of 8 d)
-      ≡ bit_xor (bit_xor (bit_xor (behind (behind (behind (behind (upper * 256))))) (behind (behind (behind (lower * 256))))) (behind (behind (c * 256)))) (behind (d * 256))
-  after_d =
-      let x = behind (behind (behind (upper * 256))) in
-      let y = behind (behind (lower * 256)) in
-      let z = behind (c * 256) in
-      ap (λ w. remainder w (bits_of 8 d)) after_c
-      ∙ remainder-top (bit_xor (bit_xor x y) z) d d_few
-      ∙ behind-xor (bit_xor (bit_xor x y) z) (d * 256)
-      ∙ ap (λ w. bit_xor w (behind (d * 256))) (behind-xor (bit_xor x y) z ∙ ap (λ w. bit_xor w (behind z)) (behind-xor x y))
+  lower_few : lower < 256
+  lower_few = xor_lt 8 (word % 256) b (mod_below word 256 (lit< tt)) b_few
 
-  pub remainder-four : bit_xor (bit_xor (bit_xor (get_or REMAINDERS_4 (bit_xor (word / 256) a) 0) (get_or REMAINDERS_3 (bit_xor (word % 256) b) 0)) (get_or REMAINDERS_2 c 0)) (get_or REMAINDERS d 0)
-      ≡ remainder (remainder (remainder (remainder word (bits_of 8 a)) (bits_of 8 b)) (bits_of 8 c)) (bits_of 8 d)
-  remainder-four =
-      let upper_few : upper < 256 = xor_lt 8 (word / 256) a (omega (arith, small)) a_few in
-      let lower_few : lower < 256 = xor_lt 8 (word % 256) b (mod_below word 256 (lit< tt)) b_few in
-      sym (after_d ∙ ap₂ bit_xor (ap₂ bit_xor (ap₂ bit_xor (entry-4 upper upper_few) (entry-3 lower lower_few)) (entry-2 c c_few)) (entry d d_few))
+  pub remainder-two : bit_xor (get_or REMAINDERS_2 (bit_xor (word / 256) a) 0) (get_or REMAINDERS (bit_xor (word % 256) b) 0) ≡ remainder (remainder word (bits_of 8 a)) (bits_of 8 b)
+  remainder-two = sym (after_b ∙ ap₂ bit_xor (ap behind (entry upper upper_few) ∙ next-2 upper upper_few) (entry lower lower_few))
+
+-- a byte after others
+remainder-push : (word byte : ℕ) (xs : List ℕ) → byte < 256 → remainder word (bits (xs ++ byte ∷ [])) ≡ bit_xor (behind (remainder word (bits xs))) (get_or REMAINDERS byte 0)
+remainder-push word byte xs few =
+    let before = remainder word (bits xs) in
+    ap (remainder word) (bits-append xs (byte ∷ []) ∙ ap (λ bs. bits xs ++ bs) (bits-one byte))
+    ∙ remainder-append (bits xs) (bits_of 8 byte) word
+    ∙ remainder-top before byte few
+    ∙ behind-xor before (byte * 256)
+    ∙ ap (bit_xor (behind before)) (entry byte few)
+
+-- two bytes
+pub remainder-pair : (word a b : ℕ) → remainder word (bits (a ∷ b ∷ [])) ≡ remainder (remainder word (bits_of 8 a)) (bits_of 8 b)
+remainder-pair word a b =
+    ap (remainder word) (bits-append (a ∷ []) (b ∷ []) ∙ ap₂ (λ xs ys. xs ++ ys) (bits-one a) (bits-one b))
+    ∙ remainder-append (bits_of 8 a) (bits_of 8 b) word
+
+-- eight bytes: the first two meet the word
+module _ (word a b c d e f g h : ℕ) (small : word < 2 ^ 16) (a_few : a < 256) (b_few : b < 256) (c_few : c < 256) (d_few : d < 256) (e_few : e < 256) (f_few : f < 256) (g_few : g < 256) (h_few : h < 256) where
+  abbrev high : ℕ
+  high = bit_xor (word / 256) a
+
+  abbrev low : ℕ
+  low = bit_xor (word % 256) b
+
+  high_few : high < 256
+  high_few = xor_lt 8 (word / 256) a (omega (arith, small)) a_few
+
+  low_few : low < 256
+  low_few = xor_lt 8 (word % 256) b (mod_below word 256 (lit< tt)) b_few
+
+  behind_2 : remainder word (bits (a ∷ b ∷ [])) ≡ bit_xor (get_or REMAINDERS_2 high 0) (get_or REMAINDERS low 0)
+  behind_2 = remainder-pair word a b ∙ sym (remainder-two word a b small a_few b_few)
+
+  behind_3 : remainder word (bits (a ∷ b ∷ c ∷ []))
+      ≡ bit_xor (bit_xor (get_or REMAINDERS_3 high 0) (get_or REMAINDERS_2 low 0)) (get_or REMAINDERS c 0)
+  behind_3 =
+      remainder-push word c (a ∷ b ∷ []) c_few
+      ∙ ap (λ w. bit_xor w (get_or REMAINDERS c 0)) (ap behind behind_2 ∙ behind-xor _ _ ∙ ap₂ bit_xor (next-3 high high_few) (next-2 low low_few))
+
+  behind_4 : remainder word (bits (a ∷ b ∷ c ∷ d ∷ []))
+      ≡ bit_xor (bit_xor (bit_xor (get_or REMAINDERS_4 high 0) (get_or REMAINDERS_3 low 0)) (get_or REMAINDERS_2 c 0)) (get_or REMAINDERS d 0)
+  behind_4 =
+      remainder-push word d (a ∷ b ∷ c ∷ []) d_few
+      ∙ ap (λ w. bit_xor w (get_or REMAINDERS d 0)) (ap behind behind_3 ∙ behind-xor _ _ ∙ ap₂ bit_xor (behind-xor _ _ ∙ ap₂ bit_xor (next-4 high high_few) (next-3 low low_few)) (next-2 c c_few))
+
+  behind_5 : remainder word (bits (a ∷ b ∷ c ∷ d ∷ e ∷ []))
+      ≡ bit_xor (bit_xor (bit_xor (bit_xor (get_or REMAINDERS_5 high 0) (get_or REMAINDERS_4 low 0)) (get_or REMAINDERS_3 c 0)) (get_or REMAINDERS_2 d 0)) (get_or REMAINDERS e 0)
+  behind_5 =
+      remainder-push word e (a ∷ b ∷ c ∷ d ∷ []) e_few
+      ∙ ap (λ w. bit_xor w (get_or REMAINDERS e 0)) (ap behind behind_4 ∙ behind-xor _ _ ∙ ap₂ bit_xor (behind-xor _ _ ∙ ap₂ bit_xor (behind-xor _ _ ∙ ap₂ bit_xor (next-5 high high_few) (next-4 low low_few)) (next-3 c c_few)) (next-2 d d_few))
+
+  behind_6 : remainder word (bits (a ∷ b ∷ c ∷ d ∷ e ∷ f ∷ []))
+      ≡ bit_xor (bit_xor (bit_xor (bit_xor (bit_xor (get_or REMAINDERS_6 high 0) (get_or REMAINDERS_5 low 0)) (get_or REMAINDERS_4 c 0)) (get_or REMAINDERS_3 d 0)) (get_or REMAINDERS_2 e 0)) (get_or REMAINDERS f 0)
+  behind_6 =
+      remainder-push word f (a ∷ b ∷ c ∷ d ∷ e ∷ []) f_few
+      ∙ ap (λ w. bit_xor w (get_or REMAINDERS f 0)) (ap behind behind_5 ∙ behind-xor _ _ ∙ ap₂ bit_xor (behind-xor _ _ ∙ ap₂ bit_xor (behind-xor _ _ ∙ ap₂ bit_xor (behind-xor _ _ ∙ ap₂ bit_xor (next-6 high high_few) (next-5 low low_few)) (next-4 c c_few)) (next-3 d d_few)) (next-2 e e_few))
+
+  behind_7 : remainder word (bits (a ∷ b ∷ c ∷ d ∷ e ∷ f ∷ g ∷ []))
+      ≡ bit_xor (bit_xor (bit_xor (bit_xor (bit_xor (bit_xor (get_or REMAINDERS_7 high 0) (get_or REMAINDERS_6 low 0)) (get_or REMAINDERS_5 c 0)) (get_or REMAINDERS_4 d 0)) (get_or REMAINDERS_3 e 0)) (get_or REMAINDERS_2 f 0)) (get_or REMAINDERS g 0)
+  behind_7 =
+      remainder-push word g (a ∷ b ∷ c ∷ d ∷ e ∷ f ∷ []) g_few
+      ∙ ap (λ w. bit_xor w (get_or REMAINDERS g 0)) (ap behind behind_6 ∙ behind-xor _ _ ∙ ap₂ bit_xor (behind-xor _ _ ∙ ap₂ bit_xor (behind-xor _ _ ∙ ap₂ bit_xor (behind-xor _ _ ∙ ap₂ bit_xor (behind-xor _ _ ∙ ap₂ bit_xor (next-7 high high_few) (next-6 low low_few)) (next-5 c c_few)) (next-4 d d_few)) (next-3 e e_few)) (next-2 f f_few))
+
+  pub remainder-eight : remainder word (bits (a ∷ b ∷ c ∷ d ∷ e ∷ f ∷ g ∷ h ∷ []))
+      ≡ bit_xor (bit_xor (bit_xor (bit_xor (bit_xor (bit_xor (bit_xor (get_or REMAINDERS_8 high 0) (get_or REMAINDERS_7 low 0)) (get_or REMAINDERS_6 c 0)) (get_or REMAINDERS_5 d 0)) (get_or REMAINDERS_4 e 0)) (get_or REMAINDERS_3 f 0)) (get_or REMAINDERS_2 g 0)) (get_or REMAINDERS h 0)
+  remainder-eight =
+      remainder-push word h (a ∷ b ∷ c ∷ d ∷ e ∷ f ∷ g ∷ []) h_few
+      ∙ ap (λ w. bit_xor w (get_or REMAINDERS h 0)) (ap behind behind_7 ∙ behind-xor _ _ ∙ ap₂ bit_xor (behind-xor _ _ ∙ ap₂ bit_xor (behind-xor _ _ ∙ ap₂ bit_xor (behind-xor _ _ ∙ ap₂ bit_xor (behind-xor _ _ ∙ ap₂ bit_xor (behind-xor _ _ ∙ ap₂ bit_xor (next-8 high high_few) (next-7 low low_few)) (next-6 c c_few)) (next-5 d d_few)) (next-4 e e_few)) (next-3 f f_few)) (next-2 g g_few))
 
 -- ---- bytes
 -- one byte more
@@ -279,21 +357,34 @@ remainder-more word xs i h =
     ∙ sym (bits-append (take i xs) (get_or xs i 0 ∷ []))
     ∙ ap bits (sym (take_more xs i 0 h)))
 
--- four bytes more
-pub remainder-four_more : (word : ℕ) (xs : List ℕ) (i : ℕ) → i + 4 ≤ length xs
-    → remainder (remainder (remainder (remainder (remainder word (bits (take i xs))) (bits_of 8 (get_or xs i 0))) (bits_of 8 (get_or xs (i + 1) 0))) (bits_of 8 (get_or xs (i + 2) 0))) (bits_of 8 (get_or xs (i + 3) 0))
-    ≡ remainder word (bits (take (i + 4) xs))
-remainder-four_more word xs i room =
-    let second = remainder-more word xs (i + 1) (omega (arith, room)) in
-    let third = remainder-more word xs (i + 2) (omega (arith, room)) in
-    let fourth = remainder-more word xs (i + 3) (omega (arith, room)) in
-    let two : i + 1 + 1 ≡ i + 2 = omega arith in
-    let three : i + 2 + 1 ≡ i + 3 = omega arith in
-    let four : i + 3 + 1 ≡ i + 4 = omega arith in
-    ap (λ w. remainder (remainder (remainder w (bits_of 8 (get_or xs (i + 1) 0))) (bits_of 8 (get_or xs (i + 2) 0))) (bits_of 8 (get_or xs (i + 3) 0))) (remainder-more word xs i (omega (arith, room)))
-    ∙ ap (λ w. remainder (remainder w (bits_of 8 (get_or xs (i + 2) 0))) (bits_of 8 (get_or xs (i + 3) 0))) (second ∙ ap (λ n. remainder word (bits (take n xs))) two)
-    ∙ ap (λ w. remainder w (bits_of 8 (get_or xs (i + 3) 0))) (third ∙ ap (λ n. remainder word (bits (take n xs))) three)
-    ∙ fourth ∙ ap (λ n. remainder word (bits (take n xs))) four
-
 pub remainder-bits_append : (word : ℕ) (xs ys : List ℕ) → remainder (remainder word (bits xs)) (bits ys) ≡ remainder word (bits (xs ++ ys))
 remainder-bits_append word xs ys = sym (remainder-append (bits xs) (bits ys) word) ∙ ap (remainder word) (sym (bits-append xs ys))
+
+-- the first eight of some bytes
+pub eight_list : (word : ℕ) (xs : List ℕ) → word < 2 ^ 16 → ((i : ℕ) → get_or xs i 0 < 256) → 8 ≤ length xs
+    → bit_xor (bit_xor (bit_xor (bit_xor (bit_xor (bit_xor (bit_xor (get_or REMAINDERS_8 (bit_xor (word / 256) (get_or xs 0 0)) 0) (get_or REMAINDERS_7 (bit_xor (word % 256) (get_or xs 1 0)) 0)) (get_or REMAINDERS_6 (get_or xs 2 0) 0)) (get_or REMAINDERS_5 (get_or xs 3 0) 0)) (get_or REMAINDERS_4 (get_or xs 4 0) 0)) (get_or REMAINDERS_3 (get_or xs 5 0) 0)) (get_or REMAINDERS_2 (get_or xs 6 0) 0)) (get_or REMAINDERS (get_or xs 7 0) 0) ≡ remainder word (bits (take 8 xs))
+eight_list word [] small few long = absurd (omega (arith, long))
+eight_list word (a ∷ []) small few long = absurd (omega (arith, long))
+eight_list word (a ∷ b ∷ []) small few long = absurd (omega (arith, long))
+eight_list word (a ∷ b ∷ c ∷ []) small few long = absurd (omega (arith, long))
+eight_list word (a ∷ b ∷ c ∷ d ∷ []) small few long = absurd (omega (arith, long))
+eight_list word (a ∷ b ∷ c ∷ d ∷ e ∷ []) small few long = absurd (omega (arith, long))
+eight_list word (a ∷ b ∷ c ∷ d ∷ e ∷ f ∷ []) small few long = absurd (omega (arith, long))
+eight_list word (a ∷ b ∷ c ∷ d ∷ e ∷ f ∷ g ∷ []) small few long = absurd (omega (arith, long))
+eight_list word (a ∷ b ∷ c ∷ d ∷ e ∷ f ∷ g ∷ h ∷ rest) small few long = sym (remainder-eight word a b c d e f g h small (few 0) (few 1) (few 2) (few 3) (few 4) (few 5) (few 6) (few 7))
+
+-- eight bytes more
+pub remainder-eight_more : (word : ℕ) (xs : List ℕ) (at : ℕ) → remainder (remainder word (bits (take at xs))) (bits (take 8 (take 8 (drop at xs)))) ≡ remainder word (bits (take (at + 8) xs))
+remainder-eight_more word xs at =
+    ap (λ ys. remainder (remainder word (bits (take at xs))) (bits ys)) (take-take 8 8 (drop at xs) (omega arith))
+    ∙ remainder-bits_append word (take at xs) (take 8 (drop at xs))
+    ∙ ap (λ ys. remainder word (bits ys)) (ap₂ (λ ys zs. ys ++ zs) (sym (take-take at (at + 8) xs (omega arith))) (sym (drop-take at 8 xs)) ∙ take-append-drop at (take (at + 8) xs))
+
+-- the last two of four bytes
+pub two_list : (word : ℕ) (xs : List ℕ) → length xs ≡ 4 → remainder (remainder word (bits_of 8 (get_or xs 2 0))) (bits_of 8 (get_or xs 3 0)) ≡ remainder word (bits (drop 2 xs))
+two_list word [] long = absurd (omega (arith, long))
+two_list word (a ∷ []) long = absurd (omega (arith, long))
+two_list word (a ∷ b ∷ []) long = absurd (omega (arith, long))
+two_list word (a ∷ b ∷ c ∷ []) long = absurd (omega (arith, long))
+two_list word (a ∷ b ∷ c ∷ d ∷ []) long = sym (remainder-pair word c d)
+two_list word (a ∷ b ∷ c ∷ d ∷ e ∷ rest) long = absurd (omega (arith, long))
