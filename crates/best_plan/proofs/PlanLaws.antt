@@ -13,17 +13,12 @@ use Rattle.slot_plan.specs.Parts.{Item, item_of, lead_in_of, own_area, own_frame
 use Rattle.slot_plan.specs.Reserve.{free_behind, opens_in}
 use Rattle.slot_plan.proofs.ReserveLaws.{AllFit}
 use Rattle.slot_plan.proofs.AreaLaws.{Ascend, Contains-area, lead-ascend}
+use Rattle.slot_plan.proofs.PartLaws.{frames-own}
 use Rattle.best_plan.specs.Best.{IsBestFor, items_behind, IsBestPlan}
 use Rattle.best_plan.specs.Rows.{nothing, IsChoice}
 use Rattle.best_plan.specs.Table.{IsTable, Walks, IsLeadInBy}
 use Rattle.best_plan.proofs.SumLaws.{fits-laid, laid-fits, table-sums, table-bound, table-own}
 use Rattle.best_plan.proofs.WalkLaws.{IsWalked, walked-more, best-walked, walked-best}
-
--- in its own slots a part is the frames of its own areas
-frames-own : (choices : HeaderFields → List SlotFields) (needs : List Need) → frames_of (opens_in choices needs) (map own_area needs) ≡ map own_frame needs
-unfolding frames_of
-frames-own choices [] = refl
-frames-own choices (need ∷ needs) = ap (λ l. own_frame need ∷ l) (frames-own choices needs)
 
 -- after a whole window the frames can keep their slots
 pub whole-sum : (window : ℕ) (choices : HeaderFields → List SlotFields) (needs : List Need) (sums places : List ℕ) → length needs ≤ 200000 → IsFeasible window window (map own_frame needs) → IsTable window choices needs sums places

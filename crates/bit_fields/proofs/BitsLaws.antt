@@ -2,7 +2,7 @@
 use Rattle.std.proofs.Common.{◌≡◌, ℕ, zero, suc, ◌+◌, ◌-◌, ◌*◌, ◌/◌, ◌%◌, ◌^◌, ◌<◌, ◌≤◌, List, [], ◌∷◌, ◌++◌, length, get_or, take, drop, refl, sym, ap, ap₂, ◌∙◌, append_assoc, arith, add_assoc, append-nil, one-add, mul_assoc, mod-eq_of_lt, length-append, length-drop, take-append-drop, lit<}
 use Rattle.std.proofs.Math.Nat.{add_comm, zero-add, suc-add, pow-suc, mod-one, add-mul}
 use Rattle.std.proofs.Math.Seq.{take-nil, take-append-add, drop-append-add}
-use Rattle.std.proofs.lemmas.List.{take_at, drop_at, length-take-le, drop_all, nil_from_length}
+use Rattle.std.proofs.lemmas.List.{take_at, drop_at, length-take-le, drop_all, nil_from_length, take-append-le, drop-append-le}
 use Rattle.std.specs.Int.{from_be_bytes, to_be_bytes, w32, w64}
 use mir.Val.{Fits}
 use mir.Syntax.{w8}
@@ -337,3 +337,10 @@ AreBytes-to_be_bytes_8 n =
 pub bits-to_be_bytes_8 : (n : ℕ) → n < 2 ^ 64 → bits (to_be_bytes w64 n) ≡ bits_of 64 n
 bits-to_be_bytes_8 n h =
     bits-bits_of (to_be_bytes w64 n) ∙ ap (bits_of 64) (number-bits-be_bytes_8 (to_be_bytes w64 n) refl (AreBytes-to_be_bytes_8 n) ∙ from_be_bytes-to_be_bytes_8 n h)
+
+-- bits that are in the front of bytes
+pub bits-front : (main rest : List ℕ) (start count : ℕ) → 8 * start + count ≤ 8 * length main → take count (drop (8 * start) (bits (main ++ rest))) ≡ take count (drop (8 * start) (bits main))
+bits-front main rest start count within =
+    ap (λ (l : List ℕ). take count (drop (8 * start) l)) (bits-append main rest)
+    ∙ ap (take count) (drop-append-le (8 * start) (bits main) (bits rest) (omega (arith, within, length-bits main)))
+    ∙ take-append-le count (drop (8 * start) (bits main)) (bits rest) (omega (arith, within, length-bits main, length-drop (8 * start) (bits main)))

@@ -10,6 +10,7 @@ mod surveys;
 
 pub use edit::{Edit, make_one};
 pub use fault::{EditFault, Refusal};
-pub use limits::{LONGEST_FILE, LONGEST_TAG, MOST_FRAMES};
+pub use frame_header::MOST_FRAMES;
+pub use limits::{LONGEST_FILE, LONGEST_TAG};
 pub use sheet::sheet_bytes;
 pub use surveys::{survey_at, survey_input};

@@ -11,7 +11,7 @@ ghost use Rattle.commands.specs.Left.{seen, IsOfSurvey, IsOfInput};
 ghost use Rattle.commands.specs.declared.fault.Refusal.{Refusal};
 
 use crate::fault::EditFault;
-use crate::limits::MOST_FRAMES;
+use frame_header::MOST_FRAMES;
 use outside::Folder;
 use std::alloc::Global;
 use sync_survey::{Survey, SurveyFault, survey};

@@ -12,7 +12,7 @@ use Rattle.cue_sheet.specs.declared.cue_fault.CueFault.{CueFault}
 use Rattle.cue_sheet.specs.declared.place.Place.{Place}
 use Rattle.cue_sheet.specs.declared.seen.Seen.{Seen}
 use Rattle.cue_sheet.specs.Cues.{is_file, is_track, is_start, start_time, has_track, is_started, times_of, IsSeen, line_fault, fault_of, first_fault, place_at, places_of, some_starts, unless, cue_in}
-use Rattle.cue_sheet.proofs.CuesLaws.{seen_more}
+use Rattle.cue_sheet.proofs.CuesLaws.{seen_more, first_of}
 
 -- what the lines so far and one more say together
 behind : Seen → Entry → Seen
@@ -84,10 +84,6 @@ few_more before (Start time) s is few none =
 or_none : (o later : Option CueFault) → option_or o later ≡ None → (o ≡ None) × (later ≡ None)
 or_none (Some fault) later e = absurd cc
 or_none None later e = (refl, e)
-
-first_of : (before more : List Entry) (e : Entry) → first_fault before (e ∷ more) ≡ option_or (fault_of before e) (first_fault (before ++ (e ∷ [])) more)
-unfolding first_fault
-first_of before more e = refl
 
 few_starts : (before more : List Entry) (s : Seen) → IsSeen before s → IsFew (length (times_of before)) s → first_fault before more ≡ None → length (times_of (before ++ more)) ≤ 99
 few_starts before [] s is few none = omega (arith, few.most, few.few, ap (λ es. length (times_of es)) (append-nil before))

@@ -16,37 +16,21 @@ use Rattle.cue_sheet.specs.Entries.{entry_of}
 -- ---- lines
 
 abbrev pub is_file : Entry → Bool
-is_file Passed = false
 is_file File = true
-is_file Track = false
-is_file Index = false
-is_file (Start time) = false
-is_file Broken = false
+is_file _ = false
 
 abbrev pub is_track : Entry → Bool
-is_track Passed = false
-is_track File = false
 is_track Track = true
-is_track Index = false
-is_track (Start time) = false
-is_track Broken = false
+is_track _ = false
 
 -- the time of a start, an index with number 1
 abbrev pub start_time : Entry → Option ℕ
-start_time Passed = None
-start_time File = None
-start_time Track = None
-start_time Index = None
 start_time (Start time) = Some time
-start_time Broken = None
+start_time _ = None
 
 abbrev pub is_start : Entry → Bool
-is_start Passed = false
-is_start File = false
-is_start Track = false
-is_start Index = false
 is_start (Start time) = true
-is_start Broken = false
+is_start _ = false
 
 -- what a line says
 abbrev pub entry_in : List ℕ → Entry

@@ -34,16 +34,13 @@ use Rattle.sync_survey.proofs.ItemsLaws.{stands-at, header_front-in_range}
 use Rattle.sync_survey.proofs.SurveyLaws.{overhead-within}
 use Rattle.sync_survey.proofs.WalkLaws.{IsFound, no_fault, nothing_left}
 use Rattle.sync_survey.proofs.FaultsLaws.{get_more, place-more, end-more}
-use Rattle.sync_survey.proofs.RunsLaws.{IsItemOf, item_of-is, item_of-whole, item_of-past, run-next, run-ends, run-only}
+use Rattle.sync_survey.proofs.RunsLaws.{IsItemOf, item_of-is, item_of-whole, item_of-past, run-next, run-ends, run-only, frames-append}
 use Rattle.sync_survey.proofs.StartLaws.{start-first}
 use Rattle.sync_survey.proofs.SurveyParts.{frames_from, IsRead, IsSound, AreSound, all_faults-none_sound, sound-no_all_faults}
 use Rattle.cut_short.proofs.CutItems.{cut, length-cut, drop-cut, item-kept, cut-none}
 use Rattle.cut_short.proofs.CutRuns.{IsCutRun, IsStop, cut-run, MayBeCut, stop-fault}
 
 -- ---- lists
-
-frames-append : (xs ys : List Placed) → frames_of (xs ++ ys) ≡ frames_of xs ++ frames_of ys
-frames-append xs ys = filter_map-append (λ p. frame_as p.offset p.item) xs ys
 
 numbered-append : (head : Option Head) (p : PlacedFrame) (xs ys : List PlacedFrame) → numbered head (p ∷ (xs ++ ys)) ≡ numbered head (p ∷ xs) ++ ys
 numbered-append None p xs ys = refl

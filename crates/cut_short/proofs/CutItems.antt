@@ -1,6 +1,6 @@
 -- With what bytes begin that were cut short: the item that was there, or nothing that is known.
 use Rattle.std.proofs.Common.{◌≡◌, ◌≢◌, ℕ, ◌+◌, ◌-◌, ◌<◌, ◌≤◌, ◌⊎◌, inl, inr, leb, cond, Bool, true, false, List, [], ◌∷◌, ◌++◌, length, take, drop, codes, Option, Some, None, Ok, Err, refl, sym, ◌∙◌, ap, subst, arith}
-use Rattle.std.proofs.lemmas.Bool.{false≢true, leb-true}
+use Rattle.std.proofs.lemmas.Bool.{false≢true, leb-true, and_parts}
 use Rattle.std.proofs.lemmas.Slice.Eq.{bytes_eq-Decides}
 use Rattle.std.proofs.lemmas.List.{take-take, take-append-drop, length-take, length-take-le, drop-take}
 use Rattle.frame_header.specs.declared.header.NotHeader.TheVariants.{Free as FreeHeader, No}
@@ -19,7 +19,7 @@ use Rattle.sync_survey.proofs.ItemsLaws.{stands}
 use Rattle.sync_survey.proofs.OneItem.{stands-only}
 use Rattle.sync_survey.proofs.ItemBytes.{known_by, front_as-take, header_front-four, kept_item}
 use Rattle.sync_survey.proofs.ItemLists.{item_at-known, stream_belongs}
-use Rattle.sync_survey.proofs.RunsLaws.{both, item_of-is, item_of-whole}
+use Rattle.sync_survey.proofs.RunsLaws.{item_of-is, item_of-whole}
 
 -- ---- how many bytes an item is known by
 
@@ -36,9 +36,9 @@ text-long text bytes is = sym ((bytes_eq-Decides text (take (length text) bytes)
 
 pub begins-long : (kind : Kind) (bytes : List ℕ) → begins kind bytes ≡ true → known_by kind ≤ length bytes
 unfolding is_id3v2 is_id3v1 is_ape
-begins-long Id3v2 bytes is = leb-true 10 (length bytes) (both _ _ (both _ _ (both _ _ (both _ _ is).0).0).0).0
+begins-long Id3v2 bytes is = leb-true 10 (length bytes) (and_parts _ _ (and_parts _ _ (and_parts _ _ (and_parts _ _ is).0).0).0).0
 begins-long Id3v1 bytes is = omega (arith, length-take 3 bytes, ap length (text-long (codes "TAG") bytes is))
-begins-long Ape bytes is = leb-true 32 (length bytes) (both _ _ (both _ _ (both _ _ (both _ _ (both _ _ is).0).0).0).0).0
+begins-long Ape bytes is = leb-true 32 (length bytes) (and_parts _ _ (and_parts _ _ (and_parts _ _ (and_parts _ _ (and_parts _ _ is).0).0).0).0).0
 
 -- ---- the first of bytes
 

@@ -14,6 +14,7 @@ use Rattle.sync_survey.proofs.PlacedRows.{surveyed-placed}
 use Rattle.sync_survey.proofs.FaultsLaws.{marked-length}
 use Rattle.sync_survey.proofs.SurveyLaws.{told_by, survey-stopped, survey-whole}
 use Rattle.sync_survey.proofs.SurveyParts.{told_from, IsRead, surveyed-parts, surveyed-stream}
+use Rattle.sync_survey.proofs.FoldersLaws.{surveyed_by}
 use Rattle.cut_short.specs.Laws.{IsFrontOf, IsCutFault, IsCutAnswer, PrefixFault}
 use Rattle.cut_short.proofs.CutItems.{cut}
 use Rattle.cut_short.proofs.CutRuns.{MayBeCut, IsCutStart, cut-start}
@@ -23,11 +24,6 @@ use Rattle.cut_short.proofs.CutStream.{marked-front}
 -- an answer of a survey, by what it is equal to
 fault_answer : (file front : List ℕ) (answer : Result SurveyFields SurveyFault) (fault : SurveyFault) → answer ≡ Err fault → IsCutFault fault → IsCutAnswer file front answer
 fault_answer file front answer fault is kind = subst (IsCutAnswer file front) (sym is) kind
-
--- where there is no start
-no-survey : (file : List ℕ) (allowed : ℕ) (fault : SurveyFault) → start_of file ≡ Err fault → surveyed file allowed ≡ Err fault
-unfolding surveyed
-no-survey file allowed fault is = ap (survey_by file allowed) is
 
 module _ (file : List ℕ) (n : ℕ) (within : n ≤ length file) (allowed : ℕ) (start : Start) (read : IsRead file allowed start) (no_junk : start.first.offset ≡ start.front_end) where
   abbrev front : List ℕ
@@ -91,7 +87,7 @@ module _ (file : List ℕ) (n : ℕ) (within : n ≤ length file) (allowed : ℕ
   by_start : IsCutStart file n within start → surveyed file allowed ≡ Ok s → IsCutAnswer file front (surveyed front (length s.frames))
   by_start (inl there) is = answer there.0 there.1 (end-now file n within start there.0 there.1 allowed read) is
   by_start (inr found) is =
-      fault_answer file front (surveyed front (length s.frames)) found.0 (no-survey front (length s.frames) found.0 found.1) found.2
+      fault_answer file front (surveyed front (length s.frames)) found.0 (surveyed_by front (length s.frames) found.0 found.1) found.2
 
   pub cut-answer : surveyed file allowed ≡ Ok s → IsCutAnswer file front (surveyed front (length s.frames))
   cut-answer is = by_start (cut-start file n within start read.start_is no_junk) is

@@ -1,6 +1,6 @@
 -- Where the stream of a file starts that was cut short.
 use Rattle.std.proofs.Common.{◌≡◌, get_or, ℕ, zero, suc, ◌+◌, ◌-◌, ◌<◌, ◌≤◌, inl, inr, true, List, length, take, drop, codes, Option, Some, None, Ok, Err, refl, sym, ◌∙◌, ap, subst, arith, lit<}
-use Rattle.std.proofs.lemmas.Bool.{false≢true, cases_lt}
+use Rattle.std.proofs.lemmas.Bool.{false≢true, cases_lt, and_parts}
 use Rattle.std.proofs.lemmas.List.{take-take, get_or-take, get_or-drop}
 use Rattle.frame_header.specs.Fields.{HeaderFields, IsHeader}
 use Rattle.frame_header.specs.declared.header.NotHeader.TheVariants.{No}
@@ -25,7 +25,7 @@ use Rattle.sync_survey.specs.Start.{anchored_frame, first_anchored, longest_junk
 use Rattle.sync_survey.proofs.ItemsLaws.{stands-at, header_front-in_range}
 use Rattle.sync_survey.proofs.OneItem.{stands-only_at, no_header}
 use Rattle.sync_survey.proofs.ItemBytes.{known_by, front_as-take, header_front-four}
-use Rattle.sync_survey.proofs.RunsLaws.{both, item_of-is}
+use Rattle.sync_survey.proofs.RunsLaws.{item_of-is}
 use Rattle.sync_survey.proofs.StartLaws.{anchored_frame-is, first_anchored-none}
 use Rattle.cut_short.proofs.CutItems.{text-long, cut, length-cut, drop-cut, IsCutThrough}
 
@@ -41,7 +41,7 @@ least-24 h is = omega (arith, by_version (class_of h).version, length-least (cla
 
 ape-text : (bytes : List ℕ) → is_ape bytes ≡ true → take 8 bytes ≡ codes "APETAGEX"
 unfolding is_ape
-ape-text bytes is = text-long (codes "APETAGEX") bytes (both _ _ (both _ _ (both _ _ (both _ _ (both _ _ is).0).0).0).0).1
+ape-text bytes is = text-long (codes "APETAGEX") bytes (and_parts _ _ (and_parts _ _ (and_parts _ _ (and_parts _ _ (and_parts _ _ is).0).0).0).0).1
 
 text-low : (j : ℕ) → j < 8 → get_or (codes "APETAGEX") j 0 < 255
 text-low zero within = lit< tt

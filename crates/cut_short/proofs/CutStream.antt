@@ -8,13 +8,14 @@ use Rattle.std.proofs.lemmas.List.{take-take, drop-take, take-append-le, drop-ap
 use Rattle.std.proofs.lemmas.List.Sums.{sum_by-cons}
 use Rattle.std.proofs.lemmas.Grind.{flat_map-append}
 use Rattle.bit_fields.specs.Bits.{bits}
-use Rattle.bit_fields.proofs.BitsLaws.{bits-append, length-bits}
+use Rattle.bit_fields.proofs.BitsLaws.{bits-append, length-bits, bits-front}
 use Rattle.frame_header.specs.Fields.{HeaderFields, IsHeader, ClassFields}
 use Rattle.frame_header.specs.Tables.{class_of, length_of, overhead_of}
 use Rattle.frame_header.proofs.HeaderLaws.{IsClass-class_of}
 use Rattle.frame_header.proofs.SlotLaws.{area-is}
 use Rattle.side_info.specs.declared.side.Side.{Side}
 use Rattle.side_info.specs.Side.{no_side, payload_bits, payload_bytes}
+use Rattle.side_info.proofs.SideLaws.{bits_least}
 use Rattle.info_header.specs.HeadText.{head_text_of}
 use Rattle.sync_survey.specs.declared.places.PlacedFrame.{PlacedFrame}
 use Rattle.sync_survey.specs.declared.places.Head.{Head}
@@ -53,19 +54,9 @@ numbers-same f g n (r ∷ rows) same =
 
 -- ---- bits of the first bytes
 
-front-bits : (main rest : List ℕ) (start count : ℕ) → 8 * start + count ≤ 8 * length main → take count (drop (8 * start) (bits (main ++ rest))) ≡ take count (drop (8 * start) (bits main))
-front-bits main rest start count within =
-    ap (λ (l : List ℕ). take count (drop (8 * start) l)) (bits-append main rest)
-    ∙ ap (take count) (drop-append-le (8 * start) (bits main) (bits rest) (omega (arith, within, length-bits main)))
-    ∙ take-append-le count (drop (8 * start) (bits main)) (bits rest) (omega (arith, within, length-bits main, length-drop (8 * start) (bits main)))
-
 no-bits : payload_bits no_side ≡ 0
 unfolding payload_bits
 no-bits = refl
-
-bytes-many : (s : Side) → payload_bits s ≤ 8 * payload_bytes s
-unfolding payload_bytes
-bytes-many s = omega arith
 
 -- ---- areas
 
@@ -197,7 +188,7 @@ module _ (file : List ℕ) (n : ℕ) (within : n ≤ length file) where
           let here = placed i r found in
           let well = data-none_well (place head rows i) (end_before head rows i) r here.sound (sym here.mark ∙ is) in
           let ends : end_of_data (place head rows i) r ≤ place head rows i + own_area r.header = ltb-false (place head rows i + own_area r.header) (end_of_data (place head rows i) r) well.within in
-          front-bits main (main-front rows more are).0 start (payload_bits r.side) (omega (arith, ends, bytes-many r.side, place-within rows i r are found))
+          bits-front main (main-front rows more are).0 start (payload_bits r.side) (omega (arith, ends, bits_least r.side, place-within rows i r are found))
 
       frame-same : (i : ℕ) (r : Row) → slice_get rows i ≡ Some r → stream_frame (main_bytes file head (rows ++ more)) head (rows ++ more) i r ≡ stream_frame main head rows i r
       frame-same i r found =

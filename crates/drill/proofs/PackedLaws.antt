@@ -17,7 +17,7 @@ use Rattle.sync_survey.specs.Faults.{SurveyFields, surveyed, stream_of_survey, H
 use Rattle.sync_survey.specs.Survey.{survey_of, AreWellPlaced}
 use Rattle.sync_survey.proofs.PlacedRows.{surveyed-placed}
 use Rattle.sync_survey.proofs.SurveyedFiles.{survey_of-parts}
-use Rattle.sync_survey.proofs.SurveyParts.{surveyed-parts, surveyed-stream}
+use Rattle.sync_survey.proofs.SurveyParts.{surveyed-parts, surveyed-stream, stream-length}
 use Rattle.slot_plan.specs.declared.needs.Need.{Need}
 use Rattle.slot_plan.specs.declared.needs.Placed.{Placed}
 use Rattle.slot_plan.specs.ThePlan.{the_plan}
@@ -30,6 +30,7 @@ use Rattle.laying.specs.Relaid.{stream_in, with_lead_ins, left_behind}
 use Rattle.laying.proofs.ChosenFrames.{survey-had}
 use Rattle.laying.specs.Fits.{reach_behind, FitsFrom}
 use Rattle.laying.specs.Written.{head_info}
+use Rattle.laying.proofs.PlacesLaws.{range-whole}
 use Rattle.commands.specs.declared.fault.EditFault.{EditFault}
 use Rattle.commands.specs.Command.{Output, Made, written}
 use Rattle.commands.specs.One.{most_frames, made_where, unless_clash, clash_in, made_result, made_of}
@@ -73,13 +74,6 @@ same-stream window reach (need ∷ needs) (p ∷ placed) (f ∷ stream) fits non
     rw here (ap (λ l. f ∷ l) (same-stream window (reach_behind window p need) needs placed stream behind (rest-none p placed none) (omega (arith, many))))
 
 -- ---- lists and surveys
-
-range-whole : {X : Type 0} (xs : List X) → slice_range xs 0 (length xs) ≡ xs
-range-whole xs = let all : length xs - 0 ≡ length xs = omega arith in ap (λ n. take n xs) all ∙ take-length xs
-
-stream-length : (file : List ℕ) (s : SurveyFields) → length (stream_of_survey file s) ≡ length s.frames
-unfolding stream_of_survey stream_frames
-stream-length file s = length-map (enumerate_from 0 s.frames) (λ (p : ℕ × Row). stream_frame (main_bytes file s.head s.frames) s.head s.frames p.0 p.1) ∙ length-enumerate_from 0 s.frames
 
 survey-length : (file : List ℕ) (allowed : ℕ) (s : SurveyFields) → surveyed file allowed ≡ Ok s → s.length ≡ length file
 survey-length file allowed s e = sym (ap (λ (t : SurveyFields). t.length) (surveyed-parts file allowed s e).2)

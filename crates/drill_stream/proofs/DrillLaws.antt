@@ -18,6 +18,7 @@ use Rattle.frame_writer.specs.Laid.{zeros, start_of, end_of, CanBeLaidFrom, laid
 use Rattle.frame_writer.specs.Frames.{front_of, area_in, Frame, piece_of, pieces, all_kept, areas_in, framed, frame_bytes}
 use Rattle.sync_survey.specs.Faults.{longest_file, surveyed, HoldsStream}
 use Rattle.sync_survey.specs.Survey.{survey_of}
+use Rattle.sync_survey.proofs.FoldersLaws.{survey_of-short}
 use Rattle.laid_files.specs.LaidFiles.{IsEntry, AreEntries, entry_of, rows_from}
 use Rattle.laid_files.proofs.LaidData.{length-laid}
 use Rattle.laid_files.proofs.LaidFrames.{areas-all}
@@ -287,16 +288,12 @@ fields-first seed count = λ i. record {
   length = length (sym (stream-first seed count) i);
 }
 
-not-long : (file : List ℕ) (allowed : ℕ) → length file ≤ longest_file → survey_of file allowed ≡ surveyed file allowed
-unfolding survey_of
-not-long file allowed few = rw (le-ltb longest_file (length file) few) refl
-
 pub streams-surveyed : StreamsAreSurveyed
 streams-surveyed seed zero allowed some few within = absurd (omega (arith, some))
 streams-surveyed seed (suc count) allowed some few within =
     let size = streams-long seed (suc count) in
     let more = from_on seed 1 count in
-    not-long (drill_stream seed (suc count)) allowed (omega (arith, size, few))
+    survey_of-short (drill_stream seed (suc count)) allowed (omega (arith, size, few))
     ∙ ap (λ (file : List ℕ). surveyed file allowed) (stream-first seed count)
     ∙ bare-survey (class_of drill_header) (frame_at seed 0) more (is_bare seed count) allowed
     (omega (arith, within, length-map (range_with_len 1 count) (frame_at seed), length-range_with_len 1 count))

@@ -24,7 +24,7 @@ use Rattle.packing.specs.declared.mode.Rates.{Rates}
 use Rattle.packing.specs.Packing.{needs_of}
 use Rattle.packing.specs.Rates.{menu_in, no_rate, fitted, rates_plan}
 use Rattle.packing.proofs.MenuLaws.{menu-ascends, menu-some}
-use Rattle.packing.proofs.PlanLaws.{rows-some, rows-same, rows-sound}
+use Rattle.packing.proofs.PlanLaws.{rows-some, rows-same, rows-sound, fitted-ok}
 use Rattle.exact_streams.specs.Exact.{IsExactly}
 use Rattle.exact_streams.specs.Laws.{PackedStreamsAreExact}
 use Rattle.exact_streams.proofs.ExactLaws.{IsSized, part-sized, one-on, no-frames, frames-on}
@@ -32,17 +32,13 @@ use Rattle.exact_streams.proofs.CaseLaws.{chosen-part, own-stream}
 
 -- ---- the plan from a menu
 
-fitted-made : (r : Result (List Placed) ℕ) (placed : List Placed) → fitted r ≡ Ok placed → r ≡ Ok placed
-fitted-made (Ok first) placed is = cc
-fitted-made (Err i) placed is = absurd cc
-
 rates-menu : (rates : Rates) (class : ClassFields) (needs : List Need) (placed : List Placed) → IsClass class → AreOfClass class needs → 1 ≤ length needs → rates_plan rates class needs ≡ Ok placed
     → IsMenuPlan (window_of class.version) (menu_in rates class) needs placed
 rates-menu rates class needs placed sound same some planned =
     let window = window_of class.version in
     let made = then_ok (unless (no_rate rates class) (menu_in rates class)) (λ menu. fitted (menu_plan window menu needs)) placed planned in
     let ok = unless_ok (no_rate rates class) (menu_in rates class) made.0 made.1 in
-    let is : menu_plan window (menu_in rates class) needs ≡ Ok placed = fitted-made (menu_plan window (menu_in rates class) needs) placed (ap (λ menu. fitted (menu_plan window menu needs)) ok.1 ∙ made.2) in
+    let is : menu_plan window (menu_in rates class) needs ≡ Ok placed = fitted-ok (menu_plan window (menu_in rates class) needs) placed (ap (λ menu. fitted (menu_plan window menu needs)) ok.1 ∙ made.2) in
     ((menu_plan-is window class (menu_in rates class) needs same some (menu-ascends rates class sound) (menu-some rates class ok.0)).0 placed).1 is
 
 -- ---- its stream

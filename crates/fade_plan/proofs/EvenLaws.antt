@@ -27,7 +27,7 @@ all_later x y xs less rising k d within =
           omega (arith, less, here)
     ]
 
-none_of : (b : Bool) (o : Option ℕ) (line : ℕ) → cond b o (Some line) ≡ None → (b ≡ true) × (o ≡ None)
+pub none_of : (b : Bool) (o : Option ℕ) (line : ℕ) → cond b o (Some line) ≡ None → (b ≡ true) × (o ≡ None)
 none_of true o line e = (refl, e)
 none_of false o line e = absurd (none-some _ (sym e))
 
@@ -45,7 +45,7 @@ rises class frames (p ∷ q ∷ more) none =
     AllPairs-cons (λ x y. x.frame < y.frame) (curve_point class frames p) (map (curve_point class frames) (q ∷ more))
     (all_later (curve_point class frames p) (curve_point class frames q) (map (curve_point class frames) more) (ltb-true _ _ parts.0) later) later
 
-made_of : (o : Option ℕ) (points curve : List CurvePoint) → unless_at o points ≡ Ok curve → (o ≡ None) × (points ≡ curve)
+pub made_of : (o : Option ℕ) (points curve : List CurvePoint) → unless_at o points ≡ Ok curve → (o ≡ None) × (points ≡ curve)
 made_of None points curve e = (refl, cc)
 made_of (Some line) points curve e = absurd cc
 

@@ -15,7 +15,7 @@ use Rattle.sync_survey.specs.Runs.{Placed, Run, run, AreEndToEnd, frame_as, bloc
 use Rattle.sync_survey.specs.Walk.{stream_run, head_of, numbered, end_fault}
 use Rattle.sync_survey.specs.MainData.{rows_of, marked}
 use Rattle.sync_survey.specs.Faults.{SurveyFields}
-use Rattle.sync_survey.proofs.RunsLaws.{frames-next, front-frames, run-ends}
+use Rattle.sync_survey.proofs.RunsLaws.{frames-next, front-frames, run-ends, frames-append}
 use Rattle.sync_survey.proofs.StartLaws.{start-first, start-front}
 use Rattle.sync_survey.proofs.WalkLaws.{first_item, no_fault, nothing_left}
 use Rattle.sync_survey.proofs.ItemLists.{ends-stream, ends-within}
@@ -30,9 +30,6 @@ some_frames : (file : List ℕ) (frames : List PlacedFrame) (o : Option SurveyFa
 some_frames file [] (Some fault) e none = absurd cc
 some_frames file [] None e none = absurd cc
 some_frames file (p ∷ ps) o e none = absurd cc
-
-pub frames-append : (ps qs : List Placed) → frames_of (ps ++ qs) ≡ frames_of ps ++ frames_of qs
-frames-append ps qs = filter_map-append (λ (p : Placed). frame_as p.offset p.item) ps qs
 
 pub blocks-append : (ps qs : List Placed) → blocks_of (ps ++ qs) ≡ blocks_of ps ++ blocks_of qs
 blocks-append ps qs = filter_map-append (λ (p : Placed). block_as p.offset p.item) ps qs

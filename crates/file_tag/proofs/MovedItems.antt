@@ -15,6 +15,7 @@ use Rattle.sync_survey.specs.Walk.{frame_bytes}
 use Rattle.sync_survey.proofs.ItemsLaws.{stands-at, header_front-in_range}
 use Rattle.sync_survey.proofs.RunsLaws.{item_of-is, item_of-whole}
 use Rattle.sync_survey.proofs.ItemBytes.{IsItem, kept_item}
+use Rattle.sync_survey.proofs.ItemLists.{placed_by, frame_by}
 
 -- ---- one item
 
@@ -34,15 +35,6 @@ item-moved file new at place item is same =
     (omega (arith, ap length same, kept.size, here.some, length-take size (drop place new), length-drop place new))
 
 -- ---- several
-
-abbrev pub placed_by : (ℕ → ℕ) → Placed → Placed
-placed_by to p = record p { offset = to p.offset }
-
-abbrev pub frame_by : (ℕ → ℕ) → PlacedFrame → PlacedFrame
-frame_by to p = record p { offset = to p.offset }
-
-abbrev pub piece_by : (ℕ → ℕ) → Piece → Piece
-piece_by to p = record p { offset = to p.offset }
 
 -- the bytes of the file between two offsets are in the other one, where their offsets are then
 pub record IsMovedTo (to : ℕ → ℕ) (file new : List ℕ) (from end at : ℕ) : Type 0 where
@@ -108,24 +100,6 @@ module _ (to : ℕ → ℕ) (file new : List ℕ) where
       let high : p.offset < end = omega (arith, some, rise) in
       let next : IsMovedTo to file new (p.offset + size) end (at + size) = subst (λ n. IsMovedTo to file new (n + size) end (at + size)) (sym ends.0) (behind from end at size moved) in
       kept_more p.offset p.item (frames_of ps) ends.1 (moved.same p.offset size (omega (arith, ends.0)) high rise) (frames-kept (p.offset + size) ps end (at + size) ends.2 next)
-
--- ---- frames and blocks among them
-
-frame_more : (to : ℕ → ℕ) (at : ℕ) (item : Item) (xs ys : List PlacedFrame) → xs ≡ map (frame_by to) ys → cons_option (frame_as (to at) item) xs ≡ map (frame_by to) (cons_option (frame_as at item) ys)
-frame_more to at (Frame h) xs ys same = ap (λ l. record { offset = to at; header = h } ∷ l) same
-frame_more to at _ xs ys same = same
-
-pub frames-by : (to : ℕ → ℕ) (ps : List Placed) → frames_of (map (placed_by to) ps) ≡ map (frame_by to) (frames_of ps)
-frames-by to [] = refl
-frames-by to (p ∷ ps) = frame_more to p.offset p.item (frames_of (map (placed_by to) ps)) (frames_of ps) (frames-by to ps)
-
-block_more : (to : ℕ → ℕ) (at : ℕ) (item : Item) (xs ys : List Piece) → xs ≡ map (piece_by to) ys → cons_option (block_as (to at) item) xs ≡ map (piece_by to) (cons_option (block_as at item) ys)
-block_more to at (Block b) xs ys same = ap (λ l. record { offset = to at; block = b } ∷ l) same
-block_more to at _ xs ys same = same
-
-pub blocks-by : (to : ℕ → ℕ) (ps : List Placed) → blocks_of (map (placed_by to) ps) ≡ map (piece_by to) (blocks_of ps)
-blocks-by to [] = refl
-blocks-by to (p ∷ ps) = block_more to p.offset p.item (blocks_of (map (placed_by to) ps)) (blocks_of ps) (blocks-by to ps)
 
 -- ---- one list after another
 

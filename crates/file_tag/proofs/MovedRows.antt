@@ -22,7 +22,8 @@ use Rattle.sync_survey.specs.Faults.{all_faults}
 use Rattle.sync_survey.proofs.SurveyLaws.{overhead-within}
 use Rattle.sync_survey.proofs.SurveyParts.{IsSound, IsSoundAt, AreSound, all_faults-none_sound, sound-no_all_faults}
 use Rattle.sync_survey.proofs.HeadSame.{area-frame}
-use Rattle.file_tag.proofs.MovedItems.{frame_by, IsKept, AreKept}
+use Rattle.sync_survey.proofs.ItemLists.{frame_by}
+use Rattle.file_tag.proofs.MovedItems.{IsKept, AreKept}
 
 abbrev pub row_by : (ℕ → ℕ) → Row → Row
 row_by to r = record r { offset = to r.offset }

@@ -20,17 +20,17 @@ use Rattle.sync_survey.specs.Walk.{stream_run, head_of, numbered, all_blocks, fa
 use Rattle.sync_survey.specs.MainData.{rows_of, marked, stream_frames, main_bytes}
 use Rattle.sync_survey.specs.Faults.{SurveyFields, all_faults, class_from, surveyed, stream_of_survey}
 use Rattle.sync_survey.proofs.OneItem.{stands-only_at}
-use Rattle.sync_survey.proofs.RunsLaws.{item_of-whole}
-use Rattle.sync_survey.proofs.ItemLists.{ends-rise}
+use Rattle.sync_survey.proofs.RunsLaws.{item_of-whole, frames-append}
+use Rattle.sync_survey.proofs.ItemLists.{ends-rise, placed_by, frame_by, piece_by, frames-by, blocks-by}
 use Rattle.sync_survey.proofs.SurveyParts.{frames_from, told_from, IsRead, surveyed-told, surveyed-parts}
 use Rattle.file_tag.specs.Places.{tag_block, tag_at, tag_length, IsTagBytes, with_tag, moved_at, new_blocks, stands_before, stands_behind, retagged}
 use Rattle.file_tag.proofs.FoundTag.{tag-there}
 use Rattle.file_tag.proofs.ReadingLaws.{place-some}
-use Rattle.file_tag.proofs.MovedItems.{placed_by, frame_by, piece_by, item-moved, ends-moved, ends-append, AreKept, kept-append, frames-kept, frames-by, blocks-by}
+use Rattle.file_tag.proofs.MovedItems.{item-moved, ends-moved, ends-append, AreKept, kept-append, frames-kept}
 use Rattle.file_tag.proofs.WholeFiles.{IsClean, clean, start_with, clean-start}
 use Rattle.file_tag.proofs.SplitItems.{IsSplit}
 use Rattle.file_tag.proofs.MovedRows.{row_by, head_by, marked-by, stream-by, head-by, rows-by, no_faults-by, main-by}
-use Rattle.file_tag.proofs.CleanFiles.{items, rest, items-frames, items-blocks, frames-is, frames-append, blocks-append, split}
+use Rattle.file_tag.proofs.CleanFiles.{items, rest, items-frames, items-blocks, frames-is, blocks-append, split}
 use Rattle.file_tag.proofs.TaggedBytes.{new-own, new-length, stays, front-moved, later-moved}
 use Rattle.file_tag.proofs.SplitBlocks.{IsOld, items-begin, blocks-stay, blocks-before, blocks-behind}
 

@@ -12,9 +12,8 @@ use Rattle.sync_survey.specs.Items.{size_of}
 use Rattle.sync_survey.specs.Runs.{Placed, AreEndToEnd, block_as, blocks_of}
 use Rattle.sync_survey.specs.Faults.{SurveyFields}
 use Rattle.sync_survey.proofs.RunsLaws.{item_of-is}
-use Rattle.sync_survey.proofs.ItemLists.{ends-rise}
+use Rattle.sync_survey.proofs.ItemLists.{ends-rise, piece_by}
 use Rattle.file_tag.specs.Places.{tag_at, tag_length, stands_before, stands_behind}
-use Rattle.file_tag.proofs.MovedItems.{piece_by}
 
 -- these blocks begin between two offsets
 abbrev pub BeginBetween : ℕ → ℕ → List Piece → Type 0

@@ -17,6 +17,7 @@ use Rattle.slot_plan.specs.Parts.{parts_of, window_in, ArePartsFeasible, AreOfCl
 use Rattle.slot_plan.specs.Plans.{IsPlan}
 use Rattle.slot_plan.specs.Laws.{ChooseInOrder}
 use Rattle.slot_plan.proofs.ThePlan.{plan-the_plan}
+use Rattle.slot_plan.proofs.AreaLaws.{only_one}
 use Rattle.part_needs.specs.Needs.{Asked, need_of, needs_of, asked_of}
 use Rattle.part_needs.specs.Fit.{IsPlaced, AreFit}
 use Rattle.part_needs.proofs.FitLaws.{part-known}
@@ -62,13 +63,10 @@ pub record IsRight (chosen : Chosen) (s : SurveyFields) : Type 0 where
 other_default : {X : Type 0} (xs : List X) (i : ℕ) (d e : X) → i < length xs → get_or xs i d ≡ get_or xs i e
 other_default xs i d e lt = let both : Some (get_or xs i d) ≡ Some (get_or xs i e) = sym (slice_get-get_or xs i d lt) ∙ slice_get-get_or xs i e lt in cc
 
-same_slot : (s slot : SlotFields) → Contains (s ∷ []) slot → s ≡ slot
-same_slot s slot has = let first : has.0 ≡ 0 = omega (arith, has.1) in sym (ap (λ n. get_or (s ∷ []) n slot) first) ∙ has.2
-
 choice_slots : (slots : Slots) → AreSlots (choices_by slots)
 choice_slots Least h slot is has =
     subst IsSlot (other_default all_slots has.0 (slot_of 1 false) slot has.1 ∙ has.2) (IsSlot-nth_slot has.0 (omega (arith, has.1, length-all_slots)))
-choice_slots Own h slot is has = subst IsSlot (same_slot h.slot slot has) is.slot
+choice_slots Own h slot is has = subst IsSlot (only_one h.slot slot has) is.slot
 
 chosen_kind : (slots : Slots) (c : ClassFields) (rows : List Row) → AreFit c (asked_of (rows ∷ [])) → ChooseInOrder (choices_by slots) (parts_of (asked_of (rows ∷ [])).needs (asked_of (rows ∷ [])).places)
 chosen_kind Least c rows fit = fit.least

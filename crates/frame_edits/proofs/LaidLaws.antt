@@ -10,6 +10,7 @@ use Rattle.frame_header.specs.Tables.{class_of, window_of}
 use Rattle.slot_plan.specs.declared.needs.Placed.{Placed}
 use Rattle.slot_plan.specs.Parts.{Item, item_of, items_of, IsLeadIn, AreLeadIns, whole_of, AreOfClass}
 use Rattle.slot_plan.specs.Plans.{AreFor, IsPlan}
+use Rattle.slot_plan.proofs.AreaLaws.{only_one}
 use Rattle.part_needs.specs.Needs.{need_of}
 use Rattle.part_needs.proofs.FitLaws.{AreKnown, part-fits, part-known}
 use Rattle.laying.specs.Surveys.{HasSurvey}
@@ -18,7 +19,7 @@ use Rattle.laying.specs.Fits.{AreInSlots, IsFitting}
 use Rattle.laying.specs.Written.{front_blocks, back_blocks, slot_in, table_entry}
 use Rattle.laying.proofs.FittingFrames.{fitting-slots, fitting-files-hold}
 use Rattle.laying.proofs.HoldLaws.{blocks-kept}
-use Rattle.laying.proofs.PlannedFrames.{AllSlots, slot_among, only_one}
+use Rattle.laying.proofs.PlannedFrames.{AllSlots, slot_among}
 use Rattle.laying.proofs.RelayLaws.{range-next}
 use Rattle.laid_files.specs.LaidFiles.{HasInfoSizes}
 use Rattle.sync_survey.specs.declared.rows.Row.{Row}

@@ -1,6 +1,7 @@
 //! The plan of chosen frames, and the Info frame before them.
 ghost use Rattle.std.specs.Prelude.{◌≡◌, ◌<◌, ◌≤◌, ℕ, List, [], ◌∷◌, length, map, slice_get, slice_range, Some, Ok, IfOk};
 ghost use Rattle.frame_header.specs.Tables.{window_of};
+ghost use Rattle.frame_header.specs.Limits.{most_placed};
 ghost use Rattle.info_header.specs.InfoFrame.{info_frame};
 ghost use Rattle.slot_plan.specs.declared.needs.Placed.{Placed as PlacedFields};
 ghost use Rattle.frame_writer.specs.Frames.{Frame};
@@ -76,7 +77,7 @@ fn plan_chosen(alloc: Global, survey: &Survey, chosen: &Chosen) -> Result<Plan, 
 pub fn info_bytes(survey: &Survey, chosen: &Chosen, placed: &[Placed]) -> ArrayVec<u8, 1441>
     requires laid { IsLaidOut (tells survey.now) }
     requires within { chosen.now.from < length (tells survey.now).frames }
-    requires few { length placed.now ≤ 2900064 }
+    requires few { length placed.now ≤ most_placed }
     ensures { (first : RowFields) (frames : List Frame)
         → slice_get (tells survey.now).frames chosen.now.from ≡ Some first
         → map slot_in frames ≡ map (λ (p : PlacedFields). p.slot) placed.now

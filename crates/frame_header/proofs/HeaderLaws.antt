@@ -6,7 +6,7 @@ use Rattle.std.specs.Int.{to_be_bytes, w32}
 use mir.Val.{bool_byte}
 use Rattle.bit_fields.specs.Bits.{bits, bits_of, number, AreBits, AreBytes}
 use Rattle.bit_fields.specs.Groups.{group, numbers_at, spelled, Fits}
-use Rattle.std.proofs.lemmas.Bool.{ne_eqb, eqb-true, true≢false, false≢true, eqb-false}
+use Rattle.std.proofs.lemmas.Bool.{ne_eqb, eqb-true, true≢false, false≢true, eqb-false, and_parts}
 use Rattle.bit_fields.proofs.BitsLaws.{number-middle_of, AreBits-bits, length-bits, bits-injective, bits-be_bytes}
 use Rattle.bit_fields.proofs.GroupsLaws.{group-below, joined, spelled-joined, length-spelled, AreBits-spelled, numbers_at-spelled, spelled-numbers_at}
 use Rattle.frame_header.specs.declared.header.NotHeader.{NotHeader}
@@ -69,11 +69,6 @@ header_fields-groups h v p rate padding frequency private mode extension copyrig
       emphasis = e10 i;
     }
 
--- what a test that passed says of its two parts
-both : (a b : Bool) → (a && b) ≡ true → (a ≡ true) × (b ≡ true)
-both true b h = (refl, h)
-both false b h = absurd (false≢true h)
-
 is_not : (b : Bool) → not b ≡ true → b ≡ false
 is_not true h = absurd (false≢true h)
 is_not false h = refl
@@ -103,10 +98,10 @@ record IsReadable (h : List ℕ) : Type 0 where
 readable : (h : List ℕ) → is_readable h ≡ true → IsReadable h
 unfolding is_readable
 readable h passes =
-    let parts = both _ _ passes in
-    let first = both _ _ parts.0 in
-    let front = both _ _ first.0 in
-    let marks = both _ _ front.0 in
+    let parts = and_parts _ _ passes in
+    let first = and_parts _ _ parts.0 in
+    let front = and_parts _ _ first.0 in
+    let marks = and_parts _ _ front.0 in
     record {
       sync = eqb-true _ _ marks.0;
       version = eqb-false _ _ (is_not _ marks.1);

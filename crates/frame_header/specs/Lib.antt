@@ -4,5 +4,6 @@ pub mod Slots
 pub mod Reading
 pub mod HeaderBits
 pub mod HeaderView
+pub mod Limits
 pub use Rattle.bit_fields.specs.Bits
 pub use Rattle.bit_fields.specs.Groups

@@ -19,6 +19,7 @@ use Rattle.bit_fields.proofs.BitsLaws.{AreBytes-bytes, length-bytes, bits-bytes}
 use Rattle.side_info.specs.declared.side.Side.{Side}
 use Rattle.side_info.specs.Side.{SideFits, side_bits}
 use Rattle.side_info.specs.Frame.{frame_with, word_part}
+use Rattle.side_info.proofs.FrameLaws.{overhead-least, overhead-few}
 use Rattle.circular_buffer.specs.Buffer.{Buffer, buffer, keep_last}
 use Rattle.std.specs.Prelude.{slice_get, Some, unwrap_or, Ok}
 use Rattle.frame_writer.specs.declared.frames.Kept.{Kept}
@@ -136,11 +137,6 @@ header-bytes h four is back same =
     same (bytes (header_bits h)) (AreBytes-bytes (header_bits h) (AreBits-header_bits h)) (length-bytes 4 (header_bits h) (length-header_bits h))
     (ap header_in (bits-bytes 4 (header_bits h) (AreBits-header_bits h) (length-header_bits h) ∙ sym is) ∙ back)
 
-overhead-least : (c : ClassFields) (protected : Bool) → 4 ≤ overhead_of c protected
-unfolding overhead_of
-overhead-least c true = omega arith
-overhead-least c false = omega arith
-
 behind_four : (n : ℕ) (four frame : List ℕ) → length four ≡ 4 → 4 ≤ n → drop n (four ++ drop 4 frame) ≡ drop n frame
 behind_four n four frame long least =
     let split : n ≡ length four + (n - 4) = omega (arith, long, least) in
@@ -166,17 +162,6 @@ front-put h s four frame new is put =
 -- the bytes of a first frame, and those of the frames after it
 pub first-framed : (k : Kept) (ks : List Kept) (bytes : List ℕ) → first_bytes k bytes ++ framed ks (drop (area_in k) bytes) ≡ framed (k ∷ ks) bytes
 first-framed k ks bytes = append_assoc (front_of k.header k.side) (take (area_in k) bytes) (framed ks (drop (area_in k) bytes))
-
-side_bytes-most : (version : Version) (channels : ℕ) → side_bytes_of version channels ≤ 32
-side_bytes-most One channels = elim (eqb channels 1) as (λ b. cond b 17 32 ≤ 32) [ true ↦ lit≤ tt | false ↦ lit≤ tt ]
-side_bytes-most Two channels = elim (eqb channels 1) as (λ b. cond b 9 17 ≤ 32) [ true ↦ lit≤ tt | false ↦ lit≤ tt ]
-side_bytes-most TwoFive channels = elim (eqb channels 1) as (λ b. cond b 9 17 ≤ 32) [ true ↦ lit≤ tt | false ↦ lit≤ tt ]
-
--- what is before an area has at most 38 bytes
-pub overhead-most : (c : ClassFields) (protected : Bool) → overhead_of c protected ≤ 38
-unfolding overhead_of side_size_of
-overhead-most c true = omega (arith, side_bytes-most c.version c.channels)
-overhead-most c false = omega (arith, side_bytes-most c.version c.channels)
 
 pub length-front : (n : ℕ) (frame front into : List ℕ) → frame ≡ front ++ drop n into → length frame ≡ length into → n ≤ length into → length front ≡ n
 length-front n frame front into is same within = omega (arith, ap length is, length-append front (drop n into), length-drop n into, same, within)

@@ -78,7 +78,7 @@ pub none_first : (o later : Option Refusal) → or_else o later ≡ None → (o 
 none_first None later e = (refl, e)
 none_first (Some fault) later e = absurd cc
 
-not_there : (b : Bool) (fault : Refusal) → cond b (Some fault) None ≡ None → b ≡ false
+pub not_there : (b : Bool) (fault : Refusal) → cond b (Some fault) None ≡ None → b ≡ false
 not_there true fault e = absurd cc
 not_there false fault e = refl
 

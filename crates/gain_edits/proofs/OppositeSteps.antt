@@ -60,7 +60,7 @@ together shift = record { left = sym (left_back shift.channels shift.steps); rig
 
 -- ---- the channels
 
-none_both : (o later : Option Refusal) → o ≡ None → later ≡ None → or_else o later ≡ None
+pub none_both : (o later : Option Refusal) → o ≡ None → later ≡ None → or_else o later ≡ None
 none_both o later e rest = ap (λ p. or_else p later) e ∙ rest
 
 joint_back : (steps : ℕ → Steps) (gap : ℕ) (rows : List Row) → joint_fault rows ≡ None → joint_fault (map (moved_row steps gap) rows) ≡ None

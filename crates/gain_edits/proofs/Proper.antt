@@ -91,7 +91,7 @@ ok_tag tag = Ok tag
 abbrev edit_tag : TagFields → Result TagFields EditFault
 edit_tag tag = Ok tag
 
-read_ok : (r : Result TagFields FileTagFault) (tag : TagFields) → tag_read r ≡ Ok tag → r ≡ Ok tag
+pub read_ok : (r : Result TagFields FileTagFault) (tag : TagFields) → tag_read r ≡ Ok tag → r ≡ Ok tag
 read_ok (Ok found) tag e = ap ok_tag (same found tag e)
   where
     same : (f g : TagFields) → edit_tag f ≡ edit_tag g → f ≡ g

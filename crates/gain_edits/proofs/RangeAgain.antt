@@ -104,7 +104,7 @@ row_fits file row here =
 
 -- ---- all frames
 
-stuck_none : (at : ℕ) (s : Option Stuck) (later : Option Refusal) → stuck_fault at s later ≡ None → (s ≡ None) × (later ≡ None)
+pub stuck_none : (at : ℕ) (s : Option Stuck) (later : Option Refusal) → stuck_fault at s later ≡ None → (s ≡ None) × (later ≡ None)
 stuck_none at (Some s) later e = absurd cc
 stuck_none at None later e = (refl, e)
 

@@ -1,7 +1,7 @@
 -- Where a head's text is: within the frame, and at one of two places.
 use Rattle.std.proofs.Common.{◌≡◌, ◌⊎◌, ℕ, ◌+◌, ◌-◌, ◌<◌, ◌≤◌, Bool, true, false, cond, ◌&&◌, ◌||◌, List, length, take, drop, Some, None, refl, sym, ap, ◌∙◌, get_or, codes, arith, lit<, inl, inr}
 use Rattle.std.specs.Str.{bytes_eq}
-use Rattle.std.proofs.lemmas.Bool.{false≢true}
+use Rattle.std.proofs.lemmas.Bool.{false≢true, and_parts}
 use Rattle.std.proofs.lemmas.List.{length-take, length-drop, take-take, drop-take, get_or-take, get_or-drop}
 use Rattle.std.proofs.lemmas.Slice.Eq.{bytes_eq-Decides}
 use Rattle.frame_header.specs.Fields.{HeaderFields}
@@ -82,10 +82,6 @@ head_text_of-take h n frame within =
 
 -- ---- the place
 
-both : (a b : Bool) → (a && b) ≡ true → (a ≡ true) × (b ≡ true)
-both true b h = (refl, h)
-both false b h = absurd (false≢true h)
-
 place_cases : (low high : Bool) (lower higher at : ℕ) → cond low (Some lower) (cond high (Some higher) None) ≡ Some at → ((low ≡ true) × (lower ≡ at)) ⊎ ((high ≡ true) × (higher ≡ at))
 place_cases true high lower higher at e = inl (refl, cc)
 place_cases false true lower higher at e = inr (refl, cc)
@@ -94,7 +90,7 @@ place_cases false false lower higher at e = absurd cc
 place_has : (h : HeaderFields) (frame : List ℕ) (at : ℕ) →
     ((has_text (low_place h) frame ≡ true) × (low_place h ≡ at)) ⊎ (((h.protected && has_text (high_place h) frame) ≡ true) × (high_place h ≡ at)) → has_text at frame ≡ true
 place_has h frame at (inl low) = sym (ap (λ k. has_text k frame) low.1) ∙ low.0
-place_has h frame at (inr high) = sym (ap (λ k. has_text k frame) high.1) ∙ (both _ _ high.0).1
+place_has h frame at (inr high) = sym (ap (λ k. has_text k frame) high.1) ∙ (and_parts _ _ high.0).1
 
 -- a text is at the place
 pub head_text_of-has : (h : HeaderFields) (frame : List ℕ) (at : ℕ) → head_text_of h frame ≡ Some at → has_text at frame ≡ true

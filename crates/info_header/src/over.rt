@@ -2,6 +2,7 @@
 ghost use Rattle.std.specs.Prelude.{◌≡◌, ◌*◌, ◌<◌, ◌≤◌, ◌==◌, length};
 ghost use Rattle.std.specs.List.{list_all};
 ghost use Rattle.frame_header.specs.Fields.{SlotFields};
+ghost use Rattle.frame_header.specs.Limits.{most_placed};
 ghost use Rattle.info_header.specs.Over.{bytes_of, rate_in, has_one_rate as has_one_rate_lem, IsTableOver, IsInfoOver};
 
 use crate::fields::{Info, entry};
@@ -27,7 +28,7 @@ impl InSlot for Slot {
 
 /// The bytes of some frames together, at most 1,441 for each.
 fn bytes_in<F: InSlot>(class: Class, frames: &[F]) -> u32
-    requires few { length frames.now ≤ 2900064 }
+    requires few { length frames.now ≤ most_placed }
     ensures bytes { result ≡ bytes_of class F.slot_of frames.now }
     ensures most { result ≤ 1441 * length frames.now }
 {
@@ -63,7 +64,7 @@ fn has_one_rate<F: InSlot>(class: Class, frames: &[F]) -> bool
 /// The seek table of n frames with `before` bytes before them, of `bytes` bytes in all: entry i is that of
 /// frame `i * n / 100`, rounded down.
 fn table_over<F: InSlot>(class: Class, frames: &[F], before: u32, bytes: u32) -> [u8; 100]
-    requires few { length frames.now ≤ 2900064 }
+    requires few { length frames.now ≤ most_placed }
     requires short { before ≤ 1441 }
     requires some { 0 < bytes }
     ensures { IsTableOver class F.slot_of frames.now before bytes result }
@@ -85,7 +86,7 @@ fn table_over<F: InSlot>(class: Class, frames: &[F], before: u32, bytes: u32) ->
 /// text is `Info` where all have one bit rate, else `Xing`. There is no quality, and the extension is all
 /// 0.
 pub fn info_over<F: InSlot>(class: Class, frames: &[F]) -> Info
-    requires few { length frames.now ≤ 2900064 }
+    requires few { length frames.now ≤ most_placed }
     ensures { IsInfoOver class F.slot_of frames.now result }
 {
     let before = class.length_of(info_slot(class));

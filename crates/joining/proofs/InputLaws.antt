@@ -70,7 +70,7 @@ by_follows : (b : Bool) (p : Part) (fault : EditFault) → b ≡ true → cond b
 by_follows true p fault is = refl
 by_follows false p fault is = absurd cc
 
-follows-may : (first : Option ClassFields) (class : ClassFields) → Follows first class → may_follow first class ≡ true
+pub follows-may : (first : Option ClassFields) (class : ClassFields) → Follows first class → may_follow first class ≡ true
 follows-may None class follows = refl
 follows-may (Some first) class follows = ap (λ c. same_class c first) follows ∙ same-class first
 

@@ -4,6 +4,7 @@ use Rattle.std.specs.Prelude.{◌↔◌, slice_get, flat_map}
 use Rattle.std.proofs.lemmas.List.{length-map, take-map}
 use Rattle.std.proofs.lemmas.List.Elements.{All-cons}
 use Rattle.frame_header.specs.Fields.{ClassFields}
+use Rattle.frame_header.specs.Limits.{most_placed}
 use Rattle.frame_header.specs.Tables.{window_of}
 use Rattle.slot_plan.specs.declared.needs.Need.{Need}
 use Rattle.slot_plan.specs.declared.needs.Placed.{Placed}
@@ -118,7 +119,7 @@ unfolding needs_of
 needs-flat [] = refl
 needs-flat (rows ∷ parts) = ap (λ (l : List Need). map need_of rows ++ l) (needs-flat parts)
 
-pub plan-few : (ss : List SurveyFields) → CanBeJoined ss → length (the_plan_of ss) ≤ 2900064
+pub plan-few : (ss : List SurveyFields) → CanBeJoined ss → length (the_plan_of ss) ≤ most_placed
 unfolding the_plan_of
 plan-few [] can = absurd can
 plan-few (first ∷ ss) can =

@@ -13,6 +13,7 @@ use Rattle.slot_plan.specs.declared.needs.Placed.{Placed}
 use Rattle.slot_plan.specs.Parts.{AreOfClass}
 use Rattle.slot_plan.specs.Plans.{IsPlan}
 use Rattle.slot_plan.specs.ThePlan.{the_plan}
+use Rattle.slot_plan.proofs.AreaLaws.{only_one}
 use Rattle.part_needs.specs.Needs.{need_of}
 use Rattle.part_needs.specs.Fit.{own_choice, IsPlaced}
 use Rattle.part_needs.proofs.FitLaws.{AreKnown, part-fits, part-known}
@@ -106,11 +107,8 @@ first-row (r ∷ rows) some = (r, refl)
 
 -- ---- the file
 
-same_slot : (own slot : SlotFields) → Contains (own ∷ []) slot → own ≡ slot
-same_slot own slot has = let first : has.0 ≡ 0 = omega (arith, has.1) in sym (ap (λ n. get_or (own ∷ []) n slot) first) ∙ has.2
-
 own_slots : AreSlots own_choice
-own_slots h slot is has = subst IsSlot (same_slot h.slot slot has) is.slot
+own_slots h slot is has = subst IsSlot (only_one h.slot slot has) is.slot
 
 module _ (output : List ℕ) (f : Contents) (name : List ℕ) (names : List (List ℕ)) (s : SurveyFields) (ss : List SurveyFields) (can : CanBeJoined (s ∷ ss)) (are : AreSources s.class output (Told f) (name ∷ names) (s ∷ ss)) where
   abbrev parts : List Part

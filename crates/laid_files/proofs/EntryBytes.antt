@@ -16,7 +16,7 @@ use Rattle.side_info.specs.Side.{side_bits, SideFits}
 use Rattle.side_info.specs.CheckWord.{check_word_of}
 use Rattle.side_info.specs.Frame.{side_place, side_in, word_said, word_part, frame_with}
 use Rattle.side_info.proofs.SideLaws.{IsShaped, length-side_bits}
-use Rattle.side_info.proofs.FrameLaws.{HasRoom, overhead-is, length-word, side_in-frame_with, word_said-frame_with}
+use Rattle.side_info.proofs.FrameLaws.{HasRoom, overhead-is, length-word, side_in-frame_with, word_said-frame_with, length-word_part}
 use Rattle.frame_writer.specs.Frames.{front_of}
 use Rattle.sync_survey.specs.declared.items.Item.TheVariants.{Frame as FrameItem}
 use Rattle.sync_survey.specs.Items.{header_front}
@@ -42,10 +42,6 @@ header_front-is h rest is =
 
 -- ---- what is before the area
 
-length-word_by : (h : HeaderFields) (s : Side) (b : Bool) → length (cond b (bytes (bits_of 16 (check_word_of h s))) []) + 4 ≡ side_place b
-length-word_by h s true = ap (λ n. n + 4) (length-word (check_word_of h s))
-length-word_by h s false = refl
-
 pub length-front : (h : HeaderFields) (s : Side) → IsHeader h → IsShaped s → length (front_of h s) ≡ overhead_of (class_of h) h.protected
 unfolding front_of
 length-front h s is pairs =
@@ -56,7 +52,7 @@ length-front h s is pairs =
       length-header h,
       length-append (bytes (header_bits h)) (word_part h s ++ side),
       length-append (word_part h s) side,
-      length-word_by h s h.protected,
+      length-word_part h s h.protected,
       length-bytes (side_size_of c) (side_bits c s) (length-side_bits c (IsClass-class_of h is) s pairs),
       overhead-is c h.protected,
     )

@@ -10,6 +10,7 @@ use Rattle.frame_header.specs.Fields.{HeaderFields, ClassFields}
 use Rattle.frame_header.specs.Tables.{class_of}
 use Rattle.side_info.specs.declared.side.Side.{Side}
 use Rattle.side_info.specs.Side.{payload_bits, payload_bytes}
+use Rattle.side_info.proofs.SideLaws.{bits_least}
 use Rattle.info_header.specs.declared.fields.Info.{Info}
 use Rattle.frame_writer.specs.Laid.{start_of, areas_end, laid}
 use Rattle.frame_writer.specs.Frames.{Frame, piece_of, pieces}
@@ -29,10 +30,6 @@ use Rattle.laid_files.proofs.LaidSound.{laid-sound, none-marked, starts-there}
 
 -- ---- the main data of one frame
 
-payload_least : (s : Side) → payload_bits s ≤ 8 * payload_bytes s
-unfolding payload_bytes
-payload_least s = omega arith
-
 -- bits from the start of the main data on, if the main data are after the bytes of a head
 pub payload_there : (main before area_data payload rest : List ℕ) (start at : ℕ) (s : Side) → main ≡ before ++ area_data → start ≡ length before + at → drop at area_data ≡ payload ++ rest → length payload ≡ payload_bytes s
     → payload_at main start s ≡ take (payload_bits s) (bits payload)
@@ -43,7 +40,7 @@ payload_there main before area_data payload rest start at s is place there long 
     ∙ ap (drop at) (drop_at before area_data (length before) refl)
     ∙ there in
     ap (take (payload_bits s)) (drop-bits start main ∙ ap bits bytes ∙ bits-append payload rest)
-    ∙ take-append-le (payload_bits s) (bits payload) (bits rest) (omega (arith, payload_least s, length-bits payload, long))
+    ∙ take-append-le (payload_bits s) (bits payload) (bits rest) (omega (arith, bits_least s, length-bits payload, long))
 
 -- ---- all frames
 

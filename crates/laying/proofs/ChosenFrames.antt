@@ -14,7 +14,7 @@ use Rattle.frame_header.proofs.SlotLaws.{area-is}
 use Rattle.side_info.specs.declared.side.Side.{Side}
 use Rattle.side_info.specs.Frame.{side_in}
 use Rattle.side_info.specs.Side.{no_side, SideFits, payload_bits, payload_bytes}
-use Rattle.side_info.proofs.SideLaws.{IsShaped, SideFits-no_side}
+use Rattle.side_info.proofs.SideLaws.{IsShaped, SideFits-no_side, bits_least}
 use Rattle.side_info.proofs.FrameLaws.{shaped-side_in}
 use Rattle.frame_writer.specs.Laid.{zeros}
 use Rattle.frame_writer.specs.Frames.{Frame}
@@ -185,10 +185,6 @@ side_paired false s pairs = pairs
 pub side_fits : (c : ClassFields) (lost : Bool) (s : Side) → SideFits c s → SideFits c (cond lost no_side s)
 side_fits c true s fits = SideFits-no_side c
 side_fits c false s fits = fits
-
-bits_least : (s : Side) → payload_bits s ≤ 8 * payload_bytes s
-unfolding payload_bytes
-bits_least s = omega arith
 
 bytes_of_bits : (s : Side) (n : ℕ) → n ≡ payload_bits s → (n + 7) / 8 ≡ payload_bytes s
 unfolding payload_bytes

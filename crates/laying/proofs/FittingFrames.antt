@@ -16,6 +16,7 @@ use Rattle.laying.specs.Written.{slot_in}
 use Rattle.laying.specs.Laws.{FittingFilesHold, FittingSlots}
 use Rattle.laying.proofs.PlannedFrames.{one, one_in_stream, relaid-cons, stream-cons, one-entry, one-stream, next-map, next-entries, AreLaidFrom, none_laid, laid_more, AreNeedsOf}
 use Rattle.laying.proofs.HoldLaws.{part-entries, part-needs, part-stream, part-some}
+use Rattle.laying.proofs.SlotLaws.{one-slot}
 
 -- ---- one frame
 
@@ -54,10 +55,6 @@ laid-fitting c (need ∷ needs) (f ∷ fs) (p ∷ placed) reach end before are n
     (subst (λ (l : List StreamFrame). AreLaidFrom c end before (g ∷ relaid (left_behind p.lead_in f fs) placed) l) (sym (stream-cons p placed (entry_of f) (map entry_of fs)))
     (laid_more c end before bytes area g (relaid (left_behind p.lead_in f fs) placed) (one_in_stream p.lead_in (entry_of f)) (with_lead_ins placed (left_behind p.lead_in (entry_of f) (map entry_of fs)))
     (one-entry c p f slots.0 (omega (arith, fits.0, near)) are.0 p.lead_in) (one-stream p.lead_in p f) piece.0 piece.2 (omega (arith, begins, fits.0, room)) (omega (arith, begins, fits.0, fits.1, room)) there))
-
-one-slot : (b : Bool) (p : Placed) (f : Frame) → slot_in (one b p f) ≡ p.slot
-one-slot true p f = refl
-one-slot false p f = refl
 
 slots-by : (window reach : ℕ) (needs : List Need) (fs : List Frame) (placed : List Placed) → AreNeedsOf needs fs → FitsFrom window reach needs placed → map slot_in (relaid fs placed) ≡ map (λ (p : Placed). p.slot) placed
 unfolding FitsFrom relaid

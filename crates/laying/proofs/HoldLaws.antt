@@ -109,7 +109,7 @@ pub joined-is : (parts : List Part) → joined (map frames_in parts) ≡ flat_ma
 joined-is [] = refl
 joined-is (p ∷ parts) = ap (λ (l : List Frame). frames_in p ++ l) (joined-is parts)
 
-all-length : (file : List ℕ) (s : SurveyFields) → length (all_frames file s) ≡ length s.frames
+pub all-length : (file : List ℕ) (s : SurveyFields) → length (all_frames file s) ≡ length s.frames
 unfolding all_frames
 all-length file s = length-map (enumerate_from 0 s.frames) (λ (p : ℕ × Row). frame_of file s p.0 p.1) ∙ length-enumerate_from 0 s.frames
 

@@ -24,7 +24,7 @@ use Rattle.laying.specs.Surveys.{HasSurvey}
 use Rattle.laying.specs.Passing.{Lays, LaysPart}
 use Rattle.laying.specs.Places.{frames_behind, places_for, own_places, whole_frames, whole_reach}
 use Rattle.laying.proofs.PlannedFrames.{one, AreNeedsOf}
-use Rattle.laying.proofs.HoldLaws.{needs-range}
+use Rattle.laying.proofs.HoldLaws.{needs-range, all-length}
 use Rattle.laying.proofs.PassLaws.{lays_as}
 use Rattle.laying.proofs.RelayLaws.{relaid-end, begins-left}
 
@@ -136,10 +136,6 @@ last-own window reach (x ∷ xs) (p ∷ placed) =
 
 pub range-whole : {X : Type 0} (xs : List X) → slice_range xs 0 (length xs) ≡ xs
 range-whole xs = take_all (length xs - 0) xs (omega arith)
-
-all-length : (file : List ℕ) (s : SurveyFields) → length (all_frames file s) ≡ length s.frames
-unfolding all_frames
-all-length file s = length-map (enumerate_from 0 s.frames) (λ (p : ℕ × Row). frame_of file s p.0 p.1) ∙ length-enumerate_from 0 s.frames
 
 pub whole-length : (file : List ℕ) (s : SurveyFields) → length (slice_range (all_frames file s) 0 (length s.frames)) ≡ length s.frames
 whole-length file s =

@@ -19,6 +19,7 @@ use Rattle.slot_plan.specs.Layouts.{IsLayout, IsFeasible, begins_of}
 use Rattle.slot_plan.specs.Lists.{frames_of}
 use Rattle.slot_plan.specs.Parts.{Item, area_in, open_of, item_of, items_of, IsLeadIn, AreLeadIns, whole_of}
 use Rattle.slot_plan.specs.Plans.{AreFor, areas_in, IsPlan}
+use Rattle.slot_plan.proofs.AreaLaws.{only_one}
 use Rattle.frame_writer.specs.Laid.{zeros, CanBeLaidFrom}
 use Rattle.frame_writer.specs.Frames.{Frame, pieces, area_in as kept_area}
 use Rattle.sync_survey.specs.MainData.{StreamFrame, no_slot, part_lengths, parts_of}
@@ -267,12 +268,6 @@ pub slot_among : (slot : SlotFields) → Contains all_slots slot → IsSlot slot
 slot_among slot has =
     let within : has.0 < 28 = omega (arith, has.1, length-all_slots) in
     subst IsSlot (get_or_default all_slots has.0 (slot_of 1 false) slot has.1 ∙ has.2) (IsSlot-nth_slot has.0 within)
-
-pub only_one : (slot other : SlotFields) → Contains (slot ∷ []) other → slot ≡ other
-only_one slot other has = first_of_one slot other has.0 (omega (arith, has.1)) has.2
-  where
-    first_of_one : (slot other : SlotFields) (k : ℕ) → k ≡ 0 → get_or (slot ∷ []) k other ≡ other → slot ≡ other
-    first_of_one slot other k zero_is same = ap (λ n. get_or (slot ∷ []) n other) (sym zero_is) ∙ same
 
 -- the frames of a part, with others after it
 items-follow : (c : ClassFields) (choices : HeaderFields → List SlotFields) (needs : List Need) (fs : List Frame) (rest : List Item) (more : List Frame) → AreSlots choices → AreEntries c fs → AreNeedsOf needs fs

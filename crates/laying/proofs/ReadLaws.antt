@@ -9,7 +9,7 @@ use Rattle.std.proofs.lemmas.List.Sums.{sum_by-cons}
 use Rattle.outside.specs.Files.{Files, Holds, IsThere, Told, Untold}
 use Rattle.outside.proofs.FilesLaws.{there_holds}
 use Rattle.bit_fields.specs.Bits.{bits, bytes, AreBits, AreBytes}
-use Rattle.bit_fields.proofs.BitsLaws.{length-bits, bits-append, bits-injective, AreBits-take, AreBits-drop, AreBits-bits}
+use Rattle.bit_fields.proofs.BitsLaws.{length-bits, bits-append, bits-injective, AreBits-take, AreBits-drop, AreBits-bits, bits-front}
 use Rattle.frame_header.specs.declared.version.Version.{Version}
 use Rattle.frame_header.specs.declared.version.Version.TheVariants.{One, Two, TwoFive}
 use Rattle.frame_header.specs.Fields.{ClassFields}
@@ -120,13 +120,6 @@ data-within head c rows i r is kept =
 pub bits-least : (n : ℕ) → n ≤ 8 * ((n + 7) / 8)
 bits-least n = omega arith
 
--- bits of the first bytes are those of all
-front-bits : (main rest : List ℕ) (start count : ℕ) → 8 * start + count ≤ 8 * length main → take count (drop (8 * start) (bits (main ++ rest))) ≡ take count (drop (8 * start) (bits main))
-front-bits main rest start count within =
-    ap (λ (l : List ℕ). take count (drop (8 * start) l)) (bits-append main rest)
-    ∙ ap (take count) (drop-append-le (8 * start) (bits main) (bits rest) (omega (arith, within, length-bits main)))
-    ∙ take-append-le count (drop (8 * start) (bits main)) (bits rest) (omega (arith, within, length-bits main, length-drop (8 * start) (bits main)))
-
 -- bytes that hold these bits are the bits packed
 pub packed-is : (new bs : List ℕ) (count : ℕ) → AreBytes new → AreBits bs → length bs ≡ count → ArePacked new count bs → new ≡ packed bs
 packed-is new bs count octets are many is =
@@ -143,7 +136,7 @@ cut-is file main new s i r area begin count found kept within long is area_is be
     let reach : 8 * at + payload_bits r.side ≤ 8 * length main = omega (arith, long, place-next s.head s.frames i r found, within.begins, within.ends, least, count_is) in
     let bits_are : main_bits main (length main - area - begin) count ≡ payload_at (main_bytes file s.head s.frames) at r.side =
     ap₂ (λ n m. take m (drop (8 * n) (bits main))) start count_is
-    ∙ sym (front-bits main front.0 at (payload_bits r.side) reach)
+    ∙ sym (bits-front main front.0 at (payload_bits r.side) reach)
     ∙ ap (λ (l : List ℕ). take (payload_bits r.side) (drop (8 * at) (bits l))) (ap (λ (l : List ℕ). l ++ front.0) is ∙ sym front.1) in
     let own = main_bits main (length main - area - begin) count in
     let are : AreBits own = AreBits-take count (drop (8 * (length main - area - begin)) (bits main)) (AreBits-drop (8 * (length main - area - begin)) (bits main) (AreBits-bits main)) in

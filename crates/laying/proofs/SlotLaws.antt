@@ -12,7 +12,7 @@ use Rattle.laying.specs.InfoLaws.{SlotsArePlanned}
 use Rattle.laying.proofs.PlannedFrames.{one, relaid-cons, Follow, joined, whole-follows}
 use Rattle.laying.proofs.HoldLaws.{parts-entries, parts-needs, joined-is}
 
-one-slot : (b : Bool) (p : Placed) (f : Frame) → slot_in (one b p f) ≡ p.slot
+pub one-slot : (b : Bool) (p : Placed) (f : Frame) → slot_in (one b p f) ≡ p.slot
 one-slot true p f = refl
 one-slot false p f = refl
 

@@ -1,5 +1,6 @@
 //! The fields of the Info frame before the frames of a plan.
 ghost use Rattle.std.specs.Prelude.{◌≡◌, ◌+◌, ◌≤◌, List, ℕ, length, take, drop, map, replicate, None, Some, Ok, IfOk, IfErr, OnOk, IsErrOf};
+ghost use Rattle.frame_header.specs.Limits.{most_placed};
 ghost use Rattle.outside.specs.Files.{Holds, IsThere};
 ghost use Rattle.outside.specs.Counts.{OnlyReads};
 ghost use Rattle.outside.specs.Pass.{HasPassCause};
@@ -71,7 +72,7 @@ fn are_sized(info: &Info)
 /// they are, the bytes of the Info frame and of all of them, the seek table, and what is kept of a head.
 /// The text is `Info` if all have one bit rate, else `Xing`.
 pub fn info_of(class: Class, placed: &[Placed], kept: &Kept) -> Info
-    requires few { length placed.now ≤ 2900064 }
+    requires few { length placed.now ≤ most_placed }
     ensures info { (frames : List Frame) → map slot_in frames ≡ map
         (λ (p : PlacedFields). p.slot) placed.now
         → result ≡ info_for class frames kept.now.quality kept.now.extension }

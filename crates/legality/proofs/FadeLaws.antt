@@ -7,6 +7,7 @@ use Rattle.fade_plan.specs.declared.envelope_fault.EnvelopeFault.{EnvelopeFault}
 use Rattle.fade_plan.specs.declared.envelope_fault.EnvelopeFault.TheVariants.{Line, NoPoints, Memory as NoRoom}
 use Rattle.fade_plan.specs.Sheets.{EnvelopePoint, envelope_of}
 use Rattle.fade_plan.specs.Curves.{CurvePoint, frame_of, curve_point, not_rising, unless_at, curve_of, steps_at, steps_back}
+use Rattle.fade_plan.proofs.EvenLaws.{none_of, made_of}
 use Rattle.outside.specs.Files.{Contents}
 use Rattle.sync_survey.specs.Faults.{SurveyFields}
 use Rattle.sync_survey.specs.Survey.{survey_of}
@@ -47,16 +48,12 @@ module _ (class : ClassFields) (frames : ℕ) where
   abbrev Rise : EnvelopePoint → EnvelopePoint → Type 0
   Rise p q = frame_of class frames p < frame_of class frames q
 
-  none-of : (b : Bool) (o : Option ℕ) (line : ℕ) → cond b o (Some line) ≡ None → (b ≡ true) × (o ≡ None)
-  none-of true o line e = (refl, e)
-  none-of false o line e = absurd cc
-
   rises : (points : List EnvelopePoint) → not_rising class frames points ≡ None → EachNext points Rise
   unfolding not_rising
   rises [] none = λ i p q is next. absurd cc
   rises (x ∷ []) none = λ i p q is next. absurd cc
   rises (x ∷ y ∷ more) none =
-      let parts = none-of (nat_lt (frame_of class frames x) (frame_of class frames y)) (not_rising class frames (y ∷ more)) y.line none in
+      let parts = none_of (nat_lt (frame_of class frames x) (frame_of class frames y)) (not_rising class frames (y ∷ more)) y.line none in
       next-cons Rise x y more (ltb-true (frame_of class frames x) (frame_of class frames y) parts.0) (rises (y ∷ more) parts.1)
 
   rise-none : (points : List EnvelopePoint) → EachNext points Rise → not_rising class frames points ≡ None
@@ -67,14 +64,10 @@ module _ (class : ClassFields) (frames : ℕ) where
       ap (λ b. cond b (not_rising class frames (y ∷ more)) (Some y.line)) (lt-ltb (frame_of class frames x) (frame_of class frames y) (rising 0 x y refl refl))
       ∙ rise-none (y ∷ more) (λ i p q is next. rising (suc i) p q is next)
 
-  made-of : (o : Option ℕ) (points curve : List CurvePoint) → unless_at o points ≡ Ok curve → (o ≡ None) × (points ≡ curve)
-  made-of None points curve e = (refl, cc)
-  made-of (Some line) points curve e = absurd cc
-
   pub curve-rises : (points : List EnvelopePoint) (curve : List CurvePoint) → curve_of class frames points ≡ Ok curve → EachNext points Rise × (map (curve_point class frames) points ≡ curve)
   unfolding curve_of
   curve-rises points curve e =
-      let parts = made-of (not_rising class frames points) (map (curve_point class frames) points) curve e in
+      let parts = made_of (not_rising class frames points) (map (curve_point class frames) points) curve e in
       (rises points parts.0, parts.1)
 
   pub rising-curve : (points : List EnvelopePoint) → EachNext points Rise → curve_of class frames points ≡ Ok (map (curve_point class frames) points)

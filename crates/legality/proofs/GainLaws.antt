@@ -38,7 +38,10 @@ use Rattle.gain_edits.specs.Gain.{noted_change, tagged_change, gain_change}
 use Rattle.gain_edits.specs.Undo.{undone_change, undo_change}
 use Rattle.gain_edits.proofs.RangeLaws.{range-cons, range-nil}
 use Rattle.gain_edits.proofs.JointLaws.{joint-cons, joint-nil}
-use Rattle.gain_edits.proofs.Proper.{tagged-parts, undone-parts}
+use Rattle.gain_edits.proofs.Proper.{tagged-parts, undone-parts, read_ok}
+use Rattle.gain_edits.proofs.RangeAgain.{stuck_none}
+use Rattle.gain_edits.proofs.NotedAgain.{none_first, not_there}
+use Rattle.gain_edits.proofs.OppositeSteps.{none_both}
 use Rattle.legality.specs.Inputs.{Each, Input}
 use Rattle.legality.proofs.InputLaws.{each-cons}
 use Rattle.legality.specs.Choices.{StaysGain, steps_on, CanMove, AreSeparate, CanChange, IsLegalGain, IsLegalUndo}
@@ -145,10 +148,6 @@ moves-row steps row moves = at row.lost (λ wraps. moves wraps)
 
 -- ---- all frames
 
-stuck-none : (at : ℕ) (o : Option Stuck) (later : Option Refusal) → stuck_fault at o later ≡ None → (o ≡ None) × (later ≡ None)
-stuck-none at (Some s) later e = absurd cc
-stuck-none at None later e = (refl, e)
-
 -- the steps of the number of a frame are those at its offset
 abbrev pub Agree : (ℕ → Steps) → (ℕ → Steps) → List Row → Type 0
 Agree at_offset at_number rows = Each rows (λ i row. at_offset row.offset ≡ at_number i)
@@ -156,7 +155,7 @@ Agree at_offset at_number rows = Each rows (λ i row. at_offset row.offset ≡ a
 pub free-moves : (f g : ℕ → Steps) (rows : List Row) → Agree f g rows → range_fault f rows ≡ None → Each rows (λ i row. CanMove (g i) row)
 free-moves f g [] agree none = λ i row is. absurd cc
 free-moves f g (q ∷ rows) agree none =
-    let parts = stuck-none q.offset (stuck_of (f q.offset) q) (range_fault f rows) (sym (range-cons f q rows) ∙ none) in
+    let parts = stuck_none q.offset (stuck_of (f q.offset) q) (range_fault f rows) (sym (range-cons f q rows) ∙ none) in
     each-cons (λ i row. CanMove (g i) row) q rows (subst (λ (x : Steps). CanMove x q) (agree 0 q refl) (row-moves (f q.offset) q parts.0))
     (free-moves f (λ n. g (suc n)) rows (λ n r here. agree (suc n) r here) parts.1)
 
@@ -173,18 +172,6 @@ even-agree steps rows = λ i row is. refl
 
 -- ---- channels
 
-else-none : (a b : Option Refusal) → or_else a b ≡ None → (a ≡ None) × (b ≡ None)
-else-none None b e = (refl, e)
-else-none (Some x) b e = absurd cc
-
-none-else : (a b : Option Refusal) → a ≡ None → b ≡ None → or_else a b ≡ None
-none-else a b e d = ap (λ o. or_else o b) e ∙ d
-
--- where nothing is refused, the test for it doesn't hold
-no-test : (b : Bool) (x : Refusal) → cond b (Some x) None ≡ None → b ≡ false
-no-test true x e = absurd cc
-no-test false x e = refl
-
 test-no : (b : Bool) (x : Refusal) → b ≡ false → cond b (Some x) None ≡ None
 test-no b x e = ap (λ c. cond c (Some x) None) e
 
@@ -194,13 +181,13 @@ differ m n e same = let both : true ≡ false = sym (search rules) ∙ e in absu
 each-apart : (rows : List Row) → joint_fault rows ≡ None → Each rows (λ i row. row.header.mode ≢ 1)
 each-apart [] none = λ i row is. absurd cc
 each-apart (q ∷ rows) none =
-    let parts = else-none (joint_at q) (joint_fault rows) (sym (joint-cons q rows) ∙ none) in
-    each-cons (λ i row. row.header.mode ≢ 1) q rows (differ q.header.mode 1 (no-test (is_joint q) (Joint q.offset) parts.0)) (each-apart rows parts.1)
+    let parts = none_first (joint_at q) (joint_fault rows) (sym (joint-cons q rows) ∙ none) in
+    each-cons (λ i row. row.header.mode ≢ 1) q rows (differ q.header.mode 1 (not_there (is_joint q) (Joint q.offset) parts.0)) (each-apart rows parts.1)
 
 apart-each : (rows : List Row) → Each rows (λ i row. row.header.mode ≢ 1) → joint_fault rows ≡ None
 apart-each [] apart = joint-nil
 apart-each (q ∷ rows) apart =
-    joint-cons q rows ∙ none-else (joint_at q) (joint_fault rows) (test-no (is_joint q) (Joint q.offset) (ne_eqb q.header.mode 1 (apart 0 q refl))) (apart-each rows (λ i row is. apart (suc i) row is))
+    joint-cons q rows ∙ none_both (joint_at q) (joint_fault rows) (test-no (is_joint q) (Joint q.offset) (ne_eqb q.header.mode 1 (apart 0 q refl))) (apart-each rows (λ i row is. apart (suc i) row is))
 
 separate : (s : SurveyFields) → apart_fault s ≡ None → AreSeparate s
 separate s none = at (s.class.channels == 1) refl none
@@ -224,10 +211,6 @@ change-none Right s can = separate-none s can
 
 -- ---- the tag
 
-read-ok : (r : Result TagFields FileTagFault) (tag : TagFields) → tag_read r ≡ Ok tag → r ≡ Ok tag
-read-ok (Ok found) tag e = cc
-read-ok (Err fault) tag e = absurd cc
-
 noted-ok : (at : ℕ) (item : UndoItem) (undo : Undo) → noted_undo at item ≡ Ok undo → (item ≡ Found undo) ⊎ ((item ≡ Missing) × (undo ≡ no_undo))
 noted-ok at Missing undo e = inr (refl, cc)
 noted-ok at (Bad place) undo e = absurd cc
@@ -244,7 +227,7 @@ found-ok at (Found found) undo e = cc
 
 -- where a number isn't refused, it is at most what it may be
 most : (n m : ℕ) (x : Refusal) → cond (nat_lt m n) (Some x) None ≡ None → n ≤ m
-most n m x e = ltb-false m n (no-test (nat_lt m n) x e)
+most n m x e = ltb-false m n (not_there (nat_lt m n) x e)
 
 most-none : (n m : ℕ) (x : Refusal) → n ≤ m → cond (nat_lt m n) (Some x) None ≡ None
 most-none n m x low = test-no (nat_lt m n) x (le-ltb m n low)
@@ -260,17 +243,17 @@ module _ (shift : Shift) (file : List ℕ) (s : SurveyFields) where
       let parts = tagged-parts shift file s change e in
       let next = next_undo shift parts.undo in
       let bytes = tag_bytes (tag_with next parts.tag) in
-      let one = else-none _ _ parts.free in
-      let two = else-none (undo_fault next) _ one.1 in
-      let numbers = else-none (number_fault next.left) (number_fault next.right) two.0 in
-      let three = else-none (size_fault bytes) _ two.1 in
-      let four = else-none (output_fault s bytes) _ three.1 in
+      let one = none_first _ _ parts.free in
+      let two = none_first (undo_fault next) _ one.1 in
+      let numbers = none_first (number_fault next.left) (number_fault next.right) two.0 in
+      let three = none_first (size_fault bytes) _ two.1 in
+      let four = none_first (output_fault s bytes) _ three.1 in
       record {
         channels = can-change shift.channels s one.0;
         gains = free-moves (even (steps_of shift)) (λ i. steps_of shift) s.frames (even-agree (steps_of shift) s.frames) four.1;
         noted = λ tags. record {
           tag = parts.tag;
-          read = read-ok (file_tag file s) parts.tag parts.read;
+          read = read_ok (file_tag file s) parts.tag parts.read;
           undo = parts.undo;
           item = noted-ok (tag_at s) (undo_from 32 parts.tag.items) parts.undo parts.item;
           left = most (unsigned_abs next.left) 999 _ numbers.0;
@@ -284,7 +267,7 @@ module _ (shift : Shift) (file : List ℕ) (s : SurveyFields) where
   unfolding gain_change
   plain-legal change e =
       let one = unless_ok (or_else (channel_fault shift s) (range_fault (even (steps_of shift)) s.frames)) _ change e in
-      let two = else-none (channel_fault shift s) (range_fault (even (steps_of shift)) s.frames) one.0 in
+      let two = none_first (channel_fault shift s) (range_fault (even (steps_of shift)) s.frames) one.0 in
       record {
         channels = can-change shift.channels s two.0;
         gains = free-moves (even (steps_of shift)) (λ i. steps_of shift) s.frames (even-agree (steps_of shift) s.frames) two.1;
@@ -305,10 +288,10 @@ module _ (shift : Shift) (file : List ℕ) (s : SurveyFields) where
       let next = next_undo shift noted.undo in
       let bytes = tag_bytes (tag_with next noted.tag) in
       let none =
-      none-else (channel_fault shift s) _ (change-none shift.channels s legal.channels)
-      (none-else (undo_fault next) _ (none-else (number_fault next.left) (number_fault next.right) (most-none (unsigned_abs next.left) 999 _ noted.left) (most-none (unsigned_abs next.right) 999 _ noted.right))
-      (none-else (size_fault bytes) _ (most-none (length bytes) longest_tag _ noted.tag_fits)
-      (none-else (output_fault s bytes) (range_fault (even (steps_of shift)) s.frames) (most-none (output_length s bytes) longest_file _ noted.file_fits) (free true legal)))) in
+      none_both (channel_fault shift s) _ (change-none shift.channels s legal.channels)
+      (none_both (undo_fault next) _ (none_both (number_fault next.left) (number_fault next.right) (most-none (unsigned_abs next.left) 999 _ noted.left) (most-none (unsigned_abs next.right) 999 _ noted.right))
+      (none_both (size_fault bytes) _ (most-none (length bytes) longest_tag _ noted.tag_fits)
+      (none_both (output_fault s bytes) (range_fault (even (steps_of shift)) s.frames) (most-none (output_length s bytes) longest_file _ noted.file_fits) (free true legal)))) in
       let change : Change = record { steps = even (steps_of shift); tag = Some bytes } in (
         change,
         ap (λ (r : Result TagFields FileTagFault). then_made (tag_read r) (λ tag. then_made (noted_undo (tag_at s) (undo_from 32 tag.items)) (noted_change shift s tag))) noted.read
@@ -320,7 +303,7 @@ module _ (shift : Shift) (file : List ℕ) (s : SurveyFields) where
   unfolding gain_change
   legal-plain legal =
       let change : Change = record { steps = even (steps_of shift); tag = None } in
-      (change, ap (λ (o : Option Refusal). unless o change) (none-else (channel_fault shift s) (range_fault (even (steps_of shift)) s.frames) (change-none shift.channels s legal.channels) (free false legal)))
+      (change, ap (λ (o : Option Refusal). unless o change) (none_both (channel_fault shift s) (range_fault (even (steps_of shift)) s.frames) (change-none shift.channels s legal.channels) (free false legal)))
 
   pub legal-gain : (tags : Bool) → IsLegalGain shift tags input → (change : Change) × (gain_change shift tags file s ≡ Ok change)
   unfolding gain_change
@@ -334,7 +317,7 @@ undo-legal file s change e =
     let parts = undone-parts file s change e in
     record {
       tag = parts.tag;
-      read = read-ok (file_tag file s) parts.tag parts.read;
+      read = read_ok (file_tag file s) parts.tag parts.read;
       undo = parts.undo;
       item = found-ok (tag_at s) (undo_from 32 parts.tag.items) parts.undo parts.item;
       gains = free-moves (even (undo_steps parts.undo)) (λ i. undo_steps parts.undo) s.frames (even-agree (undo_steps parts.undo) s.frames) parts.free;

@@ -21,7 +21,7 @@ use Rattle.sync_survey.specs.Faults.{SurveyFields, class_from, surveyed_freely, 
 use Rattle.sync_survey.specs.Survey.{survey_of}
 use Rattle.sync_survey.proofs.FaultsLaws.{marked-length}
 use Rattle.sync_survey.proofs.FoldersLaws.{survey_of-short}
-use Rattle.sync_survey.proofs.SurveyParts.{AreSound, frames_from, surveyed-parts, surveyed-told, surveyed-allowed, all_faults-none_sound, sound-no_all_faults}
+use Rattle.sync_survey.proofs.SurveyParts.{AreSound, frames_from, surveyed-parts, surveyed-told, surveyed-allowed, all_faults-none_sound, sound-no_all_faults, sound_allowed, some_frames}
 use Rattle.sync_survey.proofs.SurveyedFiles.{survey_of-parts}
 use Rattle.commands.specs.Command.{clash_from}
 use Rattle.commands.proofs.MakeLaws.{no_clash}
@@ -66,11 +66,6 @@ apart_no-clash outputs (name ∷ names) place apart =
 
 -- ---- surveys
 
-few-sound : (file : List ℕ) (head : Option Head) (class : ClassFields) (allowed other : ℕ) (rows : List Row) → length rows ≤ other → AreSound file head class allowed rows → AreSound file head class other rows
-few-sound file head class allowed other rows few sound = λ i r is.
-    let here = sound i r is in
-    record { same = here.same; word = here.word; main = here.main; few = ne_eqb i other (λ e. omega (arith, few, e, slice_get_within rows i r is)) }
-
 -- a file that is no longer than allowed and has no fault where `allowed` frames are allowed
 pub record IsWhole (file : List ℕ) (allowed : ℕ) (s : SurveyFields) : Type 0 where
   pub long : length file ≤ longest_file
@@ -99,16 +94,10 @@ whole-survey file allowed s whole =
     ∙ surveyed-told file allowed start (record {
       start_is = read.start_is;
       frames = sound-no_all_faults file head (class_from start) allowed rows
-          (few-sound file head (class_from start) (length file + 1) allowed rows (omega (arith, whole.few, size)) (all_faults-none_sound file head (class_from start) (length file + 1) rows read.frames));
+          (sound_allowed file head (class_from start) (length file + 1) allowed rows (omega (arith, whole.few, size)) (all_faults-none_sound file head (class_from start) (length file + 1) rows read.frames));
       end = read.end;
     })
     ∙ ap Ok parts.2
-
--- such a file has a frame
-end-frames : (file : List ℕ) (frames : List PlacedFrame) (o : Option SurveyFault) → end_fault file frames o ≡ None → 0 < length frames
-end-frames file (p ∷ ps) o e = omega arith
-end-frames file [] None e = absurd cc
-end-frames file [] (Some fault) e = absurd cc
 
 pub some-frames : (file : List ℕ) (allowed : ℕ) (s : SurveyFields) → survey_of file allowed ≡ Ok s → 0 < length s.frames
 some-frames file allowed s e =
@@ -116,7 +105,7 @@ some-frames file allowed s e =
     let frames = frames_from file parts.0 in
     let head = head_of file parts.0.first in
     let size : length s.frames ≡ length (rows_of file frames) = ap (λ (t : SurveyFields). length t.frames) (sym parts.2) ∙ marked-length head (rows_of file frames) in
-    omega (arith, size, length-map frames (row_of file), end-frames file frames _ parts.1.end)
+    omega (arith, size, length-map frames (row_of file), some_frames file frames _ parts.1.end)
 
 -- ---- one input
 

@@ -17,6 +17,7 @@ use Rattle.commands.specs.Refusing.{then_made}
 use Rattle.commands.proofs.RefusingLaws.{then_ok}
 use Rattle.joining.specs.Join.{whole_part, may_follow, part_by, part_of, parts_from, parts_of}
 use Rattle.joining.specs.Inputs.{Follows}
+use Rattle.joining.proofs.InputLaws.{follows-may}
 use Rattle.legality.specs.Inputs.{Input, AreInputs, frames_of}
 use Rattle.legality.specs.Choices.{AreOfOneClass}
 use Rattle.legality.proofs.InputLaws.{survey-whole, whole-survey, survey-input}
@@ -60,10 +61,6 @@ class-one (input ∷ inputs) one = (tt, class-follow input.survey.class inputs (
 may-follows : (first : Option ClassFields) (class : ClassFields) → may_follow first class ≡ true → Follows first class
 may-follows None class may = tt
 may-follows (Some first) class may = same_class-is class first may
-
-follows-may : (first : Option ClassFields) (class : ClassFields) → Follows first class → may_follow first class ≡ true
-follows-may None class follows = refl
-follows-may (Some first) class follows = ap (λ c. same_class c first) follows ∙ same-class first
 
 pub record IsPart (first : Option ClassFields) (allowed : ℕ) (o : Option (List ℕ)) (part : Part) : Type 0 where
   pub file : List ℕ

@@ -36,7 +36,7 @@ use Rattle.packing.specs.Packing.{Planning, needs_of, laid_as, packed, packing}
 use Rattle.packing.specs.Rates.{named, is_rate, menu_in, no_rate, fitted, rates_plan}
 use Rattle.packing.specs.Rules.{best_planning}
 use Rattle.packing.proofs.MenuLaws.{menu-ascends, menu-some}
-use Rattle.packing.proofs.PlanLaws.{rows-some, rows-same, rows-sound, never-unfit, plan-is}
+use Rattle.packing.proofs.PlanLaws.{rows-some, rows-same, rows-sound, never-unfit, plan-is, fitted-ok}
 use Rattle.legality.specs.Choices.{IsRate, HasRoom}
 use Rattle.legality.proofs.InputLaws.{some-frames}
 use Rattle.legality.proofs.SplitLaws.{within-ok}
@@ -86,10 +86,6 @@ rate-none rates class is =
     (kept-some (λ slot. rate_of class slot == named rates) is.0 (eq-eqb (rate_of class is.0) (named rates) is.2) all_slots is.1.0 is.1.1 is.1.2))
 
 -- ---- a plan
-
-fitted-ok : (r : Result (List Placed) ℕ) (placed : List Placed) → fitted r ≡ Ok placed → r ≡ Ok placed
-fitted-ok (Ok found) placed e = cc
-fitted-ok (Err i) placed e = absurd cc
 
 laid : (window : ℕ) (menu : List SlotFields) (needs : List Need) (placed : List Placed) → IsMenuPlan window menu needs placed → (lead_in : Bool) × CanBeLaidFrom window lead_in menu needs
 unfolding CanBeLaid

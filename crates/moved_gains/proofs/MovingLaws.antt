@@ -28,6 +28,7 @@ use Rattle.sync_survey.proofs.StartLaws.{start-first, start-front}
 use Rattle.sync_survey.proofs.SurveyLaws.{surveyed-is, walked, overhead-within}
 use Rattle.file_tag.proofs.WholeFiles.{front_end-is}
 use Rattle.sync_survey.proofs.ItemLists.{ends-within}
+use Rattle.sync_survey.proofs.StepLaws.{laid_end}
 use Rattle.file_tag.proofs.FoundTag.{survey_of-surveyed}
 use Rattle.moved_gains.specs.declared.shift.Steps.{Steps}
 use Rattle.moved_gains.specs.Gains.{moved_side}
@@ -192,11 +193,6 @@ written-edited steps file allowed s e =
     ap₂ (λ (l m : List ℕ). l ++ m) (ap (λ n. take n file) junk ∙ sym (front_bytes file)) moved
 
 -- ---- frames one after the other
-
--- they end where they may be
-pub laid_end : (from : ℕ) (rows : List Row) (to : ℕ) → AreLaid from rows to → from ≤ to
-laid_end from [] to laid = laid
-laid_end from (row ∷ rows) to laid = omega (arith, laid.0, laid_end (row_end row) rows to laid.2)
 
 -- ---- a survey over a folder
 

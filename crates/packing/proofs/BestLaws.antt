@@ -17,8 +17,9 @@ use Rattle.best_plan.specs.BestOf.{best_plan_of}
 use Rattle.best_plan.proofs.BestOfLaws.{best-plan-of}
 use Rattle.best_plan.proofs.ExistsLaw.{best-exists}
 use Rattle.part_needs.specs.Fit.{IsPlaced, any_choice}
-use Rattle.part_needs.proofs.PartsLaws.{parts_are}
+use Rattle.part_needs.proofs.PartsLaws.{parts_are, one_class}
 use Rattle.laying.proofs.FitLaws.{Asks, items-fit, asks-each}
+use Rattle.laying.proofs.PlannedFrames.{slot_among}
 use Rattle.sync_survey.specs.Faults.{SurveyFields}
 use Rattle.frame_edits.specs.declared.chosen.Slots.TheVariants.{Least}
 use Rattle.frame_edits.specs.Chosen.{Chosen, chosen_rows, plan_of}
@@ -27,7 +28,7 @@ use Rattle.frame_edits.proofs.LaidLaws.{AreOpen, open-in_slots}
 use Rattle.packing.specs.Packing.{needs_of}
 use Rattle.packing.specs.Rules.{best_planning}
 use Rattle.packing.proofs.MenuLaws.{all-slots}
-use Rattle.packing.proofs.PlanLaws.{IsFittingFew, for-length, one-class, window-is}
+use Rattle.packing.proofs.PlanLaws.{IsFittingFew, for-length, window-is}
 
 -- ---- by a best plan frames can be laid
 
@@ -37,18 +38,15 @@ asks-behind false needs = asks-each any_choice needs
 asks-behind true [] = tt
 asks-behind true (first ∷ needs) = ((refl, refl, refl), asks-each any_choice (first ∷ needs))
 
-any-slot : (slot : SlotFields) → Contains all_slots slot → IsSlot slot
-any-slot slot has = subst IsSlot has.2 (all-slots has.0 slot has.1)
-
 open-needs : (needs : List Need) → AreOpen (map (item_of any_choice) needs)
 open-needs [] = tt
-open-needs (need ∷ needs) = (any-slot, open-needs needs)
+open-needs (need ∷ needs) = (slot_among, open-needs needs)
 
 open-behind : (lead_in : Bool) (needs : List Need) → AreOpen (items_behind lead_in any_choice needs)
 unfolding items_behind
 open-behind false needs = open-needs needs
 open-behind true [] = tt
-open-behind true (first ∷ needs) = (any-slot, open-needs (first ∷ needs))
+open-behind true (first ∷ needs) = (slot_among, open-needs (first ∷ needs))
 
 behind-length : (lead_in : Bool) (needs : List Need) → length (items_behind lead_in any_choice needs) ≤ length needs + 1
 unfolding items_behind
@@ -72,7 +70,7 @@ best-fits window needs placed is =
 
 module _ (class : ClassFields) (needs given : List Need) (is : given ≡ needs) (same : AreOfClass class needs) where
   pub given-one : AreOfOneClass given
-  given-one = subst AreOfOneClass (sym is) (one-class class needs same)
+  given-one = subst AreOfOneClass (sym is) (one_class class needs same)
 
   module _ (some : 1 ≤ length needs) where
     pub given-feasible : IsFeasible (window_of class.version) (window_of class.version) (map own_frame needs) → IsFeasible (window_in given) (window_in given) (map own_frame given)

@@ -13,6 +13,7 @@ use Rattle.slot_plan.specs.declared.needs.Plan.{Plan}
 use Rattle.part_needs.specs.Needs.{Asked, need_of, asked_of, needs_of as needs_of_parts}
 use Rattle.part_needs.specs.Fit.{IsPlaced}
 use Rattle.part_needs.proofs.FitLaws.{AreKnown, part-fits, part-known}
+use Rattle.part_needs.proofs.PartsLaws.{one_class}
 use Rattle.rate_plan.specs.Menus.{from_menu, items_from, AreAscending, IsMenu, IsMenuPlan, IsUnfit, Refuses}
 use Rattle.rate_plan.specs.declared.fault.RateFault.{RateFault}
 use Rattle.rate_plan.specs.declared.fault.RateFault.TheVariants.{Unfit, Memory as NoMemory}
@@ -88,7 +89,7 @@ menu-fitting window menu needs placed slots is =
 
 -- ---- with the slots of some bit rates
 
-fitted-ok : (r : Result (List Placed) ℕ) (placed : List Placed) → fitted r ≡ Ok placed → r ≡ Ok placed
+pub fitted-ok : (r : Result (List Placed) ℕ) (placed : List Placed) → fitted r ≡ Ok placed → r ≡ Ok placed
 fitted-ok (Ok first) placed is = cc
 fitted-ok (Err i) placed is = absurd cc
 
@@ -113,11 +114,6 @@ rates-fitting rates class needs placed sound same some planned =
 
 -- ---- what the planner answers
 
-pub one-class : (class : ClassFields) (needs : List Need) → AreOfClass class needs → AreOfOneClass needs
-unfolding AreOfClass
-one-class class [] same = tt
-one-class class (first ∷ needs) same = subst (λ c. AreOfClass c needs) (sym same.0) same.1
-
 pub window-is : (class : ClassFields) (needs : List Need) → AreOfClass class needs → 1 ≤ length needs → window_in needs ≡ window_of class.version
 unfolding AreOfClass
 window-is class [] same some = absurd (omega (arith, some))
@@ -139,7 +135,7 @@ given-needs rows parts needs same is = is ∙ ap (λ (a : Asked). a.needs) same 
 
 module _ (class : ClassFields) (menu : List SlotFields) (needs given : List Need) (is : given ≡ needs) (same : AreOfClass class needs) (ascend : AreAscending class menu) where
   pub given-class : AreOfOneClass given
-  given-class = subst AreOfOneClass (sym is) (one-class class needs same)
+  given-class = subst AreOfOneClass (sym is) (one_class class needs same)
 
   pub given-menu : IsMenu menu given
   given-menu = subst (IsMenu menu) (sym is) (is-menu class menu needs same ascend)

@@ -70,7 +70,7 @@ unfolding needs_of AreOfClass
 class_all class [] all = tt
 class_all class (rows ∷ parts) all = class-append class (map need_of rows) (needs_of parts) all.0.all (class_all class parts all.1)
 
-one_class : (class : ClassFields) (needs : List Need) → AreOfClass class needs → AreOfOneClass needs
+pub one_class : (class : ClassFields) (needs : List Need) → AreOfClass class needs → AreOfOneClass needs
 unfolding AreOfClass
 one_class class [] all = tt
 one_class class (need ∷ needs) all = subst (λ c. AreOfClass c needs) (sym all.0) all.1

@@ -1,5 +1,6 @@
 //! The parts of a plan, put together one after the other.
 ghost use Rattle.std.specs.Prelude.{◌≡◌, ◌+◌, ◌≤◌, List, [], ◌∷◌, ◌++◌, length, map, IfOk, OnOk, OnErr};
+ghost use Rattle.frame_header.specs.Limits.{most_frames};
 ghost use Rattle.slot_plan.specs.Parts.{window_in, parts_of};
 ghost use Rattle.slot_plan.specs.Plans.{IsPlan, entries};
 ghost use Rattle.sync_survey.specs.declared.rows.Row.{Row as RowFields};
@@ -111,7 +112,7 @@ impl Parts {
     /// Where there is no memory.
     pub fn plan<P: Policy>(&self, alloc: Global, policy: &P) -> Result<Plan, AllocError>
         requires planned { CanBePlanned self.now }
-        requires needs { length self.now.needs ≤ 2900000 }
+        requires needs { length self.now.needs ≤ most_frames }
         requires few { length self.now.places ≤ 64 }
         ensures { IfOk result (λ p. IsPlan (window_in self.now.needs) (P.choices_of policy.now)
             (parts_of self.now.needs self.now.places) (entries p)) }

@@ -13,6 +13,7 @@ use Rattle.slot_plan.specs.Reserve.{greatest, needed, needed_behind, free_behind
 use Rattle.slot_plan.proofs.ReserveLaws.{needed-can, can-needed}
 use Rattle.slot_plan.proofs.PartLaws.{next_need, needed-cons, behind-cons, nothing_needed, nothing_behind}
 use Rattle.slot_plan.proofs.PlacedLaws.{plan-placed}
+use Rattle.slot_plan.proofs.LeadInLaws.{within-tail}
 use Rattle.rate_plan.specs.Menus.{from_menu, items_from, CanBeLaidFrom, IsMenuPlan}
 use Rattle.rate_plan.specs.Placing.{NeedAtMost, HasReserves, Places}
 use Rattle.rate_plan.specs.MenuPlan.{most_area}
@@ -24,10 +25,6 @@ window-most Two = lit≤ tt
 window-most TwoFive = lit≤ tt
 
 -- ---- what is needed
-
-first-within : (window : ℕ) (o : Open) (opens : List Open) → AllWithin window (o ∷ opens) → (needed opens ≤ window) × AllWithin window opens
-unfolding AllWithin
-first-within window o opens all = all
 
 lead-needed : (class : ClassFields) (menu : List SlotFields) (opens : List Open) → needed (open_of (lead_in_of class menu) ∷ opens) ≡ (0 + needed opens) - greatest (areas_with class false menu)
 unfolding needed
@@ -42,7 +39,7 @@ laid-need window class menu (first ∷ needs) same some can =
     let opens : List Open = opens_in (from_menu menu) (first ∷ needs) in
     let lead : Open = open_of (lead_in_of (class_of first.header) menu) in
     let none = needed-can window (lead ∷ opens) can in
-    let within = first-within window lead opens none.1 in
+    let within = within-tail window lead opens none.1 in
     let room : needed opens ≤ greatest (areas_with (class_of first.header) false menu) = omega (arith, none.0, lead-needed (class_of first.header) menu opens) in
     (record { before = within.0; behind = within.1 }, subst (λ c. needed opens ≤ greatest (areas_with c false menu)) same.0 room)
 
@@ -50,7 +47,7 @@ pub need-from : (window : ℕ) (menu : List SlotFields) (needs : List Need) (k :
 need-from window menu needs zero most = most
 need-from window menu [] (suc k) most = most
 need-from window menu (need ∷ needs) (suc k) most =
-    let behind = first-within window (open_of (item_of (from_menu menu) need)) (opens_in (from_menu menu) needs) most.behind in
+    let behind = within-tail window (open_of (item_of (from_menu menu) need)) (opens_in (from_menu menu) needs) most.behind in
     need-from window menu needs k (record { before = behind.0; behind = behind.1 })
 
 -- ---- backwards

@@ -1,6 +1,7 @@
 //! The plan from a menu.
 ghost use Rattle.std.specs.Prelude.{◌≤◌, true, length, IfOk, IfErr};
 ghost use Rattle.frame_header.specs.Tables.{window_of};
+ghost use Rattle.frame_header.specs.Limits.{most_frames};
 ghost use Rattle.slot_plan.specs.Parts.{window_in, AreOfClass, AreOfOneClass};
 ghost use Rattle.slot_plan.specs.Plans.{entries};
 ghost use Rattle.rate_plan.specs.Menus.{AreAscending, IsMenu, CanBeLaidFrom, IsMenuPlan, Refuses};
@@ -20,7 +21,7 @@ use std::alloc::{AllocError, Global};
 fn fit_plan(alloc: Global, class: Class, needs: &[Need], menu: &[Slot]) -> Result<Plan, AllocError>
     requires class { AreOfClass class needs.now }
     requires some { 1 ≤ length needs.now }
-    requires few { length needs.now ≤ 2900000 }
+    requires few { length needs.now ≤ most_frames }
     requires slots { 1 ≤ length menu.now }
     requires ascending { AreAscending class menu.now }
     requires fits { CanBeLaidFrom (window_of class.version) true menu.now needs.now }
@@ -53,7 +54,7 @@ fn fit_plan(alloc: Global, class: Class, needs: &[Need], menu: &[Slot]) -> Resul
 pub fn rate_plan(alloc: Global, needs: &[Need], menu: &[Slot]) -> Result<Plan, RateFault>
     requires class { AreOfOneClass needs.now }
     requires some { 1 ≤ length needs.now }
-    requires few { length needs.now ≤ 2900000 }
+    requires few { length needs.now ≤ most_frames }
     requires slots { 1 ≤ length menu.now }
     requires ascending { IsMenu menu.now needs.now }
     ensures plan { IfOk result (λ plan.

@@ -2,6 +2,7 @@
 //! slot.
 ghost use Rattle.std.specs.Prelude.{◌≤◌, true, length, MatchOption};
 ghost use Rattle.frame_header.specs.Tables.{window_of};
+ghost use Rattle.frame_header.specs.Limits.{most_frames};
 ghost use Rattle.slot_plan.specs.Parts.{AreOfClass};
 ghost use Rattle.rate_plan.specs.Menus.{AreAscending, CanBeLaidFrom, IsUnfit};
 
@@ -13,7 +14,7 @@ use slot_plan::{Need, free_behind};
 pub(crate) fn first_unfit(class: Class, needs: &[Need], menu: &[Slot]) -> Option<u32>
     requires class { AreOfClass class needs.now }
     requires some { 1 ≤ length needs.now }
-    requires few { length needs.now ≤ 2900000 }
+    requires few { length needs.now ≤ most_frames }
     requires slots { 1 ≤ length menu.now }
     requires ascending { AreAscending class menu.now }
     ensures { MatchOption result

@@ -23,7 +23,7 @@ use Rattle.sync_survey.specs.Faults.{SurveyFields, has_wrong_word, overlaps, ove
 use Rattle.sync_survey.proofs.RunsLaws.{item_of-is, run-ends, frames-next}
 use Rattle.sync_survey.proofs.StartLaws.{start_is, start-front, first_of-is, anchored_frame-is}
 use Rattle.sync_survey.proofs.WalkLaws.{numbered-frames, numbered-blocks, numbered-stop, no_fault, nothing_left}
-use Rattle.sync_survey.proofs.SurveyParts.{frames_from, told_from, surveyed-parts, StandWell, AreSound, all_faults-none_sound}
+use Rattle.sync_survey.proofs.SurveyParts.{frames_from, told_from, surveyed-parts, StandWell, AreSound, all_faults-none_sound, some_frames}
 use Rattle.sync_survey.proofs.FaultsLaws.{marked-length}
 use Rattle.sync_survey.proofs.Progress.{first_of_stream}
 use Rattle.salvage.specs.declared.usable.Role.{Role}
@@ -33,7 +33,7 @@ use Rattle.salvage.specs.Walk.{is_read, if_read, item_read, first_frame, IsItem,
 use Rattle.salvage.specs.Sound.{FrameRuns, runs_of, is_sound, sound_end, end_of_sound, judged_row, judged, judged_runs}
 use Rattle.salvage.specs.Damaged.{DamagedFields, damaged_from, things_from, gap_between, with_number, damaged_by, damaged}
 use Rattle.salvage.proofs.WalkLaws.{things-item, things-past}
-use Rattle.salvage.proofs.SearchLaws.{first_here, not_usable, next_usable-some}
+use Rattle.salvage.proofs.SearchLaws.{first_here, not_usable, next_usable-some, first_later}
 use Rattle.salvage.specs.Laws.{SalvageKeepsStreams}
 use Rattle.salvage.proofs.ProgressLaws.{few_counted}
 
@@ -212,10 +212,6 @@ usable_here : (file : List ℕ) (role : Role) (at : ℕ) (p : PlacedFrame) → a
 unfolding usable_anchored
 usable_here file role at p here usable = ap (if_usable file role) here ∙ ap (λ b. cond b (Some p) None) usable
 
-first_later : (file : List ℕ) (front_end : ℕ) → option_and_then (frame_as front_end) (item_read file First front_end) ≡ None → first_frame file front_end ≡ next_usable file First (front_end + 1)
-unfolding first_frame
-first_later file front_end none = ap (λ o. option_or o (next_usable file First (front_end + 1))) none
-
 module _ (file : List ℕ) (at : ℕ) (start : Start) (within : start.first.offset + size_of (Frame start.first.header) ≤ length file) (usable : is_usable First start.first (drop start.first.offset file) ≡ true) where
   junk_first : (item : Item) → item_at file at ≡ item → ((h : HeaderFields) → item ≡ Frame h → ⊥) → first_anchored longest_junk file (at + 1) ≡ Some start.first → 0 < size_of (Frame start.first.header) → first_frame file at ≡ Some start.first
   unfolding first_anchored
@@ -284,11 +280,6 @@ told_read file start ps front are frames blocks marks =
       };
       gaps = gaps i;
     }
-
-some_frames : (file : List ℕ) (frames : List PlacedFrame) (o : Option SurveyFault) → end_fault file frames o ≡ None → 0 < length frames
-some_frames file (p ∷ ps) o e = omega arith
-some_frames file [] None e = absurd cc
-some_frames file [] (Some fault) e = absurd cc
 
 length_rows : (file : List ℕ) (ps : List PlacedFrame) → length (rows_of file ps) ≡ length ps
 length_rows file [] = refl

@@ -1,14 +1,13 @@
 -- The main data of the frames that are kept are where they may be among those of all runs.
 use Rattle.std.proofs.Common.{◌≡◌, ℕ, zero, suc, ◌+◌, ◌-◌, ◌≤◌, ◌&&◌, ◌||◌, Bool, true, false, cond, not, List, [], ◌∷◌, ◌++◌, length, length-append, Option, Some, inl, inr, refl, sym, ◌∙◌, ap, ap₂, subst, arith}
 use Rattle.std.specs.Prelude.{slice_get}
-use Rattle.std.proofs.lemmas.Bool.{ltb-false, le-ltb, cases_lt}
+use Rattle.std.proofs.lemmas.Bool.{ltb-false, le-ltb, cases_lt, and_parts}
 use Rattle.std.proofs.lemmas.Option.{slice_get_within}
 use Rattle.side_info.specs.Side.{payload_bytes}
 use Rattle.sync_survey.specs.declared.places.Head.{Head}
 use Rattle.sync_survey.specs.declared.rows.Row.{Row}
 use Rattle.sync_survey.specs.declared.rows.Before.{Before}
 use Rattle.sync_survey.specs.MainData.{own_area, head_area, place, is_silent, end_of_data}
-use Rattle.sync_survey.proofs.RunsLaws.{both}
 use Rattle.sync_survey.proofs.FaultsLaws.{get_more, get_next, place-more, place-next, place-none}
 use Rattle.salvage.specs.Sound.{is_sound}
 use Rattle.salvage.specs.Judged.{judged_by, before_next, none_before}
@@ -31,8 +30,8 @@ not_false false is = absurd cc
 
 pub sound_within : (place ended : ℕ) (r : Row) → is_sound place ended r ≡ true → IsWithin place ended r
 sound_within place ended r is =
-    let parts = both _ _ is in
-    let front = both _ _ parts.0 in
+    let parts = and_parts _ _ is in
+    let front = and_parts _ _ parts.0 in
     record {
       begins = ltb-false _ _ (not_true _ front.0);
       apart = ltb-false _ _ (not_true _ front.1);

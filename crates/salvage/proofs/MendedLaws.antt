@@ -2,7 +2,7 @@
 use Rattle.std.proofs.Common.{◌≡◌, ℕ, zero, suc, ◌+◌, ◌-◌, ◌≤◌, ◌<◌, ◌==◌, ◌&&◌, ◌||◌, Bool, true, false, cond, List, [], ◌∷◌, ◌++◌, length, map, take, drop, get_or, Option, Some, None, refl, sym, ◌∙◌, ap, ap₂, subst, arith, append_assoc, append-nil}
 use Rattle.std.specs.Prelude.{slice_get, sum_by, option_map, option_to_list}
 use Rattle.std.proofs.Math.ListN.{set}
-use Rattle.std.proofs.lemmas.Bool.{le-ltb}
+use Rattle.std.proofs.lemmas.Bool.{le-ltb, and_parts}
 use Rattle.std.proofs.lemmas.Option.{slice_get-map}
 use Rattle.std.proofs.lemmas.List.{take-map, length-map, drop_more, drop_all, take_more, set_at, map-append, length-take-le}
 use Rattle.std.proofs.lemmas.List.Sums.{sum_by-cons}
@@ -16,7 +16,7 @@ use Rattle.sync_survey.specs.declared.survey_fault.SurveyFault.{SurveyFault}
 use Rattle.sync_survey.specs.MainData.{own_area, head_area, place, is_silent, points_too_far, lacks_data, end_of_data, end_behind, end_before}
 use Rattle.sync_survey.specs.Faults.{overlaps, overruns, data_faults}
 use Rattle.sync_survey.specs.Survey.{AreLaid, IsWellPlaced, AreWellPlaced, IsLaidOut as IsLaidSurvey}
-use Rattle.sync_survey.proofs.RunsLaws.{both, cons_list}
+use Rattle.sync_survey.proofs.RunsLaws.{cons_list}
 use Rattle.salvage.specs.declared.mended.Emptied.{Emptied}
 use Rattle.salvage.specs.Sound.{is_sound}
 use Rattle.salvage.specs.Kept.{kept_end, end_of_kept, AreKeptWell}
@@ -67,8 +67,8 @@ well_by place ended r true is before sound =
       kept = refl;
     })
 well_by place ended r false is before sound =
-    let parts = both _ _ (sound is) in
-    let front = both _ _ parts.0 in
+    let parts = and_parts _ _ (sound is) in
+    let front = and_parts _ _ parts.0 in
     subst (IsWell place ended) (sym (mended-false r is)) (record { far = not_true _ front.0; apart = not_true _ front.1; within = not_true _ parts.1; kept = is })
 
 no_faults : (lacks far apart within : Bool) (x y z : SurveyFault) → far ≡ false → apart ≡ false → within ≡ false → cond lacks [] (cond far (x ∷ []) [] ++ cond apart (y ∷ []) [] ++ cond within (z ∷ []) []) ≡ []

@@ -17,9 +17,9 @@ use Rattle.sync_survey.specs.Runs.{block_as}
 use Rattle.sync_survey.specs.MainData.{row_in, own_area}
 use Rattle.sync_survey.specs.Looks.{Shows}
 use Rattle.sync_survey.specs.Survey.{AreLaid, BlocksAreLaid}
-use Rattle.sync_survey.proofs.RunsLaws.{both, kept_more, kept_whole}
+use Rattle.sync_survey.proofs.RunsLaws.{kept_more, kept_whole}
 use Rattle.sync_survey.proofs.FrontLaws.{blocks_more, pieces_later}
-use Rattle.sync_survey.proofs.StepLaws.{row_shown, item_header, laid_later}
+use Rattle.sync_survey.proofs.StepLaws.{row_shown, item_header, laid_later, laid_push, area_within}
 use Rattle.sync_survey.proofs.PlacedRows.{same_class-is}
 use Rattle.sync_survey.specs.declared.survey_fault.SurveyFault.{SurveyFault}
 use Rattle.sync_survey.specs.declared.survey_fault.SurveyFault.TheVariants.{NoFrame, TooManyFrames}
@@ -35,7 +35,7 @@ use Rattle.salvage.specs.Judged.{judged_by, before_next, none_before, rows_in, b
 use Rattle.salvage.specs.Steps.{admits_item}
 use Rattle.salvage.specs.Progress.{class_in, BeginsSo, whole_of, told_of, IsReadTo, GapsAreLaid, AreOfClass, IsLaidTo, IsLaidOut}
 use Rattle.salvage.specs.Damaged.{DamagedFields, damaged_from, unless_too_many, counted, with_number, damaged_by, damaged, damaged_of, most_frames}
-use Rattle.std.proofs.lemmas.Bool.{ltb-true}
+use Rattle.std.proofs.lemmas.Bool.{ltb-true, and_parts}
 use Rattle.std.specs.Prelude.{IfSome}
 use Rattle.sync_survey.specs.declared.places.Head.{Head}
 use Rattle.sync_survey.specs.declared.runs.Part.TheVariants.{Front}
@@ -129,10 +129,6 @@ read_whole file b found so_far end =
 
 -- ---- where things are
 
-rows_push : (from : ℕ) (rows : List Row) (to later : ℕ) (r : Row) → AreLaid from rows to → SideFits (class_of r.header) r.side → to ≤ r.offset → r.offset + length_of (class_of r.header) r.header.slot ≤ later → AreLaid from (rows ++ r ∷ []) later
-rows_push from [] to later r laid fits low high = (omega (arith, laid, low), fits, high)
-rows_push from (q ∷ rows) to later r laid fits low high = (laid.0, laid.1, rows_push (q.offset + length_of (class_of q.header) q.header.slot) rows to later r laid.2 fits low high)
-
 class_push : (class : ClassFields) (rows : List Row) (r : Row) → AreOfClass class rows → IsHeader r.header → class_of r.header ≡ class → AreOfClass class (rows ++ r ∷ [])
 class_push class [] r all known same = (known, same, tt)
 class_push class (q ∷ rows) r all known same = (all.0, all.1, class_push class rows r all.2 known same)
@@ -144,10 +140,6 @@ gaps_push from (q ∷ gaps) to later g laid low some high = (laid.0, laid.1, gap
 pub gaps_later : (from : ℕ) (gaps : List Gap) (to later : ℕ) → GapsAreLaid from gaps to → to ≤ later → GapsAreLaid from gaps later
 gaps_later from [] to later laid low = omega (arith, laid, low)
 gaps_later from (q ∷ gaps) to later laid low = (laid.0, laid.1, gaps_later (q.offset + q.length) gaps to later laid.2 low)
-
-area_within : (h : HeaderFields) → own_area h ≤ length_of (class_of h) h.slot
-unfolding area_of
-area_within h = omega arith
 
 same_items : {X : Type 0} (P : List X → Type 0) (old new : List X) → new ≡ old ++ [] → P old → P new
 same_items P old new same holds = subst P (sym (same ∙ append-nil old)) holds
@@ -194,7 +186,7 @@ module _ (b : Begun) (old new : Found) (laid : IsLaidTo b old) where
       record {
         rows =
             subst (λ l. AreLaid b.start.first.offset l new.at) (sym adds.rows)
-            (rows_push b.start.first.offset old.rows.items old.at new.at row laid.rows (fits-side_in h front (IsClass-class_of h known)) (omega arith) (omega (arith, least, here)));
+            (laid_push b.start.first.offset old.rows.items old.at new.at row laid.rows (fits-side_in h front (IsClass-class_of h known)) (omega arith) (omega (arith, least, here)));
         class = subst (AreOfClass (class_in b)) (sym adds.rows) (class_push (class_in b) old.rows.items row laid.class known same);
         pieces = same_items (λ l. BlocksAreLaid 0 l new.at) old.pieces.items new.pieces.items adds.pieces (pieces_later 0 old.pieces.items old.at new.at laid.pieces later);
         gaps = same_items (λ l. GapsAreLaid 0 l new.at) old.gaps.items new.gaps.items adds.gaps (gaps_later 0 old.gaps.items old.at new.at laid.gaps later);
@@ -207,7 +199,7 @@ module _ (b : Begun) (old new : Found) (laid : IsLaidTo b old) where
   -- whatever item it is that is kept
   pub item_laid : (item : Item) (size : ℕ) (front : List ℕ) → (length old.rows.items ≤ most_frames → length new.rows.items ≤ most_frames) → item ≡ item_front front → admits_item (Later (class_in b)) old.at item front ≡ true → size_of item ≤ size → old.at + size ≤ b.size → AddsItem item size front old new → IsLaidTo b new
   item_laid (Frame h) size front few is admits least within adds =
-      let same : class_of h ≡ class_in b = same_class-is (class_of h) (class_in b) (both _ _ admits).0 in
+      let same : class_of h ≡ class_in b = same_class-is (class_of h) (class_in b) (and_parts _ _ admits).0 in
       frame_laid h size front few (item_header front (Frame h) is h refl) same least within adds
   item_laid Free size front few is admits least within adds = other_laid Free size front least within refl refl adds
   item_laid (Block block) size front few is admits least within adds = other_laid (Block block) size front least within refl refl adds

@@ -1,6 +1,6 @@
 -- What the bytes of a frame say before its header is read.
 use Rattle.std.proofs.Common.{◌≡◌, ◌≢◌, ℕ, zero, suc, ◌+◌, ◌-◌, ◌*◌, ◌/◌, ◌%◌, ◌^◌, ◌<◌, ◌≤◌, ◌&&◌, ◌||◌, ◌==◌, ◌⊎◌, inl, inr, eqb, Bool, true, false, cond, not, List, [], ◌∷◌, length, take, drop, get_or, None, Ok, Err, refl, sym, ◌∙◌, ap, ap₂, subst, arith, codes, lit<, take_all, length-drop}
-use Rattle.std.proofs.lemmas.Bool.{false≢true, eqb-true, eqb-false, eq-eqb, ne_eqb}
+use Rattle.std.proofs.lemmas.Bool.{false≢true, eqb-true, eqb-false, eq-eqb, ne_eqb, and_parts}
 use Rattle.std.proofs.lemmas.List.{get_or-take, get_or-drop, drop-drop, length-take}
 use Rattle.std.proofs.lemmas.Slice.Eq.{bytes_eq-Decides}
 use Rattle.bit_fields.specs.Bits.{bits, number}
@@ -17,7 +17,6 @@ use Rattle.tag_blocks.specs.declared.block.Kind.{Kind}
 use Rattle.tag_blocks.specs.declared.block.Kind.TheVariants.{Id3v2, Id3v1, Ape}
 use Rattle.tag_blocks.specs.Blocks.{begins_with, is_id3v2, is_id3v1, is_ape, begins}
 use Rattle.tag_blocks.proofs.BlocksLaws.{block_front-begins}
-use Rattle.sync_survey.proofs.RunsLaws.{both}
 use Rattle.sync_survey.proofs.ItemsLaws.{stands}
 use Rattle.sync_survey.specs.declared.items.Item.{Item}
 use Rattle.sync_survey.specs.declared.items.Item.TheVariants.{Frame, Free, Block, Zero, End, Nothing}
@@ -125,10 +124,10 @@ module _ (a b c d : ℕ) (rest : List ℕ) (a_few : a < 256) (b_few : b < 256) (
   says_four : Says (a ∷ b ∷ c ∷ d ∷ rest) h
   unfolding is_readable header_fields
   says_four =
-      let parts = both _ _ read.readable in
-      let first = both _ _ parts.0 in
-      let front = both _ _ first.0 in
-      let marks = both _ _ front.0 in
+      let parts = and_parts _ _ read.readable in
+      let first = and_parts _ _ parts.0 in
+      let front = and_parts _ _ first.0 in
+      let marks = and_parts _ _ front.0 in
       let sync = sym (sync_is a b c d a_few b_few c_few d_few) ∙ eqb-true _ _ marks.0 in
       let version = version_is a b c d a_few b_few c_few d_few in
       let rate = rate_is a b c d a_few b_few c_few d_few in record {
@@ -243,8 +242,8 @@ not_zero m n e = ap not (ne_eqb m n e)
 same_parts : (c d : ClassFields) → same_class c d ≡ true → (version_number c.version ≡ version_number d.version) × (c.frequency_index ≡ d.frequency_index) × (c.channels ≡ d.channels)
 unfolding same_class
 same_parts c d e =
-    let parts = both _ _ e in
-    let front = both _ _ parts.0 in
+    let parts = and_parts _ _ e in
+    let front = and_parts _ _ parts.0 in
     (eqb-true _ _ front.0, eqb-true _ _ front.1, eqb-true _ _ parts.1)
 
 follows : (own next : List ℕ) (h g : HeaderFields) → Says own h → Says next g → same_class (class_of g) (class_of h) ≡ true → may_follow own next ≡ true
@@ -273,7 +272,7 @@ named bytes text long is e =
 
 id3v2_named : (bytes : List ℕ) → is_id3v2 bytes ≡ true → begins_with (codes "ID3") bytes ≡ true
 unfolding is_id3v2
-id3v2_named bytes is = (both _ _ (both _ _ (both _ _ (both _ _ is).0).0).0).1
+id3v2_named bytes is = (and_parts _ _ (and_parts _ _ (and_parts _ _ (and_parts _ _ is).0).0).0).1
 
 id3v1_named : (bytes : List ℕ) → is_id3v1 bytes ≡ true → begins_with (codes "TAG") bytes ≡ true
 unfolding is_id3v1
@@ -281,7 +280,7 @@ id3v1_named bytes is = is
 
 ape_named : (bytes : List ℕ) → is_ape bytes ≡ true → begins_with (codes "APETAGEX") bytes ≡ true
 unfolding is_ape
-ape_named bytes is = (both _ _ (both _ _ (both _ _ (both _ _ (both _ _ is).0).0).0).0).1
+ape_named bytes is = (and_parts _ _ (and_parts _ _ (and_parts _ _ (and_parts _ _ (and_parts _ _ is).0).0).0).0).1
 
 block_named : (kind : Kind) (bytes : List ℕ) → begins kind bytes ≡ true → may_begin_block (get_or bytes 0 0) (get_or bytes 1 0) (get_or bytes 2 0) ≡ true
 block_named Id3v2 bytes is = named bytes (codes "ID3") (lit< tt) (id3v2_named bytes is) refl

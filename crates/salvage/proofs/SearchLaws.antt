@@ -180,7 +180,7 @@ pub first_here : (file : List ℕ) (front_end : ℕ) (p : PlacedFrame) → optio
 unfolding first_frame
 first_here file front_end p here = ap (λ o. option_or o (next_usable file First (front_end + 1))) here
 
-first_later : (file : List ℕ) (front_end : ℕ) → option_and_then (frame_as front_end) (item_read file First front_end) ≡ None → first_frame file front_end ≡ next_usable file First (front_end + 1)
+pub first_later : (file : List ℕ) (front_end : ℕ) → option_and_then (frame_as front_end) (item_read file First front_end) ≡ None → first_frame file front_end ≡ next_usable file First (front_end + 1)
 unfolding first_frame
 first_later file front_end none = ap (λ o. option_or o (next_usable file First (front_end + 1))) none
 

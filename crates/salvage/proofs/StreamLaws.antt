@@ -27,6 +27,7 @@ use Rattle.salvage.specs.Walk.{first_frame}
 use Rattle.salvage.specs.Damaged.{DamagedFields, damaged_from, things_from, unless_too_many, counted, damaged_by, damaged, most_frames}
 use Rattle.sync_survey.specs.Start.{front_end_of}
 use Rattle.sync_survey.specs.Walk.{head_of}
+use Rattle.sync_survey.proofs.StepLaws.{laid_end}
 use Rattle.salvage.proofs.SoundLaws.{judged_from, judged-from}
 use Rattle.salvage.proofs.KeptLaws.{sound_within, not_false}
 
@@ -142,14 +143,10 @@ abbrev AreWhole : List ℕ → List Row → Type 0
 AreWhole file [] = Unit {0}
 AreWhole file (r ∷ rows) = (r.offset + length_of (class_of r.header) r.header.slot ≤ length file) × AreWhole file rows
 
-laid_low : (from : ℕ) (rows : List Row) (to : ℕ) → AreLaid from rows to → from ≤ to
-laid_low from [] to laid = laid
-laid_low from (r ∷ rows) to laid = omega (arith, laid.0, laid_low (r.offset + length_of (class_of r.header) r.header.slot) rows to laid.2)
-
 laid_whole : (file : List ℕ) (from : ℕ) (rows : List Row) (to : ℕ) → to ≤ length file → AreLaid from rows to → AreWhole file rows
 laid_whole file from [] to within laid = tt
 laid_whole file from (r ∷ rows) to within laid =
-    (omega (arith, within, laid_low (r.offset + length_of (class_of r.header) r.header.slot) rows to laid.2), laid_whole file (r.offset + length_of (class_of r.header) r.header.slot) rows to within laid.2)
+    (omega (arith, within, laid_end (r.offset + length_of (class_of r.header) r.header.slot) rows to laid.2), laid_whole file (r.offset + length_of (class_of r.header) r.header.slot) rows to within laid.2)
 
 whole_parts : (file : List ℕ) (xs ys : List Row) → AreWhole file (xs ++ ys) → AreWhole file xs × AreWhole file ys
 whole_parts file [] ys whole = (tt, whole)

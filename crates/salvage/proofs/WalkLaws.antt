@@ -14,7 +14,7 @@ use Rattle.sync_survey.specs.Items.{size_of}
 use Rattle.sync_survey.specs.Runs.{item_of, block_as}
 use Rattle.sync_survey.specs.Start.{anchored_frame}
 use Rattle.sync_survey.specs.Looks.{look_size, Shows}
-use Rattle.sync_survey.proofs.RunsLaws.{IsItemOf, item_of-is, item_of-whole, cons_list}
+use Rattle.sync_survey.proofs.RunsLaws.{IsItemOf, item_of-is, item_of-whole, cons_list, whole_cases}
 use Rattle.sync_survey.proofs.OneItem.{stands-only_at}
 use Rattle.sync_survey.proofs.StartLaws.{IsAnchoredAt, anchored_frame-is, first_of-is}
 use Rattle.salvage.specs.declared.usable.Role.{Role}
@@ -25,13 +25,9 @@ use Rattle.salvage.specs.Judged.{rows_in, before_behind, rows_left}
 
 -- ---- an item that is read
 
-read_cases : (b : Bool) (i item : Item) → cond b (Some i) None ≡ Some item → (b ≡ true) × (i ≡ item)
-read_cases true i item e = (refl, cc)
-read_cases false i item e = absurd cc
-
 read_by : (file : List ℕ) (role : Role) (at : ℕ) (o : Option Item) (item : Item) → item_of Stream file at ≡ o → if_read file role at o ≡ Some item → item_of Stream file at ≡ Some item
 read_by file role at None item is e = absurd cc
-read_by file role at (Some i) item is e = is ∙ ap Some (read_cases _ i item e).1
+read_by file role at (Some i) item is e = is ∙ ap Some (whole_cases _ i item e).1
 
 pub item_read-is : (file : List ℕ) (role : Role) (at : ℕ) (item : Item) → item_read file role at ≡ Some item → IsItemOf Stream file at item
 unfolding item_read

@@ -19,6 +19,7 @@ use Rattle.salvage.specs.Walk.{first_frame}
 use Rattle.salvage.specs.Damaged.{DamagedFields, unless_too_many, counted, damaged_by, damaged_from, damaged, damaged_of, IsReadOf, RefusesDamaged, IsReadFault, most_frames}
 use Rattle.salvage.specs.Mended.{mended_row}
 use Rattle.salvage.specs.Text.{salvage_text}
+use Rattle.salvage.proofs.ReadFaults.{damaged_of-short}
 use Rattle.commands.specs.declared.fault.EditFault.{EditFault}
 use Rattle.commands.specs.declared.fault.EditFault.TheVariants.{EqualNames, Input, Refused, Write, Sent as NotSent, Memory}
 use Rattle.commands.specs.Command.{Command, AreSound, HoldsStreams}
@@ -49,10 +50,6 @@ pub damaged_of-is : (file : List ℕ) (d : DamagedFields) → damaged_of file �
 unfolding damaged_of
 damaged_of-is file d e = length-by (ltb longest_file (length file)) (length file) (damaged file) d e
 
-short-is : (file : List ℕ) → length file ≤ longest_file → damaged_of file ≡ damaged file
-unfolding damaged_of
-short-is file few = ap (λ (b : Bool). cond b (Err (TooLong (length file))) (damaged file)) (le-ltb longest_file (length file) few)
-
 many-late : (file : List ℕ) (o : Option Row) (d : DamagedFields) → IfErr (made_by file (unless_too_many o d)) IsLate
 many-late file None d = tt
 many-late file (Some r) d = refl
@@ -71,7 +68,7 @@ damaged-late file = read-late file (front_end_of file) (first_frame file (front_
 
 pub salvage-late : (input : List ℕ) (f : Contents) (bytes : List ℕ) → f input ≡ Some bytes → length bytes ≤ longest_file → IfErr ((salvage_task input).makes f) IsLate
 salvage-late input f bytes held few =
-    subst (λ o. IfErr (made_where o) IsLate) (sym held) (subst (λ r. IfErr (made_by bytes r) IsLate) (sym (short-is bytes few)) (damaged-late bytes))
+    subst (λ o. IfErr (made_where o) IsLate) (sym held) (subst (λ r. IfErr (made_by bytes r) IsLate) (sym (damaged_of-short bytes few)) (damaged-late bytes))
 
 -- ---- a fault of the reading
 

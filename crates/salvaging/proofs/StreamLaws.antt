@@ -10,6 +10,7 @@ use Rattle.sync_survey.specs.declared.places.Head.{Head}
 use Rattle.sync_survey.specs.declared.rows.Row.{Row}
 use Rattle.sync_survey.specs.MainData.{place, start_of_data, side_of, no_slot, area_bytes, head_bytes, main_bytes, payload_at, parts_of, part_lengths, StreamFrame, stream_frame, stream_frames}
 use Rattle.sync_survey.specs.Faults.{SurveyFields, stream_of_survey, HoldsStream}
+use Rattle.sync_survey.proofs.SurveyParts.{stream-length}
 use Rattle.salvage.specs.Damaged.{DamagedFields, damaged}
 use Rattle.salvage.specs.Progress.{IsLaidOut}
 use Rattle.salvage.specs.Mended.{mended_row, mended}
@@ -67,11 +68,6 @@ stream-same file s =
     ∙ frames-same (main_bytes file s.head s.frames) s.head s.frames 0 s.frames
 
 -- ---- all frames
-
-stream-length : (file : List ℕ) (s : SurveyFields) → length (stream_of_survey file s) ≡ length s.frames
-unfolding stream_of_survey stream_frames
-stream-length file s =
-    length-map (enumerate_from 0 s.frames) (λ (p : ℕ × Row). stream_frame (main_bytes file s.head s.frames) s.head s.frames p.0 p.1) ∙ length-enumerate_from 0 s.frames
 
 whole-stream : (file : List ℕ) (s : SurveyFields) → slice_range (stream_of_survey file s) 0 (length s.frames) ≡ stream_of_survey file s
 whole-stream file s = ap (λ n. slice_range (stream_of_survey file s) 0 n) (sym (stream-length file s)) ∙ range-whole (stream_of_survey file s)

@@ -5,7 +5,7 @@ ghost use Rattle.outside.specs.Counts.{OnlyReads};
 ghost use Rattle.sync_survey.specs.Faults.{tells};
 ghost use Rattle.sync_survey.specs.Survey.{HoldsOctets, IsLaidOut as IsLaidSurvey};
 ghost use Rattle.commands.specs.Left.{seen};
-ghost use Rattle.commands.specs.One.{IsEarlyFault, IsOfInputs};
+ghost use Rattle.commands.specs.One.{most_frames, IsEarlyFault, IsOfInputs};
 ghost use Rattle.frame_edits.specs.Chosen.{chosen_in};
 ghost use Rattle.salvaging.specs.Salvaged.{all_of, salvage_task};
 ghost use Rattle.salvaging.specs.Ready.{IsMended, IsReady};
@@ -27,7 +27,7 @@ use sync_survey::Survey;
 fn read_input<D: Folder>(alloc: Global, folder: &mut D, input: &str) -> Result<Mended, EditFault>
     ensures mended { IfOk result (IsMended input.now (D.files folder.old)) }
     ensures laid { IfOk result (λ m. IsLaidSurvey (tells m.survey)) }
-    ensures few { IfOk result (λ m. length (tells m.survey).frames ≤ 2900000) }
+    ensures few { IfOk result (λ m. length (tells m.survey).frames ≤ most_frames) }
     ensures there { OnOk result (IsThere (D.files folder.old) input.now) }
     ensures octets { OnOk result (HoldsOctets input.now (D.files folder.old)) }
     ensures refused { IfErr result (IsEarlyFault (salvage_task input.now)

@@ -9,6 +9,7 @@ use Rattle.bit_fields.specs.Bits.{bits, bits_of, AreBits}
 use Rattle.bit_fields.proofs.BitsLaws.{AreBits-bits_of, bits-append, bits-one, bits-nil}
 use Rattle.side_info.specs.declared.division.TheConstants.{REMAINDERS, REMAINDERS_2, REMAINDERS_3, REMAINDERS_4, REMAINDERS_5, REMAINDERS_6, REMAINDERS_7, REMAINDERS_8}
 use Rattle.side_info.specs.CheckWord.{polynomial, bit_step, remainder}
+use Rattle.frame_header.proofs.Below.{all_below, all_below-pass}
 
 -- ---- one bit
 -- the divisor where a bit is 1
@@ -87,18 +88,6 @@ remainder-append [] ys word = refl
 remainder-append (x ∷ xs) ys word = remainder-append xs ys (bit_step word x)
 
 -- ---- tests of all numbers below a bound
-abbrev all_below : ℕ → (ℕ → Bool) → Bool
-all_below zero p = true
-all_below (suc n) p = p n && all_below n p
-
-same : (k n : ℕ) → k < suc n → n ≤ k → n ≡ k
-same k n lt at = omega arith
-
-passes : (n : ℕ) (p : ℕ → Bool) (k : ℕ) → all_below n p ≡ true → k < n → p k ≡ true
-passes zero p k h lt = absurd (omega arith)
-passes (suc n) p k h lt =
-    let parts = and_parts (p n) (all_below n p) h in
-    elim (cases_lt k n) as (λ _. p k ≡ true) [ inl below ↦ passes n p k parts.1 below | inr at ↦ subst (λ m. p m ≡ true) (same k n lt at) parts.0 ]
 
 abbrev eight_zeros : List ℕ
 eight_zeros = 0 ∷ 0 ∷ 0 ∷ 0 ∷ 0 ∷ 0 ∷ 0 ∷ 0 ∷ []
@@ -149,9 +138,9 @@ module _ (word byte : ℕ) (small : word < 2 ^ 16) (few : byte < 256) where
 
   pub remainder-byte : bit_xor (word * 256 % 65536) (get_or REMAINDERS (bit_xor (word / 256) byte) 0) ≡ remainder word (bits_of 8 byte)
   remainder-byte =
-      let gone : remainder (byte * 256) (bits_of 8 byte) ≡ 0 = eqb-true _ _ (passes 256 (λ b. eqb (remainder (b * 256) (bits_of 8 b)) 0) byte cancels few) in
-      let moved : remainder (word % 256) eight_zeros ≡ word % 256 * 256 = eqb-true _ _ (passes 256 (λ low. eqb (remainder low eight_zeros) (low * 256)) (word % 256) moves (mod_below word 256 (lit< tt))) in
-      let entry : remainder (left * 256) eight_zeros ≡ get_or REMAINDERS left 0 = eqb-true _ _ (passes 256 (λ b. eqb (remainder (b * 256) eight_zeros) (get_or REMAINDERS b 0)) left tabled left-below) in
+      let gone : remainder (byte * 256) (bits_of 8 byte) ≡ 0 = eqb-true _ _ (all_below-pass 256 (λ b. eqb (remainder (b * 256) (bits_of 8 b)) 0) byte cancels few) in
+      let moved : remainder (word % 256) eight_zeros ≡ word % 256 * 256 = eqb-true _ _ (all_below-pass 256 (λ low. eqb (remainder low eight_zeros) (low * 256)) (word % 256) moves (mod_below word 256 (lit< tt))) in
+      let entry : remainder (left * 256) eight_zeros ≡ get_or REMAINDERS left 0 = eqb-true _ _ (all_below-pass 256 (λ b. eqb (remainder (b * 256) eight_zeros) (get_or REMAINDERS b 0)) left tabled left-below) in
       let lowest : word * 256 % 65536 ≡ word % 256 * 256 = omega arith in
       sym (ap (λ w. remainder w (bits_of 8 byte)) parts
       ∙ remainder-xor (bits_of 8 byte) (byte * 256) (bit_xor (left * 256) (word % 256)) (AreBits-bits_of 8 byte)
@@ -172,7 +161,7 @@ behind-xor a b = remainder-xor eight_zeros a b zeros_are_bits
 -- a byte comes to the top of the word
 remainder-top : (word byte : ℕ) → byte < 256 → remainder word (bits_of 8 byte) ≡ behind (bit_xor word (byte * 256))
 remainder-top word byte few =
-    let gone : remainder (byte * 256) (bits_of 8 byte) ≡ 0 = eqb-true _ _ (passes 256 (λ b. eqb (remainder (b * 256) (bits_of 8 b)) 0) byte cancels few) in
+    let gone : remainder (byte * 256) (bits_of 8 byte) ≡ 0 = eqb-true _ _ (all_below-pass 256 (λ b. eqb (remainder (b * 256) (bits_of 8 b)) 0) byte cancels few) in
     let back : bit_xor (byte * 256) (bit_xor word (byte * 256)) ≡ word =
     ap (bit_xor (byte * 256)) (xor_comm word (byte * 256)) ∙ sym (xor_assoc (byte * 256) (byte * 256) word) ∙ ap (λ x. bit_xor x word) (xor_self (byte * 256)) in
     ap (λ w. remainder w (bits_of 8 byte)) (sym back)
@@ -221,28 +210,28 @@ tabled-8 = refl
 
 module _ (byte : ℕ) (few : byte < 256) where
   entry : behind (byte * 256) ≡ get_or REMAINDERS byte 0
-  entry = eqb-true _ _ (passes 256 (λ b. eqb (remainder (b * 256) eight_zeros) (get_or REMAINDERS b 0)) byte tabled few)
+  entry = eqb-true _ _ (all_below-pass 256 (λ b. eqb (remainder (b * 256) eight_zeros) (get_or REMAINDERS b 0)) byte tabled few)
 
   next-2 : behind (get_or REMAINDERS byte 0) ≡ get_or REMAINDERS_2 byte 0
-  next-2 = eqb-true _ _ (passes 256 (λ b. eqb (remainder (get_or REMAINDERS b 0) eight_zeros) (get_or REMAINDERS_2 b 0)) byte tabled-2 few)
+  next-2 = eqb-true _ _ (all_below-pass 256 (λ b. eqb (remainder (get_or REMAINDERS b 0) eight_zeros) (get_or REMAINDERS_2 b 0)) byte tabled-2 few)
 
   next-3 : behind (get_or REMAINDERS_2 byte 0) ≡ get_or REMAINDERS_3 byte 0
-  next-3 = eqb-true _ _ (passes 256 (λ b. eqb (remainder (get_or REMAINDERS_2 b 0) eight_zeros) (get_or REMAINDERS_3 b 0)) byte tabled-3 few)
+  next-3 = eqb-true _ _ (all_below-pass 256 (λ b. eqb (remainder (get_or REMAINDERS_2 b 0) eight_zeros) (get_or REMAINDERS_3 b 0)) byte tabled-3 few)
 
   next-4 : behind (get_or REMAINDERS_3 byte 0) ≡ get_or REMAINDERS_4 byte 0
-  next-4 = eqb-true _ _ (passes 256 (λ b. eqb (remainder (get_or REMAINDERS_3 b 0) eight_zeros) (get_or REMAINDERS_4 b 0)) byte tabled-4 few)
+  next-4 = eqb-true _ _ (all_below-pass 256 (λ b. eqb (remainder (get_or REMAINDERS_3 b 0) eight_zeros) (get_or REMAINDERS_4 b 0)) byte tabled-4 few)
 
   next-5 : behind (get_or REMAINDERS_4 byte 0) ≡ get_or REMAINDERS_5 byte 0
-  next-5 = eqb-true _ _ (passes 256 (λ b. eqb (remainder (get_or REMAINDERS_4 b 0) eight_zeros) (get_or REMAINDERS_5 b 0)) byte tabled-5 few)
+  next-5 = eqb-true _ _ (all_below-pass 256 (λ b. eqb (remainder (get_or REMAINDERS_4 b 0) eight_zeros) (get_or REMAINDERS_5 b 0)) byte tabled-5 few)
 
   next-6 : behind (get_or REMAINDERS_5 byte 0) ≡ get_or REMAINDERS_6 byte 0
-  next-6 = eqb-true _ _ (passes 256 (λ b. eqb (remainder (get_or REMAINDERS_5 b 0) eight_zeros) (get_or REMAINDERS_6 b 0)) byte tabled-6 few)
+  next-6 = eqb-true _ _ (all_below-pass 256 (λ b. eqb (remainder (get_or REMAINDERS_5 b 0) eight_zeros) (get_or REMAINDERS_6 b 0)) byte tabled-6 few)
 
   next-7 : behind (get_or REMAINDERS_6 byte 0) ≡ get_or REMAINDERS_7 byte 0
-  next-7 = eqb-true _ _ (passes 256 (λ b. eqb (remainder (get_or REMAINDERS_6 b 0) eight_zeros) (get_or REMAINDERS_7 b 0)) byte tabled-7 few)
+  next-7 = eqb-true _ _ (all_below-pass 256 (λ b. eqb (remainder (get_or REMAINDERS_6 b 0) eight_zeros) (get_or REMAINDERS_7 b 0)) byte tabled-7 few)
 
   next-8 : behind (get_or REMAINDERS_7 byte 0) ≡ get_or REMAINDERS_8 byte 0
-  next-8 = eqb-true _ _ (passes 256 (λ b. eqb (remainder (get_or REMAINDERS_7 b 0) eight_zeros) (get_or REMAINDERS_8 b 0)) byte tabled-8 few)
+  next-8 = eqb-true _ _ (all_below-pass 256 (λ b. eqb (remainder (get_or REMAINDERS_7 b 0) eight_zeros) (get_or REMAINDERS_8 b 0)) byte tabled-8 few)
 
 module _ (word a b : ℕ) (small : word < 2 ^ 16) (a_few : a < 256) (b_few : b < 256) where
   -- what meets the upper byte of the word, and what meets the lower
@@ -256,7 +245,7 @@ module _ (word a b : ℕ) (small : word < 2 ^ 16) (a_few : a < 256) (b_few : b <
   after_a =
       let low : word % 256 < 256 = mod_below word 256 (lit< tt) in
       let whole : word ≡ word / 256 * 256 + word % 256 = omega arith in
-      let moved : behind (word % 256) ≡ word % 256 * 256 = eqb-true _ _ (passes 256 (λ low. eqb (remainder low eight_zeros) (low * 256)) (word % 256) moves low) in
+      let moved : behind (word % 256) ≡ word % 256 * 256 = eqb-true _ _ (all_below-pass 256 (λ low. eqb (remainder low eight_zeros) (low * 256)) (word % 256) moves low) in
       remainder-top word a a_few
       ∙ ap behind (ap (λ w. bit_xor w (a * 256)) whole ∙ over (word / 256) (word % 256) a low)
       ∙ behind-xor (upper * 256) (word % 256)

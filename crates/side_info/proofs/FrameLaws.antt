@@ -130,7 +130,7 @@ put_protected h s frame put new is room first second =
     ∙ put_both frame word part size long (length-word (check_word_of h s))
     ∙ sym (frame_with-protected h s frame is)
 
-length-word_part : (h : HeaderFields) (s : Side) (b : Bool) → length (cond b (bytes (bits_of 16 (check_word_of h s))) []) + 4 ≡ side_place b
+pub length-word_part : (h : HeaderFields) (s : Side) (b : Bool) → length (cond b (bytes (bits_of 16 (check_word_of h s))) []) + 4 ≡ side_place b
 length-word_part h s true = ap (λ n. n + 4) (length-word (check_word_of h s))
 length-word_part h s false = refl
 

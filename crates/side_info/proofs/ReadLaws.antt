@@ -18,6 +18,7 @@ use Rattle.side_info.specs.Granule.{compress_width, preflag_width, granule_size,
 use Rattle.side_info.specs.Parts.{front_of, front_at, front_size, no_pair, pair_at, second_at, class_with}
 use Rattle.side_info.specs.Side.{channels_at, side_at}
 use Rattle.side_info.proofs.SideLaws.{each_class}
+use Rattle.side_info.proofs.WriteLaws.{preflag_most}
 
 -- ---- the fields before the granules
 total : (a b c d : ℕ) → sum (a ∷ b ∷ c ∷ d ∷ []) ≡ a + b + c + d
@@ -52,15 +53,10 @@ size-is One = refl
 size-is Two = refl
 size-is TwoFive = refl
 
-preflag-narrow : (version : Version) → preflag_width version ≤ 1
-preflag-narrow One = omega arith
-preflag-narrow Two = omega arith
-preflag-narrow TwoFive = omega arith
-
 -- preflag is all that is above the two lowest bits
 pub preflag_once : (version : Version) (last : ℕ) → last < 2 ^ (preflag_width version + 2) → last / 4 % 2 ≡ last / 4
 preflag_once version last small =
-    let most : 2 ^ preflag_width version ≤ 2 ^ 1 = pow_mono (preflag-narrow version) in
+    let most : 2 ^ preflag_width version ≤ 2 ^ 1 = pow_mono (preflag_most version) in
     mod-eq_of_lt (omega (arith, shr_below last (preflag_width version) 2 small, most))
 
 module _ (version : Version) (bs : List ℕ) (at first middle last : ℕ) (all : AreBits bs) (enough : at + granule_size version ≤ length bs) (first_small : first < 2 ^ 29) (middle_small : middle < 2 ^ (compress_width version + 23)) (last_small : last < 2 ^ (preflag_width version + 2)) (first_is : first ≡ group at 29 bs) (middle_is : middle ≡ group (at + 29) (compress_width version + 23) bs) (last_is : last ≡ group (at + 52 + compress_width version) (preflag_width version + 2) bs) where

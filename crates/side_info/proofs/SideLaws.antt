@@ -18,7 +18,7 @@ use Rattle.side_info.specs.declared.granule.Granule.{Granule}
 use Rattle.side_info.specs.declared.side.Side.{Side}
 use Rattle.side_info.specs.Parts.{class_with}
 use Rattle.side_info.specs.Granule.{compress_width, preflag_width, granule_size, granule_at, granule_bits, no_granule, GranuleFits}
-use Rattle.side_info.specs.Side.{front_widths, front_width, nth_granule, channels_at, granules_at, side_at, granules_in, side_bits, no_side, payload_bits, granule_in, has_granule, SideFits}
+use Rattle.side_info.specs.Side.{front_widths, front_width, nth_granule, channels_at, granules_at, side_at, granules_in, side_bits, no_side, payload_bits, granule_in, has_granule, SideFits, payload_bytes}
 use Rattle.side_info.proofs.GranuleLaws.{granules_from, length-flat, AreBits-flat, nth_granule-flat, flat-granules_from, GranuleFits-granule_at}
 
 -- ---- the combinations of version and channels
@@ -355,3 +355,8 @@ fits_with c m p a b g h k l front first second = record {
 
 pub SideFits-from_parts : (c : ClassFields) (s : Side) → IsShaped s → FrontFits c s → PairFits c s 0 → PairFits c s 1 → SideFits c s
 SideFits-from_parts c = each_shaped (λ s. FrontFits c s → PairFits c s 0 → PairFits c s 1 → SideFits c s) (fits_with c)
+
+-- the bytes of the main data hold their bits
+pub bits_least : (s : Side) → payload_bits s ≤ 8 * payload_bytes s
+unfolding payload_bytes
+bits_least s = omega arith

@@ -44,7 +44,7 @@ compress_most One = lit≤ tt
 compress_most Two = lit≤ tt
 compress_most TwoFive = lit≤ tt
 
-preflag_most : (version : Version) → preflag_width version ≤ 1
+pub preflag_most : (version : Version) → preflag_width version ≤ 1
 preflag_most One = lit≤ tt
 preflag_most Two = lit≤ tt
 preflag_most TwoFive = lit≤ tt

@@ -198,9 +198,9 @@ greatest-all c p class =
     (sym (get_or-place_of largest_slot largest_slot (lit≤ tt, lit≤ tt)) ∙ ap (λ n. get_or all_slots (n - 1) largest_slot) (sym length-all_slots))
 
 -- ---- the one slot of a frame that keeps its own
-only : (slot other : SlotFields) → Contains (slot ∷ []) other → slot ≡ other
-only slot other (zero, within, at) = at
-only slot other (suc k, within, at) = absurd (omega arith)
+pub only_one : (slot other : SlotFields) → Contains (slot ∷ []) other → slot ≡ other
+only_one slot other (zero, within, at) = at
+only_one slot other (suc k, within, at) = absurd (omega arith)
 
 pub greatest-one : (n : ℕ) → greatest (n ∷ []) ≡ n
 unfolding greatest
@@ -210,5 +210,5 @@ pub least-one : (wanted : ℕ) (c : ClassFields) (p : Bool) (slot : SlotFields) 
 least-one wanted c p slot enough = record {
   chosen = (0, omega arith, refl);
   enough = omega (arith, greatest-one (area_of c slot p));
-  least = λ other has fits. omega (arith, ap (λ s. area_of c s p) (only slot other has));
+  least = λ other has fits. omega (arith, ap (λ s. area_of c s p) (only_one slot other has));
 }

@@ -98,7 +98,7 @@ unfolding AreChosen
 chosen-tail o opens [] chosen = absurd chosen
 chosen-tail o opens (area ∷ rest) chosen = (rest, chosen.1)
 
-within-tail : (window : ℕ) (o : Open) (opens : List Open) → AllWithin window (o ∷ opens) → (needed opens ≤ window) × AllWithin window opens
+pub within-tail : (window : ℕ) (o : Open) (opens : List Open) → AllWithin window (o ∷ opens) → (needed opens ≤ window) × AllWithin window opens
 unfolding AllWithin
 within-tail window o opens within = within
 

@@ -21,7 +21,7 @@ next_need part i need lt is =
     drop-cons part i need lt ∙ ap (λ n. get_or part i need ∷ drop n part) one ∙ ap (λ n. n ∷ drop (i + 1) part) (sym is)
 
 -- in its own slots a part is the frames of its own areas
-frames-own : (choices : HeaderFields → List SlotFields) (part : List Need) → frames_of (opens_in choices part) (map own_area part) ≡ map own_frame part
+pub frames-own : (choices : HeaderFields → List SlotFields) (part : List Need) → frames_of (opens_in choices part) (map own_area part) ≡ map own_frame part
 unfolding frames_of
 frames-own choices [] = refl
 frames-own choices (need ∷ part) = ap (λ l. own_frame need ∷ l) (frames-own choices part)

@@ -14,7 +14,7 @@ use Rattle.slot_plan.specs.Plans.{AreFor, areas_in, IsPlanFor, IsPlan}
 use Rattle.slot_plan.specs.Reserve.{greatest, needed, free_behind, AllWithin, opens_in, IsLeastSlot, ArePlaced, PlacesOn, PlacesPart, AreReserves}
 use Rattle.slot_plan.proofs.ReserveLaws.{AreLeastAreas, frees_of, begins-frees, fit-least, least-is, needed-can, can-needed, append-needed}
 use Rattle.slot_plan.proofs.PartLaws.{next_need}
-use Rattle.slot_plan.proofs.AreaLaws.{slot-area, Contains-area}
+use Rattle.slot_plan.proofs.AreaLaws.{slot-area, Contains-area, only_one}
 
 -- ---- what is placed is the least list
 least-placed : (window free : ℕ) (items : List Item) (placed : List Placed) → ArePlaced window free items placed → AreLeastAreas window free (map open_of items) (areas_in items placed)
@@ -221,10 +221,6 @@ part-without window choices part reserves free after old new are none places = r
   places = places;
 }
 
-contains-one : (slot other : SlotFields) → Contains (slot ∷ []) other → slot ≡ other
-contains-one slot other (zero, within, at) = at
-contains-one slot other (suc i, within, at) = absurd (omega arith)
-
 pub part-with : (window : ℕ) (choices : HeaderFields → List SlotFields) (first : Need) (part : List Need) (reserves : Reserves) (free mid after : ℕ) (p : Placed) (old new : List Placed) → AreReserves window choices (first ∷ part) reserves → 0 < reserves.before
     → p.lead_in ≡ true → p.begin ≡ free → IsLeastSlot reserves.before (class_of first.header) false all_slots p.slot → mid ≡ free_behind window free 0 (area_of (class_of first.header) p.slot false)
     → PlacesOn window mid after (map (item_of choices) (first ∷ part)) [] (old ++ p ∷ []) new → PlacesPart window choices (first ∷ part) free after old new
@@ -235,12 +231,12 @@ part-with window choices first part reserves free mid after p old new are some f
     let lead : Item = lead_in_of class (p.slot ∷ []) in
     let value : needed (map open_of items) ≡ reserves.before = sym are.before in
     let enough = least.enough in
-    let only : IsLeastSlot ((0 + needed (map open_of items)) - free) class false (p.slot ∷ []) p.slot = record {
+    let least_one : IsLeastSlot ((0 + needed (map open_of items)) - free) class false (p.slot ∷ []) p.slot = record {
       chosen = (zero, omega arith, refl);
       enough = omega arith;
-      least = λ other is fits. omega (arith, ap (λ s. area_of class s false) (contains-one p.slot other is));
+      least = λ other is fits. omega (arith, ap (λ s. area_of class s false) (only_one p.slot other is));
     } in
-    let begun = places-more window free free (lead ∷ items) lead items old old p frame begin only (places-begun window free (lead ∷ items) old) in
+    let begun = places-more window free free (lead ∷ items) lead items old old p frame begin least_one (places-begun window free (lead ∷ items) old) in
     let on = subst (λ n. PlacesOn window free n (lead ∷ items) items old (old ++ p ∷ [])) (sym behind) begun in
     record {
       lead_in = Some p.slot;

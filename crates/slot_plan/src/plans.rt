@@ -1,5 +1,6 @@
 //! The plan of several parts.
 ghost use Rattle.std.specs.Prelude.{◌≡◌, ◌<◌, ◌≤◌, ◌+◌, AllPairs, All, length, slice_index, IfOk};
+ghost use Rattle.frame_header.specs.Limits.{most_frames};
 ghost use Rattle.slot_plan.specs.Parts.{AreOfOneClass, ArePartsFeasible, window_in, parts_of};
 ghost use Rattle.slot_plan.specs.Plans.{IsPlan, entries};
 
@@ -39,7 +40,7 @@ pub fn plan<P: Policy>(
     policy: &P,
 ) -> Result<Plan, AllocError>
     requires class { AreOfOneClass needs.now }
-    requires needs { length needs.now ≤ 2900000 }
+    requires needs { length needs.now ≤ most_frames }
     requires some { 1 ≤ length parts.now }
     requires few { length parts.now ≤ 64 }
     requires first { slice_index parts.now 0 ≡ 0 }

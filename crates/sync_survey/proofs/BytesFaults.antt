@@ -125,7 +125,7 @@ begun_of_bytes : (file : List ℕ) (fault : SurveyFault) → start_of file ≡ E
 unfolding start_of
 begun_of_bytes file fault is = start_of_bytes file (front_end_of file) (item_at file (front_end_of file)) fault is
 
-fault_is : (o : Option SurveyFault) (fields : SurveyFields) (fault : SurveyFault) → unless_fault o fields ≡ Err fault → o ≡ Some fault
+pub fault_is : (o : Option SurveyFault) (fields : SurveyFields) (fault : SurveyFault) → unless_fault o fields ≡ Err fault → o ≡ Some fault
 fault_is (Some f) fields fault e = cc
 fault_is None fields fault e = absurd cc
 

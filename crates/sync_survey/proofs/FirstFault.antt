@@ -31,6 +31,7 @@ use Rattle.sync_survey.specs.Survey.{survey_of, RefusesBytes, IsSurveyFaultBy, I
 use Rattle.sync_survey.proofs.ItemLists.{ends-within}
 use Rattle.sync_survey.proofs.RunsLaws.{cons_list, run-ends}
 use Rattle.sync_survey.proofs.StartLaws.{start-first}
+use Rattle.sync_survey.proofs.BytesFaults.{fault_is}
 
 -- ---- lists of faults
 
@@ -203,10 +204,6 @@ first_is_least file allowed start fault within is =
     (λ f found. one_only o f found) is
 
 -- ---- the refusal of a survey
-
-fault_is : (o : Option SurveyFault) (fields : SurveyFields) (fault : SurveyFault) → unless_fault o fields ≡ Err fault → o ≡ Some fault
-fault_is (Some f) fields fault e = cc
-fault_is None fields fault e = absurd cc
 
 start_is : (file : List ℕ) (allowed : ℕ) (start : Start) (fault : SurveyFault) (r : Result Start SurveyFault) → start_of file ≡ r → r ≡ Ok start → survey_by file allowed r ≡ Err fault → NoneBefore (fault_place fault) (faults_from file allowed start)
 start_is file allowed start fault (Err f) begun same e = absurd cc

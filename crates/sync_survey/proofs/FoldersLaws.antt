@@ -94,7 +94,7 @@ bytes_refusal name files allowed before after size fault known same rightly refu
     })
 
 -- the stream doesn't begin
-surveyed_by : (file : List ℕ) (allowed : ℕ) (fault : SurveyFault) → start_of file ≡ Err fault → surveyed file allowed ≡ Err fault
+pub surveyed_by : (file : List ℕ) (allowed : ℕ) (fault : SurveyFault) → start_of file ≡ Err fault → surveyed file allowed ≡ Err fault
 unfolding surveyed
 surveyed_by file allowed fault is = ap (survey_by file allowed) is
 

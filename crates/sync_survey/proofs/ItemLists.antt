@@ -60,9 +60,19 @@ kept_items file from (p ∷ ps) to ends =
 
 -- ---- where they are
 
+-- an item, a frame and a block elsewhere, by where each offset is then
+abbrev pub placed_by : (ℕ → ℕ) → Placed → Placed
+placed_by to p = record p { offset = to p.offset }
+
+abbrev pub frame_by : (ℕ → ℕ) → PlacedFrame → PlacedFrame
+frame_by to p = record p { offset = to p.offset }
+
+abbrev pub piece_by : (ℕ → ℕ) → Piece → Piece
+piece_by to p = record p { offset = to p.offset }
+
 -- the item, so many bytes nearer to the beginning of the file
 abbrev pub nearer : ℕ → Placed → Placed
-nearer gap p = record p { offset = p.offset - gap }
+nearer gap p = placed_by (λ at. at - gap) p
 
 pub item_at-known : (file : List ℕ) (place at : ℕ) (bytes : List ℕ) (item : Item) → place ≡ at → drop at file ≡ bytes → item_front bytes ≡ item → item_at file place ≡ item
 unfolding item_at
@@ -102,27 +112,33 @@ items-run part old file gap from at ps to bytes behind ends there are within is 
 
 -- ---- frames and blocks among them
 
+frame_more : (to : ℕ → ℕ) (at : ℕ) (item : Item) (xs ys : List PlacedFrame) → xs ≡ map (frame_by to) ys → cons_option (frame_as (to at) item) xs ≡ map (frame_by to) (cons_option (frame_as at item) ys)
+frame_more to at (Frame h) xs ys same = ap (λ l. record { offset = to at; header = h } ∷ l) same
+frame_more to at _ xs ys same = same
+
+pub frames-by : (to : ℕ → ℕ) (ps : List Placed) → frames_of (map (placed_by to) ps) ≡ map (frame_by to) (frames_of ps)
+frames-by to [] = refl
+frames-by to (p ∷ ps) = frame_more to p.offset p.item (frames_of (map (placed_by to) ps)) (frames_of ps) (frames-by to ps)
+
+block_more : (to : ℕ → ℕ) (at : ℕ) (item : Item) (xs ys : List Piece) → xs ≡ map (piece_by to) ys → cons_option (block_as (to at) item) xs ≡ map (piece_by to) (cons_option (block_as at item) ys)
+block_more to at (Block b) xs ys same = ap (λ l. record { offset = to at; block = b } ∷ l) same
+block_more to at _ xs ys same = same
+
+pub blocks-by : (to : ℕ → ℕ) (ps : List Placed) → blocks_of (map (placed_by to) ps) ≡ map (piece_by to) (blocks_of ps)
+blocks-by to [] = refl
+blocks-by to (p ∷ ps) = block_more to p.offset p.item (blocks_of (map (placed_by to) ps)) (blocks_of ps) (blocks-by to ps)
+
 abbrev pub nearer_frame : ℕ → PlacedFrame → PlacedFrame
-nearer_frame gap p = record p { offset = p.offset - gap }
+nearer_frame gap p = frame_by (λ at. at - gap) p
 
 abbrev pub nearer_piece : ℕ → Piece → Piece
-nearer_piece gap p = record p { offset = p.offset - gap }
-
-frame_more : (gap at : ℕ) (item : Item) (xs ys : List PlacedFrame) → xs ≡ map (nearer_frame gap) ys → cons_option (frame_as (at - gap) item) xs ≡ map (nearer_frame gap) (cons_option (frame_as at item) ys)
-frame_more gap at (Frame h) xs ys same = ap (λ l. record { offset = at - gap; header = h } ∷ l) same
-frame_more gap at _ xs ys same = same
+nearer_piece gap p = piece_by (λ at. at - gap) p
 
 pub frames-nearer : (gap : ℕ) (ps : List Placed) → frames_of (map (nearer gap) ps) ≡ map (nearer_frame gap) (frames_of ps)
-frames-nearer gap [] = refl
-frames-nearer gap (p ∷ ps) = frame_more gap p.offset p.item (frames_of (map (nearer gap) ps)) (frames_of ps) (frames-nearer gap ps)
-
-block_more : (gap at : ℕ) (item : Item) (xs ys : List Piece) → xs ≡ map (nearer_piece gap) ys → cons_option (block_as (at - gap) item) xs ≡ map (nearer_piece gap) (cons_option (block_as at item) ys)
-block_more gap at (Block b) xs ys same = ap (λ l. record { offset = at - gap; block = b } ∷ l) same
-block_more gap at _ xs ys same = same
+frames-nearer gap ps = frames-by (λ at. at - gap) ps
 
 pub blocks-nearer : (gap : ℕ) (ps : List Placed) → blocks_of (map (nearer gap) ps) ≡ map (nearer_piece gap) (blocks_of ps)
-blocks-nearer gap [] = refl
-blocks-nearer gap (p ∷ ps) = block_more gap p.offset p.item (blocks_of (map (nearer gap) ps)) (blocks_of ps) (blocks-nearer gap ps)
+blocks-nearer gap ps = blocks-by (λ at. at - gap) ps
 
 one_mapped : (f g : Piece → Piece) (at : ℕ) (item : Item) (ys : List Piece) → ((p : Piece) → p.offset ≡ at → f p ≡ g p) → map f ys ≡ map g ys → map f (cons_option (block_as at item) ys) ≡ map g (cons_option (block_as at item) ys)
 one_mapped f g at (Block b) ys same rest = ap₂ (λ (p : Piece) (l : List Piece). p ∷ l) (same (record { offset = at; block = b }) refl) rest

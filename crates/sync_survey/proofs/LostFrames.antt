@@ -1,7 +1,7 @@
 -- Lost frames have only silent and lost frames before them, since the main data of any other frame end after 0.
 use Rattle.std.proofs.Common.{◌≡◌, ℕ, zero, suc, ◌<◌, ◌≤◌, ◌⊎◌, ◌==◌, Bool, true, false, cond, ◌&&◌, ◌||◌, List, Option, Some, None, inl, inr, refl, sym, ◌∙◌, ap, subst, arith, ⊎_elim}
 use Rattle.std.specs.Prelude.{slice_get}
-use Rattle.std.proofs.lemmas.Bool.{eq-eqb, eqb-true}
+use Rattle.std.proofs.lemmas.Bool.{eq-eqb, eqb-true, and_parts}
 use Rattle.side_info.specs.Side.{payload_bits, payload_bytes}
 use Rattle.sync_survey.specs.declared.places.Head.{Head}
 use Rattle.sync_survey.specs.declared.rows.Row.{Row}
@@ -76,17 +76,13 @@ module _ (head : Option Head) (rows : List Row) where
 
   -- ---- one frame
 
-  both_true : (a b : Bool) → (a && b) ≡ true → (a ≡ true) × (b ≡ true)
-  both_true true b e = (refl, e)
-  both_true false b e = absurd cc
-
   true_both : (a b : Bool) → a ≡ true → b ≡ true → (a && b) ≡ true
   true_both true b e f = f
   true_both false b e f = absurd cc
 
   pub lost-leads : (i : ℕ) (r : Row) → is_lost head rows i r ≡ true → (points_too_far (place head rows i) r ≡ true) × AreSilentOrLost head rows i
   lost-leads i r lost =
-      let parts = both_true (end_before head rows i == 0) (points_too_far (place head rows i) r) lost in
+      let parts = and_parts (end_before head rows i == 0) (points_too_far (place head rows i) r) lost in
       (parts.1, none_empty i (eqb-true (end_before head rows i) 0 parts.0))
 
   pub leads-lost : (i : ℕ) (r : Row) → (points_too_far (place head rows i) r ≡ true) × AreSilentOrLost head rows i → is_lost head rows i r ≡ true

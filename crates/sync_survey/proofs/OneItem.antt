@@ -1,6 +1,6 @@
 -- Bytes begin with one item at most.
 use Rattle.std.proofs.Common.{◌≡◌, ◌≢◌, ℕ, ◌+◌, ◌*◌, ◌^◌, ◌<◌, ◌≤◌, ◌==◌, Bool, true, false, cond, List, [], ◌∷◌, ◌++◌, length, take, drop, get_or, Option, Some, None, Result, Ok, Err, refl, sym, ◌∙◌, ap, subst, arith}
-use Rattle.std.proofs.lemmas.Bool.{eqb-true, leb-true}
+use Rattle.std.proofs.lemmas.Bool.{eqb-true, leb-true, and_parts}
 use Rattle.std.proofs.lemmas.List.{length-take}
 use Rattle.std.proofs.Math.Seq.{take-append-add}
 use Rattle.bit_fields.specs.Bits.{bits, bits_of, number}
@@ -19,7 +19,6 @@ use Rattle.tag_blocks.proofs.BlocksLaws.{first_byte, block_front-not_zero, block
 use Rattle.sync_survey.specs.declared.items.Item.{Item}
 use Rattle.sync_survey.specs.declared.items.Item.TheVariants.{Frame, Free, Block, Zero, End, Nothing}
 use Rattle.sync_survey.specs.Items.{header_front, Stands, by_header, by_block, by_byte, item_front, item_at}
-use Rattle.sync_survey.proofs.RunsLaws.{both}
 
 -- ---- the first byte of a header
 
@@ -39,7 +38,7 @@ sync_byte byte next rest below sync =
 
 readable_sync : (h : List ℕ) → is_readable h ≡ true → group 0 11 h ≡ 2047
 unfolding is_readable
-readable_sync h is = eqb-true _ _ (both _ _ (both _ _ (both _ _ (both _ _ is).0).0).0).0
+readable_sync h is = eqb-true _ _ (and_parts _ _ (and_parts _ _ (and_parts _ _ (and_parts _ _ is).0).0).0).0
 
 readable_cases : (h : List ℕ) (b : Bool) → is_readable h ≡ b → header_in h ≢ Err No → is_readable h ≡ true
 readable_cases h true is header = is

@@ -2,7 +2,7 @@
 use Rattle.std.proofs.Common.{◌≡◌, ℕ, zero, suc, ◌+◌, ◌<◌, ◌==◌, ◌&&◌, Bool, true, false, List, [], ◌∷◌, ◌++◌, length, length-append, take, map, Option, Some, None, Ok, refl, sym, ◌∙◌, ap, ap₂, subst, inl, inr, arith}
 use Rattle.std.specs.Prelude.{not, slice_get, sum_by, option_map}
 use Rattle.std.specs.List.{enumerate_from, cons_option}
-use Rattle.std.proofs.lemmas.Bool.{eqb-true, cases_lt}
+use Rattle.std.proofs.lemmas.Bool.{eqb-true, cases_lt, and_parts}
 use Rattle.std.proofs.lemmas.Option.{slice_get_within}
 use Rattle.std.proofs.lemmas.List.Sums.{sum_by-cons}
 use Rattle.frame_header.specs.declared.version.Version.{Version}
@@ -49,10 +49,6 @@ version-same TwoFive One e = absurd cc
 version-same TwoFive Two e = absurd cc
 version-same TwoFive TwoFive e = refl
 
-both_of : (a b : Bool) → (a && b) ≡ true → (a ≡ true) × (b ≡ true)
-both_of true b e = (refl, e)
-both_of false b e = absurd cc
-
 class-parts : (c d : ClassFields) → c.version ≡ d.version → c.frequency_index ≡ d.frequency_index → c.channels ≡ d.channels → c ≡ d
 class-parts c d version frequency channels =
     ap (λ v. record { version = v; frequency_index = c.frequency_index; channels = c.channels }) version
@@ -62,8 +58,8 @@ class-parts c d version frequency channels =
 pub same_class-is : (c d : ClassFields) → same_class c d ≡ true → c ≡ d
 unfolding same_class
 same_class-is c d e =
-    let all = both_of _ (c.channels == d.channels) e in
-    let front = both_of _ (c.frequency_index == d.frequency_index) all.0 in
+    let all = and_parts _ (c.channels == d.channels) e in
+    let front = and_parts _ (c.frequency_index == d.frequency_index) all.0 in
     class-parts c d (version-same c.version d.version (eqb-true _ _ front.0)) (eqb-true _ _ front.1) (eqb-true _ _ all.1)
 
 not_not : (b : Bool) → not b ≡ false → b ≡ true

@@ -2,8 +2,9 @@
 use Rattle.std.proofs.Common.{◌≡◌, ℕ, zero, suc, ◌+◌, ◌-◌, ◌<◌, ◌≤◌, Bool, true, false, cond, ◌&&◌, List, [], ◌∷◌, ◌++◌, length, drop, Option, Some, None, refl, sym, ◌∙◌, ap, subst, arith, append_assoc, append-nil}
 use Rattle.std.specs.Prelude.{option_to_list}
 use Rattle.std.specs.List.{cons_option}
-use Rattle.std.proofs.lemmas.Bool.{false≢true, leb-true, le-leb}
+use Rattle.std.proofs.lemmas.Bool.{false≢true, leb-true, le-leb, and_parts}
 use Rattle.std.proofs.lemmas.List.{take-append-drop, drop-drop}
+use Rattle.std.proofs.lemmas.List.Elements.{filter_map-append}
 use Rattle.sync_survey.specs.declared.items.Item.{Item}
 use Rattle.sync_survey.specs.declared.items.Item.TheVariants.{Frame}
 use Rattle.sync_survey.specs.declared.runs.Part.{Part}
@@ -11,11 +12,6 @@ use Rattle.sync_survey.specs.declared.runs.Part.TheVariants.{Front}
 use Rattle.sync_survey.specs.Items.{item_at, size_of, fits}
 use Rattle.sync_survey.specs.Runs.{Placed, belongs, whole, item_of, Run, stopped, behind, onward, run_up_to, run, AreEndToEnd, bytes_in, bytes_of_items, frame_as, block_as, frames_of, blocks_of}
 use Rattle.sync_survey.proofs.ItemsLaws.{size-some}
-
--- what a test that passed says of its two parts
-pub both : (a b : Bool) → (a && b) ≡ true → (a ≡ true) × (b ≡ true)
-both true b h = (refl, h)
-both false b h = absurd (false≢true h)
 
 -- ---- one item
 
@@ -26,7 +22,7 @@ pub record IsItemOf (part : Part) (file : List ℕ) (at : ℕ) (item : Item) : T
   pub within : at + size_of item ≤ length file
   pub some : 0 < size_of item
 
-whole_cases : (b : Bool) (i j : Item) → cond b (Some i) None ≡ Some j → (b ≡ true) × (i ≡ j)
+pub whole_cases : (b : Bool) (i j : Item) → cond b (Some i) None ≡ Some j → (b ≡ true) × (i ≡ j)
 whole_cases true i j e = (refl, cc)
 whole_cases false i j e = absurd cc
 
@@ -40,7 +36,7 @@ pub item_of-is : (part : Part) (file : List ℕ) (at : ℕ) (item : Item) → it
 unfolding item_of
 item_of-is part file at item e =
     let cases = whole_cases _ _ item e in
-    let tests = both _ _ cases.0 in
+    let tests = and_parts _ _ cases.0 in
     subst (IsItemOf part file at) cases.1 (within_file part file at (item_at file at) refl tests.0 tests.1)
 
 whole_item : (part : Part) (file : List ℕ) (at : ℕ) (item found : Item) → found ≡ item → belongs part item ≡ true → fits file at item ≡ true → whole part file at found ≡ Some item
@@ -192,3 +188,7 @@ kept_more old here kept rest later whole e e' e'' = ap (λ k. k ++ later) e ∙ 
 -- nothing more was left to keep
 pub kept_whole : {X : Type 0} (kept rest whole : List X) → rest ≡ [] → kept ++ rest ≡ whole → kept ≡ whole
 kept_whole kept rest whole nothing e = sym (append-nil kept) ∙ ap (λ r. kept ++ r) (sym nothing) ∙ e
+
+-- the frames of items, one list after the other
+pub frames-append : (ps qs : List Placed) → frames_of (ps ++ qs) ≡ frames_of ps ++ frames_of qs
+frames-append ps qs = filter_map-append (λ (p : Placed). frame_as p.offset p.item) ps qs

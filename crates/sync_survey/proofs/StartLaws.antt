@@ -1,6 +1,6 @@
 -- The first anchored frame, and the start of the stream.
 use Rattle.std.proofs.Common.{◌≡◌, ℕ, zero, suc, ◌+◌, ◌<◌, ◌≤◌, Bool, true, false, cond, ◌&&◌, leb, min, List, length, drop, Option, Some, None, Result, Ok, Err, inl, inr, refl, sym, ◌∙◌, ap, subst, arith}
-use Rattle.std.proofs.lemmas.Bool.{lt-leb, le-leb, leb-true, leb-false}
+use Rattle.std.proofs.lemmas.Bool.{lt-leb, le-leb, leb-true, leb-false, and_parts}
 use Rattle.std.proofs.lemmas.List.{drop_all}
 use Rattle.std.specs.Prelude.{MatchOption, filter_map, slice_get, is_some, IfOk}
 use Rattle.std.specs.List.{range_with_len, cons_option}
@@ -15,7 +15,7 @@ use Rattle.sync_survey.specs.declared.runs.Part.TheVariants.{Stream}
 use Rattle.sync_survey.specs.Items.{item_front, item_at, size_of, fits}
 use Rattle.sync_survey.specs.Looks.{Shows}
 use Rattle.sync_survey.specs.Start.{is_anchor, has_anchor, anchored, anchored_frame, is_anchored, IsLeast, first_anchored, longest_junk, start_behind, start_at, front_end_of, start_of, IsLeastStart}
-use Rattle.sync_survey.proofs.RunsLaws.{IsItemOf, within_file, both}
+use Rattle.sync_survey.proofs.RunsLaws.{IsItemOf, within_file}
 use Rattle.sync_survey.proofs.OneItem.{stands-only_at}
 use Rattle.sync_survey.proofs.LooksLaws.{item_at-shown, item_at-behind, fits-left}
 
@@ -99,7 +99,7 @@ pub record IsAnchoredAt (file : List ℕ) (at : ℕ) (p : PlacedFrame) : Type 0 
 anchor_cases : (file : List ℕ) (at : ℕ) (h : HeaderFields) (b : Bool) (p : PlacedFrame) → item_at file at ≡ Frame h → has_anchor file at h ≡ b → cond b (Some (record { offset = at; header = h })) None ≡ Some p → IsAnchoredAt file at p
 anchor_cases file at h true p is anchor e =
     let same : record { offset = at; header = h } ≡ p = cc in
-    subst (IsAnchoredAt file at) same (record { offset = refl; frame = within_file Stream file at (Frame h) is refl (both _ _ anchor).0 })
+    subst (IsAnchoredAt file at) same (record { offset = refl; frame = within_file Stream file at (Frame h) is refl (and_parts _ _ anchor).0 })
 anchor_cases file at h false p is anchor e = absurd cc
 
 anchored_cases : (file : List ℕ) (at : ℕ) (item : Item) (p : PlacedFrame) → item_at file at ≡ item → anchored file at item ≡ Some p → IsAnchoredAt file at p

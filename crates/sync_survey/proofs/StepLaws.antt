@@ -160,7 +160,7 @@ fault_rightly class allowed at _ front old fault is = absurd is
 
 -- ---- where frames and blocks are
 
-laid_push : (from : ℕ) (rows : List Row) (to later : ℕ) (r : Row) → AreLaid from rows to → SideFits (class_of r.header) r.side → to ≤ r.offset → r.offset + length_of (class_of r.header) r.header.slot ≤ later → AreLaid from (rows ++ r ∷ []) later
+pub laid_push : (from : ℕ) (rows : List Row) (to later : ℕ) (r : Row) → AreLaid from rows to → SideFits (class_of r.header) r.side → to ≤ r.offset → r.offset + length_of (class_of r.header) r.header.slot ≤ later → AreLaid from (rows ++ r ∷ []) later
 laid_push from [] to later r laid fits low high = (omega (arith, laid, low), fits, high)
 laid_push from (q ∷ rows) to later r laid fits low high = (laid.0, laid.1, laid_push (q.offset + length_of (class_of q.header) q.header.slot) rows to later r laid.2 fits low high)
 
@@ -168,7 +168,7 @@ pub laid_later : (from : ℕ) (rows : List Row) (to later : ℕ) → AreLaid fro
 laid_later from [] to later laid low = omega (arith, laid, low)
 laid_later from (q ∷ rows) to later laid low = (laid.0, laid.1, laid_later (q.offset + length_of (class_of q.header) q.header.slot) rows to later laid.2 low)
 
-area_within : (h : HeaderFields) → own_area h ≤ length_of (class_of h) h.slot
+pub area_within : (h : HeaderFields) → own_area h ≤ length_of (class_of h) h.slot
 unfolding area_of
 area_within h = omega arith
 
@@ -228,3 +228,8 @@ keep_refusal name files allowed before after size fault class at item front old 
     subst (IsRefusal name files allowed before after) (sym memory) (memory_refusal name files allowed before after size known same)
 keep_refusal name files allowed before after size fault class at item front old known same refuses (inr is) =
     bytes_refusal name files allowed before after size fault known same (fault_rightly class allowed at item front old fault is) (λ bytes holds. refuses bytes holds is)
+
+-- rows that follow each other end after they begin
+pub laid_end : (from : ℕ) (rows : List Row) (to : ℕ) → AreLaid from rows to → from ≤ to
+laid_end from [] to laid = laid
+laid_end from (r ∷ rows) to laid = omega (arith, laid.0, laid_end (r.offset + length_of (class_of r.header) r.header.slot) rows to laid.2)

@@ -5,6 +5,7 @@ use Rattle.std.specs.List.{enumerate_from}
 use Rattle.std.proofs.lemmas.Option.{slice_get_within}
 use Rattle.std.proofs.lemmas.Bool.{ne_eqb}
 use Rattle.std.proofs.lemmas.List.{length-map}
+use Rattle.std.proofs.lemmas.List.FromFn.{length-enumerate_from}
 use Rattle.frame_header.specs.Fields.{ClassFields}
 use Rattle.frame_header.specs.Tables.{class_of}
 use Rattle.side_info.specs.Frame.{word_said}
@@ -19,7 +20,7 @@ use Rattle.sync_survey.specs.Items.{item_at, same_class}
 use Rattle.sync_survey.specs.Runs.{frames_of}
 use Rattle.sync_survey.specs.Start.{start_of}
 use Rattle.sync_survey.specs.Walk.{stream_run, head_of, numbered, all_blocks, fault_at, end_fault, walk_from}
-use Rattle.sync_survey.specs.MainData.{row_of, rows_of, lacks_data, place, end_before}
+use Rattle.sync_survey.specs.MainData.{row_of, rows_of, lacks_data, place, end_before, main_bytes, stream_frame, stream_frames}
 use Rattle.sync_survey.specs.Faults.{where_true, has_wrong_word, points_too_far, overlaps, overruns, own_faults, data_faults, faults_at, frame_faults, all_faults, first_of, class_from, faults_from, SurveyFields, fields_from, surveyed, surveyed_freely, stream_of_survey, stream_by, stream_of, HoldsStream}
 use Rattle.sync_survey.proofs.FaultsLaws.{none-of}
 use Rattle.sync_survey.proofs.SurveyLaws.{told_by, survey-whole, surveyed-is}
@@ -181,7 +182,7 @@ sound-no_all_faults file head class allowed rows sound =
 
 -- ---- however many frames are allowed
 
-sound_allowed : (file : List ℕ) (head : Option Head) (class : ClassFields) (allowed other : ℕ) (rows : List Row) → length rows ≤ other → AreSound file head class allowed rows → AreSound file head class other rows
+pub sound_allowed : (file : List ℕ) (head : Option Head) (class : ClassFields) (allowed other : ℕ) (rows : List Row) → length rows ≤ other → AreSound file head class allowed rows → AreSound file head class other rows
 sound_allowed file head class allowed other rows few sound = λ i r is.
     let here = sound i r is in
     record {
@@ -233,3 +234,14 @@ unfolding stream_of
 surveyed-stream file allowed s e =
     let freely : surveyed_freely file ≡ Ok s = surveyed-allowed file allowed (length file + 1) s (omega arith) e in
     record { well_formed = (s, freely); stream_is = ap (stream_by file) freely }
+
+-- a file whose end has no fault has a frame
+pub some_frames : (file : List ℕ) (frames : List PlacedFrame) (o : Option SurveyFault) → end_fault file frames o ≡ None → 0 < length frames
+some_frames file (p ∷ ps) o e = omega arith
+some_frames file [] None e = absurd cc
+some_frames file [] (Some fault) e = absurd cc
+
+-- its stream has as many frames as its survey
+pub stream-length : (file : List ℕ) (s : SurveyFields) → length (stream_of_survey file s) ≡ length s.frames
+unfolding stream_of_survey stream_frames
+stream-length file s = length-map (enumerate_from 0 s.frames) (λ (p : ℕ × Row). stream_frame (main_bytes file s.head s.frames) s.head s.frames p.0 p.1) ∙ length-enumerate_from 0 s.frames

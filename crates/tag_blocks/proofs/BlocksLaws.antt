@@ -2,7 +2,7 @@
 use Rattle.std.proofs.Common.{◌≡◌, ◌≢◌, ℕ, ◌+◌, ◌-◌, ◌<◌, ◌≤◌, Bool, true, false, ◌&&◌, List, length, take, drop, get_or, Option, Some, None, refl, sym, ap, ◌∙◌, subst, codes, arith, leb, lit<}
 use Rattle.std.specs.Option.{option_or}
 use Rattle.std.specs.Str.{bytes_eq}
-use Rattle.std.proofs.lemmas.Bool.{false≢true, leb-true, leb-false}
+use Rattle.std.proofs.lemmas.Bool.{false≢true, leb-true, leb-false, and_parts}
 use Rattle.std.proofs.lemmas.List.{length-take, take-take, drop-take, get_or-take}
 use Rattle.std.proofs.lemmas.Option.{cond_some}
 use Rattle.std.proofs.lemmas.Slice.Eq.{bytes_eq-Decides}
@@ -10,11 +10,6 @@ use Rattle.tag_blocks.specs.declared.block.Kind.{Kind}
 use Rattle.tag_blocks.specs.declared.block.Kind.TheVariants.{Id3v2, Id3v1, Ape}
 use Rattle.tag_blocks.specs.declared.block.Block.{Block}
 use Rattle.tag_blocks.specs.Blocks.{begins_with, is_id3v2, id3v2_length, is_id3v1, is_ape, ape_length, begins, length_as, front_as, block_front}
-
--- what a test that passed says of its two parts
-both : (a b : Bool) → (a && b) ≡ true → (a ≡ true) × (b ≡ true)
-both true b h = (refl, h)
-both false b h = absurd (false≢true h)
 
 -- ---- the first byte
 
@@ -32,7 +27,7 @@ first_of text bytes some is =
 
 id3v2_first : (bytes : List ℕ) → is_id3v2 bytes ≡ true → get_or bytes 0 0 ≡ 73
 unfolding is_id3v2
-id3v2_first bytes is = first_of (codes "ID3") bytes (lit< tt) (both _ _ (both _ _ (both _ _ (both _ _ is).0).0).0).1
+id3v2_first bytes is = first_of (codes "ID3") bytes (lit< tt) (and_parts _ _ (and_parts _ _ (and_parts _ _ (and_parts _ _ is).0).0).0).1
 
 id3v1_first : (bytes : List ℕ) → is_id3v1 bytes ≡ true → get_or bytes 0 0 ≡ 84
 unfolding is_id3v1
@@ -40,7 +35,7 @@ id3v1_first bytes is = first_of (codes "TAG") bytes (lit< tt) is
 
 ape_first : (bytes : List ℕ) → is_ape bytes ≡ true → get_or bytes 0 0 ≡ 65
 unfolding is_ape
-ape_first bytes is = first_of (codes "APETAGEX") bytes (lit< tt) (both _ _ (both _ _ (both _ _ (both _ _ (both _ _ is).0).0).0).0).1
+ape_first bytes is = first_of (codes "APETAGEX") bytes (lit< tt) (and_parts _ _ (and_parts _ _ (and_parts _ _ (and_parts _ _ (and_parts _ _ is).0).0).0).0).1
 
 pub begins-first : (kind : Kind) (bytes : List ℕ) → begins kind bytes ≡ true → get_or bytes 0 0 ≡ first_byte kind
 begins-first Id3v2 bytes is = id3v2_first bytes is

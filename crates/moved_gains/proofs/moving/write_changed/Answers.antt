@@ -16,8 +16,9 @@ use Rattle.moved_gains.specs.Change.{changed, change_in}
 use Rattle.moved_gains.specs.Course.{AreNumbered, steps_over}
 use Rattle.moved_gains.proofs.CourseLaws.{out_numbered, out_few}
 use Rattle.moved_gains.specs.Moving.{AreRowsOf, copied, written_from, IsNewTag}
-use Rattle.moved_gains.proofs.MovingLaws.{laid_end, survey_of-length, survey_of-rows}
+use Rattle.moved_gains.proofs.MovingLaws.{survey_of-length, survey_of-rows}
 use Rattle.sync_survey.proofs.SurveyedFiles.{survey_of-parts}
+use Rattle.sync_survey.proofs.StepLaws.{laid_end}
 use Rattle.moved_gains.proofs.WrittenTag.{written-changed}
 use Rattle.moved_gains.proofs.moving.write_changed.Given as given
 use Rattle.moved_gains.proofs.moving.write_changed.Goals as goal

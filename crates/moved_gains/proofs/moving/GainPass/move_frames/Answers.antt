@@ -7,13 +7,13 @@ use Rattle.outside.proofs.PassedLaws.{on_err}
 use Rattle.outside.proofs.PassLaws.{up_to_begun, up_to_held, up_to_more, up_to_prefix, up_to_last, up_to_last_prefix, cause_behind, causes_behind}
 use Rattle.sync_survey.specs.declared.rows.Row.{Row}
 use Rattle.sync_survey.specs.Survey.{AreLaid}
+use Rattle.sync_survey.proofs.StepLaws.{laid_end}
 use Rattle.moved_gains.specs.declared.moving.NewTag.{NewTag}
 use Rattle.moved_gains.specs.declared.shift.Steps.{Steps}
 use Rattle.moved_gains.specs.Course.{steps_in, steps_over}
 use Rattle.moved_gains.specs.Moving.{row_end, AreRowsOf, moved_row_bytes, copied, written_from}
 use Rattle.moved_gains.proofs.CourseLaws.{frame_steps}
 use Rattle.moved_gains.proofs.Rows.{next_row}
-use Rattle.moved_gains.proofs.MovingLaws.{laid_end}
 use Rattle.moved_gains.proofs.WrittenLaws.{left_at, left_behind}
 use Rattle.moved_gains.proofs.moving.GainPass.move_frames.Given as given
 use Rattle.moved_gains.proofs.moving.GainPass.move_frames.Goals as goal
