@@ -28,7 +28,7 @@ first-none window bytes areas old room = record {
 }
 
 -- the ends rise
-end-rises : (window bytes : ℕ) (areas : List ℕ) (to now next : ℕ) → 0 < to → IsEndAt window bytes areas to now → IsEndAt window bytes areas (to - 1) next → now ≤ next
+pub end-rises : (window bytes : ℕ) (areas : List ℕ) (to now next : ℕ) → 0 < to → IsEndAt window bytes areas to now → IsEndAt window bytes areas (to - 1) next → now ≤ next
 end-rises window bytes areas to now next some first second =
     elim (cases_lt next now) as (λ _. now ≤ next) [
       | inl less ↦
@@ -91,11 +91,11 @@ end-first window bytes areas = record {
   large = λ free from till. absurd (omega (arith, from, till));
 }
 
-pub end-later : (window bytes : ℕ) (areas : List ℕ) (place end : ℕ) → 0 < place → place < length areas → Ascend areas → end ≤ window + 1 → end ≤ bytes - get_or areas (place - 1) 0
+pub end-later : (window bytes : ℕ) (areas : List ℕ) (place end : ℕ) → 0 < place → place ≤ length areas → Ascend areas → end ≤ window + 1 → end ≤ bytes - get_or areas (place - 1) 0
     → ((free : ℕ) → end ≤ free → free ≤ window → bytes - get_or areas (place - 1) 0 ≤ free) → IsEndAt window bytes areas place end
 end-later window bytes areas place end some within ascend most low reach = record {
   within = most;
-  small = λ free k less before. omega (arith, less, low, not-greater areas k (place - 1) ascend (omega (arith, before)) (omega (arith, within)));
+  small = λ free k less before. omega (arith, less, low, not-greater areas k (place - 1) ascend (omega (arith, before)) (omega (arith, some, within)));
   some = λ free _ _. some;
   large = λ free from till. omega (arith, reach free from till);
 }

@@ -1,5 +1,6 @@
 pub mod RowLaws
 pub mod EvenLaws
+pub mod NearLaws
 pub mod SumLaws
 pub mod WalkLaws
 pub mod PlanLaws

@@ -46,6 +46,18 @@ pub record AreBounds (later : List ℕ) (least whole : ℕ) : Type 0 where
 abbrev pub IsEven : List ℕ → Type 0
 IsEven sums = (free : ℕ) → free < length sums → slice_index sums free + free ≡ slice_index sums 0
 
+-- from so many free bytes on each spares at most one, and fewer are too few for any list
+pub record IsNear (sums : List ℕ) (least : ℕ) : Type 0 where
+  pub none : (free : ℕ) → free < least → free < length sums → nothing ≤ slice_index sums free
+  pub near : (free : ℕ) → least ≤ free → free + 1 < length sums → slice_index sums free ≤ slice_index sums (free + 1) + 1
+
+-- the sums of an area from one number of free bytes on and before another; those of fewer free bytes are as they were
+pub record AreSums (window bytes area : ℕ) (later : List ℕ) (start end : ℕ) (old new : List ℕ) : Type 0 where
+  pub width : length new ≡ length old
+  pub before : (free : ℕ) → free < start → slice_index new free ≡ slice_index old free
+  pub most : (free : ℕ) → start ≤ free → free < end → slice_index new free ≤ nothing
+  pub each : (free : ℕ) → start ≤ free → free < end → IsSum window free bytes area later (slice_index new free)
+
 -- whatever is free, the first area with which the main data fit leaves no more than the window
 pub record HasRoom (window bytes : ℕ) (areas : List ℕ) : Type 0 where
   pub some : 0 < length areas

@@ -40,9 +40,9 @@ pub(crate) fn has_room(window: u32, bytes: u32, areas: &[u32]) -> bool
 
 /// Up to which number of free bytes, not included, the areas before this place are too small; at most the
 /// window and 1.
-fn end_at(window: u32, bytes: u32, areas: &[u32], place: usize) -> u32
+pub(crate) fn end_at(window: u32, bytes: u32, areas: &[u32], place: usize) -> u32
     requires window { window ≤ 511 }
-    requires place { place < length areas.now }
+    requires place { place ≤ length areas.now }
     requires ascending { AllPairs (λ m n. m < n) areas.now }
     ensures { IsEndAt window bytes areas.now place result }
 {

@@ -4,6 +4,7 @@
 mod choice;
 mod even;
 mod laws;
+mod near;
 mod rows;
 mod shortest;
 mod table;

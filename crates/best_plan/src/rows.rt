@@ -1,9 +1,10 @@
 //! The choices of one frame, for each number of free bytes before it.
-ghost use Rattle.std.specs.Prelude.{◌≡◌, ◌+◌, ◌<◌, ◌≤◌, All, AllPairs, IsTrue, length, slice_index, IfOk};
-ghost use Rattle.best_plan.specs.Rows.{nothing, IsEven, HasRoom, AppendsRow};
+ghost use Rattle.std.specs.Prelude.{◌≡◌, ◌+◌, ◌<◌, ◌≤◌, All, AllPairs, IsTrue, length, slice_index, IfOk, IfSome};
+ghost use Rattle.best_plan.specs.Rows.{nothing, IsEven, IsNear, HasRoom, AppendsRow};
 
 use crate::choice::{Known, NOTHING, best_choice, bounds_of, too_small};
 use crate::even::{add_to_all, append_first, has_room, is_even};
+use crate::near::{append_near, near_from};
 use std::alloc::AllocError;
 use std::mem::swap;
 
@@ -16,6 +17,8 @@ pub(crate) struct Sums {
     pub(crate) spare: Vec<u32>,
     /// Whether it is known that each free byte spares one.
     pub(crate) even: bool,
+    /// Where it is known that each free byte spares at most one, from how many on.
+    pub(crate) near: Option<u32>,
 }
 
 /// Appends a row, by trying the areas for each number of free bytes.
@@ -53,6 +56,34 @@ fn append_row(
         places.push(choice.place)?;
     }
     Ok(())
+}
+
+/// Appends the row of a frame, by the first areas that leave enough where each free byte spares at most one.
+///
+/// # Errors
+/// Where there is no memory.
+fn append_next(
+    window: u32,
+    bytes: u32,
+    areas: &[u32],
+    later: &[u32],
+    near: Option<u32>,
+    sums: &mut Vec<u32>,
+    places: &mut Vec<u8>,
+) -> Result<(), AllocError>
+    requires window { window ≤ 511 }
+    requires areas { All (λ n. n ≤ 1441) areas.now }
+    requires few { length areas.now ≤ 28 }
+    requires ascending { AllPairs (λ m n. m < n) areas.now }
+    requires later { length later.now ≡ window + 1 }
+    requires near { IfSome near (λ least. IsNear later.now least) }
+    ensures { IfOk result (λ _. AppendsRow window bytes areas.now later.now sums.new.items
+        places.old.items places.new.items) }
+{
+    match near {
+        Some(least) => append_near(window, bytes, areas, later, least, sums, places),
+        None => append_row(window, bytes, areas, later, sums, places),
+    }
 }
 
 /// Appends the row of a frame whose main data have room, before one in which each free byte spares one.
@@ -99,22 +130,28 @@ pub(crate) fn append_frame(
     requires ascending { AllPairs (λ m n. m < n) areas.now }
     requires width { length sums.old.by_free.items ≡ window + 1 }
     requires even { IsTrue sums.old.even → IsEven sums.old.by_free.items }
+    requires near { IfSome sums.old.near (λ least. IsNear sums.old.by_free.items least) }
     ensures row { IfOk result (λ _. AppendsRow window bytes areas.now sums.old.by_free.items
         sums.new.by_free.items places.old.items places.new.items) }
     ensures even { IfOk result (λ _. IsTrue sums.new.even → IsEven sums.new.by_free.items) }
+    ensures near { IfOk result (λ _. IfSome sums.new.near (λ least. IsNear sums.new.by_free.items least)) }
 {
     if sums.even && sums.by_free[0] < NOTHING - bytes && has_room(window, bytes, areas) {
-        return append_even(window, bytes, areas, &mut sums.by_free, places);
+        append_even(window, bytes, areas, &mut sums.by_free, places)?;
+        sums.near = Some(0);
+        return Ok(());
     }
-    append_row(
+    append_next(
         window,
         bytes,
         areas,
         sums.by_free.as_slice(),
+        sums.near,
         &mut sums.spare,
         places,
     )?;
     swap(&mut sums.by_free, &mut sums.spare);
     sums.even = is_even(sums.by_free.as_slice());
+    sums.near = near_from(sums.by_free.as_slice());
     Ok(())
 }

@@ -71,6 +71,7 @@ pub(crate) fn table_of<P: Policy>(
         by_free,
         spare,
         even: false,
+        near: None,
     };
     for i in (0..needs.len()).rev() {
         let need = &needs[i];

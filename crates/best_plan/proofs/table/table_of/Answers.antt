@@ -9,6 +9,7 @@ pub loop-i-init : goal.loop-i-init
 loop-i-init g c = record {
   table = table-none c.args.window (g.P.Policy.choices_of c.args.policy.now) c.args.needs.now c.in_ok-by_free.by_free.items c.in_ok-places.places.items c.in_ok-by_free.ensures c.in_ok-places.ensures.items;
   even = λ is. absurd cc;
+  near = tt;
 }
 
 pub append_frame-requires-clause-width : goal.append_frame-requires-clause-width
@@ -29,4 +30,5 @@ loop-i-preserved g c =
           (omega (arith, c.loop-i-test.true, c.loop-i.auto.i)) c.index-needs-i.is row (subst (λ l. All (λ n. n ≤ 1441) l) c.areas_of-areas.ensures.areas c.areas_of-areas.ensures.most) c.areas_of-areas.ensures.own
           (subst (λ k. IsTable c.args.window choices (drop k c.args.needs.now) later old) next c.loop-i.invariant.table);
       even = c.in_ok-append_frame.ensures.even;
+      near = c.in_ok-append_frame.ensures.near;
     }

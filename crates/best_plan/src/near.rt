@@ -1,0 +1,123 @@
+//! Rows in which each free byte spares at most one. In front of such a row the first area that leaves enough free bytes for
+//! the frames after it is the best.
+ghost use Rattle.std.specs.Prelude.{◌≡◌, ℕ, ◌+◌, ◌<◌, ◌≤◌, All, AllPairs, length, slice_index, IfOk, IfSome};
+ghost use Rattle.best_plan.specs.Rows.{nothing, IsNear, AreSums, AppendsRow};
+
+use crate::choice::NOTHING;
+use crate::even::end_at;
+use std::alloc::AllocError;
+
+/// How many free bytes are too few for any list: below this number there is no sum.
+fn too_few(sums: &[u32]) -> usize
+    ensures within { result ≤ length sums.now }
+    ensures none { (free : ℕ) → free < result → slice_index sums.now free ≡ nothing }
+{
+    for free in 0..sums.len() {
+        if sums[free] != NOTHING {
+            return free;
+        }
+    }
+    sums.len()
+}
+
+/// The number of free bytes from which on each spares at most one, where fewer are too few for any list.
+pub(crate) fn near_from(sums: &[u32]) -> Option<u32>
+    requires few { length sums.now ≤ 512 }
+    ensures { IfSome result (λ least. IsNear sums.now least) }
+{
+    let least = too_few(sums);
+    for free in least + 1..sums.len() {
+        if sums[free].saturating_add(1) < sums[free - 1] {
+            return None;
+        }
+    }
+    Some(least as u32)
+}
+
+/// No sums before so many free bytes.
+fn write_none(end: usize, sums: &mut [u32])
+    requires within { end ≤ length sums.old }
+    ensures width { length sums.new ≡ length sums.old }
+    ensures none { (free : ℕ) → free < end → slice_index sums.new free ≡ nothing }
+{
+    for free in 0..end {
+        sums[free] = NOTHING;
+    }
+}
+
+/// The sums of an area and of the least sum after it, from so many free bytes on and before as many.
+fn write_sums(
+    window: usize,
+    bytes: usize,
+    area: u32,
+    later: &[u32],
+    start: usize,
+    end: usize,
+    sums: &mut [u32],
+)
+    requires window { window ≤ 511 }
+    requires area { area ≤ 1441 }
+    requires later { length later.now ≡ window + 1 }
+    requires width { length sums.old ≡ window + 1 }
+    requires end { end ≤ window + 1 }
+    requires fits { start < end → bytes ≤ start + area }
+    ensures { AreSums window bytes area later.now start end sums.old sums.new }
+{
+    if end <= start {
+        return;
+    }
+    // Here and later the whole window is free behind the area.
+    let full = (window + bytes)
+        .saturating_sub(area as usize)
+        .max(start)
+        .min(end);
+    for free in start..full {
+        sums[free] = area.saturating_add(later[free + area as usize - bytes]);
+    }
+    let last = area.saturating_add(later[window]);
+    for more in full..end {
+        sums[more] = last;
+    }
+}
+
+/// The row of a frame in front of one in which each free byte from so many on spares at most one.
+pub(crate) fn append_near(
+    window: u32,
+    bytes: u32,
+    areas: &[u32],
+    later: &[u32],
+    least: u32,
+    sums: &mut Vec<u32>,
+    places: &mut Vec<u8>,
+) -> Result<(), AllocError>
+    requires window { window ≤ 511 }
+    requires areas { All (λ n. n ≤ 1441) areas.now }
+    requires few { length areas.now ≤ 28 }
+    requires ascending { AllPairs (λ m n. m < n) areas.now }
+    requires later { length later.now ≡ window + 1 }
+    requires near { IsNear later.now least }
+    ensures { IfOk result (λ _. AppendsRow window bytes areas.now later.now sums.new.items
+        places.old.items places.new.items) }
+{
+    let wanted = bytes.saturating_add(least);
+    let from = places.len();
+    sums.resize(window as usize + 1, NOTHING)?;
+    let mut start = end_at(window, wanted, areas, areas.len()) as usize;
+    write_none(start, sums.as_mut_slice());
+    places.resize(from + start, 0)?;
+    for place in (0..areas.len()).rev() {
+        let end = end_at(window, wanted, areas, place) as usize;
+        write_sums(
+            window as usize,
+            bytes as usize,
+            areas[place],
+            later,
+            start,
+            end,
+            sums.as_mut_slice(),
+        );
+        places.resize(from + end, place as u8)?;
+        start = end;
+    }
+    Ok(())
+}
