@@ -108,6 +108,8 @@ fn may_begin_text(first: u8) -> bool
 
 /// Whether the frame of so many bytes, which these bytes may begin with, is protected, and they show that its check
 /// word is wrong and that it is no head.
+// It is apart, so that a search keeps in registers what it needs at each place.
+#[inline(never)]
 pub(crate) fn has_wrong_word(own: &[u8], size: usize) -> bool
     requires own { 4 ≤ length own.now }
     requires within { size ≤ length own.now }
