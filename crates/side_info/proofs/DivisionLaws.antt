@@ -6,7 +6,7 @@ use Rattle.std.proofs.lemmas.Bool.{eqb-true, and_parts, cases_lt}
 use Rattle.std.proofs.lemmas.List.{take_more, take-take, drop-take, take-append-drop}
 use Rattle.std.specs.Int.{bit_at}
 use Rattle.bit_fields.specs.Bits.{bits, bits_of, AreBits}
-use Rattle.bit_fields.proofs.BitsLaws.{AreBits-bits_of, bits-append, bits-one, bits-nil}
+use Rattle.bit_fields.proofs.BitsLaws.{AreBits-bits_of, bits-append, bits-one}
 use Rattle.side_info.specs.declared.division.TheConstants.{REMAINDERS, REMAINDERS_2, REMAINDERS_3, REMAINDERS_4, REMAINDERS_5, REMAINDERS_6, REMAINDERS_7, REMAINDERS_8}
 use Rattle.side_info.specs.CheckWord.{polynomial, bit_step, remainder}
 use Rattle.frame_header.proofs.Below.{all_below, all_below-pass}

@@ -1,5 +1,5 @@
 -- Eight bytes more.
-use Rattle.std.proofs.Common.{◌≡◌, ◌+◌, ◌-◌, ◌*◌, ◌≤◌, length, take, drop, sym, ap, ap₂, ◌∙◌, arith}
+use Rattle.std.proofs.Common.{◌≡◌, ◌+◌, ◌-◌, ◌*◌, take, drop, sym, ap, ap₂, ◌∙◌, arith}
 use Rattle.bit_fields.specs.Bits.{bits}
 use Rattle.bit_fields.proofs.BitsLaws.{bits-nil}
 use Rattle.side_info.specs.CheckWord.{remainder}
