@@ -2,7 +2,7 @@
 
 use crate::reservoirs;
 use crate::reservoirs::{FIRST, SECOND};
-use acceptance_kit::running::{folder_of_file, list_to};
+use acceptance_kit::running::{folder_of_file, run_sending};
 use acceptance_kit::scripts::first_unlike;
 use acceptance_kit::steps::{Steps, first_strayed};
 use acceptance_kit::{kinds, steps};
@@ -114,7 +114,7 @@ static CALLS: [Steps; 1] = steps! {
 frame 1 at 417: 128 kbit/s, begin 81, bits 3200
 2 frames, MPEG-1, 44100 Hz, 2 channels, 0.00.05
 ";
-        kinds! { Find 1 "a: read fault\n"; Read 1 "a: read fault\n"; };
+        kinds! { Find 1 "a: read fault\n"; Read 1 "a: read fault\n"; Send 1 "standard output: write fault\n"; };
 };
 
 #[test]
@@ -136,7 +136,7 @@ fn expect_failed<R: Abort + AllocGlobal>(
     number: u64,
     whole: &[u8],
 ) -> Result<(), AllocError> {
-    let ended = list_to(rt.alloc(), folder, "z", Some(number))?;
+    let ended = run_sending(rt.alloc(), folder, "list z", Some(number))?;
     assert_eq!(rt; ended.status, 3);
     assert_eq!(rt;
         ended.err.sent(),
@@ -153,7 +153,7 @@ fn expect_whole<R: Abort + AllocGlobal>(
     folder: &mut MemFolder,
     whole: &[u8],
 ) -> Result<(), AllocError> {
-    let ended = list_to(rt.alloc(), folder, "z", Some(4))?;
+    let ended = run_sending(rt.alloc(), folder, "list z", Some(4))?;
     assert_eq!(rt; ended.status, 0);
     assert!(rt; ended.out.sent() == whole);
     Ok(())
@@ -163,7 +163,7 @@ fn expect_each_write<R: Abort + AllocGlobal>(
     rt: &R,
     folder: &mut MemFolder,
 ) -> Result<(), AllocError> {
-    let whole = list_to(rt.alloc(), folder, "z", None)?;
+    let whole = run_sending(rt.alloc(), folder, "list z", None)?;
     assert_eq!(rt; whole.status, 0);
     assert!(rt; whole.out.sent().len() > 2 * 65_536);
     for number in 1..4 {

@@ -1,6 +1,6 @@
 //! Inputs that a folder finds with another length than it reads, and inputs that are too long.
 
-use acceptance_kit::rows::{Found, other_end};
+use acceptance_kit::differences::other_end;
 use outside::{Failed, FindFault, Folder};
 use std::alloc::{AllocError, AllocGlobal};
 use std::process::Abort;
@@ -64,14 +64,6 @@ static CASES: [Case; 3] = table! {
     (1_073_741_825, 0, 1, "a: too long, 1073741825 bytes\n", 0)
 };
 
-/// Whether what was found is that the command ended for want of memory.
-fn told_want_of_memory(other: &Option<Found>) -> bool {
-    match other {
-        Some(Found::Line(line)) => line.as_str() == "out of memory\n",
-        _ => false,
-    }
-}
-
 /// Asserts how the command ends over this folder, how often the end was met, and that nothing was written.
 fn expect_over<R: Abort + AllocGlobal>(
     rt: &R,
@@ -80,9 +72,6 @@ fn expect_over<R: Abort + AllocGlobal>(
 ) -> Result<(), AllocError> {
     let words = "gain -s s -g 1 a o";
     let other = other_end(rt.alloc(), folder, words, case.status, case.line)?;
-    if told_want_of_memory(&other) {
-        return Err(AllocError);
-    }
     assert_eq!(rt; other, None, "{}", case.line);
     assert_eq!(rt; folder.ends, case.ends, "{}", case.line);
     assert_eq!(rt; folder.write_faults, 0, "{}", case.line);

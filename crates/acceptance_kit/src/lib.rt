@@ -1,7 +1,7 @@
 //! What the tests of whole commands share: commands over a folder and sinks in memory.
 #![tactic(auto)]
 
-pub mod rows;
+pub mod differences;
 pub mod running;
 pub mod scripts;
 pub mod steps;

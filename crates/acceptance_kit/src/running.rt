@@ -11,7 +11,7 @@ use test_files::frames::{Frame, file_of};
 const TEXT_ROOM: u64 = 100;
 
 /// More than any listing of these tests takes.
-pub const LISTING_ROOM: u64 = 1_000_000;
+const LISTING_ROOM: u64 = 1_000_000;
 
 /// How a command ended: its status, and what it wrote.
 #[derive(Drop)]
@@ -19,6 +19,27 @@ pub struct Ended {
     pub status: u8,
     pub out: MemSink,
     pub err: MemSink,
+}
+
+/// Puts a file into the folder. It says nothing of the folder, so that a call leaves no facts, which cost the check.
+pub(crate) fn put(folder: &mut MemFolder, name: &str, bytes: &[u8]) -> Result<(), AllocError> {
+    folder.put(name, bytes)
+}
+
+/// Makes room for a file, and says as little.
+pub(crate) fn reserve(folder: &mut MemFolder, name: &str, room: u64) -> Result<(), AllocError> {
+    folder.reserve(name, room)
+}
+
+/// Puts one file into the folder, and makes room for the file `o`.
+fn put_with_room(
+    folder: &mut MemFolder,
+    name: &str,
+    bytes: &[u8],
+    room: usize,
+) -> Result<(), AllocError> {
+    put(folder, name, bytes)?;
+    reserve(folder, "o", room as u64)
 }
 
 /// A folder with one file, and with room for the file `o`.
@@ -29,8 +50,7 @@ pub fn folder_of(
     room: usize,
 ) -> Result<MemFolder, AllocError> {
     let mut folder = MemFolder::new(alloc);
-    folder.put(name, bytes)?;
-    folder.reserve("o", room as u64)?;
+    put_with_room(&mut folder, name, bytes, room)?;
     Ok(folder)
 }
 
@@ -54,18 +74,56 @@ pub fn folder_of_file(
     folder_of(alloc, name, &bytes, bytes.len())
 }
 
-/// A sink with room for a line.
-pub fn sink(alloc: Global) -> Result<MemSink, AllocError> {
+fn make_room(sink: &mut MemSink, room: u64, failing: Option<u64>) -> Result<(), AllocError> {
+    sink.reserve(room)?;
+    match failing {
+        Some(number) => sink.fail(number),
+        None => Ok(()),
+    }
+}
+
+/// A sink with so much room. The write of this number is to fail.
+fn sink_of(alloc: Global, room: u64, failing: Option<u64>) -> Result<MemSink, AllocError> {
     let mut sink = MemSink::new(alloc);
-    sink.reserve(TEXT_ROOM)?;
+    make_room(&mut sink, room, failing)?;
     Ok(sink)
 }
 
+/// A sink with room for a line.
+pub fn sink(alloc: Global) -> Result<MemSink, AllocError> {
+    sink_of(alloc, TEXT_ROOM, None)
+}
+
 /// The words of a text, which blanks part.
-pub fn words_of(alloc: Global, text: &str) -> Result<Vec<String>, AllocError> {
+fn words_of(alloc: Global, text: &str) -> Result<Vec<String>, AllocError> {
     text.split_ascii_whitespace()
         .map(|word| String::from_str(alloc, word))
         .try_collect(alloc)
+}
+
+/// Runs the words with these sinks as standard output and standard error. It is apart from where they are made, since what is
+/// owned costs the check at each `?` that may let it go.
+fn ended_of<D: Folder>(
+    alloc: Global,
+    words: &[String],
+    folder: &mut D,
+    mut out: MemSink,
+    mut err: MemSink,
+) -> Ended {
+    let status = run(alloc, words, folder, &mut out, &mut err);
+    Ended { status, out, err }
+}
+
+/// Runs the words, which blanks part, with these sinks.
+fn run_to<D: Folder>(
+    alloc: Global,
+    folder: &mut D,
+    words: &str,
+    out: MemSink,
+    err: MemSink,
+) -> Result<Ended, AllocError> {
+    let words = words_of(alloc, words)?;
+    Ok(ended_of(alloc, &words, folder, out, err))
 }
 
 /// Runs the words, which blanks part, with this sink as standard error.
@@ -73,31 +131,22 @@ pub fn run_over<D: Folder>(
     alloc: Global,
     folder: &mut D,
     words: &str,
-    mut err: MemSink,
+    err: MemSink,
 ) -> Result<Ended, AllocError> {
-    let words = words_of(alloc, words)?;
-    let mut out = sink(alloc)?;
-    let status = run(alloc, &words, folder, &mut out, &mut err);
-    Ok(Ended { status, out, err })
+    let out = sink(alloc)?;
+    run_to(alloc, folder, words, out, err)
 }
 
-/// Lists the file to a sink with room enough, whose write of this number is to fail.
-pub fn list_to<D: Folder>(
+/// Runs the words, which blanks part, with sinks that have room enough. The write of this number to standard output is to fail.
+pub fn run_sending<D: Folder>(
     alloc: Global,
     folder: &mut D,
-    name: &str,
+    words: &str,
     failing: Option<u64>,
 ) -> Result<Ended, AllocError> {
-    let mut out = MemSink::new(alloc);
-    out.reserve(LISTING_ROOM)?;
-    if let Some(number) = failing {
-        out.fail(number)?;
-    }
-    let mut err = sink(alloc)?;
-    let mut words = words_of(alloc, "list")?;
-    words.push(String::from_str(alloc, name)?)?;
-    let status = run(alloc, &words, folder, &mut out, &mut err);
-    Ok(Ended { status, out, err })
+    let out = sink_of(alloc, LISTING_ROOM, failing)?;
+    let err = sink(alloc)?;
+    run_to(alloc, folder, words, out, err)
 }
 
 /// Runs the words, which blanks part, with sinks that have room enough.
@@ -106,10 +155,5 @@ pub fn run_with_room<D: Folder>(
     folder: &mut D,
     words: &str,
 ) -> Result<Ended, AllocError> {
-    let words = words_of(alloc, words)?;
-    let mut out = MemSink::new(alloc);
-    out.reserve(LISTING_ROOM)?;
-    let mut err = sink(alloc)?;
-    let status = run(alloc, &words, folder, &mut out, &mut err);
-    Ok(Ended { status, out, err })
+    run_sending(alloc, folder, words, None)
 }

@@ -19,8 +19,8 @@
 //! A file that was there and isn't named by `>` has to stay, and a name of the outputs that no line of a file names has to be
 //! absent. A line `NAME = words` defines bytes for the lines after it.
 
-use crate::rows::{Found, bytes_differ, difference_of_done, difference_of_sent, wants_memory};
-use crate::running::{Ended, run_with_room};
+use crate::differences::{Found, bytes_differ, difference_of_sent, other_end, wants_memory};
+use crate::running::{Ended, put, reserve, run_with_room};
 use in_memory::{Call, MemFolder};
 use std::alloc::{AllocError, AllocFailed, Global};
 use test_files::named::FILES;
@@ -118,7 +118,7 @@ fn put_file(
 ) -> Result<(), Stop> {
     let (name, words) = parted(file);
     let bytes = bytes_of_words(alloc, names, words)?;
-    Ok(folder.put(name, &bytes)?)
+    Ok(put(folder, name, &bytes)?)
 }
 
 fn put_files(
@@ -138,7 +138,7 @@ fn put_files(
 fn reserve_outputs(folder: &mut MemFolder, row: &'static str) -> Result<(), Stop> {
     let room = number_of(said(row, "room ").unwrap_or("200000"))?;
     for name in outputs_of(row).split_ascii_whitespace() {
-        folder.reserve(name, room as u64)?;
+        reserve(folder, name, room as u64)?;
     }
     Ok(())
 }
@@ -164,8 +164,7 @@ fn fail_calls(folder: &mut MemFolder, row: &'static str) -> Result<(), Stop> {
 }
 
 fn run_done(alloc: Global, folder: &mut MemFolder, words: &'static str) -> Result<(), Stop> {
-    let ended = run_with_room(alloc, folder, words)?;
-    none_of(difference_of_done(alloc, &ended)?)
+    none_of(other_end(alloc, folder, words, 0, "")?)
 }
 
 /// Runs the commands except the last.

@@ -1,18 +1,25 @@
 //! Commands of which one call fails: the first of its kind, the second and so on, until none does.
 
+use crate::differences::wants_memory;
 use crate::kinds;
-use crate::rows::{File, difference_of_files, put_files, wants_memory};
-use crate::running::{Ended, run_with_room};
+use crate::running::{Ended, put, reserve, run_sending};
 use in_memory::{Call, MemFolder};
 use std::alloc::{AllocError, Global};
-use test_files::files::bytes_of;
+use test_files::files::{Stretch, bytes_of};
 
 /// More calls of one kind than any of these commands makes.
 const MOST: u64 = 60;
 
+/// A file: its name, and its stretches end to end.
+pub struct File {
+    pub name: &'static str,
+    pub bytes: &'static [Stretch],
+}
+
 /// A kind of call, and what a run tells where one fails.
 pub struct Kind {
-    pub call: Call,
+    /// A call of the folder; where it is none, a write to standard output.
+    pub call: Option<Call>,
     /// The line where the first fails, where the second does, and so on; the last of them where a later one does.
     pub lines: &'static [&'static str],
     /// How many are made at least.
@@ -62,7 +69,7 @@ pub enum Stray {
 #[derive(Debug, PartialEq, Eq, Clone, Copy)]
 pub struct Strayed {
     pub words: &'static str,
-    pub call: Call,
+    pub call: Option<Call>,
     pub number: u64,
     pub stray: Stray,
 }
@@ -134,6 +141,21 @@ fn run_of(ended: &Ended, line: &'static str, progress: Progress) -> Run {
     }
 }
 
+/// Whether each of these files is there with its bytes.
+fn are_there(
+    alloc: Global,
+    folder: &MemFolder,
+    files: &'static [File],
+) -> Result<bool, AllocError> {
+    for file in files {
+        let wanted = bytes_of(alloc, file.bytes)?;
+        if folder.get(file.name) != Some(wanted.as_slice()) {
+            return Ok(false);
+        }
+    }
+    Ok(true)
+}
+
 /// Whether one of these files is there.
 fn is_any_there(folder: &MemFolder, outputs: &'static [File]) -> bool {
     for output in outputs {
@@ -153,18 +175,29 @@ fn run_ended(
     number: u64,
     ended: &Ended,
 ) -> Result<Run, AllocError> {
-    if difference_of_files(alloc, folder, steps.files, &[])?.is_some() {
+    if !are_there(alloc, folder, steps.files)? {
         return Ok(Run::Strayed(Stray::Changed));
     }
     if wants_memory(ended) {
         return Err(AllocError);
     }
-    if kind.call == Call::Write && !is_any_there(folder, steps.outputs) {
+    if kind.call == Some(Call::Write) && !is_any_there(folder, steps.outputs) {
         return Ok(Run::Strayed(Stray::Uncreated));
     }
     let files = progress_of(alloc, folder, steps.outputs)?;
     let progress = progressed(files, ended.out.sent(), steps.text.as_bytes());
     Ok(run_of(ended, line_of(kind, number), progress))
+}
+
+fn put_files(
+    alloc: Global,
+    folder: &mut MemFolder,
+    files: &'static [File],
+) -> Result<(), AllocError> {
+    for file in files {
+        put(folder, file.name, &bytes_of(alloc, file.bytes)?)?;
+    }
+    Ok(())
 }
 
 fn reserve_files(
@@ -173,7 +206,7 @@ fn reserve_files(
     room: u64,
 ) -> Result<(), AllocError> {
     for output in outputs {
-        folder.reserve(output.name, room)?;
+        reserve(folder, output.name, room)?;
     }
     Ok(())
 }
@@ -187,6 +220,21 @@ fn prepare_steps(
     reserve_files(folder, steps.outputs, steps.room)
 }
 
+/// Lets a call of the folder fail. A write to standard output is the answer: which of them is to fail.
+fn fail_call(
+    folder: &mut MemFolder,
+    kind: &'static Kind,
+    number: u64,
+) -> Result<Option<u64>, AllocError> {
+    match kind.call {
+        Some(call) => {
+            folder.fail(call, number)?;
+            Ok(None)
+        }
+        None => Ok(Some(number)),
+    }
+}
+
 fn run_prepared(
     alloc: Global,
     folder: &mut MemFolder,
@@ -194,7 +242,8 @@ fn run_prepared(
     kind: &'static Kind,
     number: u64,
 ) -> Result<Run, AllocError> {
-    let ended = run_with_room(alloc, folder, steps.words)?;
+    let failing = fail_call(folder, kind, number)?;
+    let ended = run_sending(alloc, folder, steps.words, failing)?;
     run_ended(alloc, folder, steps, kind, number, &ended)
 }
 
@@ -206,7 +255,6 @@ fn run_over_folder(
     number: u64,
 ) -> Result<Run, AllocError> {
     prepare_steps(alloc, folder, steps)?;
-    folder.fail(kind.call, number)?;
     run_prepared(alloc, folder, steps, kind, number)
 }
 

@@ -1,9 +1,8 @@
 //! Files that are packed in the fewest bytes. The bytes were worked out by hand from the standard's tables.
 
-use crate::songs::{A_0_ALONE, INFO, INFO_REST, LEAST, LEAST_FROM_68, NO_SIDE};
-use acceptance_kit::rows::{File, ROW, Row, first_difference};
+use crate::songs;
+use acceptance_kit::scripts::first_unlike;
 use std::test::Fail;
-use test_files::files::Stretch;
 use test_files::frames::{Frame, Z};
 
 /// 4 times 136 bits of main data, 68 bytes. After them are the first bytes of the next frame's.
@@ -26,27 +25,7 @@ pub const LONG: Frame = Frame {
     ..Z
 };
 
-/// The first at 32 kbit/s, with an area of 68 bytes.
-const SHORT_AT_32: Frame = Frame {
-    header: [0xff, 0xfb, 0x10, 0x00],
-    area: &[0x55; 68],
-    length: 104,
-    ..SHORT
-};
-
-/// The second at 160 kbit/s after it, with an area of 486 bytes.
-const LONG_AT_160: Frame = Frame {
-    header: [0xff, 0xfb, 0xa0, 0x00],
-    side: &[
-        0x00, 0x00, 0x02, 0xfe, 0x00, 0x00, 0x00, 0x00, 0x00, 0x00, 0x5f, 0xc0, 0x00, 0x00, 0x00,
-        0x00, 0x00, 0x0b, 0xf8, 0x00, 0x00, 0x00, 0x00, 0x00, 0x01, 0x7f,
-    ],
-    area: &[0x55; 383],
-    length: 522,
-    ..Z
-};
-
-/// The first with a byte more in its area, which is the first of the second's main data.
+/// The first with a byte more, which is the first of the second.
 pub const SHORT_PADDED: Frame = Frame {
     header: [0xff, 0xfb, 0x12, 0x00],
     area: &[0x55; 69],
@@ -66,168 +45,61 @@ pub const LONG_PADDED: Frame = Frame {
     ..Z
 };
 
-/// 4 times 2,020 bits, 1,010 bytes, a byte more than the largest area has. They begin in the area of the head before it.
-const LARGE: Frame = Frame {
-    header: [0xff, 0xfb, 0xe2, 0x00],
-    side: &[
-        0x00, 0x80, 0x07, 0xe4, 0x00, 0x00, 0x00, 0x00, 0x00, 0x00, 0xfc, 0x80, 0x00, 0x00, 0x00,
-        0x00, 0x00, 0x1f, 0x90, 0x00, 0x00, 0x00, 0x00, 0x00, 0x03, 0xf2,
-    ],
-    area: &[0x55; 1009],
-    length: 1045,
-    ..Z
-};
+/// Bytes that the rows name.
+const DEFINED: &str = "
+# The four frames above. LONG is another one, of `test_files::named`.
+SHORT = fffb9000 0000008800000000000011000000000000022000000000000044 ~36 55*381
+LONGER = fffb9000 010002fe0000000000005fc000000000000bf80000000000017f ~36 55*381
+SHORT_PADDED = fffb1200 0000008800000000000011000000000000022000000000000044 ~36 55*69
+LONG_PADDED = fffb9200 008002fe0000000000005fc000000000000bf80000000000017f ~36 55*382
+# The first at 32 kbit/s, with an area of 68 bytes.
+SHORT_AT_32 = fffb1000 0000008800000000000011000000000000022000000000000044 ~36 55*68
+# The second at 160 kbit/s after it, with an area of 486 bytes.
+LONG_AT_160 = fffba000 000002fe0000000000005fc000000000000bf80000000000017f ~36 55*383 ~522
+# 4 times 2,020 bits, 1,010 bytes, a byte more than the largest area has. They begin in the area of the head before it.
+LARGE = fffbe200 008007e4000000000000fc8000000000001f90000000000003f2 ~36 55*1009
+# A lead-in of 80 kbit/s, whose area of 225 bytes has main data of the frame after it.
+LEAD_IN_OF_80 = fffb6000 ~36 55*225
+# The frame at 256 kbit/s after it, with an area of 799 bytes.
+LARGE_AT_256 = fffbd000 708007e4000000000000fc8000000000001f90000000000003f2 ~36 55*785 ~835
+# Z at 32 kbit/s, where main data could begin 136 bytes before the area.
+LEAST_FROM_136 = fffb1000 44 ~104
+# 300 bytes of main data at 128 kbit/s, and at 112 with an area of 329 bytes.
+A_0_ALONE = fffb9000 000002580032000000004b000640000000096000c8000000012c0019 ~36 55*300 ~417
+ALONE_AT_112 = fffb8000 000002580032000000004b000640000000096000c8000000012c0019 ~36 55*300 ~365
+";
 
-/// A lead-in of 80 kbit/s, whose area of 225 bytes has main data of the frame after it.
-const LEAD_IN_OF_80: Frame = Frame {
-    header: [0xff, 0xfb, 0x60, 0x00],
-    area: &[0x55; 225],
-    length: 261,
-    ..Z
-};
+/// Files packed.
+static PACKED: &str = "
+# each the least, 834 bytes
+< e SHORT LONGER
+$ pack e o
+> o INFO_FRONT 'Xing' 0000000f0000000200000342 3f*50 5f*50 INFO_REST SHORT_AT_32 LONG_AT_160
 
-/// The frame at 256 kbit/s after it, with an area of 799 bytes.
-const LARGE_AT_256: Frame = Frame {
-    header: [0xff, 0xfb, 0xd0, 0x00],
-    side: &[
-        0x70, 0x80, 0x07, 0xe4, 0x00, 0x00, 0x00, 0x00, 0x00, 0x00, 0xfc, 0x80, 0x00, 0x00, 0x00,
-        0x00, 0x00, 0x1f, 0x90, 0x00, 0x00, 0x00, 0x00, 0x00, 0x03, 0xf2,
-    ],
-    area: &[0x55; 785],
-    length: 835,
-    ..Z
-};
+# a byte more in front saves 104
+< e SHORT LONGER
+$ pack --best e o
+> o INFO_FRONT 'Xing' 0000000f00000002000002db 48*50 6d*50 INFO_REST SHORT_PADDED LONG_PADDED
 
-/// Z at 32 kbit/s, where main data could begin 136 bytes before the area.
-const LEAST_FROM_136: Frame = Frame {
-    side: &[0x44],
-    ..LEAST
-};
+# behind a lead-in, where the head's area is missing
+< l INFO_FRONT 'Info' 00*167 55 LARGE
+$ pack --best l o
+> o INFO_FRONT 'Xing' 0000000f0000000200000518 28*50 5c*50 INFO_REST LEAD_IN_OF_80 LARGE_AT_256
 
-/// 300 bytes of main data at 112 kbit/s, with an area of 329 bytes.
-const ALONE_AT_112: Frame = Frame {
-    header: [0xff, 0xfb, 0x80, 0x00],
-    length: 365,
-    ..A_0_ALONE
-};
+# silent frames
+< s Z Z Z
+$ pack --best s o
+> o INFO_FRONT 'Info' 0000000f0000000300000208 66*34 99*33 cc*33 INFO_REST LEAST LEAST_FROM_68 LEAST_FROM_136
 
-static PACKED: [Row; 5] = [
-    Row {
-        what: "each the least, 834 bytes",
-        files: &[File {
-            name: "e",
-            bytes: &[Stretch::Frames(&[SHORT, LONG])],
-        }],
-        words: &["pack e o"],
-        after: &[File {
-            name: "o",
-            bytes: &[
-                INFO,
-                NO_SIDE,
-                Stretch::Bytes(b"Xing\0\0\0\x0f\0\0\0\x02\0\0\x03\x42"),
-                Stretch::Fill(63, 50),
-                Stretch::Fill(95, 50),
-                INFO_REST,
-                Stretch::Frames(&[SHORT_AT_32, LONG_AT_160]),
-            ],
-        }],
-        ..ROW
-    },
-    Row {
-        what: "a byte more in front saves 104",
-        files: &[File {
-            name: "e",
-            bytes: &[Stretch::Frames(&[SHORT, LONG])],
-        }],
-        words: &["pack --best e o"],
-        after: &[File {
-            name: "o",
-            bytes: &[
-                INFO,
-                NO_SIDE,
-                Stretch::Bytes(b"Xing\0\0\0\x0f\0\0\0\x02\0\0\x02\xdb"),
-                Stretch::Fill(72, 50),
-                Stretch::Fill(109, 50),
-                INFO_REST,
-                Stretch::Frames(&[SHORT_PADDED, LONG_PADDED]),
-            ],
-        }],
-        ..ROW
-    },
-    Row {
-        what: "behind a lead-in, where the head's area is missing",
-        files: &[File {
-            name: "l",
-            bytes: &[
-                INFO,
-                NO_SIDE,
-                Stretch::Bytes(b"Info"),
-                Stretch::Fill(0, 167),
-                Stretch::Fill(0x55, 1),
-                Stretch::Frames(&[LARGE]),
-            ],
-        }],
-        words: &["pack --best l o"],
-        after: &[File {
-            name: "o",
-            bytes: &[
-                INFO,
-                NO_SIDE,
-                Stretch::Bytes(b"Xing\0\0\0\x0f\0\0\0\x02\0\0\x05\x18"),
-                Stretch::Fill(40, 50),
-                Stretch::Fill(92, 50),
-                INFO_REST,
-                Stretch::Frames(&[LEAD_IN_OF_80, LARGE_AT_256]),
-            ],
-        }],
-        ..ROW
-    },
-    Row {
-        what: "silent frames",
-        files: &[File {
-            name: "s",
-            bytes: &[Stretch::Frames(&[Z, Z, Z])],
-        }],
-        words: &["pack --best s o"],
-        after: &[File {
-            name: "o",
-            bytes: &[
-                INFO,
-                NO_SIDE,
-                Stretch::Bytes(b"Info\0\0\0\x0f\0\0\0\x03\0\0\x02\x08"),
-                Stretch::Fill(102, 34),
-                Stretch::Fill(153, 33),
-                Stretch::Fill(204, 33),
-                INFO_REST,
-                Stretch::Frames(&[LEAST, LEAST_FROM_68, LEAST_FROM_136]),
-            ],
-        }],
-        ..ROW
-    },
-    Row {
-        what: "one frame",
-        files: &[File {
-            name: "a",
-            bytes: &[Stretch::Frames(&[A_0_ALONE])],
-        }],
-        words: &["pack --best a o"],
-        after: &[File {
-            name: "o",
-            bytes: &[
-                INFO,
-                NO_SIDE,
-                Stretch::Bytes(b"Info\0\0\0\x0f\0\0\0\x01\0\0\x02\x3d"),
-                Stretch::Fill(92, 100),
-                INFO_REST,
-                Stretch::Frames(&[ALONE_AT_112]),
-            ],
-        }],
-        ..ROW
-    },
-];
+# one frame
+< a A_0_ALONE
+$ pack --best a o
+> o INFO_FRONT 'Info' 0000000f000000010000023d 5c*100 INFO_REST ALONE_AT_112
+";
 
 #[test]
-fn packed_in_the_fewest_bytes(rt: HostRuntime) -> Result<(), Fail> {
-    assert_eq!(rt; first_difference(rt.alloc(), &PACKED)?, None);
+fn rows(rt: HostRuntime) -> Result<(), Fail> {
+    let texts = [songs::DEFINED, DEFINED, PACKED];
+    assert_eq!(rt; first_unlike(rt.alloc(), &texts)?, None);
     Ok(())
 }

@@ -1,11 +1,8 @@
 //! Files that are packed with some bit rates alone. The bytes were worked out by hand from the standard's tables.
 
-use crate::songs::{A, A_0, A_1, INFO_REST, TWO_OF_1042};
-use acceptance_kit::rows::{Row, first_difference};
-use acceptance_kit::{done, refused};
+use crate::songs;
+use acceptance_kit::scripts::first_unlike;
 use std::test::Fail;
-use test_files::files::INFO_FRONT;
-use test_files::files::Stretch::{Bytes, Fill, Frames};
 use test_files::frame;
 use test_files::frames::{Frame, Z};
 
@@ -32,28 +29,46 @@ pub const A_1_OF_96: Frame = Frame {
     ..Z
 };
 
-static PACKED: [Row; 2] = done! {
-    "one bit rate, with a lead-in": "pack --constant 96 a o", "a" = &[A] =>
-        "o" = &[INFO_FRONT, Bytes(b"Info\0\0\0\x0f\0\0\0\x03\0\0\x04\x7b"), Fill(46, 34), Fill(116, 33), Fill(186, 33), INFO_REST, Frames(&[LEAD_IN_OF_96, A_0_OF_96, A_1_OF_96])];
-    "bit rates from one on": "pack --floor 128 a o", "a" = &[A] =>
-        "o" = &[INFO_FRONT, TWO_OF_1042, Fill(51, 50), Fill(153, 50), INFO_REST, Frames(&[A_0, A_1])];
-};
+/// Bytes that the rows name: these three.
+const DEFINED: &str = "
+LEAD_IN_OF_96 = fffb7000 ~36 55*277 ~313
+A_0_OF_96 = fffb7000 8a8002580032000000004b000640000000096000c8000000012c0019 ~36 55*277 ~313
+A_1_OF_96 = fffb7000 7f000320003200000000640006400000000c8000c800000001900019 ~36 55*146 ~313
+";
+
+/// Packed with one bit rate, with a lead-in, and with bit rates from one on.
+static PACKED: &str = "
+< a A
+$ pack --constant 96 a o
+> o INFO_FRONT 'Info' 0000000f000000030000047b 2e*34 74*33 ba*33 INFO_REST LEAD_IN_OF_96 A_0_OF_96 A_1_OF_96
+
+< a A
+$ pack --floor 128 a o
+> o INFO_FRONT TWO_OF_1042 33*50 99*50 INFO_REST A_0 A_1
+";
+
+/// Refused bit rates.
+static REFUSED: &str = "
+< a A
+$ pack --constant 64 a o
+! 1 frame 1 does not fit
+
+< a A
+$ pack --constant 32 a o
+! 1 frame 0 does not fit
+
+< a A
+$ pack --constant 100 a o
+! 1 no rate 100
+
+< a A
+$ pack --floor 008 a o
+! 1 no rate 8
+";
 
 #[test]
-fn packed_with_bit_rates(rt: HostRuntime) -> Result<(), Fail> {
-    assert_eq!(rt; first_difference(rt.alloc(), &PACKED)?, None);
-    Ok(())
-}
-
-static REFUSED: [Row; 4] = refused! {
-    "pack --constant 64 a o", "a" = &[A] => 1 "frame 1 does not fit\n";
-    "pack --constant 32 a o", "a" = &[A] => 1 "frame 0 does not fit\n";
-    "pack --constant 100 a o", "a" = &[A] => 1 "no rate 100\n";
-    "pack --floor 008 a o", "a" = &[A] => 1 "no rate 8\n";
-};
-
-#[test]
-fn refused_bit_rates(rt: HostRuntime) -> Result<(), Fail> {
-    assert_eq!(rt; first_difference(rt.alloc(), &REFUSED)?, None);
+fn rows(rt: HostRuntime) -> Result<(), Fail> {
+    let texts = [songs::DEFINED, DEFINED, PACKED, REFUSED];
+    assert_eq!(rt; first_unlike(rt.alloc(), &texts)?, None);
     Ok(())
 }

@@ -66,12 +66,6 @@ pub const LEAST_FROM_68: Frame = frame! { side: &[0x22], ..LEAST };
 /// The file A.
 pub const A: Stretch = Frames(&[A_0, A_1]);
 
-/// The header of an Info frame of MPEG-1, 44,100 Hz, two channels: 64 kbit/s, 208 bytes.
-pub const INFO: Stretch = Bytes(&[0xff, 0xfb, 0x50, 0x00]);
-
-/// Side information that is all 0, of MPEG-1 with two channels.
-pub const NO_SIDE: Stretch = Fill(0, 32);
-
 /// The quality 0 and 36 bytes of extension after the table, and the 16 bytes after the 156 of the fields.
 pub const INFO_REST: Stretch = Fill(0, 56);
 

@@ -4,4 +4,6 @@
 #[cfg(test)]
 mod damaged;
 #[cfg(test)]
+mod each_call;
+#[cfg(test)]
 mod gaps;

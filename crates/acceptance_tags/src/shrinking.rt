@@ -1,7 +1,7 @@
 //! A file that becomes shorter after the survey: while its tag is read, or in the second pass.
 
 use crate::blocks::UNDO;
-use acceptance_kit::rows::other_end;
+use acceptance_kit::differences::other_end;
 use outside::{Failed, FindFault, Folder};
 use std::alloc::{AllocError, AllocGlobal};
 use std::process::Abort;
