@@ -1,4 +1,6 @@
 //! What no clause says: that calls succeed, and what the system does.
+//!
+//! A test owns its folder and ends in one place, and what it asserts is in small functions that borrow it: that costs the check least.
 mod buffers;
 mod exact;
 mod noticed;
@@ -10,6 +12,7 @@ mod slow;
 
 use in_memory::{Call, MemFolder, MemSink};
 use outside::{Failed, Folder, read_full, send_all, write_all};
+use std::alloc::AllocError;
 use std::process::Abort;
 use std::test::Fail;
 
@@ -23,47 +26,93 @@ fn copied<D: Folder>(folder: &mut D, from: &str, to: &str) -> Result<usize, Fail
     Ok(count)
 }
 
-#[test]
-fn folder_in_memory(rt: HostRuntime) -> Result<(), Fail> {
-    let mut folder = MemFolder::new(rt.alloc());
+fn expect_copied(
+    rt: &impl Abort,
+    folder: &mut MemFolder,
+    from: &str,
+    wanted: Result<usize, Failed>,
+    content: &[u8],
+) {
+    assert!(rt; copied(folder, from, "to") == wanted, "{from}");
+    assert!(rt; folder.get("to") == Some(content), "{from}");
+}
+
+// Past the room, then on the list of those that fail, then done, and then without a file.
+fn expect_copies(rt: &impl Abort, folder: &mut MemFolder) -> Result<(), AllocError> {
     folder.put("from", b"0123456789")?;
     folder.reserve("to", 9)?;
-    assert_eq!(rt;
-        copied(&mut folder, "from", "to"),
-        Err(Failed),
-        "past the room"
-    );
-    assert_eq!(rt; folder.get("to").unwrap_or(b"none"), b"".as_slice());
+    expect_copied(rt, folder, "from", Err(Failed), b"");
     folder.reserve("to", 10)?;
     folder.fail(Call::Write, 2)?;
-    assert_eq!(rt;
-        copied(&mut folder, "from", "to"),
-        Err(Failed),
-        "on the list"
-    );
-    assert_eq!(rt; copied(&mut folder, "from", "to"), Ok(10));
-    assert_eq!(rt;
-        folder.get("to").unwrap_or(b"none"),
-        b"0123456789".as_slice()
-    );
-    assert_eq!(rt; copied(&mut folder, "none", "to"), Err(Failed), "absent");
+    expect_copied(rt, folder, "from", Err(Failed), b"");
+    expect_copied(rt, folder, "from", Ok(10), b"0123456789");
+    expect_copied(rt, folder, "none", Err(Failed), b"0123456789");
     Ok(())
 }
 
-fn expect_sent(rt: &impl Abort, sink: &mut MemSink, bytes: &[u8], wanted: Result<(), Failed>) {
-    assert_eq!(rt; send_all(sink, bytes), wanted, "{bytes:?}");
+#[test]
+fn folder_in_memory(rt: HostRuntime) -> Result<(), Fail> {
+    let mut folder = MemFolder::new(rt.alloc());
+    expect_copies(&rt, &mut folder)?;
+    Ok(())
+}
+
+/// Bytes that are sent, what is answered, and what the sink has then.
+struct Sent {
+    bytes: &'static [u8],
+    answer: Result<(), Failed>,
+    sent: &'static [u8],
 }
 
 // The second write is on the list of those that fail, and three more bytes are past the room.
+static SENDINGS: [Sent; 4] = [
+    Sent {
+        bytes: b"ab",
+        answer: Ok(()),
+        sent: b"ab",
+    },
+    Sent {
+        bytes: b"c",
+        answer: Err(Failed),
+        sent: b"ab",
+    },
+    Sent {
+        bytes: b"cde",
+        answer: Err(Failed),
+        sent: b"ab",
+    },
+    Sent {
+        bytes: b"cd",
+        answer: Ok(()),
+        sent: b"abcd",
+    },
+];
+
+fn has_sent(sink: &MemSink, bytes: &[u8]) -> bool {
+    sink.sent() == bytes
+}
+
+fn expect_sent(rt: &impl Abort, sink: &mut MemSink, sent: &Sent) {
+    assert!(rt;
+        send_all(sink, sent.bytes) == sent.answer,
+        "{:?}",
+        sent.bytes
+    );
+    assert!(rt; has_sent(sink, sent.sent), "{:?}", sent.bytes);
+}
+
+fn expect_sendings(rt: &impl Abort, sink: &mut MemSink) -> Result<(), AllocError> {
+    sink.reserve(4)?;
+    sink.fail(2)?;
+    for sent in &SENDINGS {
+        expect_sent(rt, sink, sent);
+    }
+    Ok(())
+}
+
 #[test]
 fn sink_in_memory(rt: HostRuntime) -> Result<(), Fail> {
     let mut sink = MemSink::new(rt.alloc());
-    sink.reserve(4)?;
-    sink.fail(2)?;
-    expect_sent(&rt, &mut sink, b"ab", Ok(()));
-    expect_sent(&rt, &mut sink, b"c", Err(Failed));
-    expect_sent(&rt, &mut sink, b"cde", Err(Failed));
-    expect_sent(&rt, &mut sink, b"cd", Ok(()));
-    assert_eq!(rt; sink.sent(), b"abcd".as_slice());
+    expect_sendings(&rt, &mut sink)?;
     Ok(())
 }

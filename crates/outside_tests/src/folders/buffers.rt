@@ -1,30 +1,31 @@
 //! How often the buffers read and write, over a folder that gives and takes few bytes at a time.
-ghost use Rattle.std.specs.Prelude.{◌+◌, ◌^◌, ◌≤◌};
 ghost use Rattle.outside.specs.Files.{untold};
 ghost use Rattle.outside.specs.Feed.{IsFedFrom};
 
 use super::slow::{Slow, pattern, stand_at};
 use outside::{Failed, Feed, WriteBuffer};
+use std::alloc::{AllocError, Global};
 use std::process::Abort;
 use std::test::Fail;
 
 // What a `fill` asks for, what it answers, and how many reads there were by then.
-#[derive(Clone, Copy)]
 struct Case {
     at: u64,
     n: usize,
-    count: usize,
+    answer: Result<usize, Failed>,
     reads: u64,
 }
 
-fn expect(rt: &impl Abort, feed: &mut Feed, folder: &mut Slow, name: &str, case: Case)
-    requires few { case.n ≤ 4096 }
-    requires short { case.at + case.n ≤ 2 ^ 32 }
-    requires fed { IsFedFrom feed.old untold name.now }
-    ensures fed { IsFedFrom feed.new untold name.now }
-{
-    let filled = feed.fill(folder, name, case.at, case.n);
-    expect_filled(rt, filled, feed.bytes(), folder.calls.made, &case);
+// Rows of cases.
+macro_rules! cases {
+    ($($n:literal at $at:literal: $answer:expr, $reads:literal reads;)+) => {
+        [$(Case { at: $at, n: $n, answer: $answer, reads: $reads }),+]
+    };
+}
+
+// Whether so many bytes of the file are given, or none where a read failed.
+fn are_given(bytes: &[u8], case: &Case) -> bool {
+    bytes.len() == case.answer.unwrap_or(0) && stand_at(bytes, case.at)
 }
 
 // What a call of `fill` answered, the bytes that were there then, and the reads by then.
@@ -35,258 +36,181 @@ fn expect_filled(
     reads: u64,
     case: &Case,
 ) {
-    let Case { at, n, count, .. } = *case;
-    assert_eq!(rt; filled, Ok(count), "{n} bytes at {at}");
-    assert!(rt;
-        bytes.len() == count && stand_at(bytes, at),
-        "{n} bytes at {at}"
-    );
-    assert_eq!(rt; reads, case.reads, "{n} bytes at {at}");
+    assert_eq!(rt; filled, case.answer, "{} bytes at {}", case.n, case.at);
+    assert!(rt; are_given(bytes, case), "{} bytes at {}", case.n, case.at);
+    assert_eq!(rt; reads, case.reads, "{} bytes at {}", case.n, case.at);
 }
 
-// Reads of at most 1,000 bytes: those that fill the buffer, and those at its end.
-fn expect_front_by_short_reads(rt: &impl Abort, feed: &mut Feed, folder: &mut Slow, name: &str)
+fn expect(rt: &impl Abort, feed: &mut Feed, folder: &mut Slow, name: &str, case: &Case)
     requires fed { IsFedFrom feed.old untold name.now }
     ensures fed { IsFedFrom feed.new untold name.now }
 {
-    expect(
-        rt,
-        feed,
-        folder,
-        name,
-        Case {
-            at: 0,
-            n: 4096,
-            count: 4096,
-            reads: 5,
-        },
-    );
-    expect(
-        rt,
-        feed,
-        folder,
-        name,
-        Case {
-            at: 4990,
-            n: 10,
-            count: 10,
-            reads: 5,
-        },
-    );
-    expect(
-        rt,
-        feed,
-        folder,
-        name,
-        Case {
-            at: 4990,
-            n: 11,
-            count: 11,
-            reads: 6,
-        },
-    );
+    assert!(rt; case.n <= 4096 && case.at <= 1_000_000);
+    let filled = feed.fill(folder, name, case.at, case.n);
+    expect_filled(rt, filled, feed.bytes(), folder.calls.made, case);
 }
 
-// One byte further back, and the end of the file, where 10 bytes are left.
-fn expect_end_by_short_reads(rt: &impl Abort, feed: &mut Feed, folder: &mut Slow, name: &str)
+fn expect_each(rt: &impl Abort, feed: &mut Feed, folder: &mut Slow, name: &str, cases: &[Case])
     requires fed { IsFedFrom feed.old untold name.now }
     ensures fed { IsFedFrom feed.new untold name.now }
 {
-    expect(
-        rt,
-        feed,
-        folder,
-        name,
-        Case {
-            at: 4989,
-            n: 1,
-            count: 1,
-            reads: 7,
-        },
-    );
-    expect(
-        rt,
-        feed,
-        folder,
-        name,
-        Case {
-            at: 69_990,
-            n: 20,
-            count: 10,
-            reads: 9,
-        },
-    );
-    expect(
-        rt,
-        feed,
-        folder,
-        name,
-        Case {
-            at: 69_990,
-            n: 10,
-            count: 10,
-            reads: 9,
-        },
-    );
+    for case in cases {
+        expect(rt, feed, folder, name, case);
+    }
 }
+
+fn expect_none(rt: &impl Abort, feed: &Feed) {
+    assert!(rt; feed.bytes().is_empty());
+}
+
+// A new feed gives no bytes, and none once it is cleared.
+fn expect_fed(
+    rt: &impl Abort,
+    alloc: Global,
+    folder: &mut Slow,
+    cases: &[Case],
+    cleared: &[Case],
+) -> Result<(), AllocError> {
+    let mut feed = Feed::new(alloc)?;
+    expect_none(rt, &feed);
+    expect_each(rt, &mut feed, folder, "a", cases);
+    feed.clear();
+    expect_none(rt, &feed);
+    expect_each(rt, &mut feed, folder, "a", cleared);
+    Ok(())
+}
+
+// The file has 70,000 bytes, a read gives at most 1,000, and the eleventh fails: the first buffer, and pieces at its end; one byte
+// further back, and the end of the file, where 10 bytes are left.
+static BY_SHORT_READS: [Case; 8] = cases! {
+    4096 at 0: Ok(4096), 5 reads;
+    10 at 4990: Ok(10), 5 reads;
+    11 at 4990: Ok(11), 6 reads;
+    1 at 4989: Ok(1), 7 reads;
+    20 at 69_990: Ok(10), 9 reads;
+    10 at 69_990: Ok(10), 9 reads;
+    1500 at 0: Err(Failed), 11 reads;
+    1 at 70_001: Ok(0), 12 reads;
+};
 
 #[test]
 fn a_feed_over_short_reads(rt: HostRuntime) -> Result<(), Fail> {
     let mut folder = Slow::new(rt.alloc(), 70_000, 1000, 11)?;
-    let mut feed = Feed::new(rt.alloc())?;
-    let file = &mut folder;
-    assert_eq!(rt; feed.bytes(), b"".as_slice());
-    expect_front_by_short_reads(&rt, &mut feed, file, "a");
-    expect_end_by_short_reads(&rt, &mut feed, file, "a");
-    assert_eq!(rt;
-        feed.fill(file, "a", 0, 1500),
-        Err(Failed),
-        "the second read fails"
-    );
-    assert_eq!(rt; feed.bytes(), b"".as_slice());
-    expect(
-        &rt,
-        &mut feed,
-        file,
-        "a",
-        Case {
-            at: 70_001,
-            n: 1,
-            count: 0,
-            reads: 12,
-        },
-    );
+    expect_fed(&rt, rt.alloc(), &mut folder, &BY_SHORT_READS, &[])?;
     Ok(())
 }
 
 // Reads as long as they are asked for: one for the first 65,536 bytes, and one for those after.
-fn expect_two_long_reads(rt: &impl Abort, feed: &mut Feed, folder: &mut Slow, name: &str)
-    requires fed { IsFedFrom feed.old untold name.now }
-    ensures fed { IsFedFrom feed.new untold name.now }
-{
-    expect(
-        rt,
-        feed,
-        folder,
-        name,
-        Case {
-            at: 1,
-            n: 1,
-            count: 1,
-            reads: 1,
-        },
-    );
-    expect(
-        rt,
-        feed,
-        folder,
-        name,
-        Case {
-            at: 61_441,
-            n: 4096,
-            count: 4096,
-            reads: 1,
-        },
-    );
-    expect(
-        rt,
-        feed,
-        folder,
-        name,
-        Case {
-            at: 61_442,
-            n: 4096,
-            count: 4096,
-            reads: 2,
-        },
-    );
-    expect(
-        rt,
-        feed,
-        folder,
-        name,
-        Case {
-            at: 122_882,
-            n: 4096,
-            count: 4096,
-            reads: 2,
-        },
-    );
-}
+static BY_LONG_READS: [Case; 4] = cases! {
+    1 at 1: Ok(1), 1 reads;
+    4096 at 61_441: Ok(4096), 1 reads;
+    4096 at 61_442: Ok(4096), 2 reads;
+    4096 at 122_882: Ok(4096), 2 reads;
+};
+
+// What was held is read again.
+static CLEARED: [Case; 2] = cases! {
+    0 at 122_882: Ok(0), 2 reads;
+    1 at 122_882: Ok(1), 3 reads;
+};
 
 #[test]
 fn a_feed_over_long_reads(rt: HostRuntime) -> Result<(), Fail> {
     let mut folder = Slow::new(rt.alloc(), 200_000, 200_000, 0)?;
-    let mut feed = Feed::new(rt.alloc())?;
-    let file = &mut folder;
-    expect_two_long_reads(&rt, &mut feed, file, "a");
-    feed.clear();
-    assert_eq!(rt; feed.bytes(), b"".as_slice());
-    expect(
-        &rt,
-        &mut feed,
-        file,
-        "a",
-        Case {
-            at: 122_882,
-            n: 0,
-            count: 0,
-            reads: 2,
-        },
-    );
-    expect(
-        &rt,
-        &mut feed,
-        file,
-        "a",
-        Case {
-            at: 122_882,
-            n: 1,
-            count: 1,
-            reads: 3,
-        },
-    );
+    expect_fed(&rt, rt.alloc(), &mut folder, &BY_LONG_READS, &CLEARED)?;
     Ok(())
 }
 
-// Pushes some bytes of a pattern, and looks at how many writes there were by then.
+// Some bytes of a pattern that are pushed, and how many writes there were by then.
+struct Piece {
+    from: usize,
+    to: usize,
+    writes: u64,
+}
+
+static PIECES: [Piece; 4] = [
+    Piece {
+        from: 0,
+        to: 65_000,
+        writes: 0,
+    },
+    Piece {
+        from: 65_000,
+        to: 65_536,
+        writes: 0,
+    },
+    Piece {
+        from: 65_536,
+        to: 65_537,
+        writes: 2,
+    },
+    Piece {
+        from: 65_537,
+        to: 200_000,
+        writes: 6,
+    },
+];
+
+// Two bytes once more, of which the eighth write fails.
+static AGAIN: Piece = Piece {
+    from: 0,
+    to: 2,
+    writes: 7,
+};
+
 fn push(
     rt: &impl Abort,
     buffer: &mut WriteBuffer,
     folder: &mut Slow,
-    piece: Option<&[u8]>,
-    writes: u64,
+    source: &[u8],
+    piece: &Piece,
 ) {
-    let piece = piece.unwrap_or(&[]);
-    assert_eq!(rt; buffer.push(folder, "a", piece), Ok(()));
-    assert_eq!(rt;
-        folder.calls.made,
-        writes,
-        "a piece of {} bytes",
-        piece.len()
-    );
+    let bytes = source.get(piece.from..piece.to).unwrap_or(&[]);
+    assert!(rt; buffer.push(folder, "a", bytes).is_ok());
+    assert_eq!(rt; folder.calls.made, piece.writes, "up to {}", piece.to);
+}
+
+// Nothing waits after that, where it failed either.
+fn finish(
+    rt: &impl Abort,
+    buffer: &mut WriteBuffer,
+    folder: &mut Slow,
+    source: &[u8],
+    answer: Result<(), Failed>,
+) {
+    assert!(rt; buffer.finish(folder, "a") == answer);
+    assert!(rt; folder.content.as_slice() == source);
+}
+
+fn expect_written(rt: &impl Abort, buffer: &mut WriteBuffer, folder: &mut Slow, source: &[u8]) {
+    for piece in &PIECES {
+        push(rt, buffer, folder, source, piece);
+    }
+    assert_eq!(rt; folder.content.len(), 196_608);
+    finish(rt, buffer, folder, source, Ok(()));
+}
+
+fn expect_failed(rt: &impl Abort, buffer: &mut WriteBuffer, folder: &mut Slow, source: &[u8]) {
+    push(rt, buffer, folder, source, &AGAIN);
+    finish(rt, buffer, folder, source, Err(Failed));
+    finish(rt, buffer, folder, source, Ok(()));
+}
+
+fn expect_short_writes(
+    rt: &impl Abort,
+    alloc: Global,
+    folder: &mut Slow,
+) -> Result<(), AllocError> {
+    let source = pattern(alloc, 200_000)?;
+    let mut buffer = WriteBuffer::new(alloc)?;
+    expect_written(rt, &mut buffer, folder, &source);
+    expect_failed(rt, &mut buffer, folder, &source);
+    Ok(())
 }
 
 #[test]
 fn a_buffer_over_short_writes(rt: HostRuntime) -> Result<(), Fail> {
-    let source = pattern(rt.alloc(), 200_000)?;
-    let source = source.as_slice();
     let mut folder = Slow::new(rt.alloc(), 0, 40_000, 8)?;
-    let mut buffer = WriteBuffer::new(rt.alloc())?;
-    push(&rt, &mut buffer, &mut folder, source.get(..65_000), 0);
-    push(&rt, &mut buffer, &mut folder, source.get(65_000..65_536), 0);
-    push(&rt, &mut buffer, &mut folder, source.get(65_536..65_537), 2);
-    push(&rt, &mut buffer, &mut folder, source.get(65_537..), 6);
-    assert_eq!(rt; folder.content.len(), 196_608);
-    assert_eq!(rt; buffer.finish(&mut folder, "a"), Ok(()));
-    assert_eq!(rt; folder.content.as_slice(), source);
-    push(&rt, &mut buffer, &mut folder, source.get(..2), 7);
-    assert_eq!(rt; buffer.finish(&mut folder, "a"), Err(Failed));
-    assert_eq!(rt; buffer.finish(&mut folder, "a"), Ok(()));
-    assert_eq!(rt;
-        folder.content.len(),
-        200_000,
-        "nothing waits after a failure"
-    );
+    expect_short_writes(&rt, rt.alloc(), &mut folder)?;
     Ok(())
 }

@@ -1,5 +1,4 @@
 //! Bytes of a file that was found with a length, over a folder that gives at most 7 bytes at a time. The file has 100.
-ghost use Rattle.std.specs.Prelude.{◌+◌, ◌^◌, ◌<◌, ◌≤◌};
 
 use super::slow::{Slow, stand_at};
 use outside::{ReadFault, read_exact};
@@ -8,7 +7,6 @@ use std::test::Fail;
 
 /// A reading of 20 bytes from `at` on, of a file that was found with `found` bytes, what it answers, and how many reads there
 /// were by then.
-#[derive(Clone, Copy)]
 struct Reading {
     found: u64,
     at: u64,
@@ -16,46 +14,53 @@ struct Reading {
     reads: u64,
 }
 
-/// Asserts what a reading answers, and the bytes where it gives them.
-fn expect(rt: &impl Abort, folder: &mut Slow, reading: Reading)
-    requires few { reading.found < 2 ^ 63 }
-    requires within { reading.at + 20 ≤ reading.found }
-{
-    let mut bytes = [0; 20];
-    let answer = read_exact(folder, "a", reading.found, reading.at, &mut bytes);
-    assert_eq!(rt; answer, reading.answer);
-    assert_eq!(rt; folder.calls.made, reading.reads);
-    assert!(rt;
-        answer.is_err() || stand_at(&bytes, reading.at),
-        "from {} on",
-        reading.at
-    );
-}
-
 /// The second reading begins where 10 bytes are left, and of the third the second read fails.
-#[test]
-fn all_bytes_or_none(rt: HostRuntime) -> Result<(), Fail> {
-    let mut folder = Slow::new(rt.alloc(), 100, 7, 8)?;
-    let whole = Reading {
+static READINGS: [Reading; 3] = [
+    Reading {
         found: 100,
         at: 80,
         answer: Ok(()),
         reads: 3,
-    };
-    expect(&rt, &mut folder, whole);
-    let short = Reading {
+    },
+    Reading {
         found: 110,
         at: 90,
         answer: Err(ReadFault::Shrunk(110, 100)),
         reads: 6,
-    };
-    expect(&rt, &mut folder, short);
-    let failing = Reading {
+    },
+    Reading {
         found: 100,
         at: 0,
         answer: Err(ReadFault::Failed),
         reads: 8,
-    };
-    expect(&rt, &mut folder, failing);
+    },
+];
+
+/// Whether this was answered with so many reads, and the bytes where they were given.
+fn is_read(answer: &Result<(), ReadFault>, reads: u64, bytes: &[u8], reading: &Reading) -> bool {
+    *answer == reading.answer
+        && reads == reading.reads
+        && (answer.is_err() || stand_at(bytes, reading.at))
+}
+
+fn expect(rt: &impl Abort, folder: &mut Slow, reading: &Reading) {
+    let Reading { found, at, .. } = *reading;
+    assert!(rt; found <= 1000 && at <= 1000 && at + 20 <= found);
+    let mut bytes = [0; 20];
+    let answer = read_exact(folder, "a", found, at, &mut bytes);
+    let is_so = is_read(&answer, folder.calls.made, &bytes, reading);
+    assert!(rt; is_so, "from {at} on: {answer:?}");
+}
+
+fn expect_each(rt: &impl Abort, folder: &mut Slow) {
+    for reading in &READINGS {
+        expect(rt, folder, reading);
+    }
+}
+
+#[test]
+fn all_bytes_or_none(rt: HostRuntime) -> Result<(), Fail> {
+    let mut folder = Slow::new(rt.alloc(), 100, 7, 8)?;
+    expect_each(&rt, &mut folder);
     Ok(())
 }

@@ -8,16 +8,6 @@ use std::test::Fail;
 
 static LETTERS: [u8; 70_000] = [b'x'; 70_000];
 
-// A sink with room for all that is sent here, which may have a write that fails.
-fn sink_of(alloc: Global, failing: Option<u64>) -> Result<MemSink, AllocError> {
-    let mut sink = MemSink::new(alloc);
-    sink.reserve(200_000)?;
-    if let Some(number) = failing {
-        sink.fail(number)?;
-    }
-    Ok(sink)
-}
-
 // Asserts that `sent` bytes in all were sent once these are pushed.
 fn expect_pushed(
     rt: &impl Abort,
@@ -30,38 +20,57 @@ fn expect_pushed(
     assert_eq!(rt; sink.sent().len(), sent, "a piece of {} bytes", piece.len());
 }
 
-// Sends what waits.
-fn finish(buffer: &mut SendBuffer, sink: &mut MemSink) -> Result<(), Failed> {
-    buffer.finish(sink)
+// The same once what waits is sent too, or was to be.
+fn expect_finished(
+    rt: &impl Abort,
+    buffer: &mut SendBuffer,
+    sink: &mut MemSink,
+    answer: Result<(), Failed>,
+    sent: usize,
+) {
+    assert_eq!(rt; buffer.finish(sink), answer);
+    assert_eq!(rt; sink.sent().len(), sent);
 }
 
 fn are_around(front: &[u8], end: &[u8], bytes: &[u8]) -> bool {
     bytes.starts_with(front) && bytes.ends_with(end)
 }
 
+fn expect_pieces(rt: &impl Abort, alloc: Global, sink: &mut MemSink) -> Result<(), AllocError> {
+    sink.reserve(200_000)?;
+    let mut buffer = SendBuffer::new(alloc)?;
+    expect_pushed(rt, &mut buffer, sink, b"begin ", 0);
+    expect_pushed(rt, &mut buffer, sink, &LETTERS[..65_530], 0);
+    expect_pushed(rt, &mut buffer, sink, b" end", 65_536);
+    expect_pushed(rt, &mut buffer, sink, &LETTERS, 135_540);
+    expect_pushed(rt, &mut buffer, sink, b".", 135_540);
+    expect_finished(rt, &mut buffer, sink, Ok(()), 135_541);
+    Ok(())
+}
+
 // Bytes that fit wait. Others are added once what waits was sent, or are sent too where they are more than the buffer holds.
 #[test]
 fn pieces_wait_and_are_sent(rt: HostRuntime) -> Result<(), Fail> {
-    let mut sink = sink_of(rt.alloc(), None)?;
-    let mut buffer = SendBuffer::new(rt.alloc())?;
-    expect_pushed(&rt, &mut buffer, &mut sink, b"begin ", 0);
-    expect_pushed(&rt, &mut buffer, &mut sink, &LETTERS[..65_530], 0);
-    expect_pushed(&rt, &mut buffer, &mut sink, b" end", 65_536);
-    expect_pushed(&rt, &mut buffer, &mut sink, &LETTERS, 135_540);
-    expect_pushed(&rt, &mut buffer, &mut sink, b".", 135_540);
-    assert_eq!(rt; finish(&mut buffer, &mut sink), Ok(()));
+    let mut sink = MemSink::new(rt.alloc());
+    expect_pieces(&rt, rt.alloc(), &mut sink)?;
     assert!(rt; are_around(b"begin x", b"x.", sink.sent()));
+    Ok(())
+}
+
+fn expect_failed(rt: &impl Abort, alloc: Global, sink: &mut MemSink) -> Result<(), AllocError> {
+    sink.reserve(200_000)?;
+    sink.fail(2)?;
+    let mut buffer = SendBuffer::new(alloc)?;
+    expect_pushed(rt, &mut buffer, sink, &LETTERS[..40_000], 0);
+    expect_pushed(rt, &mut buffer, sink, &LETTERS[..40_000], 40_000);
+    expect_finished(rt, &mut buffer, sink, Err(Failed), 40_000);
     Ok(())
 }
 
 // The second write fails: what waited before it is there, and nothing else.
 #[test]
 fn a_write_behind_the_buffer_fails(rt: HostRuntime) -> Result<(), Fail> {
-    let mut sink = sink_of(rt.alloc(), Some(2))?;
-    let mut buffer = SendBuffer::new(rt.alloc())?;
-    expect_pushed(&rt, &mut buffer, &mut sink, &LETTERS[..40_000], 0);
-    expect_pushed(&rt, &mut buffer, &mut sink, &LETTERS[..40_000], 40_000);
-    assert_eq!(rt; finish(&mut buffer, &mut sink), Err(Failed));
-    assert_eq!(rt; sink.sent().len(), 40_000);
+    let mut sink = MemSink::new(rt.alloc());
+    expect_failed(&rt, rt.alloc(), &mut sink)?;
     Ok(())
 }
