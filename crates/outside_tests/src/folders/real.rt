@@ -85,11 +85,21 @@ fn expect_not_found<R: Files + AllocGlobal + Abort>(
     assert!(rt; folder.find(name) == Err(fault), "{name}");
 }
 
+// Bytes go to no file but those that the folder was asked to create.
+fn expect_unwritten<R: Files + AllocGlobal + Abort>(
+    rt: &R,
+    folder: &mut DiskFolder<R>,
+    name: &str,
+) {
+    assert!(rt; folder.write(name, b"ab").is_err(), "{name}");
+}
+
 // What is asserted of the files, before the folder is let go.
 fn expect_over_files<R: Files + AllocGlobal + Abort>(rt: &R) -> Result<(), Fail> {
     let mut folder = DiskFolder::new(rt, rt.alloc());
     expect_not_found(rt, &mut folder, "outside_files/to", FindFault::Absent);
     expect_not_found(rt, &mut folder, "outside_files", FindFault::Failed);
+    expect_unwritten(rt, &mut folder, "outside_files/from");
     expect_files(rt, &mut folder)
 }
 
