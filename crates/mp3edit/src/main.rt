@@ -63,7 +63,8 @@ fn answer<D: Folder, T: Sink, E: Sink>(
         → IfSome (always_of (job_of (map string_bytes v.items)))
         (λ text. T.sent out.new ≡ sent_more (T.sent out.old) text)) }
 
-    ensures touches { IfOk words (λ v. OnlyTouches (outputs_asked (job_of (map string_bytes v.items)))
+    ensures touches { IfOk words (λ v. OnlyTouches
+        (outputs_asked (job_of (map string_bytes v.items)))
         (D.files folder.old) (D.files folder.new)) }
     ensures kept { IfOk words (λ v. result ≢ 0 → result ≢ 3
         → D.files folder.new ≡ D.files folder.old) }

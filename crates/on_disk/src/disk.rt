@@ -200,7 +200,8 @@ impl<'a, R: Files> DiskFolder<'a, R> {
     // Notes the name as touched, opens its file and empties it, and keeps it open.
     fn touch_and_empty(&mut self, name: &str) -> Result<(), Failed>
         ensures tally { disk_counts self.new ≡ disk_counts self.old }
-        ensures emptied { OnOk result (disk_files self.new ≡ emptied (disk_files self.old) name.now) }
+        ensures emptied { OnOk result (disk_files self.new
+            ≡ emptied (disk_files self.old) name.now) }
         ensures kept { OnErr result (FailsToCreate name.now (disk_files self.old)
             (disk_files self.new)) }
         ensures opened { OnOk result (created_name self.new ≡ Some name.now) }
@@ -282,12 +283,13 @@ impl<'a, R: Files> Folder for DiskFolder<'a, R> {
     /// Anything but a regular file, such as a directory or a pipe, is a fault, and nothing blocks on it. So
     /// is a file that this folder finds after 65 others.
     fn find(&mut self, name: &str) -> Result<u64, FindFault>
-        ensures found { IfOk result (λ n. (bytes : List ℕ) → Holds (disk_files self.old) name.now bytes
-            → n ≡ length bytes) }
+        ensures found { IfOk result (λ n. (bytes : List ℕ)
+            → Holds (disk_files self.old) name.now bytes → n ≡ length bytes) }
         ensures there { OnOk result (IsThere (disk_files self.old) name.now) }
         ensures octets { OnOk result ((bytes : List ℕ) → Holds (disk_files self.old) name.now bytes
             → AreOctets bytes) }
-        ensures missing { IsErrOf result FindFault.Absent → IsMissing (disk_files self.old) name.now }
+        ensures missing { IsErrOf result FindFault.Absent
+            → IsMissing (disk_files self.old) name.now }
         ensures absent { IsErrOf result FindFault.Absent
             → Rose (disk_counts self.old).misses (disk_counts self.new).misses }
         ensures failed { IsErrOf result FindFault.Failed
@@ -325,13 +327,15 @@ impl<'a, R: Files> Folder for DiskFolder<'a, R> {
     /// Where the system gives an error, and where the file is cut short while it is read.
     fn read(&mut self, name: &str, at: u64, into: &mut [u8]) -> Result<usize, Failed>
         ensures bound { IfOk result (λ k. k ≤ length into.old) }
-        ensures bytes { IfOk result (λ k. (bytes : List ℕ) → Holds (disk_files self.old) name.now bytes
+        ensures bytes { IfOk result (λ k. (bytes : List ℕ)
+            → Holds (disk_files self.old) name.now bytes
             → take k into.new ≡ take k (drop at bytes)) }
         ensures rest { IfOk result (λ k. drop k into.new ≡ drop k into.old) }
-        ensures end { IfOk result (λ k. (bytes : List ℕ) → Holds (disk_files self.old) name.now bytes → k ≡ 0
+        ensures end { IfOk result (λ k. (bytes : List ℕ)
+            → Holds (disk_files self.old) name.now bytes → k ≡ 0
             → (length into.old ≡ 0) ⊎ (length bytes ≤ at)) }
-        ensures within { IfOk result (λ k. (bytes : List ℕ) → Holds (disk_files self.old) name.now bytes
-            → k ≤ length bytes - at) }
+        ensures within { IfOk result (λ k. (bytes : List ℕ)
+            → Holds (disk_files self.old) name.now bytes → k ≤ length bytes - at) }
         ensures ended { IfOk result (λ k. k ≡ 0 → 0 < length into.old
             → Rose (disk_counts self.old).ends (disk_counts self.new).ends) }
         ensures failed { OnErr result (Rose (disk_counts self.old).read_faults
@@ -372,7 +376,8 @@ impl<'a, R: Files> Folder for DiskFolder<'a, R> {
     /// folder found. That file is left as it is.
     #[tactic(auto, unfolding(outside::specs::Files::emptied))]
     fn create(&mut self, name: &str) -> Result<(), Failed>
-        ensures created { OnOk result (disk_files self.new ≡ emptied (disk_files self.old) name.now) }
+        ensures created { OnOk result (disk_files self.new
+            ≡ emptied (disk_files self.old) name.now) }
         ensures kept { OnErr result (FailsToCreate name.now (disk_files self.old)
             (disk_files self.new)) }
         ensures failed { OnErr result (Rose (disk_counts self.old).write_faults

@@ -34,7 +34,8 @@ impl Touched {
     /// # Errors
     /// Where there is no memory. Then all is as before.
     pub fn add(&mut self, alloc: Global, name: &str) -> Result<(), AllocError>
-        ensures added { OnOk result (touched_in self.new ≡ with_touch (touched_in self.old) name.now true) }
+        ensures added { OnOk result (touched_in self.new
+            ≡ with_touch (touched_in self.old) name.now true) }
         ensures kept { OnErr result (touched_in self.new ≡ touched_in self.old) }
     {
         if self.has(name) {
