@@ -1,8 +1,8 @@
 -- The division of bits: what it makes of exclusive ors, and a byte at a time by a table.
-use Rattle.std.proofs.Common.{◌≡◌, ℕ, zero, suc, ◌+◌, ◌*◌, ◌/◌, ◌%◌, ◌^◌, ◌<◌, ◌≤◌, Bool, true, cond, ◌&&◌, eqb, List, [], ◌∷◌, ◌++◌, bit_xor, length, get_or, take, drop, refl, sym, ap, ap₂, ◌∙◌, subst, inl, inr, add-zero, arith, lit<}
+use Rattle.std.proofs.Common.{◌≡◌, ℕ, zero, suc, ◌+◌, ◌*◌, ◌/◌, ◌%◌, ◌^◌, ◌<◌, ◌≤◌, true, cond, eqb, List, [], ◌∷◌, ◌++◌, bit_xor, length, get_or, take, drop, refl, sym, ap, ap₂, ◌∙◌, add-zero, arith, lit<}
 use lib.Bits.{xor_assoc, xor_self, xor_zero_r, xor_shifted}
 use Rattle.std.proofs.lemmas.Nat.{xor_comm, xor_shr, xor_mod, xor_block, xor_lt, mod_below}
-use Rattle.std.proofs.lemmas.Bool.{eqb-true, and_parts, cases_lt}
+use Rattle.std.proofs.lemmas.Bool.{eqb-true}
 use Rattle.std.proofs.lemmas.List.{take_more, take-take, drop-take, take-append-drop}
 use Rattle.std.specs.Int.{bit_at}
 use Rattle.bit_fields.specs.Bits.{bits, bits_of, AreBits}

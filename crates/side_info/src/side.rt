@@ -115,6 +115,8 @@ impl Side {
         requires size { length bytes.now ≡ side_size_of class }
         ensures side { result ≡ side_at class (bits bytes.now) }
         ensures fits { SideFits class result }
+        // What is written back is what was read.
+        ensures back { side_bits class result ≡ bits bytes.now }
     {
         let mut side = Side::empty();
         side.read_over(class, bytes);
@@ -126,6 +128,8 @@ impl Side {
         requires size { length bytes.now ≡ side_size_of class }
         ensures side { self.new ≡ side_at class (bits bytes.now) }
         ensures fits { SideFits class self.new }
+        // What is written back is what was read.
+        ensures back { side_bits class self.new ≡ bits bytes.now }
     {
         read_shape(class.version, class.channels, bytes, self);
     }
