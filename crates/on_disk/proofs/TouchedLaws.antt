@@ -1,7 +1,7 @@
 -- A name that was added to those that may have been touched.
 use Rattle.std.proofs.Common.{◌≡◌, ℕ, List, refl, ◌∙◌, sym, ap, inr, string_bytes}
 use Rattle.std.proofs.lemmas.Map.Text.{btree_set_updates_text}
-use Rattle.std.specs.BTreeSet.{UpdatesBy, contains_text}
+use Rattle.std.specs.BTreeSet.{UpdatesBy}
 use Rattle.std.specs.Cmp.Lexicographic.{slice_cmp}
 use Rattle.std.specs.Ordering.{nat_cmp}
 use Rattle.std.specs.Prelude.{Bool, true, false, cond, ◌||◌, ◌&&◌, bytes_eq, Result, Ok, Err, OnOk, OnErr}

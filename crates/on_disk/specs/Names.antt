@@ -1,5 +1,4 @@
 -- Which names a folder of real files may have touched.
-use Rattle.std.specs.Prelude.{ℕ, List, Bool}
 use Rattle.std.specs.BTreeSet.{contains_text}
 use Rattle.on_disk.specs.declared.touched.Touched.{Touched as TouchedNames}
 use Rattle.outside.specs.Files.{Touched}

@@ -1,6 +1,6 @@
 -- What a folder of real files and a real stream count and keep open, and what open files tell.
 use Rattle.std.specs.Prelude.{◌≡◌, ℕ, ◌≤◌, List, length, take, drop, Option, Some, IsSome, Ok, option_map, option_and_then, string_bytes, pos}
-use Rattle.std.specs.Io.KnownBytes.{Appends}
+use Rattle.std.specs.Io.KnownBytes.{Appends, Keeps}
 use Rattle.std.specs.Io.Seek.{SeekMoves}
 use Rattle.std.specs.declared.io.traits.SeekFrom.TheVariants.{End}
 use Rattle.on_disk.specs.declared.disk.DiskFolder.{DiskFolder}
@@ -52,9 +52,11 @@ pub record HasOpen {R File Dir : Type 0} (position : File → Option ℕ) (bytes
 pub record ReadsOn {File : Type 0} (remaining : File → Option (List ℕ)) (position : File → Option ℕ) (bytes : File → Option (List ℕ)) : Type 0 where
   pub gives : (file : File) (at : ℕ) (xs : List ℕ) → position file ≡ Some at → bytes file ≡ Some xs → remaining file ≡ Some (drop at xs)
 
--- a seek to the end led to this offset
+-- A seek to the end led from the file as it was opened to this offset, and what the file told of its bytes it still tells. The library
+-- says nothing of a file that was just opened, so whether it told anything stays open.
 pub record EndsAt {File : Type 0} (position : File → Option ℕ) (bytes : File → Option (List ℕ)) (sought : File) (place : ℕ) : Type 0 where
   pub before : File
+  pub kept : Keeps (bytes before) (bytes sought)
   pub moved : SeekMoves {E = ⊥} (position before) (position sought) (bytes before) (End (pos 0)) (Ok place)
 
 abbrev pub stream_faults : {W : Type 0} → StdSink W → ℕ

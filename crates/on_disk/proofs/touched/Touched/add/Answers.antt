@@ -1,8 +1,6 @@
-use Rattle.std.proofs.Common.{◌≡◌, ◌∙◌, sym, string_bytes}
+use Rattle.std.proofs.Common.{◌≡◌, string_bytes}
 use Rattle.std.proofs.lemmas.Result.{IfOk-at_ok}
-use Rattle.std.specs.Prelude.{true}
-use Rattle.on_disk.specs.Names.{touched_in}
-use Rattle.on_disk.proofs.TouchedLaws.{touch_added, touch_again}
+use Rattle.on_disk.proofs.TouchedLaws.{touch_added}
 use Rattle.on_disk.proofs.touched.Touched.add.Goals as goal
 
 pub returns-clause-added : goal.returns-clause-added
