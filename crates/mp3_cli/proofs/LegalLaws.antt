@@ -1,5 +1,5 @@
 -- What is legal is what is accepted, whatever the words ask for.
-use Rattle.std.proofs.Common.{◌≡◌, ◌↔◌, ℕ, List, [], Result, Ok, Err, refl}
+use Rattle.std.proofs.Common.{◌↔◌, ℕ, [], Result, Ok, Err, refl}
 use Rattle.outside.specs.Files.{Contents}
 use Rattle.job_words.specs.Asked.{Asked, Help, Version, ListFile, Gain, Undo, Cut, Pack, SplitAt, SplitBy, Join, Drill, Fade, Salvage}
 use Rattle.job_words.specs.Words.{job_of}
@@ -7,7 +7,7 @@ use Rattle.legality.specs.Legal.{IsLegalFor}
 use Rattle.legality.specs.Laws.{Makes}
 use Rattle.legality.proofs.LegalLaws.{help-legal, version-legal, drill-legal, legal-is-accepted as of-commands}
 use Rattle.drill.specs.Drilled.{drill_text}
-use Rattle.mp3_cli.specs.Texts.{help_text, version_text}
+use Rattle.program_texts.specs.Texts.{help_text, version_text}
 use Rattle.mp3_cli.specs.Run.{command_of, IsLegalBy, IsAcceptedBy, LegalIsAccepted}
 
 legal-for : (asked : Asked) (files : Contents) → IsLegalFor asked files ↔ Makes (command_of asked) files

@@ -23,8 +23,8 @@ use Rattle.commands.specs.Left.{Why, Rejected, Missing, Unread, Shorter, Unwritt
 use Rattle.commands.proofs.TouchLaws.{left_touched}
 use Rattle.job_words.specs.Asked.{Asked}
 use Rattle.job_words.specs.Words.{job_of}
-use Rattle.mp3_cli.specs.Texts.{status_by, bad_word_line, GotWhole, GotFront, GotLine}
-use Rattle.mp3_cli.specs.Run.{said_command, command_of, fault_status, line_of, GetsLine, world, Ends, Answers, made_outcome, command_outcome, job_outcome, outcome, IsOutcome, IsLegalBy, IsLegal}
+use Rattle.program_texts.specs.Texts.{status_by, bad_word_line, said_command, GotWhole, GotFront, GotLine}
+use Rattle.mp3_cli.specs.Run.{command_of, fault_status, line_of, GetsLine, world, Ends, Answers, made_outcome, command_outcome, job_outcome, outcome, IsOutcome, IsLegalBy, IsLegal}
 use Rattle.mp3_cli.proofs.LegalLaws.{legal-by}
 
 -- ---- statuses

@@ -1,6 +1,6 @@
 -- The outputs that were written are there, each with the stream that it has to hold.
-use Rattle.std.proofs.Common.{◌≡◌, ◌≢◌, ℕ, zero, suc, ◌+◌, ◌/◌, ◌%◌, ◌<◌, ◌≤◌, List, [], ◌∷◌, ◌++◌, length, map, drop, codes, Option, Some, None, Result, Ok, Err, refl, sym, ◌∙◌, ap, subst, arith, length-append}
-use Rattle.std.specs.Prelude.{IfSome, IfOk}
+use Rattle.std.proofs.Common.{◌≡◌, ◌≢◌, ℕ, zero, suc, ◌+◌, ◌/◌, ◌%◌, ◌<◌, ◌≤◌, List, [], ◌∷◌, length, map, drop, codes, Option, Some, Result, Ok, Err, refl, sym, ◌∙◌, ap, subst, arith, length-append}
+use Rattle.std.specs.Prelude.{IfOk}
 use Rattle.std.specs.List.{range_with_len}
 use Rattle.std.proofs.Math.Seq.{drop-append_seam}
 use Rattle.std.proofs.lemmas.List.{length-map}
@@ -13,14 +13,14 @@ use Rattle.cue_sheet.specs.Places.{frame_at}
 use Rattle.cue_sheet.specs.Cues.{cue_of, entries_of}
 use Rattle.cue_sheet.proofs.StartsLaws.{starts-few}
 use Rattle.sync_survey.specs.MainData.{StreamFrame}
-use Rattle.sync_survey.specs.Faults.{SurveyFields, HoldsStream}
+use Rattle.sync_survey.specs.Faults.{SurveyFields}
 use Rattle.commands.specs.declared.fault.EditFault.{EditFault}
-use Rattle.commands.specs.Command.{Output, Made, Command, written, AreStreams, MakesStreams, HoldsStreams}
+use Rattle.commands.specs.Command.{Output, Made, written, AreStreams, MakesStreams, HoldsStreams}
 use Rattle.commands.specs.One.{Task, made_result, made_of, one_command}
-use Rattle.commands.specs.Telling.{with_text, telling}
-use Rattle.salvaging.specs.Salvaged.{text_where, salvage_task, salvage_command}
+use Rattle.commands.specs.Telling.{with_text}
+use Rattle.salvaging.specs.Salvaged.{text_where, salvage_task}
 use Rattle.commands.proofs.RefusingLaws.{then_ok}
-use Rattle.frame_edits.specs.Chosen.{Chosen, chosen_file}
+use Rattle.frame_edits.specs.Chosen.{Chosen}
 use Rattle.job_words.specs.Asked.{Asked, Help, Version, ListFile, Gain, Undo, Cut, Pack, SplitAt, SplitBy, Join, Drill, Fade, Salvage}
 use Rattle.job_words.specs.Words.{job_of, IsSound}
 use Rattle.joining.specs.Join.{join_task}
@@ -29,7 +29,7 @@ use Rattle.packing.specs.Modes.{pack_task}
 use Rattle.commands.specs.Left.{Seen}
 use Rattle.commands.specs.Said.{Heard}
 use Rattle.splitting.specs.Split.{piece_name, piece_names, frames_between, with_first, chosen_from, chosen_at, pieces_from, places_where, Placing, split_command, given, told_by}
-use Rattle.legality.proofs.SplitLaws.{IsSplit, split-parts, cue-parts}
+use Rattle.legality.proofs.SplitLaws.{split-parts, cue-parts}
 use Rattle.mp3_cli.proofs.RunLaws.{files_where_done}
 use Rattle.mp3_cli.specs.Run.{command_of, world, Answers, AreThere, HoldsWritten, HoldsAllStreams}
 

@@ -1,5 +1,2 @@
 -- What the contracts of this crate cite.
-pub mod Lines
-pub mod Names
-pub mod Texts
 pub mod Run

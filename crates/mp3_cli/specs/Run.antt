@@ -1,5 +1,5 @@
 -- What the program does, from its words and the files that are there.
-use Rattle.std.specs.Prelude.{◌≡◌, ◌↔◌, ℕ, List, [], ◌∷◌, Option, Some, None, Result, Ok, Err, IfOk, IfSome, false}
+use Rattle.std.specs.Prelude.{◌≡◌, ◌↔◌, ℕ, List, [], ◌∷◌, Option, Some, None, Result, Ok, Err, IfOk, IfSome}
 use Rattle.outside.specs.Files.{Contents, Files, sent_more, Told, IfTold}
 use Rattle.commands.specs.declared.fault.EditFault.{EditFault}
 use Rattle.commands.specs.declared.fault.EditFault.TheVariants.{EqualNames}
@@ -22,19 +22,7 @@ use Rattle.sync_survey.specs.MainData.{StreamFrame}
 use Rattle.sync_survey.specs.Faults.{HoldsStream}
 use Rattle.legality.specs.Legal.{IsLegalFor}
 use Rattle.legality.specs.Laws.{Makes}
-use Rattle.mp3_cli.specs.Texts.{status_of, fault_line, bad_word_line, help_text, version_text, GotLine}
-
--- a command that says a text, whatever the files are
-abbrev pub said_command : List ℕ → Command
-said_command text = record {
-  inputs = [];
-  outputs = [];
-  sources = [];
-  always = Some text;
-  makes = λ files. Ok (record { outputs = []; text = text });
-  streams = λ files. [];
-  refuses = λ refusal. false;
-}
+use Rattle.program_texts.specs.Texts.{status_of, fault_line, bad_word_line, help_text, version_text, said_command, GotLine}
 
 -- what is asked for, as a command
 abbrev pub command_of : Asked → Command

@@ -2,12 +2,12 @@
 ghost use Rattle.std.specs.Prelude.{◌≡◌, ◌≤◌, length, map, string_bytes};
 ghost use Rattle.job_words.specs.Words.{IsSound};
 ghost use Rattle.job_words.specs.Code.{asked};
-ghost use Rattle.mp3_cli.specs.Names.{names_in};
+ghost use Rattle.program_texts.specs.Names.{names_in};
 ghost use Rattle.mp3_cli.specs.Run.{command_of};
 
-use crate::output_names::Outputs;
 use arrayvec::ArrayVec;
 use job_words::Job;
+use program_texts::Outputs;
 
 /// Names, 64 at most.
 type Names<'a> = ArrayVec<&'a str, 64>;

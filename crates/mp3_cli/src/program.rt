@@ -7,17 +7,16 @@ ghost use Rattle.commands.specs.Left.{seen};
 ghost use Rattle.commands.specs.Said.{heard, fault_of};
 ghost use Rattle.job_words.specs.Words.{job_of, IsSound};
 ghost use Rattle.job_words.specs.Code.{asked};
-ghost use Rattle.mp3_cli.specs.Names.{names_in};
-ghost use Rattle.mp3_cli.specs.Texts.{GotLine};
+ghost use Rattle.program_texts.specs.Names.{names_in};
+ghost use Rattle.program_texts.specs.Texts.{GotLine};
 ghost use Rattle.mp3_cli.specs.Run.{command_of, always_of, fault_status, result_line, world, Ends, Answers, AnswersWords, outcome, IsOutcome, IsLegal, HoldsAllStreams, outputs_asked};
 
 use crate::job_names::{inputs_of, outputs_of};
-use crate::output_names::Outputs;
-use crate::texts::{say_help, say_version, send_bad_word, send_fault, status};
 use drill::drill;
 use edits::{EditFault, Points, cut, fade, gain, join, list, pack_with, salvage, split, undo};
 use job_words::{Job, job};
 use outside::{Folder, Sink};
+use program_texts::{Outputs, say_help, say_version, send_bad_word, send_fault, status};
 use std::alloc::Global;
 
 /// Sends the line of a fault, if there is one, and answers the status.

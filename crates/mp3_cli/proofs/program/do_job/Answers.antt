@@ -10,7 +10,7 @@ use Rattle.joining.specs.Join.{join_task, join_command}
 use Rattle.drill.specs.Drilled.{drill_text}
 use Rattle.salvaging.specs.Salvaged.{salvage_command}
 use Rattle.drill.proofs.PackedLaws.{drill_text-some}
-use Rattle.mp3_cli.specs.Texts.{help_text, version_text}
+use Rattle.program_texts.specs.Texts.{help_text, version_text}
 use Rattle.mp3_cli.proofs.RunLaws.{said_ends, sent_alone, silent_ends, told_ends, one_silent, split_silent}
 use Rattle.mp3_cli.proofs.program.do_job.Goals as goal
 

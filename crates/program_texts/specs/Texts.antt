@@ -1,9 +1,10 @@
 -- The status and the line of each fault, and what a sink got of a line.
-use Rattle.std.specs.Prelude.{◌≡◌, ◌⊎◌, ℕ, ◌≤◌, List, [], ◌∷◌, ◌++◌, length, take, codes}
+use Rattle.std.specs.Prelude.{◌≡◌, ◌⊎◌, ℕ, ◌≤◌, false, List, [], ◌∷◌, ◌++◌, length, take, codes, Some, Ok}
 use Rattle.outside.specs.Files.{Sent, sent_more}
 use Rattle.outside.specs.Counts.{Rose}
-use Rattle.mp3_cli.specs.Names.{name_in}
-use Rattle.mp3_cli.specs.Lines.{Part, Text, Number, Signed, Hexadecimal, Name, spelled}
+use Rattle.program_texts.specs.Names.{name_in}
+use Rattle.program_texts.specs.Lines.{Part, Text, Number, Signed, Hexadecimal, Name, spelled}
+use Rattle.commands.specs.Command.{Command}
 use Rattle.commands.specs.Left.{Why, Rejected, NoMemory, why_of}
 use Rattle.sync_survey.specs.declared.survey_fault.SurveyFault.{SurveyFault}
 use Rattle.sync_survey.specs.declared.survey_fault.SurveyFault.TheVariants.{Absent, TooLong, NoFrame, LostSync, Truncated, FreeFormat, Mixed, CheckWord, BackPointer, Overlap, Overrun, TooManyFrames, Shrunk, Read, Memory}
@@ -106,6 +107,18 @@ bad_word_parts place = Text (codes "bad word ") ∷ Number place ∷ Text (codes
 
 abbrev pub bad_word_line : ℕ → List ℕ
 bad_word_line place = spelled (bad_word_parts place)
+
+-- a command that says a text, whatever the files are
+abbrev pub said_command : List ℕ → Command
+said_command text = record {
+  inputs = [];
+  outputs = [];
+  sources = [];
+  always = Some text;
+  makes = λ files. Ok (record { outputs = []; text = text });
+  streams = λ files. [];
+  refuses = λ refusal. false;
+}
 
 -- what the program does, form by form, and the statuses
 unfoldable pub help_text : List ℕ

@@ -1,8 +1,8 @@
 -- The parts so far were sent.
 use Rattle.std.proofs.Common.{◌≡◌, ◌≤◌, take, flat_map}
 use Rattle.outside.specs.Files.{sent_more}
-use Rattle.mp3_cli.specs.Lines.{spelled_part, part_of}
-use Rattle.mp3_cli.proofs.parts.send_parts.Given as goal
+use Rattle.program_texts.specs.Lines.{spelled_part, part_of}
+use Rattle.program_texts.proofs.parts.send_parts.Given as goal
 
 abbrev pub invariant-loop-part : goal.invariant-loop-part
 invariant-loop-part g l = record {

@@ -1,6 +1,6 @@
 -- The line was sent, or a prefix of it.
-use Rattle.mp3_cli.proofs.Lines.{got_either, line_is, spelled_parts}
-use Rattle.mp3_cli.proofs.parts.send_line.Goals as goal
+use Rattle.program_texts.proofs.Lines.{got_either, line_is, spelled_parts}
+use Rattle.program_texts.proofs.parts.send_line.Goals as goal
 
 pub returns : goal.returns
 returns g c =

@@ -9,9 +9,9 @@ use Rattle.outside.specs.Files.{Sent, sent_more}
 use Rattle.outside.specs.Counts.{Rose}
 use Rattle.outside.proofs.FilesLaws.{sent_twice}
 use Rattle.outside.proofs.CountsLaws.{later_rose}
-use Rattle.mp3_cli.specs.declared.parts.Part.{Part as CodePart}
-use Rattle.mp3_cli.specs.Lines.{spelled_part, spelled, part_of}
-use Rattle.mp3_cli.specs.Texts.{GotWhole, GotFront, GotLine}
+use Rattle.program_texts.specs.declared.parts.Part.{Part as CodePart}
+use Rattle.program_texts.specs.Lines.{spelled_part, spelled, part_of}
+use Rattle.program_texts.specs.Texts.{GotWhole, GotFront, GotLine}
 
 -- the texts with one more
 pub piece_more : {X : Type 0} (f : X → List ℕ) (xs : List X) (i : ℕ) (d : X) → i < length xs → flat_map f (take (i + 1) xs) ≡ flat_map f (take i xs) ++ f (get_or xs i d)

@@ -2,9 +2,9 @@
 use Rattle.std.proofs.Common.{refl, sym, ◌∙◌, arith}
 use Rattle.outside.proofs.FilesLaws.{sent_nothing}
 use Rattle.outside.proofs.PassedLaws.{on_err}
-use Rattle.mp3_cli.specs.Lines.{spelled_part, part_of}
-use Rattle.mp3_cli.proofs.Lines.{front_failed, line_more}
-use Rattle.mp3_cli.proofs.parts.send_parts.Goals as goal
+use Rattle.program_texts.specs.Lines.{spelled_part, part_of}
+use Rattle.program_texts.proofs.Lines.{front_failed, line_more}
+use Rattle.program_texts.proofs.parts.send_parts.Goals as goal
 
 pub loop-part-init : goal.loop-part-init
 loop-part-init g c = record { later = omega arith; done = refl; sent = sym (sent_nothing _) }

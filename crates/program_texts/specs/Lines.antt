@@ -3,8 +3,8 @@ use Rattle.std.specs.Prelude.{ℕ, ◌/◌, ◌%◌, ℤ, List, [], ◌∷◌, s
 use Rattle.std.specs.List.{flat_map}
 use Rattle.std.specs.Fmt.{signed_decimal}
 use Rattle.splitting.specs.Split.{piece_name}
-use Rattle.mp3_cli.specs.declared.parts.Part.{Part as CodePart}
-use Rattle.mp3_cli.specs.declared.parts.Part.TheVariants as code
+use Rattle.program_texts.specs.declared.parts.Part.{Part as CodePart}
+use Rattle.program_texts.specs.declared.parts.Part.TheVariants as code
 
 pub data Part : Type 0 where
   Text : List ℕ → Part

@@ -2,8 +2,8 @@
 use Rattle.std.proofs.Common.{[], refl, sym, ◌∙◌, arith}
 use Rattle.outside.proofs.FilesLaws.{sent_nothing}
 use Rattle.outside.proofs.PassedLaws.{on_err}
-use Rattle.mp3_cli.proofs.Lines.{front_failed, line_more}
-use Rattle.mp3_cli.proofs.parts.send_text.Goals as goal
+use Rattle.program_texts.proofs.Lines.{front_failed, line_more}
+use Rattle.program_texts.proofs.parts.send_text.Goals as goal
 
 pub loop-piece-init : goal.loop-piece-init
 loop-piece-init g c = record { later = omega arith; done = refl; sent = sym (sent_nothing _) }

@@ -4,7 +4,7 @@ use Rattle.std.specs.List.{range_with_len}
 use Rattle.std.proofs.Math.ListN.{get_or-eq_default}
 use Rattle.std.proofs.lemmas.List.FromFn.{get_or-map-range_with_len, length-map-range_with_len}
 use Rattle.splitting.specs.Split.{piece_name, piece_names}
-use Rattle.mp3_cli.specs.Names.{name_in}
+use Rattle.program_texts.specs.Names.{name_in}
 
 pub piece_at : (prefix : List ℕ) (place : ℕ) → place < 99 → name_in (piece_names prefix) place ≡ piece_name prefix (place + 1)
 unfolding piece_names

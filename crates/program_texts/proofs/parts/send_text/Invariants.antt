@@ -1,7 +1,7 @@
 -- The texts so far were sent.
 use Rattle.std.proofs.Common.{◌≡◌, ◌≤◌, take, flat_map}
 use Rattle.outside.specs.Files.{sent_more}
-use Rattle.mp3_cli.proofs.parts.send_text.Given as goal
+use Rattle.program_texts.proofs.parts.send_text.Given as goal
 
 abbrev pub invariant-loop-piece : goal.invariant-loop-piece
 invariant-loop-piece g l = record {

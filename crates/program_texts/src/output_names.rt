@@ -1,7 +1,7 @@
 //! The names of the files that a command may write.
 ghost use Rattle.std.specs.Prelude.{◌≡◌};
-ghost use Rattle.mp3_cli.specs.Lines.{Name, part_of};
-ghost use Rattle.mp3_cli.specs.Names.{name_in, names_in};
+ghost use Rattle.program_texts.specs.Lines.{Name, part_of};
+ghost use Rattle.program_texts.specs.Names.{name_in, names_in};
 
 use crate::parts::Part;
 

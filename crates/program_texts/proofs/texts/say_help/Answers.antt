@@ -1,9 +1,8 @@
 -- The lines are the text.
 use Rattle.std.proofs.Common.{refl, subst}
 use Rattle.commands.specs.Said.{heard, Says, fault_of}
-use Rattle.mp3_cli.specs.Texts.{help_text}
-use Rattle.mp3_cli.specs.Run.{said_command}
-use Rattle.mp3_cli.proofs.texts.say_help.Goals as goal
+use Rattle.program_texts.specs.Texts.{help_text, said_command}
+use Rattle.program_texts.proofs.texts.say_help.Goals as goal
 
 pub returns-clause-says : goal.returns-clause-says
 unfolding help_text

@@ -1,8 +1,8 @@
 -- The names of a command's files, by their places.
 use Rattle.std.specs.Prelude.{ℕ, List, [], ◌∷◌, slice_index_or}
 use Rattle.splitting.specs.Split.{piece_names}
-use Rattle.mp3_cli.specs.declared.output_names.Outputs.{Outputs}
-use Rattle.mp3_cli.specs.declared.output_names.Outputs.TheVariants.{None, One, Pieces}
+use Rattle.program_texts.specs.declared.output_names.Outputs.{Outputs}
+use Rattle.program_texts.specs.declared.output_names.Outputs.TheVariants.{None, One, Pieces}
 
 -- the name at a place, counted from 0
 abbrev pub name_in : List (List ℕ) → ℕ → List ℕ

@@ -1,16 +1,15 @@
 //! The statuses that the program ends with, and the texts and lines that it writes.
 ghost use Rattle.std.specs.Prelude.{◌≡◌, ◌∷◌, IfErr, map, flat_map};
-ghost use Rattle.mp3_cli.specs.Lines.{Name, part_of};
-ghost use Rattle.mp3_cli.specs.Texts.{status_of, input_parts as input_parts_lem, sheet_parts as sheet_parts_lem, curve_parts as curve_parts_lem, refusal_parts as refusal_parts_lem, fault_parts as fault_parts_lem, fault_line, bad_word_line, help_text, version_text, GotLine};
-ghost use Rattle.mp3_cli.specs.Names.{name_in as name_in_lem, names_in};
-ghost use Rattle.mp3_cli.specs.Run.{said_command};
+ghost use Rattle.program_texts.specs.Lines.{Name, part_of};
+ghost use Rattle.program_texts.specs.Texts.{status_of, input_parts as input_parts_lem, sheet_parts as sheet_parts_lem, curve_parts as curve_parts_lem, refusal_parts as refusal_parts_lem, fault_parts as fault_parts_lem, fault_line, bad_word_line, help_text, version_text, said_command, GotLine};
+ghost use Rattle.program_texts.specs.Names.{name_in as name_in_lem, names_in};
 ghost use Rattle.outside.specs.Files.{Files};
 ghost use Rattle.commands.specs.Said.{heard, Says, fault_of};
 
 use crate::output_names::Outputs;
 use crate::parts::{Line, Part, line, named_line, number_line, send_line, send_text, text_line};
+use commands::{EditFault, Refusal};
 use cue_sheet::CueFault;
-use edits::{EditFault, Refusal};
 use fade_plan::EnvelopeFault;
 use outside::{Failed, Sink};
 use sync_survey::SurveyFault;

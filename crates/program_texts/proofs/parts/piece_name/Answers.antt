@@ -2,7 +2,7 @@
 use Rattle.std.proofs.Common.{refl, append_assoc}
 use Rattle.std.proofs.lemmas.List.{append-nil}
 use Rattle.splitting.specs.Split.{piece_name}
-use Rattle.mp3_cli.proofs.parts.piece_name.Goals as goal
+use Rattle.program_texts.proofs.parts.piece_name.Goals as goal
 
 pub returns : goal.returns
 unfolding piece_name

@@ -1,11 +1,11 @@
 -- Which name is at the place.
 use Rattle.std.proofs.Common.{◌≡◌, ◌+◌, ◌%◌, [], ℕ, refl, ap, sym, arith}
 use Rattle.splitting.specs.Split.{piece_name}
-use Rattle.mp3_cli.specs.Lines.{Name}
-use Rattle.mp3_cli.specs.Names.{name_in, names_in}
-use Rattle.mp3_cli.proofs.Names.{piece_at, no_piece_at, none_behind_one}
-use Rattle.mp3_cli.proofs.output_names.Outputs.named.Goals as goal
-use Rattle.mp3_cli.proofs.output_names.Outputs.named.Goals.{in_default-via-in-One+else-place-eq0, in_default-via-in-Pieces+else-place-lt99, in_default-via-in_default}
+use Rattle.program_texts.specs.Lines.{Name}
+use Rattle.program_texts.specs.Names.{name_in, names_in}
+use Rattle.program_texts.proofs.Names.{piece_at, no_piece_at, none_behind_one}
+use Rattle.program_texts.proofs.output_names.Outputs.named.Goals as goal
+use Rattle.program_texts.proofs.output_names.Outputs.named.Goals.{in_default-via-in-One+else-place-eq0, in_default-via-in-Pieces+else-place-lt99, in_default-via-in_default}
 
 pub returns-in-Pieces : goal.returns-in-Pieces
 returns-in-Pieces c =
