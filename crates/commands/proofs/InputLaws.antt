@@ -1,5 +1,5 @@
 -- A command that reads one file: the faults of its input, and what it makes of it.
-use Rattle.std.proofs.Common.{◌≡◌, ℕ, ◌≤◌, true, false, List, [], ◌∷◌, length, Option, Some, None, refl, sym, ◌∙◌, ap, subst, Result, Ok, Err, arith}
+use Rattle.std.proofs.Common.{◌≡◌, ℕ, ◌≤◌, true, false, List, [], ◌∷◌, length, Option, Some, None, refl, sym, ◌∙◌, ap, subst, Result, Ok, Err, arith, inl}
 use Rattle.std.specs.Prelude.{Bool, IfSome, IfErr, unwrap_or}
 use Rattle.bit_fields.specs.Bits.{AreBytes}
 use Rattle.outside.specs.Files.{Contents, Files, Holds, IsThere, Told, Untold, IfTold}
@@ -90,7 +90,7 @@ module _ (make : Making) (stream : List ℕ → List StreamFrame) (refuses : Ref
     input_is_early h = input_is_early_by (why_of fault) h
 
   pub input_numbers : (fault : EditFault) → IsOfInput refuses fault → IsOfInputs (file_task make stream refuses input) fault
-  input_numbers (Input place fault) h = (omega (arith, h.0), h.1, h.2)
+  input_numbers (Input place fault) h = (omega (arith, h.0), h.1, h.2, inl h.0)
   input_numbers (Refused refusal) h = h
   input_numbers Memory h = tt
   input_numbers _ h = absurd h

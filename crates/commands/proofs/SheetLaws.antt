@@ -29,5 +29,5 @@ module _ (sheet : List ℕ) (files mid last : Files) (before between after : Cou
   }
 
   pub read-number : (fault : ReadFault) → HasReadCause size mid between after fault → IsOfSheet (Input 1 (of_read fault))
-  read-number Failed cause = (refl, (λ e. cc), tt)
-  read-number (ShrunkRead first second) cause = (refl, (λ e. cc), cause.2)
+  read-number Failed cause = (refl, (λ e. cc), tt, (λ e. cc))
+  read-number (ShrunkRead first second) cause = (refl, (λ e. cc), cause.2, (λ e. cc))

@@ -2,8 +2,9 @@
 use Rattle.std.specs.Prelude.{◌≡◌, ◌≢◌, ◌⊎◌, ℕ, ◌+◌, ◌<◌, ◌==◌, length, take, Bool, true, false, Option, Some, None, [], Result, Ok, Err}
 use Rattle.outside.specs.Files.{Files, Told, IfTold, is_told, OnlyTouches}
 use Rattle.outside.specs.Counts.{Counts, Rose, NothingFailed}
+use Rattle.sync_survey.specs.declared.survey_fault.SurveyFault.{SurveyFault}
 use Rattle.sync_survey.specs.declared.survey_fault.SurveyFault.TheVariants.{Absent, TooLong, Memory as NoRoom}
-use Rattle.commands.specs.Kinds.{kind_of, by_kind, HasRightNumbers}
+use Rattle.commands.specs.Kinds.{kind_of, by_kind, HasRightNumbers, IsFromOutside}
 use Rattle.commands.specs.declared.fault.EditFault.{EditFault}
 use Rattle.commands.specs.declared.fault.Refusal.{Refusal}
 use Rattle.commands.specs.declared.fault.EditFault.TheVariants.{EqualNames, Input, Refused, Write, Sent, Memory}
@@ -117,9 +118,13 @@ Leaves command old new fault = LeavesBy command old new fault (why_of fault)
 
 -- ---- what the numbers of a fault say over every folder, told or not
 
+-- the input is the first or one of so many sources, whose frames are read; any other, as a sheet, isn't there, can't be read or became shorter alone
+abbrev pub IsOfPlace : ℕ → ℕ → SurveyFault → Type 0
+IsOfPlace sources place fault = (place ≡ 0) ⊎ (place < sources) ⊎ IsFromOutside fault
+
 abbrev pub HasNumbers : Command → EditFault → Type 0
 HasNumbers command (EqualNames place) = clash_of command ≡ Some place
-HasNumbers command (Input place fault) = (place < length command.inputs) × (fault ≢ NoRoom) × HasRightNumbers fault
+HasNumbers command (Input place fault) = (place < length command.inputs) × (fault ≢ NoRoom) × HasRightNumbers fault × IsOfPlace (length command.sources) place fault
 HasNumbers command (Refused refusal) = command.refuses refusal ≡ true
 HasNumbers command (Write place) = place < length command.outputs
 HasNumbers command Sent = command.always ≢ Some []

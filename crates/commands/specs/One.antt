@@ -14,7 +14,7 @@ use Rattle.commands.specs.declared.fault.EditFault.TheVariants.{EqualNames, Inpu
 use Rattle.commands.specs.declared.fault.Refusal.{Refusal}
 use Rattle.commands.specs.Kinds.{HasRightNumbers}
 use Rattle.commands.specs.Command.{Made, Command, clash_from, AreSound}
-use Rattle.commands.specs.Left.{Why, Rejected, Missing, Unread, Shorter, Unwritten, Unsent, NoMemory, why_of, Seen, IsLate}
+use Rattle.commands.specs.Left.{Why, Rejected, Missing, Unread, Shorter, Unwritten, Unsent, NoMemory, why_of, Seen, IsLate, IsOfPlace}
 
 -- what it makes of a file with this survey, or why it refuses it
 abbrev pub Making : Type 0
@@ -198,7 +198,7 @@ IsEarlyFault task old new fault = IsEarlyFaultBy task old new fault (why_of faul
 
 -- the fault is one of the inputs, a refusal that the command can give, or want of memory
 abbrev pub IsOfInputs : Task → EditFault → Type 0
-IsOfInputs task (Input place fault) = (place < length task.inputs) × (fault ≢ NoRoom) × HasRightNumbers fault
+IsOfInputs task (Input place fault) = (place < length task.inputs) × (fault ≢ NoRoom) × HasRightNumbers fault × IsOfPlace (length task.sources) place fault
 IsOfInputs task (Refused refusal) = task.refuses refusal ≡ true
 IsOfInputs task Memory = Unit {0}
 IsOfInputs task _ = ⊥

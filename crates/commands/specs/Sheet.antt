@@ -6,7 +6,7 @@ use Rattle.commands.specs.declared.fault.EditFault.{EditFault}
 use Rattle.commands.specs.declared.fault.EditFault.TheVariants.{Input, Refused, Memory}
 use Rattle.commands.specs.declared.fault.Refusal.{Refusal}
 use Rattle.commands.specs.declared.fault.Refusal.TheVariants.{SheetTooLarge}
-use Rattle.commands.specs.Kinds.{HasRightNumbers}
+use Rattle.commands.specs.Kinds.{HasRightNumbers, IsFromOutside}
 use Rattle.commands.specs.Left.{Why, Rejected, Missing, Unread, Shorter, NoMemory, why_of, Seen}
 use Rattle.commands.specs.One.{MissesAt, ReadsNothing, LosesInput}
 
@@ -49,9 +49,9 @@ abbrev pub sheet_refuses : Refusal → Bool
 sheet_refuses (SheetTooLarge size) = nat_lt longest_sheet size
 sheet_refuses _ = false
 
--- the fault is one of the sheet, or want of memory
+-- the fault is one of the sheet, which is read as bytes and not as frames, or want of memory
 abbrev pub IsOfSheet : EditFault → Type 0
-IsOfSheet (Input place fault) = (place ≡ 1) × (fault ≢ NoRoom) × HasRightNumbers fault
+IsOfSheet (Input place fault) = (place ≡ 1) × (fault ≢ NoRoom) × HasRightNumbers fault × IsFromOutside fault
 IsOfSheet (Refused refusal) = sheet_refuses refusal ≡ true
 IsOfSheet Memory = Unit {0}
 IsOfSheet _ = ⊥

@@ -55,13 +55,13 @@ along_answer sheet back s curve is (Err fault) refused = inr (refused.0, fade_in
 -- ---- as faults of the command
 
 pub input_numbers : (sheet : List ℕ) (back : Bool) (input : List ℕ) (fault : EditFault) → IsOfInput fade_refuses fault → IsOfInputs (fade_task sheet back input) fault
-input_numbers sheet back input (Input place fault) h = (omega (arith, h.0), h.1, h.2)
+input_numbers sheet back input (Input place fault) h = (omega (arith, h.0), h.1, h.2, inl h.0)
 input_numbers sheet back input (Refused refusal) h = h
 input_numbers sheet back input Memory h = tt
 input_numbers sheet back input _ h = absurd h
 
 pub change_numbers : (sheet : List ℕ) (back : Bool) (input : List ℕ) (fault : EditFault) → IsOfChange fault → IsOfInputs (fade_task sheet back input) fault
-change_numbers sheet back input (Input place fault) h = (omega (arith, h.0), h.1, h.2)
+change_numbers sheet back input (Input place fault) h = (omega (arith, h.0), h.1, h.2, inr (inr h.3))
 change_numbers sheet back input (Refused refusal) h = h
 change_numbers sheet back input Memory h = tt
 change_numbers sheet back input _ h = absurd h

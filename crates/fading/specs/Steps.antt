@@ -5,7 +5,7 @@ use Rattle.sync_survey.specs.declared.survey_fault.SurveyFault.TheVariants.{Memo
 use Rattle.sync_survey.specs.Faults.{SurveyFields}
 use Rattle.commands.specs.declared.fault.EditFault.{EditFault}
 use Rattle.commands.specs.declared.fault.EditFault.TheVariants.{Input, Refused, Memory}
-use Rattle.commands.specs.Kinds.{HasRightNumbers}
+use Rattle.commands.specs.Kinds.{HasRightNumbers, IsFromOutside}
 use Rattle.commands.specs.Left.{Why, Rejected, Missing, Unread, Shorter, Unwritten, Unsent, NoMemory, why_of, Seen}
 use Rattle.commands.specs.One.{ReadsNothing, LosesInput}
 use Rattle.commands.specs.Sheet.{MissesSheet}
@@ -32,7 +32,7 @@ IsChangeFault sheet back s old new fault = IsChangeFaultBy sheet back s old new 
 
 -- the fault is one of the sheet, a refusal of the command, or want of memory
 abbrev pub IsOfChange : EditFault → Type 0
-IsOfChange (Input place fault) = (place ≡ 1) × (fault ≢ NoRoom) × HasRightNumbers fault
+IsOfChange (Input place fault) = (place ≡ 1) × (fault ≢ NoRoom) × HasRightNumbers fault × IsFromOutside fault
 IsOfChange (Refused refusal) = fade_refuses refusal ≡ true
 IsOfChange Memory = Unit {0}
 IsOfChange _ = ⊥

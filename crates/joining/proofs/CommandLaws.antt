@@ -1,5 +1,5 @@
 -- The command, where all inputs have their surveys.
-use Rattle.std.proofs.Common.{◌≡◌, ℕ, ◌-◌, ◌≤◌, List, [], ◌∷◌, length, Option, Some, None, Result, Ok, sym, ap, subst, arith}
+use Rattle.std.proofs.Common.{◌≡◌, ℕ, ◌-◌, ◌≤◌, List, [], ◌∷◌, length, Option, Some, None, Result, Ok, sym, ap, subst, inl, inr, true, arith}
 use Rattle.std.specs.Prelude.{IfSome, unwrap_or}
 use Rattle.bit_fields.specs.Bits.{AreBytes}
 use Rattle.outside.specs.Files.{Contents, Files, Told, Untold, IfTold}
@@ -9,11 +9,13 @@ use Rattle.sync_survey.specs.Faults.{SurveyFields, HoldsStream}
 use Rattle.sync_survey.proofs.SurveyedFiles.{survey_of-sound}
 use Rattle.laying.specs.Relaid.{Part}
 use Rattle.commands.specs.declared.fault.EditFault.{EditFault}
+use Rattle.commands.specs.declared.fault.EditFault.TheVariants.{Input, Refused, Write, Memory}
 use Rattle.commands.specs.Command.{clash_from, AreSound}
+use Rattle.commands.specs.Left.{HasNumbers}
 use Rattle.commands.specs.One.{most_frames, IsMaking, first_input}
 use Rattle.commands.specs.Refusing.{then_made}
-use Rattle.joining.specs.Join.{joined_file, joined_stream, join_stream, join_task}
-use Rattle.joining.specs.Inputs.{AreInputs, CanBeJoined, parts_in, told_parts}
+use Rattle.joining.specs.Join.{joined_file, joined_stream, join_stream, join_refuses, join_task, join_command}
+use Rattle.joining.specs.Inputs.{IsOfJoin, AreInputs, CanBeJoined, parts_in, told_parts}
 use Rattle.joining.proofs.InputLaws.{parts-all}
 use Rattle.joining.proofs.StreamLaws.{joined-holds, sources-inputs}
 
@@ -50,3 +52,12 @@ inputs-hold output (Told f) names ss apart can are = λ bytes held. (
   sound None most_frames f names ss are,
   subst (λ (r : Result (List Part) EditFault). HoldsStream (joined_file (parts_in f names ss)) (join_stream r)) (sym (parts-all f names ss are)) (holds-at output f names ss apart can are),
 )
+
+-- ---- what the numbers of a fault say
+
+pub join-numbers : (output : List ℕ) (names : List (List ℕ)) (count : ℕ) (fault : EditFault) → count ≡ length names → IsOfJoin count fault → HasNumbers (join_command output names) fault
+join-numbers output names count (Input place fault) all is = (omega (arith, all, is.0), is.1, is.2, inr (inl (omega (arith, all, is.0))))
+join-numbers output names count (Refused refusal) all is = subst (λ n. join_refuses n refusal ≡ true) all is
+join-numbers output names count (Write place) all is = omega (arith, is)
+join-numbers output names count Memory all is = tt
+join-numbers output names count _ all is = absurd is

@@ -1,5 +1,5 @@
 -- What the command leaves, by its steps.
-use Rattle.std.proofs.Common.{◌≡◌, ℕ, ◌≤◌, List, [], ◌∷◌, length, ltb, cond, Bool, true, false, Option, Some, None, Result, Ok, Err, refl, sym, ◌∙◌, ap, ap₂, subst, arith}
+use Rattle.std.proofs.Common.{◌≡◌, ℕ, ◌≤◌, List, [], ◌∷◌, length, ltb, cond, Bool, true, false, Option, Some, None, Result, Ok, Err, refl, sym, ◌∙◌, ap, ap₂, subst, inl, arith}
 use Rattle.std.specs.Prelude.{IfSome, IfErr, is_some, slice_get}
 use Rattle.std.proofs.lemmas.Bool.{le-ltb, ltb-false}
 use Rattle.std.proofs.lemmas.List.{length-map}
@@ -103,21 +103,21 @@ module _ (input : List ℕ) where
     early-fault (TooManyFrames at) h = let r = rejected (TooManyFrames at) h in record { defined = r.0; stays = r.1 }
 
   pub early-numbers : (fault : SurveyFault) → HasRightNumbers fault → IsOfInputs (salvage_task input) (of_input fault)
-  early-numbers Absent h = (omega arith, λ e. absurd cc, h)
-  early-numbers (TooLong n) h = (omega arith, λ e. absurd cc, h)
-  early-numbers Read h = (omega arith, λ e. absurd cc, h)
-  early-numbers (Shrunk first second) h = (omega arith, λ e. absurd cc, h)
+  early-numbers Absent h = (omega arith, λ e. absurd cc, h, inl refl)
+  early-numbers (TooLong n) h = (omega arith, λ e. absurd cc, h, inl refl)
+  early-numbers Read h = (omega arith, λ e. absurd cc, h, inl refl)
+  early-numbers (Shrunk first second) h = (omega arith, λ e. absurd cc, h, inl refl)
   early-numbers NoRoom h = tt
-  early-numbers (NoFrame at) h = (omega arith, λ e. absurd cc, h)
-  early-numbers (LostSync at) h = (omega arith, λ e. absurd cc, h)
-  early-numbers (Truncated at) h = (omega arith, λ e. absurd cc, h)
-  early-numbers (FreeFormat at) h = (omega arith, λ e. absurd cc, h)
-  early-numbers (Mixed at) h = (omega arith, λ e. absurd cc, h)
-  early-numbers (CheckWord at said right) h = (omega arith, λ e. absurd cc, h)
-  early-numbers (BackPointer at begin present) h = (omega arith, λ e. absurd cc, h)
-  early-numbers (Overlap at) h = (omega arith, λ e. absurd cc, h)
-  early-numbers (Overrun at bits room) h = (omega arith, λ e. absurd cc, h)
-  early-numbers (TooManyFrames at) h = (omega arith, λ e. absurd cc, h)
+  early-numbers (NoFrame at) h = (omega arith, λ e. absurd cc, h, inl refl)
+  early-numbers (LostSync at) h = (omega arith, λ e. absurd cc, h, inl refl)
+  early-numbers (Truncated at) h = (omega arith, λ e. absurd cc, h, inl refl)
+  early-numbers (FreeFormat at) h = (omega arith, λ e. absurd cc, h, inl refl)
+  early-numbers (Mixed at) h = (omega arith, λ e. absurd cc, h, inl refl)
+  early-numbers (CheckWord at said right) h = (omega arith, λ e. absurd cc, h, inl refl)
+  early-numbers (BackPointer at begin present) h = (omega arith, λ e. absurd cc, h, inl refl)
+  early-numbers (Overlap at) h = (omega arith, λ e. absurd cc, h, inl refl)
+  early-numbers (Overrun at bits room) h = (omega arith, λ e. absurd cc, h, inl refl)
+  early-numbers (TooManyFrames at) h = (omega arith, λ e. absurd cc, h, inl refl)
 
   -- want of memory, once the input was read
   pub early-memory : (old new : Seen) (d : DamagedFields) → IsThere old.files input → IsReadOf input old.files d → new ≡ old → NeedsMemory input old new
@@ -230,7 +230,7 @@ module _ (input output : List ℕ) where
 
   pub numbers-pass : (fault : EditFault) → IsOfPass fault → HasNumbers (salvage_command input output) fault
   numbers-pass (EqualNames place) h = absurd h
-  numbers-pass (Input place fault) h = (omega (arith, h.0), h.1, h.2)
+  numbers-pass (Input place fault) h = (omega (arith, h.0), h.1, h.2, inl h.0)
   numbers-pass (Refused refusal) h = absurd h
   numbers-pass (Write place) h = omega (arith, h)
   numbers-pass NotSent h = absurd h

@@ -1,7 +1,7 @@
 -- A clash of names, what was met before the output is created, and the second pass.
-use Rattle.std.proofs.Common.{◌≡◌, [], List, ℕ, map, string_bytes, sym, ◌∙◌, ap, ap₂, subst, arith, append-nil}
+use Rattle.std.proofs.Common.{◌≡◌, [], List, ℕ, length, map, string_bytes, sym, ◌∙◌, ap, ap₂, subst, arith, append-nil}
 use Rattle.std.proofs.lemmas.List.{length-map}
-use Rattle.std.proofs.lemmas.Result.{err_from_is_err_and}
+use Rattle.std.proofs.lemmas.Result.{err_from_is_err_and, IfErr-weaker}
 use Rattle.sync_survey.specs.Faults.{SurveyFields, tells}
 use Rattle.outside.specs.Files.{Files}
 use Rattle.commands.specs.declared.fault.EditFault.TheVariants.{Memory}
@@ -15,7 +15,7 @@ use Rattle.joining.specs.Inputs.{CanBeJoined, class_in, told_parts}
 use Rattle.joining.specs.Laying.{IsPlanned}
 use Rattle.joining.proofs.PlanLaws.{inputs-join}
 use Rattle.joining.proofs.InputLaws.{join-late, found-input}
-use Rattle.joining.proofs.CommandLaws.{inputs-making, inputs-hold}
+use Rattle.joining.proofs.CommandLaws.{inputs-making, inputs-hold, join-numbers}
 use Rattle.joining.proofs.join_file.join.Given as given
 use Rattle.joining.proofs.join_file.join.Goals as goal
 use Rattle.joining.proofs.join_file.join.Goals.{In_ok-surveys}
@@ -88,6 +88,11 @@ returns-clause-left g c =
     one_left (join_task (map string_bytes c.args.inputs.now)) c.args.output.now (sym c.clash.ensures ∙ c.in_default.is) _ (seen (files c.args.folder.now) (counts c.args.folder.now)) (seen (files c.survey_all.new.folder) (counts c.survey_all.new.folder)) _
     (ap₂ seen c.survey_all.ensures.files c.in_ok-surveys.ensures.done) (making g (goal.at.returns-clause-left g c).In_ok-surveys _ _ c.survey_all.ensures.files (ap (map tells) c.deref-3.ensures.value))
     c.write_joined.ensures.touches c.write_joined.result c.write_joined.ensures.left
+
+pub returns-clause-numbers : goal.returns-clause-numbers
+returns-clause-numbers g c =
+    IfErr-weaker c.write_joined.result _ _
+    (λ fault is. join-numbers c.args.output.now (map string_bytes c.args.inputs.now) (length c.args.inputs.now) fault (sym (length-map c.args.inputs.now string_bytes)) is) c.write_joined.ensures.numbers
 
 pub returns-clause-streams : goal.returns-clause-streams
 returns-clause-streams g c =
