@@ -16,7 +16,8 @@ use Rattle.commands.specs.declared.fault.EditFault.TheVariants.{Input, Refused, 
 use Rattle.commands.specs.declared.fault.Refusal.{Refusal}
 use Rattle.commands.specs.One.{Making, most_frames, made_by, made_file, made_where, file_task, Refuses, RefusesInput, IsFileFaultBy, IsFileFault, IsInputFaultBy, IsInputFault, IsEarlyFaultBy, IsEarlyFault, IsOfInputs, IsMaking, IsProper}
 use Rattle.commands.specs.Command.{AreSound}
-use Rattle.commands.specs.Left.{Why, Rejected, Missing, Unwritten, Unsent, why_of, Seen, is_before_memory, IsLate, IsOfSurvey, IsOfInput, IsRefusal}
+use Rattle.commands.specs.Left.{Why, Rejected, Missing, Unread, Unwritten, Unsent, why_of, Seen, is_before_memory, IsLate, IsOfSurvey, IsOfInput, IsRefusal}
+use Rattle.commands.proofs.RefusingLaws.{before_first}
 use Rattle.sync_survey.proofs.SurveyedFiles.{survey_of-parts, survey_of-sound}
 
 -- ---- the survey of the input
@@ -82,6 +83,7 @@ module _ (make : Making) (stream : List ℕ → List StreamFrame) (refuses : Ref
     input_is_early_by : (why : Why) → IsInputFaultBy make input old new fault why → IsEarlyFaultBy (file_task make stream refuses input) old new fault why
     input_is_early_by Rejected h = record { defined = refuses_held old.files fault h.there h.bytes; stays = h.stays }
     input_is_early_by Missing h = record { defined = refuses_where old.files fault None h.missing (ap (λ f. Err f) (sym h.is)); rose = h.rose; files = h.files }
+    input_is_early_by Unread h = record { before = before_first old.files (file_task make stream refuses input).makes fault h.is; rose = h.rose; files = h.files }
     input_is_early_by (Unwritten k) h = absurd h
     input_is_early_by Unsent h = absurd h
     input_is_early_by _ h = h

@@ -10,7 +10,7 @@ use Rattle.commands.specs.declared.fault.EditFault.{EditFault}
 use Rattle.commands.specs.declared.fault.EditFault.TheVariants.{EqualNames}
 use Rattle.commands.specs.One.{Task, first_input, clash_in, made_result, made_of, one_command, holding, Refuses, IsEarlyFaultBy, IsEarlyFault, IsMaking, HoldsPrefix, IsPassFaultBy, IsPassFault}
 use Rattle.commands.specs.Command.{Made, clash_from, Gives, written, written_to, AreSound, MakesStreams, HoldsStreams}
-use Rattle.commands.specs.Left.{Why, Rejected, Missing, Unread, Shorter, Unwritten, NoMemory, why_of, Seen, IsLate, IsDone, IsWrittenTo, TakesMemory, LeavesBy, Leaves}
+use Rattle.commands.specs.Left.{Why, Rejected, Missing, Unread, Shorter, Unwritten, NoMemory, why_of, Seen, IsLate, IsDone, IsWrittenTo, IsNotBefore, TakesMemory, LeavesBy, Leaves}
 
 abbrev pub ok_made : Made → Result Made EditFault
 ok_made made = Ok made
@@ -64,6 +64,15 @@ module _ (task : Task) (output : List ℕ) (free : clash_in task output ≡ None
   gives_refused (Untold touched) fault is = tt
   gives_refused (Told f) fault is = makes_free f ∙ ap (made_of output) is
 
+  -- what holds of every fault
+  all_of : (P : EditFault → Type 0) (r : Result (List ℕ) EditFault) → IfErr r P → IfErr (made_of output r) P
+  all_of P (Ok new) is = tt
+  all_of P (Err fault) is = is
+
+  all_made : (files : Files) (P : EditFault → Type 0) → IfTold files (λ f. IfErr (task.makes f) P) → IfTold files (λ f. IfErr ((one_command task output).makes f) P)
+  all_made (Untold touched) P is = tt
+  all_made (Told f) P is = subst (λ r. IfErr r P) (sym (makes_free f)) (all_of P (task.makes f) is)
+
   takes : (r : Result (List ℕ) EditFault) → IfErr r IsLate → TakesMemory (made_of output r)
   takes (Ok new) late = tt
   takes (Err fault) late = late
@@ -82,7 +91,7 @@ module _ (task : Task) (output : List ℕ) (free : clash_in task output ≡ None
       early_left_by : (why : Why) → IsEarlyFaultBy task old new fault why → LeavesBy (one_command task output) old new fault why
       early_left_by Rejected h = record { defined = gives_refused old.files fault h.defined; stays = h.stays }
       early_left_by Missing h = record { defined = gives_refused old.files fault h.defined; rose = h.rose; files = h.files }
-      early_left_by Unread h = record { rose = h.rose; files = inl h.files }
+      early_left_by Unread h = record { names = free; before = all_made old.files (IsNotBefore fault) h.before; rose = h.rose; files = inl h.files }
       early_left_by Shorter h = record { rose = h.rose; counts = h.counts; untold = h.untold; touches = stays_touched h.files }
       early_left_by NoMemory h = record { names = free; takes = takes_memory old.files h.there h.few; stays = h.stays }
       early_left_by _ h = absurd h
@@ -105,6 +114,10 @@ module _ (task : Task) (output : List ℕ) (free : clash_in task output ≡ None
     made_takes : (files : Files) → IsMaking task file files → IfTold files (λ f. TakesMemory ((one_command task output).makes f))
     made_takes (Untold touched) making = tt
     made_takes (Told f) making = subst TakesMemory (sym (gives_made f making).2) tt
+
+    made_none : (files : Files) (P : EditFault → Type 0) → IsMaking task file files → IfTold files (λ f. IfErr ((one_command task output).makes f) P)
+    made_none (Untold touched) P making = tt
+    made_none (Told f) P making = subst (λ r. IfErr r P) (sym (gives_made f making).2) tt
 
     -- the output was written whole
     made_whole : (files new : Files) → IsMaking task file files → ((bytes : List ℕ) → Holds files task.source bytes → new ≡ holding files output (file bytes))
@@ -130,7 +143,7 @@ module _ (task : Task) (output : List ℕ) (free : clash_in task output ≡ None
 
     module _ (old new : Seen) (fault : EditFault) (making : IsMaking task file old.files) (touches : OnlyTouches (output ∷ []) old.files new.files) where
       pass_left_by : (why : Why) → IsPassFaultBy file task.source output old new why → LeavesBy (one_command task output) old new fault why
-      pass_left_by Unread h = record { rose = h.rose; files = inr (0, written_part old.files new.files making h.files touches) }
+      pass_left_by Unread h = record { names = free; before = made_none old.files (IsNotBefore fault) making; rose = h.rose; files = inr (0, written_part old.files new.files making h.files touches) }
       pass_left_by Shorter h = record { rose = h.rose; counts = h.counts; untold = h.untold; touches = touches }
       pass_left_by (Unwritten k) h =
           record { rose = h.1.rose; files = subst (λ n. IsWrittenTo (one_command task output) n old.files new.files) (sym h.0) (written_part old.files new.files making h.1.files touches) }

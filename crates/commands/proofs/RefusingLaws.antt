@@ -1,10 +1,40 @@
 -- What comes before what is made: what its refusals are, and when it isn't refused.
-use Rattle.std.proofs.Common.{◌≡◌, Option, Some, None, Result, Ok, Err, refl, subst}
-use Rattle.std.specs.Prelude.{IfErr}
+use Rattle.std.proofs.Common.{◌≡◌, Option, Some, None, Result, Ok, Err, refl, sym, subst, arith}
+use Rattle.std.specs.Prelude.{IfErr, IfSome}
+use Rattle.outside.specs.Files.{Contents, Files, Told, Untold, IfTold}
+use Rattle.sync_survey.specs.declared.survey_fault.SurveyFault.TheVariants.{Read}
 use Rattle.commands.specs.declared.fault.EditFault.{EditFault}
+use Rattle.commands.specs.declared.fault.EditFault.TheVariants.{Input, Refused}
 use Rattle.commands.specs.declared.fault.Refusal.{Refusal}
+use Rattle.commands.specs.declared.fault.Refusal.TheVariants.{Differ}
 use Rattle.commands.specs.Refusing.{unless, then_made}
-use Rattle.commands.specs.Left.{IsLate}
+use Rattle.commands.specs.Left.{IsLate, IsNotBefore}
+
+-- ---- what holds of every fault
+
+pub unless_all : {A : Type 0} (P : EditFault → Type 0) (o : Option Refusal) (a : A) → IfSome o (λ refusal. P (Refused refusal)) → IfErr (unless o a) P
+unless_all P None a is = tt
+unless_all P (Some refusal) a is = is
+
+pub then_all : {A B : Type 0} (P : EditFault → Type 0) (r : Result A EditFault) (make : A → Result B EditFault) → IfErr r P → ((a : A) → IfErr (make a) P) → IfErr (then_made r make) P
+then_all P (Ok a) make first rest = rest a
+then_all P (Err fault) make first rest = first
+
+-- no answer is before the first input
+first_before : (answer : EditFault) → IsNotBefore (Input 0 Read) answer
+first_before (Input at fault) = omega arith
+first_before (Refused (Differ at)) = omega arith
+first_before _ = tt
+
+first_all : {A : Type 0} (r : Result A EditFault) → IfErr r (IsNotBefore (Input 0 Read))
+first_all (Ok a) = tt
+first_all (Err answer) = first_before answer
+
+pub before_first : {A : Type 0} (files : Files) (makes : Contents → Result A EditFault) (fault : EditFault) → fault ≡ Input 0 Read → IfTold files (λ f. IfErr (makes f) (IsNotBefore fault))
+before_first (Untold touched) makes fault is = tt
+before_first (Told f) makes fault is = subst (λ e. IfErr (makes f) (IsNotBefore e)) (sym is) (first_all (makes f))
+
+-- ---- memory was taken before
 
 -- no refusal is found before
 pub unless_late : {A : Type 0} (o : Option Refusal) (a : A) → IfErr (unless o a) IsLate

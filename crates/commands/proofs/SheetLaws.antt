@@ -7,20 +7,27 @@ use Rattle.outside.specs.Exact.{HasReadCause}
 use Rattle.outside.specs.declared.exact.ReadFault.{ReadFault}
 use Rattle.outside.specs.declared.exact.ReadFault.TheVariants.{Failed, Shrunk as ShrunkRead}
 use Rattle.sync_survey.specs.Kinds.{of_read}
+use Rattle.sync_survey.specs.declared.survey_fault.SurveyFault.TheVariants.{Absent}
+use Rattle.commands.specs.declared.fault.EditFault.{EditFault}
 use Rattle.commands.specs.declared.fault.EditFault.TheVariants.{Input, Refused}
 use Rattle.commands.specs.declared.fault.Refusal.TheVariants.{SheetTooLarge}
 use Rattle.commands.specs.Left.{seen, IsLate}
 use Rattle.commands.specs.Sheet.{longest_sheet, sheet_in, IsSheetFault, IsOfSheet}
 
--- want of memory is met after its refusals
+-- what holds of its refusals
+pub sheet-all : (P : EditFault → Type 0) → P (Input 1 Absent) → ((size : ℕ) → P (Refused (SheetTooLarge size))) → (sheet : Option (List ℕ)) → IfErr (sheet_in sheet) P
+sheet-all P absent large None = absent
+sheet-all P absent large (Some bytes) =
+    elim (nat_lt longest_sheet (length bytes)) as (λ b. IfErr (cond b (Err (Refused (SheetTooLarge (length bytes)))) (Ok bytes)) P) [ true ↦ large (length bytes) | false ↦ tt ]
+
+-- want of memory is met after them
 pub sheet-late : (sheet : Option (List ℕ)) → IfErr (sheet_in sheet) IsLate
-sheet-late None = refl
-sheet-late (Some bytes) = elim (nat_lt longest_sheet (length bytes)) as (λ b. IfErr (cond b (Err (Refused (SheetTooLarge (length bytes)))) (Ok bytes)) IsLate) [ true ↦ refl | false ↦ tt ]
+sheet-late sheet = sheet-all IsLate refl (λ size. refl) sheet
 
 -- a sheet that was found, and whose bytes aren't read
 module _ (sheet : List ℕ) (files mid last : Files) (before between after : Counts) (size : ℕ) (found : mid ≡ files) (stays : last ≡ mid) (same : between ≡ before) where
   pub read-fault : (fault : ReadFault) → HasReadCause size mid between after fault → IsSheetFault sheet (seen files before) (seen last after) (Input 1 (of_read fault))
-  read-fault Failed cause = record { rose = subst (λ k. Rose k.read_faults after.read_faults) same cause.0; files = stays ∙ found }
+  read-fault Failed cause = record { is = refl; rose = subst (λ k. Rose k.read_faults after.read_faults) same cause.0; files = stays ∙ found }
   read-fault (ShrunkRead first second) cause = record {
     rose = subst (λ k. Rose k.ends after.ends) same cause.3;
     counts = subst (λ k. NothingFailed k after) same cause.4;

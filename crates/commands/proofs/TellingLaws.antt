@@ -1,17 +1,21 @@
 -- A command with a text leaves of the files what it leaves without.
 use Rattle.std.proofs.Common.{◌≡◌, ◌≢◌, ℕ, List, Option, Some, None, Result, Ok, Err, refl, sym, ◌∙◌, ap, subst, inl, inr}
-use Rattle.std.specs.Prelude.{◌⊎◌, IfSome}
+use Rattle.std.specs.Prelude.{◌⊎◌, IfSome, IfErr}
 use Rattle.outside.specs.Files.{Contents, Files, Told, Untold, IfTold}
 use Rattle.commands.specs.declared.fault.EditFault.{EditFault}
 use Rattle.commands.specs.declared.fault.EditFault.TheVariants.{EqualNames, Input, Refused, Write, Sent as NotSent, Memory}
 use Rattle.commands.specs.Command.{Made, Command, Gives, written, MakesStreams, HoldsStreams}
-use Rattle.commands.specs.Left.{Why, Rejected, Missing, Unread, Shorter, Unwritten, Unsent, NoMemory, why_of, Seen, IsDone, IsWrittenTo, TakesMemory, LeavesBy, Leaves, HasNumbers}
+use Rattle.commands.specs.Left.{Why, Rejected, Missing, Unread, Shorter, Unwritten, Unsent, NoMemory, why_of, Seen, IsDone, IsWrittenTo, IsNotBefore, TakesMemory, LeavesBy, Leaves, HasNumbers}
 use Rattle.commands.specs.Said.{IsText}
 use Rattle.commands.specs.Telling.{with_text, telling}
 
 takes_text : (text : List ℕ) (r : Result Made EditFault) → TakesMemory r → TakesMemory (with_text text r)
 takes_text text (Ok made) takes = tt
 takes_text text (Err fault) takes = takes
+
+all_text : (P : EditFault → Type 0) (text : List ℕ) (r : Result Made EditFault) → IfErr r P → IfErr (with_text text r) P
+all_text P text (Ok made) is = tt
+all_text P text (Err fault) is = is
 
 module _ (text : Contents → List ℕ) (command : Command) where
   abbrev told : Command
@@ -24,6 +28,10 @@ module _ (text : Contents → List ℕ) (command : Command) where
   takes_memory : (files : Files) → IfTold files (λ f. TakesMemory (command.makes f)) → IfTold files (λ f. TakesMemory (told.makes f))
   takes_memory (Untold touched) takes = tt
   takes_memory (Told f) takes = takes_text (text f) (command.makes f) takes
+
+  all-told : (files : Files) (P : EditFault → Type 0) → IfTold files (λ f. IfErr (command.makes f) P) → IfTold files (λ f. IfErr (told.makes f) P)
+  all-told (Untold touched) P is = tt
+  all-told (Told f) P is = all_text P (text f) (command.makes f) is
 
   pub telling-done : (old new : Seen) → IsDone command old new → IsDone told old new
   telling-done old new done = record { made = at old.files done.made; touches = done.touches; counts = done.counts }
@@ -45,7 +53,7 @@ module _ (text : Contents → List ℕ) (command : Command) where
     left-by : (why : Why) → LeavesBy command old new fault why → LeavesBy told old new fault why
     left-by Rejected h = record { defined = telling-gives old.files fault h.defined; stays = h.stays }
     left-by Missing h = record { defined = telling-gives old.files fault h.defined; rose = h.rose; files = h.files }
-    left-by Unread h = record { rose = h.rose; files = unread-to h.files }
+    left-by Unread h = record { names = h.names; before = all-told old.files (IsNotBefore fault) h.before; rose = h.rose; files = unread-to h.files }
     left-by Shorter h = record { rose = h.rose; counts = h.counts; untold = h.untold; touches = h.touches }
     left-by (Unwritten k) h = record { rose = h.rose; files = written-to k old.files new.files h.files }
     left-by Unsent h = telling-done old new h

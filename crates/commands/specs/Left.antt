@@ -1,5 +1,5 @@
 -- What a command leaves of the files, by its answer, and the cause of each refusal.
-use Rattle.std.specs.Prelude.{◌≡◌, ◌≢◌, ◌⊎◌, ℕ, ◌+◌, ◌<◌, ◌==◌, length, take, Bool, true, false, Option, Some, None, [], Result, Ok, Err}
+use Rattle.std.specs.Prelude.{◌≡◌, ◌≢◌, ◌⊎◌, ℕ, ◌+◌, ◌<◌, ◌≤◌, ◌==◌, length, take, Bool, true, false, Option, Some, None, [], Result, Ok, Err, IfErr}
 use Rattle.outside.specs.Files.{Files, Told, IfTold, is_told, OnlyTouches}
 use Rattle.outside.specs.Counts.{Counts, Rose, NothingFailed}
 use Rattle.sync_survey.specs.declared.survey_fault.SurveyFault.{SurveyFault}
@@ -7,6 +7,7 @@ use Rattle.sync_survey.specs.declared.survey_fault.SurveyFault.TheVariants.{Abse
 use Rattle.commands.specs.Kinds.{kind_of, by_kind, HasRightNumbers, IsFromOutside}
 use Rattle.commands.specs.declared.fault.EditFault.{EditFault}
 use Rattle.commands.specs.declared.fault.Refusal.{Refusal}
+use Rattle.commands.specs.declared.fault.Refusal.TheVariants.{Differ}
 use Rattle.commands.specs.declared.fault.EditFault.TheVariants.{EqualNames, Input, Refused, Write, Sent, Memory}
 use Rattle.commands.specs.Command.{Made, Command, clash_of, written, written_to, Gives}
 
@@ -67,7 +68,17 @@ pub record IsMissing (command : Command) (old new : Seen) (fault : EditFault) : 
   pub rose : Rose old.counts.misses new.counts.misses
   pub files : new.files ≡ old.files
 
-pub record IsUnread (command : Command) (old new : Seen) : Type 0 where
+-- The inputs are judged in their order. Where this one could not be read, those before it are there and without fault, and none differs from the
+-- first: the answer that the files give isn't of an input before it. Every other refusal comes once all inputs before it were judged.
+abbrev pub IsNotBefore : EditFault → EditFault → Type 0
+IsNotBefore (Input place fault) (Input at first) = place ≤ at
+IsNotBefore (Input place fault) (Refused (Differ at)) = place ≤ at
+IsNotBefore fault answer = Unit {0}
+
+-- no name of an input is an output's, and no input before this one is at fault
+pub record IsUnread (command : Command) (old new : Seen) (fault : EditFault) : Type 0 where
+  pub names : clash_of command ≡ None
+  pub before : IfTold old.files (λ f. IfErr (command.makes f) (IsNotBefore fault))
   pub rose : Rose old.counts.read_faults new.counts.read_faults
   pub files : (new.files ≡ old.files) ⊎ ((k : ℕ) × IsWrittenTo command k old.files new.files)
 
@@ -106,7 +117,7 @@ pub record IsOutOfMemory (command : Command) (old new : Seen) : Type 0 where
 abbrev pub LeavesBy : Command → Seen → Seen → EditFault → Why → Type 0
 LeavesBy command old new fault Rejected = IsRefused command old new fault
 LeavesBy command old new fault Missing = IsMissing command old new fault
-LeavesBy command old new fault Unread = IsUnread command old new
+LeavesBy command old new fault Unread = IsUnread command old new fault
 LeavesBy command old new fault Shorter = IsShorter command old new
 LeavesBy command old new fault (Unwritten k) = IsUnwritten command k old new
 LeavesBy command old new fault Unsent = IsDone command old new

@@ -5,7 +5,7 @@ use Rattle.bit_fields.specs.Bits.{AreBytes}
 use Rattle.outside.specs.Files.{Contents, Files, Told, Untold, is_told, with_file, with_touch, Holds, IsThere, IsMissing, IfTold}
 use Rattle.outside.specs.Counts.{Rose, NothingFailed}
 use Rattle.sync_survey.specs.declared.survey_fault.SurveyFault.{SurveyFault}
-use Rattle.sync_survey.specs.declared.survey_fault.SurveyFault.TheVariants.{Absent, Memory as NoRoom}
+use Rattle.sync_survey.specs.declared.survey_fault.SurveyFault.TheVariants.{Absent, Read, Memory as NoRoom}
 use Rattle.sync_survey.specs.MainData.{StreamFrame}
 use Rattle.sync_survey.specs.Faults.{SurveyFields, longest_file, HoldsStream}
 use Rattle.sync_survey.specs.Survey.{survey_of}
@@ -14,7 +14,7 @@ use Rattle.commands.specs.declared.fault.EditFault.TheVariants.{EqualNames, Inpu
 use Rattle.commands.specs.declared.fault.Refusal.{Refusal}
 use Rattle.commands.specs.Kinds.{HasRightNumbers}
 use Rattle.commands.specs.Command.{Made, Command, clash_from, AreSound}
-use Rattle.commands.specs.Left.{Why, Rejected, Missing, Unread, Shorter, Unwritten, Unsent, NoMemory, why_of, Seen, IsLate, IsOfPlace}
+use Rattle.commands.specs.Left.{Why, Rejected, Missing, Unread, Shorter, Unwritten, Unsent, NoMemory, why_of, Seen, IsLate, IsNotBefore, IsOfPlace}
 
 -- what it makes of a file with this survey, or why it refuses it
 abbrev pub Making : Type 0
@@ -125,7 +125,9 @@ pub record MissesAt (place : ℕ) (name : List ℕ) (old new : Seen) (fault : Ed
 abbrev pub MissesInput : List ℕ → Seen → Seen → EditFault → Type 0
 MissesInput name old new fault = MissesAt 0 name old new fault
 
-pub record ReadsNothing (old new : Seen) : Type 0 where
+-- an input could not be read
+pub record ReadsNothing (place : ℕ) (old new : Seen) (fault : EditFault) : Type 0 where
+  pub is : fault ≡ Input place Read
   pub rose : Rose old.counts.read_faults new.counts.read_faults
   pub files : new.files ≡ old.files
 
@@ -145,7 +147,7 @@ pub record NeedsMemory (name : List ℕ) (old new : Seen) : Type 0 where
 abbrev pub IsFileFaultBy : ℕ → ℕ → List ℕ → Seen → Seen → EditFault → Why → Type 0
 IsFileFaultBy place allowed name old new fault Rejected = (f : SurveyFault) × (fault ≡ Input place f) × RefusesFile allowed name old new f
 IsFileFaultBy place allowed name old new fault Missing = (fault ≡ Input place Absent) × IsMissing old.files name × Rose old.counts.misses new.counts.misses × (new.files ≡ old.files)
-IsFileFaultBy place allowed name old new fault Unread = ReadsNothing old new
+IsFileFaultBy place allowed name old new fault Unread = ReadsNothing place old new fault
 IsFileFaultBy place allowed name old new fault Shorter = LosesInput old new
 IsFileFaultBy place allowed name old new fault (Unwritten k) = ⊥
 IsFileFaultBy place allowed name old new fault Unsent = ⊥
@@ -158,7 +160,7 @@ IsFileFault place allowed name old new fault = IsFileFaultBy place allowed name 
 abbrev pub IsInputFaultBy : Making → List ℕ → Seen → Seen → EditFault → Why → Type 0
 IsInputFaultBy make name old new fault Rejected = RefusesInput make name old new fault
 IsInputFaultBy make name old new fault Missing = MissesInput name old new fault
-IsInputFaultBy make name old new fault Unread = ReadsNothing old new
+IsInputFaultBy make name old new fault Unread = ReadsNothing 0 old new fault
 IsInputFaultBy make name old new fault Shorter = LosesInput old new
 IsInputFaultBy make name old new fault (Unwritten k) = ⊥
 IsInputFaultBy make name old new fault Unsent = ⊥
@@ -183,10 +185,16 @@ pub record MissesFile (task : Task) (old new : Seen) (fault : EditFault) : Type 
   pub rose : Rose old.counts.misses new.counts.misses
   pub files : new.files ≡ old.files
 
+-- no input before the one that could not be read is at fault
+pub record ReadsNoFile (task : Task) (old new : Seen) (fault : EditFault) : Type 0 where
+  pub before : IfTold old.files (λ f. IfErr (task.makes f) (IsNotBefore fault))
+  pub rose : Rose old.counts.read_faults new.counts.read_faults
+  pub files : new.files ≡ old.files
+
 abbrev pub IsEarlyFaultBy : Task → Seen → Seen → EditFault → Why → Type 0
 IsEarlyFaultBy task old new fault Rejected = RefusesFiles task old new fault
 IsEarlyFaultBy task old new fault Missing = MissesFile task old new fault
-IsEarlyFaultBy task old new fault Unread = ReadsNothing old new
+IsEarlyFaultBy task old new fault Unread = ReadsNoFile task old new fault
 IsEarlyFaultBy task old new fault Shorter = LosesInput old new
 IsEarlyFaultBy task old new fault (Unwritten k) = ⊥
 IsEarlyFaultBy task old new fault Unsent = ⊥

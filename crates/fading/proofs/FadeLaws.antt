@@ -1,30 +1,37 @@
 -- What a sheet changes, and its faults as those of the command.
 use Rattle.std.proofs.Common.{◌≡◌, ℕ, Bool, true, List, Option, Some, None, Result, Ok, Err, refl, sym, ◌∙◌, ap, subst, inl, inr, arith}
-use Rattle.std.specs.Prelude.{◌⊎◌, MatchResult, IfSome}
+use Rattle.std.specs.Prelude.{◌⊎◌, MatchResult, IfSome, IfErr, length}
 use Rattle.bit_fields.specs.Bits.{AreBytes}
 use Rattle.outside.specs.Files.{Contents, Files, Holds, IsThere, Told, Untold, IfTold}
 use Rattle.outside.proofs.FilesLaws.{there_holds}
-use Rattle.sync_survey.specs.declared.survey_fault.SurveyFault.TheVariants.{Absent}
+use Rattle.sync_survey.specs.declared.survey_fault.SurveyFault.TheVariants.{Absent, Read}
 use Rattle.sync_survey.specs.Faults.{SurveyFields}
 use Rattle.sync_survey.specs.Survey.{survey_of}
 use Rattle.sync_survey.proofs.SurveyedFiles.{survey_of-parts}
 use Rattle.commands.specs.declared.fault.EditFault.{EditFault}
 use Rattle.commands.specs.declared.fault.EditFault.TheVariants.{Input, Refused, Memory}
 use Rattle.commands.specs.declared.fault.Refusal.{Refusal}
+use Rattle.commands.specs.declared.fault.Refusal.TheVariants.{Differ}
 use Rattle.commands.specs.Refusing.{unless, then_made}
-use Rattle.commands.specs.Left.{Why, Rejected, Missing, Unread, Shorter, Unwritten, Unsent, NoMemory, why_of, Seen, IsRefusal, IsOfInput}
+use Rattle.commands.specs.Left.{Why, Rejected, Missing, Unread, Shorter, Unwritten, Unsent, NoMemory, why_of, Seen, IsNotBefore, IsRefusal, IsOfInput}
 use Rattle.commands.specs.One.{Making, most_frames, made_where, file_task, Refuses, IsEarlyFaultBy, IsEarlyFault, IsOfInputs, IsInputFault, IsMaking}
+use Rattle.commands.specs.Sheet.{sheet_in}
 use Rattle.commands.proofs.InputLaws.{made-survey, input_is_early}
+use Rattle.commands.proofs.RefusingLaws.{unless_all, then_all}
+use Rattle.commands.proofs.SheetLaws.{sheet-all}
 use Rattle.moved_gains.specs.declared.change.Change.{Change as CodeChange}
 use Rattle.moved_gains.specs.Change.{Change, changed, change_in}
-use Rattle.fade_plan.specs.Curves.{CurvePoint}
+use Rattle.fade_plan.specs.declared.envelope_fault.EnvelopeFault.{EnvelopeFault}
+use Rattle.fade_plan.specs.declared.envelope_fault.EnvelopeFault.TheVariants.{Line}
+use Rattle.fade_plan.specs.Sheets.{EnvelopePoint, envelope_of}
+use Rattle.fade_plan.specs.Curves.{CurvePoint, curve_of}
 use Rattle.moved_gains.specs.declared.course.Course.TheVariants.{Along}
 use Rattle.moved_gains.specs.declared.shift.Steps.{Steps}
 use Rattle.moved_gains.specs.Course.{steps_over}
 use Rattle.gain_edits.specs.GainRange.{range_fault}
 use Rattle.gain_edits.proofs.Refusals.{range_may}
 use Rattle.gain_edits.specs.Change.{changed_with, changing}
-use Rattle.fading.specs.Fade.{curve_by, faded_by, faded, fade_in, fade_of, fade_change, faded_stream, choice_refuses, fade_refuses, fade_task}
+use Rattle.fading.specs.Fade.{points_read, points_in, curve_read, curve_on, curve_by, faded_by, faded, fade_in, fade_of, fade_change, faded_stream, choice_refuses, fade_refuses, fade_task}
 use Rattle.fading.specs.Steps.{IsChangeFaultBy, IsChangeFault, IsOfChange}
 
 -- ---- the change
@@ -52,6 +59,40 @@ pub along_answer : (sheet : List ℕ) (back : Bool) (s : SurveyFields) (curve : 
 along_answer sheet back s curve is (Ok change) made = fade_in-curve sheet back s curve is ∙ made
 along_answer sheet back s curve is (Err fault) refused = inr (refused.0, fade_in-curve sheet back s curve is ∙ refused.1)
 
+-- ---- none comes before the sheet is read
+
+choice_before : (refusal : Refusal) → choice_refuses refusal ≡ true → IsNotBefore (Input 1 Read) (Refused refusal)
+choice_before (Differ at) may = absurd cc
+choice_before _ may = tt
+
+points_before : (r : Result (List EnvelopePoint) EnvelopeFault) → IfErr (points_read r) (IsNotBefore (Input 1 Read))
+points_before (Ok points) = tt
+points_before (Err (Line line)) = tt
+points_before (Err _) = tt
+
+curve_before : (r : Result (List CurvePoint) ℕ) → IfErr (curve_read r) (IsNotBefore (Input 1 Read))
+curve_before (Ok curve) = tt
+curve_before (Err line) = tt
+
+range_before : (o : Option Refusal) → IfSome o (λ r. choice_refuses r ≡ true) → IfSome o (λ r. IsNotBefore (Input 1 Read) (Refused r))
+range_before None may = tt
+range_before (Some refusal) may = choice_before refusal may
+
+in_before : (bytes : List ℕ) (back : Bool) (s : SurveyFields) → IfErr (fade_in bytes back s) (IsNotBefore (Input 1 Read))
+unfolding fade_in
+in_before bytes back s =
+    then_all (IsNotBefore (Input 1 Read)) (curve_by s bytes) (faded back s)
+    (then_all (IsNotBefore (Input 1 Read)) (points_in bytes) (curve_on s) (points_before (envelope_of bytes)) (λ points. curve_before (curve_of s.class (length s.frames) points)))
+    (λ curve. unless_all (IsNotBefore (Input 1 Read)) _ _ (range_before _ (range_may choice_refuses (λ offset granule channel gain. refl) _ s.frames)))
+
+fade_of-before : (sheet : Option (List ℕ)) (back : Bool) (s : SurveyFields) → IfErr (fade_of sheet back s) (IsNotBefore (Input 1 Read))
+fade_of-before sheet back s =
+    then_all (IsNotBefore (Input 1 Read)) (sheet_in sheet) (λ bytes. fade_in bytes back s) (sheet-all (IsNotBefore (Input 1 Read)) (omega arith) (λ size. tt) sheet) (λ bytes. in_before bytes back s)
+
+changed_all : (P : EditFault → Type 0) (file : List ℕ) (s : SurveyFields) (r : Result Change EditFault) → IfErr r P → IfErr (changed_with file s r) P
+changed_all P file s (Err fault) is = is
+changed_all P file s (Ok change) is = tt
+
 -- ---- as faults of the command
 
 pub input_numbers : (sheet : List ℕ) (back : Bool) (input : List ℕ) (fault : EditFault) → IsOfInput fade_refuses fault → IsOfInputs (fade_task sheet back input) fault
@@ -76,10 +117,15 @@ module _ (sheet : List ℕ) (back : Bool) (input : List ℕ) where
   refuses_same (Untold touched) fault h = tt
   refuses_same (Told f) fault h = h
 
+  before_same : (files : Files) (P : EditFault → Type 0) → IfTold files (λ f. IfErr ((file_task (making_in files) (faded_stream None back) fade_refuses input).makes f) P) → IfTold files (λ f. IfErr ((fade_task sheet back input).makes f) P)
+  before_same (Untold touched) P is = tt
+  before_same (Told f) P is = is
+
   module _ (old new : Seen) (fault : EditFault) where
     early_by : (why : Why) → IsEarlyFaultBy (file_task (making_in old.files) (faded_stream None back) fade_refuses input) old new fault why → IsEarlyFaultBy (fade_task sheet back input) old new fault why
     early_by Rejected h = record { defined = refuses_same old.files fault h.defined; stays = h.stays }
     early_by Missing h = record { defined = refuses_same old.files fault h.defined; rose = h.rose; files = h.files }
+    early_by Unread h = record { before = before_same old.files (IsNotBefore fault) h.before; rose = h.rose; files = h.files }
     early_by (Unwritten k) h = absurd h
     early_by Unsent h = absurd h
     early_by _ h = h
@@ -99,6 +145,15 @@ module _ (sheet : List ℕ) (back : Bool) (input : List ℕ) where
         let held = there_holds f input there in
         makes_by f held.0 held.1 (is held.0 held.1) ∙ ap (changed_with held.0 s) refused
 
+    -- the sheet could not be read
+    sheet_before : (files : Files) (fault : EditFault) → IsThere files input → ((bytes : List ℕ) → Holds files input bytes → survey_of bytes most_frames ≡ Ok s) → fault ≡ Input 1 Read
+        → IfTold files (λ f. IfErr ((fade_task sheet back input).makes f) (IsNotBefore fault))
+    sheet_before (Untold touched) fault there is unread = tt
+    sheet_before (Told f) fault there is unread =
+        let held = there_holds f input there in
+        subst (λ e. IfErr ((fade_task sheet back input).makes f) (IsNotBefore e)) (sym unread)
+        (subst (λ r. IfErr r (IsNotBefore (Input 1 Read))) (sym (makes_by f held.0 held.1 (is held.0 held.1))) (changed_all (IsNotBefore (Input 1 Read)) held.0 s (fade_of (f sheet) back s) (fade_of-before (f sheet) back s)))
+
     with_sheet : (files : Files) (r : Result Change EditFault) → IsThere files sheet → ((bytes : List ℕ) → Holds files sheet bytes → fade_of (Some bytes) back s ≡ r) → IfTold files (λ f. fade_of (f sheet) back s ≡ r)
     with_sheet (Untold touched) r there are = tt
     with_sheet (Told f) r there are = let held = there_holds f sheet there in ap (λ o. fade_of o back s) held.1 ∙ are held.0 held.1
@@ -111,7 +166,7 @@ module _ (sheet : List ℕ) (back : Bool) (input : List ℕ) where
       change_by : (fault : EditFault) (why : Why) → IsChangeFaultBy sheet back s old new fault why → IsEarlyFaultBy (fade_task sheet back input) old new fault why
       change_by fault Rejected h = record { defined = refuses_by old.files fault there surveyed (with_sheet old.files (Err fault) h.there h.bytes); stays = h.stays }
       change_by fault Missing h = record { defined = refuses_by old.files fault there surveyed (without_sheet old.files fault h.missing h.is); rose = h.rose; files = h.files }
-      change_by fault Unread h = h
+      change_by fault Unread h = record { before = sheet_before old.files fault there surveyed h.is; rose = h.rose; files = h.files }
       change_by fault Shorter h = h
       change_by fault (Unwritten k) h = absurd h
       change_by fault Unsent h = absurd h

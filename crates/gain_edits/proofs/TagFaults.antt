@@ -1,5 +1,5 @@
 -- Why the tag isn't read, and what is refused after it, as a fault of the command.
-use Rattle.std.proofs.Common.{◌≡◌, ℕ, Bool, List, Result, Ok, Err, sym, ◌∙◌, ap, ap₂, subst, inl, inr}
+use Rattle.std.proofs.Common.{◌≡◌, ℕ, Bool, List, Result, Ok, Err, refl, sym, ◌∙◌, ap, ap₂, subst, inl, inr}
 use Rattle.std.specs.Prelude.{◌⊎◌, IfOk, IfErr, MatchResult}
 use Rattle.outside.specs.Files.{Files, Holds, IsThere}
 use Rattle.outside.specs.Counts.{Counts}
@@ -37,7 +37,7 @@ module _ (of : Changing) (may : Refusal → Bool) (name : List ℕ) (files new :
       refusal_is_input (changing of) name (seen files before) (seen new after) s (TagTooLarge size) there is (λ bytes holds. ap (changed_with bytes s) (refuses bytes (h.0 bytes holds))) (ap₂ seen same h.3)
   tag_is_input (Bad at) refuses h =
       refusal_is_input (changing of) name (seen files before) (seen new after) s (BadTag at) there is (λ bytes holds. ap (changed_with bytes s) (refuses bytes (h.0 bytes holds))) (ap₂ seen same h.3)
-  tag_is_input Read refuses h = record { rose = h; files = same }
+  tag_is_input Read refuses h = record { is = refl; rose = h; files = same }
   tag_is_input (Shrunk first second) refuses h = record { rose = h.3; counts = h.4; untold = h.0; files = same }
   tag_is_input NoRoom refuses h = memory_is_input (changing of) name (seen files before) (seen new after) s there is (ap₂ seen same h)
 

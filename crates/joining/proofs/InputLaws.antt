@@ -7,7 +7,7 @@ use Rattle.frame_header.specs.Fields.{ClassFields, same_class}
 use Rattle.laid_files.proofs.LaidFrames.{same-class}
 use Rattle.laying.specs.Relaid.{Part}
 use Rattle.sync_survey.specs.declared.survey_fault.SurveyFault.{SurveyFault}
-use Rattle.sync_survey.specs.declared.survey_fault.SurveyFault.TheVariants.{Absent, TooLong}
+use Rattle.sync_survey.specs.declared.survey_fault.SurveyFault.TheVariants.{Absent, TooLong, Read}
 use Rattle.sync_survey.specs.Faults.{longest_file, SurveyFields, surveyed}
 use Rattle.sync_survey.specs.Survey.{survey_of}
 use Rattle.sync_survey.proofs.BytesFaults.{surveyed_of_bytes}
@@ -17,10 +17,10 @@ use Rattle.commands.specs.declared.fault.EditFault.TheVariants.{Input, Refused}
 use Rattle.commands.specs.declared.fault.Refusal.TheVariants.{Differ}
 use Rattle.commands.specs.Refusing.{then_made}
 use Rattle.commands.specs.One.{most_frames, NeedsMemory, Refuses, IsEarlyFaultBy, IsEarlyFault, first_input}
-use Rattle.commands.specs.Left.{Why, Rejected, Missing, Unwritten, Unsent, NoMemory, why_of, Seen, IsLate}
+use Rattle.commands.specs.Left.{Why, Rejected, Missing, Unread, Unwritten, Unsent, NoMemory, why_of, Seen, IsLate, IsNotBefore}
 use Rattle.sync_survey.proofs.SurveyedFiles.{survey_of-parts}
 use Rattle.commands.proofs.InputLaws.{of_bytes_behind}
-use Rattle.commands.proofs.RefusingLaws.{then_late}
+use Rattle.commands.proofs.RefusingLaws.{then_all, then_late}
 use Rattle.joining.specs.Join.{whole_part, may_follow, part_by, part_of, parts_from, parts_of, joined_file, join_task}
 use Rattle.joining.specs.Inputs.{IsInput, IsPartFaultBy, IsPartFault, Follows, AreInputs, class_in, frames_of, parts_in}
 
@@ -205,6 +205,36 @@ found-next : (before : List (List ℕ)) (name : List ℕ) (after : List (List �
 found-next [] name after ss old new are needs = needs
 found-next (n ∷ before) name after ss old new are needs = found-input most_frames (n ∷ before) (name ∷ after) ss old new are (omega arith) needs.stays
 
+-- ---- an input that could not be read, after those before it
+
+class-before : (b : Bool) (place at : ℕ) (p : Part) → place ≤ at → IfErr (cond b (Ok p) (Err (Refused (Differ at)))) (IsNotBefore (Input place Read))
+class-before true place at p behind = tt
+class-before false place at p behind = behind
+
+-- the answers of this input and of those after it
+part-before : (place at : ℕ) (first : Option ClassFields) (allowed : ℕ) (o : Option (List ℕ)) → place ≤ at → IfErr (part_of at first allowed o) (IsNotBefore (Input place Read))
+part-before place at first allowed None behind = behind
+part-before place at first allowed (Some file) behind = by (survey_of file allowed)
+  where
+    by : (r : Result SurveyFields SurveyFault) → IfErr (part_by at first file r) (IsNotBefore (Input place Read))
+    by (Err fault) = behind
+    by (Ok s) = class-before (may_follow first s.class) place at (whole_part file s) behind
+
+parts-before : (place at : ℕ) (first : Option ClassFields) (allowed : ℕ) (f : Contents) (names : List (List ℕ)) → place ≤ at → IfErr (parts_from at first allowed f names) (IsNotBefore (Input place Read))
+unfolding parts_from
+parts-before place at first allowed f [] behind = tt
+parts-before place at first allowed f (name ∷ names) behind =
+    then_all (IsNotBefore (Input place Read)) (part_of at first allowed (f name)) _ (part-before place at first allowed (f name) behind)
+    (λ p. then_all (IsNotBefore (Input place Read)) (parts_from (at + 1) (Some (unwrap_or first p.survey.class)) (allowed - length p.survey.frames) f names) (λ parts. ok_parts (p ∷ parts))
+    (parts-before place (at + 1) (Some (unwrap_or first p.survey.class)) (allowed - length p.survey.frames) f names (omega (arith, behind))) (λ parts. tt))
+
+-- those before have their surveys
+behind-before : (f : Contents) (before after : List (List ℕ)) (ss : List SurveyFields) → AreInputs None most_frames (Told f) before ss → IfErr (parts_of f (before ++ after)) (IsNotBefore (Input (length before) Read))
+behind-before f before after ss are =
+    subst (λ (r : Result (List Part) EditFault). IfErr r (IsNotBefore (Input (length before) Read))) (sym (parts-behind 0 None most_frames f before after ss are))
+    (then_all (IsNotBefore (Input (length before) Read)) (parts_from (0 + length before) (class_after None ss) (most_frames - frames_of ss) f after) (λ parts. ok_parts (parts_in f before ss ++ parts))
+    (parts-before (length before) (0 + length before) (class_after None ss) (most_frames - frames_of ss) f after (omega arith)) (λ parts. tt))
+
 -- ---- a fault of an input, after those before it
 
 module _ (before : List (List ℕ)) (name : List ℕ) (after : List (List ℕ)) (ss : List SurveyFields) where
@@ -212,10 +242,17 @@ module _ (before : List (List ℕ)) (name : List ℕ) (after : List (List ℕ)) 
   refuses-by (Untold touched) fault are is = tt
   refuses-by (Told f) fault are is = ap (λ (r : Result (List Part) EditFault). then_made r (λ parts. Ok (joined_file parts))) (parts-fault f before name after ss fault are is)
 
+  unread-by : (files : Files) (fault : EditFault) → AreInputs None most_frames files before ss → fault ≡ Input (length before) Read → IfTold files (λ f. IfErr ((join_task (before ++ name ∷ after)).makes f) (IsNotBefore fault))
+  unread-by (Untold touched) fault are is = tt
+  unread-by (Told f) fault are is =
+      subst (λ e. IfErr ((join_task (before ++ name ∷ after)).makes f) (IsNotBefore e)) (sym is)
+      (then_all (IsNotBefore (Input (length before) Read)) (parts_of f (before ++ name ∷ after)) (λ parts. Ok (joined_file parts)) (behind-before f before (name ∷ after) ss are) (λ parts. tt))
+
   module _ (old new : Seen) (fault : EditFault) (are : AreInputs None most_frames old.files before ss) where
     early-by : (why : Why) → IsPartFaultBy (length before) (class_after None ss) (most_frames - frames_of ss) name old new fault why → IsEarlyFaultBy (join_task (before ++ name ∷ after)) old new fault why
     early-by Rejected h = record { defined = refuses-by old.files fault are h.0; stays = h.1 }
     early-by Missing h = record { defined = refuses-by old.files fault are h.0; rose = h.1; files = h.2 }
+    early-by Unread h = record { before = unread-by old.files fault are h.is; rose = h.rose; files = h.files }
     early-by (Unwritten k) h = absurd h
     early-by Unsent h = absurd h
     early-by NoMemory h = found-next before name after ss old new are h

@@ -33,7 +33,7 @@ GivesFault place first allowed name files fault = IfTold files (λ f. part_of pl
 abbrev pub IsPartFaultBy : ℕ → Option ClassFields → ℕ → List ℕ → Seen → Seen → EditFault → Why → Type 0
 IsPartFaultBy place first allowed name old new fault Rejected = GivesFault place first allowed name old.files fault × (new ≡ old)
 IsPartFaultBy place first allowed name old new fault Missing = GivesFault place first allowed name old.files fault × Rose old.counts.misses new.counts.misses × (new.files ≡ old.files)
-IsPartFaultBy place first allowed name old new fault Unread = ReadsNothing old new
+IsPartFaultBy place first allowed name old new fault Unread = ReadsNothing place old new fault
 IsPartFaultBy place first allowed name old new fault Shorter = LosesInput old new
 IsPartFaultBy place first allowed name old new fault (Unwritten k) = ⊥
 IsPartFaultBy place first allowed name old new fault Unsent = ⊥

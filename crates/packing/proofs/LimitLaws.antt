@@ -22,9 +22,10 @@ use Rattle.sync_survey.proofs.FoldersLaws.{survey_of-short}
 use Rattle.commands.specs.declared.fault.EditFault.{EditFault}
 use Rattle.commands.specs.declared.fault.EditFault.TheVariants.{EqualNames, Input, Refused, Write, Sent, Memory}
 use Rattle.commands.specs.declared.fault.Refusal.{Refusal}
-use Rattle.commands.specs.Left.{Why, Rejected, Missing, Unread, Shorter, Unwritten, Unsent, NoMemory, why_of, Seen, IsLate}
+use Rattle.commands.specs.Left.{Why, Rejected, Missing, Unread, Shorter, Unwritten, Unsent, NoMemory, why_of, Seen, IsLate, IsNotBefore}
 use Rattle.commands.specs.One.{Making, made_where, Task, file_task, Refuses, IsFileFaultBy, IsFileFault, IsEarlyFaultBy, IsEarlyFault, IsOfInputs, IsMaking, IsProper}
 use Rattle.commands.proofs.InputLaws.{of_bytes_behind}
+use Rattle.commands.proofs.RefusingLaws.{before_first}
 use Rattle.packing.specs.Rules.{unless_fault, limited_by, limited}
 
 -- ---- where more frames are allowed
@@ -90,11 +91,15 @@ module _ (allowed : ℕ) (task : Task) where
   limited-refuses (Untold touched) fault sound is = tt
   limited-refuses (Told f) fault sound is = limited-sound allowed (f task.source) (task.makes f) sound ∙ is
 
+  limited-before : (files : Files) (P : EditFault → Type 0) → IsFaultless files → IfTold files (λ f. IfErr (task.makes f) P) → IfTold files (λ f. IfErr ((limited (Some allowed) task).makes f) P)
+  limited-before (Untold touched) P sound is = tt
+  limited-before (Told f) P sound is = subst (λ r. IfErr r P) (sym (limited-sound allowed (f task.source) (task.makes f) sound)) is
+
   module _ (old new : Seen) (fault : EditFault) (sound : IsFaultless old.files) where
     early-by : (why : Why) → IsEarlyFaultBy task old new fault why → IsEarlyFaultBy (limited (Some allowed) task) old new fault why
     early-by Rejected h = record { defined = limited-refuses old.files fault sound h.defined; stays = h.stays }
     early-by Missing h = record { defined = limited-refuses old.files fault sound h.defined; rose = h.rose; files = h.files }
-    early-by Unread h = h
+    early-by Unread h = record { before = limited-before old.files (IsNotBefore fault) sound h.before; rose = h.rose; files = h.files }
     early-by Shorter h = h
     early-by (Unwritten k) h = absurd h
     early-by Unsent h = absurd h
@@ -147,7 +152,7 @@ module _ (allowed : ℕ) (make : Making) (stream : List ℕ → List StreamFrame
     survey-by : (why : Why) → IsFileFaultBy 0 allowed input old new fault why → IsEarlyFaultBy (limited (Some allowed) of_file) old new fault why
     survey-by Rejected h = record { defined = subst (Refuses (limited (Some allowed) of_file) old.files) (sym h.1) (file-refused old.files h.0 h.2.there h.2.bytes); stays = h.2.stays }
     survey-by Missing h = record { defined = subst (Refuses (limited (Some allowed) of_file) old.files) (sym h.0) (file-missing old.files h.1); rose = h.2; files = h.3 }
-    survey-by Unread h = h
+    survey-by Unread h = record { before = before_first old.files (limited (Some allowed) of_file).makes fault h.is; rose = h.rose; files = h.files }
     survey-by Shorter h = h
     survey-by (Unwritten k) h = absurd h
     survey-by Unsent h = absurd h

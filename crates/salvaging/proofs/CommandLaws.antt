@@ -26,6 +26,7 @@ use Rattle.commands.specs.Command.{Command, AreSound, HoldsStreams}
 use Rattle.commands.specs.Said.{IsText}
 use Rattle.commands.proofs.TellingLaws.{telling-text, telling-done, telling-left, telling-streams}
 use Rattle.commands.proofs.MakeLaws.{clash_left, early_left, one_done, one_left, one_streams}
+use Rattle.commands.proofs.RefusingLaws.{before_first}
 use Rattle.commands.specs.Kinds.{of_input}
 use Rattle.commands.specs.Left.{Seen, seen, IsLate, IsDone, Leaves, IsOfPass, HasNumbers}
 use Rattle.commands.specs.One.{Refuses, NeedsMemory, IsEarlyFault, IsOfInputs, IsMaking, IsPassFault, clash_in, holding, one_command}
@@ -88,7 +89,7 @@ module _ (input : List ℕ) where
     pub early-fault : (fault : SurveyFault) → IsReadFault input files before counts fault → IsEarlyFault (salvage_task input) (seen files before) (seen after counts) (of_input fault)
     early-fault Absent h = record { defined = refuses-absent files h.0; rose = h.1; files = same }
     early-fault (TooLong n) h = let r = rejected (TooLong n) h in record { defined = r.0; stays = r.1 }
-    early-fault Read h = record { rose = h; files = same }
+    early-fault Read h = record { before = before_first files (salvage_task input).makes (Input 0 Read) refl; rose = h; files = same }
     early-fault (Shrunk first second) h = record { rose = h.ended; counts = h.counts; untold = h.nothing_told; files = same }
     early-fault NoRoom h = record { there = h.there; few = h.few; stays = ap₂ seen same h.counts }
     early-fault (NoFrame at) h = let r = rejected (NoFrame at) h in record { defined = r.0; stays = r.1 }

@@ -1,5 +1,5 @@
 -- What the command leaves, by its steps.
-use Rattle.std.proofs.Common.{◌≡◌, ℕ, ◌+◌, ◌<◌, ◌≤◌, ◌≢◌, List, [], ◌∷◌, length, map, take, Option, Some, None, Result, Ok, Err, refl, sym, ◌∙◌, ap, subst, inl, inr, is_some}
+use Rattle.std.proofs.Common.{◌≡◌, ℕ, ◌+◌, ◌<◌, ◌≤◌, ◌≢◌, List, [], ◌∷◌, length, map, take, Option, Some, None, Result, Ok, Err, refl, sym, ◌∙◌, ap, subst, inl, inr, is_some, Bool, true, false, cond, arith}
 use Rattle.std.specs.Prelude.{◌⊎◌, IfSome, IfErr}
 use Rattle.bit_fields.specs.Bits.{AreBytes}
 use Rattle.outside.specs.Files.{Contents, Files, Holds, IsThere, Told, Untold, IfTold, OnlyTouches}
@@ -11,22 +11,23 @@ use Rattle.cue_sheet.specs.Places.{frame_at}
 use Rattle.cue_sheet.specs.Cues.{cue_of}
 use Rattle.frame_header.specs.Fields.{ClassFields}
 use Rattle.sync_survey.specs.declared.survey_fault.SurveyFault.{SurveyFault}
-use Rattle.sync_survey.specs.declared.survey_fault.SurveyFault.TheVariants.{Absent}
+use Rattle.sync_survey.specs.declared.survey_fault.SurveyFault.TheVariants.{Absent, Read}
 use Rattle.sync_survey.specs.Faults.{longest_file, SurveyFields, surveyed, HoldsStream}
 use Rattle.sync_survey.specs.Survey.{survey_of}
 use Rattle.sync_survey.proofs.BytesFaults.{IsOfBytes, surveyed_of_bytes}
 use Rattle.sync_survey.proofs.FoldersLaws.{survey_of-short}
 use Rattle.commands.specs.declared.fault.EditFault.{EditFault}
 use Rattle.commands.specs.declared.fault.EditFault.TheVariants.{EqualNames, Input, Refused, Memory}
+use Rattle.commands.specs.declared.fault.Refusal.TheVariants.{Range, Sheet, SheetTooLarge}
 use Rattle.frame_edits.specs.declared.chosen.Slots.TheVariants.{Own}
-use Rattle.commands.proofs.RefusingLaws.{unless_late, then_late, then_ok}
-use Rattle.commands.proofs.SheetLaws.{sheet-late}
+use Rattle.commands.proofs.RefusingLaws.{unless_all, then_all, before_first, then_ok}
+use Rattle.commands.proofs.SheetLaws.{sheet-all}
 use Rattle.commands.proofs.InputLaws.{of_bytes_behind}
 use Rattle.commands.specs.Refusing.{then_made}
 use Rattle.commands.specs.Sheet.{sheet_in}
 use Rattle.frame_edits.specs.Chosen.{Chosen, cut_refuses, chosen_file, chosen_stream, stream_with, stream_chosen_by, cut_choice, laid_with}
 use Rattle.commands.specs.Command.{Output, Made, Command, clash_of, Gives, written, written_to, AreStreams, HoldsStreams}
-use Rattle.commands.specs.Left.{Why, Rejected, Missing, Unread, Shorter, Unwritten, NoMemory, why_of, Seen, IsLate, IsDone, IsWrittenTo, TakesMemory, LeavesBy, Leaves, IsRefusal}
+use Rattle.commands.specs.Left.{Why, Rejected, Missing, Unread, Shorter, Unwritten, NoMemory, why_of, Seen, IsNotBefore, IsLate, IsDone, IsWrittenTo, TakesMemory, LeavesBy, Leaves, IsRefusal}
 use Rattle.commands.specs.One.{most_frames, IsFileFaultBy, IsFileFault}
 use Rattle.sync_survey.proofs.SurveyedFiles.{survey_of-sound}
 use Rattle.frame_edits.proofs.ChosenLaws.{cut_proper}
@@ -37,23 +38,40 @@ use Rattle.splitting.specs.declared.split_file.Points.TheVariants.{Places, Sheet
 use Rattle.splitting.specs.Steps.{Says, IsPlacesFaultBy, IsPlacesFault, ArePieces, chosen_of, outputs_of, names_of, with_outputs, with_part, IsWrittenPart, IsPiecesFaultBy, IsPiecesFault}
 use Rattle.splitting.proofs.PiecesLaws.{outputs-are, names-first, names-all}
 
+-- ---- what holds of every refusal once the input was surveyed
+
+module _ (P : EditFault → Type 0) (range : (from to frames : ℕ) → P (Refused (Range from to frames))) where
+  outside-all : (b : Bool) (from to frames : ℕ) → IfSome (cond b None (Some (Range from to frames))) (λ refusal. P (Refused refusal))
+  outside-all true from to frames = tt
+  outside-all false from to frames = range from to frames
+
+  first-all : (first : Chosen) (r : Result (List Chosen) EditFault) → IfErr r P → IfErr (with_first first r) P
+  first-all first (Ok more) is = tt
+  first-all first (Err fault) is = is
+
+  chosen-all : (frames from : ℕ) (tos : List ℕ) → IfErr (chosen_from frames from tos) P
+  chosen-all frames from [] = tt
+  chosen-all frames from (to ∷ more) =
+      then_all P (frames_between frames from to) (λ first. with_first first (chosen_from frames to more)) (unless_all P _ _ (outside-all _ from to frames)) (λ first. first-all first (chosen_from frames to more) (chosen-all frames to more))
+
+  at-all : (class : ClassFields) (frames : ℕ) (places : List Place) → IfErr (chosen_at class frames places) P
+  at-all class frames [] = tt
+  at-all class frames (place ∷ places) = chosen-all frames (frame_at class frames place) (map (frame_at class frames) places)
+
+  made-all : (prefix file : List ℕ) (s : SurveyFields) (places : Result (List Place) EditFault) → IfErr places P → IfErr (then_made places (made_at prefix file s)) P
+  made-all prefix file s places is = then_all P places (made_at prefix file s) is (λ ps. then_all P (chosen_at s.class (length s.frames) ps) (made_of prefix file s) (at-all s.class (length s.frames) ps) (λ cs. tt))
+
+end-all : (P : EditFault → Type 0) → ((fault : CueFault) → P (Refused (Sheet fault))) → (r : Result (List Place) CueFault) → IfErr (with_end r) P
+end-all P cue (Ok starts) = tt
+end-all P cue (Err fault) = cue fault
+
+where-all : (P : EditFault → Type 0) → P (Input 1 Absent) → ((size : ℕ) → P (Refused (SheetTooLarge size))) → ((fault : CueFault) → P (Refused (Sheet fault))) → (o : Option (List ℕ)) → IfErr (places_where o) P
+where-all P absent large cue o = then_all P (sheet_in o) (λ bytes. with_end (cue_of bytes)) (sheet-all P absent large o) (λ bytes. end-all P cue (cue_of bytes))
+
 -- ---- the refusals that come once memory was taken
 
-first-late : (first : Chosen) (r : Result (List Chosen) EditFault) → IfErr r IsLate → IfErr (with_first first r) IsLate
-first-late first (Ok more) late = tt
-first-late first (Err fault) late = late
-
-chosen-late : (frames from : ℕ) (tos : List ℕ) → IfErr (chosen_from frames from tos) IsLate
-chosen-late frames from [] = tt
-chosen-late frames from (to ∷ more) =
-    then_late (frames_between frames from to) (λ first. with_first first (chosen_from frames to more)) (unless_late _ _) (λ first. first-late first (chosen_from frames to more) (chosen-late frames to more))
-
-at-late : (class : ClassFields) (frames : ℕ) (places : List Place) → IfErr (chosen_at class frames places) IsLate
-at-late class frames [] = tt
-at-late class frames (place ∷ places) = chosen-late frames (frame_at class frames place) (map (frame_at class frames) places)
-
 made-late : (prefix file : List ℕ) (s : SurveyFields) (places : Result (List Place) EditFault) → IfErr places IsLate → IfErr (then_made places (made_at prefix file s)) IsLate
-made-late prefix file s places late = then_late places (made_at prefix file s) late (λ ps. then_late (chosen_at s.class (length s.frames) ps) (made_of prefix file s) (at-late s.class (length s.frames) ps) (λ cs. tt))
+made-late = made-all IsLate (λ from to frames. refl)
 
 takes : (r : Result Made EditFault) → IfErr r IsLate → TakesMemory r
 takes (Ok made) late = tt
@@ -75,19 +93,21 @@ AreLate placing = (f : Contents) → IfErr (placing.places f) IsLate
 given-late : (places : List Place) → AreLate (given places)
 given-late places f = tt
 
-end-late : (r : Result (List Place) CueFault) → IfErr (with_end r) IsLate
-end-late (Ok starts) = tt
-end-late (Err fault) = refl
-
-where-late : (o : Option (List ℕ)) → IfErr (places_where o) IsLate
-where-late o = then_late (sheet_in o) (λ bytes. with_end (cue_of bytes)) (sheet-late o) (λ bytes. end-late (cue_of bytes))
-
 told-late : (sheet : List ℕ) → AreLate (told_by sheet)
-told-late sheet f = where-late (f sheet)
+told-late sheet f = where-all IsLate refl (λ size. refl) (λ fault. refl) (f sheet)
 
 points-late : (points : Points) → AreLate (placing_of points)
 points-late (Places places) = given-late places.now
 points-late (InSheet sheet) = told-late sheet.now
+
+-- ---- none comes before the sheet is read
+
+made-before : (prefix file : List ℕ) (s : SurveyFields) (places : Result (List Place) EditFault) → IfErr places (IsNotBefore (Input 1 Read)) → IfErr (then_made places (made_at prefix file s)) (IsNotBefore (Input 1 Read))
+made-before = made-all (IsNotBefore (Input 1 Read)) (λ from to frames. tt)
+
+points-before : (points : Points) (f : Contents) → IfErr ((placing_of points).places f) (IsNotBefore (Input 1 Read))
+points-before (Places places) f = tt
+points-before (InSheet sheet) f = where-all (IsNotBefore (Input 1 Read)) (omega arith) (λ size. tt) (λ fault. tt) (f sheet.now)
 
 -- ---- the streams of the pieces
 
@@ -181,7 +201,7 @@ module _ (points : Points) (input prefix : List ℕ) where
           record { defined = subst (λ e. Gives command old.files (Err e)) (sym h.1) (input-refused old.files h.0 h.2.there h.2.bytes); stays = h.2.stays }
       input-left-by Missing h =
           record { defined = subst (λ e. Gives command old.files (Err e)) (sym h.0) (input-missing old.files h.1); rose = h.2; files = h.3 }
-      input-left-by Unread h = record { rose = h.rose; files = inl h.files }
+      input-left-by Unread h = record { names = apart; before = before_first old.files command.makes fault h.is; rose = h.rose; files = inl h.files }
       input-left-by Shorter h = record { rose = h.rose; counts = h.counts; untold = h.untold; touches = stays-touched h.files }
       input-left-by NoMemory h = record { names = apart; takes = input-takes old.files h.there h.few; stays = h.stays }
       input-left-by _ h = absurd h
@@ -207,6 +227,17 @@ module _ (points : Points) (input prefix : List ℕ) where
           at (Told f) told =
               let held = held-of f told in
               subst TakesMemory (sym (makes-then f held.0 told held.1)) (takes (then_made (placing.places f) (made_at prefix held.0 s)) (made-late prefix held.0 s (placing.places f) (points-late points f)))
+
+      -- the sheet could not be read
+      behind-before : (fault : EditFault) → fault ≡ Input 1 Read → IfTold files (λ f. IfErr (command.makes f) (IsNotBefore fault))
+      behind-before fault is = at files refl
+        where
+          at : (fs : Files) → files ≡ fs → IfTold fs (λ f. IfErr (command.makes f) (IsNotBefore fault))
+          at (Untold touched) told = tt
+          at (Told f) told =
+              let held = held-of f told in
+              subst (λ e. IfErr (command.makes f) (IsNotBefore e)) (sym is)
+              (subst (λ r. IfErr r (IsNotBefore (Input 1 Read))) (sym (makes-then f held.0 told held.1)) (made-before prefix held.0 s (placing.places f) (points-before points f)))
 
       -- there are no positions
       pub places-refused : (fault : EditFault) → IfTold files (λ f. placing.places f ≡ Err fault) → Gives command files (Err fault)
@@ -246,6 +277,13 @@ module _ (points : Points) (input prefix : List ℕ) where
               ∙ ap (λ r. then_made r (made_of prefix bytes s)) chosen
               ∙ ap (λ (outputs : List Output). Ok (record { outputs = outputs; text = [] })) (sym (outputs-are prefix s 1 pieces bytes named))
 
+          none-before : (P : EditFault → Type 0) → IfTold files (λ f. IfErr (command.makes f) P)
+          none-before P = at files refl
+            where
+              at : (fs : Files) → files ≡ fs → IfTold fs (λ f. IfErr (command.makes f) P)
+              at (Untold touched) told = tt
+              at (Told f) told = let held = held-of f told in subst (λ r. IfErr r P) (sym (makes-pieces f held.0 told held.1)) tt
+
           whole : (new : Files) → ((bytes : List ℕ) → Holds files input bytes → new ≡ with_outputs (outputs_of s pieces bytes) files) → IfTold files (λ f. (made : Made) × (command.makes f ≡ Ok made) × (new ≡ Told (written made.outputs f)))
           unfolding with_outputs
           whole new all = at files refl all
@@ -272,7 +310,7 @@ module _ (points : Points) (input prefix : List ℕ) where
       places-left-by : (fault : EditFault) (why : Why) → IsPlacesFaultBy placing old new fault why → LeavesBy command old new fault why
       places-left-by fault Rejected h = record { defined = places-refused s old.files there surveyed fault h.0; stays = h.1 }
       places-left-by fault Missing h = record { defined = places-refused s old.files there surveyed fault h.0; rose = h.1; files = h.2 }
-      places-left-by fault Unread h = record { rose = h.rose; files = inl h.files }
+      places-left-by fault Unread h = record { names = apart; before = behind-before s old.files there surveyed fault h.is; rose = h.rose; files = inl h.files }
       places-left-by fault Shorter h = record { rose = h.rose; counts = h.counts; untold = h.untold; touches = stays-touched old new fault h.files }
       places-left-by fault NoMemory h = record { names = apart; takes = behind-takes s old.files there surveyed; stays = h }
       places-left-by fault _ h = absurd h
@@ -306,7 +344,7 @@ module _ (points : Points) (input prefix : List ℕ) where
           part-left k few h = part s old.files there surveyed places are pieces named chosen k new.files few h
 
           split-left-by : (fault : EditFault) (why : Why) → length pieces ≤ 99 → OnlyTouches (names_of pieces) old.files new.files → IsPiecesFaultBy (outputs_of s pieces) (names_of pieces) input old new why → LeavesBy command old new fault why
-          split-left-by fault Unread few only h = record { rose = h.rose; files = inr (h.place, part-left h.place few h.files) }
+          split-left-by fault Unread few only h = record { names = apart; before = none-before s old.files there surveyed places are pieces named chosen (IsNotBefore fault); rose = h.rose; files = inr (h.place, part-left h.place few h.files) }
           split-left-by fault Shorter few only h = record { rose = h.rose; counts = h.counts; untold = h.untold; touches = names-touched few old.files new.files only }
           split-left-by fault (Unwritten k) few only h = record { rose = h.rose; files = part-left k few h.files }
           split-left-by fault _ few only h = absurd h

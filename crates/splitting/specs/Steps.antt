@@ -51,7 +51,7 @@ Says placing files answer = IfTold files (λ f. placing.places f ≡ answer)
 abbrev pub IsPlacesFaultBy : Placing → Seen → Seen → EditFault → Why → Type 0
 IsPlacesFaultBy placing old new fault Rejected = Says placing old.files (Err fault) × (new ≡ old)
 IsPlacesFaultBy placing old new fault Missing = Says placing old.files (Err fault) × Rose old.counts.misses new.counts.misses × (new.files ≡ old.files)
-IsPlacesFaultBy placing old new fault Unread = ReadsNothing old new
+IsPlacesFaultBy placing old new fault Unread = ReadsNothing 1 old new fault
 IsPlacesFaultBy placing old new fault Shorter = LosesInput old new
 IsPlacesFaultBy placing old new fault (Unwritten k) = ⊥
 IsPlacesFaultBy placing old new fault Unsent = ⊥
