@@ -68,8 +68,8 @@ pub record IsMissing (command : Command) (old new : Seen) (fault : EditFault) : 
   pub rose : Rose old.counts.misses new.counts.misses
   pub files : new.files ≡ old.files
 
--- The inputs are judged in their order. Where this one could not be read, those before it are there and without fault, and none differs from the
--- first: the answer that the files give isn't of an input before it. Every other refusal comes once all inputs before it were judged.
+-- The answer isn't one of an input before that of the fault. The inputs are judged in their order, so where one could not be read, those before it
+-- are there and without fault, and none differs from the first. Every refusal that names no input comes after these.
 abbrev pub IsNotBefore : EditFault → EditFault → Type 0
 IsNotBefore (Input place fault) (Input at first) = place ≤ at
 IsNotBefore (Input place fault) (Refused (Differ at)) = place ≤ at
