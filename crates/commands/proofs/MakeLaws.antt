@@ -8,9 +8,9 @@ use Rattle.outside.proofs.FilesLaws.{bytes_eq_same, there_holds, touches_none}
 use Rattle.sync_survey.specs.Faults.{longest_file, HoldsStream}
 use Rattle.commands.specs.declared.fault.EditFault.{EditFault}
 use Rattle.commands.specs.declared.fault.EditFault.TheVariants.{EqualNames}
-use Rattle.commands.specs.One.{Task, first_input, clash_in, made_result, made_of, one_command, holding, Refuses, IsEarlyFaultBy, IsEarlyFault, IsMaking, HoldsPrefix, IsPassFaultBy, IsPassFault}
-use Rattle.commands.specs.Command.{Made, clash_from, Gives, written, written_to, AreSound, MakesStreams, HoldsStreams}
-use Rattle.commands.specs.Left.{Why, Rejected, Missing, Unread, Shorter, Unwritten, NoMemory, why_of, Seen, IsLate, IsDone, IsWrittenTo, IsNotBefore, TakesMemory, LeavesBy, Leaves}
+use Rattle.commands.specs.One.{Task, first_input, clash_in, made_result, made_of, one_command, holding, Refuses, IsEarlyFaultBy, IsEarlyFault, IsMaking, HoldsPrefix, HoldsLess, IsPassFaultBy, IsPassFault}
+use Rattle.commands.specs.Command.{Made, clash_from, Gives, written, LacksBytes, written_to, AreSound, MakesStreams, HoldsStreams}
+use Rattle.commands.specs.Left.{Why, Rejected, Missing, Unread, Shorter, Unwritten, NoMemory, why_of, Seen, IsLate, IsDone, IsWrittenTo, IsUnfinished, IsNotBefore, TakesMemory, LeavesBy, Leaves}
 
 abbrev pub ok_made : Made → Result Made EditFault
 ok_made made = Ok made
@@ -134,6 +134,12 @@ module _ (task : Task) (output : List ℕ) (free : clash_in task output ≡ None
     begun_to f new moved (inl stays) = (None, stays)
     begun_to f new moved (inr part) = (Some part.0, part.1)
 
+    less_to : (f : Contents) (new : Files) (moved : List ℕ) → HoldsLess output moved (Told f) new
+        → (count : Option ℕ) × LacksBytes count (record { name = output; bytes = moved } ∷ []) × (new ≡ Told (written_to 0 count (record { name = output; bytes = moved } ∷ []) f))
+    unfolding holding
+    less_to f new moved (inl stays) = (None, tt, stays)
+    less_to f new moved (inr part) = (Some part.0, part.1, part.2)
+
     written_part : (old new : Files) → IsMaking task file old → ((bytes : List ℕ) → Holds old task.source bytes → HoldsPrefix output (file bytes) old new) → OnlyTouches (output ∷ []) old new → IsWrittenTo (one_command task output) 0 old new
     written_part (Untold touched) new making part touches = record { made = tt; touches = touches }
     written_part (Told f) new making part touches =
@@ -141,12 +147,19 @@ module _ (task : Task) (output : List ℕ) (free : clash_in task output ≡ None
         let begun = begun_to f new (file gives.0) (part gives.0 gives.1) in
         record { made = (whole_made gives.0, gives.2, omega arith, begun.0, begun.1); touches = touches }
 
+    unfinished_part : (old new : Files) → IsMaking task file old → ((bytes : List ℕ) → Holds old task.source bytes → HoldsLess output (file bytes) old new) → OnlyTouches (output ∷ []) old new → IsUnfinished (one_command task output) 0 old new
+    unfinished_part (Untold touched) new making part touches = record { made = tt; touches = touches }
+    unfinished_part (Told f) new making part touches =
+        let gives = gives_made f making in
+        let begun = less_to f new (file gives.0) (part gives.0 gives.1) in
+        record { made = (whole_made gives.0, gives.2, omega arith, begun.0, begun.1, begun.2); touches = touches }
+
     module _ (old new : Seen) (fault : EditFault) (making : IsMaking task file old.files) (touches : OnlyTouches (output ∷ []) old.files new.files) where
       pass_left_by : (why : Why) → IsPassFaultBy file task.source output old new why → LeavesBy (one_command task output) old new fault why
       pass_left_by Unread h = record { names = free; before = made_none old.files (IsNotBefore fault) making; rose = h.rose; files = inr (0, written_part old.files new.files making h.files touches) }
       pass_left_by Shorter h = record { rose = h.rose; counts = h.counts; untold = h.untold; touches = touches }
       pass_left_by (Unwritten k) h =
-          record { rose = h.1.rose; files = subst (λ n. IsWrittenTo (one_command task output) n old.files new.files) (sym h.0) (written_part old.files new.files making h.1.files touches) }
+          record { rose = h.1.rose; files = subst (λ n. IsUnfinished (one_command task output) n old.files new.files) (sym h.0) (unfinished_part old.files new.files making h.1.files touches) }
       pass_left_by NoMemory h = record { names = free; takes = made_takes old.files making; stays = h }
       pass_left_by _ h = absurd h
 

@@ -5,7 +5,7 @@ use Rattle.outside.specs.Counts.{Counts, Rose, NothingFailed}
 use Rattle.outside.proofs.FilesLaws.{with_file_here, with_file_twice, touch_twice, fails_told, emptied_told, emptied_holds_other, touches_then, emptied_touches, appended_touches}
 use Rattle.outside.specs.declared.pass.PassFault.{PassFault}
 use Rattle.outside.specs.declared.pass.PassFault.TheVariants.{Read, Shrunk, Write}
-use Rattle.commands.specs.One.{holding, IsBegun, IsPassFault}
+use Rattle.commands.specs.One.{holding, IsBegun, IsLeftShort, IsPassFault}
 use Rattle.commands.specs.Left.{seen}
 use Rattle.outside.specs.Pass.{Appends, AppendsPrefix, HasPassCause}
 use Rattle.commands.specs.PassFaults.{of_pass}
@@ -19,7 +19,7 @@ appended-emptied (Told f) name bytes =
     ∙ ap Told (with_file_twice f name [] bytes)
 
 -- the output wasn't created
-pub not_begun : (made : List ℕ → List ℕ) (input output : List ℕ) (old new : Files) → FailsToCreate output old new → IsBegun made input output old new
+pub not_begun : (made : List ℕ → List ℕ) (input output : List ℕ) (old new : Files) → FailsToCreate output old new → IsLeftShort made input output old new
 not_begun made input output (Told f) new failed file holds = inl (fails_told f new output failed)
 not_begun made input output (Untold touched) new failed file holds = absurd holds
 
@@ -34,8 +34,14 @@ module _ (made : List ℕ → List ℕ) (input output : List ℕ) (apart : input
   pub output_whole : Appends input output made mid new → (file : List ℕ) → Holds old input file → new ≡ holding old output (made file)
   output_whole done file holds = holding_new done.bytes done.files ∙ ap (holding old output) (done.is file (held_mid file holds))
 
-  pub output_prefix : AppendsPrefix input output made mid new → IsBegun made input output old new
+  pub output_prefix : {fault : PassFault} → AppendsPrefix input output made mid new fault → IsBegun made input output old new
   output_prefix part file holds = inr (length part.bytes, holding_new part.bytes part.files ∙ ap (holding old output) (part.prefix file (held_mid file holds)))
+
+  -- where a write failed, not all of it
+  output_short : AppendsPrefix input output made mid new Write → IsLeftShort made input output old new
+  output_short part file holds =
+      let held = held_mid file holds in
+      inr (length part.bytes, part.short refl file held, holding_new part.bytes part.files ∙ ap (holding old output) (part.prefix file held))
 
   touches_new : (bytes : List ℕ) → new ≡ appended mid output bytes → OnlyTouches (output ∷ []) old new
   touches_new bytes is =
@@ -45,10 +51,10 @@ module _ (made : List ℕ → List ℕ) (input output : List ℕ) (apart : input
   pub touches_whole : Appends input output made mid new → OnlyTouches (output ∷ []) old new
   touches_whole done = touches_new done.bytes done.files
 
-  pub touches_prefix : AppendsPrefix input output made mid new → OnlyTouches (output ∷ []) old new
+  pub touches_prefix : {fault : PassFault} → AppendsPrefix input output made mid new fault → OnlyTouches (output ∷ []) old new
   touches_prefix part = touches_new part.bytes part.files
 
-  pub pass_fault : (fault : PassFault) (size : ℕ) (before between after : Counts) → between ≡ before → AppendsPrefix input output made mid new → HasPassCause size mid between after fault
+  pub pass_fault : (fault : PassFault) (size : ℕ) (before between after : Counts) → between ≡ before → AppendsPrefix input output made mid new fault → HasPassCause size mid between after fault
       → IsPassFault made input output (seen old before) (seen new after) (of_pass fault)
   pass_fault Read size before between after same part h = record { rose = subst (λ c. Rose c.read_faults after.read_faults) same h.0; files = output_prefix part }
   pass_fault (Shrunk first second) size before between after same part h = record {
@@ -56,4 +62,4 @@ module _ (made : List ℕ → List ℕ) (input output : List ℕ) (apart : input
     counts = subst (λ c. NothingFailed c after) same h.4;
     untold = sym (ap is_told created ∙ emptied_told old output) ∙ h.0;
   }
-  pass_fault Write size before between after same part h = (refl, record { rose = subst (λ c. Rose c.write_faults after.write_faults) same h.0; files = output_prefix part })
+  pass_fault Write size before between after same part h = (refl, record { rose = subst (λ c. Rose c.write_faults after.write_faults) same h.0; files = output_short part })

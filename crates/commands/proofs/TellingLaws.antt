@@ -5,7 +5,7 @@ use Rattle.outside.specs.Files.{Contents, Files, Told, Untold, IfTold}
 use Rattle.commands.specs.declared.fault.EditFault.{EditFault}
 use Rattle.commands.specs.declared.fault.EditFault.TheVariants.{EqualNames, Input, Refused, Write, Sent as NotSent, Memory}
 use Rattle.commands.specs.Command.{Made, Command, Gives, written, MakesStreams, HoldsStreams}
-use Rattle.commands.specs.Left.{Why, Rejected, Missing, Unread, Shorter, Unwritten, Unsent, NoMemory, why_of, Seen, IsDone, IsWrittenTo, IsNotBefore, TakesMemory, LeavesBy, Leaves, HasNumbers}
+use Rattle.commands.specs.Left.{Why, Rejected, Missing, Unread, Shorter, Unwritten, Unsent, NoMemory, why_of, Seen, IsDone, IsWrittenTo, IsUnfinished, IsNotBefore, TakesMemory, LeavesBy, Leaves, HasNumbers}
 use Rattle.commands.specs.Said.{IsText}
 use Rattle.commands.specs.Telling.{with_text, telling}
 
@@ -45,6 +45,10 @@ module _ (text : Contents → List ℕ) (command : Command) where
   written-to k (Untold touched) new h = record { made = tt; touches = h.touches }
   written-to k (Told f) new h = record { made = (record h.made.0 { text = text f }, ap (with_text (text f)) h.made.1, h.made.2, h.made.3, h.made.4); touches = h.touches }
 
+  unfinished-to : (k : ℕ) (old new : Files) → IsUnfinished command k old new → IsUnfinished told k old new
+  unfinished-to k (Untold touched) new h = record { made = tt; touches = h.touches }
+  unfinished-to k (Told f) new h = record { made = (record h.made.0 { text = text f }, ap (with_text (text f)) h.made.1, h.made.2, h.made.3, h.made.4, h.made.5); touches = h.touches }
+
   module _ (old new : Seen) (fault : EditFault) where
     unread-to : (new.files ≡ old.files) ⊎ ((k : ℕ) × IsWrittenTo command k old.files new.files) → (new.files ≡ old.files) ⊎ ((k : ℕ) × IsWrittenTo told k old.files new.files)
     unread-to (inl same) = inl same
@@ -55,7 +59,7 @@ module _ (text : Contents → List ℕ) (command : Command) where
     left-by Missing h = record { defined = telling-gives old.files fault h.defined; rose = h.rose; files = h.files }
     left-by Unread h = record { names = h.names; before = all-told old.files (IsNotBefore fault) h.before; rose = h.rose; files = unread-to h.files }
     left-by Shorter h = record { rose = h.rose; counts = h.counts; untold = h.untold; touches = h.touches }
-    left-by (Unwritten k) h = record { rose = h.rose; files = written-to k old.files new.files h.files }
+    left-by (Unwritten k) h = record { rose = h.rose; files = unfinished-to k old.files new.files h.files }
     left-by Unsent h = telling-done old new h
     left-by NoMemory h = record { names = h.names; takes = takes_memory old.files h.takes; stays = h.stays }
 

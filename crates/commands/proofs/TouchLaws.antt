@@ -12,21 +12,21 @@ module _ (command : Command) where
   stays_touched : (old new : Files) → new ≡ old → OnlyTouches command.outputs old new
   stays_touched old new same = subst (λ files. OnlyTouches command.outputs old files) (sym same) (touches_none command.outputs old)
 
-  written_touched : (k : ℕ) (old new : Files) → IsWrittenTo command k old new → OnlyTouches command.outputs old new
-  written_touched k old new wrote =
-      touches_more (take (k + 1) command.outputs) command.outputs old new (λ other apart. All-take (λ name. other ≢ name) (k + 1) command.outputs apart) wrote.touches
+  first_touched : (k : ℕ) (old new : Files) → OnlyTouches (take (k + 1) command.outputs) old new → OnlyTouches command.outputs old new
+  first_touched k old new touches =
+      touches_more (take (k + 1) command.outputs) command.outputs old new (λ other apart. All-take (λ name. other ≢ name) (k + 1) command.outputs apart) touches
 
   module _ (old new : Seen) (fault : EditFault) where
     unread_touched : (new.files ≡ old.files) ⊎ ((k : ℕ) × IsWrittenTo command k old.files new.files) → OnlyTouches command.outputs old.files new.files
     unread_touched (inl same) = stays_touched old.files new.files same
-    unread_touched (inr wrote) = written_touched wrote.0 old.files new.files wrote.1
+    unread_touched (inr wrote) = first_touched wrote.0 old.files new.files wrote.1.touches
 
     left_touched_by : (why : Why) → LeavesBy command old new fault why → OnlyTouches command.outputs old.files new.files
     left_touched_by Rejected h = stays_touched old.files new.files (ap (λ (s : Seen). s.files) h.stays)
     left_touched_by Missing h = stays_touched old.files new.files h.files
     left_touched_by Unread h = unread_touched h.files
     left_touched_by Shorter h = h.touches
-    left_touched_by (Unwritten k) h = written_touched k old.files new.files h.files
+    left_touched_by (Unwritten k) h = first_touched k old.files new.files h.files.touches
     left_touched_by Unsent h = h.touches
     left_touched_by NoMemory h = stays_touched old.files new.files (ap (λ (s : Seen). s.files) h.stays)
 

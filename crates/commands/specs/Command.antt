@@ -1,5 +1,5 @@
 -- What a command is as seen from outside: of the files that are there it makes files and a text, or it is refused.
-use Rattle.std.specs.Prelude.{◌≡◌, ℕ, ◌+◌, Bool, List, [], ◌∷◌, ◌++◌, take, drop, if◌then◌else◌, bytes_eq, Option, Some, None, Result, Ok, IfSome}
+use Rattle.std.specs.Prelude.{◌≡◌, ℕ, ◌+◌, ◌<◌, Bool, List, [], ◌∷◌, ◌++◌, length, take, drop, if◌then◌else◌, bytes_eq, Option, Some, None, Result, Ok, IfSome}
 use Rattle.std.specs.List.{list_any}
 use Rattle.outside.specs.Files.{Contents, Files, with_file, IfTold}
 use Rattle.sync_survey.specs.MainData.{StreamFrame}
@@ -54,6 +54,11 @@ written (output ∷ outputs) files = written outputs (with_file files output.nam
 abbrev pub begun : Option ℕ → List Output → List Output
 begun (Some count) (output ∷ outputs) = record output { bytes = take count output.bytes } ∷ []
 begun _ _ = []
+
+-- if the next output was created, its first bytes aren't all of them
+abbrev pub LacksBytes : Option ℕ → List Output → Type 0
+LacksBytes (Some count) (output ∷ outputs) = count < length output.bytes
+LacksBytes _ _ = Unit {0}
 
 -- the first k outputs are whole, and the next one holds its first bytes, or wasn't created
 abbrev pub written_to : ℕ → Option ℕ → List Output → Contents → Contents

@@ -1,5 +1,5 @@
 -- What a command leaves of the files, by its answer, and the cause of each refusal.
-use Rattle.std.specs.Prelude.{◌≡◌, ◌≢◌, ◌⊎◌, ℕ, ◌+◌, ◌<◌, ◌≤◌, ◌==◌, length, take, Bool, true, false, Option, Some, None, [], Result, Ok, Err, IfErr}
+use Rattle.std.specs.Prelude.{◌≡◌, ◌≢◌, ◌⊎◌, ℕ, ◌+◌, ◌<◌, ◌≤◌, ◌==◌, length, take, drop, Bool, true, false, Option, Some, None, [], Result, Ok, Err, IfErr}
 use Rattle.outside.specs.Files.{Files, Told, IfTold, is_told, OnlyTouches}
 use Rattle.outside.specs.Counts.{Counts, Rose, NothingFailed}
 use Rattle.sync_survey.specs.declared.survey_fault.SurveyFault.{SurveyFault}
@@ -9,7 +9,7 @@ use Rattle.commands.specs.declared.fault.EditFault.{EditFault}
 use Rattle.commands.specs.declared.fault.Refusal.{Refusal}
 use Rattle.commands.specs.declared.fault.Refusal.TheVariants.{Differ}
 use Rattle.commands.specs.declared.fault.EditFault.TheVariants.{EqualNames, Input, Refused, Write, Sent, Memory}
-use Rattle.commands.specs.Command.{Made, Command, clash_of, written, written_to, Gives}
+use Rattle.commands.specs.Command.{Made, Command, clash_of, written, LacksBytes, written_to, Gives}
 
 -- what can be seen of a folder at a moment: the files, where they are told, and the counts
 pub record Seen : Type 0 where
@@ -58,6 +58,12 @@ pub record IsWrittenTo (command : Command) (k : ℕ) (old new : Files) : Type 0 
   pub made : IfTold old (λ f. (made : Made) × (command.makes f ≡ Ok made) × (k < length made.outputs) × (count : Option ℕ) × (new ≡ Told (written_to k count made.outputs f)))
   pub touches : OnlyTouches (take (k + 1) command.outputs) old new
 
+-- The command isn't refused, and of what it makes the first k outputs are whole. The next one isn't: it holds a prefix that lacks bytes, or
+-- wasn't created.
+pub record IsUnfinished (command : Command) (k : ℕ) (old new : Files) : Type 0 where
+  pub made : IfTold old (λ f. (made : Made) × (command.makes f ≡ Ok made) × (k < length made.outputs) × (count : Option ℕ) × LacksBytes count (drop k made.outputs) × (new ≡ Told (written_to k count made.outputs f)))
+  pub touches : OnlyTouches (take (k + 1) command.outputs) old new
+
 -- the command is refused with this fault; all is as it was
 pub record IsRefused (command : Command) (old new : Seen) (fault : EditFault) : Type 0 where
   pub defined : Gives command old.files (Err fault)
@@ -91,7 +97,7 @@ pub record IsShorter (command : Command) (old new : Seen) : Type 0 where
 
 pub record IsUnwritten (command : Command) (k : ℕ) (old new : Seen) : Type 0 where
   pub rose : Rose old.counts.write_faults new.counts.write_faults
-  pub files : IsWrittenTo command k old.files new.files
+  pub files : IsUnfinished command k old.files new.files
 
 -- equal names, an absent first input and one that is too long are found before any memory is taken
 abbrev pub is_before_memory : EditFault → Bool

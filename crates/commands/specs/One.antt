@@ -222,9 +222,17 @@ pub record IsMaking (task : Task) (made : List ℕ → List ℕ) (files : Files)
 abbrev pub HoldsPrefix : List ℕ → List ℕ → Files → Files → Type 0
 HoldsPrefix name bytes old new = (new ≡ old) ⊎ ((count : ℕ) × (new ≡ holding old name (take count bytes)))
 
+-- the output wasn't created, or holds a prefix of these bytes, but not all of them
+abbrev pub HoldsLess : List ℕ → List ℕ → Files → Files → Type 0
+HoldsLess name bytes old new = (new ≡ old) ⊎ ((count : ℕ) × (count < length bytes) × (new ≡ holding old name (take count bytes)))
+
 -- the output wasn't created, or holds a prefix of what it is to hold, if the input is told
 abbrev pub IsBegun : (List ℕ → List ℕ) → List ℕ → List ℕ → Files → Files → Type 0
 IsBegun made input output old new = (bytes : List ℕ) → Holds old input bytes → HoldsPrefix output (made bytes) old new
+
+-- the same, and if it was created, it lacks bytes
+abbrev pub IsLeftShort : (List ℕ → List ℕ) → List ℕ → List ℕ → Files → Files → Type 0
+IsLeftShort made input output old new = (bytes : List ℕ) → Holds old input bytes → HoldsLess output (made bytes) old new
 
 pub record StopsReading (made : List ℕ → List ℕ) (input output : List ℕ) (old new : Seen) : Type 0 where
   pub rose : Rose old.counts.read_faults new.counts.read_faults
@@ -237,7 +245,7 @@ pub record StopsShort (old new : Seen) : Type 0 where
 
 pub record StopsWriting (made : List ℕ → List ℕ) (input output : List ℕ) (old new : Seen) : Type 0 where
   pub rose : Rose old.counts.write_faults new.counts.write_faults
-  pub files : IsBegun made input output old.files new.files
+  pub files : IsLeftShort made input output old.files new.files
 
 abbrev pub IsPassFaultBy : (List ℕ → List ℕ) → List ℕ → List ℕ → Seen → Seen → Why → Type 0
 IsPassFaultBy made input output old new Unread = StopsReading made input output old new

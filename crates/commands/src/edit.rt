@@ -1,5 +1,5 @@
 //! The one body of all commands that make one file.
-ghost use Rattle.std.specs.Prelude.{◌≡◌, ◌≢◌, ◌↔◌, List, [], ◌∷◌, ℕ, Some, IfOk, IfErr, OnOk, OnErr, IsErrOf};
+ghost use Rattle.std.specs.Prelude.{◌≡◌, ◌≢◌, ◌↔◌, List, [], ◌∷◌, ℕ, Some, IfOk, IfErr, OnOk, IsErrOf};
 ghost use Rattle.outside.specs.Files.{Files, emptied, Holds, OnlyTouches};
 ghost use Rattle.outside.specs.Counts.{NoneFell, OnlyReads};
 ghost use Rattle.outside.specs.Pass.{Appends, AppendsPrefix, HasPassCause};
@@ -55,7 +55,8 @@ pub trait Edit {
     ///
     /// # Errors
     /// `Read` where a read failed; `Shrunk` where one gave no byte before the length with which the input
-    /// was found; `Write` where a write failed. Then a prefix of the output was appended.
+    /// was found; `Write` where a write failed. Then a prefix of the output was appended, and with `Write`
+    /// not all of it.
     fn write<D: Folder>(
         &self,
         folder: &mut D,
@@ -67,7 +68,7 @@ pub trait Edit {
             × (D.files folder.old ≡ emptied old output.now) }
         ensures written { OnOk result (Appends (task self.now).source output.now
             (file_of work.old) (D.files folder.old) (D.files folder.new)) }
-        ensures prefix { OnErr result (AppendsPrefix (task self.now).source output.now
+        ensures prefix { IfErr result (AppendsPrefix (task self.now).source output.now
             (file_of work.old) (D.files folder.old) (D.files folder.new)) }
         ensures done { OnOk result (D.counts folder.new ≡ D.counts folder.old) }
         ensures cause { IfErr result (λ fault. (size : ℕ) × HasPassCause size (D.files folder.old)
@@ -115,7 +116,7 @@ fn write_output<E: Edit, D: Folder>(
 ///   byte;
 /// - what `prepare` refuses. Nothing was created then;
 /// - `Input(0, ..)` with `Read` or `Shrunk`, and `Write(0)`, while the output is created and written. It is
-///   then as it was or holds a prefix of its bytes.
+///   then as it was or holds a prefix of its bytes, and with `Write(0)` not all of them.
 ///
 /// `Memory` comes before the output is created, and not from then on.
 pub fn make_one<E: Edit, D: Folder>(

@@ -6,6 +6,7 @@ use Rattle.std.proofs.lemmas.Option.{slice_get_cases}
 use Rattle.outside.specs.Files.{Files, Holds, IsThere, emptied}
 use Rattle.outside.specs.Feed.{Fed, IsFedFrom}
 use Rattle.outside.specs.Pass.{Appends, AppendsPrefix}
+use Rattle.outside.specs.declared.pass.PassFault.{PassFault}
 use Rattle.outside.proofs.FilesLaws.{emptied_there, emptied_keeps, emptied_held_other}
 use Rattle.frame_writer.specs.Frames.{frame_bytes}
 use Rattle.slot_plan.specs.declared.needs.Placed.{Placed}
@@ -27,9 +28,14 @@ use Rattle.frame_edits.specs.Selected.{IsWritable, IsSelected}
 pub appends-as : {input output : List ℕ} (made other : List ℕ → List ℕ) {old new : Files} → ((file : List ℕ) → Holds old input file → made file ≡ other file) → Appends input output made old new → Appends input output other old new
 appends-as made other same h = record { bytes = h.bytes; is = λ file holds. h.is file holds ∙ same file holds; files = h.files }
 
-pub appends-as_prefix : {input output : List ℕ} (made other : List ℕ → List ℕ) {old new : Files} → ((file : List ℕ) → Holds old input file → made file ≡ other file) → AppendsPrefix input output made old new
-    → AppendsPrefix input output other old new
-appends-as_prefix made other same h = record { bytes = h.bytes; prefix = λ file holds. h.prefix file holds ∙ ap (take (length h.bytes)) (same file holds); files = h.files }
+pub appends-as_prefix : {input output : List ℕ} (made other : List ℕ → List ℕ) {old new : Files} {fault : PassFault} → ((file : List ℕ) → Holds old input file → made file ≡ other file) → AppendsPrefix input output made old new fault
+    → AppendsPrefix input output other old new fault
+appends-as_prefix made other same h = record {
+  bytes = h.bytes;
+  prefix = λ file holds. h.prefix file holds ∙ ap (take (length h.bytes)) (same file holds);
+  short = λ failed file holds. omega (arith, h.short failed file holds, ap length (same file holds));
+  files = h.files;
+}
 
 -- once the output was created, all is ready for the pass
 pub relay-ready : (relay : Relay) (old mid : Files) (fed : Fed) → relay.pass.input.now ≢ relay.pass.output.now → IsThere old relay.pass.input.now → IsLaidOut (tells relay.survey.now) → ((file : List ℕ) → Holds old relay.pass.input.now file → HasSurvey file (tells relay.survey.now))

@@ -1,5 +1,5 @@
 //! The second pass, which lays chosen frames anew.
-ghost use Rattle.std.specs.Prelude.{◌≡◌, ◌≢◌, List, ℕ, [], is_some, IfErr, OnOk, OnErr};
+ghost use Rattle.std.specs.Prelude.{◌≡◌, ◌≢◌, List, ℕ, [], is_some, IfErr, OnOk};
 ghost use Rattle.outside.specs.Files.{Holds, IsThere};
 ghost use Rattle.outside.specs.Counts.{NoneFell};
 ghost use Rattle.outside.specs.Pass.{Appends, AppendsPrefix, HasPassCause};
@@ -20,7 +20,7 @@ use outside::{Folder, PassFault};
 ///
 /// # Errors
 /// `Read` and `Shrunk` where a read failed, or gave no byte before the length that the input was found with; `Write` where a
-/// write failed. Then a prefix of the file was appended.
+/// write failed. Then a prefix of the file was appended, and with `Write` not all of it.
 pub fn write_laid<D: Folder>(
     folder: &mut D,
     relay: &Relay<'_>,
@@ -33,7 +33,7 @@ pub fn write_laid<D: Folder>(
     ensures written { OnOk result (Appends relay.now.pass.input.now relay.now.pass.output.now
         (λ file. file_laid (laid_in selection.now) file (tells relay.now.survey.now))
         (D.files folder.old) (D.files folder.new)) }
-    ensures prefix { OnErr result (AppendsPrefix relay.now.pass.input.now relay.now.pass.output.now
+    ensures prefix { IfErr result (AppendsPrefix relay.now.pass.input.now relay.now.pass.output.now
         (λ file. file_laid (laid_in selection.now) file (tells relay.now.survey.now))
         (D.files folder.old) (D.files folder.new)) }
     ensures done { OnOk result (D.counts folder.new ≡ D.counts folder.old) }
@@ -58,7 +58,7 @@ pub fn write_laid<D: Folder>(
 ///
 /// # Errors
 /// `Read` and `Shrunk` where a read failed, or gave no byte before the length that the input was found with; `Write` where a
-/// write failed. Then a prefix of the file was appended.
+/// write failed. Then a prefix of the file was appended, and with `Write` not all of it.
 pub fn write_selection<D: Folder>(
     folder: &mut D,
     relay: &Relay<'_>,
@@ -71,7 +71,7 @@ pub fn write_selection<D: Folder>(
     ensures written { OnOk result (Appends relay.now.pass.input.now relay.now.pass.output.now
         (selected_file (tells relay.now.survey.now) selection.now)
         (D.files folder.old) (D.files folder.new)) }
-    ensures prefix { OnErr result (AppendsPrefix relay.now.pass.input.now relay.now.pass.output.now
+    ensures prefix { IfErr result (AppendsPrefix relay.now.pass.input.now relay.now.pass.output.now
         (selected_file (tells relay.now.survey.now) selection.now)
         (D.files folder.old) (D.files folder.new)) }
     ensures done { OnOk result (D.counts folder.new ≡ D.counts folder.old) }

@@ -39,8 +39,8 @@ prefix-piece name unsent piece before after f g is p =
     let all : (unsent ++ piece) ++ after ≡ unsent ++ before = append_assoc unsent piece after ∙ ap (λ (xs : List ℕ). unsent ++ xs) is in
     record {
       count = p.count;
-      within = omega (arith, p.within, ap length all, length-append (unsent ++ piece) after);
-      files = p.files ∙ ap (appended f name) (sym (take-append-le p.count (unsent ++ piece) after p.within) ∙ ap (take p.count) all);
+      short = omega (arith, p.short, ap length all, length-append (unsent ++ piece) after);
+      files = p.files ∙ ap (appended f name) (sym (take-append-le p.count (unsent ++ piece) after (omega (arith, p.short))) ∙ ap (take p.count) all);
     }
 
 pub handed-none : (held : Held) → HandedOn held held

@@ -31,8 +31,9 @@ use std::alloc::Global;
 ///
 /// `Input` with `Read` and `Write(0)` come only where a call of that kind failed, `Input` with `Absent` only where the input
 /// isn't there, and every other answer only where none failed. `Input(0, ..)` with `Read` or `Shrunk` may also come while the
-/// output is written; after it, and after `Write(0)`, the output is as it was or holds a prefix of its bytes. `Memory` may
-/// come once the input was found with a length that it may have, before the output is created, and not from then on.
+/// output is written; after it, and after `Write(0)`, the output is as it was or holds a prefix of its bytes, and after
+/// `Write(0)` not all of them. `Memory` may come once the input was found with a length that it may have, before the output is
+/// created, and not from then on.
 pub fn gain<D: Folder>(
     alloc: Global,
     folder: &mut D,

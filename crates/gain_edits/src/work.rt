@@ -1,5 +1,5 @@
 //! What a command that moves gains makes ready, and the pass that writes its file.
-ghost use Rattle.std.specs.Prelude.{◌≡◌, ◌≢◌, List, ℕ, IfErr, OnOk, OnErr};
+ghost use Rattle.std.specs.Prelude.{◌≡◌, ◌≢◌, List, ℕ, IfErr, OnOk};
 ghost use Rattle.outside.specs.Files.{Files, emptied};
 ghost use Rattle.outside.specs.Pass.{Appends, AppendsPrefix, HasPassCause};
 ghost use Rattle.gain_edits.specs.Movable.{moved_file, IsMovable};
@@ -20,7 +20,7 @@ pub struct Work {
 ///
 /// # Errors
 /// `Read` and `Shrunk` where a read failed, or gave no byte before the length that the input was found with; `Write` where a
-/// write failed. Then a prefix of the file was appended.
+/// write failed. Then a prefix of the file was appended, and with `Write` not all of it.
 pub fn write_work<D: Folder>(
     folder: &mut D,
     input: &str,
@@ -32,7 +32,7 @@ pub fn write_work<D: Folder>(
         × (D.files folder.old ≡ emptied old output.now) }
     ensures written { OnOk result (Appends input.now output.now (moved_file work.old)
         (D.files folder.old) (D.files folder.new)) }
-    ensures prefix { OnErr result (AppendsPrefix input.now output.now (moved_file work.old)
+    ensures prefix { IfErr result (AppendsPrefix input.now output.now (moved_file work.old)
         (D.files folder.old) (D.files folder.new)) }
     ensures done { OnOk result (D.counts folder.new ≡ D.counts folder.old) }
     ensures cause { IfErr result (λ fault. (size : ℕ) × HasPassCause size (D.files folder.old)

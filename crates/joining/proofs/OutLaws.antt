@@ -1,6 +1,6 @@
 -- What is appended to the output: the blocks and the Info frame at its beginning, and then the frames of all inputs.
 use Rattle.std.proofs.Common.{◌≡◌, ◌≢◌, ℕ, List, [], ◌∷◌, ◌++◌, map, Option, Some, None, Result, Ok, Err, refl, sym, ◌∙◌, ap, ap₂, subst, append_assoc, append-nil}
-use Rattle.std.specs.Prelude.{IfErr, OnOk, OnErr, unwrap_or, flat_map}
+use Rattle.std.specs.Prelude.{IfErr, OnOk, unwrap_or, flat_map}
 use Rattle.std.specs.List.{concat}
 use Rattle.outside.specs.Files.{Contents, Files, emptied, appended, with_file, Holds, IsThere, Told, Untold}
 use Rattle.outside.specs.Counts.{Counts}
@@ -11,10 +11,10 @@ use Rattle.frame_writer.specs.Frames.{frame_bytes}
 use Rattle.laid_files.specs.LaidFiles.{laid_file}
 use Rattle.info_header.specs.InfoFrame.{info_frame}
 use Rattle.outside.specs.declared.pass.PassFault.{PassFault}
-use Rattle.outside.specs.declared.pass.PassFault.TheVariants.{Read}
+use Rattle.outside.specs.declared.pass.PassFault.TheVariants.{Read, Shrunk, Write}
 use Rattle.laying.specs.Relaid.{Part, frames_in, relaid}
 use Rattle.laying.specs.Written.{front_blocks, plain_info}
-use Rattle.outside.proofs.PassLaws.{input_held, still_there, cause_later}
+use Rattle.outside.proofs.PassLaws.{input_held, still_there, part_for, cause_later}
 use Rattle.sync_survey.specs.Faults.{SurveyFields}
 use Rattle.commands.specs.declared.fault.EditFault.{EditFault}
 use Rattle.commands.specs.One.{IsPassFault}
@@ -26,7 +26,7 @@ use Rattle.frame_edits.specs.declared.plans.Planned.{Planned}
 use Rattle.commands.proofs.OutputLaws.{pass_fault}
 use Rattle.joining.specs.Join.{whole_part, plan_of, joined_frames, joined_file}
 use Rattle.joining.specs.Inputs.{CanBeJoined, parts_in, told_parts}
-use Rattle.joining.specs.Laying.{the_plan_of, IsJoinedInfo, IsPlanned, AreSources, of_pass, HasJoinCause}
+use Rattle.joining.specs.Laying.{the_plan_of, IsJoinedInfo, IsPlanned, AreSources, of_pass, pass_of, HasJoinCause}
 use Rattle.joining.proofs.LayLaws.{told_frames}
 use Rattle.joining.proofs.StreamLaws.{told-plan, told-slots, found, joined-is}
 
@@ -115,6 +115,19 @@ module _ (output : List ℕ) (old : Files) (name : List ℕ) (later names : List
 
 -- ---- why it ends early
 
+-- the fault is one of a write where that of the pass is
+write-of : (place : ℕ) (pass : PassFault) (fault : EditFault) → fault ≡ of_pass place pass → pass ≡ Write → pass_of fault ≡ Write
+write-of place pass fault is failed = ap pass_of (is ∙ ap (of_pass place) failed)
+
+-- and only there
+pub of_one-fault : (place : ℕ) (pass : PassFault) (fault : EditFault) → fault ≡ of_pass place pass → pass_of fault ≡ Write → pass ≡ Write
+of_one-fault place pass fault is failed = at pass (sym (ap pass_of is) ∙ failed)
+  where
+    at : (pass : PassFault) → pass_of (of_pass place pass) ≡ Write → pass ≡ Write
+    at Write failed = refl
+    at Read failed = failed
+    at (Shrunk first second) failed = absurd cc
+
 pub join-cause_later : (count : ℕ) (old now : Files) (output more : List ℕ) (before mid after : Counts) (fault : EditFault) → now ≡ appended old output more → mid ≡ before → HasJoinCause count now mid after fault → HasJoinCause count old before after fault
 join-cause_later count old now output more before mid after fault grown same h = record {
   place = h.place;
@@ -131,16 +144,16 @@ module _ (made : List ℕ → List ℕ) (input output : List ℕ) (apart : input
   of-place place Read h = h
   of-place place _ h = h
 
-  pub join-fault : (count : ℕ) (fault : EditFault) → AppendsPrefix input output made mid new → HasJoinCause count mid between after fault → IsPassFault made input output (seen old before) (seen new after) fault
+  pub join-fault : (count : ℕ) (fault : EditFault) → AppendsPrefix input output made mid new (pass_of fault) → HasJoinCause count mid between after fault → IsPassFault made input output (seen old before) (seen new after) fault
   join-fault count fault part h =
-      subst (IsPassFault made input output (seen old before) (seen new after)) (sym h.is) (of-place h.place h.pass (pass_fault made input output apart old mid new created h.pass h.size before between after same part h.cause))
+      subst (IsPassFault made input output (seen old before) (seen new after)) (sym h.is) (of-place h.place h.pass (pass_fault made input output apart old mid new created h.pass h.size before between after same (part_for (λ failed. write-of h.place h.pass fault h.is failed) part) h.cause))
 
 -- ---- by the answer of a step
 
-pub either : {T E P Q R : Type 0} (r : Result T E) → OnOk r P → OnErr r Q → (P → R) → (Q → R) → R
+pub either : {T E P R : Type 0} {Q : E → Type 0} (r : Result T E) → OnOk r P → IfErr r Q → (P → R) → ((e : E) → Q e → R) → R
 either (Ok x) p q f g = f p
-either (Err e) p q f g = g q
+either (Err e) p q f g = g e q
 
-pub err-both : {T E Q : Type 0} {C R : E → Type 0} (r : Result T E) → OnErr r Q → IfErr r C → ((e : E) → Q → C e → R e) → IfErr r R
+pub err-both : {T E : Type 0} {Q C R : E → Type 0} (r : Result T E) → IfErr r Q → IfErr r C → ((e : E) → Q e → C e → R e) → IfErr r R
 err-both (Ok x) q c f = tt
 err-both (Err e) q c f = f e q c

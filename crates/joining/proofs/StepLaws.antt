@@ -3,6 +3,7 @@ use Rattle.std.proofs.Common.{◌≡◌, ◌≢◌, ℕ, List, [], ◌∷◌, �
 use Rattle.std.proofs.lemmas.List.{length-map}
 use Rattle.outside.specs.Files.{Files, Holds, IsThere}
 use Rattle.outside.specs.Feed.{Fed, IsFedFrom}
+use Rattle.outside.specs.declared.pass.PassFault.{PassFault}
 use Rattle.outside.proofs.PassLaws.{input_holds, input_held, still_there}
 use Rattle.frame_header.specs.Fields.{ClassFields}
 use Rattle.frame_header.specs.Tables.{window_of}
@@ -150,7 +151,7 @@ module _ {class : ClassFields} {key output : List ℕ} {whole : List ℕ → Lis
           };
         })
 
-    pub next-part : LaysPart name output (whole_frames s left) (whole_reach (reach_of now.held) s left) now files after → (last : ℕ) × LaysPart key output whole last begun first after
+    pub next-part : {fault : PassFault} → LaysPart name output (whole_frames s left) (whole_reach (reach_of now.held) s left) now files after fault → (last : ℕ) × LaysPart key output whole last begun first after fault
     next-part part =
         let reach = whole_reach (reach_of now.held) s left in
         let needs = needs_of (rows_of behind) in

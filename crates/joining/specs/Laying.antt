@@ -79,6 +79,11 @@ of_pass place Read = Input place Unread
 of_pass place (Shrunk first second) = Input place (Shorter first second)
 of_pass place Write = Unwritten 0
 
+-- as far as a write is told from a read, the fault of the pass that this one is of
+abbrev pub pass_of : EditFault → PassFault
+pass_of (Unwritten place) = Write
+pass_of _ = Read
+
 -- the fault is one of the pass over one of `count` inputs, with its cause
 pub record HasJoinCause (count : ℕ) (files : Files) (before after : Counts) (fault : EditFault) : Type 0 where
   pub place : ℕ

@@ -1,5 +1,5 @@
 //! The frames of all inputs, read one input after the other and given to one writer.
-ghost use Rattle.std.specs.Prelude.{◌≡◌, ◌≢◌, ◌≤◌, length, map, string_bytes, IfErr, OnOk, OnErr};
+ghost use Rattle.std.specs.Prelude.{◌≡◌, ◌≢◌, ◌≤◌, length, map, string_bytes, IfErr, OnOk};
 ghost use Rattle.frame_header.specs.Tables.{window_of};
 ghost use Rattle.outside.specs.Files.{IsThere};
 ghost use Rattle.outside.specs.Pass.{Writes, WritesPrefix};
@@ -9,7 +9,7 @@ ghost use Rattle.frame_writer.specs.Writing.{IsNew};
 ghost use Rattle.sync_survey.specs.Faults.{tells};
 ghost use Rattle.laying.specs.Fits.{FitsFrom};
 ghost use Rattle.joining.specs.Inputs.{rows_of};
-ghost use Rattle.joining.specs.Laying.{all_laid, AreSources, of_pass as of_pass_lem, HasJoinCause};
+ghost use Rattle.joining.specs.Laying.{all_laid, AreSources, of_pass as of_pass_lem, pass_of, HasJoinCause};
 
 use crate::inputs::{known_at, name_at};
 use commands::EditFault;
@@ -35,7 +35,8 @@ pub(crate) fn of_pass(place: u32, fault: PassFault) -> EditFault
 /// new. The clauses about the output speak of folders that tell the bytes of the first input.
 ///
 /// # Errors
-/// Those of `Relay::lay`, with the number of the input. Then a prefix of what waited and the frames' bytes was appended.
+/// Those of `Relay::lay`, with the number of the input. Then a prefix of what waited and the frames' bytes was appended,
+/// and with `Write` not all of them.
 pub(crate) fn lay_all<'a, D: Folder>(
     first: &Relay<'a>,
     folder: &mut D,
@@ -58,10 +59,10 @@ pub(crate) fn lay_all<'a, D: Folder>(
         (λ file. frame_bytes (all_laid (D.files folder.old) (map string_bytes inputs.now)
         (map tells surveys.now) placed.now file))
         buffers.old.waiting buffers.new.waiting (D.files folder.old) (D.files folder.new)) }
-    ensures prefix { OnErr result (WritesPrefix first.now.pass
+    ensures prefix { IfErr result (λ fault. WritesPrefix first.now.pass
         (λ file. frame_bytes (all_laid (D.files folder.old) (map string_bytes inputs.now)
         (map tells surveys.now) placed.now file))
-        buffers.old.waiting (D.files folder.old) (D.files folder.new)) }
+        buffers.old.waiting (D.files folder.old) (D.files folder.new) (pass_of fault)) }
     ensures done { OnOk result (D.counts folder.new ≡ D.counts folder.old) }
     ensures cause { IfErr result (HasJoinCause (length inputs.now) (D.files folder.old)
         (D.counts folder.old) (D.counts folder.new)) }

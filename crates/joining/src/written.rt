@@ -1,5 +1,5 @@
 //! The second pass of a join.
-ghost use Rattle.std.specs.Prelude.{◌≡◌, ◌≤◌, ◌++◌, List, ℕ, [], ◌∷◌, length, map, drop, string_bytes, None, IfOk, IfErr, IfSome, OnOk, OnErr};
+ghost use Rattle.std.specs.Prelude.{◌≡◌, ◌≤◌, ◌++◌, List, ℕ, [], ◌∷◌, length, map, drop, string_bytes, None, IfOk, IfErr, IfSome, OnOk};
 ghost use Rattle.outside.specs.Files.{IsThere, Holds, is_told, OnlyTouches};
 ghost use Rattle.outside.specs.Counts.{NoneFell};
 ghost use Rattle.std.specs.List.{concat};
@@ -12,7 +12,7 @@ ghost use Rattle.commands.specs.Command.{clash_from};
 ghost use Rattle.commands.specs.Left.{seen};
 ghost use Rattle.joining.specs.Join.{joined_file};
 ghost use Rattle.joining.specs.Inputs.{IsOfJoin, AreInputs, CanBeJoined, class_in, told_parts};
-ghost use Rattle.joining.specs.Laying.{IsPlanned, AreSources, HasJoinCause};
+ghost use Rattle.joining.specs.Laying.{IsPlanned, AreSources, pass_of, HasJoinCause};
 
 use crate::inputs::{known_at, name_at};
 use crate::laid::{lay_all, of_pass};
@@ -35,7 +35,7 @@ fn append_front<D: Folder>(
     ensures written { OnOk result (Appends relay.now.pass.input.now relay.now.pass.output.now
         (λ file. concat (front_blocks file (tells relay.now.survey.now)) ++ info.now)
         (D.files folder.old) (D.files folder.new)) }
-    ensures prefix { OnErr result (AppendsPrefix relay.now.pass.input.now relay.now.pass.output.now
+    ensures prefix { IfErr result (AppendsPrefix relay.now.pass.input.now relay.now.pass.output.now
         (λ file. concat (front_blocks file (tells relay.now.survey.now)) ++ info.now)
         (D.files folder.old) (D.files folder.new)) }
     ensures none { OnOk result (buffers.new.waiting ≡ []) }
@@ -51,7 +51,8 @@ fn append_front<D: Folder>(
 /// Appends the file of all frames to the output, beginning with the ID3v2 blocks of the first input. It takes no memory.
 ///
 /// # Errors
-/// Those of `Relay::write`, with the number of the input. Then a prefix of the file was appended.
+/// Those of `Relay::write`, with the number of the input. Then a prefix of the file was appended, and with `Write` not all of
+/// it.
 fn append_joined<'a, D: Folder>(
     first: &Relay<'a>,
     folder: &mut D,
@@ -75,10 +76,11 @@ fn append_joined<'a, D: Folder>(
         (λ _. joined_file (told_parts (D.files folder.old) (map string_bytes inputs.now)
         (map tells surveys.now)))
         (D.files folder.old) (D.files folder.new)) }
-    ensures prefix { OnErr result (AppendsPrefix first.now.pass.input.now first.now.pass.output.now
+    ensures prefix { IfErr result (λ fault. AppendsPrefix first.now.pass.input.now
+        first.now.pass.output.now
         (λ _. joined_file (told_parts (D.files folder.old) (map string_bytes inputs.now)
         (map tells surveys.now)))
-        (D.files folder.old) (D.files folder.new)) }
+        (D.files folder.old) (D.files folder.new) (pass_of fault)) }
     ensures done { OnOk result (D.counts folder.new ≡ D.counts folder.old) }
     ensures cause { IfErr result (HasJoinCause (length inputs.now) (D.files folder.old)
         (D.counts folder.old) (D.counts folder.new)) }
@@ -114,7 +116,7 @@ pub(crate) fn new_buffers(alloc: Global, surveys: &[Survey]) -> Result<Buffers, 
 ///
 /// # Errors
 /// `Input` with the number of an input and `Read` or `Shrunk`, and `Write(0)`. Then the output is as it was or holds a prefix
-/// of its bytes.
+/// of its bytes, and with `Write` not all of them.
 pub(crate) fn write_joined<D: Folder>(
     folder: &mut D,
     inputs: &[String],

@@ -1,10 +1,11 @@
 -- The bytes of frames that were given to the writer.
-use Rattle.std.proofs.Common.{◌≡◌, ℕ, List, [], ◌++◌, length, take, sym, ◌∙◌, ap, append_assoc, append-nil}
+use Rattle.std.proofs.Common.{◌≡◌, ℕ, List, [], ◌++◌, length, take, sym, ◌∙◌, ap, arith, append_assoc, append-nil, length-append}
 use Rattle.std.proofs.lemmas.List.{take-append-le, length-take-le}
-use Rattle.outside.specs.Files.{Files}
+use Rattle.outside.specs.Files.{Files, Holds}
 use Rattle.outside.specs.Passed.{PassedOn, AppendedPrefix}
 use Rattle.outside.specs.Pass.{Writes, WritesPrefix}
 use Rattle.outside.specs.declared.pass.Pass.{Pass}
+use Rattle.outside.specs.declared.pass.PassFault.{PassFault}
 use Rattle.outside.proofs.PassedLaws.{passed_then, passed_then_prefix}
 use Rattle.outside.proofs.PassLaws.{prefix_piece}
 use Rattle.frame_header.specs.Fields.{ClassFields}
@@ -42,28 +43,33 @@ module _ (pass : Pass) (made : List ℕ → List Frame) (base : List ℕ) (old :
       passed = passed_then (lays-passed pass.input.now pass.output.now made base old new before now none lays) passed;
     }
 
-    pub lays-prefix : (end : Files) → AppendedPrefix pass.output.now (waiting_bytes new) now end → WritesPrefix pass (λ file. frame_bytes (made file)) base before end
+    pub lays-prefix : (end : Files) {fault : PassFault} → AppendedPrefix pass.output.now (waiting_bytes new) now end → WritesPrefix pass (λ file. frame_bytes (made file)) base before end fault
     lays-prefix end part =
         prefix_piece pass (λ file. frame_bytes (made file)) (λ file holds. ap frame_bytes (lays.is file holds))
         (passed_then_prefix (lays-passed pass.input.now pass.output.now made base old new before now none lays) part)
 
   -- a part of them
-  pub part-prefix : (reach : ℕ) (after : Files) → LaysPart pass.input.now pass.output.now made reach old before after → WritesPrefix pass (λ file. frame_bytes (made file)) base before after
+  pub part-prefix : (reach : ℕ) (after : Files) {fault : PassFault} → LaysPart pass.input.now pass.output.now made reach old before after fault → WritesPrefix pass (λ file. frame_bytes (made file)) base before after fault
   part-prefix reach after part =
       let bytes = take part.prefix.count part.settled in
       let long : length bytes ≡ part.prefix.count = length-take-le part.prefix.count part.settled part.prefix.within in
       let are = part.writer base [] [] none in
+      let later : (file : List ℕ) → Holds before pass.input.now file → (more : List ℕ) × (base ++ frame_bytes (made file) ≡ part.settled ++ more) =
+      λ file holds.
+      let found = part.is file holds [] tt in
+      let later = later-frames are.taken part.held part.done found.0 are.written found.2 in (
+        later.0,
+        ap (λ (xs : List ℕ). base ++ xs) (ap frame_bytes (sym (append-nil (made file)) ∙ sym found.1) ∙ later.1)
+            ∙ sym (append_assoc base are.taken later.0)
+            ∙ ap (λ (xs : List ℕ). xs ++ later.0) (sym are.is),
+      ) in
       record {
         bytes = bytes;
         prefix = λ file holds.
-            let found = part.is file holds [] tt in
-            let later = later-frames are.taken part.held part.done found.0 are.written found.2 in
-            let all : base ++ frame_bytes (made file) ≡ part.settled ++ later.0 =
-            ap (λ (xs : List ℕ). base ++ xs) (ap frame_bytes (sym (append-nil (made file)) ∙ sym found.1) ∙ later.1)
-            ∙ sym (append_assoc base are.taken later.0)
-            ∙ ap (λ (xs : List ℕ). xs ++ later.0) (sym are.is) in
+            let more = later file holds in
             sym (ap (λ n. take n (base ++ frame_bytes (made file))) long
-            ∙ ap (take part.prefix.count) all
-            ∙ take-append-le part.prefix.count part.settled later.0 part.prefix.within);
+            ∙ ap (take part.prefix.count) more.1
+            ∙ take-append-le part.prefix.count part.settled more.0 part.prefix.within);
+        short = λ failed file holds. let more = later file holds in omega (arith, long, part.prefix.short failed, ap length more.1, length-append part.settled more.0);
         files = part.prefix.files;
       }

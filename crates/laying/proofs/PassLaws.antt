@@ -3,8 +3,9 @@ use Rattle.std.proofs.Common.{◌≡◌, ◌≢◌, ℕ, ◌+◌, ◌≤◌, Lis
 use Rattle.std.proofs.Math.Seq.{take-append-add}
 use Rattle.outside.specs.Files.{Files, appended, Holds, IsThere}
 use Rattle.outside.specs.Feed.{Fed}
-use Rattle.outside.specs.Passed.{PassedOn}
-use Rattle.outside.specs.Pass.{IsReady as PassReady}
+use Rattle.outside.specs.Passed.{PassedOn, AppendedPrefix}
+use Rattle.outside.specs.Pass.{IsReady as PassReady, IsOfRead}
+use Rattle.outside.specs.declared.pass.PassFault.{PassFault}
 use Rattle.outside.proofs.FilesLaws.{appended_twice, appended_nothing}
 use Rattle.outside.proofs.PassLaws.{input_holds, input_held, ready_later}
 use Rattle.frame_writer.specs.Laid.{BeginsWithin}
@@ -12,7 +13,7 @@ use Rattle.frame_writer.specs.Frames.{Frame, Held, pieces}
 use Rattle.frame_writer.specs.Writing.{Writing, AreBehind, IsWriterOf, WritesOn, WritesPart}
 use Rattle.sync_survey.specs.Faults.{SurveyFields}
 use Rattle.laying.specs.declared.relay.Relay.{Relay}
-use Rattle.laying.specs.Passing.{IsReady, IsOver, Lays, LaysPart}
+use Rattle.laying.specs.Passing.{IsReady, IsOver, Lays, EndsEarly, LaysPart}
 
 -- all is ready for the next step once some bytes were appended to the output, and the feed is still of the input
 pub ready-with : (relay : Relay) (old new : Files) (fed now : Fed) (more : List ℕ) → new ≡ appended old relay.pass.output.now more → IsReady relay old fed → PassReady relay.pass new now → IsReady relay new now
@@ -46,6 +47,10 @@ over-later window input output s i old new more apart is over = record {
   is = λ file holds. over.is file (input_held old new input output more file apart is holds);
 }
 
+-- a write failed
+pub ends-short : {name bytes : List ℕ} {old new : Files} {fault : PassFault} → AppendedPrefix name bytes old new → EndsEarly name bytes old new fault
+ends-short part = record { count = part.count; within = omega (arith, part.short); short = λ failed. part.short; files = part.files }
+
 -- ---- frames that were given to the writer
 
 module _ (input output : List ℕ) where
@@ -69,11 +74,11 @@ module _ (input output : List ℕ) where
   lays_as made other old new before after same lays = record { frames = lays.frames; is = λ file holds. lays.is file holds ∙ same file holds; passed = lays.passed; files = lays.files; writer = lays.writer }
 
   -- the first of them, and a write failed at the last
-  pub part_one : (made : List ℕ → List Frame) (reach : ℕ) (f : Frame) (old : Writing) (held : Held) (before after : Files) → ((file : List ℕ) → Holds before input file → f ∷ [] ≡ made file) → reach ≤ held.waiting.free
-      → WritesPart output f old held before after → LaysPart input output made reach old before after
+  pub part_one : (made : List ℕ → List Frame) (reach : ℕ) (f : Frame) (old : Writing) (held : Held) (before after : Files) {fault : PassFault} → ((file : List ℕ) → Holds before input file → f ∷ [] ≡ made file) → reach ≤ held.waiting.free
+      → WritesPart output f old held before after → LaysPart input output made reach old before after fault
   part_one made reach f old held before after is within part = record {
     settled = part.settled;
-    prefix = part.prefix;
+    prefix = ends-short part.prefix;
     done = f ∷ [];
     held = held;
     writer = part.writer;
@@ -85,12 +90,12 @@ module _ (input output : List ℕ) where
       begins_more reach free (g ∷ gs) within begins = omega (arith, within, begins)
 
   -- none of them, where a read failed
-  pub part_none : (made : List ℕ → List Frame) (reach : ℕ) (w : Writing) (files : Files) → IsThere files output
+  pub part_none : (made : List ℕ → List Frame) (reach : ℕ) (w : Writing) (files : Files) {fault : PassFault} → IsOfRead fault → IsThere files output
       → ((file : List ℕ) → Holds files input file → (more : List Frame) → BeginsWithin reach (pieces more) → BeginsWithin w.held.waiting.free (pieces (made file ++ more)))
-      → LaysPart input output made reach w files files
-  part_none made reach w files there begins = record {
+      → LaysPart input output made reach w files files fault
+  part_none made reach w files read there begins = record {
     settled = w.unsent;
-    prefix = record { count = 0; within = omega arith; files = sym (appended_nothing files output there) };
+    prefix = record { count = 0; within = omega arith; short = λ failed. absurd (subst IsOfRead failed read); files = sym (appended_nothing files output there) };
     done = [];
     held = w.held;
     writer = λ base out fs are. subst (AreBehind base (out ++ w.unsent) w.held) (sym (append-nil fs)) are;
@@ -110,12 +115,13 @@ module _ (input output : List ℕ) where
           (more.writer base (out ++ lays.passed) (fs ++ lays.frames) (lays.writer base out fs are)));
     }
 
-    pub part_then : (reach : ℕ) (after : Files) → LaysPart input output next reach mid now after → LaysPart input output (λ file. made file ++ next file) reach old before after
+    pub part_then : (reach : ℕ) (after : Files) {fault : PassFault} → LaysPart input output next reach mid now after fault → LaysPart input output (λ file. made file ++ next file) reach old before after fault
     part_then reach after part = record {
       settled = lays.passed ++ part.settled;
       prefix = record {
         count = length lays.passed + part.prefix.count;
         within = omega (arith, part.prefix.within, length-append lays.passed part.settled);
+        short = λ failed. omega (arith, part.prefix.short failed, length-append lays.passed part.settled);
         files = part.prefix.files
             ∙ ap (λ f. appended f output (take part.prefix.count part.settled)) lays.files
             ∙ appended_twice before output lays.passed (take part.prefix.count part.settled)

@@ -5,6 +5,7 @@ use Rattle.std.specs.List.{enumerate_from}
 use Rattle.std.proofs.lemmas.List.{length-map, take_all}
 use Rattle.std.proofs.lemmas.List.FromFn.{length-enumerate_from}
 use Rattle.outside.specs.Files.{Files}
+use Rattle.outside.specs.declared.pass.PassFault.{PassFault}
 use Rattle.frame_header.specs.Fields.{SlotFields, HeaderFields}
 use Rattle.frame_header.specs.Tables.{window_of}
 use Rattle.slot_plan.specs.declared.needs.Need.{Need}
@@ -191,8 +192,8 @@ module _ (s : SurveyFields) (placed : List Placed) (n k : ℕ) (all : n ≡ leng
     pub lays-whole : (new : Writing) → Lays input output (λ file. relaid (slice_range (all_frames file s) 0 n) (take k placed)) old new before after → Lays input output (whole_frames s placed) old new before after
     lays-whole new = lays_as input output (λ file. relaid (slice_range (all_frames file s) 0 n) (take k placed)) (whole_frames s placed) old new before after (λ file holds. made-is file)
 
-    pub part-whole : (reach : ℕ) → LaysPart input output (λ file. relaid (slice_range (all_frames file s) 0 n) (take k placed)) (last_reach (window_of s.class.version) reach (map need_of (slice_range s.frames 0 n)) (take k placed)) old before after
-        → LaysPart input output (whole_frames s placed) (whole_reach reach s placed) old before after
+    pub part-whole : (reach : ℕ) {fault : PassFault} → LaysPart input output (λ file. relaid (slice_range (all_frames file s) 0 n) (take k placed)) (last_reach (window_of s.class.version) reach (map need_of (slice_range s.frames 0 n)) (take k placed)) old before after fault
+        → LaysPart input output (whole_frames s placed) (whole_reach reach s placed) old before after fault
     part-whole reach part = record {
       settled = part.settled;
       prefix = part.prefix;

@@ -8,6 +8,7 @@ use Rattle.slot_plan.specs.declared.needs.Need.{Need}
 use Rattle.slot_plan.specs.declared.needs.Placed.{Placed}
 use Rattle.part_needs.specs.Needs.{need_of}
 use Rattle.outside.specs.Files.{Files, Holds}
+use Rattle.outside.specs.declared.pass.PassFault.{PassFault}
 use Rattle.frame_writer.specs.Laid.{BeginsWithin}
 use Rattle.frame_writer.specs.Frames.{Frame, pieces}
 use Rattle.frame_writer.specs.Writing.{Writing}
@@ -157,10 +158,10 @@ begins-left window reach (need ∷ needs) (f ∷ fs) [] more are fits begins = a
 begins-left window reach (need ∷ needs) (f ∷ fs) (p ∷ placed) more are fits begins = omega (arith, one_begin p.lead_in p f, fits.0)
 
 -- frames that are left after those of which a write failed
-pub part_more : (input output : List ℕ) (made rest whole : List ℕ → List Frame) (reach last : ℕ) (old : Writing) (before after : Files)
+pub part_more : (input output : List ℕ) (made rest whole : List ℕ → List Frame) (reach last : ℕ) (old : Writing) (before after : Files) {fault : PassFault}
     → ((file : List ℕ) → Holds before input file → (more : List Frame) → BeginsWithin last (pieces more) → BeginsWithin reach (pieces (rest file ++ more)))
     → ((file : List ℕ) → Holds before input file → made file ++ rest file ≡ whole file)
-    → LaysPart input output made reach old before after → LaysPart input output whole last old before after
+    → LaysPart input output made reach old before after fault → LaysPart input output whole last old before after fault
 part_more input output made rest whole reach last old before after begins same part = record {
   settled = part.settled;
   prefix = part.prefix;

@@ -1,12 +1,13 @@
 -- What a pass that lays frames out again makes of its output.
-use Rattle.std.specs.Prelude.{◌≡◌, ℕ, ◌+◌, ◌-◌, ◌==◌, ◌≤◌, min, if◌then◌else◌, List, [], ◌∷◌, ◌++◌, length, take, map, slice_range}
+use Rattle.std.specs.Prelude.{◌≡◌, ℕ, ◌+◌, ◌-◌, ◌==◌, ◌<◌, ◌≤◌, min, if◌then◌else◌, List, [], ◌∷◌, ◌++◌, length, take, map, slice_range}
 use Rattle.std.specs.List.{concat}
 use Rattle.frame_header.specs.Fields.{ClassFields}
 use Rattle.frame_header.specs.Tables.{class_of, area_of, window_of}
 use Rattle.outside.specs.Files.{Files, appended, Holds}
-use Rattle.outside.specs.Passed.{AppendedPrefix}
 use Rattle.outside.specs.Feed.{Fed, IsFedFrom}
 use Rattle.outside.specs.Pass.{IsReady as PassReady}
+use Rattle.outside.specs.declared.pass.PassFault.{PassFault}
+use Rattle.outside.specs.declared.pass.PassFault.TheVariants.{Write}
 use Rattle.reservoir.specs.Window.{IsWindowOver}
 use Rattle.slot_plan.specs.declared.needs.Need.{Need}
 use Rattle.slot_plan.specs.declared.needs.Placed.{Placed}
@@ -80,11 +81,18 @@ pub record Lays (input output : List ℕ) (made : List ℕ → List Frame) (old 
   pub files : after ≡ appended before output passed
   pub writer : (base out : List ℕ) (fs : List Frame) → IsWriterOf base out old fs → IsWriterOf base (out ++ passed) new (fs ++ frames)
 
+-- The pass ended early: a prefix of the bytes was appended, and after a failed write not all of them.
+pub record EndsEarly (name bytes : List ℕ) (old new : Files) (fault : PassFault) : Type 0 where
+  pub count : ℕ
+  pub within : count ≤ length bytes
+  pub short : fault ≡ Write → count < length bytes
+  pub files : new ≡ appended old name (take count bytes)
+
 -- Only the first of these frames were given to the writer, or all of them. A prefix was appended of bytes that no later main data can
 -- reach, whatever frames follow whose main data begin within so many bytes before their own area.
-pub record LaysPart (input output : List ℕ) (made : List ℕ → List Frame) (reach : ℕ) (old : Writing) (before after : Files) : Type 0 where
+pub record LaysPart (input output : List ℕ) (made : List ℕ → List Frame) (reach : ℕ) (old : Writing) (before after : Files) (fault : PassFault) : Type 0 where
   pub settled : List ℕ
-  pub prefix : AppendedPrefix output settled before after
+  pub prefix : EndsEarly output settled before after fault
   pub done : List Frame
   pub held : Held
   pub writer : (base out : List ℕ) (fs : List Frame) → IsWriterOf base out old fs → AreBehind base (out ++ settled) held (fs ++ done)
@@ -96,8 +104,8 @@ pub record LaysPart (input output : List ℕ) (made : List ℕ → List Frame) (
 abbrev pub GivesFrames : Relay → (List ℕ → List Frame) → Buffers → Buffers → Files → Files → Type 0
 GivesFrames relay made old new before after = Lays relay.pass.input.now relay.pass.output.now made (writing_in old) (writing_in new) before after
 
-abbrev pub GivesPart : Relay → (List ℕ → List Frame) → ℕ → Buffers → Files → Files → Type 0
-GivesPart relay made reach old before after = LaysPart relay.pass.input.now relay.pass.output.now made reach (writing_in old) before after
+abbrev pub GivesPart : Relay → (List ℕ → List Frame) → ℕ → Buffers → Files → Files → PassFault → Type 0
+GivesPart relay made reach old before after fault = LaysPart relay.pass.input.now relay.pass.output.now made reach (writing_in old) before after fault
 
 -- frame i in its slot
 abbrev pub moved_frame : Relay → ℕ → Row → Placed → List ℕ → List Frame

@@ -1,5 +1,5 @@
 //! The blocks of a surveyed input, copied through the buffer of an output.
-ghost use Rattle.std.specs.Prelude.{◌≡◌, ◌+◌, ◌≤◌, [], ◌∷◌, IfErr, OnOk, OnErr};
+ghost use Rattle.std.specs.Prelude.{◌≡◌, ◌+◌, ◌≤◌, [], ◌∷◌, IfErr, OnOk};
 ghost use Rattle.outside.specs.Pass.{Writes, WritesPrefix, HasPassCause};
 ghost use Rattle.sync_survey.specs.Faults.{tells};
 ghost use Rattle.laying.specs.Written.{goes_in_front as goes_in_front_lem};
@@ -38,7 +38,7 @@ impl<'a> Relay<'a> {
         ensures written { OnOk result (Writes self.now.pass
             (chosen_bytes in_front (tells self.now.survey.now) (block.now ∷ []))
             waiting.old waiting.new (D.files folder.old) (D.files folder.new)) }
-        ensures prefix { OnErr result (WritesPrefix self.now.pass
+        ensures prefix { IfErr result (WritesPrefix self.now.pass
             (chosen_bytes in_front (tells self.now.survey.now) (block.now ∷ []))
             waiting.old (D.files folder.old) (D.files folder.new)) }
         ensures done { OnOk result (D.counts folder.new ≡ D.counts folder.old) }
@@ -70,7 +70,7 @@ impl<'a> Relay<'a> {
         ensures written { OnOk result (Writes self.now.pass
             (chosen_bytes in_front (tells self.now.survey.now) (tells self.now.survey.now).blocks)
             waiting.old waiting.new (D.files folder.old) (D.files folder.new)) }
-        ensures prefix { OnErr result (WritesPrefix self.now.pass
+        ensures prefix { IfErr result (WritesPrefix self.now.pass
             (chosen_bytes in_front (tells self.now.survey.now) (tells self.now.survey.now).blocks)
             waiting.old (D.files folder.old) (D.files folder.new)) }
         ensures done { OnOk result (D.counts folder.new ≡ D.counts folder.old) }

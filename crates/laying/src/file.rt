@@ -1,5 +1,5 @@
 //! A whole file of the frames of one part.
-ghost use Rattle.std.specs.Prelude.{◌≡◌, ◌++◌, [], IfErr, OnOk, OnErr};
+ghost use Rattle.std.specs.Prelude.{◌≡◌, ◌++◌, [], IfErr, OnOk};
 ghost use Rattle.std.specs.List.{concat};
 ghost use Rattle.outside.specs.Pass.{Writes, WritesPrefix, Appends, AppendsPrefix, HasPassCause};
 ghost use Rattle.sync_survey.specs.Faults.{tells};
@@ -28,7 +28,7 @@ impl<'a> Relay<'a> {
         ensures written { OnOk result (Writes self.now.pass
             (λ file. concat (front_blocks file (tells self.now.survey.now)) ++ info.now)
             waiting.old waiting.new (D.files folder.old) (D.files folder.new)) }
-        ensures prefix { OnErr result (WritesPrefix self.now.pass
+        ensures prefix { IfErr result (WritesPrefix self.now.pass
             (λ file. concat (front_blocks file (tells self.now.survey.now)) ++ info.now)
             waiting.old (D.files folder.old) (D.files folder.new)) }
         ensures done { OnOk result (D.counts folder.new ≡ D.counts folder.old) }
@@ -55,7 +55,7 @@ impl<'a> Relay<'a> {
         ensures written { OnOk result (Writes self.now.pass
             (section_front (tells self.now.survey.now) section.now)
             buffers.old.waiting buffers.new.waiting (D.files folder.old) (D.files folder.new)) }
-        ensures prefix { OnErr result (WritesPrefix self.now.pass
+        ensures prefix { IfErr result (WritesPrefix self.now.pass
             (section_front (tells self.now.survey.now) section.now)
             buffers.old.waiting (D.files folder.old) (D.files folder.new)) }
         ensures done { OnOk result (D.counts folder.new ≡ D.counts folder.old) }
@@ -81,7 +81,7 @@ impl<'a> Relay<'a> {
     /// # Errors
     /// `Read` where a read failed; `Shrunk`, the length with which the input was found and the one at which
     /// it ended when it was read, where a read gave no byte before that length; `Write` where a write
-    /// failed. Then a prefix of the bytes, none to all of them, was appended.
+    /// failed. Then a prefix of the bytes was appended, and with `Write` not all of them.
     pub fn write<D: Folder>(
         &self,
         folder: &mut D,
@@ -94,7 +94,7 @@ impl<'a> Relay<'a> {
         ensures written { OnOk result (Appends self.now.pass.input.now self.now.pass.output.now
             (section_file (tells self.now.survey.now) section.now)
             (D.files folder.old) (D.files folder.new)) }
-        ensures prefix { OnErr result (AppendsPrefix self.now.pass.input.now
+        ensures prefix { IfErr result (AppendsPrefix self.now.pass.input.now
             self.now.pass.output.now (section_file (tells self.now.survey.now) section.now)
             (D.files folder.old) (D.files folder.new)) }
         ensures none { OnOk result (buffers.new.waiting ≡ []) }

@@ -4,7 +4,7 @@ ghost use Rattle.std.specs.Prelude.{◌≡◌, ◌⊎◌, false, if◌then◌els
 ghost use Rattle.frame_header.specs.Tables.{class_of, area_of, overhead_of, window_of};
 ghost use Rattle.outside.specs.Files.{IsThere};
 ghost use Rattle.outside.specs.Passed.{PassedOn, AppendedPrefix};
-ghost use Rattle.outside.specs.Pass.{Writes, WritesPrefix, HasPassCause};
+ghost use Rattle.outside.specs.Pass.{Writes, WritesPrefix, IsOfRead, HasPassCause};
 ghost use Rattle.side_info.specs.Side.{SideFits};
 ghost use Rattle.frame_writer.specs.Frames.{EndsInArea, held_bytes, frame_bytes, reach_of, reach_with, IsNextSettled};
 ghost use Rattle.frame_writer.specs.Writing.{writing, IsNew, WritesOn, WritesPart};
@@ -145,6 +145,7 @@ impl<'a> Relay<'a> {
         ensures done { OnOk result (D.counts folder.new ≡ D.counts folder.old) }
         ensures cause { IfErr result (HasPassCause self.now.pass.length (D.files folder.old)
             (D.counts folder.old) (D.counts folder.new)) }
+        ensures read { IfErr result IsOfRead }
         ensures files { D.files folder.new ≡ D.files folder.old }
         ensures ready { IsReady self.now (D.files folder.new) feed.new }
     {
@@ -172,6 +173,7 @@ impl<'a> Relay<'a> {
         ensures done { OnOk result (D.counts folder.new ≡ D.counts folder.old) }
         ensures cause { IfErr result (HasPassCause self.now.pass.length (D.files folder.old)
             (D.counts folder.old) (D.counts folder.new)) }
+        ensures read { IfErr result IsOfRead }
         ensures files { D.files folder.new ≡ D.files folder.old }
         ensures ready { IsReady self.now (D.files folder.new) feed.new }
     {
@@ -223,6 +225,7 @@ impl<'a> Relay<'a> {
         ensures done { OnOk result (D.counts folder.new ≡ D.counts folder.old) }
         ensures cause { IfErr result (HasPassCause self.now.pass.length (D.files folder.old)
             (D.counts folder.old) (D.counts folder.new)) }
+        ensures read { IfErr result IsOfRead }
         ensures files { D.files folder.new ≡ D.files folder.old }
         ensures ready { IsReady self.now (D.files folder.new) feed.new }
     {
@@ -252,6 +255,7 @@ impl<'a> Relay<'a> {
         ensures done { OnOk result (D.counts folder.new ≡ D.counts folder.old) }
         ensures cause { IfErr result (HasPassCause self.now.pass.length (D.files folder.old)
             (D.counts folder.old) (D.counts folder.new)) }
+        ensures read { IfErr result IsOfRead }
         ensures files { D.files folder.new ≡ D.files folder.old }
         ensures ready { IsReady self.now (D.files folder.new) feed.new }
     {
@@ -291,7 +295,7 @@ impl<'a> Relay<'a> {
         requires unsettled { IsNextSettled buffers.old.writer → ⊥ }
         ensures lays { OnOk result (GivesFrames self.now (moved_frame self.now i row.now place.now)
             buffers.old buffers.new (D.files folder.old) (D.files folder.new)) }
-        ensures part { OnErr result (GivesPart self.now (moved_frame self.now i row.now place.now)
+        ensures part { IfErr result (GivesPart self.now (moved_frame self.now i row.now place.now)
             (own_reach self.now row.now place.now)
             buffers.old (D.files folder.old) (D.files folder.new)) }
         ensures reach { OnOk result (reach_of buffers.new.writer
@@ -342,7 +346,7 @@ impl<'a> Relay<'a> {
         ensures next { IfOk result (λ next. next ≡ i + (if place.now.lead_in then 0 else 1)) }
         ensures lays { OnOk result (GivesFrames self.now (placed_frame self.now i row.now place.now)
             buffers.old buffers.new (D.files folder.old) (D.files folder.new)) }
-        ensures part { OnErr result (GivesPart self.now (placed_frame self.now i row.now place.now)
+        ensures part { IfErr result (GivesPart self.now (placed_frame self.now i row.now place.now)
             (reach_at self.now row.now place.now)
             buffers.old (D.files folder.old) (D.files folder.new)) }
         ensures reach { OnOk result (reach_of buffers.new.writer ≡
@@ -395,7 +399,7 @@ impl<'a> Relay<'a> {
         ensures lays { OnOk result (GivesFrames self.now
             (planned_frames self.now from to placed.now) buffers.old buffers.new
             (D.files folder.old) (D.files folder.new)) }
-        ensures part { OnErr result (GivesPart self.now (planned_frames self.now from to placed.now)
+        ensures part { IfErr result (GivesPart self.now (planned_frames self.now from to placed.now)
             (reach_behind_all (reach_of buffers.old.writer) self.now from to placed.now)
             buffers.old (D.files folder.old) (D.files folder.new)) }
         ensures reach { OnOk result (reach_of buffers.new.writer ≡
@@ -448,7 +452,7 @@ impl<'a> Relay<'a> {
     /// # Errors
     /// `Read` where a read failed; `Shrunk`, the length with which the input was found and the one at which
     /// it ended when it was read, where a read gave no byte before that length; `Write` where a write
-    /// failed. Then a prefix of what waited and the bytes, none to all of them, was appended.
+    /// failed. Then a prefix of what waited and the bytes was appended, and with `Write` not all of them.
     pub(crate) fn lay<D: Folder>(
         &self,
         folder: &mut D,
@@ -461,7 +465,7 @@ impl<'a> Relay<'a> {
         ensures written { OnOk result (Writes self.now.pass
             (λ file. frame_bytes (section_frames (tells self.now.survey.now) section.now file))
             buffers.old.waiting buffers.new.waiting (D.files folder.old) (D.files folder.new)) }
-        ensures prefix { OnErr result (WritesPrefix self.now.pass
+        ensures prefix { IfErr result (WritesPrefix self.now.pass
             (λ file. frame_bytes (section_frames (tells self.now.survey.now) section.now file))
             buffers.old.waiting (D.files folder.old) (D.files folder.new)) }
         ensures ready { OnOk result (IsReady self.now (D.files folder.new) buffers.new.feed) }

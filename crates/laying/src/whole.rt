@@ -1,5 +1,5 @@
 //! All frames of an input, for a writer that gets those of other inputs too.
-ghost use Rattle.std.specs.Prelude.{◌≡◌, ◌≤◌, length, map, IfOk, IfErr, OnOk, OnErr};
+ghost use Rattle.std.specs.Prelude.{◌≡◌, ◌≤◌, length, map, IfOk, IfErr, OnOk};
 ghost use Rattle.frame_header.specs.Tables.{window_of};
 ghost use Rattle.outside.specs.Pass.{HasPassCause};
 ghost use Rattle.part_needs.specs.Needs.{need_of};
@@ -54,7 +54,7 @@ impl<'a> Relay<'a> {
         ensures lays { OnOk result (GivesFrames self.now
             (whole_frames (tells self.now.survey.now) placed.now)
             buffers.old buffers.new (D.files folder.old) (D.files folder.new)) }
-        ensures part { OnErr result (GivesPart self.now
+        ensures part { IfErr result (GivesPart self.now
             (whole_frames (tells self.now.survey.now) placed.now)
             (whole_reach (reach_of buffers.old.writer) (tells self.now.survey.now) placed.now)
             buffers.old (D.files folder.old) (D.files folder.new)) }

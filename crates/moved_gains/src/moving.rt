@@ -1,6 +1,6 @@
 //! The second pass over an input: it is read from its beginning to its end, and written with the gains of
 //! its frames moved, except those of lost ones, and with another tag if that changes.
-ghost use Rattle.std.specs.Prelude.{◌≡◌, ◌≢◌, ◌+◌, ◌<◌, ◌≤◌, ◌^◌, ◌++◌, List, ℕ, [], length, take, drop, IfOk, IfErr, OnOk, OnErr, Ok};
+ghost use Rattle.std.specs.Prelude.{◌≡◌, ◌≢◌, ◌+◌, ◌<◌, ◌≤◌, ◌^◌, ◌++◌, List, ℕ, [], length, take, drop, IfOk, IfErr, OnOk, Ok};
 ghost use Rattle.frame_header.specs.Fields.{HeaderFields};
 ghost use Rattle.frame_header.specs.Tables.{class_of, length_of, overhead_of};
 ghost use Rattle.side_info.specs.Frame.{side_in};
@@ -95,7 +95,7 @@ impl<'a> GainPass<'a> {
         ensures written { OnOk result (Writes self.now.pass
             (λ file. copied self.now.tag file from to)
             buffers.old.waiting buffers.new.waiting (D.files folder.old) (D.files folder.new)) }
-        ensures prefix { OnErr result (WritesPrefix self.now.pass
+        ensures prefix { IfErr result (WritesPrefix self.now.pass
             (λ file. copied self.now.tag file from to)
             buffers.old.waiting (D.files folder.old) (D.files folder.new)) }
         ensures done { OnOk result (D.counts folder.new ≡ D.counts folder.old) }
@@ -134,7 +134,7 @@ impl<'a> GainPass<'a> {
         requires within { to ≤ self.now.pass.length }
         ensures written { OnOk result (Writes self.now.pass (bytes_around tag.now from to)
             buffers.old.waiting buffers.new.waiting (D.files folder.old) (D.files folder.new)) }
-        ensures prefix { OnErr result (WritesPrefix self.now.pass (bytes_around tag.now from to)
+        ensures prefix { IfErr result (WritesPrefix self.now.pass (bytes_around tag.now from to)
             buffers.old.waiting (D.files folder.old) (D.files folder.new)) }
         ensures done { OnOk result (D.counts folder.new ≡ D.counts folder.old) }
         ensures cause { IfErr result (HasPassCause self.now.pass.length (D.files folder.old)
@@ -170,7 +170,7 @@ impl<'a> GainPass<'a> {
         ensures written { OnOk result (Writes self.now.pass
             (λ file. moved_row_bytes moved.now.steps file moved.now.row.now)
             waiting.old waiting.new (D.files folder.old) (D.files folder.new)) }
-        ensures prefix { OnErr result (WritesPrefix self.now.pass
+        ensures prefix { IfErr result (WritesPrefix self.now.pass
             (λ file. moved_row_bytes moved.now.steps file moved.now.row.now)
             waiting.old (D.files folder.old) (D.files folder.new)) }
         ensures done { OnOk result (D.counts folder.new ≡ D.counts folder.old) }
@@ -203,7 +203,7 @@ impl<'a> GainPass<'a> {
         ensures written { OnOk result (Writes self.now.pass
             (λ file. moved_row_bytes moved.now.steps file moved.now.row.now)
             waiting.old waiting.new (D.files folder.old) (D.files folder.new)) }
-        ensures prefix { OnErr result (WritesPrefix self.now.pass
+        ensures prefix { IfErr result (WritesPrefix self.now.pass
             (λ file. moved_row_bytes moved.now.steps file moved.now.row.now)
             waiting.old (D.files folder.old) (D.files folder.new)) }
         ensures done { OnOk result (D.counts folder.new ≡ D.counts folder.old) }
@@ -236,7 +236,7 @@ impl<'a> GainPass<'a> {
         ensures written { OnOk result (Writes self.now.pass
             (λ file. moved_row_bytes moved.now.steps file moved.now.row.now)
             buffers.old.waiting buffers.new.waiting (D.files folder.old) (D.files folder.new)) }
-        ensures prefix { OnErr result (WritesPrefix self.now.pass
+        ensures prefix { IfErr result (WritesPrefix self.now.pass
             (λ file. moved_row_bytes moved.now.steps file moved.now.row.now)
             buffers.old.waiting (D.files folder.old) (D.files folder.new)) }
         ensures end { IfOk result (λ end. end ≡ row_end moved.now.row.now) }
@@ -275,7 +275,7 @@ impl<'a> GainPass<'a> {
         ensures written { OnOk result (Writes self.now.pass
             (λ file. written_from (steps_over self.now.course.now rows.now) self.now.tag file from rows.now)
             buffers.old.waiting buffers.new.waiting (D.files folder.old) (D.files folder.new)) }
-        ensures prefix { OnErr result (WritesPrefix self.now.pass
+        ensures prefix { IfErr result (WritesPrefix self.now.pass
             (λ file. written_from (steps_over self.now.course.now rows.now) self.now.tag file from rows.now)
             buffers.old.waiting (D.files folder.old) (D.files folder.new)) }
         ensures done { OnOk result (D.counts folder.new ≡ D.counts folder.old) }
@@ -313,7 +313,7 @@ fn new_tag<'a>(survey: &Survey, change: &'a Change) -> Option<NewTag<'a>>
 /// # Errors
 /// `Read` where a read failed; `Shrunk`, the length with which the input was found and the one at which it
 /// ended when it was read, where a read gave no byte before that length; `Write` where a write failed. Then
-/// a prefix of the bytes, none to all of them, was appended.
+/// a prefix of the bytes was appended, and with `Write` not all of them.
 pub fn write_changed<D: Folder>(
     folder: &mut D,
     input: &str,
@@ -332,7 +332,7 @@ pub fn write_changed<D: Folder>(
     ensures written { OnOk result (Appends input.now output.now
         (λ file. changed (change_in change.now (tells survey.now)) file (tells survey.now))
         (D.files folder.old) (D.files folder.new)) }
-    ensures prefix { OnErr result (AppendsPrefix input.now output.now
+    ensures prefix { IfErr result (AppendsPrefix input.now output.now
         (λ file. changed (change_in change.now (tells survey.now)) file (tells survey.now))
         (D.files folder.old) (D.files folder.new)) }
     ensures done { OnOk result (D.counts folder.new ≡ D.counts folder.old) }

@@ -13,7 +13,7 @@ use Rattle.outside.specs.declared.exact.ReadFault.TheVariants.{Failed, Shrunk as
 use Rattle.outside.specs.declared.pass.Pass.{Pass}
 use Rattle.outside.specs.declared.pass.PassFault.{PassFault}
 use Rattle.outside.specs.declared.pass.PassFault.TheVariants.{Read, Shrunk, Write}
-use Rattle.outside.specs.Pass.{IsReady, AreMade, bytes_between, Writes, AppendsPart, WritesPrefix, Appends, AppendsPrefix, of_read, HasPassCause}
+use Rattle.outside.specs.Pass.{IsReady, AreMade, bytes_between, Writes, AppendsPart, WritesPrefix, Appends, AppendsPrefix, of_read, IsOfRead, HasPassCause}
 use Rattle.outside.proofs.FilesLaws.{appended_twice, appended_nothing, appended_holds_other, appended_held_other, appended_keeps, appended_told}
 use Rattle.outside.proofs.PassedLaws.{passed_more}
 
@@ -69,19 +69,25 @@ module _ (pass : Pass) where
   writes_piece made {piece} is passed = record { piece = piece; is = is; passed = passed }
 
   -- a piece of which only a prefix was written
-  pub prefix_piece : (made : List ℕ → List ℕ) {piece before : List ℕ} {old new : Files} → AreMade old pass.input.now made piece → AppendedPrefix pass.output.now (before ++ piece) old new → WritesPrefix pass made before old new
+  pub prefix_piece : (made : List ℕ → List ℕ) {piece before : List ℕ} {old new : Files} {fault : PassFault} → AreMade old pass.input.now made piece → AppendedPrefix pass.output.now (before ++ piece) old new → WritesPrefix pass made before old new fault
   prefix_piece made {piece} {before} is prefix =
       let bytes = take prefix.count (before ++ piece) in
-      let long : length bytes ≡ prefix.count = omega (arith, length-take prefix.count (before ++ piece), prefix.within) in
+      let long : length bytes ≡ prefix.count = omega (arith, length-take prefix.count (before ++ piece), prefix.short) in
       record {
         bytes = bytes;
         prefix = λ file holds. ap (λ n. take n (before ++ piece)) (sym long) ∙ ap (λ (l : List ℕ). take (length bytes) (before ++ l)) (is file holds);
+        short = λ failed file holds. omega (arith, long, prefix.short, ap (λ (l : List ℕ). length (before ++ l)) (is file holds));
         files = prefix.files;
       }
 
-  -- nothing was appended yet
-  pub prefix_nothing : (made : List ℕ → List ℕ) (before : List ℕ) (old new : Files) → new ≡ old → IsThere old pass.output.now → WritesPrefix pass made before old new
-  prefix_nothing made before old new same there = record { bytes = []; prefix = λ file holds. refl; files = same ∙ sym (appended_nothing old pass.output.now there) }
+  -- nothing was appended yet, where a read failed
+  pub prefix_nothing : (made : List ℕ → List ℕ) (before : List ℕ) (old new : Files) {fault : PassFault} → IsOfRead fault → new ≡ old → IsThere old pass.output.now → WritesPrefix pass made before old new fault
+  prefix_nothing made before old new read same there = record {
+    bytes = [];
+    prefix = λ file holds. refl;
+    short = λ failed. absurd (subst IsOfRead failed read);
+    files = same ∙ sym (appended_nothing old pass.output.now there);
+  }
 
   -- the same, where the bytes are made in another way that gives the same
   pub writes_as : {made : List ℕ → List ℕ} (other : List ℕ → List ℕ) {before after : List ℕ} {old new : Files} → ((file : List ℕ) → Holds old pass.input.now file → made file ≡ other file) → Writes pass made before after old new
@@ -89,18 +95,20 @@ module _ (pass : Pass) where
   writes_as other same step = record { piece = step.piece; is = λ file holds. step.is file holds ∙ same file holds; passed = step.passed }
 
   -- a prefix of some is one of more
-  pub prefix_as : {made : List ℕ → List ℕ} (other rest : List ℕ → List ℕ) {before : List ℕ} {old new : Files} → ((file : List ℕ) → Holds old pass.input.now file → other file ≡ made file ++ rest file) → WritesPrefix pass made before old new
-      → WritesPrefix pass other before old new
-  prefix_as {made} other rest {before} more part = record {
-    bytes = part.bytes;
-    prefix = λ file holds.
-        let is = part.prefix file holds in
-        let short : length part.bytes ≤ length (before ++ made file) = omega (arith, ap length is, length-take (length part.bytes) (before ++ made file)) in
-        is
-        ∙ sym (take-append-le (length part.bytes) (before ++ made file) (rest file) short)
-        ∙ ap (take (length part.bytes)) (append_assoc before (made file) (rest file) ∙ ap (λ (l : List ℕ). before ++ l) (sym (more file holds)));
-    files = part.files;
-  }
+  pub prefix_as : {made : List ℕ → List ℕ} (other rest : List ℕ → List ℕ) {before : List ℕ} {old new : Files} {fault : PassFault} → ((file : List ℕ) → Holds old pass.input.now file → other file ≡ made file ++ rest file) → WritesPrefix pass made before old new fault
+      → WritesPrefix pass other before old new fault
+  prefix_as {made} other rest {before} {old} more part =
+      let whole : (file : List ℕ) → Holds old pass.input.now file → (before ++ made file) ++ rest file ≡ before ++ other file =
+      λ file holds. append_assoc before (made file) (rest file) ∙ ap (λ (l : List ℕ). before ++ l) (sym (more file holds)) in
+      record {
+        bytes = part.bytes;
+        prefix = λ file holds.
+            let is = part.prefix file holds in
+            let within : length part.bytes ≤ length (before ++ made file) = omega (arith, ap length is, length-take (length part.bytes) (before ++ made file)) in
+            is ∙ sym (take-append-le (length part.bytes) (before ++ made file) (rest file) within) ∙ ap (take (length part.bytes)) (whole file holds);
+        short = λ failed file holds. omega (arith, part.short failed file holds, ap length (whole file holds), length-append (before ++ made file) (rest file));
+        files = part.files;
+      }
 
 -- ---- a step after a step
 
@@ -122,7 +130,7 @@ module _ (pass : Pass) (apart : pass.input.now ≢ pass.output.now) {made : List
   }
 
   -- a step that ends early after a step
-  pub prefix_then : {next : List ℕ → List ℕ} {new : Files} → WritesPrefix pass next mid now new → WritesPrefix pass (λ file. made file ++ next file) before old new
+  pub prefix_then : {next : List ℕ → List ℕ} {new : Files} {fault : PassFault} → WritesPrefix pass next mid now new fault → WritesPrefix pass (λ file. made file ++ next file) before old new fault
   prefix_then {next} {new} more =
       let first = step.passed in
       let whole : (file : List ℕ) → Holds old pass.input.now file → before ++ (made file ++ next file) ≡ first.passed ++ (mid ++ next file) =
@@ -138,12 +146,10 @@ module _ (pass : Pass) (apart : pass.input.now ≢ pass.output.now) {made : List
             ∙ sym (take-append-add first.passed (mid ++ next file) (length more.bytes))
             ∙ ap (λ n. take n (first.passed ++ (mid ++ next file))) (sym (length-append first.passed more.bytes))
             ∙ ap (take (length (first.passed ++ more.bytes))) (sym (whole file holds));
+        short = λ failed file holds.
+            omega (arith, more.short failed file (writes_holds file holds), length-append first.passed more.bytes, ap length (whole file holds), length-append first.passed (mid ++ next file));
         files = more.files ∙ ap (λ f. appended f pass.output.now more.bytes) first.files ∙ appended_twice old pass.output.now first.passed more.bytes;
       }
-
-  -- only the first step, and nothing of the next
-  pub prefix_stopped : (next : List ℕ → List ℕ) (new : Files) → new ≡ now → IsThere old pass.output.now → WritesPrefix pass (λ file. made file ++ next file) before old new
-  prefix_stopped next new same there = prefix_then (prefix_nothing pass next mid now new same (writes_there pass.output.now there))
 
 -- ---- as far as the bytes went on
 
@@ -167,7 +173,7 @@ module _ (pass : Pass) (apart : pass.input.now ≢ pass.output.now) {whole rest 
       left = both;
     }
 
-    pub up_to_prefix : {new : Files} → WritesPrefix pass next mid now new → WritesPrefix pass whole before old new
+    pub up_to_prefix : {new : Files} {fault : PassFault} → WritesPrefix pass next mid now new fault → WritesPrefix pass whole before old new fault
     up_to_prefix part = prefix_as pass whole later both (prefix_then pass apart sofar.written part)
 
   -- all of them
@@ -185,13 +191,8 @@ module _ (pass : Pass) (apart : pass.input.now ≢ pass.output.now) {whole rest 
         (λ file holds. sym (sofar.left file holds ∙ ap (λ (l : List ℕ). sofar.made file ++ l) (is file holds)))
         (writes_then pass apart sofar.written step)
 
-    pub up_to_last_prefix : {new : Files} → WritesPrefix pass next mid now new → WritesPrefix pass whole before old new
+    pub up_to_last_prefix : {new : Files} {fault : PassFault} → WritesPrefix pass next mid now new fault → WritesPrefix pass whole before old new fault
     up_to_last_prefix part = up_to_prefix next (λ file. []) (λ file holds. is file holds ∙ sym (append-nil (next file))) part
-
-  -- a read fails
-  pub up_to_stopped : (new : Files) → new ≡ now → IsThere old pass.output.now → WritesPrefix pass whole before old new
-  up_to_stopped new same there =
-      up_to_prefix (λ file. []) rest (λ file holds. refl) (prefix_nothing pass (λ file. []) mid now new same (writes_there pass apart sofar.written pass.output.now there))
 
 -- ---- what waits is handed on
 
@@ -208,15 +209,16 @@ module _ (pass : Pass) (made : List ℕ → List ℕ) {waiting : List ℕ} {old 
   }
 
   -- a prefix of it
-  pub writes_end : AppendedPrefix pass.output.now waiting now new → AppendsPrefix pass.input.now pass.output.now made old new
+  pub writes_end : {fault : PassFault} → AppendedPrefix pass.output.now waiting now new → AppendsPrefix pass.input.now pass.output.now made old new fault
   writes_end part =
       let passed = step.passed.passed in
       let bytes = passed ++ take part.count waiting in
-      let long : length bytes ≡ length passed + part.count = omega (arith, length-append passed (take part.count waiting), length-take part.count waiting, part.within) in
+      let long : length bytes ≡ length passed + part.count = omega (arith, length-append passed (take part.count waiting), length-take part.count waiting, part.short) in
       record {
         bytes = bytes;
         prefix = λ file holds.
             sym (ap (λ n. take n (made file)) long ∙ ap (take (length passed + part.count)) (sym (step.is file holds) ∙ step.passed.split) ∙ take-append-add passed waiting part.count);
+        short = λ failed file holds. omega (arith, long, part.short, ap length (sym (step.is file holds) ∙ step.passed.split), length-append passed waiting);
         files = part.files ∙ ap (λ f. appended f pass.output.now (take part.count waiting)) step.passed.files ∙ appended_twice old pass.output.now passed (take part.count waiting);
       }
 
@@ -224,8 +226,13 @@ module _ (pass : Pass) (made : List ℕ → List ℕ) {waiting : List ℕ} {old 
 pub writes_behind_none : {pass : Pass} {made : List ℕ → List ℕ} {before after : List ℕ} {old new : Files} → before ≡ [] → Writes pass made before after old new → Writes pass made [] after old new
 writes_behind_none {pass} {made} {before} {after} {old} {new} none step = subst (λ (l : List ℕ). Writes pass made l after old new) none step
 
-pub part_behind_none : {input output : List ℕ} {made : List ℕ → List ℕ} {before : List ℕ} {old new : Files} → before ≡ [] → AppendsPart input output made before old new → AppendsPrefix input output made old new
-part_behind_none {input} {output} {made} {before} {old} {new} none part = subst (λ (l : List ℕ). AppendsPart input output made l old new) none part
+pub part_behind_none : {input output : List ℕ} {made : List ℕ → List ℕ} {before : List ℕ} {old new : Files} {fault : PassFault} → before ≡ [] → AppendsPart input output made before old new fault → AppendsPrefix input output made old new fault
+part_behind_none {input} {output} {made} {before} {old} {new} {fault} none part = subst (λ (l : List ℕ). AppendsPart input output made l old new fault) none part
+
+-- by a fault that is one of a write only where this one is
+pub part_for : {input output : List ℕ} {made : List ℕ → List ℕ} {before : List ℕ} {old new : Files} {fault other : PassFault} → (other ≡ Write → fault ≡ Write) → AppendsPart input output made before old new fault
+    → AppendsPart input output made before old new other
+part_for same part = record { bytes = part.bytes; prefix = part.prefix; short = λ failed. part.short (same failed); files = part.files }
 
 -- ---- bytes that were appended, and others after them
 
@@ -241,17 +248,20 @@ module _ {input output : List ℕ} (apart : input ≢ output) {made : List ℕ �
       files = second.files ∙ ap (λ f. appended f output second.bytes) first.files ∙ appended_twice old output first.bytes second.bytes;
     }
 
-    pub appends_then_part : {new : Files} → AppendsPrefix input output next now new → AppendsPrefix input output whole old new
-    appends_then_part {new} second = record {
-      bytes = first.bytes ++ second.bytes;
-      prefix = λ file holds.
-          let all : first.bytes ++ next file ≡ whole file = ap (λ (l : List ℕ). l ++ next file) (first.is file holds) ∙ is file in
-          ap (λ (l : List ℕ). first.bytes ++ l) (second.prefix file (held_still file holds))
-          ∙ sym (take-append-add first.bytes (next file) (length second.bytes))
-          ∙ ap (λ n. take n (first.bytes ++ next file)) (sym (length-append first.bytes second.bytes))
-          ∙ ap (take (length (first.bytes ++ second.bytes))) all;
-      files = second.files ∙ ap (λ f. appended f output second.bytes) first.files ∙ appended_twice old output first.bytes second.bytes;
-    }
+    pub appends_then_part : {new : Files} {fault : PassFault} → AppendsPrefix input output next now new fault → AppendsPrefix input output whole old new fault
+    appends_then_part {new} second =
+        let all : (file : List ℕ) → Holds old input file → first.bytes ++ next file ≡ whole file = λ file holds. ap (λ (l : List ℕ). l ++ next file) (first.is file holds) ∙ is file in
+        record {
+          bytes = first.bytes ++ second.bytes;
+          prefix = λ file holds.
+              ap (λ (l : List ℕ). first.bytes ++ l) (second.prefix file (held_still file holds))
+              ∙ sym (take-append-add first.bytes (next file) (length second.bytes))
+              ∙ ap (λ n. take n (first.bytes ++ next file)) (sym (length-append first.bytes second.bytes))
+              ∙ ap (take (length (first.bytes ++ second.bytes))) (all file holds);
+          short = λ failed file holds.
+              omega (arith, second.short failed file (held_still file holds), length-append first.bytes second.bytes, length-append first.bytes (next file), ap length (all file holds));
+          files = second.files ∙ ap (λ f. appended f output second.bytes) first.files ∙ appended_twice old output first.bytes second.bytes;
+        }
 
 -- ---- counts and causes
 
@@ -259,6 +269,11 @@ module _ {input output : List ℕ} (apart : input ≢ output) {made : List ℕ �
 pub read_cause : (size : ℕ) (files : Files) (before after : Counts) (fault : ReadFault) → HasReadCause size files before after fault → HasPassCause size files before after (of_read fault)
 read_cause size files before after Failed cause = cause
 read_cause size files before after (ShrunkRead first second) cause = cause
+
+-- that of a read is no fault of a write
+pub read_kind : (fault : ReadFault) → IsOfRead (of_read fault)
+read_kind Failed = tt
+read_kind (ShrunkRead first second) = tt
 
 -- a cause after a step that succeeded
 pub cause_later : (size : ℕ) (old now : Files) (output more : List ℕ) (before mid after : Counts) (fault : PassFault) → now ≡ appended old output more → mid ≡ before

@@ -1,6 +1,6 @@
 -- Laws of what a buffer passed on to a file.
 use Rattle.std.proofs.Common.{◌≡◌, ℕ, ◌+◌, List, [], ◌++◌, length, take, drop, refl, sym, ◌∙◌, ap, subst, append_assoc, arith, length-append}
-use Rattle.std.specs.Prelude.{Result, Ok, Err, OnErr}
+use Rattle.std.specs.Prelude.{Result, Ok, Err, IsErrAnd, OnErr, IfErr}
 use Rattle.std.proofs.lemmas.List.{length-take, take-take, take-append-drop, take-append-le}
 use Rattle.std.proofs.Math.Seq.{take-append-add}
 use Rattle.outside.specs.Files.{Files, appended, IsThere}
@@ -11,6 +11,16 @@ use Rattle.outside.proofs.FilesLaws.{appended_nothing, appended_twice, appended_
 pub on_err : {T E P : Type 0} (r : Result T E) → P → OnErr r P
 on_err (Ok x) p = tt
 on_err (Err e) p = p
+
+-- a fact of the error that is handed on
+pub err_at : {T E : Type 0} (r : Result T E) (P : E → Type 0) {e : E} → IsErrAnd r (λ y. y ≡ e) → P e → IfErr r P
+err_at (Ok x) P is p = absurd is
+err_at (Err y) P is p = subst P (sym is) p
+
+-- a fact of every error by another of it
+pub err_by : {T E : Type 0} {P Q : E → Type 0} (r : Result T E) → ((e : E) → P e → Q e) → IfErr r P → IfErr r Q
+err_by (Ok x) f p = tt
+err_by (Err e) f p = f e p
 
 -- nothing was passed on
 pub passed_nothing : (files : Files) (name bytes : List ℕ) → IsThere files name → PassedOn name bytes bytes files files
@@ -50,7 +60,7 @@ passed_more piece p q = passed_then (passed_with piece p) q
 pub passed_then_prefix : {name before mid : List ℕ} {f g h : Files} → PassedOn name before mid f g → AppendedPrefix name mid g h → AppendedPrefix name before f h
 passed_then_prefix {name} {before} {mid} {f} {g} {h} p q = record {
   count = length p.passed + q.count;
-  within = omega (arith, q.within, ap length p.split, length-append p.passed mid);
+  short = omega (arith, q.short, ap length p.split, length-append p.passed mid);
   files =
       q.files
       ∙ ap (λ files. appended files name (take q.count mid)) p.files
@@ -74,8 +84,8 @@ passed_then_all {name} {before} {mid} {f} {g} {h} p all =
 pub prefix_of_front : {name bytes : List ℕ} {f g : Files} (n : ℕ) → AppendedPrefix name (take n bytes) f g → AppendedPrefix name bytes f g
 prefix_of_front {name} {bytes} {f} {g} n p = record {
   count = p.count;
-  within = omega (arith, p.within, length-take n bytes);
-  files = p.files ∙ ap (appended f name) (take-take p.count n bytes (omega (arith, p.within, length-take n bytes)));
+  short = omega (arith, p.short, length-take n bytes);
+  files = p.files ∙ ap (appended f name) (take-take p.count n bytes (omega (arith, p.short, length-take n bytes)));
 }
 
 -- what waits before a piece and the piece, by a prefix of the piece and what follows
@@ -90,8 +100,8 @@ passed_waiting name waits piece n f g is = record { passed = waits ++ take n pie
 pub prefix_waiting : (name waits piece : List ℕ) (n : ℕ) (f g : Files) → AppendedPrefix name (waits ++ take n piece) f g → AppendedPrefix name (waits ++ piece) f g
 prefix_waiting name waits piece n f g p = record {
   count = p.count;
-  within = omega (arith, p.within, ap length (piece_in_two waits piece n), length-append (waits ++ take n piece) (drop n piece));
-  files = p.files ∙ ap (appended f name) (sym (take-append-le p.count (waits ++ take n piece) (drop n piece) p.within) ∙ ap (take p.count) (piece_in_two waits piece n));
+  short = omega (arith, p.short, ap length (piece_in_two waits piece n), length-append (waits ++ take n piece) (drop n piece));
+  files = p.files ∙ ap (appended f name) (sym (take-append-le p.count (waits ++ take n piece) (drop n piece) (omega (arith, p.short))) ∙ ap (take p.count) (piece_in_two waits piece n));
 }
 
 -- a prefix of what waited and of a piece, before another
@@ -100,8 +110,8 @@ prefix_in_front {name} waits front rest {f} {g} p =
     let whole = append_assoc waits front rest in
     record {
       count = p.count;
-      within = omega (arith, p.within, ap length whole, length-append (waits ++ front) rest);
-      files = p.files ∙ ap (appended f name) (sym (take-append-le p.count (waits ++ front) rest p.within) ∙ ap (take p.count) whole);
+      short = omega (arith, p.short, ap length whole, length-append (waits ++ front) rest);
+      files = p.files ∙ ap (appended f name) (sym (take-append-le p.count (waits ++ front) rest (omega (arith, p.short))) ∙ ap (take p.count) whole);
     }
 
 -- the name is there afterwards, and no name goes

@@ -1,5 +1,5 @@
 -- What a pass over an input makes of its output, and why it ends early.
-use Rattle.std.specs.Prelude.{◌≡◌, ◌≢◌, ℕ, ◌-◌, ◌^◌, ◌≤◌, List, [], ◌++◌, length, take, drop}
+use Rattle.std.specs.Prelude.{◌≡◌, ◌≢◌, ℕ, ◌-◌, ◌^◌, ◌<◌, ◌≤◌, List, [], ◌++◌, length, take, drop}
 use Rattle.outside.specs.Files.{Files, appended, Holds, IsThere}
 use Rattle.outside.specs.Counts.{Counts, Rose, OnlyWrites}
 use Rattle.outside.specs.Passed.{PassedOn}
@@ -42,14 +42,16 @@ pub record Writes (pass : Pass) (made : List ℕ → List ℕ) (before after : L
   pub is : AreMade old pass.input.now made piece
   pub passed : PassedOn pass.output.now (before ++ piece) after old new
 
--- Only some bytes were appended to the output: where the input is told, a prefix of what waited and of what is made of its bytes.
-pub record AppendsPart (input output : List ℕ) (made : List ℕ → List ℕ) (before : List ℕ) (old new : Files) : Type 0 where
+-- Only some bytes were appended to the output: where the input is told, a prefix of what waited and of what is made of its bytes, and after
+-- a failed write not all of these.
+pub record AppendsPart (input output : List ℕ) (made : List ℕ → List ℕ) (before : List ℕ) (old new : Files) (fault : PassFault) : Type 0 where
   pub bytes : List ℕ
   pub prefix : (file : List ℕ) → Holds old input file → bytes ≡ take (length bytes) (before ++ made file)
+  pub short : fault ≡ Write → (file : List ℕ) → Holds old input file → length bytes < length (before ++ made file)
   pub files : new ≡ appended old output bytes
 
-abbrev pub WritesPrefix : Pass → (List ℕ → List ℕ) → List ℕ → Files → Files → Type 0
-WritesPrefix pass made before old new = AppendsPart pass.input.now pass.output.now made before old new
+abbrev pub WritesPrefix : Pass → (List ℕ → List ℕ) → List ℕ → Files → Files → PassFault → Type 0
+WritesPrefix pass made before old new fault = AppendsPart pass.input.now pass.output.now made before old new fault
 
 -- The output has more bytes at its end: where the input is told, what is made of its bytes.
 pub record Appends (input output : List ℕ) (made : List ℕ → List ℕ) (old new : Files) : Type 0 where
@@ -57,14 +59,19 @@ pub record Appends (input output : List ℕ) (made : List ℕ → List ℕ) (old
   pub is : AreMade old input made bytes
   pub files : new ≡ appended old output bytes
 
--- only a prefix of them
-abbrev pub AppendsPrefix : List ℕ → List ℕ → (List ℕ → List ℕ) → Files → Files → Type 0
-AppendsPrefix input output made old new = AppendsPart input output made [] old new
+-- only a prefix of them, and after a failed write not all
+abbrev pub AppendsPrefix : List ℕ → List ℕ → (List ℕ → List ℕ) → Files → Files → PassFault → Type 0
+AppendsPrefix input output made old new fault = AppendsPart input output made [] old new fault
 
 -- the fault of a pass whose input isn't read
 abbrev pub of_read : ReadFault → PassFault
 of_read Failed = Read
 of_read (ShrunkRead first second) = Shrunk first second
+
+-- the fault is one of the input
+abbrev pub IsOfRead : PassFault → Type 0
+IsOfRead Write = ⊥
+IsOfRead _ = Unit {0}
 
 -- The cause of a fault: that of the read, or the count of failed writes rose, and no count of a read.
 abbrev pub HasPassCause : ℕ → Files → Counts → Counts → PassFault → Type 0

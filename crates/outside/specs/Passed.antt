@@ -1,5 +1,5 @@
 -- What a buffer before a file, or before a sink, passed on to it.
-use Rattle.std.specs.Prelude.{◌≡◌, ℕ, ◌≤◌, List, ◌++◌, length, take}
+use Rattle.std.specs.Prelude.{◌≡◌, ℕ, ◌<◌, ◌≤◌, List, ◌++◌, length, take}
 use Rattle.outside.specs.Files.{Files, Sent, appended, sent_more}
 
 -- `before` waited, and now its end `after` waits; what is before that end was appended
@@ -8,10 +8,10 @@ pub record PassedOn (name before after : List ℕ) (old new : Files) : Type 0 wh
   pub split : before ≡ passed ++ after
   pub files : new ≡ appended old name passed
 
--- a prefix was appended
+-- a prefix was appended, and not all of the bytes: a write is asked for only where there are any left
 pub record AppendedPrefix (name bytes : List ℕ) (old new : Files) : Type 0 where
   pub count : ℕ
-  pub within : count ≤ length bytes
+  pub short : count < length bytes
   pub files : new ≡ appended old name (take count bytes)
 
 -- ---- the same of a buffer before a sink

@@ -9,12 +9,12 @@ use crate::sink::Sink;
 /// Appends all the bytes to the file.
 ///
 /// # Errors
-/// Where a write failed. Then a prefix of the bytes, none to all of them, was appended.
+/// Where a write failed. Then a prefix of the bytes, and not all of them, was appended.
 pub fn write_all<D: Folder>(folder: &mut D, name: &str, bytes: &[u8]) -> Result<(), Failed>
     requires { IsThere (D.files folder.old) name.now }
     ensures written { OnOk result (D.files folder.new ≡ appended
         (D.files folder.old) name.now bytes.now) }
-    ensures front { OnErr result ((k : ℕ) × (k ≤ length bytes.now)
+    ensures front { OnErr result ((k : ℕ) × (k < length bytes.now)
         × (D.files folder.new ≡ appended (D.files folder.old) name.now (take k bytes.now))) }
     ensures failed { OnErr result (Rose (D.counts folder.old).write_faults
         (D.counts folder.new).write_faults) }

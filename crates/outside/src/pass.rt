@@ -2,7 +2,7 @@
 ghost use Rattle.std.specs.Prelude.{◌≡◌, ◌+◌, ◌≤◌, ◌++◌, [], length, IfErr, OnOk, OnErr};
 ghost use Rattle.outside.specs.Files.{appended, IsThere};
 ghost use Rattle.outside.specs.Passed.{PassedOn, AppendedPrefix};
-ghost use Rattle.outside.specs.Pass.{IsReady, AreMade, bytes_at, bytes_between, Writes, WritesPrefix, HasPassCause};
+ghost use Rattle.outside.specs.Pass.{IsReady, AreMade, bytes_at, bytes_between, Writes, WritesPrefix, IsOfRead, HasPassCause};
 
 use crate::exact::ReadFault;
 use crate::feed::Feed;
@@ -69,6 +69,7 @@ impl<'a> Pass<'a> {
         ensures done { OnOk result (D.counts folder.new ≡ D.counts folder.old) }
         ensures cause { IfErr result (HasPassCause self.now.length (D.files folder.old)
             (D.counts folder.old) (D.counts folder.new)) }
+        ensures read { IfErr result IsOfRead }
         ensures files { D.files folder.new ≡ D.files folder.old }
         ensures ready { IsReady self.now (D.files folder.new) feed.new }
     {
@@ -148,7 +149,7 @@ impl<'a> Pass<'a> {
         requires within { to ≤ self.now.length }
         ensures written { OnOk result (Writes self.now (λ file. bytes_between file from to)
             waiting.old waiting.new (D.files folder.old) (D.files folder.new)) }
-        ensures prefix { OnErr result (WritesPrefix self.now (λ file. bytes_between file from to)
+        ensures prefix { IfErr result (WritesPrefix self.now (λ file. bytes_between file from to)
             waiting.old (D.files folder.old) (D.files folder.new)) }
         ensures done { OnOk result (D.counts folder.new ≡ D.counts folder.old) }
         ensures cause { IfErr result (HasPassCause self.now.length (D.files folder.old)
@@ -179,7 +180,7 @@ impl<'a> Pass<'a> {
         requires within { at + n ≤ self.now.length }
         ensures written { OnOk result (Writes self.now (bytes_at at n)
             waiting.old waiting.new (D.files folder.old) (D.files folder.new)) }
-        ensures prefix { OnErr result (WritesPrefix self.now (bytes_at at n)
+        ensures prefix { IfErr result (WritesPrefix self.now (bytes_at at n)
             waiting.old (D.files folder.old) (D.files folder.new)) }
         ensures done { OnOk result (D.counts folder.new ≡ D.counts folder.old) }
         ensures cause { IfErr result (HasPassCause self.now.length (D.files folder.old)

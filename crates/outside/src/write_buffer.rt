@@ -47,7 +47,8 @@ impl WriteBuffer {
     /// them are appended to the file, in multiples of 65,536.
     ///
     /// # Errors
-    /// Where a write failed. Then a prefix of what waited and the piece was appended, and nothing waits.
+    /// Where a write failed. Then a prefix of what waited and the piece, and not all, was appended, and
+    /// nothing waits.
     #[inline]
     pub fn push<D: Folder>(
         &mut self,
@@ -77,7 +78,7 @@ impl WriteBuffer {
     /// Appends to the file what waits.
     ///
     /// # Errors
-    /// Where a write failed. Then a prefix of what waited was appended, and nothing waits.
+    /// Where a write failed. Then a prefix of what waited, and not all, was appended, and nothing waits.
     pub fn finish<D: Folder>(&mut self, folder: &mut D, name: &str) -> Result<(), Failed>
         requires { IsThere (D.files folder.old) name.now }
         ensures appended { OnOk result (D.files folder.new ≡ appended

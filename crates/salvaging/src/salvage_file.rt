@@ -40,8 +40,8 @@ fn clash(input: &str, output: &str) -> Option<u32>
 /// In this order: `EqualNames(0)` where the output has the input's name, byte for byte; `Input(0, ..)` with the
 /// fault of the reading; `Memory`. After these nothing was created and nothing sent. `Input(0, ..)` with `Read` or `Shrunk`,
 /// and `Write(0)`, where a call failed, or the input became shorter, while the output was written; then it is as it was or
-/// holds a prefix of its bytes, and nothing was sent. `Sent` where a write to `out` failed; then the output is whole, and
-/// `out` got a prefix of the text.
+/// holds a prefix of its bytes, with `Write(0)` not all of them, and nothing was sent. `Sent` where a write to `out` failed;
+/// then the output is whole, and `out` got a prefix of the text.
 pub fn salvage<D: Folder, T: Sink>(
     alloc: Global,
     folder: &mut D,

@@ -1,5 +1,5 @@
 -- What the command leaves, by its steps.
-use Rattle.std.proofs.Common.{◌≡◌, ℕ, ◌+◌, ◌<◌, ◌≤◌, ◌≢◌, List, [], ◌∷◌, length, map, take, Option, Some, None, Result, Ok, Err, refl, sym, ◌∙◌, ap, subst, inl, inr, is_some, Bool, true, false, cond, arith}
+use Rattle.std.proofs.Common.{◌≡◌, ℕ, ◌+◌, ◌<◌, ◌≤◌, ◌≢◌, List, [], ◌∷◌, length, map, take, drop, Option, Some, None, Result, Ok, Err, refl, sym, ◌∙◌, ap, subst, inl, inr, is_some, Bool, true, false, cond, arith}
 use Rattle.std.specs.Prelude.{◌⊎◌, IfSome, IfErr}
 use Rattle.bit_fields.specs.Bits.{AreBytes}
 use Rattle.outside.specs.Files.{Contents, Files, Holds, IsThere, Told, Untold, IfTold, OnlyTouches}
@@ -26,8 +26,8 @@ use Rattle.commands.proofs.InputLaws.{of_bytes_behind}
 use Rattle.commands.specs.Refusing.{then_made}
 use Rattle.commands.specs.Sheet.{sheet_in}
 use Rattle.frame_edits.specs.Chosen.{Chosen, cut_refuses, chosen_file, chosen_stream, stream_with, stream_chosen_by, cut_choice, laid_with}
-use Rattle.commands.specs.Command.{Output, Made, Command, clash_of, Gives, written, written_to, AreStreams, HoldsStreams}
-use Rattle.commands.specs.Left.{Why, Rejected, Missing, Unread, Shorter, Unwritten, NoMemory, why_of, Seen, IsNotBefore, IsLate, IsDone, IsWrittenTo, TakesMemory, LeavesBy, Leaves, IsRefusal}
+use Rattle.commands.specs.Command.{Output, Made, Command, clash_of, Gives, written, LacksBytes, written_to, AreStreams, HoldsStreams}
+use Rattle.commands.specs.Left.{Why, Rejected, Missing, Unread, Shorter, Unwritten, NoMemory, why_of, Seen, IsNotBefore, IsLate, IsDone, IsWrittenTo, IsUnfinished, TakesMemory, LeavesBy, Leaves, IsRefusal}
 use Rattle.commands.specs.One.{most_frames, IsFileFaultBy, IsFileFault}
 use Rattle.sync_survey.proofs.SurveyedFiles.{survey_of-sound}
 use Rattle.frame_edits.proofs.ChosenLaws.{cut_proper}
@@ -35,7 +35,7 @@ use Rattle.splitting.specs.Split.{piece_names, frames_between, with_first, chose
 use Rattle.splitting.specs.declared.piece.Piece.{Piece}
 use Rattle.splitting.specs.declared.split_file.Points.{Points}
 use Rattle.splitting.specs.declared.split_file.Points.TheVariants.{Places, Sheet as InSheet}
-use Rattle.splitting.specs.Steps.{Says, IsPlacesFaultBy, IsPlacesFault, ArePieces, chosen_of, outputs_of, names_of, with_outputs, with_part, IsWrittenPart, IsPiecesFaultBy, IsPiecesFault}
+use Rattle.splitting.specs.Steps.{Says, IsPlacesFaultBy, IsPlacesFault, ArePieces, chosen_of, outputs_of, names_of, with_outputs, with_part, IsWrittenPart, IsUnfinishedPart, IsPiecesFaultBy, IsPiecesFault}
 use Rattle.splitting.proofs.PiecesLaws.{outputs-are, names-first, names-all}
 
 -- ---- what holds of every refusal once the input was surveyed
@@ -292,9 +292,12 @@ module _ (points : Points) (input prefix : List ℕ) where
               at (Untold touched) told all = tt
               at (Told f) told all = let held = held-of f told in (made held.0, makes-pieces f held.0 told held.1, all held.0 held.1)
 
+          first-touched : (k : ℕ) (new : Files) → length pieces ≤ 99 → OnlyTouches (take (k + 1) (names_of pieces)) files new → OnlyTouches (take (k + 1) (piece_names prefix)) files new
+          first-touched k new few touches = touches_more (take (k + 1) (names_of pieces)) (take (k + 1) (piece_names prefix)) files new (λ other. names-first prefix s pieces (λ name. other ≢ name) k few named) touches
+
           part : (k : ℕ) (new : Files) → length pieces ≤ 99 → IsWrittenPart (outputs_of s pieces) (names_of pieces) input k files new → IsWrittenTo command k files new
           unfolding with_part
-          part k new few h = record { made = at files refl h.files; touches = touches_more (take (k + 1) (names_of pieces)) (take (k + 1) (piece_names prefix)) files new (λ other. names-first prefix s pieces (λ name. other ≢ name) k few named) h.touches }
+          part k new few h = record { made = at files refl h.files; touches = first-touched k new few h.touches }
             where
               at : (fs : Files) → files ≡ fs → ((bytes : List ℕ) → Holds fs input bytes → (k < length (outputs_of s pieces bytes)) × (count : Option ℕ) × (new ≡ with_part k count (outputs_of s pieces bytes) fs))
                   → IfTold fs (λ f. (made : Made) × (command.makes f ≡ Ok made) × (k < length made.outputs) × (count : Option ℕ) × (new ≡ Told (written_to k count made.outputs f)))
@@ -303,6 +306,19 @@ module _ (points : Points) (input prefix : List ℕ) where
                   let held = held-of f told in
                   let part = some held.0 held.1 in
                   (made held.0, makes-pieces f held.0 told held.1, part.0, part.1, part.2)
+
+          unfinished : (k : ℕ) (new : Files) → length pieces ≤ 99 → IsUnfinishedPart (outputs_of s pieces) (names_of pieces) input k files new → IsUnfinished command k files new
+          unfolding with_part
+          unfinished k new few h = record { made = at files refl h.files; touches = first-touched k new few h.touches }
+            where
+              at : (fs : Files) → files ≡ fs
+                  → ((bytes : List ℕ) → Holds fs input bytes → (k < length (outputs_of s pieces bytes)) × (count : Option ℕ) × LacksBytes count (drop k (outputs_of s pieces bytes)) × (new ≡ with_part k count (outputs_of s pieces bytes) fs))
+                  → IfTold fs (λ f. (made : Made) × (command.makes f ≡ Ok made) × (k < length made.outputs) × (count : Option ℕ) × LacksBytes count (drop k made.outputs) × (new ≡ Told (written_to k count made.outputs f)))
+              at (Untold touched) told some = tt
+              at (Told f) told some =
+                  let held = held-of f told in
+                  let part = some held.0 held.1 in
+                  (made held.0, makes-pieces f held.0 told held.1, part.0, part.1, part.2, part.3)
 
     -- ---- what is left of a surveyed input, by a step after those that left all as it was
 
@@ -346,7 +362,7 @@ module _ (points : Points) (input prefix : List ℕ) where
           split-left-by : (fault : EditFault) (why : Why) → length pieces ≤ 99 → OnlyTouches (names_of pieces) old.files new.files → IsPiecesFaultBy (outputs_of s pieces) (names_of pieces) input old new why → LeavesBy command old new fault why
           split-left-by fault Unread few only h = record { names = apart; before = none-before s old.files there surveyed places are pieces named chosen (IsNotBefore fault); rose = h.rose; files = inr (h.place, part-left h.place few h.files) }
           split-left-by fault Shorter few only h = record { rose = h.rose; counts = h.counts; untold = h.untold; touches = names-touched few old.files new.files only }
-          split-left-by fault (Unwritten k) few only h = record { rose = h.rose; files = part-left k few h.files }
+          split-left-by fault (Unwritten k) few only h = record { rose = h.rose; files = unfinished s old.files there surveyed places are pieces named chosen k new.files few h.files }
           split-left-by fault _ few only h = absurd h
 
           -- a fault of the second pass

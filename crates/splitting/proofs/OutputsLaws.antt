@@ -1,6 +1,6 @@
 -- Outputs that are written one after the other.
-use Rattle.std.proofs.Common.{◌≡◌, ◌≢◌, ℕ, ◌+◌, List, [], ◌∷◌, ◌++◌, length, take, Option, Some, None, Result, Ok, Err, refl, sym, ◌∙◌, ap, ap₂, subst, string_bytes, is_some, inl, inr, arith, append-nil, append_assoc, length-append}
-use Rattle.std.specs.Prelude.{IfErr, OnOk, OnErr}
+use Rattle.std.proofs.Common.{◌≡◌, ◌≢◌, ℕ, ◌+◌, ◌<◌, List, [], ◌∷◌, ◌++◌, length, take, drop, Option, Some, None, Result, Ok, Err, refl, sym, ◌∙◌, ap, ap₂, subst, string_bytes, is_some, inl, inr, arith, append-nil, append_assoc, length-append}
+use Rattle.std.specs.Prelude.{IfErr, OnOk}
 use Rattle.std.proofs.Math.Seq.{take-append_seam, drop-append_seam}
 use Rattle.std.proofs.lemmas.List.{map-append, length-map}
 use Rattle.std.proofs.lemmas.List.Elements.{All-take}
@@ -11,15 +11,15 @@ use Rattle.outside.proofs.FilesLaws.{there_holds, with_file_other, emptied_held_
 use Rattle.sync_survey.specs.Faults.{SurveyFields}
 use Rattle.outside.specs.declared.pass.PassFault.{PassFault}
 use Rattle.outside.specs.declared.pass.PassFault.TheVariants.{Read, Shrunk, Write}
-use Rattle.commands.specs.Command.{Output, begun, written}
+use Rattle.commands.specs.Command.{Output, begun, LacksBytes, written}
 use Rattle.frame_edits.specs.Chosen.{chosen_in, chosen_file}
-use Rattle.commands.specs.One.{holding, HoldsPrefix, IsPassFault}
+use Rattle.commands.specs.One.{holding, HoldsPrefix, HoldsLess, IsPassFault}
 use Rattle.commands.specs.Left.{seen}
 use Rattle.outside.specs.Pass.{Appends, AppendsPrefix, HasPassCause}
 use Rattle.commands.specs.PassFaults.{of_pass}
 use Rattle.commands.proofs.OutputLaws.{output_whole, touches_whole, touches_prefix, pass_fault}
 use Rattle.splitting.specs.declared.piece.Piece.{Piece}
-use Rattle.splitting.specs.Steps.{output_of, outputs_of, names_of, with_outputs, with_part, IsWrittenPart, IsPiecesFault, of_piece}
+use Rattle.splitting.specs.Steps.{output_of, outputs_of, names_of, with_outputs, with_part, IsWrittenPart, IsUnfinishedPart, IsPiecesFault, of_piece}
 
 -- ---- one output more
 
@@ -49,6 +49,15 @@ pub part-of : (xs ys : List Output) (o : Output) (old mid new : Files) (input fi
 part-of xs ys o old mid new input file holds is (inl stays) = (None, stays ∙ is ∙ ap (λ os. with_outputs os old) (sym (append-nil xs)) ∙ part-is xs ys o None old)
 part-of xs ys o old mid new input file holds is (inr part) =
     (Some part.0, part.1 ∙ ap (λ f. holding f o.name (take part.0 o.bytes)) is ∙ more-written xs o.name (take part.0 o.bytes) old input file holds ∙ part-is xs ys o (Some part.0) old)
+
+-- where it was created and a write failed, it lacks bytes
+pub less-of : (xs ys : List Output) (o : Output) (old mid new : Files) (input file : List ℕ) → Holds old input file → mid ≡ with_outputs xs old → HoldsLess o.name o.bytes mid new
+    → (count : Option ℕ) × LacksBytes count (drop (length xs) (xs ++ o ∷ ys)) × (new ≡ with_part (length xs) count (xs ++ o ∷ ys) old)
+unfolding part-of
+less-of xs ys o old mid new input file holds is (inl stays) = let part = part-of xs ys o old mid new input file holds is (inl stays) in (part.0, tt, part.1)
+less-of xs ys o old mid new input file holds is (inr part) =
+    let whole = part-of xs ys o old mid new input file holds is (inr (part.0, part.2)) in
+    (whole.0, subst (LacksBytes (Some part.0)) (sym (drop-append_seam xs (o ∷ ys))) part.1, whole.1)
 
 -- ---- the input, beside an output that was written
 
@@ -94,18 +103,18 @@ module _ {T : Type 0} (made : List ℕ → List ℕ) (size : ℕ) (input output 
       at (Ok x) h = λ file holds. output_whole made input output apart-from old mid new created h file holds ∙ ap (λ n. holding old n (made file)) is
       at (Err fault) h = tt
 
-  pub piece-touches : OnOk r (Appends input output made mid new) → OnErr r (AppendsPrefix input output made mid new) → OnlyTouches (name ∷ []) old new
+  pub piece-touches : OnOk r (Appends input output made mid new) → IfErr r (AppendsPrefix input output made mid new) → OnlyTouches (name ∷ []) old new
   piece-touches h k = subst (λ n. OnlyTouches (n ∷ []) old new) is (at r h k)
     where
-      at : (r : Result T PassFault) → OnOk r (Appends input output made mid new) → OnErr r (AppendsPrefix input output made mid new) → OnlyTouches (output ∷ []) old new
+      at : (r : Result T PassFault) → OnOk r (Appends input output made mid new) → IfErr r (AppendsPrefix input output made mid new) → OnlyTouches (output ∷ []) old new
       at (Ok x) h k = touches_whole made input output apart-from old mid new created h
       at (Err fault) h k = touches_prefix made input output apart-from old mid new created k
 
-  pub piece-left : (before between after : Counts) → between ≡ before → OnErr r (AppendsPrefix input output made mid new) → IfErr r (HasPassCause size mid between after)
+  pub piece-left : (before between after : Counts) → between ≡ before → IfErr r (AppendsPrefix input output made mid new) → IfErr r (HasPassCause size mid between after)
       → IfErr r (λ fault. IsPassFault made input name (seen old before) (seen new after) (of_pass fault))
   piece-left before between after same h k = at r h k
     where
-      at : (r : Result T PassFault) → OnErr r (AppendsPrefix input output made mid new) → IfErr r (HasPassCause size mid between after) → IfErr r (λ fault. IsPassFault made input name (seen old before) (seen new after) (of_pass fault))
+      at : (r : Result T PassFault) → IfErr r (AppendsPrefix input output made mid new) → IfErr r (HasPassCause size mid between after) → IfErr r (λ fault. IsPassFault made input name (seen old before) (seen new after) (of_pass fault))
       at (Ok x) h k = tt
       at (Err fault) h k =
           subst (λ n. IsPassFault made input n (seen old before) (seen new after) (of_pass fault)) is
@@ -164,16 +173,34 @@ module _ (s : SurveyFields) (input : List ℕ) (done : List Piece) (piece : Piec
       touches_more (take (length done + 1) (names_of all)) (names_of all) old new (λ other apart. All-take (λ name. other ≢ name) (length done + 1) (names_of all) apart)
       (touched-here (length done) refl)
 
+  abbrev all_outputs : List ℕ → List Output
+  all_outputs bytes = outputs_of s done bytes ++ output_of bytes s piece ∷ outputs_of s rest bytes
+
+  outputs-all : (bytes : List ℕ) → all_outputs bytes ≡ outputs_of s all bytes
+  outputs-all bytes = outputs-more s done piece rest bytes ∙ ap (λ ps. outputs_of s ps bytes) split
+
+  outputs-done : (place : ℕ) → place ≡ length done → (bytes : List ℕ) → length (outputs_of s done bytes) ≡ place
+  outputs-done place is bytes = length-map done (output_of bytes s) ∙ sym is
+
+  outputs-few : (place : ℕ) → place ≡ length done → (bytes : List ℕ) → place < length (outputs_of s all bytes)
+  outputs-few place is bytes = omega (arith, outputs-done place is bytes, ap length (outputs-all bytes), length-append (outputs_of s done bytes) (output_of bytes s piece ∷ outputs_of s rest bytes))
+
   part-written : ((bytes : List ℕ) → Holds now input bytes → HoldsPrefix (string_bytes piece.name) (piece_made s piece bytes) now new) → (place : ℕ) → place ≡ length done → IsWrittenPart (outputs_of s all) (names_of all) input place old new
   part-written begun place is = record {
     files = λ bytes holds.
-        let os = outputs_of s done bytes in
-        let all_is : os ++ output_of bytes s piece ∷ outputs_of s rest bytes ≡ outputs_of s all bytes = outputs-more s done piece rest bytes ∙ ap (λ ps. outputs_of s ps bytes) split in
-        let size : length os ≡ place = length-map done (output_of bytes s) ∙ sym is in
-        let part = part-of os (outputs_of s rest bytes) (output_of bytes s piece) old now new input bytes holds (wrote.files bytes holds) (begun bytes (wrote.stands.after bytes holds)) in (
-          omega (arith, size, ap length all_is, length-append os (output_of bytes s piece ∷ outputs_of s rest bytes)),
+        let part = part-of (outputs_of s done bytes) (outputs_of s rest bytes) (output_of bytes s piece) old now new input bytes holds (wrote.files bytes holds) (begun bytes (wrote.stands.after bytes holds)) in
+        (outputs-few place is bytes, part.0, part.1 ∙ ap₂ (λ n l. with_part n part.0 l old) (outputs-done place is bytes) (outputs-all bytes));
+    touches = touched-here place is;
+  }
+
+  part-unfinished : ((bytes : List ℕ) → Holds now input bytes → HoldsLess (string_bytes piece.name) (piece_made s piece bytes) now new) → (place : ℕ) → place ≡ length done → IsUnfinishedPart (outputs_of s all) (names_of all) input place old new
+  part-unfinished begun place is = record {
+    files = λ bytes holds.
+        let part = less-of (outputs_of s done bytes) (outputs_of s rest bytes) (output_of bytes s piece) old now new input bytes holds (wrote.files bytes holds) (begun bytes (wrote.stands.after bytes holds)) in (
+          outputs-few place is bytes,
           part.0,
-          part.1 ∙ ap₂ (λ n l. with_part n part.0 l old) size all_is,
+          subst (LacksBytes part.0) (ap₂ (λ n (l : List Output). drop n l) (outputs-done place is bytes) (outputs-all bytes)) part.1,
+          part.2 ∙ ap₂ (λ n l. with_part n part.0 l old) (outputs-done place is bytes) (outputs-all bytes),
         );
     touches = touched-here place is;
   }
@@ -188,4 +215,4 @@ module _ (s : SurveyFields) (input : List ℕ) (done : List Piece) (piece : Piec
     untold = sym (touches_told (names_of done) old now wrote.touches) ∙ h.untold;
   }
   pieces-fault Write place before between after is same h =
-      record { rose = subst (λ c. Rose c.write_faults after.write_faults) same h.1.rose; files = part-written h.1.files place is }
+      record { rose = subst (λ c. Rose c.write_faults after.write_faults) same h.1.rose; files = part-unfinished h.1.files place is }

@@ -1,5 +1,5 @@
 -- The steps of a command that cuts a file.
-use Rattle.std.specs.Prelude.{◌≡◌, ◌≢◌, ℕ, ◌+◌, ◌<◌, true, List, [], ◌∷◌, length, map, take, string_bytes, Option, Some, Result, Err}
+use Rattle.std.specs.Prelude.{◌≡◌, ◌≢◌, ℕ, ◌+◌, ◌<◌, true, List, [], ◌∷◌, length, map, take, drop, string_bytes, Option, Some, Result, Err}
 use Rattle.outside.specs.Files.{Files, Holds, IsThere, IfTold, Told, Untold, OnlyTouches}
 use Rattle.outside.specs.Counts.{Rose}
 use Rattle.sync_survey.specs.declared.survey_fault.SurveyFault.TheVariants.{Read, Shrunk, Memory as NoRoom}
@@ -10,7 +10,7 @@ use Rattle.cue_sheet.specs.declared.place.Place.{Place}
 use Rattle.outside.specs.declared.pass.PassFault.{PassFault}
 use Rattle.outside.specs.declared.pass.PassFault.TheVariants.{Read as CopyRead, Shrunk as CopyShrunk, Write as CopyWrite}
 use Rattle.commands.specs.Kinds.{HasRightNumbers}
-use Rattle.commands.specs.Command.{Output, written, written_to}
+use Rattle.commands.specs.Command.{Output, written, LacksBytes, written_to}
 use Rattle.commands.specs.Left.{Why, Rejected, Missing, Unread, Shorter, Unwritten, Unsent, NoMemory, why_of, Seen}
 use Rattle.commands.specs.One.{ReadsNothing, LosesInput, StopsShort}
 use Rattle.commands.specs.Sheet.{IsSheetFaultBy as IsUnreadBy, IsOfSheet as IsOfRead}
@@ -112,6 +112,11 @@ pub record IsWrittenPart (made : List ℕ → List Output) (names : List (List �
   pub files : (bytes : List ℕ) → Holds old input bytes → (k < length (made bytes)) × (count : Option ℕ) × (new ≡ with_part k count (made bytes) old)
   pub touches : OnlyTouches (take (k + 1) names) old new
 
+-- the same where a call failed that writes the next one: it holds a prefix that lacks bytes, or wasn't created
+pub record IsUnfinishedPart (made : List ℕ → List Output) (names : List (List ℕ)) (input : List ℕ) (k : ℕ) (old new : Files) : Type 0 where
+  pub files : (bytes : List ℕ) → Holds old input bytes → (k < length (made bytes)) × (count : Option ℕ) × LacksBytes count (drop k (made bytes)) × (new ≡ with_part k count (made bytes) old)
+  pub touches : OnlyTouches (take (k + 1) names) old new
+
 pub record StopsReading (made : List ℕ → List Output) (names : List (List ℕ)) (input : List ℕ) (old new : Seen) : Type 0 where
   pub rose : Rose old.counts.read_faults new.counts.read_faults
   pub place : ℕ
@@ -119,7 +124,7 @@ pub record StopsReading (made : List ℕ → List Output) (names : List (List �
 
 pub record StopsWriting (made : List ℕ → List Output) (names : List (List ℕ)) (input : List ℕ) (place : ℕ) (old new : Seen) : Type 0 where
   pub rose : Rose old.counts.write_faults new.counts.write_faults
-  pub files : IsWrittenPart made names input place old.files new.files
+  pub files : IsUnfinishedPart made names input place old.files new.files
 
 abbrev pub IsPiecesFaultBy : (List ℕ → List Output) → List (List ℕ) → List ℕ → Seen → Seen → Why → Type 0
 IsPiecesFaultBy made names input old new Unread = StopsReading made names input old new

@@ -92,8 +92,8 @@ fn places_of<D: Folder>(
 /// `Input` with `Read` and `Write` come only where a call of that kind failed, `Input` with `Absent` only where that input
 /// isn't there, and every other answer only where none failed. `Write` names the piece, counted from 0. After it, and after
 /// `Input(0, ..)` with `Read` or `Shrunk` where an output was created, the pieces before are whole, and this one is as it was
-/// or holds a prefix of its bytes. `Memory` may come once the input was found with a length that it may have, before the first
-/// output is created, and not from then on.
+/// or holds a prefix of its bytes, and after `Write` not all of them. `Memory` may come once the input was found with a length
+/// that it may have, before the first output is created, and not from then on.
 pub fn split<D: Folder>(
     alloc: Global,
     folder: &mut D,

@@ -80,7 +80,8 @@ fn write_piece<'a, D: Folder>(
 ///
 /// # Errors
 /// `Input(0, ..)` with `Read`, and with `Shrunk` only where the folder doesn't tell its files; `Write` with the number of the
-/// piece, counted from 0. Then the pieces before are whole, and this one holds a prefix of its bytes or wasn't created.
+/// piece, counted from 0. Then the pieces before are whole, and this one holds a prefix of its bytes, with `Write` not all of
+/// them, or wasn't created.
 pub(crate) fn write_pieces<D: Folder>(
     folder: &mut D,
     input: &str,

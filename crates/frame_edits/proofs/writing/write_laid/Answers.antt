@@ -1,7 +1,8 @@
 -- What the relay appends is the file of the frames in the slots of the plan.
 use Rattle.std.proofs.Common.{◌≡◌, ℕ, List, map, sym, subst, arith}
 use Rattle.std.specs.Prelude.{slice_range}
-use Rattle.std.proofs.lemmas.Result.{on_ok_weaker, on_err_weaker}
+use Rattle.std.proofs.lemmas.Result.{on_ok_weaker}
+use Rattle.outside.proofs.PassedLaws.{err_by}
 use Rattle.frame_header.specs.Tables.{window_of}
 use Rattle.slot_plan.specs.declared.needs.Placed.{Placed}
 use Rattle.part_needs.specs.Needs.{need_of}
@@ -43,4 +44,4 @@ returns-clause-written g c =
 
 pub returns-clause-prefix : goal.returns-clause-prefix
 returns-clause-prefix g c =
-    on_err_weaker c.write.result (appends-as_prefix _ (λ file. file_laid (laid_in c.args.selection.now) file (tells c.args.relay.now.survey.now)) (is g (goal.at.returns-clause-prefix g c).After-write)) c.write.ensures.prefix
+    err_by c.write.result (λ fault. appends-as_prefix _ (λ file. file_laid (laid_in c.args.selection.now) file (tells c.args.relay.now.survey.now)) (is g (goal.at.returns-clause-prefix g c).After-write)) c.write.ensures.prefix

@@ -1,5 +1,6 @@
 -- The plan is that of the chosen frames.
-use Rattle.std.proofs.lemmas.Result.{on_ok_weaker, on_err_weaker}
+use Rattle.std.proofs.lemmas.Result.{on_ok_weaker}
+use Rattle.outside.proofs.PassedLaws.{err_by}
 use Rattle.slot_plan.specs.Plans.{entries}
 use Rattle.sync_survey.specs.Faults.{tells}
 use Rattle.frame_edits.specs.Chosen.{chosen_in}
@@ -18,6 +19,6 @@ returns-clause-written g c =
 
 pub returns-clause-prefix : goal.returns-clause-prefix
 returns-clause-prefix g c =
-    on_err_weaker c.write_laid.result
-    (appends-as_prefix _ (selected_file (tells c.args.relay.now.survey.now) c.args.selection.now) (λ file holds. file-is (chosen_in c.args.selection.now.chosen) (entries c.args.selection.now.planned.plan) file (tells c.args.relay.now.survey.now) c.requires.selected.plan))
+    err_by c.write_laid.result
+    (λ fault. appends-as_prefix _ (selected_file (tells c.args.relay.now.survey.now) c.args.selection.now) (λ file holds. file-is (chosen_in c.args.selection.now.chosen) (entries c.args.selection.now.planned.plan) file (tells c.args.relay.now.survey.now) c.requires.selected.plan))
     c.write_laid.ensures.prefix

@@ -1,13 +1,14 @@
 -- One input after another.
 use Rattle.std.proofs.Common.{◌+◌, ◌-◌, length, map, take, drop, string_bytes, refl, sym, ◌∙◌, ap, arith}
 use Rattle.std.proofs.lemmas.List.{length-map, length-drop, take_rest, drop-drop, drop_all}
-use Rattle.outside.proofs.PassLaws.{cause_later}
+use Rattle.outside.proofs.PassLaws.{part_for, cause_later}
 use Rattle.sync_survey.specs.Faults.{tells}
 use Rattle.laying.specs.Passing.{Lays, writing_in}
 use Rattle.laying.proofs.EndLaws.{new-behind, lays-written, lays-prefix, part-prefix}
 use Rattle.joining.specs.Laying.{all_laid}
 use Rattle.joining.proofs.StreamLaws.{sources-length}
 use Rattle.joining.proofs.StepLaws.{source-ready, laid-none, laid-all, next-source, next-class, next-fits, next-laid, next-part}
+use Rattle.joining.proofs.OutLaws.{of_one-fault}
 use Rattle.joining.proofs.laid.lay_all.Given as given
 use Rattle.joining.proofs.laid.lay_all.Goals as goal
 use Rattle.joining.proofs.laid.lay_all.Goals.{After-finish}
@@ -48,7 +49,8 @@ returns-in-Err-clause-prefix g c =
     let b = c.args.buffers.now in
     let files = g.D.Folder.files in
     let part = next-part c.name_at.ensures c.known_at-survey.ensures (sym (take_rest c.args.placed.now c.loop-i.at)) c.loop-i.invariant.laid c.requires.apart (files c.lay_whole.new.folder) c.in-Err.ensures.part in
-    part-prefix first.pass (all_laid (files c.args.folder.now) (map string_bytes c.args.inputs.now) (map tells c.args.surveys.now) c.args.placed.now) b.waiting (writing_in b) (files c.args.folder.now) (new-behind b.writer b.waiting c.requires.new) part.0 _ part.1
+    part_for (of_one-fault c.loop-i.i c.in-Err.fault _ c.of_pass.ensures)
+    (part-prefix first.pass (all_laid (files c.args.folder.now) (map string_bytes c.args.inputs.now) (map tells c.args.surveys.now) c.args.placed.now) b.waiting (writing_in b) (files c.args.folder.now) (new-behind b.writer b.waiting c.requires.new) part.0 _ part.1)
 
 pub returns-in-Err-clause-cause : goal.returns-in-Err-clause-cause
 returns-in-Err-clause-cause g c =

@@ -5,8 +5,9 @@ use Rattle.std.proofs.lemmas.List.{length-map}
 use Rattle.std.proofs.lemmas.Result.{err_from_is_err_and}
 use Rattle.outside.specs.Files.{Files, Holds}
 use Rattle.outside.specs.Pass.{Appends, AppendsPrefix}
-use Rattle.outside.proofs.PassedLaws.{on_err, passed_there}
-use Rattle.outside.proofs.PassLaws.{still_there, prefix_as, writes_all, writes_end, writes_behind_none, part_behind_none, appends_then, appends_then_part, cause_later, cause_behind}
+use Rattle.outside.specs.declared.pass.PassFault.{PassFault}
+use Rattle.outside.proofs.PassedLaws.{err_at, passed_there}
+use Rattle.outside.proofs.PassLaws.{still_there, prefix_as, part_for, writes_all, writes_end, writes_behind_none, part_behind_none, appends_then, appends_then_part, cause_later, cause_behind}
 use Rattle.frame_writer.specs.Frames.{Held, frame_bytes}
 use Rattle.frame_writer.specs.Writing.{IsNew}
 use Rattle.slot_plan.specs.Plans.{entries}
@@ -19,7 +20,7 @@ use Rattle.joining.specs.Inputs.{told_parts}
 use Rattle.joining.proofs.LayLaws.{told_frames}
 use Rattle.joining.proofs.StepLaws.{source-ready}
 use Rattle.joining.proofs.StreamLaws.{first-source}
-use Rattle.joining.proofs.OutLaws.{sources-appended, join-cause_later, whole-is, whole-mid}
+use Rattle.joining.proofs.OutLaws.{sources-appended, of_one-fault, join-cause_later, whole-is, whole-mid}
 use Rattle.joining.proofs.written.append_joined.Given as given
 use Rattle.joining.proofs.written.append_joined.Goals as goal
 use Rattle.joining.proofs.written.append_joined.Goals.{After-lay_all}
@@ -31,9 +32,10 @@ pub returns-in-Err-clause-prefix : goal.returns-in-Err-clause-prefix
 returns-in-Err-clause-prefix g c =
     let first = c.args.first.now in
     let old = g.D.Folder.files c.args.folder.now in
-    prefix_as first.pass _ (λ _. frame_bytes (relaid (told_frames old (map string_bytes c.args.inputs.now) (map tells c.args.surveys.now)) (entries c.args.planned.now.plan)))
+    part_for (of_one-fault 0 c.in-Err.fault _ c.of_pass.ensures)
+    (prefix_as first.pass _ (λ _. frame_bytes (relaid (told_frames old (map string_bytes c.args.inputs.now) (map tells c.args.surveys.now)) (entries c.args.planned.now.plan)))
     (λ file holds. sym (whole-is first.pass.output.now old first.pass.input.now _ _ (tells first.survey.now) _ _ c.args.planned.now c.as_slice-info.result.now (entries c.args.planned.now.plan) c.requires.names c.requires.known c.requires.planned c.requires.sources c.as_slice-info.ensures.value refl file holds))
-    c.in-Err.ensures.prefix
+    c.in-Err.ensures.prefix)
 
 pub lay_all-requires-clause-apart : goal.lay_all-requires-clause-apart
 lay_all-requires-clause-apart g c = (first-source _ c.requires.names c.requires.known c.requires.sources).apart
@@ -86,14 +88,14 @@ module _ (g : given.Over) (c : After-lay_all g) where
       appends-as (λ file. front file ++ frames file) whole all
       (appends_then (first-source _ c.requires.names c.requires.known c.requires.sources).apart c.in_default.ensures.written (λ file. front file ++ frames file) (λ file. refl) second)
 
-  then-prefix : {new : Files} → AppendsPrefix name output frames mid new → AppendsPrefix name output whole old new
+  then-prefix : {new : Files} {fault : PassFault} → AppendsPrefix name output frames mid new fault → AppendsPrefix name output whole old new fault
   then-prefix second =
       appends-as_prefix (λ file. front file ++ frames file) whole all
       (appends_then_part (first-source _ c.requires.names c.requires.known c.requires.sources).apart c.in_default.ensures.written (λ file. front file ++ frames file) (λ file. refl) second)
 
 pub returns-in_err-lay_all-clause-prefix : goal.returns-in_err-lay_all-clause-prefix
 returns-in_err-lay_all-clause-prefix g c =
-    on_err c.from_residual.result (then-prefix g (goal.at.returns-in_err-lay_all-clause-prefix g c).After-lay_all (part_behind_none c.in_default.ensures.none c.in_err-lay_all.ensures.prefix))
+    err_at c.from_residual.result _ c.from_residual.ensures.1 (then-prefix g (goal.at.returns-in_err-lay_all-clause-prefix g c).After-lay_all (part_behind_none c.in_default.ensures.none c.in_err-lay_all.ensures.prefix))
 
 pub returns-in_err-lay_all-clause-cause : goal.returns-in_err-lay_all-clause-cause
 returns-in_err-lay_all-clause-cause g c =

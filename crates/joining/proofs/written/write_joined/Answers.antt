@@ -63,7 +63,7 @@ returns-clause-touches g c =
     let old = g.D.Folder.files c.args.folder.now in
     either c.append_joined.result c.append_joined.ensures.written c.append_joined.ensures.prefix
     (touches_whole _ c.name_at.result.now c.args.output.now source.apart old _ _ c.in-Ok.ensures.created)
-    (touches_prefix _ c.name_at.result.now c.args.output.now source.apart old _ _ c.in-Ok.ensures.created)
+    (λ fault. touches_prefix _ c.name_at.result.now c.args.output.now source.apart old _ _ c.in-Ok.ensures.created)
 
 pub returns-clause-left : goal.returns-clause-left
 returns-clause-left g c =

@@ -1,9 +1,9 @@
 -- The bytes up to the junk, then those from the first frame on, and what still waits.
 use Rattle.std.proofs.Common.{◌≡◌, ◌++◌, List, [], ℕ, Option, length, refl, sym, ◌∙◌, ap, ap₂, subst, arith, Ok, append-nil}
 use Rattle.std.specs.Prelude.{IfErr}
-use Rattle.std.proofs.lemmas.Result.{err_from_is_err_and, on_ok_weaker, on_err_weaker}
+use Rattle.std.proofs.lemmas.Result.{err_from_is_err_and, on_ok_weaker}
 use Rattle.outside.specs.Pass.{Writes, HasPassCause}
-use Rattle.outside.proofs.PassedLaws.{on_err}
+use Rattle.outside.proofs.PassedLaws.{err_at, err_by}
 use Rattle.outside.proofs.PassLaws.{writes_held, writes_there, writes_then, writes_as, writes_all, writes_end, writes_behind_none, part_behind_none, prefix_as, prefix_then, cause_behind, causes_behind}
 use Rattle.sync_survey.specs.declared.rows.Row.{Row}
 use Rattle.sync_survey.specs.Faults.{SurveyFields, tells}
@@ -54,7 +54,7 @@ pub returns-in_err-copy-clause-prefix : goal.returns-in_err-copy-clause-prefix
 returns-in_err-copy-clause-prefix g c =
     let s = tells c.args.survey.now in
     let change = change_in c.args.change.now s in
-    on_err c.from_residual.result
+    err_at c.from_residual.result _ c.from_residual.ensures.1
     (part_behind_none c.requires.fresh.none
     (prefix_as (record { input = c.args.input; output = c.args.output; length = c.length.result }) (λ file. changed change file s) (λ file. written_from change.steps c.new_tag.result file s.first s.frames)
     (λ file holds. sym (are_changed c.args.change.now c.new_tag.result file s c.junk-junk.result.0 s.first s.frames c.new_tag.ensures (ap (λ r. r.0) c.junk-junk.ensures) refl refl (c.requires.exact file holds)))
@@ -72,7 +72,7 @@ returns-in_err-move_frames-clause-prefix g c =
     let first = c.first.result in
     let rows = c.frames.result.now in
     let parts = both (steps_over c.args.change.now.course rows) c.new_tag.result c.junk-junk.result.0 first rows in
-    on_err c.from_residual-in_err-move_frames.result
+    err_at c.from_residual-in_err-move_frames.result _ c.from_residual-in_err-move_frames.ensures.1
     (part_behind_none c.requires.fresh.none
     (prefix_as (record { input = c.args.input; output = c.args.output; length = c.length.result }) (λ file. changed (change_in c.args.change.now s) file s) (λ file. [])
     (λ file holds. sym (append-nil (parts file) ∙ are_changed c.args.change.now _ file s _ first rows c.new_tag.ensures (ap (λ r. r.0) c.junk-junk.ensures) c.first.ensures c.frames.ensures (c.requires.exact file holds)))
@@ -104,7 +104,7 @@ pub returns-clause-written : goal.returns-clause-written
 returns-clause-written g c = on_ok_weaker c.finish.result (writes_all _ _ (moved g (goal.at.returns-clause-written g c).In_ok-move_frames)) c.finish.ensures.appended
 
 pub returns-clause-prefix : goal.returns-clause-prefix
-returns-clause-prefix g c = on_err_weaker c.finish.result (writes_end _ _ (moved g (goal.at.returns-clause-prefix g c).In_ok-move_frames)) c.finish.ensures.prefix
+returns-clause-prefix g c = err_by c.finish.result (λ fault. writes_end _ _ (moved g (goal.at.returns-clause-prefix g c).In_ok-move_frames)) c.finish.ensures.prefix
 
 pub returns-clause-cause : goal.returns-clause-cause
 returns-clause-cause g c =

@@ -3,7 +3,7 @@ use Rattle.std.proofs.Common.{◌≡◌, ℕ, ◌+◌, ◌≤◌, length, List, 
 use Rattle.std.proofs.lemmas.Result.{err_from_is_err_and}
 use Rattle.std.proofs.lemmas.List.{drop_all}
 use Rattle.std.specs.Prelude.{slice_index_or}
-use Rattle.outside.proofs.PassedLaws.{on_err}
+use Rattle.outside.proofs.PassedLaws.{err_at}
 use Rattle.tag_blocks.specs.declared.block.Kind.TheVariants.{Id3v2}
 use Rattle.sync_survey.specs.declared.places.Piece.{Piece}
 use Rattle.sync_survey.specs.Faults.{SurveyFields, tells}
@@ -59,7 +59,7 @@ module _ (g : given.Over) (c : After-copy_chosen g) where
 pub returns-in_err-copy_chosen-clause-prefix : goal.returns-in_err-copy_chosen-clause-prefix
 returns-in_err-copy_chosen-clause-prefix g c =
     let at = (goal.at.returns-in_err-copy_chosen-clause-prefix g c).After-copy_chosen in
-    on_err c.from_residual.result
+    err_at c.from_residual.result _ c.from_residual.ensures.1
     (up_to_prefix c.args.self.now.pass c.requires.ready.pass.apart c.loop-block.invariant.up_to _ (chosen g at (drop (c.loop-block.block-index + 1) (tells c.args.self.now.survey.now).blocks)) (λ file holds. next g at file) c.in_err-copy_chosen.ensures.prefix)
 
 pub returns-in_err-copy_chosen-clause-cause : goal.returns-in_err-copy_chosen-clause-cause

@@ -5,9 +5,9 @@ use Rattle.frame_header.specs.Tables.{class_of, area_of, window_of}
 use Rattle.side_info.specs.declared.side.Side.{Side}
 use Rattle.side_info.specs.Side.{SideFits}
 use Rattle.outside.specs.Files.{Holds}
-use Rattle.outside.proofs.PassedLaws.{on_err}
+use Rattle.outside.proofs.PassedLaws.{err_at, err_by}
 use Rattle.frame_writer.specs.Frames.{reach_of}
-use Rattle.frame_writer.proofs.WritingLaws.{ok-map, err-map}
+use Rattle.frame_writer.proofs.WritingLaws.{ok-map}
 use Rattle.sync_survey.specs.MainData.{side_of}
 use Rattle.sync_survey.specs.Faults.{tells}
 use Rattle.part_needs.specs.Needs.{need_of}
@@ -55,9 +55,9 @@ returns-in_err-read_area-clause-part g c =
     let made = moved_frame self c.args.i c.args.row.now c.args.place.now in
     let last = own_reach self c.args.row.now c.args.place.now in
     let near : c.args.place.now.begin ≤ c.args.buffers.now.writer.waiting.free = omega (arith, c.requires.begin) in
-    on_err c.from_residual.result
-    (subst (λ f. GivesPart self made last c.args.buffers.now old f) (sym c.read_area.ensures.files)
-    (part_none self.pass.input.now self.pass.output.now made last (writing_in c.args.buffers.now) old c.requires.ready.pass.target (λ file holds more begins. near)))
+    err_at c.from_residual.result _ c.from_residual.ensures.1
+    (subst (λ f. GivesPart self made last c.args.buffers.now old f c.in_err-read_area.field-0.0) (sym c.read_area.ensures.files)
+    (part_none self.pass.input.now self.pass.output.now made last (writing_in c.args.buffers.now) old c.in_err-read_area.ensures.read c.requires.ready.pass.target (λ file holds more begins. near)))
 
 pub write_frame-requires-clause-fits : goal.write_frame-requires-clause-fits
 write_frame-requires-clause-fits g c =
@@ -93,8 +93,8 @@ returns-clause-part g c =
     let begin : c.with_begin.result.main_data_begin ≡ c.args.place.now.begin = ap (λ (t : Side). t.main_data_begin) (side g at.After-with_begin) in
     let class = c.requires.class in
     let reach : reach_of c.write_frame.new.writer ≡ own_reach self c.args.row.now c.args.place.now = c.write_frame.ensures.reach ∙ (λ j. behind (class j) (header j) (begin j) (size j)) in
-    err-map c.write_frame.result
-    (λ part. subst (λ f. GivesPart self made last c.args.buffers.now f (files c.write_frame.new.folder)) c.read_area.ensures.files
+    err_by c.write_frame.result
+    (λ fault part. subst (λ f. GivesPart self made last c.args.buffers.now f (files c.write_frame.new.folder) fault) c.read_area.ensures.files
     (part_one self.pass.input.now self.pass.output.now made last _ (writing_in c.args.buffers.now) c.write_frame.new.writer (files c.read_area.new.folder) (files c.write_frame.new.folder) (told g at.After-cut_payload-payload (over g at.After-with_begin) (side g at.After-with_begin)) (omega (arith, reach)) part))
     c.write_frame.ensures.part
 

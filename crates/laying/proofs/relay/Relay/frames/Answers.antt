@@ -6,7 +6,7 @@ use Rattle.std.proofs.lemmas.Result.{err_from_is_err_and}
 use Rattle.frame_header.specs.Tables.{window_of}
 use Rattle.part_needs.specs.Needs.{need_of}
 use Rattle.outside.specs.Files.{Holds}
-use Rattle.outside.proofs.PassedLaws.{on_err}
+use Rattle.outside.proofs.PassedLaws.{err_at}
 use Rattle.frame_writer.specs.Laid.{BeginsWithin}
 use Rattle.frame_writer.specs.Frames.{Frame, reach_of, pieces}
 use Rattle.sync_survey.specs.declared.rows.Row.{Row}
@@ -125,7 +125,7 @@ returns-in_err-i-clause-part g c =
     let next = c.loop-place.i + cond p.lead_in 0 1 in
     let last = last_reach window (reach_of c.args.buffers.now.writer) (map need_of (slice_range s.frames c.args.from to)) placed in
     let one = λ (file : List ℕ). placed_as p (frame_of file s c.loop-place.i row) ∷ [] in
-    on_err c.from_residual.result
+    err_at c.from_residual.result _ c.from_residual.ensures.1
     (part_more self.pass.input.now self.pass.output.now (λ file. sofar.made file ++ one file) (rest g at next refl) (λ file. relaid (slice_range (all_frames file s) c.args.from to) placed) reach last (writing_in c.args.buffers.now) (files c.args.folder.now) (files c.place.new.folder)
     (λ file holds later begins.
     let has = c.requires.ready.exact file holds in

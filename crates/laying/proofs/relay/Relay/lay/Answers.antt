@@ -1,9 +1,9 @@
 -- What was handed on and what waits are the bytes of the frames.
 use Rattle.std.proofs.Common.{◌∙◌, ap, subst}
-use Rattle.std.proofs.lemmas.Result.{on_ok_weaker, on_err_weaker}
+use Rattle.std.proofs.lemmas.Result.{on_ok_weaker}
 use Rattle.outside.specs.Files.{appended}
 use Rattle.outside.specs.Pass.{Writes, WritesPrefix}
-use Rattle.outside.proofs.PassedLaws.{on_err}
+use Rattle.outside.proofs.PassedLaws.{err_at, err_by}
 use Rattle.outside.proofs.PassLaws.{causes_later, prefix_nothing}
 use Rattle.frame_writer.specs.Frames.{reach_of, frame_bytes}
 use Rattle.sync_survey.specs.Faults.{tells}
@@ -15,8 +15,8 @@ use Rattle.laying.proofs.relay.Relay.lay.Goals as goal
 pub returns-in_err-read_before-clause-prefix : goal.returns-in_err-read_before-clause-prefix
 returns-in_err-read_before-clause-prefix g c =
     let self = c.args.self.now in
-    on_err c.from_residual.result
-    (prefix_nothing self.pass (λ file. frame_bytes (section_frames (tells self.survey.now) c.args.section.now file)) c.args.buffers.now.waiting _ _ c.read_before.ensures.files c.requires.ready.pass.target)
+    err_at c.from_residual.result _ c.from_residual.ensures.1
+    (prefix_nothing self.pass (λ file. frame_bytes (section_frames (tells self.survey.now) c.args.section.now file)) c.args.buffers.now.waiting _ _ c.in_err-read_before.ensures.read c.read_before.ensures.files c.requires.ready.pass.target)
 
 pub returns-in_err-frames-clause-prefix : goal.returns-in_err-frames-clause-prefix
 returns-in_err-frames-clause-prefix g c =
@@ -25,8 +25,8 @@ returns-in_err-frames-clause-prefix g c =
     let made = section_frames (tells self.survey.now) section in
     let b = c.args.buffers.now in
     let files = g.D.Folder.files in
-    on_err c.from_residual-in_err-frames.result
-    (subst (λ f. WritesPrefix self.pass (λ file. frame_bytes (made file)) b.waiting f (files c.frames.new.folder)) c.read_before.ensures.files
+    err_at c.from_residual-in_err-frames.result _ c.from_residual-in_err-frames.ensures.1
+    (subst (λ f. WritesPrefix self.pass (λ file. frame_bytes (made file)) b.waiting f (files c.frames.new.folder) c.in_err-frames.field-0.0) c.read_before.ensures.files
     (part-prefix self.pass made b.waiting (writing_in b) (files c.read_before.new.folder) (new-behind b.writer b.waiting c.requires.new)
     (reach_behind_all (reach_of b.writer) self section.from section.to section.placed.now) (files c.frames.new.folder) c.in_err-frames.ensures.part))
 
@@ -43,8 +43,8 @@ pub returns-clause-prefix : goal.returns-clause-prefix
 returns-clause-prefix g c =
     let made = section_frames (tells c.args.self.now.survey.now) c.args.section.now in
     let b = c.args.buffers.now in
-    on_err_weaker c.finish.result
-    (λ part. subst (λ f. WritesPrefix c.args.self.now.pass (λ file. frame_bytes (made file)) b.waiting f (g.D.Folder.files c.finish.new.folder)) c.read_before.ensures.files
+    err_by c.finish.result
+    (λ fault part. subst (λ f. WritesPrefix c.args.self.now.pass (λ file. frame_bytes (made file)) b.waiting f (g.D.Folder.files c.finish.new.folder) fault) c.read_before.ensures.files
     (lays-prefix c.args.self.now.pass made b.waiting (writing_in b) _ (new-behind b.writer b.waiting c.requires.new) (writing_in c.frames.new.buffers) _ c.in_ok-frames.ensures.lays _ part))
     c.finish.ensures.prefix
 

@@ -1,7 +1,7 @@
 -- The frames from the first on, in as many places as they take.
 use Rattle.std.proofs.Common.{◌∙◌, ap, sym, subst, length, arith}
 use Rattle.frame_header.specs.Tables.{window_of}
-use Rattle.outside.proofs.PassedLaws.{on_err}
+use Rattle.outside.proofs.PassedLaws.{err_at}
 use Rattle.frame_writer.specs.Frames.{reach_of}
 use Rattle.sync_survey.specs.Faults.{tells}
 use Rattle.laying.specs.Passing.{GivesFrames, GivesPart, writing_in}
@@ -18,9 +18,9 @@ returns-in_err-read_before-clause-part g c =
     let placed = c.args.placed.now in
     let old = g.D.Folder.files c.args.folder.now in
     let reach = whole_reach (reach_of b.writer) s placed in
-    on_err c.from_residual.result
-    (subst (λ f. GivesPart self (whole_frames s placed) reach b old f) (sym c.read_before.ensures.files)
-    (part_none self.pass.input.now self.pass.output.now (whole_frames s placed) reach (writing_in b) old c.requires.ready.pass.target
+    err_at c.from_residual.result _ c.from_residual.ensures.1
+    (subst (λ f. GivesPart self (whole_frames s placed) reach b old f c.in_err-read_before.field-0.0) (sym c.read_before.ensures.files)
+    (part_none self.pass.input.now self.pass.output.now (whole_frames s placed) reach (writing_in b) old c.in_err-read_before.ensures.read c.requires.ready.pass.target
     (λ file holds more. whole-begins file s placed (reach_of b.writer) b.writer.waiting.free more (c.requires.ready.exact file holds) (omega arith) c.requires.fits)))
 
 pub frames-requires-clause-fits : goal.frames-requires-clause-fits
@@ -33,8 +33,8 @@ returns-in_err-frames-clause-part g c =
     let self = c.args.self.now in
     let made = whole_frames (tells self.survey.now) c.args.placed.now in
     let reach = reach_of c.args.buffers.now.writer in
-    on_err c.from_residual-in_err-frames.result
-    (subst (λ f. GivesPart self made (whole_reach reach (tells self.survey.now) c.args.placed.now) c.args.buffers.now f (g.D.Folder.files c.frames.new.folder)) c.read_before.ensures.files
+    err_at c.from_residual-in_err-frames.result _ c.from_residual-in_err-frames.ensures.1
+    (subst (λ f. GivesPart self made (whole_reach reach (tells self.survey.now) c.args.placed.now) c.args.buffers.now f (g.D.Folder.files c.frames.new.folder) c.in_err-frames.field-0.0) c.read_before.ensures.files
     (part-whole (tells self.survey.now) c.args.placed.now _ _ (ap length c.frames-rows.ensures) c.places_for-count.ensures.places self.pass.input.now self.pass.output.now (writing_in c.args.buffers.now)
     (g.D.Folder.files c.read_before.new.folder) (g.D.Folder.files c.frames.new.folder) reach c.in_err-frames.ensures.part))
 

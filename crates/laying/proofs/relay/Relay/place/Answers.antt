@@ -1,7 +1,7 @@
 -- A lead-in, or the frame.
 use Rattle.std.proofs.Common.{◌≡◌, ℕ, ◌+◌, ◌-◌, ◌≤◌, min, Bool, cond, true, false, List, [], ◌∷◌, sym, ◌∙◌, ap, subst, arith}
 use Rattle.frame_header.specs.Tables.{class_of, area_of, window_of}
-use Rattle.outside.proofs.PassedLaws.{on_err}
+use Rattle.outside.proofs.PassedLaws.{err_at}
 use Rattle.sync_survey.specs.Faults.{tells}
 use Rattle.part_needs.specs.Needs.{need_of}
 use Rattle.laying.specs.Relaid.{frame_of, moved_to, lead_in_before}
@@ -33,16 +33,16 @@ returns-in_err-lead_in-clause-part g c =
     let window = window_in (tells self.survey.now) in
     let reach : reach_at self row p ≤ c.lead_in.new.writer.waiting.free =
     omega (arith, reach-lead window p (need_of row) c.if-place.true, c.lead_in.ensures.reach, ap (λ class. window_of class.version) c.requires.class) in
-    on_err c.from_residual.result
+    err_at c.from_residual.result _ c.from_residual.ensures.1
     (part_one self.pass.input.now self.pass.output.now (placed_frame self c.args.i row p) (reach_at self row p) (lead_in_before p row.header) (writing_in c.args.buffers.now) c.lead_in.new.writer (g.D.Folder.files c.args.folder.now) (g.D.Folder.files c.lead_in.new.folder)
     (λ file holds. ap (λ lead. frame_by self c.args.i row p lead file) (sym c.if-place.true)) reach c.in_err-lead_in.ensures.part)
 
 pub returns-in_err-frame-clause-part : goal.returns-in_err-frame-clause-part
 returns-in_err-frame-clause-part g c =
-    on_err c.from_residual-in_err-frame.result
+    err_at c.from_residual-in_err-frame.result _ c.from_residual-in_err-frame.ensures.1
     (subst
     (λ lead. GivesPart c.args.self.now (frame_by c.args.self.now c.args.i c.args.row.now c.args.place.now lead) (reach_by c.args.self.now c.args.row.now c.args.place.now lead) c.args.buffers.now
-    (g.D.Folder.files c.args.folder.now) (g.D.Folder.files c.frame.new.folder))
+    (g.D.Folder.files c.args.folder.now) (g.D.Folder.files c.frame.new.folder) c.in_err-frame.field-0.0)
     (sym c.if-place.false) c.in_err-frame.ensures.part)
 
 pub returns-in_ok-lead_in-clause-lays : goal.returns-in_ok-lead_in-clause-lays

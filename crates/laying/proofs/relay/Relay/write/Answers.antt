@@ -1,10 +1,10 @@
 -- What is before the frames and the frames, then what is after them, and then what of these still waits.
 use Rattle.std.proofs.Common.{◌≡◌, ◌++◌, List, ℕ, [], sym, ◌∙◌, append_assoc, append-nil}
 use Rattle.std.specs.List.{concat}
-use Rattle.std.proofs.lemmas.Result.{on_ok_weaker, on_err_weaker, err_from_is_err_and}
+use Rattle.std.proofs.lemmas.Result.{on_ok_weaker, err_from_is_err_and}
 use Rattle.outside.specs.Files.{Files}
 use Rattle.outside.specs.Pass.{Writes}
-use Rattle.outside.proofs.PassedLaws.{on_err}
+use Rattle.outside.proofs.PassedLaws.{err_at, err_by}
 use Rattle.outside.proofs.PassLaws.{prefix_as, writes_as, writes_then, prefix_then, writes_all, writes_end, writes_behind_none, part_behind_none, cause_behind, causes_behind}
 use Rattle.frame_writer.specs.Frames.{frame_bytes}
 use Rattle.sync_survey.specs.Faults.{SurveyFields, tells}
@@ -29,7 +29,7 @@ pub returns-in_err-write_frames-clause-prefix : goal.returns-in_err-write_frames
 returns-in_err-write_frames-clause-prefix g c =
     let s = tells c.args.self.now.survey.now in
     let section = c.args.section.now in
-    on_err c.from_residual.result
+    err_at c.from_residual.result _ c.from_residual.ensures.1
     (part_behind_none c.requires.none
     (prefix_as c.args.self.now.pass (section_file s section) (back s) (λ file holds. sym (whole s section file)) c.in_err-write_frames.ensures.prefix))
 
@@ -38,7 +38,7 @@ returns-in_err-copy_blocks-clause-prefix g c =
     let s = tells c.args.self.now.survey.now in
     let section = c.args.section.now in
     let pass = c.args.self.now.pass in
-    on_err c.from_residual-in_err-copy_blocks.result
+    err_at c.from_residual-in_err-copy_blocks.result _ c.from_residual-in_err-copy_blocks.ensures.1
     (part_behind_none c.requires.none
     (prefix_as pass (section_file s section) (λ file. []) (λ file holds. sym (append-nil (section_front s section file ++ back s file) ∙ whole s section file))
     (prefix_then pass c.requires.ready.pass.apart c.in_ok-write_frames.ensures.written c.in_err-copy_blocks.ensures.prefix)))
@@ -71,7 +71,7 @@ returns-clause-written g c =
 
 pub returns-clause-prefix : goal.returns-clause-prefix
 returns-clause-prefix g c =
-    on_err_weaker c.finish.result (λ part. writes_end c.args.self.now.pass _ (all g (goal.at.returns-clause-prefix g c).In_ok-copy_blocks) part) c.finish.ensures.prefix
+    err_by c.finish.result (λ fault part. writes_end c.args.self.now.pass _ (all g (goal.at.returns-clause-prefix g c).In_ok-copy_blocks) part) c.finish.ensures.prefix
 
 pub returns-clause-cause : goal.returns-clause-cause
 returns-clause-cause g c =

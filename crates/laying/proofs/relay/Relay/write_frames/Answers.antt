@@ -1,7 +1,7 @@
 -- What is before the frames, and the frames after it.
 use Rattle.std.proofs.Common.{refl}
-use Rattle.std.proofs.lemmas.Result.{on_ok_weaker, on_err_weaker}
-use Rattle.outside.proofs.PassedLaws.{on_err}
+use Rattle.std.proofs.lemmas.Result.{on_ok_weaker}
+use Rattle.outside.proofs.PassedLaws.{err_at, err_by}
 use Rattle.outside.proofs.PassLaws.{prefix_as, writes_then, prefix_then, causes_behind}
 use Rattle.frame_writer.specs.Frames.{frame_bytes}
 use Rattle.sync_survey.specs.Faults.{tells}
@@ -12,7 +12,7 @@ pub returns-in_err-write_front-clause-prefix : goal.returns-in_err-write_front-c
 returns-in_err-write_front-clause-prefix g c =
     let s = tells c.args.self.now.survey.now in
     let section = c.args.section.now in
-    on_err c.from_residual.result
+    err_at c.from_residual.result _ c.from_residual.ensures.1
     (prefix_as c.args.self.now.pass (section_front s section) (λ file. frame_bytes (section_frames s section file)) (λ file holds. refl) c.in_err-write_front.ensures.prefix)
 
 pub returns-clause-written : goal.returns-clause-written
@@ -23,8 +23,8 @@ returns-clause-written g c =
 
 pub returns-clause-prefix : goal.returns-clause-prefix
 returns-clause-prefix g c =
-    on_err_weaker c.lay.result
-    (λ part. prefix_then c.args.self.now.pass c.requires.ready.pass.apart c.in_ok-write_front.ensures.written part)
+    err_by c.lay.result
+    (λ fault part. prefix_then c.args.self.now.pass c.requires.ready.pass.apart c.in_ok-write_front.ensures.written part)
     c.lay.ensures.prefix
 
 pub returns-clause-cause : goal.returns-clause-cause

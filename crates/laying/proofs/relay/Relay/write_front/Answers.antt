@@ -1,7 +1,7 @@
 -- The blocks before the frames, and the bytes of the Info frame.
 use Rattle.std.proofs.Common.{◌++◌, true, refl}
-use Rattle.std.proofs.lemmas.Result.{on_ok_weaker, on_err_weaker}
-use Rattle.outside.proofs.PassedLaws.{on_err}
+use Rattle.std.proofs.lemmas.Result.{on_ok_weaker}
+use Rattle.outside.proofs.PassedLaws.{err_at, err_by}
 use Rattle.outside.proofs.PassLaws.{prefix_as, writes_then, prefix_then, writes_piece, prefix_piece, causes_behind}
 use Rattle.sync_survey.specs.Faults.{tells}
 use Rattle.laying.specs.Copying.{chosen_bytes}
@@ -12,7 +12,7 @@ pub returns-in_err-copy_blocks-clause-prefix : goal.returns-in_err-copy_blocks-c
 returns-in_err-copy_blocks-clause-prefix g c =
     let s = tells c.args.self.now.survey.now in
     let front = chosen_bytes true s s.blocks in
-    on_err c.from_residual.result
+    err_at c.from_residual.result _ c.from_residual.ensures.1
     (prefix_as c.args.self.now.pass (λ file. front file ++ c.args.info.now) (λ file. c.args.info.now) (λ file holds. refl) c.in_err-copy_blocks.ensures.prefix)
 
 pub returns-clause-written : goal.returns-clause-written
@@ -22,8 +22,8 @@ returns-clause-written g c =
 
 pub returns-clause-prefix : goal.returns-clause-prefix
 returns-clause-prefix g c =
-    on_err_weaker c.push.result
-    (λ part. prefix_then c.args.self.now.pass c.requires.ready.pass.apart c.in_ok-copy_blocks.ensures.written (prefix_piece c.args.self.now.pass (λ file. c.args.info.now) (λ file holds. refl) part)) c.push.ensures.prefix
+    err_by c.push.result
+    (λ fault part. prefix_then c.args.self.now.pass c.requires.ready.pass.apart c.in_ok-copy_blocks.ensures.written (prefix_piece c.args.self.now.pass (λ file. c.args.info.now) (λ file holds. refl) part)) c.push.ensures.prefix
 
 pub returns-clause-cause : goal.returns-clause-cause
 returns-clause-cause g c =

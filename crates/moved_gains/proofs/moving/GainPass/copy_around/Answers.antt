@@ -1,8 +1,8 @@
 -- The bytes before the tag, the new tag, and the bytes after it.
 use Rattle.std.proofs.Common.{◌++◌, List, ℕ, refl}
-use Rattle.std.proofs.lemmas.Result.{err_from_is_err_and, on_ok_weaker, on_err_weaker}
+use Rattle.std.proofs.lemmas.Result.{err_from_is_err_and, on_ok_weaker}
 use Rattle.outside.specs.Pass.{bytes_between}
-use Rattle.outside.proofs.PassedLaws.{on_err}
+use Rattle.outside.proofs.PassedLaws.{err_at, err_by}
 use Rattle.outside.proofs.PassLaws.{passed_ready, writes_piece, prefix_piece, prefix_as, writes_then, prefix_then, cause_behind, causes_behind}
 use Rattle.moved_gains.specs.declared.moving.NewTag.{NewTag}
 use Rattle.moved_gains.specs.Moving.{bytes_around}
@@ -15,14 +15,14 @@ rest tag to file = tag.bytes.now ++ bytes_between file tag.end to
 pub returns-in_err-copy-clause-prefix : goal.returns-in_err-copy-clause-prefix
 returns-in_err-copy-clause-prefix g c =
     let tag = c.args.tag.now in
-    on_err c.from_residual.result
+    err_at c.from_residual.result _ c.from_residual.ensures.1
     (prefix_as c.args.self.now.pass (bytes_around tag c.args.from c.args.to) (rest tag c.args.to) (λ file holds. refl) c.in_err-copy.ensures.prefix)
 
 pub returns-in_err-push-clause-prefix : goal.returns-in_err-push-clause-prefix
 returns-in_err-push-clause-prefix g c =
     let pass = c.args.self.now.pass in
     let tag = c.args.tag.now in
-    on_err c.from_residual-in_err-push.result
+    err_at c.from_residual-in_err-push.result _ c.from_residual-in_err-push.ensures.1
     (prefix_then pass c.requires.ready.apart c.in_ok-copy.ensures.written
     (prefix_as pass (rest tag c.args.to) (λ file. bytes_between file tag.end c.args.to) (λ file holds. refl)
     (prefix_piece pass (λ file. tag.bytes.now) (λ file holds. refl) c.in_err-push.ensures.prefix)))
@@ -45,8 +45,8 @@ returns-clause-written g c =
 
 pub returns-clause-prefix : goal.returns-clause-prefix
 returns-clause-prefix g c =
-    on_err_weaker c.copy-2.result
-    (λ third. prefix_then c.args.self.now.pass c.requires.ready.apart c.in_ok-copy.ensures.written
+    err_by c.copy-2.result
+    (λ fault third. prefix_then c.args.self.now.pass c.requires.ready.apart c.in_ok-copy.ensures.written
     (prefix_then c.args.self.now.pass c.requires.ready.apart (writes_piece c.args.self.now.pass (λ file. c.args.tag.now.bytes.now) (λ file holds. refl) c.in_ok-push.ensures.passed) third))
     c.copy-2.ensures.prefix
 

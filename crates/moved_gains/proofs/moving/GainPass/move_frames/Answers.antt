@@ -1,9 +1,9 @@
 -- One frame more, and what is before it, goes on.
 use Rattle.std.proofs.Common.{◌≡◌, ◌+◌, ◌<◌, ◌≤◌, ◌++◌, ◌∷◌, List, ℕ, Option, length, get_or, drop, refl, sym, ◌∙◌, ap, ap₂, subst, arith}
 use Rattle.std.proofs.lemmas.List.{drop_all}
-use Rattle.std.proofs.lemmas.Result.{err_from_is_err_and, on_ok_weaker, on_err_weaker}
+use Rattle.std.proofs.lemmas.Result.{err_from_is_err_and, on_ok_weaker}
 use Rattle.outside.specs.Files.{Holds}
-use Rattle.outside.proofs.PassedLaws.{on_err}
+use Rattle.outside.proofs.PassedLaws.{err_at, err_by}
 use Rattle.outside.proofs.PassLaws.{up_to_begun, up_to_held, up_to_more, up_to_prefix, up_to_last, up_to_last_prefix, cause_behind, causes_behind}
 use Rattle.sync_survey.specs.declared.rows.Row.{Row}
 use Rattle.sync_survey.specs.Survey.{AreLaid}
@@ -90,7 +90,7 @@ copy-requires-clause-within g c = omega (arith, within g (goal.at.copy-requires-
 pub returns-in_err-copy-clause-prefix : goal.returns-in_err-copy-clause-prefix
 returns-in_err-copy-clause-prefix g c =
     let at = (goal.at.returns-in_err-copy-clause-prefix g c).After-from in
-    on_err c.from_residual.result (up_to_prefix c.args.self.now.pass c.requires.ready.apart c.loop-frame.invariant.up_to (up_to_row g at) (later g at) (next g at) c.in_err-copy.ensures.prefix)
+    err_at c.from_residual.result _ c.from_residual.ensures.1 (up_to_prefix c.args.self.now.pass c.requires.ready.apart c.loop-frame.invariant.up_to (up_to_row g at) (later g at) (next g at) c.in_err-copy.ensures.prefix)
 
 pub returns-in_err-copy-clause-cause : goal.returns-in_err-copy-clause-cause
 returns-in_err-copy-clause-cause g c =
@@ -112,7 +112,7 @@ returns-in_err-at-clause-prefix g c =
     let self = c.args.self.now in
     let row = c.index-rows-frame.result in
     let before = up_to_more self.pass c.requires.ready.apart c.loop-frame.invariant.up_to (up_to_row g at) (later g at) (next g at) c.in_ok-copy.ensures.written in
-    on_err c.from_residual-in_err-at.result
+    err_at c.from_residual-in_err-at.result _ c.from_residual-in_err-at.ensures.1
     (up_to_prefix self.pass c.requires.ready.apart before
     (λ file. moved_row_bytes c.steps-steps.result file row) (λ file. written_from (steps g at) self.tag file (row_end row) (drop (c.loop-frame.frame + 1) c.args.rows.now))
     (λ file holds. ap (λ s. moved_row_bytes s file row ++ written_from (steps g at) self.tag file (row_end row) (drop (c.loop-frame.frame + 1) c.args.rows.now)) (own g at ∙ sym c.steps-steps.ensures)) c.in_err-at.ensures.prefix)
@@ -160,7 +160,7 @@ returns-clause-written g c =
 
 pub returns-clause-prefix : goal.returns-clause-prefix
 returns-clause-prefix g c =
-    on_err_weaker c.copy-2.result (up_to_last_prefix c.args.self.now.pass c.requires.ready.apart c.loop-frame.invariant.up_to _ (last g (goal.at.returns-clause-prefix g c).After-copy-2)) c.copy-2.ensures.prefix
+    err_by c.copy-2.result (λ fault. up_to_last_prefix c.args.self.now.pass c.requires.ready.apart c.loop-frame.invariant.up_to _ (last g (goal.at.returns-clause-prefix g c).After-copy-2)) c.copy-2.ensures.prefix
 
 pub returns-clause-cause : goal.returns-clause-cause
 returns-clause-cause g c =

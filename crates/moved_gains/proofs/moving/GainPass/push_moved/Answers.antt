@@ -1,7 +1,7 @@
 -- The first of the bytes with moved gains, and then the rest of the frame.
 use Rattle.std.proofs.Common.{◌≡◌, ◌≤◌, ◌++◌, ◌-◌, Bool, true, false, cond, List, ℕ, take, drop, take-append-drop, arith, ap, ap₂, ◌∙◌, length, length-drop}
 use Rattle.std.proofs.lemmas.List.{take_all, length-take}
-use Rattle.std.proofs.lemmas.Result.{on_ok_weaker, on_err_weaker}
+use Rattle.std.proofs.lemmas.Result.{on_ok_weaker}
 use Rattle.frame_header.specs.Fields.{HeaderFields}
 use Rattle.frame_header.specs.Tables.{class_of, overhead_of}
 use Rattle.side_info.specs.declared.side.Side.{Side}
@@ -12,6 +12,7 @@ use Rattle.moved_gains.specs.declared.shift.Steps.{Steps}
 use Rattle.moved_gains.specs.Gains.{moved_side}
 use Rattle.moved_gains.specs.Moving.{row_length, IsRowOf, row_bytes, moved_bytes, moved_row_bytes}
 use Rattle.outside.specs.Files.{Holds}
+use Rattle.outside.proofs.PassedLaws.{err_by}
 use Rattle.outside.proofs.PassLaws.{writes_piece, prefix_piece}
 use Rattle.moved_gains.proofs.moving.GainPass.push_moved.Given as given
 use Rattle.moved_gains.proofs.moving.GainPass.push_moved.Goals as goal
@@ -58,6 +59,6 @@ returns-clause-written g c =
 
 pub returns-clause-prefix : goal.returns-clause-prefix
 returns-clause-prefix g c =
-    on_err_weaker c.push_both.result
-    (prefix_piece c.args.self.now.pass (λ file. moved_row_bytes c.args.moved.now.steps file c.args.moved.now.row.now) (made g (goal.at.returns-clause-prefix g c).After-push_both))
+    err_by c.push_both.result
+    (λ fault. prefix_piece c.args.self.now.pass (λ file. moved_row_bytes c.args.moved.now.steps file c.args.moved.now.row.now) (made g (goal.at.returns-clause-prefix g c).After-push_both))
     c.push_both.ensures.prefix

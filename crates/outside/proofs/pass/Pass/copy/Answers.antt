@@ -2,7 +2,7 @@
 use Rattle.std.proofs.Common.{◌+◌, ◌≤◌, refl, ◌∙◌, arith}
 use Rattle.std.proofs.lemmas.Result.{err_from_is_err_and}
 use Rattle.outside.specs.Pass.{bytes_at, bytes_between}
-use Rattle.outside.proofs.PassedLaws.{on_err}
+use Rattle.outside.proofs.PassedLaws.{err_at}
 use Rattle.outside.proofs.PassLaws.{up_to_begun, up_to_more, up_to_prefix, between_split, cause_behind}
 use Rattle.outside.proofs.pass.Pass.copy.Goals as goal
 
@@ -19,7 +19,7 @@ returns-in_err-copy_piece-clause-prefix g c =
     let at = c.loop-at.at in
     let n = c.min-n.result in
     let within : at + n ≤ c.args.to = omega (arith, c.min-n.ensures, c.loop-at.invariant.in_range) in
-    on_err c.from_residual.result
+    err_at c.from_residual.result _ c.from_residual.ensures.1
     (up_to_prefix c.args.self.now c.requires.ready.apart c.loop-at.invariant.up_to (bytes_at at n) (λ file. bytes_between file (at + n) c.args.to)
     (λ file holds. between_split file at n c.args.to within) c.in_err-copy_piece.ensures.prefix)
 

@@ -1,14 +1,14 @@
 -- A piece that was read goes on, and all is ready for the next.
 use Rattle.std.proofs.lemmas.Result.{on_ok_weaker}
 use Rattle.outside.specs.Pass.{bytes_at}
-use Rattle.outside.proofs.PassedLaws.{on_err}
+use Rattle.outside.proofs.PassedLaws.{err_at}
 use Rattle.outside.proofs.PassLaws.{prefix_nothing, passed_ready}
 use Rattle.outside.proofs.pass.Pass.copy_piece.Goals as goal
 
 pub returns-in_err-fill-clause-prefix : goal.returns-in_err-fill-clause-prefix
 returns-in_err-fill-clause-prefix g c =
-    on_err c.from_residual.result
-    (prefix_nothing c.args.self.now (bytes_at c.args.at c.args.n) c.args.waiting.now (g.D.Folder.files c.args.folder.now) _ c.in_err-fill.ensures.files c.requires.ready.target)
+    err_at c.from_residual.result _ c.from_residual.ensures.1
+    (prefix_nothing c.args.self.now (bytes_at c.args.at c.args.n) c.args.waiting.now (g.D.Folder.files c.args.folder.now) _ c.in_err-fill.ensures.read c.in_err-fill.ensures.files c.requires.ready.target)
 
 pub returns-clause-ready : goal.returns-clause-ready
 returns-clause-ready g c =
