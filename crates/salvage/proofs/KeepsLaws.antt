@@ -1,6 +1,5 @@
 -- Of a file without fault all is read that its survey tells.
 use Rattle.std.proofs.Common.{◌≡◌, ℕ, zero, suc, ◌+◌, ◌<◌, ◌≤◌, ◌==◌, ◌&&◌, ◌||◌, Bool, true, false, cond, not, List, [], ◌∷◌, ◌++◌, length, drop, map, Option, Some, None, Ok, Err, refl, sym, ◌∙◌, ap, ap₂, subst, arith, append-nil, length-drop}
-use Rattle.std.specs.Option.{option_or}
 use Rattle.std.specs.Prelude.{slice_get, is_some, option_and_then, option_to_list}
 use Rattle.std.specs.List.{enumerate_from, cons_option}
 use Rattle.frame_header.specs.Fields.{HeaderFields, ClassFields, same_class}
@@ -17,7 +16,7 @@ use Rattle.sync_survey.specs.declared.survey_fault.SurveyFault.{SurveyFault}
 use Rattle.sync_survey.specs.Items.{item_at, size_of, fits}
 use Rattle.sync_survey.specs.Runs.{Placed, whole, item_of, run, AreEndToEnd, frame_as, block_as, frames_of, blocks_of}
 use Rattle.sync_survey.specs.Start.{anchored_frame, first_anchored, longest_junk, start_behind, start_at, front_end_of}
-use Rattle.sync_survey.specs.Walk.{stream_run, head_of, numbered, numbered_at, all_blocks, end_fault}
+use Rattle.sync_survey.specs.Walk.{stream_run, head_of, numbered, numbered_at, all_blocks}
 use Rattle.sync_survey.specs.MainData.{row_of, rows_of, place, is_silent, points_too_far, lacks_data, end_of_data, end_behind, end_before, is_lost, marked_row, marked}
 use Rattle.sync_survey.specs.Faults.{SurveyFields, has_wrong_word, overlaps, overruns, class_from}
 use Rattle.sync_survey.proofs.RunsLaws.{item_of-is, run-ends, frames-next}
@@ -28,7 +27,7 @@ use Rattle.sync_survey.proofs.FaultsLaws.{marked-length}
 use Rattle.sync_survey.proofs.Progress.{first_of_stream}
 use Rattle.salvage.specs.declared.usable.Role.{Role}
 use Rattle.salvage.specs.declared.usable.Role.TheVariants.{First, Later}
-use Rattle.salvage.specs.Usable.{has_right_word, is_head, is_usable, if_usable, usable_anchored, next_usable}
+use Rattle.salvage.specs.Usable.{has_right_word, is_head, is_usable, if_usable, usable_anchored}
 use Rattle.salvage.specs.Walk.{is_read, if_read, item_read, first_frame, IsItem, PlacedThing, things, gaps_of, blocks_in}
 use Rattle.salvage.specs.Sound.{FrameRuns, runs_of, is_sound, sound_end, end_of_sound, judged_row, judged, judged_runs}
 use Rattle.salvage.specs.Damaged.{DamagedFields, damaged_from, things_from, gap_between, with_number, damaged_by, damaged}

@@ -1,5 +1,5 @@
 -- The main data of the frames that are kept are where they may be among those of all runs.
-use Rattle.std.proofs.Common.{◌≡◌, ℕ, zero, suc, ◌+◌, ◌-◌, ◌≤◌, ◌&&◌, ◌||◌, Bool, true, false, cond, not, List, [], ◌∷◌, ◌++◌, length, length-append, Option, Some, inl, inr, refl, sym, ◌∙◌, ap, ap₂, subst, arith}
+use Rattle.std.proofs.Common.{◌≡◌, ℕ, ◌+◌, ◌-◌, ◌≤◌, ◌&&◌, ◌||◌, Bool, true, false, cond, not, List, [], ◌∷◌, ◌++◌, length, length-append, Option, Some, inl, inr, refl, sym, ◌∙◌, ap, ap₂, subst, arith}
 use Rattle.std.specs.Prelude.{slice_get}
 use Rattle.std.proofs.lemmas.Bool.{ltb-false, le-ltb, cases_lt, and_parts}
 use Rattle.std.proofs.lemmas.Option.{slice_get_within}
@@ -8,7 +8,7 @@ use Rattle.sync_survey.specs.declared.places.Head.{Head}
 use Rattle.sync_survey.specs.declared.rows.Row.{Row}
 use Rattle.sync_survey.specs.declared.rows.Before.{Before}
 use Rattle.sync_survey.specs.MainData.{own_area, head_area, place, is_silent, end_of_data}
-use Rattle.sync_survey.proofs.FaultsLaws.{get_more, get_next, place-more, place-next, place-none}
+use Rattle.sync_survey.proofs.FaultsLaws.{get_more, get_next, place-more, place-next, place-none, IsRuled, ruled}
 use Rattle.salvage.specs.Sound.{is_sound}
 use Rattle.salvage.specs.Judged.{judged_by, before_next, none_before}
 use Rattle.salvage.specs.Kept.{kept_end, end_of_kept, IsKeptWell, AreKeptWell, AreKeptTo}
@@ -47,24 +47,9 @@ within_sound place ended r is =
 -- ---- one frame more
 
 module _ (head : Option Head) where
-  kept-more : (rows more : List Row) (i : ℕ) → i ≤ length rows → end_of_kept head (rows ++ more) i ≡ end_of_kept head rows i
+  kept_ends : IsRuled head kept_end (end_of_kept head)
   unfolding end_of_kept
-  kept-more rows more zero within = refl
-  kept-more rows more (suc i) within =
-      let before : i ≤ length rows = omega (arith, within) in
-      ap (λ n. kept_end n (end_of_kept head (rows ++ more) i) (slice_get (rows ++ more) i)) (place-more head rows more i before)
-      ∙ ap (λ n. kept_end (place head rows i) n (slice_get (rows ++ more) i)) (kept-more rows more i before)
-      ∙ ap (kept_end (place head rows i) (end_of_kept head rows i)) (get_more rows more i within)
-
-  kept-next : (rows : List Row) (r : Row) → end_of_kept head (rows ++ r ∷ []) (length (rows ++ r ∷ [])) ≡ kept_end (place head rows (length rows)) (end_of_kept head rows (length rows)) (Some r)
-  unfolding end_of_kept
-  kept-next rows r =
-      let n = length rows in
-      let one : length (rows ++ r ∷ []) ≡ suc n = omega (arith, length-append rows (r ∷ [])) in
-      ap (end_of_kept head (rows ++ r ∷ [])) one
-      ∙ ap (λ m. kept_end m (end_of_kept head (rows ++ r ∷ []) n) (slice_get (rows ++ r ∷ []) n)) (place-more head rows (r ∷ []) n (omega arith))
-      ∙ ap (λ m. kept_end (place head rows n) m (slice_get (rows ++ r ∷ []) n)) (kept-more rows (r ∷ []) n (omega arith))
-      ∙ ap (kept_end (place head rows n) (end_of_kept head rows n)) (get_next rows r)
+  kept_ends = ruled head kept_end (end_of_kept head) (λ rows. refl) (λ rows i. refl)
 
   pub kept_none : AreKeptTo head [] (record { place = head_area head; ended = 0 })
   unfolding end_of_kept
@@ -110,14 +95,14 @@ module _ (head : Option Head) where
 
     last_kept : marked_one.lost ≡ false → is_sound (place head (rows ++ marked_one ∷ []) (length rows)) (end_of_kept head (rows ++ marked_one ∷ []) (length rows)) marked_one ≡ true
     last_kept mark =
-        ap₂ (λ m n. is_sound m n r) (place-more head rows (marked_one ∷ []) (length rows) (omega arith)) (kept-more rows (marked_one ∷ []) (length rows) (omega arith)) ∙ sound_by mark
+        ap₂ (λ m n. is_sound m n r) (place-more head rows (marked_one ∷ []) (length rows) (omega arith)) (kept_ends.more rows (marked_one ∷ []) (length rows) (omega arith)) ∙ sound_by mark
 
     each_kept : AreKeptWell head (rows ++ marked_one ∷ [])
     each_kept i q found =
         elim (cases_lt i (length rows)) as (λ _. IsKeptWell head (rows ++ marked_one ∷ []) i q) [
           | inl before ↦
               let place_is = place-more head rows (marked_one ∷ []) i (omega (arith, before)) in
-              let end_is = kept-more rows (marked_one ∷ []) i (omega (arith, before)) in
+              let end_is = kept_ends.more rows (marked_one ∷ []) i (omega (arith, before)) in
               let is = kept.frames i q (sym (get_more rows (marked_one ∷ []) i before) ∙ found) in
               record { before = omega (arith, place_is, end_is, is.before); sound = λ mark. ap₂ (λ m n. is_sound m n q) place_is end_is ∙ is.sound mark }
           | inr behind ↦
@@ -126,7 +111,7 @@ module _ (head : Option Head) where
               let same : marked_one ≡ q = cc in
               subst (IsKeptWell head (rows ++ marked_one ∷ []) i) same
               (subst (λ n. IsKeptWell head (rows ++ marked_one ∷ []) n marked_one) (sym at)
-              (record { before = omega (arith, place-more head rows (marked_one ∷ []) (length rows) (omega arith), kept-more rows (marked_one ∷ []) (length rows) (omega arith), kept.within); sound = last_kept }))
+              (record { before = omega (arith, place-more head rows (marked_one ∷ []) (length rows) (omega arith), kept_ends.more rows (marked_one ∷ []) (length rows) (omega arith), kept.within); sound = last_kept }))
         ]
 
     pub kept_frame : AreKeptTo head (rows ++ marked_one ∷ []) (before_next b r)
@@ -136,6 +121,6 @@ module _ (head : Option Head) where
           frames = each_kept;
           base = kept.base;
           place_is = omega (arith, place-next head rows marked_one, kept.place_is);
-          ended_is = omega (arith, kept-next rows marked_one, ends.0);
-          within = omega (arith, kept-next rows marked_one, place-next head rows marked_one, ends.1);
+          ended_is = omega (arith, kept_ends.next rows marked_one, ends.0);
+          within = omega (arith, kept_ends.next rows marked_one, place-next head rows marked_one, ends.1);
         }

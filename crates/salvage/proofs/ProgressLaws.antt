@@ -3,9 +3,8 @@ use Rattle.std.proofs.Common.{◌≡◌, ℕ, zero, suc, ◌+◌, ◌-◌, ◌<�
 use Rattle.std.specs.Prelude.{option_to_list, slice_get}
 use Rattle.std.specs.List.{prefix_len}
 use Rattle.frame_header.specs.Fields.{HeaderFields, ClassFields, IsHeader}
-use Rattle.frame_header.specs.Tables.{class_of, length_of, area_of}
+use Rattle.frame_header.specs.Tables.{class_of}
 use Rattle.frame_header.proofs.HeaderLaws.{IsClass-class_of}
-use Rattle.side_info.specs.Side.{SideFits}
 use Rattle.side_info.proofs.FrameLaws.{fits-side_in, overhead-few}
 use Rattle.sync_survey.specs.declared.items.Item.{Item}
 use Rattle.sync_survey.specs.declared.items.Item.TheVariants.{Frame, Free, Block, Zero, End, Nothing}
@@ -14,7 +13,7 @@ use Rattle.sync_survey.specs.declared.rows.Row.{Row}
 use Rattle.sync_survey.specs.declared.rows.Before.{Before}
 use Rattle.sync_survey.specs.Items.{item_front, size_of}
 use Rattle.sync_survey.specs.Runs.{block_as}
-use Rattle.sync_survey.specs.MainData.{row_in, own_area}
+use Rattle.sync_survey.specs.MainData.{row_in}
 use Rattle.sync_survey.specs.Looks.{Shows}
 use Rattle.sync_survey.specs.Survey.{AreLaid, BlocksAreLaid}
 use Rattle.sync_survey.proofs.RunsLaws.{kept_more, kept_whole}

@@ -1,37 +1,21 @@
 -- Why a damaged file isn't read.
 use Rattle.std.proofs.Common.{◌≡◌, ℕ, ◌<◌, ◌≤◌, ltb, true, false, List, length, Err, refl, sym, ◌∙◌, ap, subst, arith}
 use Rattle.std.proofs.lemmas.Bool.{lt-ltb, le-ltb}
-use Rattle.outside.specs.Files.{Files, Holds, IsMissing}
-use Rattle.outside.specs.Counts.{Counts, Rose}
+use Rattle.outside.specs.Files.{Files, Holds}
+use Rattle.outside.specs.Counts.{Counts}
 use Rattle.sync_survey.specs.declared.survey_fault.SurveyFault.{SurveyFault}
 use Rattle.sync_survey.specs.declared.survey_fault.SurveyFault.TheVariants.{TooLong, Memory}
 use Rattle.sync_survey.specs.Faults.{longest_file}
-use Rattle.sync_survey.specs.Kinds.{InputKind, IsAbsent, IsUnread, IsShorter, IsTooMuch, IsRefused, kind_of, by_kind, HasRightNumbers, IsFromOutside, RefusesRightly}
-use Rattle.sync_survey.specs.Survey.{IsRefusal, HasShrunk, AsksForMemory, RefusesBytes, HasLength, IsOfLength}
+use Rattle.sync_survey.specs.Kinds.{InputKind, IsAbsent, IsUnread, IsShorter, IsTooMuch, IsRefused, kind_of, HasRightNumbers, IsFromOutside, RefusesRightly}
+use Rattle.sync_survey.specs.Survey.{IsRefusal, IsSurveyFaultBy, IsUnreadBy, RefusesBytes, HasLength, IsOfLength}
 use Rattle.salvage.specs.Damaged.{damaged, damaged_of, RefusesDamaged, IsReadRefusal}
 
 module _ (name : List ℕ) (files : Files) (before after : Counts) (fault : SurveyFault) where
   abbrev SurveyCause : InputKind → Type 0
-  SurveyCause kind = by_kind
-      (record {
-        absent = IsMissing files name × Rose before.misses after.misses;
-        unread = Rose before.read_faults after.read_faults;
-        shorter = HasShrunk files before after;
-        too_much = AsksForMemory name files before after;
-        refused = RefusesBytes name files 0 before after fault;
-      })
-      kind
+  SurveyCause kind = IsSurveyFaultBy name files 0 before after fault kind
 
   abbrev ReadCause : InputKind → Type 0
-  ReadCause kind = by_kind
-      (record {
-        absent = IsMissing files name × Rose before.misses after.misses;
-        unread = Rose before.read_faults after.read_faults;
-        shorter = HasShrunk files before after;
-        too_much = AsksForMemory name files before after;
-        refused = RefusesDamaged name files before after fault;
-      })
-      kind
+  ReadCause kind = IsUnreadBy name files before after (RefusesDamaged name files before after fault) kind
 
   cause_by : (kind : InputKind) → SurveyCause kind → (kind ≡ IsRefused → RefusesDamaged name files before after fault) → ReadCause kind
   cause_by IsAbsent is refused = is

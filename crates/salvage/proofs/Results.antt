@@ -13,7 +13,3 @@ if_err (Err e) P Q A is then = then e is
 pub if_ok : {T E : Type 0} (r : Result T E) (P A : T → Type 0) (B : Type 0) → IfOk r P → OnOk r B → ((x : T) → P x → B → A x) → IfOk r A
 if_ok (Ok x) P A B is other then = then x is other
 if_ok (Err e) P A B is other then = tt
-
-pub err_then : {T E : Type 0} (r : Result T E) (P A : E → Type 0) → IfErr r P → ((e : E) → P e → A e) → IfErr r A
-err_then (Ok x) P A is then = tt
-err_then (Err e) P A is then = then e is

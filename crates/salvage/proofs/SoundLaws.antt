@@ -1,6 +1,6 @@
 -- The frames of all runs, judged one after the other.
-use Rattle.std.proofs.Common.{◌≡◌, ℕ, zero, suc, ◌+◌, ◌≤◌, not, List, [], ◌∷◌, ◌++◌, length, map, Option, Some, None, refl, sym, ◌∙◌, ap, ap₂, arith, append_assoc, length-append}
-use Rattle.std.specs.Prelude.{flat_map, slice_get}
+use Rattle.std.proofs.Common.{◌≡◌, ℕ, ◌+◌, not, List, [], ◌∷◌, ◌++◌, length, map, Option, None, refl, sym, ◌∙◌, ap, ap₂, arith, append_assoc, length-append}
+use Rattle.std.specs.Prelude.{flat_map}
 use Rattle.std.specs.List.{enumerate_from}
 use Rattle.sync_survey.specs.declared.items.Item.TheVariants.{Frame, Free, Block, Zero, End, Nothing}
 use Rattle.sync_survey.specs.declared.places.Head.{Head}
@@ -8,7 +8,7 @@ use Rattle.sync_survey.specs.declared.places.PlacedFrame.{PlacedFrame}
 use Rattle.sync_survey.specs.declared.rows.Row.{Row}
 use Rattle.sync_survey.specs.declared.rows.Before.{Before}
 use Rattle.sync_survey.specs.MainData.{rows_of, head_area, place}
-use Rattle.sync_survey.proofs.FaultsLaws.{get_more, get_next, place-more, place-next, place-none}
+use Rattle.sync_survey.proofs.FaultsLaws.{place-more, place-next, place-none, IsRuled, ruled}
 use Rattle.salvage.specs.Walk.{Thing, IsItem, IsGap, PlacedThing}
 use Rattle.salvage.specs.Sound.{FrameRuns, runs_behind, runs_of, is_sound, sound_end, end_of_sound, judged_row, judged, judged_runs}
 use Rattle.salvage.specs.Judged.{judged_by, before_next, none_before, rows_here, before_here, rows_left}
@@ -21,34 +21,19 @@ judged_from b [] = []
 judged_from b (r ∷ rows) = judged_by b r ∷ judged_from (before_next b r) rows
 
 module _ (head : Option Head) where
-  end-more : (rows more : List Row) (i : ℕ) → i ≤ length rows → end_of_sound head (rows ++ more) i ≡ end_of_sound head rows i
+  sound_ends : IsRuled head sound_end (end_of_sound head)
   unfolding end_of_sound
-  end-more rows more zero within = refl
-  end-more rows more (suc i) within =
-      let before : i ≤ length rows = omega (arith, within) in
-      ap (λ n. sound_end n (end_of_sound head (rows ++ more) i) (slice_get (rows ++ more) i)) (place-more head rows more i before)
-      ∙ ap (λ n. sound_end (place head rows i) n (slice_get (rows ++ more) i)) (end-more rows more i before)
-      ∙ ap (sound_end (place head rows i) (end_of_sound head rows i)) (get_more rows more i within)
-
-  end-next : (rows : List Row) (r : Row) → end_of_sound head (rows ++ r ∷ []) (length (rows ++ r ∷ [])) ≡ sound_end (place head rows (length rows)) (end_of_sound head rows (length rows)) (Some r)
-  unfolding end_of_sound
-  end-next rows r =
-      let n = length rows in
-      let one : length (rows ++ r ∷ []) ≡ suc n = omega (arith, length-append rows (r ∷ [])) in
-      ap (end_of_sound head (rows ++ r ∷ [])) one
-      ∙ ap (λ m. sound_end m (end_of_sound head (rows ++ r ∷ []) n) (slice_get (rows ++ r ∷ []) n)) (place-more head rows (r ∷ []) n (omega arith))
-      ∙ ap (λ m. sound_end (place head rows n) m (slice_get (rows ++ r ∷ []) n)) (end-more rows (r ∷ []) n (omega arith))
-      ∙ ap (sound_end (place head rows n) (end_of_sound head rows n)) (get_next rows r)
+  sound_ends = ruled head sound_end (end_of_sound head) (λ rows. refl) (λ rows i. refl)
 
   -- the main data before the frame after these
   abbrev behind : List Row → Before
   behind rows = record { place = place head rows (length rows); ended = end_of_sound head rows (length rows) }
 
   behind-next : (rows : List Row) (r : Row) → before_next (behind rows) r ≡ behind (rows ++ r ∷ [])
-  behind-next rows r = ap₂ (λ m n. record { place = m; ended = n }) (sym (place-next head rows r)) (sym (end-next rows r))
+  behind-next rows r = ap₂ (λ m n. record { place = m; ended = n }) (sym (place-next head rows r)) (sym (sound_ends.next rows r))
 
   row-next : (rows rest : List Row) (r : Row) → judged_row head (rows ++ r ∷ rest) (length rows) r ≡ judged_by (behind rows) r
-  row-next rows rest r = ap₂ (λ m n. record r { lost = not (is_sound m n r) }) (place-more head rows (r ∷ rest) (length rows) (omega arith)) (end-more rows (r ∷ rest) (length rows) (omega arith))
+  row-next rows rest r = ap₂ (λ m n. record r { lost = not (is_sound m n r) }) (place-more head rows (r ∷ rest) (length rows) (omega arith)) (sound_ends.more rows (r ∷ rest) (length rows) (omega arith))
 
   judged_rest : (rows rest : List Row) → map (λ (p : ℕ × Row). judged_row head (rows ++ rest) p.0 p.1) (enumerate_from (length rows) rest) ≡ judged_from (behind rows) rest
   judged_rest rows [] = refl

@@ -1,8 +1,8 @@
 -- What is read of a damaged file.
 use Rattle.std.specs.Prelude.{◌≡◌, ℕ, ◌-◌, nat_lt, if◌then◌else◌, List, [], ◌∷◌, ◌++◌, length, slice_get, Option, Some, None, Result, Ok, Err}
 use Rattle.frame_header.specs.Tables.{class_of}
-use Rattle.outside.specs.Files.{Files, Holds, IsThere, IsMissing}
-use Rattle.outside.specs.Counts.{Counts, Rose}
+use Rattle.outside.specs.Files.{Files, Holds, IsThere}
+use Rattle.outside.specs.Counts.{Counts}
 use Rattle.sync_survey.specs.declared.places.PlacedFrame.{PlacedFrame}
 use Rattle.sync_survey.specs.declared.rows.Row.{Row}
 use Rattle.sync_survey.specs.declared.runs.Part.TheVariants.{Front}
@@ -13,8 +13,8 @@ use Rattle.sync_survey.specs.Start.{front_end_of}
 use Rattle.sync_survey.specs.Walk.{head_of, numbered_at}
 use Rattle.sync_survey.specs.Faults.{SurveyFields, tells, longest_file}
 pub use Rattle.sync_survey.specs.Limits.{most_frames}
-use Rattle.sync_survey.specs.Kinds.{kind_of, by_kind, HasRightNumbers}
-use Rattle.sync_survey.specs.Survey.{HasShrunk, AsksForMemory}
+use Rattle.sync_survey.specs.Kinds.{kind_of, HasRightNumbers}
+use Rattle.sync_survey.specs.Survey.{IsUnreadBy}
 use Rattle.salvage.specs.declared.damaged.Damaged.{Damaged}
 use Rattle.salvage.specs.declared.gap.Gap.{Gap}
 use Rattle.salvage.specs.Walk.{first_frame, PlacedThing, things, gaps_of, blocks_in}
@@ -91,17 +91,9 @@ pub record RefusesDamaged (name : List ℕ) (files : Files) (before after : Coun
   pub bytes : (bytes : List ℕ) → Holds files name bytes → damaged_of bytes ≡ Err fault
   pub counts : after ≡ before
 
--- why nothing is read, by the fault's kind: the file isn't there, could not be read, became shorter, there is no memory, or it is refused
+-- why nothing is read, by the fault's kind: as for a survey, or what is read is refused
 abbrev pub IsReadFault : List ℕ → Files → Counts → Counts → SurveyFault → Type 0
-IsReadFault name files before after fault = by_kind
-    (record {
-      absent = IsMissing files name × Rose before.misses after.misses;
-      unread = Rose before.read_faults after.read_faults;
-      shorter = HasShrunk files before after;
-      too_much = AsksForMemory name files before after;
-      refused = RefusesDamaged name files before after fault;
-    })
-    (kind_of fault)
+IsReadFault name files before after fault = IsUnreadBy name files before after (RefusesDamaged name files before after fault) (kind_of fault)
 
 -- with the right numbers
 pub record IsReadRefusal (name : List ℕ) (files : Files) (before after : Counts) (fault : SurveyFault) : Type 0 where

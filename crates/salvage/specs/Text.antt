@@ -1,5 +1,5 @@
 -- The text that says what is missing of a damaged file.
-use Rattle.std.specs.Prelude.{ℕ, if◌then◌else◌, List, [], ◌∷◌, ◌++◌, length, map, filter_map, flat_map, codes, decimal, Option, Some, None}
+use Rattle.std.specs.Prelude.{ℕ, if◌then◌else◌, List, ◌++◌, length, map, filter_map, flat_map, codes, decimal, Option, Some, None}
 use Rattle.std.specs.List.{enumerate_from}
 use Rattle.offset_order.specs.Order.{ordered_by}
 use Rattle.sync_survey.specs.declared.rows.Row.{Row}

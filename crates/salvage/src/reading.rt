@@ -11,7 +11,7 @@ ghost use Rattle.sync_survey.specs.Walk.{numbered_at};
 ghost use Rattle.sync_survey.specs.MainData.{head_area as head_area_lem};
 ghost use Rattle.sync_survey.specs.Runs.{run, blocks_of};
 ghost use Rattle.sync_survey.specs.Kinds.{HasRightNumbers};
-ghost use Rattle.sync_survey.specs.Survey.{HasLength, HoldsOctets, BlocksAreLaid};
+ghost use Rattle.sync_survey.specs.Survey.{HasLength, IsWholeFrom, ReadsBy, HoldsOctets, BlocksAreLaid};
 ghost use Rattle.salvage.specs.declared.usable.Role.TheVariants.{Later};
 ghost use Rattle.salvage.specs.Walk.{item_read, end_by};
 ghost use Rattle.salvage.specs.Damaged.{tells_of, IsReadOf, IsReadFault, IsReadRefusal, gap_between};
@@ -83,9 +83,8 @@ fn found_first(alloc: Global, begun: &Begun, pieces: Vec<Piece>) -> Result<Found
 /// The offset at which a gap ends: where the next frame begins, or at the end of the file.
 fn end_of(next: Option<PlacedFrame>, size: u64) -> u64
     ensures told { (file : List ℕ) → size ≡ length file → result ≡ end_by file next }
-    ensures within { IfSome next (λ p. p.offset + size_of (Frame p.header) ≤ size)
-        → result ≤ size }
-    ensures behind { (at : ℕ) → at ≤ size → IfSome next (λ p. at ≤ p.offset) → at ≤ result }
+    ensures within { (from : ℕ) → from ≤ size → IfSome next (IsWholeFrom from size)
+        → (from ≤ result) × (result ≤ size) }
 {
     match next {
         Some(frame) => frame.offset,
@@ -119,12 +118,10 @@ fn read_gap<D: Folder>(
     requires reading { IsReading (D.files folder.old) name.now begun.now found.old }
     ensures reading { OnOk result (ReadsOn (D.files folder.old) name.now begun.now
         found.old found.new) }
-    ensures done { OnOk result (D.counts folder.new ≡ D.counts folder.old) }
+    ensures reads { ReadsBy feed.new name.now result (D.files folder.old) (D.files folder.new)
+        (D.counts folder.old) (D.counts folder.new) }
     ensures refused { IfErr result (IsReadRefusal name.now (D.files folder.old)
         (D.counts folder.old) (D.counts folder.new)) }
-    ensures fed { IsFedFrom feed.new (D.files folder.new) name.now }
-    ensures files { D.files folder.new ≡ D.files folder.old }
-    ensures counts { OnlyReads (D.counts folder.old) (D.counts folder.new) }
 {
     let role = later_role(begun);
     let next = next_usable(feed, folder, name, begun.size, found.at + 1, role)?;
@@ -150,12 +147,10 @@ fn read_thing<D: Folder>(
     requires reading { IsReading (D.files folder.old) name.now begun.now found.old }
     ensures reading { OnOk result (ReadsOn (D.files folder.old) name.now begun.now
         found.old found.new) }
-    ensures done { OnOk result (D.counts folder.new ≡ D.counts folder.old) }
+    ensures reads { ReadsBy feed.new name.now result (D.files folder.old) (D.files folder.new)
+        (D.counts folder.old) (D.counts folder.new) }
     ensures refused { IfErr result (IsReadRefusal name.now (D.files folder.old)
         (D.counts folder.old) (D.counts folder.new)) }
-    ensures fed { IsFedFrom feed.new (D.files folder.new) name.now }
-    ensures files { D.files folder.new ≡ D.files folder.old }
-    ensures counts { OnlyReads (D.counts folder.old) (D.counts folder.new) }
 {
     let left = look(feed, folder, name, begun.size, found.at)?;
     let role = later_role(begun);
@@ -237,12 +232,10 @@ fn begin<D: Folder>(
     ensures blocks { OnOk result ((bytes : List ℕ) → Holds (D.files folder.old) name.now bytes
         → pieces.new.items ≡ blocks_of (run Front bytes 0).items) }
     ensures laid { IfOk result (λ b. BlocksAreLaid 0 pieces.new.items b.start.front_end) }
-    ensures done { OnOk result (D.counts folder.new ≡ D.counts folder.old) }
+    ensures reads { ReadsBy feed.new name.now result (D.files folder.old) (D.files folder.new)
+        (D.counts folder.old) (D.counts folder.new) }
     ensures refused { IfErr result (IsReadRefusal name.now (D.files folder.old)
         (D.counts folder.old) (D.counts folder.new)) }
-    ensures fed { IsFedFrom feed.new (D.files folder.new) name.now }
-    ensures files { D.files folder.new ≡ D.files folder.old }
-    ensures counts { OnlyReads (D.counts folder.old) (D.counts folder.new) }
 {
     let front_end = pass_front(feed, folder, name, size, pieces)?;
     let Some(first) = first_frame(feed, folder, name, size, front_end)? else {

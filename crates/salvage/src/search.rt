@@ -1,12 +1,8 @@
 //! Finds the next usable frame.
-ghost use Rattle.std.specs.Prelude.{◌≡◌, ◌+◌, ◌^◌, ◌<◌, ◌≤◌, ℕ, List, true, false, length, IfOk, IfErr, IfSome, OnOk};
-ghost use Rattle.sync_survey.specs.Start.{is_anchor as is_anchor_lem};
+ghost use Rattle.std.specs.Prelude.{◌≡◌, ◌+◌, ◌^◌, ◌<◌, ◌≤◌, ℕ, List, true, false, length, IfOk, IfErr, IfSome};
 ghost use Rattle.outside.specs.Files.{Holds};
-ghost use Rattle.outside.specs.Counts.{OnlyReads};
 ghost use Rattle.outside.specs.Feed.{IsFedFrom};
-ghost use Rattle.sync_survey.specs.declared.items.Item.TheVariants.{Frame};
-ghost use Rattle.sync_survey.specs.Items.{size_of, item_front as item_front_lem};
-ghost use Rattle.sync_survey.specs.Survey.{HasLength};
+ghost use Rattle.sync_survey.specs.Survey.{HasLength, IsWholeFrom, ReadsBy};
 ghost use Rattle.salvage.specs.Usable.{next_usable as next_usable_lem};
 ghost use Rattle.salvage.specs.Walk.{first_frame as first_frame_lem};
 ghost use Rattle.salvage.specs.Damaged.{IsReadRefusal};
@@ -14,10 +10,9 @@ ghost use Rattle.salvage.specs.Steps.{may_begin as may_begin_lem, HasNoHeader, I
 
 use crate::said::{has_wrong_word, length_said, may_anchor};
 use crate::usable::Role;
-use frame_header::Class;
 use outside::{Feed, Folder};
 use sync_survey::{
-    Item, PlacedFrame, SurveyFault, bytes_behind, header_front, is_same_class, item_front, look,
+    PlacedFrame, SurveyFault, bytes_behind, header_front, is_anchor, item_front, look,
 };
 
 /// How many bytes of a look are searched at once: 32 are seen after each of them.
@@ -28,17 +23,6 @@ fn may_begin(first: u8, second: u8) -> bool
     ensures { result ≡ may_begin_lem first second }
 {
     first == 0xff && second / 2 % 4 == 1
-}
-
-/// Whether the bytes begin with an anchor of the class.
-fn is_anchor(class: Class, bytes: &[u8]) -> bool
-    ensures { result ≡ is_anchor_lem class (item_front_lem bytes.now) }
-{
-    match item_front(bytes) {
-        Item::Frame(header) => is_same_class(header.class(), class),
-        Item::Block(_) | Item::End => true,
-        Item::Free | Item::Zero | Item::Nothing => false,
-    }
 }
 
 /// Whether the frame with which these bytes begin is usable for the role. They are those at the offset.
@@ -78,7 +62,7 @@ fn may_stand_by_header(role: &Role, front: &[u8], place: usize, offset: u64) -> 
     if !role.admits(&PlacedFrame { offset, header }, bytes) {
         return false;
     }
-    is_anchor(header.class(), bytes_behind(front, end))
+    is_anchor(header.class(), &item_front(bytes_behind(front, end)))
 }
 
 /// Whether a usable anchored frame may be at this place of a look at the offset.
@@ -145,15 +129,11 @@ pub(crate) fn next_usable<D: Folder>(
     requires early { from ≤ size + 1 }
     ensures next { IfOk result (λ o. (bytes : List ℕ) → Holds (D.files folder.old) name.now bytes
         → o ≡ next_usable_lem bytes role from) }
-    ensures whole { IfOk result (λ o. IfSome o
-        (λ p. p.offset + size_of (Frame p.header) ≤ size)) }
-    ensures behind { IfOk result (λ o. IfSome o (λ p. from ≤ p.offset)) }
-    ensures done { OnOk result (D.counts folder.new ≡ D.counts folder.old) }
+    ensures placed { IfOk result (λ o. IfSome o (IsWholeFrom from size)) }
+    ensures reads { ReadsBy feed.new name.now result (D.files folder.old) (D.files folder.new)
+        (D.counts folder.old) (D.counts folder.new) }
     ensures refused { IfErr result (IsReadRefusal name.now (D.files folder.old)
         (D.counts folder.old) (D.counts folder.new)) }
-    ensures fed { IsFedFrom feed.new (D.files folder.new) name.now }
-    ensures files { D.files folder.new ≡ D.files folder.old }
-    ensures counts { OnlyReads (D.counts folder.old) (D.counts folder.new) }
 {
     let mut at = from;
     while at < size {
@@ -182,15 +162,11 @@ pub(crate) fn first_frame<D: Folder>(
     requires within { front_end ≤ size }
     ensures first { IfOk result (λ o. (bytes : List ℕ) → Holds (D.files folder.old) name.now bytes
         → o ≡ first_frame_lem bytes front_end) }
-    ensures whole { IfOk result (λ o. IfSome o
-        (λ p. p.offset + size_of (Frame p.header) ≤ size)) }
-    ensures behind { IfOk result (λ o. IfSome o (λ p. front_end ≤ p.offset)) }
-    ensures done { OnOk result (D.counts folder.new ≡ D.counts folder.old) }
+    ensures placed { IfOk result (λ o. IfSome o (IsWholeFrom front_end size)) }
+    ensures reads { ReadsBy feed.new name.now result (D.files folder.old) (D.files folder.new)
+        (D.counts folder.old) (D.counts folder.new) }
     ensures refused { IfErr result (IsReadRefusal name.now (D.files folder.old)
         (D.counts folder.old) (D.counts folder.new)) }
-    ensures fed { IsFedFrom feed.new (D.files folder.new) name.now }
-    ensures files { D.files folder.new ≡ D.files folder.old }
-    ensures counts { OnlyReads (D.counts folder.old) (D.counts folder.new) }
 {
     let left = look(feed, folder, name, size, front_end)?;
     if let Some(frame) = Role::First.whole(feed.bytes(), front_end, left) {

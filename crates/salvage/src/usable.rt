@@ -1,11 +1,10 @@
 //! Frames of a damaged file that can be used.
-ghost use Rattle.std.specs.Prelude.{◌≡◌, ◌+◌, ◌≤◌, ◌<◌, ◌==◌, ℕ, true, List, Ok, length, min, IfSome, option_and_then};
-ghost use Rattle.std.specs.List.{prefix_len};
+ghost use Rattle.std.specs.Prelude.{◌≡◌, ◌+◌, ◌≤◌, ℕ, true, List, Ok, length, min, IfSome, option_and_then};
 ghost use Rattle.frame_header.specs.Fields.{HeaderFields};
 ghost use Rattle.frame_header.specs.Tables.{class_of, side_size_of};
 ghost use Rattle.side_info.specs.Frame.{word_right};
-ghost use Rattle.sync_survey.specs.Items.{size_of, header_front, item_front as item_front_lem};
-ghost use Rattle.sync_survey.specs.Looks.{look_size, Shows, ReachArea};
+ghost use Rattle.sync_survey.specs.Items.{size_of, header_front};
+ghost use Rattle.sync_survey.specs.Looks.{look_size, Shows, PassesFront, ReachArea};
 ghost use Rattle.salvage.specs.Usable.{has_right_word as has_right_word_lem, is_usable, usable_anchored};
 ghost use Rattle.sync_survey.specs.Runs.{frame_as};
 ghost use Rattle.salvage.specs.Walk.{item_read};
@@ -114,16 +113,8 @@ impl Role {
         requires many { length front.now ≡ min look_size left }
         ensures read { (file : List ℕ) → Shows file at front.now left
             → IsRead file self.now at result }
-        ensures item { IfSome result (λ s. s.item ≡ item_front_lem front.now) }
         ensures usable { IfSome result (λ s. admits_item_lem self.now at s.item front.now ≡ true) }
-        ensures zeros { IfSome result (λ s. s.item ≡ Item.Zero
-            → s.size ≡ prefix_len (λ b. b == 0) front.now) }
-        ensures own { IfSome result (λ s. (s.item ≡ Item.Zero → ⊥) → s.size ≡ size_of s.item) }
-        ensures least { IfSome result (λ s. size_of s.item ≤ s.size) }
-        ensures most { IfSome result (λ s. (h : HeaderFields) → s.item ≡ Item.Frame h
-            → size_of s.item ≤ 1441) }
-        ensures some { IfSome result (λ s. 0 < s.size) }
-        ensures within { IfSome result (λ s. s.size ≤ left) }
+        ensures passes { IfSome result (PassesFront front.now left) }
     {
         let Some(step) = step_at(Part::Stream, front, left) else {
             return None;

@@ -96,24 +96,44 @@ module _ (head : Option Head) (rows : List Row) where
         sum_by_push area rows r,
       )
 
+-- where main data end before frame i, by a rule from where the area of each frame begins, where the data before it end, and the frame
+pub record IsRuled (head : Option Head) (rule : ℕ → ℕ → Option Row → ℕ) (end : List Row → ℕ → ℕ) : Type 0 where
+  pub more : (rows more : List Row) (i : ℕ) → i ≤ length rows → end (rows ++ more) i ≡ end rows i
+  pub next : (rows : List Row) (r : Row) → end (rows ++ r ∷ []) (length (rows ++ r ∷ [])) ≡ rule (place head rows (length rows)) (end rows (length rows)) (Some r)
+
+module _ (head : Option Head) (rule : ℕ → ℕ → Option Row → ℕ) (end : List Row → ℕ → ℕ) (none : (rows : List Row) → end rows zero ≡ 0)
+    (one : (rows : List Row) (i : ℕ) → end rows (suc i) ≡ rule (place head rows i) (end rows i) (slice_get rows i)) where
+  ruled-more : (rows more : List Row) (i : ℕ) → i ≤ length rows → end (rows ++ more) i ≡ end rows i
+  ruled-more rows more zero within = none (rows ++ more) ∙ sym (none rows)
+  ruled-more rows more (suc i) within =
+      let before : i ≤ length rows = omega (arith, within) in
+      one (rows ++ more) i
+      ∙ ap (λ n. rule n (end (rows ++ more) i) (slice_get (rows ++ more) i)) (place-more head rows more i before)
+      ∙ ap (λ n. rule (place head rows i) n (slice_get (rows ++ more) i)) (ruled-more rows more i before)
+      ∙ ap (rule (place head rows i) (end rows i)) (get_more rows more i within)
+      ∙ sym (one rows i)
+
+  ruled-next : (rows : List Row) (r : Row) → end (rows ++ r ∷ []) (length (rows ++ r ∷ [])) ≡ rule (place head rows (length rows)) (end rows (length rows)) (Some r)
+  ruled-next rows r =
+      let n = length rows in
+      let long : length (rows ++ r ∷ []) ≡ suc n = omega (arith, length-append rows (r ∷ [])) in
+      ap (end (rows ++ r ∷ [])) long
+      ∙ one (rows ++ r ∷ []) n
+      ∙ ap (λ m. rule m (end (rows ++ r ∷ []) n) (slice_get (rows ++ r ∷ []) n)) (place-more head rows (r ∷ []) n (omega arith))
+      ∙ ap (λ m. rule (place head rows n) m (slice_get (rows ++ r ∷ []) n)) (ruled-more rows (r ∷ []) n (omega arith))
+      ∙ ap (rule (place head rows n) (end rows n)) (get_next rows r)
+
+  pub ruled : IsRuled head rule end
+  ruled = record { more = ruled-more; next = ruled-next }
+
+module _ (head : Option Head) (rows : List Row) where
   pub end-more : (more : List Row) (i : ℕ) → i ≤ length rows → end_before head (rows ++ more) i ≡ end_before head rows i
   unfolding end_before
-  end-more more zero within = refl
-  end-more more (suc i) within =
-      let before : i ≤ length rows = omega (arith, within) in
-      ap (λ n. end_behind n (end_before head (rows ++ more) i) (slice_get (rows ++ more) i)) (place-more more i before)
-      ∙ ap (λ n. end_behind (place head rows i) n (slice_get (rows ++ more) i)) (end-more more i before)
-      ∙ ap (end_behind (place head rows i) (end_before head rows i)) (get_more rows more i within)
+  end-more = (ruled head end_behind (end_before head) (λ rows. refl) (λ rows i. refl)).more rows
 
   pub end-next : (r : Row) → end_before head (rows ++ r ∷ []) (length (rows ++ r ∷ [])) ≡ end_behind (place head rows (length rows)) (end_before head rows (length rows)) (Some r)
   unfolding end_before
-  end-next r =
-      let n = length rows in
-      let one : length (rows ++ r ∷ []) ≡ suc n = omega (arith, length-append rows (r ∷ [])) in
-      ap (end_before head (rows ++ r ∷ [])) one
-      ∙ ap (λ m. end_behind m (end_before head (rows ++ r ∷ []) n) (slice_get (rows ++ r ∷ []) n)) (place-more (r ∷ []) n (omega arith))
-      ∙ ap (λ m. end_behind (place head rows n) m (slice_get (rows ++ r ∷ []) n)) (end-more (r ∷ []) n (omega arith))
-      ∙ ap (end_behind (place head rows n) (end_before head rows n)) (get_next rows r)
+  end-next = (ruled head end_behind (end_before head) (λ rows. refl) (λ rows i. refl)).next rows
 
 -- ---- all frames in turn
 

@@ -25,7 +25,7 @@ use Rattle.sync_survey.specs.Runs.{Placed, AreEndToEnd, frame_as, frames_of}
 use Rattle.sync_survey.specs.Start.{start_of}
 use Rattle.sync_survey.specs.Walk.{stream_run, head_of, numbered, fault_at, end_fault, walk_from}
 use Rattle.sync_survey.specs.MainData.{rows_of, lacks_data, place, end_before}
-use Rattle.sync_survey.specs.Faults.{where_true, has_wrong_word, points_too_far, overlaps, overruns, room_for_data, own_faults, data_faults, faults_at, frame_faults, all_faults, first_of, class_from, faults_from, fault_place, NoneBefore, SurveyFields, fields_from, unless_fault, survey_by, surveyed, longest_file}
+use Rattle.sync_survey.specs.Faults.{where_true, has_wrong_word, points_too_far, overlaps, overruns, room_for_data, own_faults, data_faults, faults_at, frame_faults, all_faults, first_of, class_from, faults_from, fault_place, NoneBefore, fields_from, survey_by, surveyed, longest_file}
 use Rattle.sync_survey.specs.Kinds.{IsRefused, kind_of}
 use Rattle.sync_survey.specs.Survey.{survey_of, RefusesBytes, IsSurveyFaultBy, IsSurveyFault, IsRefusal}
 use Rattle.sync_survey.proofs.ItemLists.{ends-within}

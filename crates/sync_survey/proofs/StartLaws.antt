@@ -1,8 +1,8 @@
 -- The first anchored frame, and the start of the stream.
-use Rattle.std.proofs.Common.{◌≡◌, ℕ, zero, suc, ◌+◌, ◌<◌, ◌≤◌, Bool, true, false, cond, ◌&&◌, leb, min, List, length, drop, Option, Some, None, Result, Ok, Err, inl, inr, refl, sym, ◌∙◌, ap, subst, arith}
+use Rattle.std.proofs.Common.{◌≡◌, ℕ, zero, suc, ◌+◌, ◌<◌, ◌≤◌, Bool, true, false, cond, ◌&&◌, leb, min, List, length, drop, Option, Some, None, Ok, Err, inl, inr, refl, sym, ◌∙◌, ap, subst, arith}
 use Rattle.std.proofs.lemmas.Bool.{lt-leb, le-leb, leb-true, leb-false, and_parts}
 use Rattle.std.proofs.lemmas.List.{drop_all}
-use Rattle.std.specs.Prelude.{MatchOption, filter_map, slice_get, is_some, IfOk}
+use Rattle.std.specs.Prelude.{MatchOption, filter_map, slice_get, is_some}
 use Rattle.std.specs.List.{range_with_len, cons_option}
 use Rattle.frame_header.specs.Fields.{HeaderFields}
 use Rattle.frame_header.specs.Tables.{class_of, length_of}
@@ -173,11 +173,6 @@ start_cases file at _ s is e = behind_cases file at _ s refl e
 pub start-first : (file : List ℕ) (s : Start) → start_of file ≡ Ok s → IsFirstFrame file s
 unfolding start_of
 start-first file s e = start_cases file (front_end_of file) (item_at file (front_end_of file)) s refl e
-
--- what holds of each value of an Ok
-pub if_ok : (r : Result Start SurveyFault) (P : Start → Type 0) → ((s : Start) → r ≡ Ok s → P s) → IfOk r P
-if_ok (Ok s) P holds = holds s refl
-if_ok (Err fault) P holds = tt
 
 -- ---- where the front ends
 

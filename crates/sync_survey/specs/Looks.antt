@@ -1,17 +1,19 @@
 -- What a look shows of a file.
-use Rattle.std.specs.Prelude.{◌≡◌, ℕ, ◌+◌, ◌-◌, ◌≤◌, List, [], ◌∷◌, ◌++◌, length, take, drop, Option, Some, None, option_to_list}
+use Rattle.std.specs.Prelude.{◌≡◌, ℕ, ◌+◌, ◌-◌, ◌<◌, ◌≤◌, ◌==◌, List, [], ◌∷◌, ◌++◌, length, take, drop, Option, Some, None, option_to_list}
+use Rattle.std.specs.List.{prefix_len}
 use Rattle.frame_header.specs.Fields.{HeaderFields, ClassFields}
 use Rattle.frame_header.specs.Tables.{class_of, overhead_of}
 use Rattle.side_info.specs.Side.{SideFits}
 use Rattle.side_info.specs.Frame.{word_said}
 use Rattle.sync_survey.specs.declared.found.Found.{Found}
 use Rattle.sync_survey.specs.declared.items.Item.{Item}
-use Rattle.sync_survey.specs.declared.items.Item.TheVariants.{Frame, Block}
+use Rattle.sync_survey.specs.declared.items.Item.TheVariants.{Frame, Block, Zero}
 use Rattle.sync_survey.specs.declared.places.Piece.{Piece}
 use Rattle.sync_survey.specs.declared.rows.Row.{Row}
 use Rattle.sync_survey.specs.declared.rows.Before.{Before}
 use Rattle.sync_survey.specs.declared.rows.Behind.{Behind}
 use Rattle.sync_survey.specs.declared.survey_fault.SurveyFault.{SurveyFault}
+use Rattle.sync_survey.specs.Items.{size_of, item_front}
 use Rattle.sync_survey.specs.MainData.{row_in, own_area, lacks_data, end_behind}
 use Rattle.sync_survey.specs.Faults.{data_faults, later_faults, faults_at, first_of}
 use Rattle.sync_survey.specs.declared.runs.Part.{Part}
@@ -32,6 +34,17 @@ pub record Passes (part : Part) (file : List ℕ) (at : ℕ) (item : Item) (size
   pub frames : frames_of (run part file at).items ≡ option_to_list (frame_as at item) ++ frames_of (run part file (at + size)).items
   pub blocks : blocks_of (run part file at).items ≡ option_to_list (block_as at item) ++ blocks_of (run part file (at + size)).items
   pub stop : (run part file at).stop ≡ (run part file (at + size)).stop
+
+-- An item that is passed, by the bytes of a look and how many are left: it is the one with which they begin, and is whole. The bytes that
+-- are passed with it are its own, or after a zero byte all zero bytes that were seen.
+pub record PassesFront (front : List ℕ) (left : ℕ) (step : Step) : Type 0 where
+  pub item : step.item ≡ item_front front
+  pub zeros : step.item ≡ Zero → step.size ≡ prefix_len (λ b. b == 0) front
+  pub own : (step.item ≡ Zero → ⊥) → step.size ≡ size_of step.item
+  pub least : size_of step.item ≤ step.size
+  pub most : (h : HeaderFields) → step.item ≡ Frame h → size_of step.item ≤ 1441
+  pub some : 0 < step.size
+  pub within : step.size ≤ left
 
 -- this is passed at the offset, or no whole item of the part is there
 abbrev pub IsStep : Part → List ℕ → ℕ → Option Step → Type 0

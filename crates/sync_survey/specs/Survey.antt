@@ -1,11 +1,13 @@
 -- What a survey of a file of a folder answers.
-use Rattle.std.specs.Prelude.{◌≡◌, ℕ, ◌+◌, ◌<◌, ◌≤◌, nat_lt, if◌then◌else◌, List, [], ◌∷◌, length, slice_get, Option, Some, IfSome, Result, Ok, Err, false}
+use Rattle.std.specs.Prelude.{◌≡◌, ℕ, ◌+◌, ◌<◌, ◌≤◌, nat_lt, if◌then◌else◌, List, [], ◌∷◌, length, slice_get, Option, Some, IfSome, Result, Ok, Err, OnOk, false}
 use Rattle.bit_fields.specs.Bits.{AreBytes}
 use Rattle.frame_header.specs.Fields.{ClassFields, IsHeader}
 use Rattle.frame_header.specs.Tables.{class_of, length_of}
 use Rattle.side_info.specs.Side.{SideFits}
 use Rattle.outside.specs.Files.{Files, is_told, Holds, IsThere, IsMissing}
-use Rattle.outside.specs.Counts.{Counts, Rose, NothingFailed}
+use Rattle.outside.specs.Counts.{Counts, Rose, OnlyReads, NothingFailed}
+use Rattle.outside.specs.Feed.{Fed, IsFedFrom}
+use Rattle.sync_survey.specs.declared.items.Item.TheVariants.{Frame}
 use Rattle.sync_survey.specs.declared.places.Head.{Head}
 use Rattle.sync_survey.specs.declared.places.Piece.{Piece}
 use Rattle.sync_survey.specs.declared.places.PlacedFrame.{PlacedFrame}
@@ -13,6 +15,7 @@ use Rattle.sync_survey.specs.declared.places.Start.{Start}
 use Rattle.sync_survey.specs.declared.rows.Row.{Row}
 use Rattle.sync_survey.specs.declared.survey_fault.SurveyFault.{SurveyFault}
 use Rattle.sync_survey.specs.declared.survey_fault.SurveyFault.TheVariants.{TooLong}
+use Rattle.sync_survey.specs.Items.{size_of}
 use Rattle.sync_survey.specs.MainData.{place, end_before, is_lost}
 use Rattle.sync_survey.specs.Faults.{SurveyFields, surveyed, data_faults, faults_from, fault_place, NoneBefore, longest_file}
 use Rattle.sync_survey.specs.Start.{start_of}
@@ -56,18 +59,21 @@ pub record AsksForMemory (name : List ℕ) (files : Files) (before after : Count
   pub few : (bytes : List ℕ) → Holds files name bytes → length bytes ≤ longest_file
   pub counts : after ≡ before
 
--- why there is no survey, by the fault's kind: the file isn't there, could not be read, became shorter, there is no memory, or it is
--- refused
-abbrev pub IsSurveyFaultBy : List ℕ → Files → ℕ → Counts → Counts → SurveyFault → InputKind → Type 0
-IsSurveyFaultBy name files allowed before after fault kind = by_kind
+-- why a file isn't read, by the fault's kind: it isn't there, could not be read, became shorter, there is no memory, or it is refused so
+abbrev pub IsUnreadBy : List ℕ → Files → Counts → Counts → Type 0 → InputKind → Type 0
+IsUnreadBy name files before after refused kind = by_kind
     (record {
       absent = IsMissing files name × Rose before.misses after.misses;
       unread = Rose before.read_faults after.read_faults;
       shorter = HasShrunk files before after;
       too_much = AsksForMemory name files before after;
-      refused = RefusesBytes name files allowed before after fault;
+      refused = refused;
     })
     kind
+
+-- why there is no survey
+abbrev pub IsSurveyFaultBy : List ℕ → Files → ℕ → Counts → Counts → SurveyFault → InputKind → Type 0
+IsSurveyFaultBy name files allowed before after fault kind = IsUnreadBy name files before after (RefusesBytes name files allowed before after fault) kind
 
 abbrev pub IsSurveyFault : List ℕ → Files → ℕ → Counts → Counts → SurveyFault → Type 0
 IsSurveyFault name files allowed before after fault = IsSurveyFaultBy name files allowed before after fault (kind_of fault)
@@ -96,6 +102,19 @@ pub record HasLength (files : Files) (name : List ℕ) (size : ℕ) : Type 0 whe
   pub there : IsThere files name
   pub long : (bytes : List ℕ) → Holds files name bytes → size ≡ length bytes
   pub few : size ≤ longest_file
+
+-- a frame is whole within so many bytes, at an offset from this one on
+pub record IsWholeFrom (from size : ℕ) (p : PlacedFrame) : Type 0 where
+  pub behind : from ≤ p.offset
+  pub within : p.offset + size_of (Frame p.header) ≤ size
+
+-- What a call leaves that reads the name's file by a feed: the files stay, and the feed is fed from them; only reads are counted, and
+-- nothing where it succeeds.
+pub record ReadsBy {T : Type 0} (feed : Fed) (name : List ℕ) (result : Result T SurveyFault) (before after : Files) (old new : Counts) : Type 0 where
+  pub done : OnOk result (new ≡ old)
+  pub fed : IsFedFrom feed after name
+  pub files : after ≡ before
+  pub counts : OnlyReads old new
 
 -- ---- what every survey tells, whether the files are told or not
 
@@ -138,3 +157,9 @@ pub record IsLaidOut (s : SurveyFields) : Type 0 where
   pub blocks : BlocksAreLaid 0 s.blocks s.length
   pub few : s.length ≤ longest_file
   pub placed : AreWellPlaced s.head s.class s.frames
+
+-- where the name's file is told, this is its survey; and whether it is or not, all is laid out, and there are no more frames than allowed
+pub record IsWholeSurvey (name : List ℕ) (files : Files) (allowed : ℕ) (s : SurveyFields) : Type 0 where
+  pub exact : IsSurveyOf name files allowed s
+  pub laid : IsLaidOut s
+  pub few : length s.frames ≤ allowed

@@ -7,7 +7,7 @@ ghost use Rattle.sync_survey.specs.Items.{item_front as item_front_lem};
 ghost use Rattle.sync_survey.specs.Walk.{fault_at};
 ghost use Rattle.sync_survey.specs.Faults.{tells};
 ghost use Rattle.sync_survey.specs.Kinds.{HasRightNumbers, RefusesRightly};
-ghost use Rattle.sync_survey.specs.Survey.{HoldsOctets, IsSurveyOf, IsFirstFault, IsRefusal, IsSurveyFault, IsLaidOut};
+ghost use Rattle.sync_survey.specs.Survey.{HoldsOctets, IsSurveyOf, IsWholeSurvey, IsFirstFault, IsRefusal, IsSurveyFault, IsLaidOut};
 ghost use Rattle.sync_survey.specs.Begun.{IsWalk};
 
 use crate::found::Found;
@@ -60,9 +60,8 @@ fn judge_frames<D: Folder>(
 ) -> Result<Survey, SurveyFault>
     requires fed { IsFedFrom feed.old (D.files folder.old) name.now }
     requires walk { IsWalk (D.files folder.old) name.now walk }
-    ensures exact { IfOk result (λ s. IsSurveyOf name.now (D.files folder.old) allowed (tells s)) }
-    ensures laid { IfOk result (λ s. IsLaidOut (tells s)) }
-    ensures few { IfOk result (λ s. length (tells s).frames ≤ allowed) }
+    ensures surveyed { IfOk result (λ s. IsWholeSurvey name.now (D.files folder.old) allowed
+        (tells s)) }
     ensures done { OnOk result (D.counts folder.new ≡ D.counts folder.old) }
     ensures refused { IfErr result (IsRefusal name.now (D.files folder.old) allowed
         (D.counts folder.old) (D.counts folder.new)) }
@@ -112,9 +111,8 @@ fn survey_file<D: Folder>(
     name: &str,
     allowed: u32,
 ) -> Result<Survey, SurveyFault>
-    ensures exact { IfOk result (λ s. IsSurveyOf name.now (D.files folder.old) allowed (tells s)) }
-    ensures laid { IfOk result (λ s. IsLaidOut (tells s)) }
-    ensures few { IfOk result (λ s. length (tells s).frames ≤ allowed) }
+    ensures surveyed { IfOk result (λ s. IsWholeSurvey name.now (D.files folder.old) allowed
+        (tells s)) }
     ensures there { OnOk result (IsThere (D.files folder.old) name.now) }
     ensures octets { OnOk result (HoldsOctets name.now (D.files folder.old)) }
     ensures done { OnOk result (D.counts folder.new ≡ D.counts folder.old) }

@@ -1,12 +1,11 @@
 //! The front of a file.
 ghost use Rattle.std.specs.Prelude.{◌≡◌, ℕ, List, ◌+◌, ◌++◌, [], ◌≤◌, IfOk, IfErr, OnOk, option_to_list};
 ghost use Rattle.outside.specs.Files.{Holds};
-ghost use Rattle.outside.specs.Counts.{OnlyReads};
 ghost use Rattle.outside.specs.Feed.{IsFedFrom};
 ghost use Rattle.sync_survey.specs.Runs.{run, block_as, blocks_of};
 ghost use Rattle.sync_survey.specs.Start.{front_end_of};
 ghost use Rattle.sync_survey.specs.Kinds.{IsFromOutside};
-ghost use Rattle.sync_survey.specs.Survey.{HasLength, IsEarlyRefusal, BlocksAreLaid};
+ghost use Rattle.sync_survey.specs.Survey.{HasLength, ReadsBy, IsEarlyRefusal, BlocksAreLaid};
 
 use crate::items::Item;
 use crate::looks::look;
@@ -55,13 +54,11 @@ pub fn pass_front<D: Folder>(
         → pieces.new.items ≡ blocks_of (run Part.Front bytes 0).items) }
     ensures laid { IfOk result (λ at. BlocksAreLaid 0 pieces.new.items at) }
     ensures within { IfOk result (λ at. at ≤ size) }
-    ensures done { OnOk result (D.counts folder.new ≡ D.counts folder.old) }
+    ensures reads { ReadsBy feed.new name.now result (D.files folder.old) (D.files folder.new)
+        (D.counts folder.old) (D.counts folder.new) }
     ensures refused { IfErr result (IsEarlyRefusal name.now (D.files folder.old)
         (D.counts folder.old) (D.counts folder.new)) }
     ensures outside { IfErr result IsFromOutside }
-    ensures fed { IsFedFrom feed.new (D.files folder.new) name.now }
-    ensures files { D.files folder.new ≡ D.files folder.old }
-    ensures counts { OnlyReads (D.counts folder.old) (D.counts folder.new) }
 {
     let mut at = 0;
     while at < size {

@@ -1,14 +1,13 @@
 //! The head of a file.
-ghost use Rattle.std.specs.Prelude.{◌≡◌, ◌+◌, ◌^◌, ◌≤◌, IfOk, IfErr, IfSome, OnOk};
+ghost use Rattle.std.specs.Prelude.{◌≡◌, ◌+◌, ◌^◌, ◌≤◌, IfOk, IfErr, IfSome};
 ghost use Rattle.frame_header.specs.Tables.{class_of, length_of};
-ghost use Rattle.outside.specs.Counts.{OnlyReads};
 ghost use Rattle.outside.specs.Feed.{IsFedFrom};
 ghost use Rattle.sync_survey.specs.declared.items.Item.TheVariants.{Frame};
 ghost use Rattle.sync_survey.specs.Items.{size_of};
 ghost use Rattle.sync_survey.specs.Walk.{head_by, own_bytes, numbered_at, IsFrameOf};
 ghost use Rattle.sync_survey.specs.MainData.{head_area as head_area_lem};
 ghost use Rattle.sync_survey.specs.Kinds.{IsFromOutside};
-ghost use Rattle.sync_survey.specs.Survey.{HasLength, IsHeadOf, IsEarlyRefusal};
+ghost use Rattle.sync_survey.specs.Survey.{HasLength, IsHeadOf, ReadsBy, IsEarlyRefusal};
 
 use crate::looks::look;
 use crate::places::{Head, PlacedFrame};
@@ -50,13 +49,11 @@ pub fn find_head<D: Folder>(
     ensures head { IfOk result (IsHeadOf name.now (D.files folder.old) first.now) }
     // Whether the files are told or not.
     ensures same { IfOk result (λ o. IfSome o (IsFrameOf first.now)) }
-    ensures done { OnOk result (D.counts folder.new ≡ D.counts folder.old) }
+    ensures reads { ReadsBy feed.new name.now result (D.files folder.old) (D.files folder.new)
+        (D.counts folder.old) (D.counts folder.new) }
     ensures refused { IfErr result (IsEarlyRefusal name.now (D.files folder.old)
         (D.counts folder.old) (D.counts folder.new)) }
     ensures outside { IfErr result IsFromOutside }
-    ensures fed { IsFedFrom feed.new (D.files folder.new) name.now }
-    ensures files { D.files folder.new ≡ D.files folder.old }
-    ensures counts { OnlyReads (D.counts folder.old) (D.counts folder.new) }
 {
     look(feed, folder, name, size, first.offset)?;
     Ok(head_in(first, feed.bytes()))

@@ -28,6 +28,6 @@ pub use looks::{find_length, look};
 pub use places::{Head, Piece, PlacedFrame, Start};
 pub use rows::{Before, Behind, Row};
 pub use runs::{Part, Step, step_at};
-pub use starts::{anchored_frame, bytes_behind};
+pub use starts::{anchored_frame, bytes_behind, is_anchor};
 pub use survey_fault::SurveyFault;
 pub use surveys::Survey;

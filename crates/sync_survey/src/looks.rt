@@ -6,7 +6,7 @@ ghost use Rattle.outside.specs.Counts.{OnlyReads};
 ghost use Rattle.outside.specs.Feed.{IsFedFrom};
 ghost use Rattle.sync_survey.specs.Looks.{look_size, Shows};
 ghost use Rattle.sync_survey.specs.Kinds.{IsFromOutside};
-ghost use Rattle.sync_survey.specs.Survey.{HasLength, IsEarlyRefusal, IsOfLength};
+ghost use Rattle.sync_survey.specs.Survey.{HasLength, ReadsBy, IsEarlyRefusal, IsOfLength};
 
 use crate::survey_fault::SurveyFault;
 use outside::{Feed, FindFault, Folder};
@@ -60,13 +60,11 @@ pub fn look<D: Folder>(
         → Holds (D.files folder.old) name.now bytes → Shows bytes at feed.new.given left) }
     ensures left { IfOk result (λ left. left ≡ size - at) }
     ensures many { IfOk result (λ left. length feed.new.given ≡ min look_size left) }
-    ensures done { OnOk result (D.counts folder.new ≡ D.counts folder.old) }
+    ensures reads { ReadsBy feed.new name.now result (D.files folder.old) (D.files folder.new)
+        (D.counts folder.old) (D.counts folder.new) }
     ensures refused { IfErr result (IsEarlyRefusal name.now (D.files folder.old)
         (D.counts folder.old) (D.counts folder.new)) }
     ensures outside { IfErr result IsFromOutside }
-    ensures fed { IsFedFrom feed.new (D.files folder.new) name.now }
-    ensures files { D.files folder.new ≡ D.files folder.old }
-    ensures counts { OnlyReads (D.counts folder.old) (D.counts folder.new) }
 {
     let left = size - at;
     let wanted = left.min(LOOK_SIZE) as usize;

@@ -1,10 +1,9 @@
 //! Items that follow end to end.
-ghost use Rattle.std.specs.Prelude.{◌≡◌, ℕ, List, ◌≤◌, ◌<◌, ◌==◌, length, IfSome};
+ghost use Rattle.std.specs.Prelude.{◌≡◌, ℕ, List, ◌≤◌, ◌==◌, length, IfSome};
 ghost use Rattle.std.specs.List.{prefix_len};
-ghost use Rattle.frame_header.specs.Fields.{HeaderFields};
-ghost use Rattle.sync_survey.specs.Items.{size_of, item_front as item_front_lem};
+ghost use Rattle.sync_survey.specs.Items.{size_of};
 ghost use Rattle.sync_survey.specs.Runs.{belongs as belongs_lem};
-ghost use Rattle.sync_survey.specs.Looks.{Shows, IsStep};
+ghost use Rattle.sync_survey.specs.Looks.{Shows, IsStep, PassesFront};
 
 use crate::items::{Item, item_front};
 
@@ -63,15 +62,7 @@ pub fn step_at(part: Part, front: &[u8], left: u64) -> Option<Step>
     requires { length front.now ≤ left }
     ensures step { (file : List ℕ) (at : ℕ) → Shows file at front.now left
         → IsStep part file at result }
-    ensures item { IfSome result (λ s. s.item ≡ item_front_lem front.now) }
-    ensures zeros { IfSome result (λ s. s.item ≡ Item.Zero
-        → s.size ≡ prefix_len (λ b. b == 0) front.now) }
-    ensures own { IfSome result (λ s. (s.item ≡ Item.Zero → ⊥) → s.size ≡ size_of s.item) }
-    ensures least { IfSome result (λ s. size_of s.item ≤ s.size) }
-    ensures most { IfSome result (λ s. (h : HeaderFields) → s.item ≡ Item.Frame h
-        → size_of s.item ≤ 1441) }
-    ensures some { IfSome result (λ s. 0 < s.size) }
-    ensures within { IfSome result (λ s. s.size ≤ left) }
+    ensures passes { IfSome result (PassesFront front.now left) }
 {
     let item = item_front(front);
     if !belongs(part, &item) {

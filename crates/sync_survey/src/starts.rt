@@ -1,13 +1,12 @@
 //! Where the stream of frames begins.
-ghost use Rattle.std.specs.Prelude.{◌≡◌, ℕ, List, ◌+◌, ◌-◌, ◌≤◌, length, drop, Ok, IfOk, IfErr, IfSome, OnOk, MatchOption};
+ghost use Rattle.std.specs.Prelude.{◌≡◌, ℕ, List, ◌+◌, ◌-◌, ◌≤◌, length, drop, Ok, IfOk, IfErr, IfSome, MatchOption};
 ghost use Rattle.outside.specs.Files.{Holds};
-ghost use Rattle.outside.specs.Counts.{OnlyReads};
 ghost use Rattle.outside.specs.Feed.{IsFedFrom};
 ghost use Rattle.sync_survey.specs.Items.{size_of, item_front as item_front_lem};
 ghost use Rattle.sync_survey.specs.Start.{is_anchor as is_anchor_lem, anchored_frame as anchored_frame_lem, first_anchored as first_anchored_lem, longest_junk, start_behind as start_behind_lem, start_at, front_end_of, start_of};
 ghost use Rattle.sync_survey.specs.Looks.{Shows};
 ghost use Rattle.sync_survey.specs.Kinds.{RefusesRightly};
-ghost use Rattle.sync_survey.specs.Survey.{HasLength, IsEarlyRefusal};
+ghost use Rattle.sync_survey.specs.Survey.{HasLength, IsWholeFrom, ReadsBy, IsEarlyRefusal};
 
 use crate::items::{Item, is_same_class, item_front};
 use crate::looks::look;
@@ -21,7 +20,7 @@ const LONGEST_JUNK: u64 = 65_536;
 
 /// Whether the item may be at the end of an anchored frame of the class: a header of the class, a block, or
 /// the end of the file.
-fn is_anchor(class: Class, item: &Item) -> bool
+pub fn is_anchor(class: Class, item: &Item) -> bool
     ensures { result ≡ is_anchor_lem class item.now }
 {
     match item {
@@ -102,15 +101,11 @@ fn first_anchored<D: Folder>(
     requires early { from ≤ size + 1 }
     ensures first { IfOk result (λ o. (bytes : List ℕ) → Holds (D.files folder.old) name.now bytes
         → o ≡ first_anchored_lem longest_junk bytes from) }
-    ensures whole { IfOk result (λ o. IfSome o
-        (λ p. p.offset + size_of (Item.Frame p.header) ≤ size)) }
-    ensures behind { IfOk result (λ o. IfSome o (λ p. from ≤ p.offset)) }
-    ensures done { OnOk result (D.counts folder.new ≡ D.counts folder.old) }
+    ensures placed { IfOk result (λ o. IfSome o (IsWholeFrom from size)) }
+    ensures reads { ReadsBy feed.new name.now result (D.files folder.old) (D.files folder.new)
+        (D.counts folder.old) (D.counts folder.new) }
     ensures refused { IfErr result (IsEarlyRefusal name.now (D.files folder.old)
         (D.counts folder.old) (D.counts folder.new)) }
-    ensures fed { IsFedFrom feed.new (D.files folder.new) name.now }
-    ensures files { D.files folder.new ≡ D.files folder.old }
-    ensures counts { OnlyReads (D.counts folder.old) (D.counts folder.new) }
 {
     for at in from..size.min(from + LONGEST_JUNK) {
         let left = look(feed, folder, name, size, at)?;
@@ -146,12 +141,10 @@ pub(crate) fn find_start<D: Folder>(
         → start_of bytes ≡ Ok s) }
     ensures whole { IfOk result (λ s. s.first.offset + size_of (Item.Frame s.first.header) ≤ size) }
     ensures junk { IfOk result (λ s. (s.front_end ≡ front_end) × (front_end ≤ s.first.offset)) }
-    ensures done { OnOk result (D.counts folder.new ≡ D.counts folder.old) }
+    ensures reads { ReadsBy feed.new name.now result (D.files folder.old) (D.files folder.new)
+        (D.counts folder.old) (D.counts folder.new) }
     ensures refused { IfErr result (IsEarlyRefusal name.now (D.files folder.old)
         (D.counts folder.old) (D.counts folder.new)) }
-    ensures fed { IsFedFrom feed.new (D.files folder.new) name.now }
-    ensures files { D.files folder.new ≡ D.files folder.old }
-    ensures counts { OnlyReads (D.counts folder.old) (D.counts folder.new) }
 {
     let left = look(feed, folder, name, size, front_end)?;
     if let Some(start) = start_here(&item_front(feed.bytes()), front_end, left) {

@@ -9,11 +9,12 @@ use Rattle.salvage.proofs.ProgressLaws.{gap_read, gap_laid}
 use Rattle.salvage.proofs.reading.read_gap.Goals as goal
 
 pub skip-requires : goal.skip-requires
-skip-requires g c = omega (arith, c.end_of-end.ensures.behind (c.args.found.now.at + 1) (omega (arith, c.requires.before)) c.in_ok-next.ensures.behind)
+skip-requires g c = omega (arith, (c.end_of-end.ensures.within (c.args.found.now.at + 1) (omega (arith, c.requires.before)) c.in_ok-next.ensures.placed).0)
 
 pub returns-clause-reading : goal.returns-clause-reading
 returns-clause-reading g c =
-    let some : c.args.found.now.at < c.end_of-end.result = omega (arith, c.end_of-end.ensures.behind (c.args.found.now.at + 1) (omega (arith, c.requires.before)) c.in_ok-next.ensures.behind) in
+    let end_is = c.end_of-end.ensures.within (c.args.found.now.at + 1) (omega (arith, c.requires.before)) c.in_ok-next.ensures.placed in
+    let some : c.args.found.now.at < c.end_of-end.result = omega (arith, end_is.0) in
     let old = c.args.found.now in
     let new = c.skip.new.self in
     let begun = c.args.begun.now in
@@ -26,7 +27,7 @@ returns-clause-reading g c =
             ∙ gap_end-by bytes (class_in begun) old.at in
             gap_read bytes begun old new (c.requires.reading.told bytes holds) (omega (arith, c.requires.before, c.requires.begun.known.long bytes holds)) (c.requires.none bytes holds)
             (subst (λ n. AddsGap n old new) end c.in_ok-skip.ensures);
-        laid = gap_laid begun old new c.requires.reading.laid c.end_of-end.result some (c.end_of-end.ensures.within c.in_ok-next.ensures.whole) c.in_ok-skip.ensures;
+        laid = gap_laid begun old new c.requires.reading.laid c.end_of-end.result some end_is.1 c.in_ok-skip.ensures;
       };
       on = omega (arith, some, c.in_ok-skip.ensures.at);
     }

@@ -4,7 +4,8 @@ use Rattle.sync_survey.specs.declared.survey_fault.SurveyFault.TheVariants.{NoFr
 use Rattle.sync_survey.specs.Survey.{BlocksAreLaid}
 use Rattle.salvage.specs.Damaged.{tells_of, IsReadRefusal}
 use Rattle.salvage.specs.Progress.{told_of, IsLaidOut}
-use Rattle.salvage.proofs.Results.{if_ok, err_then}
+use Rattle.std.proofs.lemmas.Result.{IfErr-weaker}
+use Rattle.salvage.proofs.Results.{if_ok}
 use Rattle.salvage.proofs.ReadFaults.{bytes_refusal}
 use Rattle.salvage.proofs.ProgressLaws.{IsFirst, begun_read, begun_laid, read_whole, all_read, no_frames, laid_out}
 use Rattle.salvage.proofs.reading.read_on.Goals as goal
@@ -47,9 +48,10 @@ returns-clause-refused g c =
     let files = g.D.Folder.files c.args.folder.now in
     let before = g.D.Folder.counts c.args.folder.now in
     let after = g.D.Folder.counts c.read_things.new.folder in
-    err_then c.damaged_by.result (λ fault. (fault ≡ NoFrame begun.start.front_end) × (found.rows.items ≡ [])) (IsReadRefusal name files before after) c.damaged_by.ensures.none (λ fault is.
+    IfErr-weaker c.damaged_by.result (λ fault. (fault ≡ NoFrame begun.start.front_end) × (found.rows.items ≡ [])) (IsReadRefusal name files before after) (λ fault is.
     subst (IsReadRefusal name files before after) (sym is.0)
     (bytes_refusal name files before after (NoFrame begun.start.front_end) begun.size c.requires.begun.known c.in_ok-read_things.ensures.done (refl, tt) (λ bytes holds.
     let known = c.requires.begun.known.long bytes holds in
     no_frames bytes begun found (c.requires.begun.told bytes holds) (omega (arith, known, c.requires.begun.known.few))
     (read_whole bytes begun found (c.in_ok-read_things.ensures.reading.told bytes holds) (omega (arith, known, c.in_ok-read_things.ensures.end))) is.1)))
+    c.damaged_by.ensures.none

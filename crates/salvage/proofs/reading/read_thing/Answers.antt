@@ -23,7 +23,7 @@ returns-in_err-left-clause-refused g c =
 pub keep-requires-clause-room : goal.keep-requires-clause-room
 keep-requires-clause-room g c = λ h frame.
     subst (λ front. overhead_of (class_of h) h.protected ≤ length front) (c.bytes.ensures ∙ sym c.bytes-2.ensures)
-    (shown_room c.bytes.result.now c.in-Some.step.item h c.in-Some.step.size c.in_ok-left.left c.in-Some.ensures.item frame (c.in-Some.ensures.most h frame) c.in-Some.ensures.least c.in-Some.ensures.within
+    (shown_room c.bytes.result.now c.in-Some.step.item h c.in-Some.step.size c.in_ok-left.left c.in-Some.ensures.passes.item frame (c.in-Some.ensures.passes.most h frame) c.in-Some.ensures.passes.least c.in-Some.ensures.passes.within
     (ap length c.bytes.ensures ∙ c.in_ok-left.ensures.many))
 
 pub returns-clause-reading : goal.returns-clause-reading
@@ -34,7 +34,7 @@ returns-clause-reading g c =
     let item = c.in-Some.step.item in
     let size = c.in-Some.step.size in
     let front = c.bytes.result.now in
-    let within : old.at + size ≤ begun.size = omega (arith, c.in-Some.ensures.within, c.in_ok-left.ensures.left, c.requires.before) in
+    let within : old.at + size ≤ begun.size = omega (arith, c.in-Some.ensures.passes.within, c.in_ok-left.ensures.left, c.requires.before) in
     on_both c.keep.result (λ _. AddsItem item size c.bytes-2.result.now old new) _ _ _ c.keep.ensures.kept c.keep.ensures.few (λ _ kept few.
     let adds : AddsItem item size front old new = subst (λ l. AddsItem item size l old new) (c.bytes-2.ensures ∙ sym c.bytes.ensures) kept in
     record {
@@ -42,10 +42,10 @@ returns-clause-reading g c =
         told = λ bytes holds.
             let seen = subst (λ l. Shows bytes old.at l c.in_ok-left.left) (sym c.bytes.ensures) (c.in_ok-left.ensures.shows bytes holds) in
             item_more bytes begun old new item size front c.in_ok-left.left (c.requires.reading.told bytes holds) seen
-            (subst (λ (r : Role). IsRead bytes r old.at (Some c.in-Some.step)) c.later_role-role.ensures (c.in-Some.ensures.read bytes seen)) c.in-Some.ensures.zeros c.in-Some.ensures.own adds;
-        laid = item_laid begun old new c.requires.reading.laid item size front few c.in-Some.ensures.item (subst (λ (r : Role). admits_item r old.at item front ≡ true) c.later_role-role.ensures c.in-Some.ensures.usable) c.in-Some.ensures.least within adds;
+            (subst (λ (r : Role). IsRead bytes r old.at (Some c.in-Some.step)) c.later_role-role.ensures (c.in-Some.ensures.read bytes seen)) c.in-Some.ensures.passes.zeros c.in-Some.ensures.passes.own adds;
+        laid = item_laid begun old new c.requires.reading.laid item size front few c.in-Some.ensures.passes.item (subst (λ (r : Role). admits_item r old.at item front ≡ true) c.later_role-role.ensures c.in-Some.ensures.usable) c.in-Some.ensures.passes.least within adds;
       };
-      on = omega (arith, adds.at, c.in-Some.ensures.some);
+      on = omega (arith, adds.at, c.in-Some.ensures.passes.some);
     })
 
 pub returns-clause-refused : goal.returns-clause-refused
@@ -55,8 +55,8 @@ returns-clause-refused g c =
     let item = c.in-Some.step.item in
     if_err c.keep.result _ (λ fault. (fault ≡ Memory) ⊎ IsPastMost item old fault) _ c.keep.ensures.kept (λ fault is. elim is as (λ _. IsReadRefusal c.args.name.now (g.D.Folder.files c.args.folder.now) (g.D.Folder.counts c.args.folder.now) (g.D.Folder.counts c.look.new.folder) fault) [
       | inl memory ↦ subst (IsReadRefusal c.args.name.now (g.D.Folder.files c.args.folder.now) (g.D.Folder.counts c.args.folder.now) (g.D.Folder.counts c.look.new.folder)) (sym memory)
-          (memory_refusal c.args.name.now (g.D.Folder.files c.args.folder.now) (g.D.Folder.counts c.args.folder.now) (g.D.Folder.counts c.look.new.folder) begun.size c.requires.begun.known c.in_ok-left.ensures.done)
-      | inr past ↦ bytes_refusal c.args.name.now (g.D.Folder.files c.args.folder.now) (g.D.Folder.counts c.args.folder.now) (g.D.Folder.counts c.look.new.folder) fault begun.size c.requires.begun.known c.in_ok-left.ensures.done
+          (memory_refusal c.args.name.now (g.D.Folder.files c.args.folder.now) (g.D.Folder.counts c.args.folder.now) (g.D.Folder.counts c.look.new.folder) begun.size c.requires.begun.known c.in_ok-left.ensures.reads.done)
+      | inr past ↦ bytes_refusal c.args.name.now (g.D.Folder.files c.args.folder.now) (g.D.Folder.counts c.args.folder.now) (g.D.Folder.counts c.look.new.folder) fault begun.size c.requires.begun.known c.in_ok-left.ensures.reads.done
           (past_rightly item old fault past) (λ bytes holds.
           let seen = subst (λ l. Shows bytes old.at l c.in_ok-left.left) (sym c.bytes.ensures) (c.in_ok-left.ensures.shows bytes holds) in
           past_most bytes begun old item fault (c.requires.begun.told bytes holds) (omega (arith, c.requires.begun.known.few, c.requires.begun.known.long bytes holds)) (c.requires.reading.told bytes holds)

@@ -44,5 +44,5 @@ returns c = λ none.
     bare_unanchored c.args.role.now c.args.offset front place h here near
     (ap (λ l. is_anchor (class_of h) (item_front l)) (sym (c.bytes_behind.ensures ∙ ap (λ n. drop (place + n) front) c.length.ensures.length))
     ∙ ap (λ k. is_anchor k (item_front c.bytes_behind.result.now)) (sym c.class.ensures)
-    ∙ sym c.is_anchor.ensures
+    ∙ sym (c.is_anchor.ensures ∙ ap (is_anchor c.class.result) c.item_front.ensures)
     ∙ none)

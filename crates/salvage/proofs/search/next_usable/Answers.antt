@@ -19,6 +19,12 @@ returns-in-Some-clause-next g c = λ bytes holds.
     sym (next_usable-some bytes c.args.role c.args.from c.loop-at.at c.in-Some.frame c.loop-at.invariant.low (omega (arith, c.loop-at-test.true, c.requires.known.long bytes holds))
     (sym (c.in-Some.ensures.frame bytes (subst (λ front. Shows bytes c.loop-at.at front c.in_ok-left.left) (sym c.bytes.ensures) shows))) (c.loop-at.invariant.none bytes holds))
 
+pub returns-in-Some-clause-placed : goal.returns-in-Some-clause-placed
+returns-in-Some-clause-placed g c = record {
+  behind = omega (arith, c.in-Some.ensures.offset, c.loop-at.invariant.low);
+  within = omega (arith, c.in-Some.ensures.offset, c.in-Some.ensures.within, c.in_ok-left.ensures.left, c.loop-at-test.true);
+}
+
 pub loop-at-preserved : goal.loop-at-preserved
 loop-at-preserved g c = record {
   none = λ bytes holds earlier low high.
@@ -29,9 +35,9 @@ loop-at-preserved g c = record {
       (sym (c.in_default.ensures.frame bytes seen))
       (λ k low high. passed_bare bytes c.loop-at.at c.bytes-in-loop-at.result.now c.in_ok-left.left again c.args.role c.bare-at.result k c.bare-at.ensures.few c.bare-at.ensures.none low high) low high;
   low = omega (arith, c.loop-at.invariant.low);
-  fed = c.in_ok-left.ensures.fed;
-  files = c.in_ok-left.ensures.files ∙ c.loop-at.invariant.files;
-  counts = c.in_ok-left.ensures.done ∙ c.loop-at.invariant.counts;
+  fed = c.in_ok-left.ensures.reads.fed;
+  files = c.in_ok-left.ensures.reads.files ∙ c.loop-at.invariant.files;
+  counts = c.in_ok-left.ensures.reads.done ∙ c.loop-at.invariant.counts;
 }
 
 pub returns-clause-next : goal.returns-clause-next

@@ -71,7 +71,7 @@ returns-in_err-left-clause-refused g c =
 pub returns-in_default-clause-refused : goal.returns-in_default-clause-refused
 returns-in_default-clause-refused g c =
     bytes_refusal c.args.name.now (g.D.Folder.files c.args.folder.now) c.args.allowed (g.D.Folder.counts c.args.folder.now) (g.D.Folder.counts c.look.new.folder) c.args.walk.size c.stop_fault.result c.requires.walk.known
-    (c.in_ok-left.ensures.done ∙ c.loop-at.invariant.counts) c.stop_fault.ensures.refused (λ bytes holds.
+    (c.in_ok-left.ensures.reads.done ∙ c.loop-at.invariant.counts) c.stop_fault.ensures.refused (λ bytes holds.
     let now = c.loop-at.found in
     let so_far = c.loop-at.invariant.surveyed bytes holds in
     let shows = c.in_ok-left.ensures.shows bytes (subst (λ f. Holds f c.args.name.now bytes) (sym c.loop-at.invariant.files) holds) in
@@ -83,7 +83,7 @@ returns-in_default-clause-refused g c =
 pub keep-requires-clause-room : goal.keep-requires-clause-room
 keep-requires-clause-room g c = λ h frame.
     subst (λ front. overhead_of (class_of h) h.protected ≤ length front) (c.bytes.ensures ∙ sym c.bytes-in-loop-at.ensures)
-    (shown_room c.bytes.result.now c.in-Some.step.item h c.in-Some.step.size c.in_ok-left.left c.in-Some.ensures.item frame (c.in-Some.ensures.most h frame) c.in-Some.ensures.least c.in-Some.ensures.within
+    (shown_room c.bytes.result.now c.in-Some.step.item h c.in-Some.step.size c.in_ok-left.left c.in-Some.ensures.passes.item frame (c.in-Some.ensures.passes.most h frame) c.in-Some.ensures.passes.least c.in-Some.ensures.passes.within
     (ap length c.bytes.ensures ∙ c.in_ok-left.ensures.many))
 
 pub returns-in_err-keep-clause-refused : goal.returns-in_err-keep-clause-refused
@@ -94,11 +94,11 @@ returns-in_err-keep-clause-refused g c =
     let front = c.bytes.result.now in
     rw (p.1, p.2)
     (keep_refusal c.args.name.now (g.D.Folder.files c.args.folder.now) c.args.allowed (g.D.Folder.counts c.args.folder.now) (g.D.Folder.counts c.look.new.folder) c.args.walk.size c.in_err-keep.field-0.0 c.class-class.result c.loop-at.at
-    item c.bytes-in-loop-at.result.now now c.requires.walk.known (c.in_ok-left.ensures.done ∙ c.loop-at.invariant.counts) (λ bytes holds is.
+    item c.bytes-in-loop-at.result.now now c.requires.walk.known (c.in_ok-left.ensures.reads.done ∙ c.loop-at.invariant.counts) (λ bytes holds is.
     let shows = c.in_ok-left.ensures.shows bytes (subst (λ f. Holds f c.args.name.now bytes) (sym c.loop-at.invariant.files) holds) in
     let seen = subst (λ l. Shows bytes c.loop-at.at l c.in_ok-left.left) (sym c.bytes.ensures) shows in
     refused bytes c.args.walk.start c.args.walk.head c.args.allowed now c.loop-at.at (c.loop-at.invariant.surveyed bytes holds) front c.in_ok-left.left seen
-    (record { start_is = (c.requires.walk.told bytes holds).start; head_is = (c.requires.walk.told bytes holds).head }) item c.in-Some.step.size c.in_err-keep.field-0.0 (few_by front item c.in-Some.ensures.item c.in-Some.ensures.most)
+    (record { start_is = (c.requires.walk.told bytes holds).start; head_is = (c.requires.walk.told bytes holds).head }) item c.in-Some.step.size c.in_err-keep.field-0.0 (few_by front item c.in-Some.ensures.passes.item c.in-Some.ensures.passes.most)
     (c.in-Some.ensures.step bytes c.loop-at.at seen)
     (subst (λ l. IsFrameFault (class_from c.args.walk.start) c.args.allowed c.loop-at.at item l now c.in_err-keep.field-0.0) (c.bytes-in-loop-at.ensures ∙ sym c.bytes.ensures)
     (subst (λ class. IsFrameFault class c.args.allowed c.loop-at.at item c.bytes-in-loop-at.result.now now c.in_err-keep.field-0.0) c.class-class.ensures is))) c.in_err-keep.ensures)
@@ -116,13 +116,13 @@ loop-at-preserved g c =
           let shows = c.in_ok-left.ensures.shows bytes (subst (λ f. Holds f c.args.name.now bytes) (sym c.loop-at.invariant.files) holds) in
           let seen = subst (λ l. Shows bytes c.loop-at.at l c.in_ok-left.left) (sym c.bytes.ensures) shows in
           kept bytes c.args.walk.start c.args.walk.head c.args.allowed now c.loop-at.at (c.loop-at.invariant.surveyed bytes holds) front c.in_ok-left.left seen item c.keep.new.self c.in-Some.step.size
-          (few_by front item c.in-Some.ensures.item c.in-Some.ensures.most) (c.in-Some.ensures.step bytes c.loop-at.at seen) keeps;
-      laid = laid_more c.args.walk.head c.args.walk.start.first.offset (class_from c.args.walk.start) c.args.allowed c.loop-at.at front now c.keep.new.self c.in-Some.step.size c.loop-at.invariant.laid item (item_header front item c.in-Some.ensures.item) c.in-Some.ensures.least keeps;
+          (few_by front item c.in-Some.ensures.passes.item c.in-Some.ensures.passes.most) (c.in-Some.ensures.step bytes c.loop-at.at seen) keeps;
+      laid = laid_more c.args.walk.head c.args.walk.start.first.offset (class_from c.args.walk.start) c.args.allowed c.loop-at.at front now c.keep.new.self c.in-Some.step.size c.loop-at.invariant.laid item (item_header front item c.in-Some.ensures.passes.item) c.in-Some.ensures.passes.least keeps;
       few = few_more (class_from c.args.walk.start) c.args.allowed c.loop-at.at front now c.keep.new.self item keeps c.loop-at.invariant.few;
-      within = omega (arith, c.in-Some.ensures.within, c.in_ok-left.ensures.left, c.loop-at.invariant.within);
-      fed = c.in_ok-left.ensures.fed;
-      files = c.in_ok-left.ensures.files ∙ c.loop-at.invariant.files;
-      counts = c.in_ok-left.ensures.done ∙ c.loop-at.invariant.counts;
+      within = omega (arith, c.in-Some.ensures.passes.within, c.in_ok-left.ensures.left, c.loop-at.invariant.within);
+      fed = c.in_ok-left.ensures.reads.fed;
+      files = c.in_ok-left.ensures.reads.files ∙ c.loop-at.invariant.files;
+      counts = c.in_ok-left.ensures.reads.done ∙ c.loop-at.invariant.counts;
     }
 
 pub returns-then-is_empty-clause-refused : goal.returns-then-is_empty-clause-refused
@@ -145,27 +145,27 @@ head_within start size whole (Some head) same = record {
   within = omega (arith, same.0, ap (λ h. size_of (Frame h)) same.1, whole);
 }
 
-pub returns-clause-laid : goal.returns-clause-laid
-returns-clause-laid g c =
+pub returns-clause-surveyed : goal.returns-clause-surveyed
+returns-clause-surveyed g c =
     let now = c.loop-at.found in
     let laid = c.loop-at.invariant.laid in
     let start = c.args.walk.start in record {
-      junk = c.requires.walk.junk;
-      first = omega (arith, c.requires.walk.whole);
-      head = head_within start c.args.walk.size c.requires.walk.whole c.args.walk.head c.requires.walk.same;
-      some = some_of now.rows.items (λ none. true≢false (sym (eq-eqb (vec_len now.rows) 0 (omega (arith, none, now.rows.ok.0))) ∙ sym c.is_empty.ensures ∙ c.if-is_empty.false));
-      frames = laid_later start.first.offset now.rows.items c.loop-at.at c.args.walk.size laid.rows c.loop-at.invariant.within;
-      blocks = pieces_later 0 now.pieces.items c.loop-at.at c.args.walk.size laid.pieces c.loop-at.invariant.within;
-      few = c.requires.walk.known.few;
-      placed = laid.placed.frames;
+      exact = λ bytes holds.
+          let so_far = c.loop-at.invariant.surveyed bytes holds in
+          survey_of-short bytes c.args.allowed (omega (arith, c.requires.walk.known.few, c.requires.walk.known.long bytes holds))
+          ∙ whole bytes c.args.walk.start c.args.walk.head c.args.allowed so_far.frames now.pieces.items now.before.place now.before.ended c.loop-at.at so_far.surveyed
+          (record { start_is = (c.requires.walk.told bytes holds).start; head_is = (c.requires.walk.told bytes holds).head }) (omega (arith, c.loop-at-test.false, c.requires.walk.known.long bytes holds))
+          (λ none. true≢false (sym (eq-eqb (vec_len now.rows) 0 (omega (arith, ap length none, now.rows.ok.0, frames_count c.args.walk.head now.rows.items so_far.frames so_far.marks))) ∙ sym c.is_empty.ensures ∙ c.if-is_empty.false))
+          ∙ ap₂ (λ (l : List Row) n. Ok (record (told_by bytes c.args.walk.start c.args.walk.head so_far.frames now.pieces.items) { frames = l; length = n })) (sym so_far.marks) (sym (c.requires.walk.known.long bytes holds));
+      laid = record {
+        junk = c.requires.walk.junk;
+        first = omega (arith, c.requires.walk.whole);
+        head = head_within start c.args.walk.size c.requires.walk.whole c.args.walk.head c.requires.walk.same;
+        some = some_of now.rows.items (λ none. true≢false (sym (eq-eqb (vec_len now.rows) 0 (omega (arith, none, now.rows.ok.0))) ∙ sym c.is_empty.ensures ∙ c.if-is_empty.false));
+        frames = laid_later start.first.offset now.rows.items c.loop-at.at c.args.walk.size laid.rows c.loop-at.invariant.within;
+        blocks = pieces_later 0 now.pieces.items c.loop-at.at c.args.walk.size laid.pieces c.loop-at.invariant.within;
+        few = c.requires.walk.known.few;
+        placed = laid.placed.frames;
+      };
+      few = c.loop-at.invariant.few;
     }
-
-pub returns-clause-exact : goal.returns-clause-exact
-returns-clause-exact g c = λ bytes holds.
-    let now = c.loop-at.found in
-    let so_far = c.loop-at.invariant.surveyed bytes holds in
-    survey_of-short bytes c.args.allowed (omega (arith, c.requires.walk.known.few, c.requires.walk.known.long bytes holds))
-    ∙ whole bytes c.args.walk.start c.args.walk.head c.args.allowed so_far.frames now.pieces.items now.before.place now.before.ended c.loop-at.at so_far.surveyed
-    (record { start_is = (c.requires.walk.told bytes holds).start; head_is = (c.requires.walk.told bytes holds).head }) (omega (arith, c.loop-at-test.false, c.requires.walk.known.long bytes holds))
-    (λ none. true≢false (sym (eq-eqb (vec_len now.rows) 0 (omega (arith, ap length none, now.rows.ok.0, frames_count c.args.walk.head now.rows.items so_far.frames so_far.marks))) ∙ sym c.is_empty.ensures ∙ c.if-is_empty.false))
-    ∙ ap₂ (λ (l : List Row) n. Ok (record (told_by bytes c.args.walk.start c.args.walk.head so_far.frames now.pieces.items) { frames = l; length = n })) (sym so_far.marks) (sym (c.requires.walk.known.long bytes holds))

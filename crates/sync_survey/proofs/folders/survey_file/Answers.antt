@@ -21,24 +21,24 @@ pub returns-in_err-start-clause-refused : goal.returns-in_err-start-clause-refus
 returns-in_err-start-clause-refused g c =
     let p = err_from_is_err_and c.from_residual-in_err-start.result c.from_residual-in_err-start.ensures.1 in
     rw (p.1, p.2) (refusal_later c.args.name.now (g.D.Folder.files c.args.folder.now) (g.D.Folder.files c.pass_front.new.folder) c.args.allowed (g.D.Folder.counts c.args.folder.now) (g.D.Folder.counts c.pass_front.new.folder)
-    (g.D.Folder.counts c.find_start.new.folder) c.in_err-start.field-0.0 (c.in_ok-front_end.ensures.files ∙ c.in_ok-size.ensures.files) (c.in_ok-front_end.ensures.done ∙ c.in_ok-size.ensures.done)
+    (g.D.Folder.counts c.find_start.new.folder) c.in_err-start.field-0.0 (c.in_ok-front_end.ensures.reads.files ∙ c.in_ok-size.ensures.files) (c.in_ok-front_end.ensures.reads.done ∙ c.in_ok-size.ensures.done)
     (c.in_err-start.ensures.refused c.args.allowed))
 
 pub returns-in_err-head-clause-refused : goal.returns-in_err-head-clause-refused
 returns-in_err-head-clause-refused g c =
     let p = err_from_is_err_and c.from_residual-in_err-head.result c.from_residual-in_err-head.ensures.1 in
     rw (p.1, p.2) (refusal_later c.args.name.now (g.D.Folder.files c.args.folder.now) (g.D.Folder.files c.find_start.new.folder) c.args.allowed (g.D.Folder.counts c.args.folder.now) (g.D.Folder.counts c.find_start.new.folder)
-    (g.D.Folder.counts c.find_head.new.folder) c.in_err-head.field-0.0 (c.in_ok-start.ensures.files ∙ c.in_ok-front_end.ensures.files ∙ c.in_ok-size.ensures.files)
-    (c.in_ok-start.ensures.done ∙ c.in_ok-front_end.ensures.done ∙ c.in_ok-size.ensures.done) (c.in_err-head.ensures.refused c.args.allowed))
+    (g.D.Folder.counts c.find_head.new.folder) c.in_err-head.field-0.0 (c.in_ok-start.ensures.reads.files ∙ c.in_ok-front_end.ensures.reads.files ∙ c.in_ok-size.ensures.files)
+    (c.in_ok-start.ensures.reads.done ∙ c.in_ok-front_end.ensures.reads.done ∙ c.in_ok-size.ensures.done) (c.in_err-head.ensures.refused c.args.allowed))
 
 -- what was found before the frames is what they are judged by
 pub judge_frames-requires-clause-walk : goal.judge_frames-requires-clause-walk
 judge_frames-requires-clause-walk g c =
     let files = g.D.Folder.files in
     let name = c.args.name.now in
-    let from_start : files c.find_head.new.folder ≡ files c.find_start.new.folder = c.in_ok-head.ensures.files in
-    let from_front : files c.find_head.new.folder ≡ files c.pass_front.new.folder = from_start ∙ c.in_ok-start.ensures.files in
-    let from_length : files c.find_head.new.folder ≡ files c.find_length.new.folder = from_front ∙ c.in_ok-front_end.ensures.files in
+    let from_start : files c.find_head.new.folder ≡ files c.find_start.new.folder = c.in_ok-head.ensures.reads.files in
+    let from_front : files c.find_head.new.folder ≡ files c.pass_front.new.folder = from_start ∙ c.in_ok-start.ensures.reads.files in
+    let from_length : files c.find_head.new.folder ≡ files c.find_length.new.folder = from_front ∙ c.in_ok-front_end.ensures.reads.files in
     let junk = c.in_ok-start.ensures.junk in record {
       known = subst (λ f. HasLength f name c.in_ok-size.size) (sym (from_length ∙ c.in_ok-size.ensures.files)) c.in_ok-size.ensures.found;
       whole = c.in_ok-start.ensures.whole;

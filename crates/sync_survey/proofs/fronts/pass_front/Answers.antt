@@ -41,11 +41,11 @@ loop-at-preserved g c = record {
       let shows = c.in_ok-left.ensures.shows bytes (subst (λ f. Holds f c.args.name.now bytes) (sym c.loop-at.invariant.files) holds) in
       passed_more bytes c.loop-at.pieces.items c.keep_block.new.pieces.items c.loop-at.at c.in-Some.step.size c.in-Some.step.item (c.loop-at.invariant.passed bytes holds)
       (c.in-Some.ensures.step bytes c.loop-at.at (subst (λ front. Shows bytes c.loop-at.at front c.in_ok-left.left) (sym c.bytes.ensures) shows)) c.in_ok-keep_block.ensures;
-  laid = blocks_more c.loop-at.pieces.items c.keep_block.new.pieces.items c.loop-at.at c.in-Some.step.size c.in-Some.step.item c.loop-at.invariant.laid c.in-Some.ensures.least c.in_ok-keep_block.ensures;
-  within = omega (arith, c.in-Some.ensures.within, c.in_ok-left.ensures.left, c.loop-at.invariant.within);
-  fed = c.in_ok-left.ensures.fed;
-  files = c.in_ok-left.ensures.files ∙ c.loop-at.invariant.files;
-  counts = c.in_ok-left.ensures.done ∙ c.loop-at.invariant.counts;
+  laid = blocks_more c.loop-at.pieces.items c.keep_block.new.pieces.items c.loop-at.at c.in-Some.step.size c.in-Some.step.item c.loop-at.invariant.laid c.in-Some.ensures.passes.least c.in_ok-keep_block.ensures;
+  within = omega (arith, c.in-Some.ensures.passes.within, c.in_ok-left.ensures.left, c.loop-at.invariant.within);
+  fed = c.in_ok-left.ensures.reads.fed;
+  files = c.in_ok-left.ensures.reads.files ∙ c.loop-at.invariant.files;
+  counts = c.in_ok-left.ensures.reads.done ∙ c.loop-at.invariant.counts;
 }
 
 pub returns-clause-front_end : goal.returns-clause-front_end

@@ -18,17 +18,16 @@ returns-clause-step c = λ file at shows.
     step_passes file at c.args.front.now c.args.left shows c.args.part c.passed-size.result c.item_front-item.result c.item_front-item.ensures (sym c.belongs.ensures ∙ c.if-not-belongs.false)
     (omega (arith, c.size-own.ensures.size, c.if-own-left.false)) c.passed-size.ensures.zeros c.passed-size.ensures.size
 
-pub returns-clause-least : goal.returns-clause-least
-returns-clause-least c =
-    (sized c.args.part c.args.front.now c.args.left c.passed-size.result c.item_front-item.result c.item_front-item.ensures (sym c.belongs.ensures ∙ c.if-not-belongs.false)
-    (omega (arith, c.size-own.ensures.size, c.if-own-left.false)) c.requires c.passed-size.ensures.zeros c.passed-size.ensures.size).least
-
-pub returns-clause-some : goal.returns-clause-some
-returns-clause-some c =
-    (sized c.args.part c.args.front.now c.args.left c.passed-size.result c.item_front-item.result c.item_front-item.ensures (sym c.belongs.ensures ∙ c.if-not-belongs.false)
-    (omega (arith, c.size-own.ensures.size, c.if-own-left.false)) c.requires c.passed-size.ensures.zeros c.passed-size.ensures.size).some
-
-pub returns-clause-within : goal.returns-clause-within
-returns-clause-within c =
-    (sized c.args.part c.args.front.now c.args.left c.passed-size.result c.item_front-item.result c.item_front-item.ensures (sym c.belongs.ensures ∙ c.if-not-belongs.false)
-    (omega (arith, c.size-own.ensures.size, c.if-own-left.false)) c.requires c.passed-size.ensures.zeros c.passed-size.ensures.size).within
+pub returns-clause-passes : goal.returns-clause-passes
+returns-clause-passes c =
+    let is = sized c.args.part c.args.front.now c.args.left c.passed-size.result c.item_front-item.result c.item_front-item.ensures (sym c.belongs.ensures ∙ c.if-not-belongs.false)
+    (omega (arith, c.size-own.ensures.size, c.if-own-left.false)) c.requires c.passed-size.ensures.zeros c.passed-size.ensures.size in
+    record {
+      item = c.item_front-item.ensures;
+      zeros = c.passed-size.ensures.zeros;
+      own = c.passed-size.ensures.size;
+      least = is.least;
+      most = λ h frame. omega (arith, c.size-own.ensures.size, c.size-own.ensures.most h frame);
+      some = is.some;
+      within = is.within;
+    }

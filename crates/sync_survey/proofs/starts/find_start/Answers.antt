@@ -33,25 +33,25 @@ returns-in-Some-clause-start g c =
 pub returns-in-Some-clause-refused : goal.returns-in-Some-clause-refused
 returns-in-Some-clause-refused g c =
     let at = (goal.at.returns-in-Some-clause-refused g c).After-item_front in
-    start_err c.in-Some.start c.args.name.now (g.D.Folder.files c.args.folder.now) (g.D.Folder.counts c.args.folder.now) (g.D.Folder.counts c.look.new.folder) c.args.size c.requires.known c.in_ok-left.ensures.done
+    start_err c.in-Some.start c.args.name.now (g.D.Folder.files c.args.folder.now) (g.D.Folder.counts c.args.folder.now) (g.D.Folder.counts c.look.new.folder) c.args.size c.requires.known c.in_ok-left.ensures.reads.done
     c.in-Some.ensures.refused (λ bytes holds. begun g at bytes holds ∙ c.in-Some.ensures.start bytes (left_is g at bytes holds).left_is)
 
 pub returns-in_err-first-clause-refused : goal.returns-in_err-first-clause-refused
 returns-in_err-first-clause-refused g c =
     let p = err_from_is_err_and c.from_residual-in_err-first.result c.from_residual-in_err-first.ensures.1 in
     rw (p.1, p.2) (λ allowed. refusal_later c.args.name.now (g.D.Folder.files c.args.folder.now) (g.D.Folder.files c.look.new.folder) allowed (g.D.Folder.counts c.args.folder.now) (g.D.Folder.counts c.look.new.folder)
-    (g.D.Folder.counts c.first_anchored.new.folder) c.in_err-first.field-0.0 c.in_ok-left.ensures.files c.in_ok-left.ensures.done (c.in_err-first.ensures.refused allowed))
+    (g.D.Folder.counts c.first_anchored.new.folder) c.in_err-first.field-0.0 c.in_ok-left.ensures.reads.files c.in_ok-left.ensures.reads.done (c.in_err-first.ensures.refused allowed))
 
 pub returns-in-Some-2-clause-start : goal.returns-in-Some-2-clause-start
 returns-in-Some-2-clause-start g c = λ bytes holds.
     let at = (goal.at.returns-in-Some-2-clause-start g c).After-item_front in
-    let there = subst (λ f. Holds f c.args.name.now bytes) (sym c.in_ok-left.ensures.files) holds in
+    let there = subst (λ f. Holds f c.args.name.now bytes) (sym c.in_ok-left.ensures.reads.files) holds in
     begun g at bytes holds ∙ c.in_default.ensures.start bytes (left_is g at bytes holds).left_is ∙ ap (start_behind c.args.front_end) (sym (c.in_ok-first.ensures.first bytes there) ∙ c.in-Some-2.is)
 
 pub returns-in-None-clause-refused : goal.returns-in-None-clause-refused
 returns-in-None-clause-refused g c = λ allowed.
     start_refusal c.args.name.now (g.D.Folder.files c.args.folder.now) allowed (g.D.Folder.counts c.args.folder.now) (g.D.Folder.counts c.first_anchored.new.folder) c.args.size _ c.requires.known
-    (c.in_ok-first.ensures.done ∙ c.in_ok-left.ensures.done) (refl, tt) (λ bytes holds.
+    (c.in_ok-first.ensures.reads.done ∙ c.in_ok-left.ensures.reads.done) (refl, tt) (λ bytes holds.
     let at = (goal.at.returns-in-None-clause-refused g c).After-item_front in
-    let there = subst (λ f. Holds f c.args.name.now bytes) (sym c.in_ok-left.ensures.files) holds in
+    let there = subst (λ f. Holds f c.args.name.now bytes) (sym c.in_ok-left.ensures.reads.files) holds in
     begun g at bytes holds ∙ c.in_default.ensures.start bytes (left_is g at bytes holds).left_is ∙ ap (start_behind c.args.front_end) (sym (c.in_ok-first.ensures.first bytes there) ∙ c.in-None.is))

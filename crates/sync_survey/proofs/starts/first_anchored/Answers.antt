@@ -20,6 +20,12 @@ returns-in-Some-clause-first g c = λ bytes holds.
     sym (first_anchored-some longest_junk bytes c.args.from c.loop-at.at c.in-Some.first c.loop-at.auto.at (omega (arith, c.loop-at-test.true, c.min-at-end.ensures))
     (sym (c.in-Some.ensures.frame bytes (subst (λ front. Shows bytes c.loop-at.at front c.in_ok-left.left) (sym c.bytes.ensures) shows))) (c.loop-at.invariant.none bytes holds))
 
+pub returns-in-Some-clause-placed : goal.returns-in-Some-clause-placed
+returns-in-Some-clause-placed g c = record {
+  behind = omega (arith, c.in-Some.ensures.offset, c.loop-at.auto.at);
+  within = omega (arith, c.in-Some.ensures.offset, c.in-Some.ensures.within, c.in_ok-left.ensures.left, c.loop-at-test.true, c.min-at-end.ensures);
+}
+
 pub returns-clause-first : goal.returns-clause-first
 returns-clause-first g c = λ bytes holds.
     sym (none_anchored bytes c.args.size c.args.from c.loop-at.at (c.requires.known.long bytes holds) (omega (arith, c.loop-at-test.false, c.min-at-end.ensures)) (c.loop-at.invariant.none bytes holds))
