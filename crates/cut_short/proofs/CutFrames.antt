@@ -5,7 +5,6 @@ use Rattle.std.specs.List.{cons_option}
 use Rattle.std.proofs.Math.Path.{transport}
 use Rattle.std.proofs.lemmas.Bool.{ne_eqb}
 use Rattle.std.proofs.lemmas.List.{take-take, map-append, length-drop, drop_all}
-use Rattle.std.proofs.lemmas.List.Elements.{filter_map-append}
 use Rattle.std.proofs.lemmas.Option.{slice_get_within}
 use Rattle.frame_header.specs.Fields.{HeaderFields, IsHeader, ClassFields}
 use Rattle.frame_header.specs.Tables.{class_of, length_of, overhead_of}
@@ -52,16 +51,16 @@ module _ (file : List ℕ) (n : ℕ) (within : n ≤ length file) where
   abbrev now : List ℕ
   now = cut file n within
 
-  -- the frame is whole within them
-  pub record IsIn (p : PlacedFrame) : Type 0 where
-    pub header : IsHeader p.header
-    pub high : p.offset + length_of (class_of p.header) p.header.slot ≤ n
+  -- a frame with this header is whole within them
+  pub record IsIn (at : ℕ) (h : HeaderFields) : Type 0 where
+    pub header : IsHeader h
+    pub high : at + length_of (class_of h) h.slot ≤ n
 
-  abbrev pub AreIn : List PlacedFrame → Type 0
+  abbrev pub AreIn : List Row → Type 0
   AreIn [] = Unit {0}
-  AreIn (p ∷ ps) = IsIn p × AreIn ps
+  AreIn (r ∷ rows) = IsIn r.offset r.header × AreIn rows
 
-  in_cases : (at : ℕ) (item : Item) (ps : List PlacedFrame) → item_of Stream now at ≡ Some item → AreIn ps → AreIn (cons_option (frame_as at item) ps)
+  in_cases : (at : ℕ) (item : Item) (ps : List PlacedFrame) → item_of Stream now at ≡ Some item → AreIn (rows_of file ps) → AreIn (rows_of file (cons_option (frame_as at item) ps))
   in_cases at (Frame h) ps is are =
       let here = item_of-is Stream now at (Frame h) is in
       (record { header = header_front-in_range (drop at now) h (stands-at now at (Frame h) here.is); high = omega (arith, here.within, length-cut file n within) }, are)
@@ -71,11 +70,11 @@ module _ (file : List ℕ) (n : ℕ) (within : n ≤ length file) where
   in_cases at End ps is are = are
   in_cases at Nothing ps is are = are
 
-  frames-in : (from : ℕ) (ps : List Placed) (to : ℕ) → AreEndToEnd Stream now from ps to → AreIn (frames_of ps)
+  frames-in : (from : ℕ) (ps : List Placed) (to : ℕ) → AreEndToEnd Stream now from ps to → AreIn (rows_of file (frames_of ps))
   frames-in from [] to ends = tt
   frames-in from (p ∷ ps) to ends = in_cases p.offset p.item (frames_of ps) ends.1 (frames-in (p.offset + size_of p.item) ps to ends.2)
 
-  module _ (p : PlacedFrame) (is : IsIn p) where
+  module _ (p : PlacedFrame) (is : IsIn p.offset p.header) where
     low : p.offset ≤ n
     low = omega (arith, is.high)
 
@@ -98,19 +97,19 @@ module _ (file : List ℕ) (n : ℕ) (within : n ≤ length file) where
         let size = length_of (class_of p.header) p.header.slot in
         ap (take size) (drop-cut file n within p.offset low) ∙ take-take size (n - p.offset) (drop p.offset file) (omega (arith, is.high))
 
-  pub rows-same : (ps : List PlacedFrame) → AreIn ps → rows_of now ps ≡ rows_of file ps
+  pub rows-same : (ps : List PlacedFrame) → AreIn (rows_of file ps) → rows_of now ps ≡ rows_of file ps
   rows-same [] are = refl
   rows-same (p ∷ ps) are = ap₂ (λ (r : Row) (rs : List Row). r ∷ rs) (row-same p are.0) (rows-same ps are.1)
 
   -- the frame of each row
-  pub row-in : (ps : List PlacedFrame) (i : ℕ) (r : Row) → AreIn ps → slice_get (rows_of file ps) i ≡ Some r → (p : PlacedFrame) × IsIn p × (r ≡ row_of file p)
+  pub row-in : (ps : List PlacedFrame) (i : ℕ) (r : Row) → AreIn (rows_of file ps) → slice_get (rows_of file ps) i ≡ Some r → (p : PlacedFrame) × IsIn p.offset p.header × (r ≡ row_of file p)
   row-in [] i r are is = absurd cc
   row-in (p ∷ ps) zero r are is = let same : row_of file p ≡ r = cc in (p, are.0, sym same)
   row-in (p ∷ ps) (suc i) r are is = row-in ps i r are.1 is
 
   -- ---- their faults
 
-  pub sound-now : (head : Option Head) (class : ClassFields) (allowed many : ℕ) (ps : List PlacedFrame) (more : List Row) → AreIn ps → AreSound file head class allowed (rows_of file ps ++ more) → length (rows_of file ps) ≤ many
+  pub sound-now : (head : Option Head) (class : ClassFields) (allowed many : ℕ) (ps : List PlacedFrame) (more : List Row) → AreIn (rows_of file ps) → AreSound file head class allowed (rows_of file ps ++ more) → length (rows_of file ps) ≤ many
       → AreSound now head class many (rows_of file ps)
   sound-now head class allowed many ps more are sound few i r is =
       let rows = rows_of file ps in
@@ -147,7 +146,7 @@ module _ (file : List ℕ) (n : ℕ) (within : n ≤ length file) (start : Start
   whole_now : item_of Stream front at ≡ Some (Frame h)
   whole_now = item-kept file n within Stream at (Frame h) whole kept
 
-  pub first_in : IsIn file n within start.first
+  pub first_in : IsIn file n within start.first.offset start.first.header
   first_in = record { header = header_front-in_range (drop at file) h (stands-at file at (Frame h) frame.is); high = kept }
 
   abbrev later : Run
@@ -202,11 +201,11 @@ module _ (file : List ℕ) (n : ℕ) (within : n ≤ length file) (start : Start
       ∙ ap (λ (ps : List PlacedFrame). numbered head (record { offset = at; header = h } ∷ ps)) (ap frames_of (sym r.split) ∙ frames-append r.front r.rest)
       ∙ numbered-append head (record { offset = at; header = h }) (frames_of r.front) gone
 
-  numbered-in : (o : Option Head) → AreIn file n within (numbered o (record { offset = at; header = h } ∷ frames_of r.front))
+  numbered-in : (o : Option Head) → AreIn file n within (rows_of file (numbered o (record { offset = at; header = h } ∷ frames_of r.front)))
   numbered-in None = (first_in, frames-in file n within behind r.front r.stop r.ends)
   numbered-in (Some o) = frames-in file n within behind r.front r.stop r.ends
 
-  pub are-in : AreIn file n within frames
+  pub are-in : AreIn file n within (rows_of file frames)
   are-in = numbered-in head
 
   abbrev pub rows : List Row

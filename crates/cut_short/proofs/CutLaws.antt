@@ -8,7 +8,7 @@ use Rattle.sync_survey.specs.Items.{item_at, size_of}
 use Rattle.sync_survey.specs.Start.{start_of}
 use Rattle.sync_survey.specs.Walk.{all_blocks, fault_at, end_fault}
 use Rattle.sync_survey.specs.MainData.{StreamFrame, rows_of, marked, main_bytes, stream_frames}
-use Rattle.sync_survey.specs.Faults.{first_of, SurveyFields, surveyed, survey_by, stream_of_survey}
+use Rattle.sync_survey.specs.Faults.{first_of, SurveyFields, surveyed, stream_of_survey}
 use Rattle.sync_survey.specs.Survey.{AreWellPlaced}
 use Rattle.sync_survey.proofs.PlacedRows.{surveyed-placed}
 use Rattle.sync_survey.proofs.FaultsLaws.{marked-length}

@@ -4,17 +4,16 @@ use Rattle.std.specs.Prelude.{slice_get, option_map, sum_by, flat_map}
 use Rattle.std.specs.List.{enumerate_from}
 use Rattle.std.proofs.lemmas.Option.{slice_get_within}
 use Rattle.std.proofs.lemmas.Bool.{ltb-false}
-use Rattle.std.proofs.lemmas.List.{take-take, drop-take, take-append-le, drop-append-le, map-append, length-take-le}
+use Rattle.std.proofs.lemmas.List.{take-take, drop-take, map-append, length-take-le}
 use Rattle.std.proofs.lemmas.List.Sums.{sum_by-cons}
 use Rattle.std.proofs.lemmas.Grind.{flat_map-append}
 use Rattle.bit_fields.specs.Bits.{bits}
-use Rattle.bit_fields.proofs.BitsLaws.{bits-append, length-bits, bits-front}
+use Rattle.bit_fields.proofs.BitsLaws.{bits-front}
 use Rattle.frame_header.specs.Fields.{HeaderFields, IsHeader, ClassFields}
 use Rattle.frame_header.specs.Tables.{class_of, length_of, overhead_of}
 use Rattle.frame_header.proofs.HeaderLaws.{IsClass-class_of}
 use Rattle.frame_header.proofs.SlotLaws.{area-is}
-use Rattle.side_info.specs.declared.side.Side.{Side}
-use Rattle.side_info.specs.Side.{no_side, payload_bits, payload_bytes}
+use Rattle.side_info.specs.Side.{no_side, payload_bits}
 use Rattle.side_info.proofs.SideLaws.{bits_least}
 use Rattle.info_header.specs.HeadText.{head_text_of}
 use Rattle.sync_survey.specs.declared.places.PlacedFrame.{PlacedFrame}
@@ -84,24 +83,11 @@ module _ (file : List ℕ) (n : ℕ) (within : n ≤ length file) where
         length-take-le (own_area h) (drop over (drop at now))
         (omega (arith, parts, high, length-drop over (drop at now), length-drop at now, length-cut file n within))
 
-  -- the frame of a row is whole
-  pub record RowIn (r : Row) : Type 0 where
-    pub header : IsHeader r.header
-    pub high : r.offset + length_of (class_of r.header) r.header.slot ≤ n
-
-  abbrev pub RowsIn : List Row → Type 0
-  RowsIn [] = Unit {0}
-  RowsIn (r ∷ rows) = RowIn r × RowsIn rows
-
-  rows-in : (ps : List PlacedFrame) → AreIn file n within ps → RowsIn (rows_of file ps)
-  rows-in [] are = tt
-  rows-in (p ∷ ps) are = (record { header = are.0.header; high = are.0.high }, rows-in ps are.1)
-
-  marks-in : (head : Option Head) (all : List Row) (k : ℕ) (rows : List Row) → RowsIn rows → RowsIn (map (λ (p : ℕ × Row). marked_row head all p.0 p.1) (enumerate_from k rows))
+  marks-in : (head : Option Head) (all : List Row) (k : ℕ) (rows : List Row) → AreIn file n within rows → AreIn file n within (map (λ (p : ℕ × Row). marked_row head all p.0 p.1) (enumerate_from k rows))
   marks-in head all k [] are = tt
-  marks-in head all k (r ∷ rows) are = (record { header = are.0.header; high = are.0.high }, marks-in head all (k + 1) rows are.1)
+  marks-in head all k (r ∷ rows) are = (are.0, marks-in head all (k + 1) rows are.1)
 
-  marked-in : (head : Option Head) (rows : List Row) → RowsIn rows → RowsIn (marked head rows)
+  marked-in : (head : Option Head) (rows : List Row) → AreIn file n within rows → AreIn file n within (marked head rows)
   unfolding marked
   marked-in head rows are = marks-in head rows 0 rows are
 
@@ -111,11 +97,11 @@ module _ (file : List ℕ) (n : ℕ) (within : n ≤ length file) where
   abbrev all_own : List Row → ℕ
   all_own rows = sum_by (λ (r : Row). own_area r.header) rows
 
-  areas-same : (rows : List Row) → RowsIn rows → areas now rows ≡ areas file rows
+  areas-same : (rows : List Row) → AreIn file n within rows → areas now rows ≡ areas file rows
   areas-same [] are = refl
   areas-same (r ∷ rows) are = ap₂ (λ (xs ys : List ℕ). xs ++ ys) (area-same r.offset r.header are.0.header are.0.high) (areas-same rows are.1)
 
-  areas-long : (rows : List Row) → RowsIn rows → length (areas now rows) ≡ all_own rows
+  areas-long : (rows : List Row) → AreIn file n within rows → length (areas now rows) ≡ all_own rows
   areas-long [] are = refl
   areas-long (r ∷ rows) are =
       omega (
@@ -138,7 +124,7 @@ module _ (file : List ℕ) (n : ℕ) (within : n ≤ length file) where
 
   -- ---- the head
 
-  module _ (p : PlacedFrame) (is : IsIn file n within p) where
+  module _ (p : PlacedFrame) (is : IsIn file n within p.offset p.header) where
     abbrev head_with : Option ℕ → Option Head
     head_with o = option_map (λ text. record { offset = p.offset; header = p.header; text_at = text }) o
 
@@ -155,7 +141,7 @@ module _ (file : List ℕ) (n : ℕ) (within : n ≤ length file) where
 
     -- ---- the main data
 
-    main-front : (rows more : List Row) → RowsIn rows → (rest : List ℕ) × (main_bytes file head (rows ++ more) ≡ main_bytes now head rows ++ rest)
+    main-front : (rows more : List Row) → AreIn file n within rows → (rest : List ℕ) × (main_bytes file head (rows ++ more) ≡ main_bytes now head rows ++ rest)
     unfolding main_bytes
     main-front rows more are = (
       areas file more,
@@ -163,17 +149,17 @@ module _ (file : List ℕ) (n : ℕ) (within : n ≤ length file) where
           ∙ sym (append_assoc (head_bytes now head) (areas now rows) (areas file more)),
     )
 
-    main-long : (rows : List Row) → RowsIn rows → length (main_bytes now head rows) ≡ head_area head + all_own rows
+    main-long : (rows : List Row) → AreIn file n within rows → length (main_bytes now head rows) ≡ head_area head + all_own rows
     unfolding main_bytes
     main-long rows are = omega (arith, length-append (head_bytes now head) (areas now rows), head-parts.1, areas-long rows are)
 
-    place-within : (rows : List Row) (i : ℕ) (r : Row) → RowsIn rows → slice_get rows i ≡ Some r → place head rows i + own_area r.header ≤ length (main_bytes now head rows)
+    place-within : (rows : List Row) (i : ℕ) (r : Row) → AreIn file n within rows → slice_get rows i ≡ Some r → place head rows i + own_area r.header ≤ length (main_bytes now head rows)
     unfolding place
     place-within rows i r are found = omega (arith, main-long rows are, own-within rows i r found)
 
     -- ---- the frames of the stream
 
-    module _ (class : ClassFields) (rows more : List Row) (are : RowsIn rows) (placed : AreWellPlaced head class rows) where
+    module _ (class : ClassFields) (rows more : List Row) (are : AreIn file n within rows) (placed : AreWellPlaced head class rows) where
       abbrev main : List ℕ
       main = main_bytes now head rows
 
@@ -214,11 +200,11 @@ module _ (file : List ℕ) (n : ℕ) (within : n ≤ length file) where
           )
 
     -- over marked rows
-    pub marked-front : (class : ClassFields) (ps : List PlacedFrame) (gone : List Row) → AreIn file n within ps → AreWellPlaced head class (marked head (rows_of file ps))
+    pub marked-front : (class : ClassFields) (ps : List PlacedFrame) (gone : List Row) → AreIn file n within (rows_of file ps) → AreWellPlaced head class (marked head (rows_of file ps))
         → (rest : List StreamFrame) × (stream_frames (main_bytes now head (marked head (rows_of file ps))) head (marked head (rows_of file ps)) ++ rest
         ≡ stream_frames (main_bytes file head (marked head (rows_of file ps ++ gone))) head (marked head (rows_of file ps ++ gone)))
     marked-front class ps gone are placed =
         let rows = rows_of file ps in
         let later = map (λ (p : ℕ × Row). marked_row head (rows ++ gone) p.0 p.1) (enumerate_from (length rows) gone) in
-        let found = stream-front class (marked head rows) later (marked-in head rows (rows-in ps are)) placed in
+        let found = stream-front class (marked head rows) later (marked-in head rows are) placed in
         (found.0, found.1 ∙ ap (λ (rs : List Row). stream_frames (main_bytes file head rs) head rs) (sym (marks-front head rows gone)))
