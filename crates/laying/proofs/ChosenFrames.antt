@@ -20,7 +20,7 @@ use Rattle.frame_writer.specs.Laid.{zeros}
 use Rattle.frame_writer.specs.Frames.{Frame}
 use Rattle.frame_writer.proofs.LaidLaws.{length-zeros}
 use Rattle.sync_survey.specs.declared.items.Item.{Item}
-use Rattle.sync_survey.specs.declared.items.Item.TheVariants.{Frame as FrameItem, Free, Block, Zero, End, Nothing}
+use Rattle.sync_survey.specs.declared.items.Item.TheVariants.{Frame as FrameItem}
 use Rattle.sync_survey.specs.declared.places.PlacedFrame.{PlacedFrame}
 use Rattle.sync_survey.specs.declared.places.Head.{Head}
 use Rattle.sync_survey.specs.declared.places.Start.{Start}

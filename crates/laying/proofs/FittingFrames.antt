@@ -1,16 +1,15 @@
 -- Frames in the slots and with the main_data_begin of any plan that can be written frame by frame: they can be laid, and are what they were.
-use Rattle.std.proofs.Common.{◌≡◌, ℕ, ◌+◌, ◌-◌, ◌<◌, ◌≤◌, min, cond, Bool, true, false, List, [], ◌∷◌, length, map, refl, sym, ◌∙◌, ap, ap₂, subst, arith}
-use Rattle.frame_header.specs.Fields.{SlotFields, HeaderFields, ClassFields, IsHeader}
+use Rattle.std.proofs.Common.{◌≡◌, ℕ, ◌+◌, ◌-◌, ◌<◌, ◌≤◌, cond, Bool, true, false, List, [], ◌∷◌, length, map, refl, sym, ◌∙◌, ap, ap₂, subst, arith}
+use Rattle.frame_header.specs.Fields.{SlotFields, HeaderFields, ClassFields}
 use Rattle.frame_header.specs.Tables.{class_of, area_of, window_of}
-use Rattle.info_header.specs.declared.fields.Info.{Info}
 use Rattle.slot_plan.specs.declared.needs.Need.{Need}
 use Rattle.slot_plan.specs.declared.needs.Placed.{Placed}
 use Rattle.frame_writer.specs.Frames.{Frame, area_in as kept_area}
 use Rattle.sync_survey.specs.MainData.{StreamFrame}
 use Rattle.sync_survey.specs.Faults.{HoldsStream}
-use Rattle.laid_files.specs.LaidFiles.{IsBlocks, HasInfoSizes, AreEntries, entry_of, laid_file}
+use Rattle.laid_files.specs.LaidFiles.{AreEntries, entry_of, laid_file}
 use Rattle.laid_files.proofs.LaidLaws.{laid-stream}
-use Rattle.laying.specs.Relaid.{Part, frames_in, stream_in, IsPart, needs_in, relaid, with_lead_ins, left_behind}
+use Rattle.laying.specs.Relaid.{Part, frames_in, IsPart, needs_in, relaid, with_lead_ins, left_behind}
 use Rattle.laying.specs.Fits.{bytes_at, area_at, reach_behind, FitsFrom, AreInSlots, IsFitting}
 use Rattle.laying.specs.Written.{slot_in}
 use Rattle.laying.specs.Laws.{FittingFilesHold, FittingSlots}

@@ -1,9 +1,7 @@
 -- The first places of a plan, which all frames of one input take, and those after them.
-use Rattle.std.proofs.Common.{◌≡◌, ℕ, zero, suc, ◌+◌, ◌-◌, ◌<◌, ◌≤◌, Bool, true, false, List, [], ◌∷◌, ◌++◌, length, map, take, drop, Option, Some, None, refl, sym, ◌∙◌, ap, ap₂, subst, arith, length-append}
+use Rattle.std.proofs.Common.{◌≡◌, ℕ, zero, suc, ◌+◌, ◌-◌, ◌<◌, ◌≤◌, Bool, true, false, List, [], ◌∷◌, ◌++◌, length, map, take, drop, Option, Some, None, refl, sym, ◌∙◌, ap, ap₂, subst, arith, append-nil, length-append}
 use Rattle.std.specs.Prelude.{slice_range, flat_map}
-use Rattle.std.specs.List.{enumerate_from}
 use Rattle.std.proofs.lemmas.List.{length-map, take_all}
-use Rattle.std.proofs.lemmas.List.FromFn.{length-enumerate_from}
 use Rattle.outside.specs.Files.{Files}
 use Rattle.outside.specs.declared.pass.PassFault.{PassFault}
 use Rattle.frame_header.specs.Fields.{SlotFields, HeaderFields}
@@ -19,7 +17,7 @@ use Rattle.frame_writer.specs.Frames.{Frame, pieces}
 use Rattle.frame_writer.specs.Writing.{Writing}
 use Rattle.sync_survey.specs.declared.rows.Row.{Row}
 use Rattle.sync_survey.specs.Faults.{SurveyFields}
-use Rattle.laying.specs.Relaid.{frame_of, all_frames, left_behind, relaid}
+use Rattle.laying.specs.Relaid.{all_frames, left_behind, relaid}
 use Rattle.laying.specs.Fits.{reach_behind, FitsFrom, last_reach}
 use Rattle.laying.specs.Surveys.{HasSurvey}
 use Rattle.laying.specs.Passing.{Lays, LaysPart}
@@ -27,7 +25,7 @@ use Rattle.laying.specs.Places.{frames_behind, places_for, own_places, whole_fra
 use Rattle.laying.proofs.PlannedFrames.{one, AreNeedsOf}
 use Rattle.laying.proofs.HoldLaws.{needs-range, all-length}
 use Rattle.laying.proofs.PassLaws.{lays_as}
-use Rattle.laying.proofs.RelayLaws.{relaid-end, begins-left}
+use Rattle.laying.proofs.RelayLaws.{relaid-end, begins-left, part_more}
 
 -- ---- how many places a plan has
 
@@ -194,13 +192,7 @@ module _ (s : SurveyFields) (placed : List Placed) (n k : ℕ) (all : n ≡ leng
 
     pub part-whole : (reach : ℕ) {fault : PassFault} → LaysPart input output (λ file. relaid (slice_range (all_frames file s) 0 n) (take k placed)) (last_reach (window_of s.class.version) reach (map need_of (slice_range s.frames 0 n)) (take k placed)) old before after fault
         → LaysPart input output (whole_frames s placed) (whole_reach reach s placed) old before after fault
-    part-whole reach part = record {
-      settled = part.settled;
-      prefix = part.prefix;
-      done = part.done;
-      held = part.held;
-      writer = part.writer;
-      is = λ file holds more begins.
-          let found = part.is file holds more (subst (λ m. BeginsWithin m (pieces more)) (sym (reach-is reach)) begins) in
-          (found.0, found.1 ∙ ap (λ (l : List Frame). l ++ more) (made-is file), found.2);
-    }
+    part-whole reach =
+        part_more input output (λ file. relaid (slice_range (all_frames file s) 0 n) (take k placed)) (λ file. []) (whole_frames s placed) (last_reach (window_of s.class.version) reach (map need_of (slice_range s.frames 0 n)) (take k placed)) (whole_reach reach s placed) old before after
+        (λ file holds more begins. subst (λ m. BeginsWithin m (pieces more)) (sym (reach-is reach)) begins)
+        (λ file holds. append-nil (relaid (slice_range (all_frames file s) 0 n) (take k placed)) ∙ made-is file)

@@ -1,15 +1,15 @@
 -- The main data of frames as they are read, area by area.
-use Rattle.std.proofs.Common.{◌≡◌, ◌≢◌, eqb, ℕ, zero, suc, min, ◌+◌, ◌-◌, ◌*◌, ◌/◌, ◌≤◌, cond, Bool, true, false, List, [], ◌∷◌, ◌++◌, length, take, drop, Option, Some, None, inl, inr, refl, sym, ◌∙◌, ap, ap₂, subst, arith, length-drop, length-append, append-nil, append_assoc}
+use Rattle.std.proofs.Common.{◌≡◌, ◌≢◌, eqb, ℕ, zero, suc, min, ◌+◌, ◌-◌, ◌*◌, ◌/◌, ◌≤◌, cond, Bool, true, false, List, [], ◌∷◌, ◌++◌, length, take, drop, Option, Some, inl, inr, refl, sym, ◌∙◌, ap, ap₂, subst, arith, length-drop, length-append, append-nil, append_assoc}
 use Rattle.std.specs.Prelude.{IfSome, ◌⊎◌, ◌==◌, flat_map, slice_get, sum_by, replicate}
 use Rattle.std.proofs.lemmas.Bool.{ltb-false}
 use Rattle.std.proofs.lemmas.Bool.Decides.{eqb_tells}
-use Rattle.std.proofs.lemmas.List.{length-replicate, length-take-le, take-append-drop, take-append-le, drop-append-le}
+use Rattle.std.proofs.lemmas.List.{length-replicate, length-take-le, take-append-drop}
 use Rattle.std.proofs.Math.Seq.{drop-append-add}
 use Rattle.std.proofs.lemmas.List.Sums.{sum_by-cons}
 use Rattle.outside.specs.Files.{Files, Holds, IsThere, Told, Untold}
 use Rattle.outside.proofs.FilesLaws.{there_holds}
 use Rattle.bit_fields.specs.Bits.{bits, bytes, AreBits, AreBytes}
-use Rattle.bit_fields.proofs.BitsLaws.{length-bits, bits-append, bits-injective, AreBits-take, AreBits-drop, AreBits-bits, bits-front}
+use Rattle.bit_fields.proofs.BitsLaws.{length-bits, bits-injective, AreBits-take, AreBits-drop, AreBits-bits, bits-front}
 use Rattle.frame_header.specs.declared.version.Version.{Version}
 use Rattle.frame_header.specs.declared.version.Version.TheVariants.{One, Two, TwoFive}
 use Rattle.frame_header.specs.Fields.{ClassFields}

@@ -17,7 +17,7 @@ use frame_header::Class;
 use info_header::{Info, info_over};
 use outside::{Folder, PassFault, read_exact};
 use slot_plan::Placed;
-use sync_survey::{Head, Survey};
+use sync_survey::Survey;
 
 /// What an Info frame takes over from the head of an input: its quality, and the 36 bytes of its extension.
 #[derive(Clone, Copy, Debug, PartialEq, Eq)]
@@ -87,38 +87,6 @@ pub fn info_of(class: Class, placed: &[Placed], kept: &Kept) -> Info
     info
 }
 
-/// What the head of an input says.
-///
-/// # Errors
-/// As `kept_fields`.
-fn kept_of<D: Folder>(
-    folder: &mut D,
-    name: &str,
-    survey: &Survey,
-    head: &Head,
-) -> Result<Kept, PassFault>
-    requires there { IsThere (D.files folder.old) name.now }
-    requires laid { IsLaidOut (tells survey.now) }
-    requires exact { (file : List ℕ) → Holds (D.files folder.old) name.now file
-        → HasSurvey file (tells survey.now) }
-    requires head { (tells survey.now).head ≡ Some head.now }
-    ensures kept { IfOk result (λ kept. (file : List ℕ) → Holds (D.files folder.old) name.now file
-        → (kept.quality ≡ (head_info file (tells survey.now).head).quality)
-        × (kept.extension ≡ (head_info file (tells survey.now).head).extension)) }
-    ensures done { OnOk result (D.counts folder.new ≡ D.counts folder.old) }
-    ensures cause { IfErr result (HasPassCause (tells survey.now).length (D.files folder.old)
-        (D.counts folder.old) (D.counts folder.new)) }
-    ensures reads { IsErrOf result PassFault.Write → ⊥ }
-    ensures files { D.files folder.new ≡ D.files folder.old }
-    ensures counts { OnlyReads (D.counts folder.old) (D.counts folder.new) }
-{
-    let length = head.header.length();
-    let mut room = [0; 1441];
-    let frame = &mut room[..length as usize];
-    read_exact(folder, name, survey.length(), head.offset, frame)?;
-    Ok(Kept::read(frame, head.text_at))
-}
-
 /// The quality and the extension that the head of an input has, and `Kept::none` if there is no head. It
 /// reads the head's frame, at most 1,441 bytes, and takes no memory. The files stay.
 ///
@@ -149,8 +117,12 @@ pub fn kept_fields<D: Folder>(
     ensures files { D.files folder.new ≡ D.files folder.old }
     ensures counts { OnlyReads (D.counts folder.old) (D.counts folder.new) }
 {
-    match survey.head() {
-        Some(head) => kept_of(folder, name, survey, &head),
-        None => Ok(Kept::none()),
-    }
+    let Some(head) = survey.head() else {
+        return Ok(Kept::none());
+    };
+    let length = head.header.length();
+    let mut room = [0; 1441];
+    let frame = &mut room[..length as usize];
+    read_exact(folder, name, survey.length(), head.offset, frame)?;
+    Ok(Kept::read(frame, head.text_at))
 }

@@ -1,5 +1,5 @@
 -- A lead-in, or the frame.
-use Rattle.std.proofs.Common.{◌≡◌, ℕ, ◌+◌, ◌-◌, ◌≤◌, min, Bool, cond, true, false, List, [], ◌∷◌, sym, ◌∙◌, ap, subst, arith}
+use Rattle.std.proofs.Common.{ℕ, ◌+◌, ◌-◌, ◌≤◌, min, Bool, cond, false, List, [], ◌∷◌, sym, ◌∙◌, ap, subst, arith}
 use Rattle.frame_header.specs.Tables.{class_of, area_of, window_of}
 use Rattle.outside.proofs.PassedLaws.{err_at}
 use Rattle.sync_survey.specs.Faults.{tells}
