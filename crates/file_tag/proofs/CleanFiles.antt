@@ -11,7 +11,7 @@ use Rattle.sync_survey.specs.declared.places.Start.{Start}
 use Rattle.sync_survey.specs.declared.runs.Part.TheVariants.{Front, Stream}
 use Rattle.sync_survey.specs.declared.survey_fault.SurveyFault.{SurveyFault}
 use Rattle.sync_survey.specs.Items.{size_of}
-use Rattle.sync_survey.specs.Runs.{Placed, Run, run, AreEndToEnd, frame_as, block_as, frames_of, blocks_of}
+use Rattle.sync_survey.specs.Runs.{Placed, Run, run, AreEndToEnd, block_as, frames_of, blocks_of}
 use Rattle.sync_survey.specs.Walk.{stream_run, head_of, numbered, end_fault}
 use Rattle.sync_survey.specs.MainData.{rows_of, marked}
 use Rattle.sync_survey.specs.Faults.{SurveyFields}

@@ -1,6 +1,5 @@
 -- The tag of a file, from the bytes of its block.
 use Rattle.std.proofs.Common.{◌≡◌, ℕ, ◌+◌, ◌<◌, ◌≤◌, true, ltb, List, length, take, drop, Some, None, Result, Ok, Err, refl, sym, ◌∙◌, ap, subst, arith}
-use Rattle.std.specs.Prelude.{IfOk, IfErr}
 use Rattle.std.proofs.lemmas.Bool.{lt-ltb}
 use Rattle.tag_blocks.specs.declared.block.Kind.TheVariants.{Ape}
 use Rattle.tag_blocks.specs.Blocks.{block_front}
@@ -79,11 +78,3 @@ module _ (name : List ℕ) (files : Files) (s : SurveyFields) (surveyed : (bytes
     block-cause before after Read same cause = absurd cause
     block-cause before after (Shrunk first second) same cause = absurd cause
     block-cause before after Memory same cause = same
-
-pub ok_by : (r : Result TagFields FileTagFault) (P Q : TagFields → Type 0) → IfOk r P → ((t : TagFields) → P t → Q t) → IfOk r Q
-ok_by (Ok t) P Q holds step = step t holds
-ok_by (Err fault) P Q holds step = tt
-
-pub err_by : {X : Type 0} (r : Result X FileTagFault) (P Q : FileTagFault → Type 0) → IfErr r P → ((fault : FileTagFault) → P fault → Q fault) → IfErr r Q
-err_by (Ok t) P Q holds step = tt
-err_by (Err fault) P Q holds step = step fault holds

@@ -8,6 +8,10 @@ use Rattle.sync_survey.specs.Faults.{SurveyFields}
 use Rattle.file_tag.specs.Places.{tag_at, tag_length, with_tag, moved_at}
 use Rattle.file_tag.proofs.MovedItems.{IsMovedTo}
 
+pub with_tag-is : (bytes : List ℕ) (s : SurveyFields) (file : List ℕ) → with_tag bytes s file ≡ take (tag_at s) file ++ (bytes ++ drop (tag_at s + tag_length s) file)
+unfolding with_tag
+with_tag-is bytes s file = refl
+
 module _ (bytes file : List ℕ) (s : SurveyFields) (room : tag_at s + tag_length s ≤ length file) where
   abbrev new : List ℕ
   new = with_tag bytes s file
@@ -25,8 +29,7 @@ module _ (bytes file : List ℕ) (s : SurveyFields) (room : tag_at s + tag_lengt
   later = drop (cut + gone) file
 
   pub new-is : new ≡ take cut file ++ (bytes ++ later)
-  unfolding with_tag
-  new-is = refl
+  new-is = with_tag-is bytes s file
 
   pub front-long : length (take cut file) ≡ cut
   front-long = length-take-le cut file (omega (arith, room))

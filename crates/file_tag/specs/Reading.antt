@@ -7,11 +7,11 @@ use Rattle.tag_blocks.specs.declared.tag_fault.TagFault.TheVariants.{BadTag, Mem
 use Rattle.tag_blocks.specs.Tags.{TagFields, tag_of}
 use Rattle.outside.specs.declared.exact.ReadFault.{ReadFault}
 use Rattle.outside.specs.declared.exact.ReadFault.TheVariants.{Failed, Shrunk as ShrunkRead}
-use Rattle.outside.specs.Files.{Files, is_told, Holds}
+use Rattle.outside.specs.Files.{Files, is_told, Holds, IsThere}
 use Rattle.outside.specs.Counts.{Counts, Rose, NothingFailed}
 use Rattle.sync_survey.specs.declared.places.Piece.{Piece}
 use Rattle.sync_survey.specs.Faults.{SurveyFields}
-use Rattle.sync_survey.specs.Survey.{survey_of}
+use Rattle.sync_survey.specs.Survey.{survey_of, IsLaidOut}
 use Rattle.file_tag.specs.declared.fault.FileTagFault.{FileTagFault}
 use Rattle.file_tag.specs.declared.fault.FileTagFault.TheVariants.{TooLarge, Bad, Read, Shrunk, Memory}
 use Rattle.file_tag.specs.Places.{tag_block, tag_at, tag_length}
@@ -50,6 +50,13 @@ of_read (ShrunkRead first second) = Shrunk first second
 -- the survey is that of the file, for some number of frames that was allowed
 abbrev pub IsSurveyOf : List ℕ → SurveyFields → Type 0
 IsSurveyOf file s = (allowed : ℕ) × (survey_of file allowed ≡ Ok s)
+
+-- the name is there, a file of which this is the survey is laid out as every such file is, and the block is the one of its tag
+pub record HasTagBlock (name : List ℕ) (files : Files) (s : SurveyFields) (b : Piece) : Type 0 where
+  pub there : IsThere files name
+  pub laid : IsLaidOut s
+  pub surveyed : (bytes : List ℕ) → Holds files name bytes → IsSurveyOf bytes s
+  pub tag : tag_block s ≡ Some b
 
 -- where the bytes of the file are told, its tag is refused with this fault
 abbrev pub RefusesTag : List ℕ → Files → SurveyFields → FileTagFault → Type 0

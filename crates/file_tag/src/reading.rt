@@ -7,7 +7,7 @@ ghost use Rattle.sync_survey.specs.Survey.{IsLaidOut};
 ghost use Rattle.tag_blocks.specs.declared.block.Kind.TheVariants.{Ape};
 ghost use Rattle.tag_blocks.specs.Blocks.{block_front};
 ghost use Rattle.file_tag.specs.Places.{tag_block, tag_length};
-ghost use Rattle.file_tag.specs.Reading.{empty_tag, longest_tag, tag_of_block, file_tag, IsSurveyOf, IsTagCause, IsBlockCause};
+ghost use Rattle.file_tag.specs.Reading.{empty_tag, longest_tag, tag_of_block, file_tag, IsSurveyOf, HasTagBlock, IsTagCause, IsBlockCause};
 
 use crate::fault::FileTagFault;
 use crate::places::first_tag;
@@ -30,11 +30,7 @@ fn read_block<D: Folder>(
     survey: &Survey,
     piece: &Piece,
 ) -> Result<Vec<u8>, FileTagFault>
-    requires there { IsThere (D.files folder.old) name.now }
-    requires laid { IsLaidOut (tells survey.now) }
-    requires surveyed { (bytes : List ℕ) → Holds (D.files folder.old) name.now bytes
-        → IsSurveyOf bytes (tells survey.now) }
-    requires tag { tag_block (tells survey.now) ≡ Some piece.now }
+    requires found { HasTagBlock name.now (D.files folder.old) (tells survey.now) piece.now }
     requires few { piece.now.block.length ≤ longest_tag }
     ensures length { IfOk result (λ block. length block.items ≡ piece.now.block.length) }
     ensures bytes { IfOk result (λ block. (bytes : List ℕ)
@@ -91,11 +87,7 @@ fn read_piece<D: Folder>(
     survey: &Survey,
     piece: &Piece,
 ) -> Result<Tag, FileTagFault>
-    requires there { IsThere (D.files folder.old) name.now }
-    requires laid { IsLaidOut (tells survey.now) }
-    requires surveyed { (bytes : List ℕ) → Holds (D.files folder.old) name.now bytes
-        → IsSurveyOf bytes (tells survey.now) }
-    requires tag { tag_block (tells survey.now) ≡ Some piece.now }
+    requires { HasTagBlock name.now (D.files folder.old) (tells survey.now) piece.now }
     ensures exact { IfOk result (λ tag. (bytes : List ℕ) → Holds (D.files folder.old) name.now bytes
         → file_tag bytes (tells survey.now) ≡ Ok tag) }
     ensures large { longest_tag < piece.now.block.length

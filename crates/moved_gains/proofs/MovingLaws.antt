@@ -21,14 +21,13 @@ use Rattle.sync_survey.specs.Walk.{stream_run, numbered}
 use Rattle.sync_survey.specs.MainData.{rows_of, marked}
 use Rattle.sync_survey.specs.declared.places.Start.{Start}
 use Rattle.sync_survey.specs.Faults.{SurveyFields, fields_from, surveyed}
-use Rattle.sync_survey.specs.Survey.{survey_of, AreLaid}
+use Rattle.sync_survey.specs.Survey.{survey_of}
 use Rattle.sync_survey.proofs.ItemsLaws.{stands-at, header_front-in_range}
 use Rattle.sync_survey.proofs.RunsLaws.{cons_list, IsItemOf, item_of-is, run-ends, bytes-ends}
 use Rattle.sync_survey.proofs.StartLaws.{start-first, start-front}
 use Rattle.sync_survey.proofs.SurveyLaws.{surveyed-is, walked, overhead-within}
 use Rattle.file_tag.proofs.WholeFiles.{front_end-is}
 use Rattle.sync_survey.proofs.ItemLists.{ends-within}
-use Rattle.sync_survey.proofs.StepLaws.{laid_end}
 use Rattle.file_tag.proofs.FoundTag.{survey_of-surveyed}
 use Rattle.moved_gains.specs.declared.shift.Steps.{Steps}
 use Rattle.moved_gains.specs.Gains.{moved_side}

@@ -10,6 +10,7 @@ use Rattle.sync_survey.specs.Faults.{SurveyFields, surveyed}
 use Rattle.file_tag.specs.Places.{is_tag, tag_block, tag_at, tag_length, last_end, with_tag}
 use Rattle.file_tag.proofs.FoundTag.{last_more}
 use Rattle.file_tag.proofs.ReadingLaws.{place-some}
+use Rattle.file_tag.proofs.TaggedBytes.{with_tag-is}
 use Rattle.moved_gains.specs.declared.moving.NewTag.{NewTag}
 use Rattle.moved_gains.specs.declared.shift.Steps.{Steps}
 use Rattle.moved_gains.specs.Edited.{edited}
@@ -113,10 +114,6 @@ is_behind at (row ∷ rows) to ends = ends.0
 pub sized_front : (steps : ℕ → Steps) (file : List ℕ) (before behind : List Row) → AreSized steps file (before ++ behind) → AreSized steps file before
 sized_front steps file [] behind sized = tt
 sized_front steps file (row ∷ before) behind sized = (sized.0, sized_front steps file before behind sized.1)
-
-with_tag-is : (bytes : List ℕ) (s : SurveyFields) (file : List ℕ) → with_tag bytes s file ≡ take (tag_at s) file ++ (bytes ++ drop (tag_at s + tag_length s) file)
-unfolding with_tag
-with_tag-is bytes s file = refl
 
 module _ (steps : ℕ → Steps) (file : List ℕ) (allowed : ℕ) (s : SurveyFields) (is : surveyed file allowed ≡ Ok s) (tag : NewTag) (bytes : List ℕ) (new : IsTagOf s (Some bytes) (Some tag)) where
   abbrev m2 : SurveyFields

@@ -1,8 +1,9 @@
 -- The tag of the file is that of the block's bytes.
 use Rattle.std.proofs.Common.{◌≡◌, length, refl, sym, ◌∙◌, ap, arith}
+use Rattle.std.proofs.lemmas.Result.{IfOk-weaker, IfErr-weaker}
 use Rattle.sync_survey.specs.Faults.{tells}
 use Rattle.file_tag.proofs.FoundTag.{tag-within}
-use Rattle.file_tag.proofs.ReadingLaws.{place-some, too_large-refused, block-tag, block-cause, ok_by, err_by}
+use Rattle.file_tag.proofs.ReadingLaws.{place-some, too_large-refused, block-tag, block-cause}
 use Rattle.file_tag.proofs.reading.read_piece.Goals as goal
 
 pub returns-then-piece-gt-LONGEST_TAG-clause-cause : goal.returns-then-piece-gt-LONGEST_TAG-clause-cause
@@ -23,13 +24,15 @@ pub returns-clause-exact : goal.returns-clause-exact
 returns-clause-exact g c =
     let own = c.deref.result.now in
     let same : own ≡ c.in_ok-block.block.items = c.deref.ensures.value in
-    ok_by c.tag_at_offset.result _ _ c.tag_at_offset.ensures.tag
+    IfOk-weaker c.tag_at_offset.result _ _
     (block-tag c.args.name.now (g.D.Folder.files c.args.folder.now) (tells c.args.survey.now) c.requires.surveyed c.args.piece.now c.requires.tag own (λ bytes holds. same ∙ c.in_ok-block.ensures.bytes bytes holds) (ap length same ∙ c.in_ok-block.ensures.length))
+    c.tag_at_offset.ensures.tag
 
 pub returns-clause-cause : goal.returns-clause-cause
 returns-clause-cause g c =
     let same : c.deref.result.now ≡ c.in_ok-block.block.items = c.deref.ensures.value in
-    err_by c.tag_at_offset.result _ _ c.tag_at_offset.ensures.cause
+    IfErr-weaker c.tag_at_offset.result _ _
     (λ fault cause.
     block-cause c.args.name.now (g.D.Folder.files c.args.folder.now) (tells c.args.survey.now) c.requires.surveyed c.args.piece.now c.requires.tag c.deref.result.now (λ bytes holds. same ∙ c.in_ok-block.ensures.bytes bytes holds)
     (ap length same ∙ c.in_ok-block.ensures.length) (g.D.Folder.counts c.args.folder.now) (g.D.Folder.counts c.read_block.new.folder) fault c.in_ok-block.ensures.done cause)
+    c.tag_at_offset.ensures.cause
