@@ -65,6 +65,6 @@ number_of_great least most greatest digits great =
     let top : leb (digits_value 10 digits) greatest ≡ false = lt-leb _ _ great in
     rw top (no_last (leb least (length digits)) (leb (length digits) most) (all_ascii_digits digits) (Some (digits_value 10 digits)))
 
--- six digits are below a million, so that a seventh fits
-pub value_of_few : (digits : List ℕ) (i : ℕ) → i < length digits → length digits ≤ 7 → AllDigits 10 (take i digits) → digits_value 10 (take i digits) < 1000000
-value_of_few digits i lt few all = digits_value_short digits_model (take i digits) 6 (digits_model.from (take i digits) all) (omega (arith, length-take-le i digits (omega arith)))
+-- nine digits are below a thousand million, so that a tenth fits
+pub value_of_few : (digits : List ℕ) (i : ℕ) → i < length digits → length digits ≤ 10 → AllDigits 10 (take i digits) → digits_value 10 (take i digits) < 1000000000
+value_of_few digits i lt few all = digits_value_short digits_model (take i digits) 9 (digits_model.from (take i digits) all) (omega (arith, length-take-le i digits (omega arith)))

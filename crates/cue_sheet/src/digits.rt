@@ -6,22 +6,22 @@ ghost use Rattle.cue_sheet.specs.Digits.{number_in};
 /// The number that these digits spell. `None` exactly where they are fewer than `least` or more than
 /// `most`, not all of them are digits, or the number is greater than `greatest`.
 pub fn read_number(digits: &[u8], least: usize, most: usize, greatest: u32) -> Option<u32>
-    requires { most ≤ 7 }
+    requires { most ≤ 10 }
     ensures number { result ≡ number_in least most greatest digits.now }
     ensures most { IfSome result (λ number. number ≤ greatest) }
 {
     if digits.len() < least || digits.len() > most {
         return None;
     }
-    let mut number: u32 = 0;
+    let mut number: u64 = 0;
     for digit in digits {
         if !digit.is_ascii_digit() {
             return None;
         }
-        number = number * 10 + u32::from(*digit - b'0');
+        number = number * 10 + u64::from(*digit - b'0');
     }
-    if number <= greatest {
-        Some(number)
+    if number <= u64::from(greatest) {
+        Some(number as u32)
     } else {
         None
     }

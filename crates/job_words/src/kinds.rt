@@ -107,31 +107,11 @@ fn read_rate(word: &str) -> Option<u16>
     read_number(word.as_bytes(), 1, 3, 999).map(|rate| rate as u16)
 }
 
-/// The greatest seed: 2^31 - 1.
-const MOST_SEED: u64 = 2_147_483_647;
-
-// One to ten digits, of a number up to `MOST_SEED`.
-fn read_seed(digits: &[u8]) -> Option<u32>
-    ensures { result ≡ seed_in digits.now }
+// One to ten digits, of a number up to 2^31 - 1.
+fn read_seed(word: &str) -> Option<u32>
+    ensures { result ≡ seed_in word.now }
 {
-    if digits.is_empty() {
-        return None;
-    }
-    if digits.len() > 10 {
-        return None;
-    }
-    let mut seed: u64 = 0;
-    for digit in digits {
-        if !digit.is_ascii_digit() {
-            return None;
-        }
-        seed = seed * 10 + u64::from(*digit - b'0');
-    }
-    if seed <= MOST_SEED {
-        Some(seed as u32)
-    } else {
-        None
-    }
+    read_number(word.as_bytes(), 1, 10, 2_147_483_647)
 }
 
 // One to five digits, of a number from 1 to 20,000.
@@ -154,7 +134,7 @@ impl WordKind {
             WordKind::Channel => Some(Value::Channel(read_channel(word)?)),
             WordKind::Place => Some(Value::Place(Place::read(word)?)),
             WordKind::Rate => Some(Value::Rate(read_rate(word)?)),
-            WordKind::Seed => Some(Value::Seed(read_seed(word.as_bytes())?)),
+            WordKind::Seed => Some(Value::Seed(read_seed(word)?)),
             WordKind::Count => Some(Value::Count(read_count(word)?)),
             _ => None,
         }

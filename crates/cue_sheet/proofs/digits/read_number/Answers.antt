@@ -1,5 +1,5 @@
 -- A digit more, and what isn't read.
-use Rattle.std.proofs.Common.{◌≡◌, ◌+◌, ◌<◌, ◌≤◌, get_or, Some, sym, ap, ◌∙◌, subst, arith}
+use Rattle.std.proofs.Common.{◌≡◌, ◌+◌, get_or, Some, sym, ap, ◌∙◌, subst, arith}
 use Rattle.std.specs.Char.{digit_value}
 use Rattle.std.specs.Str.Parse.{AllDigits, digits_value}
 use Rattle.std.proofs.lemmas.Int.Digits.{digits_more, digits_value_more}
@@ -36,16 +36,16 @@ loop-digit-preserved c =
     let value : digit_value (get_or digits i 0) + 48 ≡ get_or digits i 0 = digit_value_digit (get_or digits i 0) c.if-not-is_ascii_digit.ensures.cases in
     (before.0, before.1, digits_more 10 digits i c.loop-digit-test.true before.2 c.if-not-is_ascii_digit.ensures.bound, omega (arith, c.from.ensures, before.3, value, digits_value_more 10 digits i c.loop-digit-test.true))
 
-pub returns-then-number-greatest-clause-number : goal.returns-then-number-greatest-clause-number
-returns-then-number-greatest-clause-number c =
+pub returns-then-number-from-clause-number : goal.returns-then-number-from-clause-number
+returns-then-number-from-clause-number c =
     let digits = c.args.digits.now in
     let whole = take_all c.loop-digit.digit-index digits c.loop-digit-test.false in
     let value : c.loop-digit.number ≡ digits_value 10 digits = c.loop-digit.invariant.3 ∙ ap (digits_value 10) whole in
     ap Some value
-    ∙ sym (number_of_digits c.args.least c.args.most c.args.greatest digits c.loop-digit.invariant.0 c.loop-digit.invariant.1 (subst (AllDigits 10) whole c.loop-digit.invariant.2) (subst (λ n. n ≤ c.args.greatest) value c.if-number-greatest.true))
+    ∙ sym (number_of_digits c.args.least c.args.most c.args.greatest digits c.loop-digit.invariant.0 c.loop-digit.invariant.1 (subst (AllDigits 10) whole c.loop-digit.invariant.2) (omega (arith, value, c.from-2.ensures, c.if-number-from.true)))
 
-pub returns-else-number-greatest-clause-number : goal.returns-else-number-greatest-clause-number
-returns-else-number-greatest-clause-number c =
+pub returns-else-number-from-clause-number : goal.returns-else-number-from-clause-number
+returns-else-number-from-clause-number c =
     let digits = c.args.digits.now in
     let value : c.loop-digit.number ≡ digits_value 10 digits = c.loop-digit.invariant.3 ∙ ap (digits_value 10) (take_all c.loop-digit.digit-index digits c.loop-digit-test.false) in
-    sym (number_of_great c.args.least c.args.most c.args.greatest digits (subst (λ n. c.args.greatest < n) value c.if-number-greatest.false))
+    sym (number_of_great c.args.least c.args.most c.args.greatest digits (omega (arith, value, c.from-2.ensures, c.if-number-from.false)))
