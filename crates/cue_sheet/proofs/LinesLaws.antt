@@ -41,3 +41,8 @@ line_is text line at within is =
     ap (λ b. cond b (lines_in (drop at text)) []) here
     ∙ ap (map strip_carriage_return) (parts_are is_end (drop at text))
     ∙ ap₂ (λ l more. strip_carriage_return l ∷ more) (sym is) (others_are text at n within most ∙ ap (λ m. lines_from text (at + m + 1)) (sym size))
+
+-- what the first of the lines says, and what the others say
+pub first_said : {X : Type 0} (said : List ℕ → X) (text : List ℕ) (at next : ℕ) (line : List ℕ) (entry : X) → lines_from text at ≡ line ∷ lines_from text next → entry ≡ said line
+    → map said (lines_from text at) ≡ entry ∷ map said (lines_from text next)
+first_said said text at next line entry lines is = ap (map said) lines ∙ ap (λ e. e ∷ map said (lines_from text next)) (sym is)

@@ -1,5 +1,5 @@
 //! Cue sheets.
-ghost use Rattle.std.specs.Prelude.{◌≡◌, ◌+◌, ◌<◌, ◌≤◌, ◌++◌, ◌⊎◌, ◌∷◌, [], length, IfOk, MatchResult, Ok, Err};
+ghost use Rattle.std.specs.Prelude.{◌≡◌, ◌≤◌, ◌++◌, ◌⊎◌, ◌∷◌, [], length, IfOk, MatchResult, Ok, Err};
 ghost use Rattle.cue_sheet.specs.declared.cue_fault.CueFault.TheVariants.{Memory};
 ghost use Rattle.cue_sheet.specs.Cues.{places_of, entries_from, cue_in, cue_of, AreStarts};
 
@@ -10,27 +10,6 @@ use crate::seen::Seen;
 use crate::words::{line_at, without_mark};
 use std::alloc::Global;
 use std::marker::Model;
-
-/// What a line says, and where the next one begins.
-#[derive(Clone, Copy)]
-struct EntryAt {
-    entry: Entry,
-    next: usize,
-}
-
-/// The line that begins at byte `at`.
-fn entry_at(text: &[u8], at: usize) -> EntryAt
-    requires { at ≤ length text.now }
-    ensures line { entries_from text.now at ≡ result.entry ∷ entries_from text.now result.next }
-    ensures on { at < result.next }
-    ensures within { result.next ≤ length text.now + 1 }
-{
-    let line = line_at(text, at);
-    EntryAt {
-        entry: read_entry(line.line),
-        next: line.next,
-    }
-}
 
 /// Keeps the time of a line that is a start.
 ///
@@ -61,12 +40,13 @@ fn read_lines(alloc: Global, text: &[u8]) -> Result<Vec<Place>, CueFault>
     let mut seen = Seen::new();
     let mut at = 0;
     while at <= text.len() {
-        let line = entry_at(text, at);
-        if let Some(fault) = seen.fault(line.entry) {
+        let line = line_at(text, at);
+        let entry = read_entry(line.line);
+        if let Some(fault) = seen.fault(entry) {
             return Err(fault);
         }
-        keep_start(&mut starts, line.entry)?;
-        seen = seen.behind(line.entry);
+        keep_start(&mut starts, entry)?;
+        seen = seen.behind(entry);
         at = line.next;
     }
     if starts.is_empty() {

@@ -58,7 +58,8 @@ impl Seen {
     #[tactic(auto, unfolding(crate::specs::Cues::fault_of))]
     pub(crate) fn fault(self, entry: Entry) -> Option<CueFault>
         requires { self.lines < 65537 }
-        ensures { (before : List EntryData) → IsSeen before self → result ≡ fault_of before entry }
+        ensures { (before : List EntryData) → IsSeen before self
+            → result ≡ fault_of before entry }
     {
         let line = self.lines + 1;
         match entry {

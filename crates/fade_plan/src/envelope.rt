@@ -1,5 +1,5 @@
 //! Envelopes: the points of a sheet.
-ghost use Rattle.std.specs.Prelude.{◌≡◌, ◌+◌, ◌<◌, ◌≤◌, ◌++◌, ◌⊎◌, ◌∷◌, length, map, IfOk, MatchResult, Ok, Err};
+ghost use Rattle.std.specs.Prelude.{◌≡◌, ◌≤◌, ◌++◌, ◌⊎◌, length, map, IfOk, MatchResult, Ok, Err};
 ghost use Rattle.std.specs.List.{All};
 ghost use Rattle.fade_plan.specs.declared.envelope_fault.EnvelopeFault.TheVariants.{Memory};
 ghost use Rattle.fade_plan.specs.Sheets.{IsEntry, is_at_fault as is_at_fault_lem, point_at, entries_from, envelope_in, envelope_of};
@@ -17,28 +17,6 @@ use std::marker::Model;
 
 /// How many points a sheet has at most.
 const MOST_POINTS: usize = 1_000;
-
-/// What a line says, and where the next one begins.
-#[derive(Clone, Copy)]
-struct EntryAt {
-    entry: Entry,
-    next: usize,
-}
-
-/// The line that begins at byte `at`.
-fn entry_at(text: &[u8], at: usize) -> EntryAt
-    requires { at ≤ length text.now }
-    ensures line { entries_from text.now at ≡ result.entry ∷ entries_from text.now result.next }
-    ensures sound { IsEntry result.entry }
-    ensures on { at < result.next }
-    ensures within { result.next ≤ length text.now + 1 }
-{
-    let line = line_at(text, at);
-    EntryAt {
-        entry: read_entry(line.line),
-        next: line.next,
-    }
-}
 
 /// Whether a line is at fault after so many points.
 fn is_at_fault(points: usize, entry: Entry) -> bool
@@ -87,13 +65,14 @@ fn read_points(alloc: Global, text: &[u8]) -> Result<Vec<Point>, EnvelopeFault>
     let mut line = 1;
     let mut at = 0;
     while at <= text.len() {
-        let entry = entry_at(text, at);
-        if is_at_fault(points.len(), entry.entry) {
+        let here = line_at(text, at);
+        let entry = read_entry(here.line);
+        if is_at_fault(points.len(), entry) {
             return Err(EnvelopeFault::Line(line));
         }
-        keep(&mut points, line, entry.entry)?;
+        keep(&mut points, line, entry)?;
         line += 1;
-        at = entry.next;
+        at = here.next;
     }
     if points.is_empty() {
         return Err(EnvelopeFault::NoPoints);

@@ -2,18 +2,20 @@
 use Rattle.std.proofs.Common.{sym, ◌∙◌, subst, arith, inr}
 use Rattle.std.proofs.lemmas.Bool.{eqb-true, eqb-false}
 use Rattle.cue_sheet.proofs.CuesLaws.{HaveRead, refused, goes_on, ends, are_starts, some_are, none_are}
-use Rattle.cue_sheet.specs.Cues.{entries_from}
+use Rattle.cue_sheet.specs.Cues.{entry_in, entries_from}
+use Rattle.cue_sheet.proofs.LinesLaws.{first_said}
 use Rattle.cue_sheet.proofs.StartsLaws.{starts-few}
 use Rattle.cue_sheet.proofs.cue.read_lines.Goals as goal
 
 pub returns-in-Some-clause-cue : goal.returns-in-Some-clause-cue
 returns-in-Some-clause-cue c =
-    inr (refused c.args.text.now c.loop-at.at c.loop-at.seen c.loop-at.starts.items _ _ c.in-Some.fault c.loop-at.invariant.0 c.entry_at-line.ensures.line (λ before seen. sym c.in-Some.is ∙ c.fault.ensures before seen))
+    inr (refused c.args.text.now c.loop-at.at c.loop-at.seen c.loop-at.starts.items _ _ c.in-Some.fault c.loop-at.invariant.0 (first_said entry_in c.args.text.now c.loop-at.at c.line_at-line.result.next _ _ c.line_at-line.ensures.line c.read_entry-entry.ensures) (λ before seen. sym c.in-Some.is ∙ c.fault.ensures before seen))
 
 pub loop-at-preserved : goal.loop-at-preserved
 loop-at-preserved c =
-    let read = goes_on c.args.text.now c.loop-at.at c.entry_at-line.result.next c.loop-at.seen c.behind-seen.result c.loop-at.starts.items _ c.loop-at.invariant.0 c.entry_at-line.ensures.line (λ before seen. sym c.in_default.is ∙ c.fault.ensures before seen) c.behind-seen.ensures.seen in
-    (subst (HaveRead c.args.text.now c.entry_at-line.result.next c.behind-seen.result) (sym c.in_ok-keep_start.ensures.kept) read, c.entry_at-line.ensures.within, omega (arith, c.behind-seen.ensures.lines, c.loop-at.invariant.2, c.entry_at-line.ensures.on), c.behind-seen.ensures.tracks)
+    let line = first_said entry_in c.args.text.now c.loop-at.at c.line_at-line.result.next _ _ c.line_at-line.ensures.line c.read_entry-entry.ensures in
+    let read = goes_on c.args.text.now c.loop-at.at c.line_at-line.result.next c.loop-at.seen c.behind-seen.result c.loop-at.starts.items _ c.loop-at.invariant.0 line (λ before seen. sym c.in_default.is ∙ c.fault.ensures before seen) c.behind-seen.ensures.seen in
+    (subst (HaveRead c.args.text.now c.line_at-line.result.next c.behind-seen.result) (sym c.in_ok-keep_start.ensures.kept) read, c.line_at-line.ensures.within, omega (arith, c.behind-seen.ensures.lines, c.loop-at.invariant.2, c.line_at-line.ensures.on), c.behind-seen.ensures.tracks)
 
 pub returns-then-is_empty-clause-cue : goal.returns-then-is_empty-clause-cue
 returns-then-is_empty-clause-cue c =

@@ -1,7 +1,8 @@
 -- A line more, a fault, and the end.
 use Rattle.std.proofs.Common.{length, sym, ◌∙◌, ap, subst, arith, inr}
 use Rattle.std.proofs.lemmas.Bool.{eqb-true, eqb-false}
-use Rattle.fade_plan.specs.Sheets.{is_at_fault}
+use Rattle.cue_sheet.proofs.LinesLaws.{first_said}
+use Rattle.fade_plan.specs.Sheets.{entry_in, is_at_fault}
 use Rattle.fade_plan.proofs.SheetLaws.{HaveRead, at_front, refused, goes_on, ends, some_are, none_are}
 use Rattle.fade_plan.proofs.envelope.read_points.Goals as goal
 
@@ -13,20 +14,22 @@ loop-at-init c =
 pub loop-at-preserved : goal.loop-at-preserved
 loop-at-preserved c =
     let at = c.loop-at in
-    let entry = c.entry_at-entry.result.entry in
+    let entry = c.read_entry-entry.result in
+    let said = first_said entry_in c.args.text.now at.at c.line_at-here.result.next _ entry c.line_at-here.ensures.line c.read_entry-entry.ensures.entry in
     let right = ap (λ n. is_at_fault n entry) (sym (c.len.ensures ∙ at.points.ok.0)) ∙ sym c.if-is_at_fault.ensures in (
-      goes_on c.args.text.now at.at c.entry_at-entry.result.next at.line at.points.items c.keep.new.points.items entry at.invariant.0 c.entry_at-entry.ensures.line right c.in_ok-keep.ensures.points,
+      goes_on c.args.text.now at.at c.line_at-here.result.next at.line at.points.items c.keep.new.points.items entry at.invariant.0 said right c.in_ok-keep.ensures.points,
       c.in_ok-keep.ensures.kept,
-      c.entry_at-entry.ensures.within,
-      omega (arith, at.invariant.3, c.entry_at-entry.ensures.on),
+      c.line_at-here.ensures.within,
+      omega (arith, at.invariant.3, c.line_at-here.ensures.on),
     )
 
 pub returns-then-is_at_fault-clause-envelope : goal.returns-then-is_at_fault-clause-envelope
 returns-then-is_at_fault-clause-envelope c =
     let at = c.loop-at in
-    let entry = c.entry_at-entry.result.entry in
+    let entry = c.read_entry-entry.result in
+    let said = first_said entry_in c.args.text.now at.at c.line_at-here.result.next _ entry c.line_at-here.ensures.line c.read_entry-entry.ensures.entry in
     let wrong = ap (λ n. is_at_fault n entry) (sym (c.len.ensures ∙ at.points.ok.0)) ∙ sym c.if-is_at_fault.ensures in
-    inr (refused c.args.text.now at.at at.line at.points.items entry _ at.invariant.0 c.entry_at-entry.ensures.line wrong)
+    inr (refused c.args.text.now at.at at.line at.points.items entry _ at.invariant.0 said wrong)
 
 pub returns-then-is_empty-clause-envelope : goal.returns-then-is_empty-clause-envelope
 returns-then-is_empty-clause-envelope c =
