@@ -45,189 +45,58 @@ pub(crate) struct Form {
     pub(crate) asks: Asks,
 }
 
+/// What a form asks for, the command's word, flags, the kinds of the other words, and how many more of the last there may be.
+macro_rules! form {
+    ($asks:ident: $command:literal [$($flag:ident)*] [$($kind:ident $(($word:literal))?)*] $more:literal) => {
+        Form {
+            command: $command,
+            flags: &[$(Flag::$flag),*],
+            kinds: &[$(WordKind::$kind $(($word))?),*],
+            more: $more,
+            asks: Asks::$asks,
+        }
+    };
+}
+
 /// The forms. C is a channel, N a number of steps, B a bit rate, SEED and COUNT are numbers, P1 to P100, FROM and TO positions; all
 /// others are names.
 pub(crate) static FORMS: [Form; 18] = [
     // `--help`
-    Form {
-        command: "--help",
-        flags: &[],
-        kinds: &[],
-        more: 0,
-        asks: Asks::Help,
-    },
+    form!(Help: "--help" [] [] 0),
     // `-h`
-    Form {
-        command: "-h",
-        flags: &[],
-        kinds: &[],
-        more: 0,
-        asks: Asks::Help,
-    },
+    form!(Help: "-h" [] [] 0),
     // `--version`
-    Form {
-        command: "--version",
-        flags: &[],
-        kinds: &[],
-        more: 0,
-        asks: Asks::Version,
-    },
+    form!(Version: "--version" [] [] 0),
     // `list IN`
-    Form {
-        command: "list",
-        flags: &[],
-        kinds: &[WordKind::Name],
-        more: 0,
-        asks: Asks::List,
-    },
+    form!(List: "list" [] [Name] 0),
     // `gain [-s s] [-w] -g N IN OUT`
-    Form {
-        command: "gain",
-        flags: &[Flag::Tagless, Flag::Wrapping],
-        kinds: &[
-            WordKind::Fixed("-g"),
-            WordKind::Steps,
-            WordKind::Name,
-            WordKind::Name,
-        ],
-        more: 0,
-        asks: Asks::Gain,
-    },
+    form!(Gain: "gain" [Tagless Wrapping] [Fixed("-g") Steps Name Name] 0),
     // `gain [-s s] [-w] -l C N IN OUT`
-    Form {
-        command: "gain",
-        flags: &[Flag::Tagless, Flag::Wrapping],
-        kinds: &[
-            WordKind::Fixed("-l"),
-            WordKind::Channel,
-            WordKind::Steps,
-            WordKind::Name,
-            WordKind::Name,
-        ],
-        more: 0,
-        asks: Asks::ChannelGain,
-    },
+    form!(ChannelGain: "gain" [Tagless Wrapping] [Fixed("-l") Channel Steps Name Name] 0),
     // `gain -u IN OUT`
-    Form {
-        command: "gain",
-        flags: &[],
-        kinds: &[WordKind::Fixed("-u"), WordKind::Name, WordKind::Name],
-        more: 0,
-        asks: Asks::Undo,
-    },
+    form!(Undo: "gain" [] [Fixed("-u") Name Name] 0),
     // `cut [--least] IN FROM TO OUT`
-    Form {
-        command: "cut",
-        flags: &[Flag::Least],
-        kinds: &[
-            WordKind::Name,
-            WordKind::Place,
-            WordKind::Place,
-            WordKind::Name,
-        ],
-        more: 0,
-        asks: Asks::Cut,
-    },
+    form!(Cut: "cut" [Least] [Name Place Place Name] 0),
     // `pack IN OUT`
-    Form {
-        command: "pack",
-        flags: &[],
-        kinds: &[WordKind::Name, WordKind::Name],
-        more: 0,
-        asks: Asks::Pack,
-    },
+    form!(Pack: "pack" [] [Name Name] 0),
     // `pack --constant B IN OUT`
-    Form {
-        command: "pack",
-        flags: &[],
-        kinds: &[
-            WordKind::Fixed("--constant"),
-            WordKind::Rate,
-            WordKind::Name,
-            WordKind::Name,
-        ],
-        more: 0,
-        asks: Asks::ConstantPack,
-    },
+    form!(ConstantPack: "pack" [] [Fixed("--constant") Rate Name Name] 0),
     // `pack --floor B IN OUT`
-    Form {
-        command: "pack",
-        flags: &[],
-        kinds: &[
-            WordKind::Fixed("--floor"),
-            WordKind::Rate,
-            WordKind::Name,
-            WordKind::Name,
-        ],
-        more: 0,
-        asks: Asks::FloorPack,
-    },
+    form!(FloorPack: "pack" [] [Fixed("--floor") Rate Name Name] 0),
     // `pack --best IN OUT`
-    Form {
-        command: "pack",
-        flags: &[],
-        kinds: &[WordKind::Fixed("--best"), WordKind::Name, WordKind::Name],
-        more: 0,
-        asks: Asks::BestPack,
-    },
+    form!(BestPack: "pack" [] [Fixed("--best") Name Name] 0),
     // `split IN PREFIX P1 P2 [P3 to P100]`
-    Form {
-        command: "split",
-        flags: &[],
-        kinds: &[
-            WordKind::Name,
-            WordKind::Name,
-            WordKind::Place,
-            WordKind::Place,
-        ],
-        more: 98,
-        asks: Asks::SplitAt,
-    },
+    form!(SplitAt: "split" [] [Name Name Place Place] 98),
     // `split IN PREFIX -c CUE`
-    Form {
-        command: "split",
-        flags: &[],
-        kinds: &[
-            WordKind::Name,
-            WordKind::Name,
-            WordKind::Fixed("-c"),
-            WordKind::Name,
-        ],
-        more: 0,
-        asks: Asks::SplitBy,
-    },
+    form!(SplitBy: "split" [] [Name Name Fixed("-c") Name] 0),
     // `join OUT IN1 [IN2 to IN64]`
-    Form {
-        command: "join",
-        flags: &[],
-        kinds: &[WordKind::Name, WordKind::Name],
-        more: 63,
-        asks: Asks::Join,
-    },
+    form!(Join: "join" [] [Name Name] 63),
     // `drill SEED COUNT`
-    Form {
-        command: "drill",
-        flags: &[],
-        kinds: &[WordKind::Seed, WordKind::Count],
-        more: 0,
-        asks: Asks::Drill,
-    },
+    form!(Drill: "drill" [] [Seed Count] 0),
     // `fade [--back] IN OUT SHEET`
-    Form {
-        command: "fade",
-        flags: &[Flag::Back],
-        kinds: &[WordKind::Name, WordKind::Name, WordKind::Name],
-        more: 0,
-        asks: Asks::Fade,
-    },
+    form!(Fade: "fade" [Back] [Name Name Name] 0),
     // `salvage IN OUT`
-    Form {
-        command: "salvage",
-        flags: &[],
-        kinds: &[WordKind::Name, WordKind::Name],
-        more: 0,
-        asks: Asks::Salvage,
-    },
+    form!(Salvage: "salvage" [] [Name Name] 0),
 ];
 
 /// The most kinds that a form has for its words: the command's, four flags of two words, five kinds, and the last 98 times more.
