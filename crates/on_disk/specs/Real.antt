@@ -1,5 +1,5 @@
 -- What a folder of real files and a real stream count and keep open, and what open files tell.
-use Rattle.std.specs.Prelude.{◌≡◌, ℕ, ◌≤◌, List, length, take, drop, Option, Some, IsSome, Ok, option_map, option_and_then, string_bytes, pos}
+use Rattle.std.specs.Prelude.{◌≡◌, ◌≢◌, ℕ, ◌-◌, ◌≤◌, List, length, take, drop, min, Option, Some, IsSome, Result, Ok, IfOk, option_map, option_and_then, string_bytes, pos}
 use Rattle.std.specs.Io.KnownBytes.{Appends, Keeps}
 use Rattle.std.specs.Io.Seek.{SeekMoves}
 use Rattle.std.specs.declared.io.traits.SeekFrom.TheVariants.{End}
@@ -51,6 +51,25 @@ pub record HasOpen {R File Dir : Type 0} (position : File → Option ℕ) (bytes
 -- reads give the bytes of a file from its offset on, as those of a cursor over bytes in memory do
 pub record ReadsOn {File : Type 0} (remaining : File → Option (List ℕ)) (position : File → Option ℕ) (bytes : File → Option (List ℕ)) : Type 0 where
   pub gives : (file : File) (at : ℕ) (xs : List ℕ) → position file ≡ Some at → bytes file ≡ Some xs → remaining file ≡ Some (drop at xs)
+
+-- where the file of this name is open for reading, as many of its bytes were read as there are from an offset on and there is room for
+abbrev pub ReadsWhole : {R File Dir E : Type 0} → (File → Option ℕ) → (File → Option (List ℕ)) → DiskFolder R File Dir → List ℕ → ℕ → ℕ → Result ℕ E → Type 0
+ReadsWhole position bytes folder name at room read =
+    (xs : List ℕ) → HasOpen position bytes folder name xs → IfOk read (λ k. k ≡ min room (length xs - at))
+
+-- and these bytes, where reads give the bytes from an offset on
+abbrev pub ReadsOpen : {R File Dir E : Type 0} → (File → Option (List ℕ)) → (File → Option ℕ) → (File → Option (List ℕ)) → DiskFolder R File Dir → List ℕ → ℕ → List ℕ → Result ℕ E → Type 0
+ReadsOpen remaining position bytes folder name at into read =
+    ReadsOn remaining position bytes → (xs : List ℕ) → HasOpen position bytes folder name xs → IfOk read (λ k. take k into ≡ take k (drop at xs))
+
+-- where the file of this name is open for appending, exactly the bytes that were written came to its end
+abbrev pub AppendsOpen : {R File Dir E : Type 0} → (File → Option (List ℕ)) → DiskFolder R File Dir → DiskFolder R File Dir → List ℕ → List ℕ → Result ℕ E → Type 0
+AppendsOpen contents old new name bytes written =
+    created_name old ≡ Some name → IfOk written (λ k. Appends (created_bytes contents old) (created_bytes contents new) (take k bytes))
+
+-- a file of another name that is open for appending stays as it is
+abbrev pub LeavesOthers : {R File Dir : Type 0} → DiskFolder R File Dir → DiskFolder R File Dir → List ℕ → Type 0
+LeavesOthers old new name = created_name old ≢ Some name → new.created ≡ old.created
 
 -- A seek to the end led from the file as it was opened to this offset, and what the file told of its bytes it still tells. The library
 -- says nothing of a file that was just opened, so whether it told anything stays open.

@@ -1,8 +1,8 @@
 //! Real files.
-ghost use Rattle.std.specs.Prelude.{◌≡◌, ℕ, ◌<◌, ◌≤◌, List, length, take, drop, IfOk, OnOk, OnErr, IsErrOf, if◌then◌else◌, ◌==◌, ◌&&◌, nat_lt, ◌⊎◌, ◌-◌, ◌≢◌, Some, IfSome, IsTrue, true, false, ◌↔◌, min};
+ghost use Rattle.std.specs.Prelude.{◌≡◌, ℕ, ◌<◌, ◌≤◌, List, length, take, drop, IfOk, OnOk, OnErr, IsErrOf, if◌then◌else◌, ◌==◌, ◌&&◌, nat_lt, ◌⊎◌, ◌-◌, Some, IfSome, IsTrue, true, false, ◌↔◌, min};
 ghost use Rattle.std.specs.List.{list_any};
 ghost use Rattle.std.specs.Fs.{new_options};
-ghost use Rattle.std.specs.Io.KnownBytes.{Appends, Keeps, WriteAppends};
+ghost use Rattle.std.specs.Io.KnownBytes.{Keeps, WriteAppends};
 ghost use Rattle.on_disk.specs.Real.{open_name, TellsBytes, ReadsOn};
 ghost use Rattle.outside.specs.Files.{Untold, emptied, appended, FailsToCreate, Holds, IsThere, IsMissing, AreOctets};
 ghost use Rattle.outside.specs.Counts.{none_counted, with_miss, with_end, with_read_fault, with_write_fault, OnlyReads, OnlyWrites, NothingFailed, Rose};
@@ -86,7 +86,7 @@ pub struct DiskFolder<'a, R: Files> {
 }
 
 impl<'a, R: Files> DiskFolder<'a, R> {
-    ghost use Rattle.on_disk.specs.Real.{disk_counts, disk_files, found_name, found_file, created_name, created_bytes, EndsAt, HasOpen};
+    ghost use Rattle.on_disk.specs.Real.{disk_counts, disk_files, found_name, found_file, created_name, created_bytes, EndsAt, ReadsWhole, ReadsOpen, AppendsOpen, LeavesOthers};
 
     /// A folder with all counts 0 that has touched no name. It takes no memory.
     pub fn new(rt: &'a R, alloc: Global) -> Self
@@ -160,13 +160,12 @@ impl<'a, R: Files> DiskFolder<'a, R> {
         ensures rest { IfOk result (λ k. drop k into.new ≡ drop k into.old) }
         ensures tally { disk_counts self.new ≡ disk_counts self.old }
         ensures touched { self.new.touched ≡ self.old.touched }
-        ensures opened { OnOk result (found_name self.new ≡ Some name.now) }
-        ensures whole { (xs : List ℕ) → HasOpen R.File.stream_position R.File.stream_bytes self.old
-            name.now xs → IfOk result (λ k. k ≡ min (length into.old) (length xs - at)) }
-        ensures open_bytes { ReadsOn R.File.remaining R.File.stream_position R.File.stream_bytes
-            → (xs : List ℕ) → HasOpen R.File.stream_position R.File.stream_bytes self.old name.now
-            xs → IfOk result (λ k. take k into.new ≡ take k (drop at xs)) }
         ensures created { self.new.created ≡ self.old.created }
+        ensures opened { OnOk result (found_name self.new ≡ Some name.now) }
+        ensures whole { ReadsWhole R.File.stream_position R.File.stream_bytes self.old name.now at
+            (length into.old) result }
+        ensures open_bytes { ReadsOpen R.File.remaining R.File.stream_position R.File.stream_bytes
+            self.old name.now at into.new result }
     {
         self.open_to_read(name)?;
         match &mut self.found {
@@ -218,11 +217,8 @@ impl<'a, R: Files> DiskFolder<'a, R> {
         ensures some { IfOk result (λ k. 0 < length bytes.now → 0 < k) }
         ensures tally { disk_counts self.new ≡ disk_counts self.old }
         ensures touched { self.new.touched ≡ self.old.touched }
-        ensures appended { created_name self.old ≡ Some name.now
-            → IfOk result (λ k. Appends (created_bytes R.File.contents self.old)
-            (created_bytes R.File.contents self.new) (take k bytes.now)) }
-        ensures aside { created_name self.old ≢ Some name.now
-            → self.new.created ≡ self.old.created }
+        ensures appended { AppendsOpen R.File.contents self.old self.new name.now bytes.now result }
+        ensures aside { LeavesOthers self.old self.new name.now }
         ensures kept { OnErr result (Keeps (created_bytes R.File.contents self.old)
             (created_bytes R.File.contents self.new)) }
         ensures opened { created_name self.new ≡ created_name self.old }
@@ -270,7 +266,7 @@ fn open_regular<R: Files>(rt: &R, name: &str) -> Result<(R::File, FileId), FindF
 }
 
 impl<'a, R: Files> Folder for DiskFolder<'a, R> {
-    ghost use Rattle.on_disk.specs.Real.{disk_counts, disk_files, found_name, found_file, created_name, created_bytes, EndsAt, HasOpen};
+    ghost use Rattle.on_disk.specs.Real.{disk_counts, disk_files, found_name, found_file, created_name, created_bytes, EndsAt, ReadsWhole, ReadsOpen, AppendsOpen, LeavesOthers};
 
     ghost files = { λ folder. disk_files folder };
 
@@ -347,11 +343,10 @@ impl<'a, R: Files> Folder for DiskFolder<'a, R> {
         ensures counts { OnlyReads (disk_counts self.old) (disk_counts self.new) }
         // What the library knows of the open file: its own bytes were read, as many as there are and fit.
         ensures opened { OnOk result (found_name self.new ≡ Some name.now) }
-        ensures whole { (xs : List ℕ) → HasOpen R.File.stream_position R.File.stream_bytes self.old
-            name.now xs → IfOk result (λ k. k ≡ min (length into.old) (length xs - at)) }
-        ensures open_bytes { ReadsOn R.File.remaining R.File.stream_position R.File.stream_bytes
-            → (xs : List ℕ) → HasOpen R.File.stream_position R.File.stream_bytes self.old name.now
-            xs → IfOk result (λ k. take k into.new ≡ take k (drop at xs)) }
+        ensures whole { ReadsWhole R.File.stream_position R.File.stream_bytes self.old name.now at
+            (length into.old) result }
+        ensures open_bytes { ReadsOpen R.File.remaining R.File.stream_position R.File.stream_bytes
+            self.old name.now at into.new result }
         ensures created_stays { self.new.created ≡ self.old.created }
         ensures read_counts { IfOk result
             (λ k. disk_counts self.new ≡ (if k == 0 && nat_lt 0 (length into.old) then with_end
@@ -415,11 +410,8 @@ impl<'a, R: Files> Folder for DiskFolder<'a, R> {
         ensures counts { OnlyWrites (disk_counts self.old) (disk_counts self.new) }
         // What the library knows of the open file: exactly these bytes came to its end, and none in a call that
         // fails.
-        ensures appended { created_name self.old ≡ Some name.now
-            → IfOk result (λ k. Appends (created_bytes R.File.contents self.old)
-            (created_bytes R.File.contents self.new) (take k bytes.now)) }
-        ensures aside { created_name self.old ≢ Some name.now
-            → self.new.created ≡ self.old.created }
+        ensures appended { AppendsOpen R.File.contents self.old self.new name.now bytes.now result }
+        ensures aside { LeavesOthers self.old self.new name.now }
         ensures unwritten { OnErr result (Keeps (created_bytes R.File.contents self.old)
             (created_bytes R.File.contents self.new)) }
         ensures opened { created_name self.new ≡ created_name self.old }
