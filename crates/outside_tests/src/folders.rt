@@ -3,7 +3,6 @@
 //! A test owns its folder and ends in one place, and what it asserts is in small functions that borrow it: that costs the check least.
 mod buffers;
 mod exact;
-mod noticed;
 mod real;
 mod sending;
 mod shaky;
@@ -26,27 +25,25 @@ fn copied<D: Folder>(folder: &mut D, from: &str, to: &str) -> Result<usize, Fail
     Ok(count)
 }
 
-fn expect_copied(
-    rt: &impl Abort,
+fn is_copied(
     folder: &mut MemFolder,
     from: &str,
     wanted: Result<usize, Failed>,
     content: &[u8],
-) {
-    assert!(rt; copied(folder, from, "to") == wanted, "{from}");
-    assert!(rt; folder.get("to") == Some(content), "{from}");
+) -> bool {
+    copied(folder, from, "to") == wanted && folder.get("to") == Some(content)
 }
 
 // Past the room, then on the list of those that fail, then done, and then without a file.
 fn expect_copies(rt: &impl Abort, folder: &mut MemFolder) -> Result<(), AllocError> {
     folder.put("from", b"0123456789")?;
     folder.reserve("to", 9)?;
-    expect_copied(rt, folder, "from", Err(Failed), b"");
+    assert!(rt; is_copied(folder, "from", Err(Failed), b""));
     folder.reserve("to", 10)?;
     folder.fail(Call::Write, 2)?;
-    expect_copied(rt, folder, "from", Err(Failed), b"");
-    expect_copied(rt, folder, "from", Ok(10), b"0123456789");
-    expect_copied(rt, folder, "none", Err(Failed), b"0123456789");
+    assert!(rt; is_copied(folder, "from", Err(Failed), b""));
+    assert!(rt; is_copied(folder, "from", Ok(10), b"0123456789"));
+    assert!(rt; is_copied(folder, "none", Err(Failed), b"0123456789"));
     Ok(())
 }
 
@@ -92,20 +89,15 @@ fn has_sent(sink: &MemSink, bytes: &[u8]) -> bool {
     sink.sent() == bytes
 }
 
-fn expect_sent(rt: &impl Abort, sink: &mut MemSink, sent: &Sent) {
-    assert!(rt;
-        send_all(sink, sent.bytes) == sent.answer,
-        "{:?}",
-        sent.bytes
-    );
-    assert!(rt; has_sent(sink, sent.sent), "{:?}", sent.bytes);
+fn is_sent(sink: &mut MemSink, sent: &Sent) -> bool {
+    send_all(sink, sent.bytes) == sent.answer && has_sent(sink, sent.sent)
 }
 
 fn expect_sendings(rt: &impl Abort, sink: &mut MemSink) -> Result<(), AllocError> {
     sink.reserve(4)?;
     sink.fail(2)?;
-    for sent in &SENDINGS {
-        expect_sent(rt, sink, sent);
+    for (number, sent) in SENDINGS.iter().enumerate() {
+        assert!(rt; is_sent(sink, sent), "write {number}");
     }
     Ok(())
 }

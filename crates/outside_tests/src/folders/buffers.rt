@@ -29,16 +29,8 @@ fn are_given(bytes: &[u8], case: &Case) -> bool {
 }
 
 // What a call of `fill` answered, the bytes that were there then, and the reads by then.
-fn expect_filled(
-    rt: &impl Abort,
-    filled: Result<usize, Failed>,
-    bytes: &[u8],
-    reads: u64,
-    case: &Case,
-) {
-    assert_eq!(rt; filled, case.answer, "{} bytes at {}", case.n, case.at);
-    assert!(rt; are_given(bytes, case), "{} bytes at {}", case.n, case.at);
-    assert_eq!(rt; reads, case.reads, "{} bytes at {}", case.n, case.at);
+fn is_filled(filled: Result<usize, Failed>, bytes: &[u8], reads: u64, case: &Case) -> bool {
+    filled == case.answer && are_given(bytes, case) && reads == case.reads
 }
 
 fn expect(rt: &impl Abort, feed: &mut Feed, folder: &mut Slow, name: &str, case: &Case)
@@ -47,7 +39,8 @@ fn expect(rt: &impl Abort, feed: &mut Feed, folder: &mut Slow, name: &str, case:
 {
     assert!(rt; case.n <= 4096 && case.at <= 1_000_000);
     let filled = feed.fill(folder, name, case.at, case.n);
-    expect_filled(rt, filled, feed.bytes(), folder.calls.made, case);
+    let is_so = is_filled(filled, feed.bytes(), folder.calls.made, case);
+    assert!(rt; is_so, "{} bytes at {}", case.n, case.at);
 }
 
 fn expect_each(rt: &impl Abort, feed: &mut Feed, folder: &mut Slow, name: &str, cases: &[Case])
@@ -166,8 +159,12 @@ fn push(
     piece: &Piece,
 ) {
     let bytes = source.get(piece.from..piece.to).unwrap_or(&[]);
-    assert!(rt; buffer.push(folder, "a", bytes).is_ok());
-    assert_eq!(rt; folder.calls.made, piece.writes, "up to {}", piece.to);
+    let is_pushed = buffer.push(folder, "a", bytes).is_ok();
+    assert!(rt;
+        is_pushed && folder.calls.made == piece.writes,
+        "up to {}",
+        piece.to
+    );
 }
 
 // Nothing waits after that, where it failed either.
@@ -178,15 +175,15 @@ fn finish(
     source: &[u8],
     answer: Result<(), Failed>,
 ) {
-    assert!(rt; buffer.finish(folder, "a") == answer);
-    assert!(rt; folder.content.as_slice() == source);
+    let is_so = buffer.finish(folder, "a") == answer;
+    assert!(rt; is_so && folder.content.as_slice() == source);
 }
 
 fn expect_written(rt: &impl Abort, buffer: &mut WriteBuffer, folder: &mut Slow, source: &[u8]) {
     for piece in &PIECES {
         push(rt, buffer, folder, source, piece);
     }
-    assert_eq!(rt; folder.content.len(), 196_608);
+    assert!(rt; folder.content.len() == 196_608);
     finish(rt, buffer, folder, source, Ok(()));
 }
 

@@ -48,18 +48,16 @@ fn expect_grown<R: Files + AllocGlobal + Abort>(
     expect(rt, name, text)
 }
 
-// Asserts that `count` bytes are read from this offset on, and that the rest of the room stays.
-fn expect_read<R: Files + AllocGlobal + Abort>(
-    rt: &R,
+// Whether `count` bytes are read from this offset on, and the rest of the room stays.
+fn is_read<R: Files>(
     folder: &mut DiskFolder<R>,
     name: &str,
     at: u64,
     count: usize,
     wanted: &[u8; 4],
-) {
+) -> bool {
     let mut into = [b'-'; 4];
-    assert!(rt; folder.read(name, at, &mut into) == Ok(count), "at {at}");
-    assert!(rt; into == *wanted, "at {at}");
+    folder.read(name, at, &mut into) == Ok(count) && into == *wanted
 }
 
 fn expect_files<R: Files + AllocGlobal + Abort>(
@@ -70,36 +68,27 @@ fn expect_files<R: Files + AllocGlobal + Abort>(
     expect_grown(rt, folder, "outside_files/to", b"ab", "0123456789ab")?;
     fs::write(rt, "outside_files/link", "longer than what comes")?;
     expect_copied(rt, folder, "outside_files/from", "outside_files/link")?;
-    expect_read(rt, folder, "outside_files/from", 7, 3, b"789-");
-    expect_read(rt, folder, "outside_files/from", 10, 0, b"----");
+    assert!(rt; is_read(folder, "outside_files/from", 7, 3, b"789-"));
+    assert!(rt; is_read(folder, "outside_files/from", 10, 0, b"----"));
     // A file that is opened again.
     expect_grown(rt, folder, "outside_files/to", b"cd", "0123456789abcd")
 }
 
-fn expect_not_found<R: Files + AllocGlobal + Abort>(
-    rt: &R,
-    folder: &mut DiskFolder<R>,
-    name: &str,
-    fault: FindFault,
-) {
-    assert!(rt; folder.find(name) == Err(fault), "{name}");
+fn is_not_found<R: Files>(folder: &mut DiskFolder<R>, name: &str, fault: FindFault) -> bool {
+    folder.find(name) == Err(fault)
 }
 
 // Bytes go to no file but those that the folder was asked to create.
-fn expect_unwritten<R: Files + AllocGlobal + Abort>(
-    rt: &R,
-    folder: &mut DiskFolder<R>,
-    name: &str,
-) {
-    assert!(rt; folder.write(name, b"ab").is_err(), "{name}");
+fn is_unwritten<R: Files>(folder: &mut DiskFolder<R>, name: &str) -> bool {
+    folder.write(name, b"ab").is_err()
 }
 
 // What is asserted of the files, before the folder is let go.
 fn expect_over_files<R: Files + AllocGlobal + Abort>(rt: &R) -> Result<(), Fail> {
     let mut folder = DiskFolder::new(rt, rt.alloc());
-    expect_not_found(rt, &mut folder, "outside_files/to", FindFault::Absent);
-    expect_not_found(rt, &mut folder, "outside_files", FindFault::Failed);
-    expect_unwritten(rt, &mut folder, "outside_files/from");
+    assert!(rt; is_not_found(&mut folder, "outside_files/to", FindFault::Absent));
+    assert!(rt; is_not_found(&mut folder, "outside_files", FindFault::Failed));
+    assert!(rt; is_unwritten(&mut folder, "outside_files/from"));
     expect_files(rt, &mut folder)
 }
 
@@ -111,16 +100,12 @@ fn real_files(rt: HostRuntime) -> Result<(), Fail> {
     Ok(())
 }
 
-fn expect_found<R: Files + AllocGlobal + Abort>(rt: &R, folder: &mut DiskFolder<R>, name: &str) {
-    assert!(rt; folder.find(name) == Ok(10), "{name}");
+fn is_found<R: Files>(folder: &mut DiskFolder<R>, name: &str) -> bool {
+    folder.find(name) == Ok(10)
 }
 
-fn expect_uncreated<R: Files + AllocGlobal + Abort>(
-    rt: &R,
-    folder: &mut DiskFolder<R>,
-    name: &str,
-) {
-    assert!(rt; folder.create(name).is_err(), "{name}");
+fn is_uncreated<R: Files>(folder: &mut DiskFolder<R>, name: &str) -> bool {
+    folder.create(name).is_err()
 }
 
 // Through a hard link that is made once the file was found, through a symbolic link, and through a longer path.
@@ -128,16 +113,12 @@ fn expect_names<R: Files + AllocGlobal + Abort>(
     rt: &R,
     folder: &mut DiskFolder<R>,
 ) -> Result<(), Fail> {
-    expect_found(rt, folder, "outside_names/from");
+    assert!(rt; is_found(folder, "outside_names/from"));
     fs::hard_link(rt, "outside_names/from", "outside_names/to")?;
     symlink(rt, "from", "outside_names/link")?;
-    for name in [
-        "outside_names/to",
-        "outside_names/link",
-        "outside_names/./from",
-    ] {
-        expect_uncreated(rt, folder, name);
-    }
+    assert!(rt; is_uncreated(folder, "outside_names/to"));
+    assert!(rt; is_uncreated(folder, "outside_names/link"));
+    assert!(rt; is_uncreated(folder, "outside_names/./from"));
     Ok(())
 }
 
@@ -155,48 +136,40 @@ fn a_file_of_two_names(rt: HostRuntime) -> Result<(), Fail> {
     Ok(())
 }
 
-fn expect_shaky_read<R: Files>(
-    rt: &impl Abort,
-    folder: &mut DiskFolder<R>,
-    answer: Result<usize, Failed>,
-) {
+fn is_read_as<R: Files>(folder: &mut DiskFolder<R>, answer: Result<usize, Failed>) -> bool {
     let mut into = [b'-'; 4];
-    assert!(rt; folder.read("outside_shaky/from", 3, &mut into) == answer);
-    assert!(rt; answer.is_err() || into == *b"3456");
+    folder.read("outside_shaky/from", 3, &mut into) == answer
+        && (answer.is_err() || into == *b"3456")
 }
 
 // The second read moves fewer bytes, so the third is asked for the rest, and fails.
-fn expect_shaky_reads<R: Files>(rt: &impl Abort, folder: &mut DiskFolder<R>) {
-    assert!(rt; folder.find("outside_shaky/from") == Ok(10));
-    expect_shaky_read(rt, folder, Err(Failed));
-    expect_shaky_read(rt, folder, Ok(4));
+fn are_reads_shaky<R: Files>(folder: &mut DiskFolder<R>) -> bool {
+    is_found(folder, "outside_shaky/from")
+        && is_read_as(folder, Err(Failed))
+        && is_read_as(folder, Ok(4))
 }
 
-fn expect_shaky_write<R: Files>(
-    rt: &impl Abort,
+fn is_written_as<R: Files>(
     folder: &mut DiskFolder<R>,
     bytes: &[u8],
     answer: Result<usize, Failed>,
-) {
-    assert!(rt;
-        folder.write("outside_shaky/to", bytes) == answer,
-        "{bytes:?}"
-    );
+) -> bool {
+    folder.write("outside_shaky/to", bytes) == answer
 }
 
 // The second write moves fewer bytes, and the third fails.
-fn expect_shaky_writes<R: Files>(rt: &impl Abort, folder: &mut DiskFolder<R>) {
-    assert_eq!(rt; folder.create("outside_shaky/to"), Ok(()));
-    expect_shaky_write(rt, folder, b"abcdef", Ok(2));
-    expect_shaky_write(rt, folder, b"cdef", Err(Failed));
-    expect_shaky_write(rt, folder, b"cdef", Ok(4));
+fn are_writes_shaky<R: Files>(folder: &mut DiskFolder<R>) -> bool {
+    folder.create("outside_shaky/to").is_ok()
+        && is_written_as(folder, b"abcdef", Ok(2))
+        && is_written_as(folder, b"cdef", Err(Failed))
+        && is_written_as(folder, b"cdef", Ok(4))
 }
 
 fn expect_over_shaky<R: Files + AllocGlobal + Abort>(rt: &R) {
     let files = Shaky { files: rt };
     let mut folder = DiskFolder::new(&files, rt.alloc());
-    expect_shaky_reads(rt, &mut folder);
-    expect_shaky_writes(rt, &mut folder);
+    assert!(rt; are_reads_shaky(&mut folder));
+    assert!(rt; are_writes_shaky(&mut folder));
 }
 
 #[test]
@@ -208,26 +181,25 @@ fn a_shaky_file(rt: HostRuntime) -> Result<(), Fail> {
     Ok(())
 }
 
-fn expect_sent<W: Write + Drop>(
-    rt: &impl Abort,
+fn is_sent_as<W: Write + Drop>(
     sink: &mut StdSink<W>,
     bytes: &[u8],
     answer: Result<usize, Failed>,
-) {
-    assert!(rt; sink.write(bytes) == answer, "{bytes:?}");
+) -> bool {
+    sink.write(bytes) == answer
 }
 
 // The second write, the third write, the second flush, and what goes well.
-fn expect_sends<W: Write + Drop>(rt: &impl Abort, sink: &mut StdSink<W>) {
-    expect_sent(rt, sink, b"abc", Ok(2));
-    expect_sent(rt, sink, b"c", Err(Failed));
-    expect_sent(rt, sink, b"cd", Err(Failed));
-    expect_sent(rt, sink, b"e", Ok(1));
+fn are_sends_shaky<W: Write + Drop>(sink: &mut StdSink<W>) -> bool {
+    is_sent_as(sink, b"abc", Ok(2))
+        && is_sent_as(sink, b"c", Err(Failed))
+        && is_sent_as(sink, b"cd", Err(Failed))
+        && is_sent_as(sink, b"e", Ok(1))
 }
 
 fn expect_over_stream(rt: &impl Abort, notes: &mut Notes) {
     let mut sink = StdSink::new(notes);
-    expect_sends(rt, &mut sink);
+    assert!(rt; are_sends_shaky(&mut sink));
 }
 
 // Each of the writes that move bytes, and that whose flush fails, is followed by one flush.

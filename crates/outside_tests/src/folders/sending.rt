@@ -16,8 +16,12 @@ fn expect_pushed(
     piece: &[u8],
     sent: usize,
 ) {
-    assert_eq!(rt; buffer.push(sink, piece), Ok(()));
-    assert_eq!(rt; sink.sent().len(), sent, "a piece of {} bytes", piece.len());
+    let is_pushed = buffer.push(sink, piece).is_ok();
+    assert!(rt;
+        is_pushed && sink.sent().len() == sent,
+        "{} bytes",
+        piece.len()
+    );
 }
 
 // The same once what waits is sent too, or was to be.
@@ -28,8 +32,8 @@ fn expect_finished(
     answer: Result<(), Failed>,
     sent: usize,
 ) {
-    assert_eq!(rt; buffer.finish(sink), answer);
-    assert_eq!(rt; sink.sent().len(), sent);
+    let is_so = buffer.finish(sink) == answer;
+    assert!(rt; is_so && sink.sent().len() == sent);
 }
 
 fn are_around(front: &[u8], end: &[u8], bytes: &[u8]) -> bool {

@@ -1,8 +1,8 @@
 //! A folder whose files are shorter than it says.
 
 use in_memory::{MemFolder, ShortFolder};
-use outside::{Failed, FindFault, Folder, read_full};
-use std::alloc::{AllocError, AllocGlobal, Global};
+use outside::{Failed, Folder, read_full};
+use std::alloc::{AllocError, Global};
 use std::process::Abort;
 use std::test::Fail;
 
@@ -16,58 +16,52 @@ fn shorter(alloc: Global, size: usize, extra: u64) -> Result<ShortFolder, AllocE
     Ok(ShortFolder::new(inner, extra))
 }
 
-fn expect_found(rt: &impl Abort, folder: &mut ShortFolder, wanted: Result<u64, FindFault>) {
-    assert_eq!(rt; folder.find("a"), wanted);
+fn is_found(folder: &mut ShortFolder, wanted: u64) -> bool {
+    folder.find("a") == Ok(wanted)
 }
 
-fn expect_read(rt: &impl Abort, folder: &mut ShortFolder, name: &str, wanted: usize) {
+fn is_read(folder: &mut ShortFolder, name: &str, wanted: usize) -> bool {
     let mut bytes = [0; 1024];
-    assert_eq!(rt; read_full(folder, name, 0, &mut bytes), Ok(wanted));
+    read_full(folder, name, 0, &mut bytes) == Ok(wanted)
+}
+
+fn is_shorter(folder: &mut ShortFolder) -> bool {
+    is_found(folder, 839) && is_read(folder, "a", 834) && is_read(folder, "none", 0)
 }
 
 #[test]
 fn five_bytes_shorter(rt: HostRuntime) -> Result<(), Fail> {
     let mut folder = shorter(rt.alloc(), 834, 5)?;
-    expect_found(&rt, &mut folder, Ok(839));
-    expect_read(&rt, &mut folder, "a", 834);
-    expect_read(&rt, &mut folder, "none", 0);
+    assert!(rt; is_shorter(&mut folder));
     Ok(())
 }
 
-fn expect_length<R: Abort + AllocGlobal>(
-    rt: &R,
-    size: usize,
-    extra: u64,
-    length: u64,
-) -> Result<(), AllocError> {
-    let mut folder = shorter(rt.alloc(), size, extra)?;
-    expect_found(rt, &mut folder, Ok(length));
-    Ok(())
+fn has_length(alloc: Global, size: usize, extra: u64, length: u64) -> Result<bool, AllocError> {
+    let mut folder = shorter(alloc, size, extra)?;
+    Ok(is_found(&mut folder, length))
 }
 
 #[test]
 fn past_the_longest(rt: HostRuntime) -> Result<(), Fail> {
-    expect_length(&rt, 417, 1_073_741_824, 1_073_742_241)?;
-    expect_length(&rt, 1, u64::MAX, u64::MAX)?;
+    assert!(rt; has_length(rt.alloc(), 417, 1_073_741_824, 1_073_742_241)?);
+    assert!(rt; has_length(rt.alloc(), 1, u64::MAX, u64::MAX)?);
     Ok(())
 }
 
-fn expect_written(
-    rt: &impl Abort,
-    folder: &mut ShortFolder,
-    name: &str,
-    wanted: Result<usize, Failed>,
-) {
-    assert_eq!(rt; folder.write(name, b"12345"), wanted);
-    assert_eq!(rt; folder.get("o").unwrap_or(b"none"), b"12345".as_slice());
+fn is_written(folder: &mut ShortFolder, name: &str, wanted: Result<usize, Failed>) -> bool {
+    folder.write(name, b"12345") == wanted && folder.get("o") == Some(b"12345".as_slice())
 }
 
 /// The first write creates the name, the second passes its room, and the third has none.
+fn are_written(folder: &mut ShortFolder) -> bool {
+    is_written(folder, "o", Ok(5))
+        && is_written(folder, "o", Err(Failed))
+        && is_written(folder, "none", Err(Failed))
+}
+
 #[test]
 fn written_without_create(rt: HostRuntime) -> Result<(), Fail> {
     let mut folder = shorter(rt.alloc(), 1, 0)?;
-    expect_written(&rt, &mut folder, "o", Ok(5));
-    expect_written(&rt, &mut folder, "o", Err(Failed));
-    expect_written(&rt, &mut folder, "none", Err(Failed));
+    assert!(rt; are_written(&mut folder));
     Ok(())
 }

@@ -1,6 +1,5 @@
 //! A folder that gives and takes few bytes at a time.
-use super::noticed::Noticed;
-use outside::{Failed, FindFault, Folder};
+use outside::{Failed, FindFault, Folder, Tally};
 use std::alloc::{AllocError, Global};
 
 /// How many calls of `read` and `write` there were, and which of them fails.
@@ -23,7 +22,7 @@ pub struct Slow {
     pub content: Vec<u8>,
     pub most: usize,
     pub calls: Calls,
-    noticed: Noticed,
+    tally: Tally,
 }
 
 impl Slow {
@@ -37,7 +36,7 @@ impl Slow {
             content: pattern(alloc, length)?,
             most,
             calls: Calls { made: 0, failing },
-            noticed: Noticed::new(),
+            tally: Tally::new(),
         })
     }
 }
@@ -73,7 +72,7 @@ impl Folder for Slow {
 
     ghost files = { λ _. untold };
 
-    ghost counts = { λ folder. folder.noticed };
+    ghost counts = { λ folder. folder.tally };
 
     fn find(&mut self, _name: &str) -> Result<u64, FindFault> {
         Ok(self.content.len() as u64)
@@ -81,14 +80,14 @@ impl Folder for Slow {
 
     fn read(&mut self, _name: &str, at: u64, into: &mut [u8]) -> Result<usize, Failed> {
         if self.calls.next_fails() {
-            self.noticed.count_read_fault();
+            self.tally.count_read_fault();
             return Err(Failed);
         }
         let start = self.content.len().min(at as usize);
         let got = into.len().min(self.most).min(self.content.len() - start);
         into[..got].copy_from_slice(&self.content[start..start + got]);
         if got == 0 && !into.is_empty() {
-            self.noticed.count_end();
+            self.tally.count_end();
         }
         Ok(got)
     }
@@ -102,12 +101,12 @@ impl Folder for Slow {
     #[tactic(auto, unfolding(outside::specs::Files::appended))]
     fn write(&mut self, _name: &str, bytes: &[u8]) -> Result<usize, Failed> {
         if self.calls.next_fails() {
-            self.noticed.count_write_fault();
+            self.tally.count_write_fault();
             return Err(Failed);
         }
         let taken = bytes.len().min(self.most.max(1));
         if self.content.extend_from_slice(&bytes[..taken]).is_err() {
-            self.noticed.count_write_fault();
+            self.tally.count_write_fault();
             return Err(Failed);
         }
         Ok(taken)
