@@ -25,57 +25,56 @@ static TAKEN: [Taken; 6] = table! {
     ("no bits", 0, Some(0), 49)
 };
 
+fn is_taken(bits: &mut Bits, field: &Taken) -> bool {
+    field.width <= 32 && bits.take(field.width) == field.value && bits.place() == field.place
+}
+
 #[test]
 fn takes_the_first_fields_of_a_side_information(rt: HostRuntime) {
     let mut bits = Bits::new(&SIDE);
     for field in &TAKEN {
-        assert!(rt; field.width <= 32);
-        assert_eq!(rt; bits.take(field.width), field.value, "{}", field.what);
-        assert_eq!(rt; bits.place(), field.place, "{}", field.what);
+        assert!(rt; is_taken(&mut bits, field), "{}", field.what);
     }
-    assert_eq!(rt; bits.left(), 15);
+    assert!(rt; bits.left() == 15);
 }
 
 #[test]
 fn reads_a_gain_among_few_bytes(rt: HostRuntime) {
     // By eight bytes, and by the few that there are.
-    assert_eq!(rt; number_at(&SIDE, 41, 8), 100);
-    assert_eq!(rt; number_at(&SIDE[5..], 1, 8), 100);
-    assert_eq!(rt; number_at(&SIDE[3..7], 17, 8), 100);
-    assert_eq!(rt;
-        number_at(&[0, 0, 0, 0, 0, 0, 0x12, 0x34, 0x5f], 52, 20),
-        0x2345f
-    );
+    assert!(rt; number_at(&SIDE, 41, 8) == 100);
+    assert!(rt; number_at(&SIDE[5..], 1, 8) == 100);
+    assert!(rt; number_at(&SIDE[3..7], 17, 8) == 100);
+    assert!(rt; number_at(b"\0\0\0\0\0\0\x12\x34\x5f", 52, 20) == 0x2345f);
 }
 
-fn expect_put(rt: &impl Abort, bytes: &mut [u8], at: usize, byte: u8, wanted: &[u8]) {
-    assert!(rt; at < 1000 && bytes.len() < 1000 && at + 16 <= 8 * bytes.len());
+// Whether a byte that is put among these leaves those.
+fn is_put(bytes: &mut [u8], at: usize, byte: u8, wanted: &[u8]) -> bool {
+    if at >= 1000 || bytes.len() >= 1000 || at + 16 > 8 * bytes.len() {
+        return false;
+    }
     put_byte(bytes, at, byte);
-    assert_eq!(rt; &*bytes, wanted);
+    &*bytes == wanted
 }
 
 #[test]
 fn puts_a_gain(rt: HostRuntime) {
     let mut bytes = SIDE;
     put(&mut bytes, 41, 8, 101);
-    assert_eq!(rt; bytes, [0x00, 0x00, 0x00, 0x08, 0x00, 0x32, 0x80, 0x00]);
-    expect_put(&rt, &mut bytes, 41, 100, &SIDE);
+    assert!(rt; bytes == *b"\0\0\0\x08\0\x32\x80\0");
+    assert!(rt; is_put(&mut bytes, 41, 100, &SIDE));
 }
 
 #[test]
 fn puts_among_few_bytes(rt: HostRuntime) {
     let mut few = [0xff; 3];
     put(&mut few, 5, 17, 0);
-    assert_eq!(rt; few, [0xf8, 0x00, 0x03]);
-    expect_put(&rt, &mut few, 8, 0xab, &[0xf8, 0xab, 0x03]);
+    assert!(rt; few == [0xf8, 0x00, 0x03]);
+    assert!(rt; is_put(&mut few, 8, 0xab, &[0xf8, 0xab, 0x03]));
 }
 
 #[test]
 fn puts_near_the_end_of_more_than_eight_bytes(rt: HostRuntime) {
     let mut more = [0xff; 10];
     put(&mut more, 47, 32, 0x8000_0001);
-    assert_eq!(rt;
-        more,
-        [0xff, 0xff, 0xff, 0xff, 0xff, 0xff, 0x00, 0x00, 0x00, 0x03]
-    );
+    assert!(rt; more == *b"\xff\xff\xff\xff\xff\xff\0\0\0\x03");
 }

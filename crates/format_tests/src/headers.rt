@@ -35,23 +35,27 @@ static HEADERS: [Says; 10] = table! {
     ([0xff, 0xe2, 0x90, 0x40], MPEG_2_5, 2, 11_025, 522, 499)
 };
 
-fn expect_class(rt: &impl Abort, class: Class, row: &Says) {
-    assert_eq!(rt; class.version, row.version, "{:?}", row.bytes);
-    assert_eq!(rt; class.channels, row.channels, "{:?}", row.bytes);
-    expect_number(rt, class.frequency(), row.frequency, row.bytes);
+fn is_class(class: Class, row: &Says) -> bool {
+    class.version == row.version
+        && class.channels == row.channels
+        && class.frequency() == row.frequency
 }
 
-fn expect_number(rt: &impl Abort, found: u32, wanted: u32, bytes: [u8; 4]) {
-    assert_eq!(rt; found, wanted, "{bytes:?}");
+fn is_said(row: &Says) -> bool {
+    match Header::read(row.bytes) {
+        Ok(header) => {
+            is_class(header.class(), row)
+                && header.length() == row.length
+                && header.area() == row.area
+        }
+        Err(_) => false,
+    }
 }
 
 #[test]
 fn headers(rt: HostRuntime) -> Result<(), Fail> {
-    for row in &HEADERS {
-        let header = Header::read(row.bytes)?;
-        expect_class(&rt, header.class(), row);
-        expect_number(&rt, header.length(), row.length, row.bytes);
-        expect_number(&rt, header.area(), row.area, row.bytes);
+    for (number, row) in HEADERS.iter().enumerate() {
+        assert!(rt; is_said(row), "row {number}");
     }
     Ok(())
 }
@@ -64,11 +68,17 @@ static WRITTEN: [[u8; 4]; 4] = [
     [0xff, 0xe2, 0x9a, 0xc4],
 ];
 
+/// Whether the header of these bytes is written as they are.
+fn come_back(bytes: [u8; 4]) -> bool {
+    match Header::read(bytes) {
+        Ok(header) => header.bytes() == bytes,
+        Err(_) => false,
+    }
+}
+
 #[test]
 fn written_headers(rt: HostRuntime) -> Result<(), Fail> {
-    for bytes in &WRITTEN {
-        assert_eq!(rt; Header::read(*bytes)?.bytes(), *bytes);
-    }
+    assert!(rt; WRITTEN.iter().all(|bytes| come_back(*bytes)));
     // Joint stereo at 320 kbit/s and 44,100 Hz, padded, an original.
     let mut header = Header::read([0xff, 0xfb, 0x90, 0x00])?;
     header.slot = Slot {
@@ -78,7 +88,7 @@ fn written_headers(rt: HostRuntime) -> Result<(), Fail> {
     header.mode = 1;
     header.mode_extension = 2;
     header.original = true;
-    assert_eq!(rt; header.bytes(), [0xff, 0xfb, 0xe2, 0x64]);
+    assert!(rt; header.bytes() == [0xff, 0xfb, 0xe2, 0x64]);
     Ok(())
 }
 
@@ -104,10 +114,17 @@ static REFUSED: [Refused; 11] = table! {
     ([0x49, 0x44, 0x33, 0x03], NotHeader::No)
 };
 
+fn is_refused(row: &Refused) -> bool {
+    match Header::read(row.bytes) {
+        Ok(_) => false,
+        Err(why) => why == row.why,
+    }
+}
+
 #[test]
 fn bytes_that_are_no_header(rt: HostRuntime) {
-    for row in &REFUSED {
-        assert_eq!(rt; Header::read(row.bytes), Err(row.why), "{:?}", row.bytes);
+    for (number, row) in REFUSED.iter().enumerate() {
+        assert!(rt; is_refused(row), "row {number}");
     }
 }
 
@@ -133,32 +150,41 @@ static ALL_LENGTHS: [ClassLengths; 9] = table! {
     (MPEG_2_5, 2, 8_000, [72, 144, 216, 288, 360, 432, 504, 576, 720, 864, 1008, 1152, 1296, 1440])
 };
 
-/// Each slot of the class has its length.
-fn expect_lengths(rt: &impl Abort, class: Class, lengths: &[u16; 14]) {
+/// Whether each slot of the class has its length.
+fn has_lengths(class: Class, lengths: &[u16; 14]) -> bool {
     for rate_index in 1..15 {
-        let wanted = lengths[rate_index as usize - 1];
-        for padding in [false, true] {
-            let slot = Slot {
-                rate_index,
-                padding,
-            };
-            let wanted = u32::from(wanted) + u32::from(padding);
-            assert_eq!(rt; class.length_of(slot), wanted, "{class:?}, {slot:?}");
+        let plain = Slot {
+            rate_index,
+            padding: false,
+        };
+        let padded = Slot {
+            rate_index,
+            padding: true,
+        };
+        let wanted = u32::from(lengths[rate_index as usize - 1]);
+        if class.length_of(plain) != wanted || class.length_of(padded) != wanted + 1 {
+            return false;
         }
     }
+    true
+}
+
+fn is_of_lengths(row: &ClassLengths) -> bool {
+    if row.frequency_index > 2 {
+        return false;
+    }
+    let class = Class {
+        version: row.version,
+        frequency_index: row.frequency_index,
+        channels: 2,
+    };
+    class.frequency() == row.frequency && has_lengths(class, &row.lengths)
 }
 
 #[test]
 fn lengths(rt: HostRuntime) {
     for row in &ALL_LENGTHS {
-        assert!(rt; row.frequency_index <= 2);
-        let class = Class {
-            version: row.version,
-            frequency_index: row.frequency_index,
-            channels: 2,
-        };
-        assert_eq!(rt; class.frequency(), row.frequency);
-        expect_lengths(&rt, class, &row.lengths);
+        assert!(rt; is_of_lengths(row), "{} Hz", row.frequency);
     }
 }
 
@@ -179,38 +205,41 @@ static RATES: [VersionRates; 3] = table! {
     (MPEG_2_5, LOWER_RATES, 576, 255)
 };
 
-/// Each bit rate index of the class has its rate.
-fn expect_rates(rt: &impl Abort, class: Class, rates: &[u16; 14]) {
+/// Whether each bit rate index of the class has its rate.
+fn has_rates(class: Class, rates: &[u16; 14]) -> bool {
     for rate_index in 1..15 {
         let slot = Slot {
             rate_index,
             padding: false,
         };
-        let wanted = u32::from(rates[rate_index as usize - 1]);
-        assert_eq!(rt; class.rate(slot), wanted, "{class:?}, {slot:?}");
+        if class.rate(slot) != u32::from(rates[rate_index as usize - 1]) {
+            return false;
+        }
     }
+    true
+}
+
+fn is_of_rates(row: &VersionRates) -> bool {
+    let class = Class {
+        version: row.version,
+        frequency_index: 0,
+        channels: 2,
+    };
+    class.samples() == row.samples && class.window() == row.window && has_rates(class, &row.rates)
 }
 
 #[test]
 fn rates(rt: HostRuntime) {
-    for row in &RATES {
-        let class = Class {
-            version: row.version,
-            frequency_index: 0,
-            channels: 2,
-        };
-        assert_eq!(rt; class.samples(), row.samples);
-        assert_eq!(rt; class.window(), row.window);
-        expect_rates(&rt, class, &row.rates);
+    for (number, row) in RATES.iter().enumerate() {
+        assert!(rt; is_of_rates(row), "row {number}");
     }
 }
 
 // A protected joint stereo frame of 128 kbit/s and 44,100 Hz: an area of 379 bytes.
 const PROTECTED: [u8; 4] = [0xff, 0xfa, 0x90, 0x64];
 
-fn expect_header(rt: &impl Abort, header: &Header, bytes: [u8; 4], area: u32) {
-    assert_eq!(rt; header.bytes(), bytes);
-    assert_eq!(rt; header.area(), area);
+fn is_header(header: &Header, bytes: [u8; 4], area: u32) -> bool {
+    header.bytes() == bytes && header.area() == area
 }
 
 #[test]
@@ -219,14 +248,10 @@ fn slots(rt: HostRuntime) -> Result<(), Fail> {
     let slots = header.class().slots();
     assert!(rt; slots.len() == 28);
     let first = header.unprotected(slots[0]);
-    expect_header(&rt, &first, [0xff, 0xfb, 0x10, 0x64], 68);
+    assert!(rt; is_header(&first, [0xff, 0xfb, 0x10, 0x64], 68));
     let last = header.with_slot(slots[27]);
-    expect_header(&rt, &last, [0xff, 0xfa, 0xe2, 0x64], 1007);
+    assert!(rt; is_header(&last, [0xff, 0xfa, 0xe2, 0x64], 1007));
     Ok(())
-}
-
-fn expect_slot(rt: &impl Abort, found: Slot, wanted: Slot) {
-    assert_eq!(rt; found, wanted);
 }
 
 #[test]
@@ -236,9 +261,9 @@ fn slots_in_their_order(rt: HostRuntime) -> Result<(), Fail> {
         rate_index: 9,
         padding: true,
     };
+    assert!(rt; slots.as_slice().get(17) == Some(&wanted));
+    assert!(rt; slots.as_slice().first() == Some(&Slot::default()));
     assert!(rt; slots.len() == 28);
-    expect_slot(&rt, slots[17], wanted);
-    expect_slot(&rt, slots[0], Slot::default());
     Ok(())
 }
 

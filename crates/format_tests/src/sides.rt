@@ -1,21 +1,20 @@
 //! Side information by the tables of the standard, ISO/IEC 11172-3 and 13818-3, 2.4.1.7, and check words.
 use frame_header::{Class, Header, Version};
 use side_info::{Granule, Side, check_word, check_word_of_bytes, put_gains, word_of_bytes};
+use std::alloc::{AllocError, Global};
 use std::process::Abort;
 use std::test::Fail;
 use test_files::table;
 
 // The side bytes of an MPEG-1 frame of two channels: four granules of 8 bits, with the gains 100, 101, 255 and 90.
-const BEFORE: [u8; 32] = [
-    0x00, 0x00, 0x00, 0x08, 0x00, 0x32, 0x00, 0x00, 0x00, 0x00, 0x01, 0x00, 0x06, 0x50, 0x00, 0x00,
-    0x00, 0x00, 0x20, 0x01, 0xfe, 0x00, 0x00, 0x00, 0x00, 0x04, 0x00, 0x16, 0x80, 0x00, 0x00, 0x00,
-];
+const BEFORE: [u8; 32] = *b"\
+    \x00\x00\x00\x08\x00\x32\x00\x00\x00\x00\x01\x00\x06\x50\x00\x00\
+    \x00\x00\x20\x01\xfe\x00\x00\x00\x00\x04\x00\x16\x80\x00\x00\x00";
 
 // The same with the gains 101, 102, 0 and 91.
-const AFTER: [u8; 32] = [
-    0x00, 0x00, 0x00, 0x08, 0x00, 0x32, 0x80, 0x00, 0x00, 0x00, 0x01, 0x00, 0x06, 0x60, 0x00, 0x00,
-    0x00, 0x00, 0x20, 0x00, 0x00, 0x00, 0x00, 0x00, 0x00, 0x04, 0x00, 0x16, 0xc0, 0x00, 0x00, 0x00,
-];
+const AFTER: [u8; 32] = *b"\
+    \x00\x00\x00\x08\x00\x32\x80\x00\x00\x00\x01\x00\x06\x60\x00\x00\
+    \x00\x00\x20\x00\x00\x00\x00\x00\x00\x04\x00\x16\xc0\x00\x00\x00";
 
 const NONE: Granule = Granule {
     detail: 0,
@@ -100,55 +99,52 @@ const SMALL: Granule = Granule {
     ..NONE
 };
 
-// Asserts that the side information is written as these bytes.
-fn expect_written(rt: &impl Abort, class: Class, side: &Side, bytes: &[u8]) {
-    assert!(rt; side.fits(class));
-    assert_eq!(rt; bytes.len(), class.side_size() as usize);
+// Whether the side information is written as these bytes.
+fn is_written(class: Class, side: &Side, bytes: &[u8]) -> bool {
+    if !side.fits(class) || bytes.len() != class.side_size() as usize {
+        return false;
+    }
     let mut room = [0; 32];
     let part = &mut room[..bytes.len()];
     side.write(class, part);
-    assert_eq!(rt; &*part, bytes, "{class:?}");
+    &*part == bytes
 }
 
-// Asserts that these bytes are read as this side information, and that it is written as these bytes.
-fn expect_shape<R: Abort + AllocGlobal>(
-    rt: &R,
-    version: Version,
-    channels: u8,
-    bytes: &[u8],
-    wanted: &Side,
-) {
-    assert!(rt; channels == 1 || channels == 2);
+// Whether these bytes are read as this side information, and it is written as these bytes.
+fn is_shape(version: Version, channels: u8, bytes: &[u8], wanted: &Side) -> bool {
+    if channels != 1 && channels != 2 {
+        return false;
+    }
     let class = Class {
         version,
         frequency_index: 0,
         channels,
     };
-    assert_eq!(rt; bytes.len(), class.side_size() as usize);
+    if bytes.len() != class.side_size() as usize {
+        return false;
+    }
     let read = Side::read(class, bytes);
-    assert_eq!(rt; &read, wanted, "{class:?}");
-    expect_written(rt, class, &read, bytes);
+    read == *wanted && is_written(class, &read, bytes)
 }
+
+static MPEG_1_OF_ONE: &[u8] = b"\
+    \xaa\xd6\xaa\xd6\x41\xa5\xba\xaa\xaa\xaa\xaa\x84\x58\x58\xaa\xaa\
+    \xaa";
+
+static MPEG_1_OF_TWO: &[u8] = b"\
+    \xaa\xda\x6a\xb5\x90\x69\x6e\xaa\xaa\xaa\xaa\xa1\x16\x16\x2a\xaa\
+    \xaa\xbf\xff\xff\xff\xff\xff\xff\xf8\x00\x80\x80\xd0\x00\x00\x29";
 
 #[test]
 fn mpeg_1_with_one_channel(rt: HostRuntime) {
-    let one = [
-        0xaa, 0xd6, 0xaa, 0xd6, 0x41, 0xa5, 0xba, 0xaa, 0xaa, 0xaa, 0xaa, 0x84, 0x58, 0x58, 0xaa,
-        0xaa, 0xaa,
-    ];
     let wanted = side_of(341, 21, [10, 0], [[FIRST, NONE], [SECOND, NONE]]);
-    expect_shape(&rt, Version::One, 1, &one, &wanted);
+    assert!(rt; is_shape(Version::One, 1, MPEG_1_OF_ONE, &wanted));
 }
 
 #[test]
 fn mpeg_1_with_two_channels(rt: HostRuntime) {
-    let two = [
-        0xaa, 0xda, 0x6a, 0xb5, 0x90, 0x69, 0x6e, 0xaa, 0xaa, 0xaa, 0xaa, 0xa1, 0x16, 0x16, 0x2a,
-        0xaa, 0xaa, 0xbf, 0xff, 0xff, 0xff, 0xff, 0xff, 0xff, 0xf8, 0x00, 0x80, 0x80, 0xd0, 0x00,
-        0x00, 0x29,
-    ];
     let wanted = side_of(341, 5, [10, 6], [[FIRST, SECOND], [FULL, SMALL]]);
-    expect_shape(&rt, Version::One, 2, &two, &wanted);
+    assert!(rt; is_shape(Version::One, 2, MPEG_1_OF_TWO, &wanted));
 }
 
 // In MPEG-2 and MPEG-2.5: 9 bits of scalefac_compress, and no preflag.
@@ -163,54 +159,49 @@ const LOWER_SECOND: Granule = Granule {
     ..SECOND
 };
 
+static LOWER_OF_ONE: &[u8] = b"\xab\xd5\xac\x83\x4b\x4b\xaa\xaa\xa9";
+
+static LOWER_OF_TWO: &[u8] = b"\
+    \xab\xaa\xd6\x41\xa5\xa5\xd5\x55\x54\xaa\xa8\x45\x84\xb4\x55\x55\
+    \x56";
+
 #[test]
 fn lower_versions_with_one_channel(rt: HostRuntime) {
-    let one = [0xab, 0xd5, 0xac, 0x83, 0x4b, 0x4b, 0xaa, 0xaa, 0xa9];
     let wanted = side_of(171, 1, [0, 0], [[LOWER_FIRST, NONE], [NONE, NONE]]);
-    expect_shape(&rt, Version::Two, 1, &one, &wanted);
-    expect_shape(&rt, Version::TwoFive, 1, &one, &wanted);
+    assert!(rt; is_shape(Version::Two, 1, LOWER_OF_ONE, &wanted));
+    assert!(rt; is_shape(Version::TwoFive, 1, LOWER_OF_ONE, &wanted));
 }
 
 #[test]
 fn lower_versions_with_two_channels(rt: HostRuntime) {
-    let two = [
-        0xab, 0xaa, 0xd6, 0x41, 0xa5, 0xa5, 0xd5, 0x55, 0x54, 0xaa, 0xa8, 0x45, 0x84, 0xb4, 0x55,
-        0x55, 0x56,
-    ];
     let wanted = side_of(171, 2, [0, 0], [[LOWER_FIRST, LOWER_SECOND], [NONE, NONE]]);
-    expect_shape(&rt, Version::Two, 2, &two, &wanted);
-    expect_shape(&rt, Version::TwoFive, 2, &two, &wanted);
+    assert!(rt; is_shape(Version::Two, 2, LOWER_OF_TWO, &wanted));
+    assert!(rt; is_shape(Version::TwoFive, 2, LOWER_OF_TWO, &wanted));
 }
 
 #[test]
 fn lengths(rt: HostRuntime) {
     let side = side([100, 101, 255, 90]);
-    assert_eq!(rt; side.bits(), 32);
-    assert_eq!(rt; side.payload_bytes(), 4);
-    assert_eq!(rt; side.with_begin(511).main_data_begin, 511);
-    assert_eq!(rt; Side::empty().bits(), 0);
+    assert!(rt; side.bits() == 32 && side.payload_bytes() == 4);
+    assert!(rt; side.with_begin(511).main_data_begin == 511);
+    assert!(rt; Side::empty().bits() == 0);
 }
 
 #[test]
-#[tactic(auto, unfolding(frame_header::specs::Tables::side_size_of))]
 fn other_gains(rt: HostRuntime) {
     const STEREO: Class = Class {
         version: Version::One,
         frequency_index: 0,
         channels: 2,
     };
-    assert_eq!(rt; Side::read(STEREO, &BEFORE), side([100, 101, 255, 90]));
-    let changed = side([101, 102, 0, 91]);
-    assert!(rt; changed.fits(STEREO));
-    let mut bytes = BEFORE;
-    changed.write(STEREO, &mut bytes);
-    assert_eq!(rt; bytes, AFTER);
+    assert!(rt; is_shape(Version::One, 2, &BEFORE, &side([100, 101, 255, 90])));
+    assert!(rt; is_written(STEREO, &side([101, 102, 0, 91]), &AFTER));
 }
 
 // One granule of MPEG-2 of 8 bits in one channel, with the gains 100 and 101.
-const MONO_BEFORE: [u8; 9] = [0x00, 0x00, 0x40, 0x01, 0x90, 0x00, 0x00, 0x00, 0x00];
+const MONO_BEFORE: [u8; 9] = *b"\x00\x00\x40\x01\x90\x00\x00\x00\x00";
 
-const MONO_AFTER: [u8; 9] = [0x00, 0x00, 0x40, 0x01, 0x94, 0x00, 0x00, 0x00, 0x00];
+const MONO_AFTER: [u8; 9] = *b"\x00\x00\x40\x01\x94\x00\x00\x00\x00";
 
 const MPEG_2_MONO: Class = Class {
     version: Version::Two,
@@ -234,64 +225,72 @@ static WORDS: [Checked; 3] = table! {
     (MONO_AFTER, 0x68b1)
 };
 
-#[test]
 #[tactic(auto, unfolding(frame_header::specs::Tables::side_size_of))]
+fn has_word(header: &Header, row: &Checked) -> bool {
+    let side = Side::read(MPEG_2_MONO, &row.bytes);
+    if !side.fits(header.class()) {
+        return false;
+    }
+    check_word(header, &side) == row.word
+        && check_word_of_bytes(&MONO_HEADER, &row.bytes) == row.word
+}
+
+#[test]
 fn check_words(rt: HostRuntime) -> Result<(), Fail> {
-    assert_eq!(rt; word_of_bytes(b"123456789"), 0xaee7);
+    assert!(rt; word_of_bytes(b"123456789") == 0xaee7);
     let header = Header::read(MONO_HEADER)?;
     for row in &WORDS {
-        let (bytes, word) = (row.bytes, row.word);
-        let side = Side::read(MPEG_2_MONO, &bytes);
-        assert!(rt; side.fits(header.class()));
-        assert_eq!(rt; check_word(&header, &side), word, "{bytes:?}");
-        assert_eq!(rt;
-            check_word_of_bytes(&MONO_HEADER, &bytes),
-            word,
-            "{bytes:?}"
-        );
+        assert!(rt; has_word(&header, row), "word {}", row.word);
     }
     Ok(())
 }
 
-// Asserts what the frame at the beginning of these bytes becomes with other gains.
-fn expect_gains<R: Abort + AllocGlobal>(
-    rt: &R,
-    header: &Header,
-    side: &Side,
-    before: &mut [u8],
-    after: &[u8],
-) {
+// A frame with this front and side information, and with a 7 in each byte after them.
+fn frame_of(
+    alloc: Global,
+    front: &[u8],
+    side: &[u8],
+    length: usize,
+) -> Result<Vec<u8>, AllocError> {
+    let mut frame = Vec::new(alloc);
+    frame.extend_from_slice(front)?;
+    frame.extend_from_slice(side)?;
+    frame.resize(length, 7)?;
+    Ok(frame)
+}
+
+// Whether the first frame becomes the second with the gains of the side information.
+fn becomes(header: &Header, side: &Side, before: &mut [u8], after: &[u8]) -> bool {
     let room = header.length() - header.area();
-    assert!(rt; room as usize <= before.len());
+    if room as usize > before.len() {
+        return false;
+    }
     put_gains(header, side, before);
-    assert_eq!(rt; &*before, after);
+    &*before == after
 }
 
 #[test]
-#[tactic(auto, unfolding(frame_header::specs::Tables::side_size_of))]
 fn gains_where_they_stand(rt: HostRuntime) -> Result<(), Fail> {
-    let header = Header::read([0xff, 0xfb, 0x10, 0x00])?;
-    let mut before = [7; 104];
-    before[..4].copy_from_slice(&header.bytes());
-    before[4..36].copy_from_slice(&BEFORE);
-    let mut after = before;
-    after[4..36].copy_from_slice(&AFTER);
-    expect_gains(&rt, &header, &side([101, 102, 0, 91]), &mut before, &after);
+    const FRONT: [u8; 4] = [0xff, 0xfb, 0x10, 0x00];
+    let header = Header::read(FRONT)?;
+    let mut before = frame_of(rt.alloc(), &FRONT, &BEFORE, 104)?;
+    let after = frame_of(rt.alloc(), &FRONT, &AFTER, 104)?;
+    assert!(rt; becomes(&header, &side([101, 102, 0, 91]), &mut before, &after));
     Ok(())
 }
 
-#[test]
 #[tactic(auto, unfolding(frame_header::specs::Tables::side_size_of))]
-fn gains_behind_a_check_word(rt: HostRuntime) -> Result<(), Fail> {
-    let header = Header::read(MONO_HEADER)?;
+fn mono_side() -> Side {
     let mut side = Side::read(MPEG_2_MONO, &MONO_BEFORE);
     side.granules[0][0].global_gain = 101;
-    let mut before = [7; 24];
-    before[..6].copy_from_slice(&[0xff, 0xf2, 0x14, 0xc0, 0xe9, 0x52]);
-    before[6..15].copy_from_slice(&MONO_BEFORE);
-    let mut after = before;
-    after[4..6].copy_from_slice(&[0x68, 0xb1]);
-    after[6..15].copy_from_slice(&MONO_AFTER);
-    expect_gains(&rt, &header, &side, &mut before, &after);
+    side
+}
+
+#[test]
+fn gains_behind_a_check_word(rt: HostRuntime) -> Result<(), Fail> {
+    let header = Header::read(MONO_HEADER)?;
+    let mut before = frame_of(rt.alloc(), b"\xff\xf2\x14\xc0\xe9\x52", &MONO_BEFORE, 24)?;
+    let after = frame_of(rt.alloc(), b"\xff\xf2\x14\xc0\x68\xb1", &MONO_AFTER, 24)?;
+    assert!(rt; becomes(&header, &mono_side(), &mut before, &after));
     Ok(())
 }
