@@ -8,6 +8,8 @@ use Rattle.outside.proofs.FilesLaws.{bytes_eq_same, there_holds, touches_none}
 use Rattle.sync_survey.specs.Faults.{longest_file, HoldsStream}
 use Rattle.commands.specs.declared.fault.EditFault.{EditFault}
 use Rattle.commands.specs.declared.fault.EditFault.TheVariants.{EqualNames}
+use Rattle.commands.specs.declared.inputs.Inputs.{Inputs}
+use Rattle.commands.specs.Inputs.{names_of}
 use Rattle.commands.specs.One.{Task, first_input, clash_in, made_result, made_of, one_command, holding, Refuses, IsEarlyFaultBy, IsEarlyFault, IsMaking, HoldsPrefix, HoldsLess, IsPassFaultBy, IsPassFault}
 use Rattle.commands.specs.Command.{Made, clash_from, Gives, written, LacksBytes, written_to, AreSound, MakesStreams, HoldsStreams}
 use Rattle.commands.specs.Left.{Why, Rejected, Missing, Unread, Shorter, Unwritten, NoMemory, why_of, Seen, IsLate, IsDone, IsWrittenTo, IsUnfinished, IsNotBefore, TakesMemory, LeavesBy, Leaves}
@@ -38,6 +40,14 @@ other_name name output outputs none same =
 pub source_apart : (inputs : List (List ℕ)) (source output : List ℕ) → 1 ≤ length inputs → first_input inputs ≡ source → clash_from (output ∷ []) 0 inputs ≡ None → source ≢ output
 source_apart [] source output some first free = absurd (omega (arith, some))
 source_apart (name ∷ inputs) source output some first free = λ same. other_name name output [] (no_clash _ 0 _ free).0 (first ∙ same)
+
+-- the names of the inputs are those of what the command reads
+module _ (inputs : Inputs) (task : Task) (named : names_of inputs ≡ task.inputs) where
+  pub source_is : first_input task.inputs ≡ task.source → inputs.source.now ≡ task.source
+  source_is first = ap first_input named ∙ first
+
+  pub clash_is : (output : List ℕ) {found place : Option ℕ} → found ≡ clash_from (output ∷ []) 0 (names_of inputs) → found ≡ place → clash_in task output ≡ place
+  clash_is output of is = ap (clash_from (output ∷ []) 0) (sym named) ∙ sym of ∙ is
 
 made_result-clash : (task : Task) (output : List ℕ) (place : ℕ) (f : Contents) → clash_in task output ≡ Some place → made_result task output f ≡ Err (EqualNames place)
 unfolding made_result

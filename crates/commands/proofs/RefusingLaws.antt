@@ -1,6 +1,7 @@
 -- What comes before what is made: what its refusals are, and when it isn't refused.
 use Rattle.std.proofs.Common.{◌≡◌, Option, Some, None, Result, Ok, Err, refl, sym, subst, arith}
 use Rattle.std.specs.Prelude.{IfErr, IfSome}
+use Rattle.std.specs.Result.{IsErrAnd}
 use Rattle.outside.specs.Files.{Contents, Files, Told, Untold, IfTold}
 use Rattle.sync_survey.specs.declared.survey_fault.SurveyFault.TheVariants.{Read}
 use Rattle.commands.specs.declared.fault.EditFault.{EditFault}
@@ -48,6 +49,14 @@ then_late (Err fault) make first rest = first
 pub of_err : {A : Type 0} (P : EditFault → Type 0) (r : Result A EditFault) (fault : EditFault) → IfErr r P → r ≡ Err fault → P fault
 of_err P (Ok a) fault is e = absurd cc
 of_err P (Err first) fault is e = let same : first ≡ fault = cc in subst P same is
+
+err_in : {T E : Type 0} (P : E → Type 0) (r : Result T E) (fault : E) → IsErrAnd r (λ y. y ≡ fault) → P fault → IfErr r P
+err_in P (Ok a) fault is holds = absurd is
+err_in P (Err first) fault is holds = subst P (sym is) holds
+
+-- what is said of the fault that a `?` returns
+pub err_with : {T E : Type 0} {P : E → Type 0} {r : Result T E} {fault : E} → IsErrAnd r (λ y. y ≡ fault) → P fault → IfErr r P
+err_with {T} {E} {P} {r} {fault} is holds = err_in P r fault is holds
 
 pub unless_ok : {A : Type 0} (o : Option Refusal) (a b : A) → unless o a ≡ Ok b → (o ≡ None) × (a ≡ b)
 unless_ok (Some refusal) a b e = absurd cc

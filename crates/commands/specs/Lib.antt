@@ -4,6 +4,7 @@ pub mod PassFaults
 pub mod Refusing
 pub mod Command
 pub mod Left
+pub mod Inputs
 pub mod One
 pub mod Said
 pub mod Telling

@@ -1,16 +1,11 @@
--- Both commands as one: what they choose, and what is made ready for that.
-use Rattle.std.specs.Prelude.{◌≡◌, ℕ, Bool, List, Ok}
-use Rattle.outside.specs.Files.{Files, Holds}
+-- Both commands as one: what they choose.
+use Rattle.std.specs.Prelude.{ℕ, Bool, List}
 use Rattle.cue_sheet.specs.Places.{IsPlace}
-use Rattle.slot_plan.specs.Plans.{entries}
-use Rattle.sync_survey.specs.Faults.{tells}
 use Rattle.commands.specs.declared.fault.Refusal.{Refusal}
 use Rattle.commands.specs.One.{Task}
 use Rattle.frame_edits.specs.declared.choice.Choice.{Choice}
 use Rattle.frame_edits.specs.declared.choice.Choice.TheVariants.{Between, All}
-use Rattle.frame_edits.specs.declared.work.Work.{Work}
-use Rattle.frame_edits.specs.Chosen.{Choosing, chosen_in, plan_of, cut_choice, all_choice, cut_refuses, pack_refuses, chosen_task}
-use Rattle.frame_edits.specs.Layable.{IsLayable}
+use Rattle.frame_edits.specs.Chosen.{Choosing, cut_choice, all_choice, cut_refuses, pack_refuses, chosen_task}
 
 abbrev pub choosing_by : Choice → Choosing
 choosing_by (Between from to slots) = cut_choice from.now to.now slots
@@ -27,9 +22,3 @@ task_of choice input = chosen_task (choosing_by choice) (refused_by choice) inpu
 abbrev pub IsChoice : Choice → Type 0
 IsChoice (Between from to slots) = IsPlace from.now × IsPlace to.now
 IsChoice (All slots) = Unit {0}
-
--- All is ready for the pass, and these frames are chosen and have their plan.
-pub record IsReady (input : List ℕ) (choose : Choosing) (work : Work) (files : Files) : Type 0 where
-  pub layable : IsLayable input work files
-  pub chosen : (bytes : List ℕ) → Holds files input bytes → choose bytes (tells work.survey) ≡ Ok (chosen_in work.selection.chosen)
-  pub plan : entries work.selection.planned.plan ≡ plan_of (chosen_in work.selection.chosen) (tells work.survey)

@@ -1,21 +1,28 @@
 -- What is made ready for the pass that lays chosen frames again, and the file that is written.
-use Rattle.std.specs.Prelude.{◌≡◌, ℕ, List, [], Ok}
-use Rattle.bit_fields.specs.Bits.{AreBytes}
+use Rattle.std.specs.Prelude.{◌≡◌, ℕ, List, []}
 use Rattle.outside.specs.Files.{Files, Holds, IsThere}
 use Rattle.outside.specs.Feed.{IsFedFrom}
+use Rattle.laying.specs.Surveys.{HasSurvey}
+use Rattle.sync_survey.specs.declared.surveys.Survey.{Survey}
 use Rattle.sync_survey.specs.Faults.{tells}
-use Rattle.sync_survey.specs.Survey.{survey_of, IsLaidOut}
-use Rattle.commands.specs.One.{most_frames}
+use Rattle.sync_survey.specs.Survey.{IsLaidOut}
+use Rattle.frame_edits.specs.declared.plans.Selection.{Selection}
 use Rattle.frame_edits.specs.declared.work.Work.{Work}
 use Rattle.frame_edits.specs.Laid.{file_laid}
 use Rattle.frame_edits.specs.Selected.{laid_in, IsWritable}
 
--- The input is there and was surveyed, its chosen frames can be written, nothing is held of any file, and nothing waits.
+-- The work is that of this survey and these chosen frames with their plan; nothing is held of any file, and nothing waits.
+pub record IsWorkOf (survey : Survey) (selection : Selection) (work : Work) : Type 0 where
+  pub survey_is : work.survey ≡ survey
+  pub selection_is : work.selection ≡ selection
+  pub fed : (others : Files) (name : List ℕ) → IsFedFrom work.buffers.feed others name
+  pub unsent : work.buffers.waiting ≡ []
+
+-- The input is there and has the survey, its chosen frames can be written, nothing is held of any file, and nothing waits.
 pub record IsLayable (input : List ℕ) (work : Work) (files : Files) : Type 0 where
   pub there : IsThere files input
   pub laid : IsLaidOut (tells work.survey)
-  pub surveyed : (bytes : List ℕ) → Holds files input bytes → survey_of bytes most_frames ≡ Ok (tells work.survey)
-  pub octets : (bytes : List ℕ) → Holds files input bytes → AreBytes bytes
+  pub has : (bytes : List ℕ) → Holds files input bytes → HasSurvey bytes (tells work.survey)
   pub writable : IsWritable (tells work.survey) work.selection
   pub fed : (others : Files) (name : List ℕ) → IsFedFrom work.buffers.feed others name
   pub unsent : work.buffers.waiting ≡ []

@@ -14,5 +14,5 @@ pub use choice::{Choice, all_choice};
 pub use chosen::{Chosen, Slots, choose};
 pub use edit::FrameEdit;
 pub use plans::{Planned, Selection, info_bytes, plan_file};
-pub use work::{Work, write_work};
+pub use work::Work;
 pub use writing::{write_laid, write_selection};

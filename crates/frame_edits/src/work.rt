@@ -1,13 +1,13 @@
 //! What a command that lays chosen frames again makes ready, and the pass that writes its file.
-ghost use Rattle.std.specs.Prelude.{◌≡◌, ◌≢◌, List, ℕ, IfErr, OnOk};
-ghost use Rattle.outside.specs.Files.{Files, emptied};
-ghost use Rattle.outside.specs.Pass.{Appends, AppendsPrefix, HasPassCause};
-ghost use Rattle.frame_edits.specs.Layable.{work_file, IsLayable};
+ghost use Rattle.std.specs.Prelude.{IfOk};
+ghost use Rattle.frame_edits.specs.Layable.{work_file, IsLayable, IsWorkOf};
 
 use crate::plans::Selection;
 use crate::writing::write_laid;
+use commands::OutputPass;
 use laying::{Buffers, Relay};
 use outside::{Folder, Pass, PassFault};
+use std::alloc::{AllocError, Global};
 use sync_survey::Survey;
 
 /// What is known of the input, the chosen frames with their plan, and the memory of the pass.
@@ -18,37 +18,44 @@ pub struct Work {
     pub buffers: Buffers,
 }
 
-/// Appends the file of the chosen frames in the slots of their plan to the output, which was created. It takes no memory.
-///
-/// # Errors
-/// `Read` and `Shrunk` where a read failed, or gave no byte before the length that the input was found with; `Write` where a
-/// write failed. Then a prefix of the file was appended, and with `Write` not all of it.
-pub fn write_work<D: Folder>(
-    folder: &mut D,
-    input: &str,
-    output: &str,
-    work: &mut Work,
-) -> Result<(), PassFault>
-    requires apart { input.now ≢ output.now }
-    requires created { (old : Files) × IsLayable input.now work.old old
-        × (D.files folder.old ≡ emptied old output.now) }
-    ensures written { OnOk result (Appends input.now output.now (work_file work.old)
-        (D.files folder.old) (D.files folder.new)) }
-    ensures prefix { IfErr result (AppendsPrefix input.now output.now (work_file work.old)
-        (D.files folder.old) (D.files folder.new)) }
-    ensures done { OnOk result (D.counts folder.new ≡ D.counts folder.old) }
-    ensures cause { IfErr result (λ fault. (size : ℕ) × HasPassCause size (D.files folder.old)
-        (D.counts folder.old) (D.counts folder.new) fault) }
-{
-    let Work {
-        survey,
-        selection,
-        buffers,
-    } = work;
-    let pass = Pass {
-        input,
-        output,
-        length: survey.length(),
-    };
-    write_laid(folder, &Relay { pass, survey }, selection, buffers)
+impl Work {
+    /// What is known and planned, with all memory of the pass.
+    ///
+    /// # Errors
+    /// Where there is no memory.
+    pub fn new(alloc: Global, survey: Survey, selection: Selection) -> Result<Work, AllocError>
+        ensures { IfOk result (IsWorkOf survey selection) }
+    {
+        let buffers = Buffers::new(alloc, survey.class())?;
+        Ok(Work {
+            survey,
+            selection,
+            buffers,
+        })
+    }
+}
+
+impl OutputPass for Work {
+    ghost file_of = { λ work. work_file work };
+
+    ghost IsReady = { λ work input files. IsLayable input work files };
+
+    fn append<D: Folder>(
+        &mut self,
+        folder: &mut D,
+        input: &str,
+        output: &str,
+    ) -> Result<(), PassFault> {
+        let Work {
+            survey,
+            selection,
+            buffers,
+        } = self;
+        let pass = Pass {
+            input,
+            output,
+            length: survey.length(),
+        };
+        write_laid(folder, &Relay { pass, survey }, selection, buffers)
+    }
 }

@@ -1,12 +1,10 @@
 //! The commands of this crate as cases of the one body.
-ghost use Rattle.gain_edits.specs.Movable.{moved_file};
-ghost use Rattle.gain_edits.specs.Changes.{changing_by, task_of, IsReady as IsReadyWork};
+ghost use Rattle.gain_edits.specs.Changes.{task_of};
 
 use crate::changes::Changes;
-use crate::work::{Work, write_work};
-use commands::{Edit, EditFault, survey_input};
-use moved_gains::Buffers;
-use outside::{Folder, PassFault};
+use crate::work::Work;
+use commands::{Edit, EditFault, Inputs, survey_input};
+use outside::Folder;
 use std::alloc::Global;
 
 /// An input whose gains change.
@@ -23,32 +21,14 @@ impl<'a> Edit for GainEdit<'a> {
 
     ghost IsLegal = { λ edit. Unit {0} };
 
-    ghost file_of = { λ work. moved_file work };
-
-    ghost IsReady = { λ edit work files.
-        IsReadyWork edit.input.now (changing_by edit.changes) work files };
-
-    fn clash(&self, output: &str) -> Option<u32> {
-        if self.input == output { Some(0) } else { None }
+    fn inputs(&self) -> Inputs<'_> {
+        Inputs::one(self.input)
     }
 
     fn prepare<D: Folder>(&self, alloc: Global, folder: &mut D) -> Result<Work, EditFault> {
         let survey = survey_input(alloc, folder, self.input)?;
         let change = self.changes.find(alloc, folder, self.input, &survey)?;
-        let buffers = Buffers::new(alloc)?;
-        Ok(Work {
-            survey,
-            change,
-            buffers,
-        })
-    }
-
-    fn write<D: Folder>(
-        &self,
-        folder: &mut D,
-        output: &str,
-        work: &mut Work,
-    ) -> Result<(), PassFault> {
-        write_work(folder, self.input, output, work)
+        let work = Work::new(alloc, survey, change)?;
+        Ok(work)
     }
 }

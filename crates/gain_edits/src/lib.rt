@@ -17,4 +17,4 @@ pub use changes::Changes;
 pub use edit::GainEdit;
 pub use gain_range::range_fault;
 pub use laws::{opposite_gives_back, undo_gives_back};
-pub use work::{Work, write_work};
+pub use work::Work;

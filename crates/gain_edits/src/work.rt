@@ -1,11 +1,11 @@
 //! What a command that moves gains makes ready, and the pass that writes its file.
-ghost use Rattle.std.specs.Prelude.{◌≡◌, ◌≢◌, List, ℕ, IfErr, OnOk};
-ghost use Rattle.outside.specs.Files.{Files, emptied};
-ghost use Rattle.outside.specs.Pass.{Appends, AppendsPrefix, HasPassCause};
-ghost use Rattle.gain_edits.specs.Movable.{moved_file, IsMovable};
+ghost use Rattle.std.specs.Prelude.{IfOk};
+ghost use Rattle.gain_edits.specs.Movable.{moved_file, IsMovable, IsWorkOf};
 
+use commands::OutputPass;
 use moved_gains::{Buffers, Change, write_changed};
 use outside::{Folder, PassFault};
+use std::alloc::{AllocError, Global};
 use sync_survey::Survey;
 
 /// What is known of the input, what changes in it, and the memory of the pass.
@@ -16,32 +16,39 @@ pub struct Work {
     pub buffers: Buffers,
 }
 
-/// Appends the changed file to the output, which was created. It takes no memory.
-///
-/// # Errors
-/// `Read` and `Shrunk` where a read failed, or gave no byte before the length that the input was found with; `Write` where a
-/// write failed. Then a prefix of the file was appended, and with `Write` not all of it.
-pub fn write_work<D: Folder>(
-    folder: &mut D,
-    input: &str,
-    output: &str,
-    work: &mut Work,
-) -> Result<(), PassFault>
-    requires apart { input.now ≢ output.now }
-    requires created { (old : Files) × IsMovable input.now work.old old
-        × (D.files folder.old ≡ emptied old output.now) }
-    ensures written { OnOk result (Appends input.now output.now (moved_file work.old)
-        (D.files folder.old) (D.files folder.new)) }
-    ensures prefix { IfErr result (AppendsPrefix input.now output.now (moved_file work.old)
-        (D.files folder.old) (D.files folder.new)) }
-    ensures done { OnOk result (D.counts folder.new ≡ D.counts folder.old) }
-    ensures cause { IfErr result (λ fault. (size : ℕ) × HasPassCause size (D.files folder.old)
-        (D.counts folder.old) (D.counts folder.new) fault) }
-{
-    let Work {
-        survey,
-        change,
-        buffers,
-    } = work;
-    write_changed(folder, input, output, survey, change, buffers)
+impl Work {
+    /// What is known and decided, with all memory of the pass.
+    ///
+    /// # Errors
+    /// Where there is no memory.
+    pub fn new(alloc: Global, survey: Survey, change: Change) -> Result<Work, AllocError>
+        ensures { IfOk result (IsWorkOf survey change) }
+    {
+        let buffers = Buffers::new(alloc)?;
+        Ok(Work {
+            survey,
+            change,
+            buffers,
+        })
+    }
+}
+
+impl OutputPass for Work {
+    ghost file_of = { λ work. moved_file work };
+
+    ghost IsReady = { λ work input files. IsMovable input work files };
+
+    fn append<D: Folder>(
+        &mut self,
+        folder: &mut D,
+        input: &str,
+        output: &str,
+    ) -> Result<(), PassFault> {
+        let Work {
+            survey,
+            change,
+            buffers,
+        } = self;
+        write_changed(folder, input, output, survey, change, buffers)
+    }
 }

@@ -1,15 +1,14 @@
 -- The frames of a well-formed file have a best plan, and can be laid by it.
-use Rattle.std.proofs.Common.{◌≡◌, ℕ, ◌+◌, ◌<◌, ◌≤◌, true, false, Bool, List, [], ◌∷◌, length, map, Contains, Option, Some, None, Result, Ok, Err, refl, sym, ap, subst, arith}
+use Rattle.std.proofs.Common.{◌≡◌, ℕ, ◌<◌, ◌≤◌, true, false, Bool, List, [], ◌∷◌, length, map, Option, Some, None, Result, Ok, Err, refl, sym, ap, subst}
 use Rattle.std.specs.Prelude.{unwrap_or, IfOk}
-use Rattle.std.proofs.lemmas.List.{length-map}
-use Rattle.frame_header.specs.Fields.{SlotFields, ClassFields, IsSlot}
+use Rattle.frame_header.specs.Fields.{ClassFields}
 use Rattle.frame_header.specs.Tables.{window_of}
 use Rattle.frame_header.specs.Slots.{all_slots}
 use Rattle.slot_plan.specs.declared.needs.Need.{Need}
 use Rattle.slot_plan.specs.declared.needs.Placed.{Placed}
 use Rattle.slot_plan.specs.declared.needs.Plan.{Plan}
 use Rattle.slot_plan.specs.Layouts.{IsFeasible}
-use Rattle.slot_plan.specs.Parts.{item_of, own_frame, window_in, AreOfClass, AreOfOneClass}
+use Rattle.slot_plan.specs.Parts.{own_frame, window_in, AreOfClass, AreOfOneClass}
 use Rattle.slot_plan.specs.Plans.{IsPlan, entries}
 use Rattle.slot_plan.specs.Laws.{ChooseInOrder}
 use Rattle.best_plan.specs.Best.{items_behind, IsBestPlan}
@@ -18,53 +17,33 @@ use Rattle.best_plan.proofs.BestOfLaws.{best-plan-of}
 use Rattle.best_plan.proofs.ExistsLaw.{best-exists}
 use Rattle.part_needs.specs.Fit.{IsPlaced, any_choice}
 use Rattle.part_needs.proofs.PartsLaws.{parts_are, one_class}
-use Rattle.laying.proofs.FitLaws.{Asks, items-fit, asks-each}
+use Rattle.laying.proofs.FitLaws.{Asks}
 use Rattle.laying.proofs.PlannedFrames.{slot_among}
 use Rattle.sync_survey.specs.Faults.{SurveyFields}
 use Rattle.frame_edits.specs.declared.chosen.Slots.TheVariants.{Least}
 use Rattle.frame_edits.specs.Chosen.{Chosen, chosen_rows, plan_of}
 use Rattle.frame_edits.proofs.ChosenLaws.{rows-fit, the-plan}
-use Rattle.frame_edits.proofs.LaidLaws.{AreOpen, open-in_slots}
 use Rattle.packing.specs.Packing.{needs_of}
 use Rattle.packing.specs.Rules.{best_planning}
-use Rattle.packing.proofs.MenuLaws.{all-slots}
-use Rattle.packing.proofs.PlanLaws.{IsFittingFew, for-length, window-is}
+use Rattle.rate_plan.specs.Menus.{items_from}
+use Rattle.packing.proofs.PlanLaws.{IsFittingFew, asks-from, items-fitting, window-is}
 
 -- ---- by a best plan frames can be laid
 
+-- the items of a best plan are those of a plan from the menu of all slots
+behind-from : (lead_in : Bool) (needs : List Need) → items_from lead_in all_slots needs ≡ items_behind lead_in any_choice needs
+unfolding items_behind items_from
+behind-from false needs = refl
+behind-from true [] = refl
+behind-from true (first ∷ needs) = refl
+
 pub asks-behind : (lead_in : Bool) (needs : List Need) → Asks (items_behind lead_in any_choice needs) needs
-unfolding items_behind
-asks-behind false needs = asks-each any_choice needs
-asks-behind true [] = tt
-asks-behind true (first ∷ needs) = ((refl, refl, refl), asks-each any_choice (first ∷ needs))
-
-open-needs : (needs : List Need) → AreOpen (map (item_of any_choice) needs)
-open-needs [] = tt
-open-needs (need ∷ needs) = (slot_among, open-needs needs)
-
-open-behind : (lead_in : Bool) (needs : List Need) → AreOpen (items_behind lead_in any_choice needs)
-unfolding items_behind
-open-behind false needs = open-needs needs
-open-behind true [] = tt
-open-behind true (first ∷ needs) = (slot_among, open-needs (first ∷ needs))
-
-behind-length : (lead_in : Bool) (needs : List Need) → length (items_behind lead_in any_choice needs) ≤ length needs + 1
-unfolding items_behind
-behind-length false needs = omega (arith, length-map needs (item_of any_choice))
-behind-length true [] = omega arith
-behind-length true (first ∷ needs) = omega (arith, length-map needs (item_of any_choice))
+asks-behind lead_in needs = subst (λ items. Asks items needs) (behind-from lead_in needs) (asks-from lead_in all_slots needs)
 
 best-fits : (window : ℕ) (needs : List Need) (placed : List Placed) → IsBestPlan window any_choice needs placed → IsFittingFew window needs placed
 best-fits window needs placed is =
     let whole = is.whole in
-    let items = items_behind is.lead_in any_choice needs in
-    record {
-      fitting = record {
-        fits = items-fit window items needs placed (asks-behind is.lead_in needs) whole.slots whole.best.feasible whole.begins;
-        slots = open-in_slots items placed (open-behind is.lead_in needs) whole.slots;
-      };
-      few = omega (arith, for-length items placed whole.slots, behind-length is.lead_in needs);
-    }
+    items-fitting window is.lead_in all_slots needs (items_behind is.lead_in any_choice needs) (behind-from is.lead_in needs) slot_among placed whole.slots whole.best.feasible whole.begins
 
 -- ---- what the planner is given, and answers
 

@@ -1,6 +1,7 @@
 -- The file of all frames in the slots of a plan holds their stream, and what the one body asks of the command.
 use Rattle.std.proofs.Common.{◌≡◌, ℕ, ◌<◌, ◌≤◌, List, length, Bool, Result, Ok, Err, sym, ◌∙◌, ap, subst}
 use Rattle.std.specs.Prelude.{IfErr}
+use Rattle.bit_fields.specs.Bits.{AreBytes}
 use Rattle.frame_header.specs.Fields.{ClassFields}
 use Rattle.frame_header.specs.Tables.{window_of}
 use Rattle.outside.specs.Files.{Files, Holds, IsThere}
@@ -10,7 +11,7 @@ use Rattle.part_needs.specs.Fit.{IsPlaced}
 use Rattle.laying.specs.Fits.{IsFitting}
 use Rattle.laying.proofs.ChosenFrames.{survey-had}
 use Rattle.sync_survey.specs.declared.survey_fault.SurveyFault.{SurveyFault}
-use Rattle.sync_survey.specs.Faults.{SurveyFields, HoldsStream, tells}
+use Rattle.sync_survey.specs.Faults.{SurveyFields, HoldsStream}
 use Rattle.sync_survey.specs.Survey.{survey_of}
 use Rattle.sync_survey.proofs.PlacedRows.{surveyed-placed}
 use Rattle.sync_survey.proofs.SurveyedFiles.{survey_of-parts}
@@ -27,10 +28,7 @@ use Rattle.frame_edits.specs.Laid.{Laid, file_laid, stream_laid}
 use Rattle.frame_edits.specs.Chosen.{Chosen, all_choice, laid_by}
 use Rattle.frame_edits.proofs.ChosenLaws.{all_late, all_right}
 use Rattle.frame_edits.proofs.LaidLaws.{laid-holds}
-use Rattle.frame_edits.specs.declared.work.Work.{Work}
-use Rattle.frame_edits.specs.Layable.{work_file}
 use Rattle.packing.specs.Packing.{Planning, needs_of, laid_as, packed, packing, stream_with, stream_by, packed_stream, packed_task, IsPlanFault}
-use Rattle.packing.specs.Ready.{IsReady}
 
 -- a planner whose refusals come once memory was taken, and by whose plans frames can be laid
 pub record IsPlanning (plan : Planning) : Type 0 where
@@ -76,10 +74,10 @@ module _ (plan : Planning) (is_planning : IsPlanning plan) where
   pub packed_proper : (refuses : Refusal → Bool) (input : List ℕ) → IsProper (packed_task plan refuses input)
   packed_proper refuses input = file_proper (packing plan) (packed_stream plan) packing_proper refuses input
 
-pub work_makes : (plan : Planning) (refuses : Refusal → Bool) (input : List ℕ) (work : Work) (files : Files) → IsReady input plan work files → IsMaking (packed_task plan refuses input) (work_file work) files
-work_makes plan refuses input work files ready =
-    file_makes (packing plan) (packed_stream plan) refuses input files (work_file work) (tells work.survey) ready.layable.there ready.layable.surveyed ready.layable.octets
-    (λ bytes holds. ap (λ r. then_made r (λ laid. Ok (file_laid laid bytes (tells work.survey)))) (ready.planned bytes holds))
+pub packed_makes : (plan : Planning) (refuses : Refusal → Bool) (input : List ℕ) (s : SurveyFields) (laid : Laid) (files : Files) → IsThere files input → ((bytes : List ℕ) → Holds files input bytes → survey_of bytes most_frames ≡ Ok s) → ((bytes : List ℕ) → Holds files input bytes → AreBytes bytes)
+    → ((bytes : List ℕ) → Holds files input bytes → packed plan bytes s ≡ Ok laid) → IsMaking (packed_task plan refuses input) (λ file. file_laid laid file s) files
+packed_makes plan refuses input s laid files there surveyed octets planned =
+    file_makes (packing plan) (packed_stream plan) refuses input files (λ file. file_laid laid file s) s there surveyed octets (λ bytes holds. ap (λ r. then_made r (λ laid. Ok (file_laid laid bytes s))) (planned bytes holds))
 
 -- ---- before the output is created
 

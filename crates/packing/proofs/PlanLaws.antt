@@ -7,8 +7,10 @@ use Rattle.frame_header.specs.Tables.{window_of}
 use Rattle.frame_header.proofs.HeaderLaws.{IsClass-class_of}
 use Rattle.slot_plan.specs.declared.needs.Need.{Need}
 use Rattle.slot_plan.specs.declared.needs.Placed.{Placed}
-use Rattle.slot_plan.specs.Parts.{Item, item_of, AreOfClass, AreOfOneClass, window_in}
-use Rattle.slot_plan.specs.Plans.{AreFor, entries}
+use Rattle.slot_plan.specs.Layouts.{IsFeasible, begins_of}
+use Rattle.slot_plan.specs.Lists.{frames_of}
+use Rattle.slot_plan.specs.Parts.{Item, item_of, open_of, AreOfClass, AreOfOneClass, window_in}
+use Rattle.slot_plan.specs.Plans.{AreFor, areas_in, entries}
 use Rattle.slot_plan.specs.declared.needs.Plan.{Plan}
 use Rattle.part_needs.specs.Needs.{Asked, need_of, asked_of, needs_of as needs_of_parts}
 use Rattle.part_needs.specs.Fit.{IsPlaced}
@@ -40,7 +42,7 @@ use Rattle.packing.proofs.MenuLaws.{menu-ascends, menu-slots, menu-some, floor-l
 
 -- ---- from a menu
 
-asks-from : (lead_in : Bool) (menu : List SlotFields) (needs : List Need) → Asks (items_from lead_in menu needs) needs
+pub asks-from : (lead_in : Bool) (menu : List SlotFields) (needs : List Need) → Asks (items_from lead_in menu needs) needs
 unfolding items_from
 asks-from false menu needs = asks-each (from_menu menu) needs
 asks-from true menu [] = tt
@@ -63,7 +65,7 @@ from-length false menu needs = omega (arith, length-map needs (item_of (from_men
 from-length true menu [] = omega arith
 from-length true menu (first ∷ needs) = omega (arith, length-map needs (item_of (from_menu menu)))
 
-pub for-length : (items : List Item) (placed : List Placed) → AreFor items placed → length placed ≡ length items
+for-length : (items : List Item) (placed : List Placed) → AreFor items placed → length placed ≡ length items
 unfolding AreFor
 for-length [] [] for_items = refl
 for-length [] (p ∷ placed) for_items = absurd for_items
@@ -75,17 +77,23 @@ pub record IsFittingFew (window : ℕ) (needs : List Need) (placed : List Placed
   pub fitting : IsFitting window needs placed
   pub few : length placed ≤ length needs + 1
 
+-- these items ask for these frames, and were laid as early as they may be
+pub items-fitting : (window : ℕ) (lead_in : Bool) (menu : List SlotFields) (needs : List Need) (items : List Item) → items_from lead_in menu needs ≡ items → ((slot : SlotFields) → Contains menu slot → IsSlot slot)
+    → (placed : List Placed) → AreFor items placed → IsFeasible window 0 (frames_of (map open_of items) (areas_in items placed)) → map (λ (p : Placed). p.begin) placed ≡ begins_of window 0 0 (frames_of (map open_of items) (areas_in items placed)) → IsFittingFew window needs placed
+items-fitting window lead_in menu needs items same slots placed for_items feasible begins =
+    let most = subst (λ (l : List Item). length l ≤ length needs + 1) same (from-length lead_in menu needs) in
+    record {
+      fitting = record {
+        fits = items-fit window items needs placed (subst (λ l. Asks l needs) same (asks-from lead_in menu needs)) for_items feasible begins;
+        slots = open-in_slots items placed (subst AreOpen same (open-from menu slots lead_in needs)) for_items;
+      };
+      few = omega (arith, for-length items placed for_items, most);
+    }
+
 menu-fitting : (window : ℕ) (menu : List SlotFields) (needs : List Need) (placed : List Placed) → ((slot : SlotFields) → Contains menu slot → IsSlot slot) → IsMenuPlan window menu needs placed → IsFittingFew window needs placed
 menu-fitting window menu needs placed slots is =
     let whole = is.whole in
-    let items = items_from is.lead_in menu needs in
-    record {
-      fitting = record {
-        fits = items-fit window items needs placed (asks-from is.lead_in menu needs) whole.slots whole.least.feasible whole.begins;
-        slots = open-in_slots items placed (open-from menu slots is.lead_in needs) whole.slots;
-      };
-      few = omega (arith, for-length items placed whole.slots, from-length is.lead_in menu needs);
-    }
+    items-fitting window is.lead_in menu needs (items_from is.lead_in menu needs) refl slots placed whole.slots whole.least.feasible whole.begins
 
 -- ---- with the slots of some bit rates
 

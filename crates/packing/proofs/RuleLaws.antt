@@ -1,7 +1,8 @@
 -- What the one body asks of a packing by each rule.
 use Rattle.std.proofs.Common.{◌≡◌, ℕ, ◌<◌, ◌≤◌, List, length, Ok, arith}
+use Rattle.bit_fields.specs.Bits.{AreBytes}
 use Rattle.frame_header.specs.Tables.{window_of}
-use Rattle.outside.specs.Files.{Files, Holds}
+use Rattle.outside.specs.Files.{Files, Holds, IsThere}
 use Rattle.slot_plan.specs.declared.needs.Placed.{Placed}
 use Rattle.part_needs.specs.Fit.{IsPlaced}
 use Rattle.sync_survey.specs.Faults.{SurveyFields}
@@ -11,19 +12,17 @@ use Rattle.commands.specs.Left.{Seen, IsOfSurvey, IsOfInput}
 use Rattle.commands.specs.One.{most_frames, IsFileFault, IsInputFault, IsEarlyFault, IsOfInputs, IsMaking, IsProper}
 use Rattle.commands.proofs.InputLaws.{fault_is_input, of_survey_input, input_is_early, input_numbers}
 use Rattle.frame_edits.specs.Chosen.{Chosen, pack_refuses}
-use Rattle.frame_edits.specs.declared.work.Work.{Work}
-use Rattle.frame_edits.specs.Layable.{work_file}
+use Rattle.frame_edits.specs.Laid.{Laid, file_laid}
 use Rattle.packing.specs.declared.mode.Rates.{Rates as BitRates}
 use Rattle.packing.specs.declared.mode.Rule.{Rule}
 use Rattle.packing.specs.declared.mode.Rule.TheVariants.{Rates, Best}
-use Rattle.packing.specs.Packing.{needs_of, packing, packed_stream}
+use Rattle.packing.specs.Packing.{needs_of, packed, packing, packed_stream}
 use Rattle.packing.specs.Rates.{rates_plan, rates_refuse}
 use Rattle.packing.specs.Rules.{best_planning, plan_by, refuses_by, most_best, allowed_by, free_task, rule_task}
-use Rattle.packing.specs.Ready.{IsReady}
 use Rattle.packing.proofs.PlanLaws.{IsFittingFew, rates-late, chosen-fitting}
 use Rattle.packing.proofs.BestLaws.{best-fitting}
 use Rattle.packing.proofs.LimitLaws.{limited-early, limited-numbers, limited-making, limited-proper, survey-early}
-use Rattle.packing.proofs.PackingLaws.{IsPlanning, packed_proper, work_makes}
+use Rattle.packing.proofs.PackingLaws.{IsPlanning, packed_proper, packed_makes}
 
 pub allowed-most : (rule : Rule) → allowed_by rule ≤ most_frames
 allowed-most (Rates rates) = omega arith
@@ -70,6 +69,8 @@ pub rule_survey_numbers : (rule : Rule) (input : List ℕ) (fault : EditFault) �
 rule_survey_numbers rule input fault is = rule_numbers rule input fault (of_survey_input (refuses_by rule) fault is)
 
 -- what is written
-pub rule_makes : (rule : Rule) (input : List ℕ) (work : Work) (files : Files) → IsAllowed rule input files → IsReady input (plan_by rule) work files → IsMaking (rule_task rule input) (work_file work) files
-rule_makes (Rates rates) input work files sound ready = work_makes (rates_plan rates) (rates_refuse rates) input work files ready
-rule_makes Best input work files sound ready = limited-making most_best (free_task Best input) (work_file work) files sound (work_makes best_planning pack_refuses input work files ready)
+pub rule_makes : (rule : Rule) (input : List ℕ) (s : SurveyFields) (laid : Laid) (files : Files) → IsAllowed rule input files → IsThere files input → ((bytes : List ℕ) → Holds files input bytes → survey_of bytes most_frames ≡ Ok s) → ((bytes : List ℕ) → Holds files input bytes → AreBytes bytes)
+    → ((bytes : List ℕ) → Holds files input bytes → packed (plan_by rule) bytes s ≡ Ok laid) → IsMaking (rule_task rule input) (λ file. file_laid laid file s) files
+rule_makes (Rates rates) input s laid files sound there surveyed octets planned = packed_makes (rates_plan rates) (rates_refuse rates) input s laid files there surveyed octets planned
+rule_makes Best input s laid files sound there surveyed octets planned =
+    limited-making most_best (free_task Best input) (λ file. file_laid laid file s) files sound (packed_makes best_planning pack_refuses input s laid files there surveyed octets planned)

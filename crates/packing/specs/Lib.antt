@@ -3,5 +3,4 @@ pub mod Packing
 pub mod Rates
 pub mod Rules
 pub mod Modes
-pub mod Ready
 pub mod Laws

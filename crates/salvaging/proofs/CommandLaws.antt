@@ -14,10 +14,11 @@ use Rattle.sync_survey.specs.declared.survey_fault.SurveyFault.TheVariants.{Abse
 use Rattle.sync_survey.specs.Start.{front_end_of}
 use Rattle.sync_survey.specs.Kinds.{HasRightNumbers}
 use Rattle.sync_survey.specs.Faults.{SurveyFields, HoldsStream, longest_file, tells}
-use Rattle.sync_survey.specs.Survey.{HoldsOctets}
+use Rattle.sync_survey.specs.declared.surveys.Survey.{Survey}
+use Rattle.sync_survey.specs.Survey.{HoldsOctets, IsLaidOut as IsLaidSurvey}
 use Rattle.salvage.specs.Walk.{first_frame}
 use Rattle.salvage.specs.Damaged.{DamagedFields, unless_too_many, counted, damaged_by, damaged_from, damaged, damaged_of, IsReadOf, RefusesDamaged, IsReadFault, most_frames}
-use Rattle.salvage.specs.Mended.{mended_row}
+use Rattle.salvage.specs.Mended.{mended_row, emptied_from}
 use Rattle.salvage.specs.Text.{salvage_text}
 use Rattle.salvage.proofs.ReadFaults.{damaged_of-short}
 use Rattle.commands.specs.declared.fault.EditFault.{EditFault}
@@ -30,13 +31,19 @@ use Rattle.commands.proofs.RefusingLaws.{before_first}
 use Rattle.commands.specs.Kinds.{of_input}
 use Rattle.commands.specs.Left.{Seen, seen, IsLate, IsDone, Leaves, IsOfPass, HasNumbers}
 use Rattle.commands.specs.One.{Refuses, NeedsMemory, IsEarlyFault, IsOfInputs, IsMaking, IsPassFault, clash_in, holding, one_command}
-use Rattle.frame_edits.specs.Chosen.{Chosen, chosen_file}
-use Rattle.frame_edits.specs.Selected.{selected_file}
+use Rattle.frame_edits.specs.declared.plans.Selection.{Selection}
+use Rattle.frame_edits.specs.Chosen.{Chosen, chosen_in, chosen_file, plan_of}
+use Rattle.frame_edits.specs.Layable.{IsWorkOf, work_file}
+use Rattle.frame_edits.specs.Selected.{IsSelected}
+use Rattle.frame_edits.proofs.EditLaws.{work_layable}
+use Rattle.frame_edits.proofs.LaidPass.{file-is, selected-writable}
 use Rattle.laying.specs.Surveys.{HasSurvey}
+use Rattle.slot_plan.specs.Plans.{entries}
+use Rattle.salvage.specs.declared.mended.Mended.{Mended}
 use Rattle.salvaging.specs.declared.work.Work.{Work}
 use Rattle.salvaging.specs.Salvaged.{all_of, salvaged_file, left_stream, made_by, made_where, stream_by, stream_where, text_by, text_where, salvage_task, salvage_command}
 use Rattle.salvaging.specs.Ordered.{IsInOrder, text_of}
-use Rattle.salvaging.specs.Ready.{IsReady}
+use Rattle.salvaging.specs.Ready.{IsMended, IsReady, Reports}
 use Rattle.salvaging.proofs.OrderLaws.{reports-order, report-text}
 use Rattle.salvaging.proofs.HadLaws.{damaged-had}
 use Rattle.salvaging.proofs.StreamLaws.{salvaged-holds}
@@ -126,23 +133,44 @@ module _ (input : List ℕ) where
 
   -- ---- what was made ready
 
+  -- what was mended is the survey of the file
+  mended-has : (files : Files) (m : Mended) (is : IsMended input files m) → (bytes : List ℕ) → Holds files input bytes → HasSurvey bytes (tells m.survey)
+  mended-has files m is bytes holds = subst (HasSurvey bytes) (sym is.survey) (damaged-had bytes is.of (damaged_of-is bytes is.of (is.read bytes holds)).1 is.laid)
+
+  pub ready-of : (files : Files) (m : Mended) (selection : Selection) (work : Work) → IsMended input files m → IsWorkOf m.survey selection work.laid → IsThere files input → HoldsOctets input files → IsLaidSurvey (tells m.survey)
+      → chosen_in selection.chosen ≡ all_of (tells m.survey) → IsSelected (tells m.survey) selection → work.sending ≡ [] → ((d : DamagedFields) → m.emptied.items ≡ emptied_from 0 d.survey.frames → m.gaps.items ≡ d.gaps → Reports d work.report)
+      → IsReady input files work
+  ready-of files m selection work is made there octets placed chosen selected unsaid reports = record {
+    octets = octets;
+    of = is.of;
+    read = is.read;
+    laid = is.laid;
+    layable = work_layable m.survey selection work.laid made input files there placed (mended-has files m is) (selected-writable (tells m.survey) selection selected);
+    survey = ap tells made.survey_is ∙ is.survey;
+    chosen = subst (λ (s : Survey). chosen_in work.laid.selection.chosen ≡ all_of (tells s)) (sym made.survey_is) (subst (λ (l : Selection). chosen_in l.chosen ≡ all_of (tells m.survey)) (sym made.selection_is) chosen);
+    plan =
+        subst (λ (s : Survey). entries work.laid.selection.planned.plan ≡ plan_of (chosen_in work.laid.selection.chosen) (tells s)) (sym made.survey_is)
+        (subst (λ (l : Selection). entries l.planned.plan ≡ plan_of (chosen_in l.chosen) (tells m.survey)) (sym made.selection_is) selected.plan);
+    unsaid = unsaid;
+    reports = reports is.of is.emptied is.gaps;
+  }
+
   module _ (files : Files) (work : Work) (ready : IsReady input files work) where
     abbrev file_of : List ℕ → List ℕ
-    file_of = selected_file (tells work.survey) work.selection
+    file_of = work_file work.laid
 
-    file-is : (bytes : List ℕ) → file_of bytes ≡ salvaged_file bytes ready.of
+    salvaged-is : (bytes : List ℕ) → file_of bytes ≡ salvaged_file bytes ready.of
     unfolding salvaged_file
-    file-is bytes = ap (λ (c : Chosen). chosen_file c bytes (tells work.survey)) ready.chosen ∙ ap (λ (s : SurveyFields). chosen_file (all_of s) bytes s) ready.survey
-
-    pub ready-has : (bytes : List ℕ) → Holds files input bytes → HasSurvey bytes (tells work.survey)
-    ready-has bytes holds = subst (HasSurvey bytes) (sym ready.survey) (damaged-had bytes ready.of (damaged_of-is bytes ready.of (ready.read bytes holds)).1 ready.laid)
+    salvaged-is bytes =
+        file-is (chosen_in work.laid.selection.chosen) (entries work.laid.selection.planned.plan) bytes (tells work.laid.survey) ready.plan
+        ∙ ap (λ (c : Chosen). chosen_file c bytes (tells work.laid.survey)) ready.chosen ∙ ap (λ (s : SurveyFields). chosen_file (all_of s) bytes s) ready.survey
 
     pub ready-makes : IsMaking (salvage_task input) file_of files
-    ready-makes = record { there = ready.there; makes = at files ready.read ready.octets }
+    ready-makes = record { there = ready.layable.there; makes = at files ready.read ready.octets }
       where
         at : (fs : Files) → IsReadOf input fs ready.of → HoldsOctets input fs → IfTold fs (λ f. (bytes : List ℕ) → f input ≡ Some bytes → AreBytes bytes × (made_where (f input) ≡ Ok (file_of bytes)))
         at (Untold touched) read octets = tt
-        at (Told f) read octets = λ bytes held. (octets bytes held, ap made_where held ∙ ap (made_by bytes) (read bytes held) ∙ ap Ok (sym (file-is bytes)))
+        at (Told f) read octets = λ bytes held. (octets bytes held, ap made_where held ∙ ap (made_by bytes) (read bytes held) ∙ ap Ok (sym (salvaged-is bytes)))
 
     pub ready-holds : IfTold files (λ f. (bytes : List ℕ) → f input ≡ Some bytes → AreSound f [] × HoldsStream (file_of bytes) (stream_where (f input)))
     ready-holds = at files ready.read
@@ -152,16 +180,16 @@ module _ (input : List ℕ) where
         at (Told f) read = λ bytes held.
             let whole = (damaged_of-is bytes ready.of (read bytes held)).1 in
             let stream : stream_where (f input) ≡ left_stream bytes ready.of = ap stream_where held ∙ ap (stream_by bytes) (read bytes held) in
-            (tt, subst (λ n. HoldsStream n (stream_where (f input))) (sym (file-is bytes)) (subst (HoldsStream (salvaged_file bytes ready.of)) (sym stream) (salvaged-holds bytes ready.of whole ready.laid)))
+            (tt, subst (λ n. HoldsStream n (stream_where (f input))) (sym (salvaged-is bytes)) (subst (HoldsStream (salvaged_file bytes ready.of)) (sym stream) (salvaged-holds bytes ready.of whole ready.laid)))
 
-    frames-same : length (tells work.survey).frames ≡ length ready.of.survey.frames
+    frames-same : length (tells work.laid.survey).frames ≡ length ready.of.survey.frames
     frames-same = ap (λ (s : SurveyFields). length s.frames) ready.survey ∙ length-map ready.of.survey.frames mended_row
 
     -- the text is that of what was read
-    pub ready-text : (output all : List ℕ) → IsText (salvage_command input output) files all → all ≡ text_of (length (tells work.survey).frames) work.report
+    pub ready-text : (output all : List ℕ) → IsText (salvage_command input output) files all → all ≡ text_of (length (tells work.laid.survey).frames) work.report
     ready-text output all is =
         let told = telling-text (λ f. text_where (f input)) (one_command (salvage_task input) output) files all is in
-        told.2 ∙ at files told.1 ready.there ready.read ∙ sym (report-text ready.of work.report ready.reports) ∙ sym (ap (λ n. text_of n work.report) frames-same)
+        told.2 ∙ at files told.1 ready.layable.there ready.read ∙ sym (report-text ready.of work.report ready.reports) ∙ sym (ap (λ n. text_of n work.report) frames-same)
       where
         told-same : (f g : Contents) → Told f ≡ Told g → f ≡ g
         told-same f g e = cc
@@ -193,7 +221,7 @@ module _ (input output : List ℕ) (free : clash_in (salvage_task input) output 
 
   module _ (old mid new : Seen) (work : Work) (stays : mid ≡ old) (ready : IsReady input old.files work) (touches : OnlyTouches (output ∷ []) mid.files new.files) where
     abbrev made : List ℕ → List ℕ
-    made = selected_file (tells work.survey) work.selection
+    made = work_file work.laid
 
     making : IsMaking (salvage_task input) made old.files
     making = ready-makes input old.files work ready
@@ -213,7 +241,7 @@ module _ (input output : List ℕ) (free : clash_in (salvage_task input) output 
   pub left-streams : (files : Files) (work : Work) → IsReady input files work → HoldsStreams (salvage_command input output) files
   left-streams files work ready =
       telling-streams text silent files
-      (one_streams (salvage_task input) output free (selected_file (tells work.survey) work.selection) files (ready-makes input files work ready) (ready-holds input files work ready) done)
+      (one_streams (salvage_task input) output free (work_file work.laid) files (ready-makes input files work ready) (ready-holds input files work ready) done)
     where
       done : Result (Unit {0}) EditFault
       done = Ok tt

@@ -1,15 +1,15 @@
 -- What was read of the input, and what is made ready before the output is created.
 use Rattle.std.specs.Prelude.{◌≡◌, ℕ, List, []}
-use Rattle.outside.specs.Files.{Files, IsThere}
-use Rattle.outside.specs.Feed.{IsFedFrom}
+use Rattle.outside.specs.Files.{Files}
+use Rattle.slot_plan.specs.Plans.{entries}
 use Rattle.sync_survey.specs.Faults.{tells}
-use Rattle.sync_survey.specs.Survey.{HoldsOctets, IsLaidOut as IsLaidSurvey}
+use Rattle.sync_survey.specs.Survey.{HoldsOctets}
 use Rattle.salvage.specs.declared.mended.Mended.{Mended}
 use Rattle.salvage.specs.Damaged.{DamagedFields, IsReadOf}
 use Rattle.salvage.specs.Progress.{IsLaidOut}
 use Rattle.salvage.specs.Mended.{mended, emptied_from}
-use Rattle.frame_edits.specs.Chosen.{chosen_in}
-use Rattle.frame_edits.specs.Selected.{IsSelected}
+use Rattle.frame_edits.specs.Chosen.{chosen_in, plan_of}
+use Rattle.frame_edits.specs.Layable.{IsLayable}
 use Rattle.salvaging.specs.declared.report.Report.{Report}
 use Rattle.salvaging.specs.declared.work.Work.{Work}
 use Rattle.salvaging.specs.Salvaged.{all_of}
@@ -28,18 +28,15 @@ pub record IsMended (name : List ℕ) (files : Files) (m : Mended) : Type 0 wher
   pub emptied : m.emptied.items ≡ emptied_from 0 of.survey.frames
   pub gaps : m.gaps.items ≡ of.gaps
 
--- The input is there and was read, all frames have their plan, nothing is held of any file, nothing waits, and the report is that of what was read.
+-- The input was read, and all is ready for the pass; all frames are chosen and have their plan, and the report is that of what was read.
 pub record IsReady (input : List ℕ) (files : Files) (work : Work) : Type 0 where
-  pub there : IsThere files input
   pub octets : HoldsOctets input files
   pub of : DamagedFields
   pub read : IsReadOf input files of
   pub laid : IsLaidOut of
-  pub survey : tells work.survey ≡ mended of.survey
-  pub placed : IsLaidSurvey (tells work.survey)
-  pub chosen : chosen_in work.selection.chosen ≡ all_of (tells work.survey)
-  pub selected : IsSelected (tells work.survey) work.selection
-  pub fed : (others : Files) (name : List ℕ) → IsFedFrom work.buffers.feed others name
-  pub unsent : work.buffers.waiting ≡ []
+  pub layable : IsLayable input work.laid files
+  pub survey : tells work.laid.survey ≡ mended of.survey
+  pub chosen : chosen_in work.laid.selection.chosen ≡ all_of (tells work.laid.survey)
+  pub plan : entries work.laid.selection.planned.plan ≡ plan_of (chosen_in work.laid.selection.chosen) (tells work.laid.survey)
   pub unsaid : work.sending ≡ []
   pub reports : Reports of work.report

@@ -6,6 +6,5 @@ mod prepared;
 mod report;
 mod salvage_file;
 mod work;
-mod written;
 
 pub use salvage_file::salvage;

@@ -13,8 +13,8 @@ ghost use Rattle.salvaging.specs.Ready.{IsMended, IsReady};
 use crate::report::Report;
 use crate::work::Work;
 use commands::EditFault;
-use frame_edits::{Chosen, Selection, Slots, plan_file};
-use laying::{Buffers, Kept};
+use frame_edits::{Chosen, Selection, Slots, Work as LaidWork, plan_file};
+use laying::Kept;
 use outside::{Folder, SendBuffer};
 use salvage::{Mended, read_damaged};
 use std::alloc::Global;
@@ -86,13 +86,11 @@ pub(crate) fn prepare<D: Folder>(
     } = mended;
     let chosen = all_frames(&survey);
     let planned = plan_file(alloc, &survey, &chosen)?;
-    let buffers = Buffers::new(alloc, survey.class())?;
+    let laid = LaidWork::new(alloc, survey, Selection { chosen, planned })?;
     let sending = SendBuffer::new(alloc)?;
     Ok(Work {
-        survey,
-        selection: Selection { chosen, planned },
+        laid,
         report: Report { gaps, emptied },
-        buffers,
         sending,
     })
 }

@@ -3,24 +3,15 @@ ghost use Rattle.std.specs.Prelude.{◌≡◌, ◌↔◌, ℕ, Some, IfErr, OnOk
 ghost use Rattle.outside.specs.Counts.{NoneFell};
 ghost use Rattle.commands.specs.Command.{HoldsStreams, clash_of};
 ghost use Rattle.commands.specs.Left.{seen, IsDone, Leaves, HasNumbers};
-ghost use Rattle.commands.specs.One.{clash_in};
 ghost use Rattle.commands.specs.Said.{heard, Says, fault_of};
-ghost use Rattle.salvaging.specs.Salvaged.{salvage_command, salvage_task};
+ghost use Rattle.salvaging.specs.Salvaged.{salvage_command};
 
 use crate::prepared::prepare;
 use crate::report::send_report;
 use crate::work::Work;
-use crate::written::write_output;
-use commands::EditFault;
+use commands::{EditFault, Inputs, write_output};
 use outside::{Failed, Folder, Sink};
 use std::alloc::Global;
-
-/// The number of the input, where it has the output's name.
-fn clash(input: &str, output: &str) -> Option<u32>
-    ensures { result ≡ clash_in (salvage_task input.now) output.now }
-{
-    if input == output { Some(0) } else { None }
-}
 
 /// Reads what can be read of a damaged file (`salvage::read_damaged`), writes what is left to the output, and then sends to
 /// `out` what is missing. The output is laid as a cut lays it: the ID3v2 blocks before the first frame, an Info frame whose
@@ -68,19 +59,22 @@ pub fn salvage<D: Folder, T: Sink>(
         (D.files folder.old)) }
     ensures counts { NoneFell (D.counts folder.old) (D.counts folder.new) }
 {
-    if let Some(place) = clash(input, output) {
+    let inputs = Inputs {
+        source: input,
+        sheet: None,
+    };
+    if let Some(place) = inputs.clash(output) {
         return Err(EditFault::EqualNames(place));
     }
     let work = prepare(alloc, folder, input)?;
     let Work {
-        survey,
-        selection,
+        mut laid,
         report,
-        mut buffers,
         sending,
     } = work;
-    write_output(folder, input, output, &survey, &selection, &mut buffers)?;
-    match send_report(&report, survey.frames().len() as u64, sending, out) {
+    let count = laid.survey.frames().len() as u64;
+    write_output(folder, input, output, &mut laid)?;
+    match send_report(&report, count, sending, out) {
         Ok(()) => Ok(()),
         Err(Failed) => Err(EditFault::Sent),
     }

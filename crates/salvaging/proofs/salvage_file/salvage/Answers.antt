@@ -1,12 +1,13 @@
 -- A clash of names, what was met before the output is created, the second pass, and the text.
 use Rattle.std.proofs.Common.{◌≡◌, ℕ, ◌≤◌, List, [], ◌∷◌, length, take, refl, sym, ◌∙◌, ap, ap₂, subst, arith}
 use Rattle.std.proofs.lemmas.Result.{err_from_is_err_and}
-use Rattle.outside.specs.Files.{Holds, IsThere, sent_more}
+use Rattle.outside.specs.Files.{sent_more}
 use Rattle.commands.specs.Left.{seen}
 use Rattle.commands.proofs.MakeLaws.{source_apart}
 use Rattle.sync_survey.specs.declared.rows.Row.{Row}
+use Rattle.frame_edits.specs.Layable.{IsLayable}
 use Rattle.salvaging.specs.Ordered.{text_of}
-use Rattle.salvaging.proofs.CommandLaws.{left-clash, left-early, left-done, left-part, left-streams, numbers-early, numbers-pass, ready-has, ready-text, ready-order}
+use Rattle.salvaging.proofs.CommandLaws.{left-clash, left-early, left-done, left-part, left-streams, numbers-early, numbers-pass, ready-text, ready-order}
 use Rattle.salvaging.proofs.salvage_file.salvage.Goals as goal
 
 pub returns-in-Some-clause-left : goal.returns-in-Some-clause-left
@@ -25,12 +26,8 @@ returns-in_err-work-clause-numbers g c =
 pub write_output-requires-clause-apart : goal.write_output-requires-clause-apart
 write_output-requires-clause-apart g c = source_apart (c.args.input.now ∷ []) c.args.input.now c.args.output.now (omega arith) refl (sym c.clash.ensures ∙ c.in_default.is)
 
-pub write_output-requires-clause-there : goal.write_output-requires-clause-there
-write_output-requires-clause-there g c = subst (λ f. IsThere f c.args.input.now) (sym c.prepare.ensures.files) c.in_ok-work.ensures.ready.there
-
-pub write_output-requires-clause-has : goal.write_output-requires-clause-has
-write_output-requires-clause-has g c = λ file holds.
-    ready-has c.args.input.now (g.D.Folder.files c.args.folder.now) c.in_ok-work.work c.in_ok-work.ensures.ready file (subst (λ f. Holds f c.args.input.now file) c.prepare.ensures.files holds)
+pub write_output-requires-clause-ready : goal.write_output-requires-clause-ready
+write_output-requires-clause-ready g c = subst (λ f. IsLayable c.args.input.now c.in_ok-work.work.laid f) (sym c.prepare.ensures.files) c.in_ok-work.ensures.ready.layable
 
 pub send_report-requires-clause-order : goal.send_report-requires-clause-order
 send_report-requires-clause-order g c = ready-order c.args.input.now (g.D.Folder.files c.args.folder.now) c.in_ok-work.work c.in_ok-work.ensures.ready

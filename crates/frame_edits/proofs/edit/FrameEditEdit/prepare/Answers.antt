@@ -2,14 +2,17 @@
 use Rattle.std.proofs.Common.{ap₂, sym, ◌∙◌, subst}
 use Rattle.std.proofs.lemmas.Result.{err_from_is_err_and}
 use Rattle.outside.specs.Files.{Holds}
+use Rattle.slot_plan.specs.Plans.{entries}
+use Rattle.laying.proofs.ChosenFrames.{survey-had}
 use Rattle.sync_survey.specs.Faults.{tells}
 use Rattle.commands.specs.declared.fault.EditFault.TheVariants.{Memory}
 use Rattle.commands.specs.Left.{seen}
-use Rattle.commands.specs.One.{IsEarlyFault}
+use Rattle.commands.specs.One.{most_frames, IsEarlyFault}
 use Rattle.commands.proofs.InputLaws.{input_is_early, input_numbers, memory_is_input}
-use Rattle.frame_edits.specs.Chosen.{choosing, stream_chosen}
+use Rattle.frame_edits.specs.declared.plans.Selection.{Selection}
+use Rattle.frame_edits.specs.Chosen.{chosen_in, choosing, stream_chosen}
 use Rattle.frame_edits.specs.Choices.{choosing_by, refused_by, task_of}
-use Rattle.frame_edits.proofs.EditLaws.{edit_makes}
+use Rattle.frame_edits.proofs.EditLaws.{edit_makes, work_layable, work_makes}
 use Rattle.frame_edits.proofs.LaidPass.{selected-writable}
 use Rattle.frame_edits.proofs.edit.FrameEditEdit.prepare.Given as given
 use Rattle.frame_edits.proofs.edit.FrameEditEdit.prepare.Goals as goal
@@ -42,26 +45,25 @@ returns-in_err-planned-clause-refused g c =
     let p = err_from_is_err_and c.from_residual-in_err-planned.result c.from_residual-in_err-planned.ensures.1 in
     rw (p.1, p.2) (forgot g (goal.at.returns-in_err-planned-clause-refused g c).In_ok-chosen)
 
-pub returns-in_err-buffers-clause-refused : goal.returns-in_err-buffers-clause-refused
-returns-in_err-buffers-clause-refused g c =
-    let p = err_from_is_err_and c.from_residual-in_err-buffers.result c.from_residual-in_err-buffers.ensures.1 in
-    rw (p.1, p.2) (forgot g (goal.at.returns-in_err-buffers-clause-refused g c).In_ok-chosen)
+pub returns-in_err-work-clause-refused : goal.returns-in_err-work-clause-refused
+returns-in_err-work-clause-refused g c =
+    let p = err_from_is_err_and c.from_residual-in_err-work.result c.from_residual-in_err-work.ensures.1 in
+    rw (p.1, p.2) (forgot g (goal.at.returns-in_err-work-clause-refused g c).In_ok-chosen)
 
 pub returns-clause-ready : goal.returns-clause-ready
-returns-clause-ready g c = record {
-  layable = record {
-    there = c.in_ok-survey.ensures.there;
-    laid = c.in_ok-survey.ensures.laid;
-    surveyed = c.in_ok-survey.ensures.surveyed;
-    octets = c.in_ok-survey.ensures.octets;
-    writable = selected-writable (tells c.in_ok-survey.survey) (record { chosen = c.in_ok-chosen.chosen; planned = c.in_ok-planned.planned })
-        (record { some = c.in_ok-chosen.ensures.some; within = c.in_ok-chosen.ensures.within; plan = c.in_ok-planned.ensures.plan; fits = c.in_ok-planned.ensures.fits; info = c.in_ok-planned.ensures.info });
-    fed = c.in_ok-buffers.ensures.fed;
-    unsent = c.in_ok-buffers.ensures.none;
-  };
-  chosen = λ bytes holds. c.in_ok-chosen.ensures.chosen bytes (subst (λ f. Holds f c.args.self.now.input.now bytes) (sym c.survey_input.ensures.files) holds);
-  plan = c.in_ok-planned.ensures.plan;
-}
+returns-clause-ready g c =
+    let s = tells c.in_ok-survey.survey in
+    let selection : Selection = record { chosen = c.in_ok-chosen.chosen; planned = c.in_ok-planned.planned } in
+    work_layable c.in_ok-survey.survey selection c.in_ok-work.work c.in_ok-work.ensures c.args.self.now.input.now (g.D.Folder.files c.args.folder.now) c.in_ok-survey.ensures.there c.in_ok-survey.ensures.laid
+    (λ bytes holds. survey-had bytes most_frames s (c.in_ok-survey.ensures.surveyed bytes holds))
+    (selected-writable s selection (record { some = c.in_ok-chosen.ensures.some; within = c.in_ok-chosen.ensures.within; plan = c.in_ok-planned.ensures.plan; fits = c.in_ok-planned.ensures.fits; info = c.in_ok-planned.ensures.info }))
 
 pub returns-clause-making : goal.returns-clause-making
-returns-clause-making g c = edit_makes c.args.self.now.choice c.args.self.now.input.now _ (g.D.Folder.files c.args.folder.now) (returns-clause-ready g c)
+returns-clause-making g c =
+    let edit = c.args.self.now in
+    let files = g.D.Folder.files c.args.folder.now in
+    let s = tells c.in_ok-survey.survey in
+    let selection : Selection = record { chosen = c.in_ok-chosen.chosen; planned = c.in_ok-planned.planned } in
+    work_makes c.in_ok-survey.survey selection c.in_ok-work.work c.in_ok-work.ensures (task_of edit.choice edit.input.now) files
+    (edit_makes edit.choice edit.input.now s (chosen_in c.in_ok-chosen.chosen) (entries c.in_ok-planned.planned.plan) files c.in_ok-survey.ensures.there c.in_ok-survey.ensures.surveyed c.in_ok-survey.ensures.octets
+    (λ bytes holds. c.in_ok-chosen.ensures.chosen bytes (subst (λ f. Holds f edit.input.now bytes) (sym c.survey_input.ensures.files) holds)) c.in_ok-planned.ensures.plan)

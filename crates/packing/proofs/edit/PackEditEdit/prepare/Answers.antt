@@ -3,13 +3,17 @@ use Rattle.std.proofs.Common.{ap₂, sym, ◌∙◌, subst}
 use Rattle.std.proofs.lemmas.Result.{err_from_is_err_and}
 use Rattle.outside.specs.Files.{Holds}
 use Rattle.slot_plan.specs.Plans.{entries}
+use Rattle.laying.proofs.ChosenFrames.{survey-had}
 use Rattle.sync_survey.specs.Faults.{tells}
 use Rattle.commands.specs.declared.fault.EditFault.TheVariants.{Memory}
 use Rattle.commands.specs.Left.{seen}
 use Rattle.commands.proofs.InputLaws.{memory_is_input}
-use Rattle.frame_edits.specs.Chosen.{chosen_in}
+use Rattle.commands.specs.One.{most_frames}
+use Rattle.frame_edits.specs.declared.plans.Selection.{Selection}
+use Rattle.frame_edits.specs.Chosen.{chosen_in, laid_by}
+use Rattle.frame_edits.proofs.EditLaws.{work_layable, work_makes}
 use Rattle.packing.specs.Packing.{needs_of, packing}
-use Rattle.packing.specs.Rules.{plan_by, refuses_by}
+use Rattle.packing.specs.Rules.{plan_by, refuses_by, rule_task}
 use Rattle.packing.proofs.PackingLaws.{input_moved, plan_is_input, plan_numbers, planned_is}
 use Rattle.packing.proofs.RuleLaws.{rule_early, rule_numbers, rule_makes}
 use Rattle.packing.proofs.edit.PackEditEdit.prepare.Goals as goal
@@ -49,11 +53,11 @@ returns-in_err-planned-clause-numbers g c =
     rw (p.1, p.2)
     (rule_numbers edit.rule edit.input.now _ (plan_numbers (plan_by edit.rule) (refuses_by edit.rule) s.class (needs_of (chosen_in c.in_ok-chosen.chosen) s) _ c.in_err-planned.ensures.refused))
 
-pub returns-in_err-buffers-clause-refused : goal.returns-in_err-buffers-clause-refused
-returns-in_err-buffers-clause-refused g c =
+pub returns-in_err-work-clause-refused : goal.returns-in_err-work-clause-refused
+returns-in_err-work-clause-refused g c =
     let edit = c.args.self.now in
     let old = seen (g.D.Folder.files c.args.folder.now) (g.D.Folder.counts c.args.folder.now) in
-    let p = err_from_is_err_and c.from_residual-in_err-buffers.result c.from_residual-in_err-buffers.ensures.1 in
+    let p = err_from_is_err_and c.from_residual-in_err-work.result c.from_residual-in_err-work.ensures.1 in
     rw (p.1, p.2)
     (rule_early edit.rule edit.input.now old _ Memory (λ file holds. (_, c.in_ok-survey.ensures.limited file holds))
     (memory_is_input (packing (plan_by edit.rule)) edit.input.now old _ (tells c.in_ok-survey.survey) c.in_ok-survey.ensures.there c.in_ok-survey.ensures.surveyed
@@ -61,22 +65,19 @@ returns-in_err-buffers-clause-refused g c =
 
 pub returns-clause-ready : goal.returns-clause-ready
 returns-clause-ready g c =
-    let chosen = c.in_ok-chosen.chosen in
-    record {
-      layable = record {
-        there = c.in_ok-survey.ensures.there;
-        laid = c.in_ok-survey.ensures.laid;
-        surveyed = c.in_ok-survey.ensures.surveyed;
-        octets = c.in_ok-survey.ensures.octets;
-        writable = record { some = c.in_ok-chosen.ensures.some; within = c.in_ok-chosen.ensures.within; fits = c.in_ok-planned.ensures.fits.fits; info = c.in_ok-planned.ensures.info };
-        fed = c.in_ok-buffers.ensures.fed;
-        unsent = c.in_ok-buffers.ensures.none;
-      };
-      planned = λ bytes holds.
-          planned_is (plan_by c.args.self.now.rule) bytes (tells c.in_ok-survey.survey) (chosen_in chosen) (entries c.in_ok-planned.planned.plan)
-          (c.in_ok-chosen.ensures.chosen bytes (subst (λ f. Holds f c.args.self.now.input.now bytes) (sym c.survey_packed.ensures.files) holds)) c.in_ok-planned.ensures.plan;
-    }
+    let s = tells c.in_ok-survey.survey in
+    let selection : Selection = record { chosen = c.in_ok-chosen.chosen; planned = c.in_ok-planned.planned } in
+    work_layable c.in_ok-survey.survey selection c.in_ok-work.work c.in_ok-work.ensures c.args.self.now.input.now (g.D.Folder.files c.args.folder.now) c.in_ok-survey.ensures.there c.in_ok-survey.ensures.laid
+    (λ bytes holds. survey-had bytes most_frames s (c.in_ok-survey.ensures.surveyed bytes holds))
+    (record { some = c.in_ok-chosen.ensures.some; within = c.in_ok-chosen.ensures.within; fits = c.in_ok-planned.ensures.fits.fits; info = c.in_ok-planned.ensures.info })
 
 pub returns-clause-making : goal.returns-clause-making
 returns-clause-making g c =
-    rule_makes c.args.self.now.rule c.args.self.now.input.now _ (g.D.Folder.files c.args.folder.now) (λ file holds. (_, c.in_ok-survey.ensures.limited file holds)) (returns-clause-ready g c)
+    let edit = c.args.self.now in
+    let files = g.D.Folder.files c.args.folder.now in
+    let s = tells c.in_ok-survey.survey in
+    let chosen = chosen_in c.in_ok-chosen.chosen in
+    let placed = entries c.in_ok-planned.planned.plan in
+    work_makes c.in_ok-survey.survey (record { chosen = c.in_ok-chosen.chosen; planned = c.in_ok-planned.planned }) c.in_ok-work.work c.in_ok-work.ensures (rule_task edit.rule edit.input.now) files
+    (rule_makes edit.rule edit.input.now s (laid_by chosen placed) files (λ file holds. (_, c.in_ok-survey.ensures.limited file holds)) c.in_ok-survey.ensures.there c.in_ok-survey.ensures.surveyed c.in_ok-survey.ensures.octets
+    (λ bytes holds. planned_is (plan_by edit.rule) bytes s chosen placed (c.in_ok-chosen.ensures.chosen bytes (subst (λ f. Holds f edit.input.now bytes) (sym c.survey_packed.ensures.files) holds)) c.in_ok-planned.ensures.plan))

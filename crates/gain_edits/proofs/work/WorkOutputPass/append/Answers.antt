@@ -2,7 +2,7 @@
 use Rattle.std.proofs.Common.{sym, subst}
 use Rattle.outside.specs.Files.{IsThere, Holds}
 use Rattle.outside.proofs.FilesLaws.{emptied_there, emptied_keeps, emptied_held_other}
-use Rattle.gain_edits.proofs.work.write_work.Goals as goal
+use Rattle.gain_edits.proofs.work.WorkOutputPass.append.Goals as goal
 
 pub write_changed-requires-clause-source : goal.write_changed-requires-clause-source
 write_changed-requires-clause-source g c =

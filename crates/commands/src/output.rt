@@ -1,0 +1,76 @@
+//! The output of a command that makes one file: it is created, and written by a second pass over the source.
+ghost use Rattle.std.specs.Prelude.{◌≡◌, ◌≢◌, List, [], ◌∷◌, ℕ, IfErr, OnOk};
+ghost use Rattle.outside.specs.Files.{Files, emptied, Holds, OnlyTouches};
+ghost use Rattle.outside.specs.Counts.{NoneFell};
+ghost use Rattle.outside.specs.Pass.{Appends, AppendsPrefix, HasPassCause};
+ghost use Rattle.commands.specs.Left.{seen, IsOfPass};
+ghost use Rattle.commands.specs.One.{holding, IsPassFault};
+
+use crate::fault::EditFault;
+use outside::{Folder, PassFault};
+
+/// What is known and ready before the output is created, with all memory that writing it takes.
+pub trait OutputPass: Drop {
+    /// The output, by the bytes of the source.
+    ghost file_of: { Self → List ℕ → List ℕ };
+
+    /// The pass over the source of this name can begin with these files.
+    ghost IsReady: { Self → List ℕ → Files → Type 0 };
+
+    /// Appends the whole output to the file that was created for it. It takes no memory.
+    ///
+    /// # Errors
+    /// `Read` where a read failed; `Shrunk` where one gave no byte before the length with which the source
+    /// was found; `Write` where a write failed. Then a prefix of the output was appended, and with `Write`
+    /// not all of it.
+    fn append<D: Folder>(
+        &mut self,
+        folder: &mut D,
+        input: &str,
+        output: &str,
+    ) -> Result<(), PassFault>
+        requires apart { input.now ≢ output.now }
+        requires created { (old : Files) × IsReady self.old input.now old
+            × (D.files folder.old ≡ emptied old output.now) }
+        ensures written { OnOk result (Appends input.now output.now (file_of self.old)
+            (D.files folder.old) (D.files folder.new)) }
+        ensures prefix { IfErr result (AppendsPrefix input.now output.now (file_of self.old)
+            (D.files folder.old) (D.files folder.new)) }
+        ensures done { OnOk result (D.counts folder.new ≡ D.counts folder.old) }
+        ensures cause { IfErr result (λ fault. (size : ℕ) × HasPassCause size (D.files folder.old)
+            (D.counts folder.old) (D.counts folder.new) fault) };
+}
+
+/// Creates the output and writes it. All memory was taken before.
+///
+/// # Errors
+/// `Write(0)`, and `Input(0, ..)` with `Read` or `Shrunk`. Then the output is as it was or holds a prefix of its
+/// bytes, and with `Write(0)` not all of them.
+pub fn write_output<W: OutputPass, D: Folder>(
+    folder: &mut D,
+    input: &str,
+    output: &str,
+    work: &mut W,
+) -> Result<(), EditFault>
+    requires apart { input.now ≢ output.now }
+    requires ready { W.IsReady work.old input.now (D.files folder.old) }
+    ensures written { OnOk result ((bytes : List ℕ)
+        → Holds (D.files folder.old) input.now bytes
+        → D.files folder.new ≡ holding (D.files folder.old) output.now
+        (W.file_of work.old bytes)) }
+    ensures touches { OnlyTouches (output.now ∷ []) (D.files folder.old) (D.files folder.new) }
+    ensures done { OnOk result (D.counts folder.new ≡ D.counts folder.old) }
+    ensures left { IfErr result (IsPassFault (W.file_of work.old) input.now output.now
+        (seen (D.files folder.old) (D.counts folder.old))
+        (seen (D.files folder.new) (D.counts folder.new))) }
+    ensures numbers { IfErr result IsOfPass }
+    ensures counts { NoneFell (D.counts folder.old) (D.counts folder.new) }
+{
+    let Ok(()) = folder.create(output) else {
+        return Err(EditFault::Write(0));
+    };
+    match work.append(folder, input, output) {
+        Ok(()) => Ok(()),
+        Err(fault) => Err(fault.into()),
+    }
+}

@@ -1,7 +1,0 @@
--- The work is ready for the pass.
-use Rattle.packing.proofs.edit.PackEditEdit.write.Goals as goal
-
-pub write_work-requires-clause-created : goal.write_work-requires-clause-created
-write_work-requires-clause-created g c =
-    let old = c.requires.created in
-    (old.0, old.1.layable, old.2)
