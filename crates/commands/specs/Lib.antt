@@ -6,6 +6,7 @@ pub mod Command
 pub mod Left
 pub mod Inputs
 pub mod One
+pub mod Runs
 pub mod Said
 pub mod Telling
 pub mod Sheet

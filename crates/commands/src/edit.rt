@@ -1,8 +1,8 @@
 //! The one body of all commands that make one file.
-ghost use Rattle.std.specs.Prelude.{◌≡◌, ◌↔◌, Some, ℕ, IfOk, IfErr, OnOk, IsErrOf};
-ghost use Rattle.outside.specs.Counts.{NoneFell, OnlyReads};
-ghost use Rattle.commands.specs.Command.{clash_of, HoldsStreams};
-ghost use Rattle.commands.specs.Left.{seen, IsDone, Leaves, HasNumbers};
+ghost use Rattle.std.specs.Prelude.{◌≡◌, IfOk, IfErr, OnOk};
+ghost use Rattle.outside.specs.Counts.{OnlyReads};
+ghost use Rattle.commands.specs.Left.{seen};
+ghost use Rattle.commands.specs.Runs.{IsRunOf};
 ghost use Rattle.commands.specs.Inputs.{names_of};
 ghost use Rattle.commands.specs.One.{Task, one_command, IsEarlyFault, IsOfInputs, IsMaking, IsProper};
 
@@ -67,20 +67,10 @@ pub fn make_one<E: Edit, D: Folder>(
 ) -> Result<(), EditFault>
     requires legal { E.IsLegal edit.now }
     requires proper { IsProper (E.task edit.now) }
-    ensures done { OnOk result (IsDone (one_command (E.task edit.now) output.now)
-        (seen (D.files folder.old) (D.counts folder.old))
-        (seen (D.files folder.new) (D.counts folder.new))) }
-    ensures left { IfErr result (Leaves (one_command (E.task edit.now) output.now)
-        (seen (D.files folder.old) (D.counts folder.old))
-        (seen (D.files folder.new) (D.counts folder.new))) }
-    // Over a folder that tells nothing too.
-    ensures numbers { IfErr result (HasNumbers (one_command (E.task edit.now) output.now)) }
-    ensures names { (place : ℕ) → IsErrOf result (EditFault.EqualNames place)
-        ↔ (clash_of (one_command (E.task edit.now) output.now) ≡ Some place) }
     // The sources are well-formed, and the output holds its stream.
-    ensures streams { OnOk result (HoldsStreams (one_command (E.task edit.now) output.now)
-        (D.files folder.old)) }
-    ensures counts { NoneFell (D.counts folder.old) (D.counts folder.new) }
+    ensures { IsRunOf (one_command (E.task edit.now) output.now)
+        (seen (D.files folder.old) (D.counts folder.old))
+        (seen (D.files folder.new) (D.counts folder.new)) result }
 {
     let inputs = edit.inputs();
     if let Some(place) = inputs.clash(output) {

@@ -1,8 +1,6 @@
 //! The command `fade` over a folder.
-ghost use Rattle.std.specs.Prelude.{◌≡◌, ◌↔◌, ℕ, Some, IfErr, OnOk, IsErrOf};
-ghost use Rattle.outside.specs.Counts.{NoneFell};
-ghost use Rattle.commands.specs.Command.{HoldsStreams, clash_of};
-ghost use Rattle.commands.specs.Left.{seen, IsDone, Leaves, HasNumbers};
+ghost use Rattle.commands.specs.Left.{seen};
+ghost use Rattle.commands.specs.Runs.{IsRunOf};
 ghost use Rattle.fading.specs.Fade.{fade_command};
 
 use crate::edit::FadeEdit;
@@ -36,21 +34,10 @@ pub fn fade<D: Folder>(
     sheet: &str,
     back: bool,
 ) -> Result<(), EditFault>
-    ensures done { OnOk result (IsDone (fade_command sheet.now back input.now output.now)
-        (seen (D.files folder.old) (D.counts folder.old))
-        (seen (D.files folder.new) (D.counts folder.new))) }
-    ensures left { IfErr result (Leaves (fade_command sheet.now back input.now output.now)
-        (seen (D.files folder.old) (D.counts folder.old))
-        (seen (D.files folder.new) (D.counts folder.new))) }
-    // Over a folder that tells nothing too.
-    ensures numbers { IfErr result (HasNumbers
-        (fade_command sheet.now back input.now output.now)) }
-    ensures names { (place : ℕ) → IsErrOf result (EditFault.EqualNames place)
-        ↔ (clash_of (fade_command sheet.now back input.now output.now) ≡ Some place) }
     // The input is well-formed, and the output holds its stream with each frame's gains moved by its steps.
-    ensures streams { OnOk result (HoldsStreams (fade_command sheet.now back input.now output.now)
-        (D.files folder.old)) }
-    ensures counts { NoneFell (D.counts folder.old) (D.counts folder.new) }
+    ensures { IsRunOf (fade_command sheet.now back input.now output.now)
+        (seen (D.files folder.old) (D.counts folder.old))
+        (seen (D.files folder.new) (D.counts folder.new)) result }
 {
     make_one(alloc, folder, &FadeEdit { input, sheet, back }, output)
 }

@@ -1,9 +1,8 @@
 //! The commands `cut` and `pack` over a folder.
-ghost use Rattle.std.specs.Prelude.{◌≡◌, ◌↔◌, ℕ, Some, IfErr, OnOk, IsErrOf};
-ghost use Rattle.outside.specs.Counts.{NoneFell};
+ghost use Rattle.std.specs.Prelude.{◌≡◌};
 ghost use Rattle.cue_sheet.specs.Places.{IsPlace};
-ghost use Rattle.commands.specs.Command.{HoldsStreams, clash_of};
-ghost use Rattle.commands.specs.Left.{seen, IsDone, Leaves, HasNumbers};
+ghost use Rattle.commands.specs.Left.{seen};
+ghost use Rattle.commands.specs.Runs.{IsRunOf};
 ghost use Rattle.frame_edits.specs.Chosen.{slots_of as slots_of_lem, cut_command, pack_command};
 
 use crate::choice::Choice;
@@ -46,21 +45,10 @@ pub fn cut<D: Folder>(
 ) -> Result<(), EditFault>
     requires from { IsPlace from.now }
     requires to { IsPlace to.now }
-    ensures done { OnOk result (IsDone (cut_command from.now to.now least input.now output.now)
-        (seen (D.files folder.old) (D.counts folder.old))
-        (seen (D.files folder.new) (D.counts folder.new))) }
-    ensures left { IfErr result (Leaves (cut_command from.now to.now least input.now output.now)
-        (seen (D.files folder.old) (D.counts folder.old))
-        (seen (D.files folder.new) (D.counts folder.new))) }
-    // Over a folder that tells nothing too.
-    ensures numbers { IfErr result (HasNumbers
-        (cut_command from.now to.now least input.now output.now)) }
-    ensures names { (place : ℕ) → IsErrOf result (EditFault.EqualNames place)
-        ↔ (clash_of (cut_command from.now to.now least input.now output.now) ≡ Some place) }
     // The input is well-formed, and the output holds at most one lead-in and then exactly the chosen frames of its stream.
-    ensures streams { OnOk result (HoldsStreams
-        (cut_command from.now to.now least input.now output.now) (D.files folder.old)) }
-    ensures counts { NoneFell (D.counts folder.old) (D.counts folder.new) }
+    ensures { IsRunOf (cut_command from.now to.now least input.now output.now)
+        (seen (D.files folder.old) (D.counts folder.old))
+        (seen (D.files folder.new) (D.counts folder.new)) result }
 {
     let choice = Choice::Between(from, to, slots_of(least));
     make_one(alloc, folder, &FrameEdit { input, choice }, output)
@@ -79,20 +67,10 @@ pub fn pack<D: Folder>(
     input: &str,
     output: &str,
 ) -> Result<(), EditFault>
-    ensures done { OnOk result (IsDone (pack_command input.now output.now)
-        (seen (D.files folder.old) (D.counts folder.old))
-        (seen (D.files folder.new) (D.counts folder.new))) }
-    ensures left { IfErr result (Leaves (pack_command input.now output.now)
-        (seen (D.files folder.old) (D.counts folder.old))
-        (seen (D.files folder.new) (D.counts folder.new))) }
-    // Over a folder that tells nothing too.
-    ensures numbers { IfErr result (HasNumbers (pack_command input.now output.now)) }
-    ensures names { (place : ℕ) → IsErrOf result (EditFault.EqualNames place)
-        ↔ (clash_of (pack_command input.now output.now) ≡ Some place) }
     // The input is well-formed, and the output holds its stream.
-    ensures streams { OnOk result (HoldsStreams (pack_command input.now output.now)
-        (D.files folder.old)) }
-    ensures counts { NoneFell (D.counts folder.old) (D.counts folder.new) }
+    ensures { IsRunOf (pack_command input.now output.now)
+        (seen (D.files folder.old) (D.counts folder.old))
+        (seen (D.files folder.new) (D.counts folder.new)) result }
 {
     let choice = Choice::All(Slots::Least);
     make_one(alloc, folder, &FrameEdit { input, choice }, output)

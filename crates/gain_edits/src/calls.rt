@@ -1,8 +1,6 @@
 //! The commands `gain` and `undo` over a folder.
-ghost use Rattle.std.specs.Prelude.{◌≡◌, ◌↔◌, ℕ, Some, IfErr, OnOk, IsErrOf};
-ghost use Rattle.outside.specs.Counts.{NoneFell};
-ghost use Rattle.commands.specs.Command.{HoldsStreams, clash_of};
-ghost use Rattle.commands.specs.Left.{seen, IsDone, Leaves, HasNumbers};
+ghost use Rattle.commands.specs.Left.{seen};
+ghost use Rattle.commands.specs.Runs.{IsRunOf};
 ghost use Rattle.gain_edits.specs.Gain.{gain_command};
 ghost use Rattle.gain_edits.specs.Undo.{undo_command};
 
@@ -42,20 +40,10 @@ pub fn gain<D: Folder>(
     shift: &Shift,
     tags: bool,
 ) -> Result<(), EditFault>
-    ensures done { OnOk result (IsDone (gain_command shift.now tags input.now output.now)
-        (seen (D.files folder.old) (D.counts folder.old))
-        (seen (D.files folder.new) (D.counts folder.new))) }
-    ensures left { IfErr result (Leaves (gain_command shift.now tags input.now output.now)
-        (seen (D.files folder.old) (D.counts folder.old))
-        (seen (D.files folder.new) (D.counts folder.new))) }
-    // Over a folder that tells nothing too.
-    ensures numbers { IfErr result (HasNumbers (gain_command shift.now tags input.now output.now)) }
-    ensures names { (place : ℕ) → IsErrOf result (EditFault.EqualNames place)
-        ↔ (clash_of (gain_command shift.now tags input.now output.now) ≡ Some place) }
     // The input is well-formed, and the output holds its stream with each gain moved.
-    ensures streams { OnOk result (HoldsStreams (gain_command shift.now tags input.now output.now)
-        (D.files folder.old)) }
-    ensures counts { NoneFell (D.counts folder.old) (D.counts folder.new) }
+    ensures { IsRunOf (gain_command shift.now tags input.now output.now)
+        (seen (D.files folder.old) (D.counts folder.old))
+        (seen (D.files folder.new) (D.counts folder.new)) result }
 {
     let changes = Changes::Move(shift, tags);
     make_one(alloc, folder, &GainEdit { input, changes }, output)
@@ -79,20 +67,10 @@ pub fn undo<D: Folder>(
     input: &str,
     output: &str,
 ) -> Result<(), EditFault>
-    ensures done { OnOk result (IsDone (undo_command input.now output.now)
-        (seen (D.files folder.old) (D.counts folder.old))
-        (seen (D.files folder.new) (D.counts folder.new))) }
-    ensures left { IfErr result (Leaves (undo_command input.now output.now)
-        (seen (D.files folder.old) (D.counts folder.old))
-        (seen (D.files folder.new) (D.counts folder.new))) }
-    // Over a folder that tells nothing too.
-    ensures numbers { IfErr result (HasNumbers (undo_command input.now output.now)) }
-    ensures names { (place : ℕ) → IsErrOf result (EditFault.EqualNames place)
-        ↔ (clash_of (undo_command input.now output.now) ≡ Some place) }
     // The input is well-formed, and the output holds its stream with each gain moved back.
-    ensures streams { OnOk result (HoldsStreams (undo_command input.now output.now)
-        (D.files folder.old)) }
-    ensures counts { NoneFell (D.counts folder.old) (D.counts folder.new) }
+    ensures { IsRunOf (undo_command input.now output.now)
+        (seen (D.files folder.old) (D.counts folder.old))
+        (seen (D.files folder.new) (D.counts folder.new)) result }
 {
     let changes = Changes::Undo;
     make_one(alloc, folder, &GainEdit { input, changes }, output)

@@ -1,8 +1,7 @@
 //! The command `pack` over a folder, in each of its modes.
-ghost use Rattle.std.specs.Prelude.{◌≡◌, ◌↔◌, ℕ, List, Some, None, IfSome, IfErr, OnOk, IsErrOf};
-ghost use Rattle.outside.specs.Counts.{NoneFell};
-ghost use Rattle.commands.specs.Command.{HoldsStreams, clash_of};
-ghost use Rattle.commands.specs.Left.{seen, IsDone, Leaves, HasNumbers};
+ghost use Rattle.std.specs.Prelude.{◌≡◌, ℕ, List, None, IfSome};
+ghost use Rattle.commands.specs.Left.{seen};
+ghost use Rattle.commands.specs.Runs.{IsRunOf};
 ghost use Rattle.commands.specs.One.{one_command};
 ghost use Rattle.pack_mode.specs.declared.mode.PackMode.TheVariants.{Least};
 ghost use Rattle.packing.specs.Modes.{pack_task, pack_mode_command};
@@ -24,19 +23,9 @@ fn pack_by<D: Folder>(
     output: &str,
     rule: Rule,
 ) -> Result<(), EditFault>
-    ensures done { OnOk result (IsDone (one_command (rule_task rule input.now) output.now)
+    ensures { IsRunOf (one_command (rule_task rule input.now) output.now)
         (seen (D.files folder.old) (D.counts folder.old))
-        (seen (D.files folder.new) (D.counts folder.new))) }
-    ensures left { IfErr result (Leaves (one_command (rule_task rule input.now) output.now)
-        (seen (D.files folder.old) (D.counts folder.old))
-        (seen (D.files folder.new) (D.counts folder.new))) }
-    ensures numbers { IfErr result (HasNumbers
-        (one_command (rule_task rule input.now) output.now)) }
-    ensures names { (place : ℕ) → IsErrOf result (EditFault.EqualNames place)
-        ↔ (clash_of (one_command (rule_task rule input.now) output.now) ≡ Some place) }
-    ensures streams { OnOk result (HoldsStreams
-        (one_command (rule_task rule input.now) output.now) (D.files folder.old)) }
-    ensures counts { NoneFell (D.counts folder.old) (D.counts folder.new) }
+        (seen (D.files folder.new) (D.counts folder.new)) result }
 {
     make_one(alloc, folder, &PackEdit { input, rule }, output)
 }
@@ -80,20 +69,10 @@ pub fn pack_with<D: Folder>(
     output: &str,
     mode: &PackMode,
 ) -> Result<(), EditFault>
-    ensures done { OnOk result (IsDone (pack_mode_command mode.now input.now output.now)
-        (seen (D.files folder.old) (D.counts folder.old))
-        (seen (D.files folder.new) (D.counts folder.new))) }
-    ensures left { IfErr result (Leaves (pack_mode_command mode.now input.now output.now)
-        (seen (D.files folder.old) (D.counts folder.old))
-        (seen (D.files folder.new) (D.counts folder.new))) }
-    // Over a folder that tells nothing too.
-    ensures numbers { IfErr result (HasNumbers (pack_mode_command mode.now input.now output.now)) }
-    ensures names { (place : ℕ) → IsErrOf result (EditFault.EqualNames place)
-        ↔ (clash_of (pack_mode_command mode.now input.now output.now) ≡ Some place) }
     // The input is well-formed, and the output holds its stream.
-    ensures streams { OnOk result (HoldsStreams (pack_mode_command mode.now input.now output.now)
-        (D.files folder.old)) }
-    ensures counts { NoneFell (D.counts folder.old) (D.counts folder.new) }
+    ensures { IsRunOf (pack_mode_command mode.now input.now output.now)
+        (seen (D.files folder.old) (D.counts folder.old))
+        (seen (D.files folder.new) (D.counts folder.new)) result }
 {
     match rule_of(mode) {
         None => pack(alloc, folder, input, output),

@@ -1,39 +1,21 @@
 -- The command is that of the mode.
-use Rattle.std.proofs.Common.{◌≡◌, ℕ, Some, sym, subst}
-use Rattle.std.specs.Prelude.{◌↔◌, IfErr, OnOk, IsErrOf}
-use Rattle.commands.specs.declared.fault.EditFault.TheVariants.{EqualNames}
-use Rattle.commands.specs.Command.{HoldsStreams, clash_of}
-use Rattle.commands.specs.Left.{seen, IsDone, Leaves, HasNumbers}
+use Rattle.std.proofs.Common.{sym, subst}
+use Rattle.commands.specs.Left.{seen}
 use Rattle.commands.specs.One.{Task, one_command}
+use Rattle.commands.specs.Runs.{IsRunOf}
 use Rattle.packing.specs.Modes.{pack_mode_command}
 use Rattle.packing.proofs.calls.pack_with.Goals as goal
 
-pub returns-in-None-clause-names : goal.returns-in-None-clause-names
-returns-in-None-clause-names g c =
-    subst (λ mode. (place : ℕ) → IsErrOf c.pack.result (EqualNames place) ↔ (clash_of (pack_mode_command mode c.args.input.now c.args.output.now) ≡ Some place)) (sym (c.rule_of.ensures.least c.in-None.is))
-    c.pack.ensures.names
+pub returns-in-None : goal.returns-in-None
+returns-in-None g c =
+    let files = g.D.Folder.files in
+    let counts = g.D.Folder.counts in
+    subst (λ mode. IsRunOf (pack_mode_command mode c.args.input.now c.args.output.now) (seen (files c.args.folder.now) (counts c.args.folder.now)) (seen (files c.pack.new.folder) (counts c.pack.new.folder)) c.pack.result) (sym (c.rule_of.ensures.least c.in-None.is))
+    c.pack.ensures
 
-pub returns-in-Some-clause-done : goal.returns-in-Some-clause-done
-returns-in-Some-clause-done g c =
-    subst (λ (task : Task). OnOk c.pack_by.result (IsDone (one_command task c.args.output.now) (seen (g.D.Folder.files c.args.folder.now) (g.D.Folder.counts c.args.folder.now)) (seen (g.D.Folder.files c.pack_by.new.folder) (g.D.Folder.counts c.pack_by.new.folder)))) (sym (c.in-Some.ensures.rule c.args.input.now))
-    c.pack_by.ensures.done
-
-pub returns-in-Some-clause-left : goal.returns-in-Some-clause-left
-returns-in-Some-clause-left g c =
-    subst (λ (task : Task). IfErr c.pack_by.result (Leaves (one_command task c.args.output.now) (seen (g.D.Folder.files c.args.folder.now) (g.D.Folder.counts c.args.folder.now)) (seen (g.D.Folder.files c.pack_by.new.folder) (g.D.Folder.counts c.pack_by.new.folder)))) (sym (c.in-Some.ensures.rule c.args.input.now))
-    c.pack_by.ensures.left
-
-pub returns-in-Some-clause-numbers : goal.returns-in-Some-clause-numbers
-returns-in-Some-clause-numbers g c =
-    subst (λ (task : Task). IfErr c.pack_by.result (HasNumbers (one_command task c.args.output.now))) (sym (c.in-Some.ensures.rule c.args.input.now))
-    c.pack_by.ensures.numbers
-
-pub returns-in-Some-clause-names : goal.returns-in-Some-clause-names
-returns-in-Some-clause-names g c =
-    subst (λ (task : Task). (place : ℕ) → IsErrOf c.pack_by.result (EqualNames place) ↔ (clash_of (one_command task c.args.output.now) ≡ Some place)) (sym (c.in-Some.ensures.rule c.args.input.now))
-    c.pack_by.ensures.names
-
-pub returns-in-Some-clause-streams : goal.returns-in-Some-clause-streams
-returns-in-Some-clause-streams g c =
-    subst (λ (task : Task). OnOk c.pack_by.result (HoldsStreams (one_command task c.args.output.now) (g.D.Folder.files c.args.folder.now))) (sym (c.in-Some.ensures.rule c.args.input.now))
-    c.pack_by.ensures.streams
+pub returns-in-Some : goal.returns-in-Some
+returns-in-Some g c =
+    let files = g.D.Folder.files in
+    let counts = g.D.Folder.counts in
+    subst (λ (task : Task). IsRunOf (one_command task c.args.output.now) (seen (files c.args.folder.now) (counts c.args.folder.now)) (seen (files c.pack_by.new.folder) (counts c.pack_by.new.folder)) c.pack_by.result) (sym (c.in-Some.ensures.rule c.args.input.now))
+    c.pack_by.ensures

@@ -1,0 +1,20 @@
+-- What the call of a command that makes files says, whatever its answer.
+use Rattle.std.specs.Prelude.{◌≡◌, ◌↔◌, ℕ, Some, Result, IfErr, OnOk, IsErrOf}
+use Rattle.outside.specs.Counts.{NoneFell}
+use Rattle.commands.specs.declared.fault.EditFault.{EditFault}
+use Rattle.commands.specs.declared.fault.EditFault.TheVariants.{EqualNames}
+use Rattle.commands.specs.Command.{Command, clash_of, HoldsStreams}
+use Rattle.commands.specs.Left.{Seen, IsDone, Leaves, HasNumbers}
+
+-- from one moment to another the command ran, with this answer
+pub record IsRunOf (command : Command) (old new : Seen) (answer : Result (Unit {0}) EditFault) : Type 0 where
+  -- all was written, or else this is left
+  pub done : OnOk answer (IsDone command old new)
+  pub left : IfErr answer (Leaves command old new)
+  -- the fault is right over a folder that tells nothing too
+  pub numbers : IfErr answer (HasNumbers command)
+  -- it is that of equal names exactly where an input has the name of an output
+  pub names : (place : ℕ) → IsErrOf answer (EqualNames place) ↔ (clash_of command ≡ Some place)
+  -- the sources are well-formed, and the outputs hold the streams that they have to hold
+  pub streams : OnOk answer (HoldsStreams command old.files)
+  pub counts : NoneFell old.counts new.counts
