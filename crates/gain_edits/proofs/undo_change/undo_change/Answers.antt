@@ -1,6 +1,5 @@
 -- The tag is read, then its undo item, and then the steps that it says are taken.
 use Rattle.std.proofs.Common.{◌≡◌, ◌≤◌, ℕ, List, Ok, Err, refl, sym, ◌∙◌, ap, subst}
-use Rattle.std.proofs.lemmas.Result.{err_from_is_err_and}
 use Rattle.outside.specs.Files.{Holds}
 use Rattle.tag_blocks.specs.declared.undo.Undo.{Undo}
 use Rattle.tag_blocks.specs.Tags.{TagFields}
@@ -16,7 +15,7 @@ use Rattle.commands.specs.Left.{IsRefusal}
 use Rattle.commands.specs.One.{IsInputFault}
 use Rattle.gain_edits.specs.Change.{changing}
 use Rattle.commands.proofs.InputLaws.{refusal_numbers}
-use Rattle.commands.proofs.RefusingLaws.{of_err}
+use Rattle.commands.proofs.RefusingLaws.{err_with, of_err}
 use Rattle.gain_edits.proofs.TagFaults.{tag_is_input, choice_is_input, answer_is_input, answer_numbers, answer_ok}
 use Rattle.gain_edits.proofs.Refusals.{undone_may, found_item_may}
 use Rattle.moved_gains.proofs.TagEnds.{tag_at-most}
@@ -54,8 +53,7 @@ found_undo-requires g c = subst (λ n. n ≤ longest_file) (sym c.tag_place.ensu
 pub returns-in_err-undo-clause-refused : goal.returns-in_err-undo-clause-refused
 returns-in_err-undo-clause-refused g c =
     let s = tells c.args.survey.now in
-    let p = err_from_is_err_and c.from_residual.result c.from_residual.ensures.1 in
-    rw (p.1, p.2)
+    err_with c.from_residual.ensures.1
     (choice_is_input undo_change undo_refuses c.args.name.now (g.D.Folder.files c.args.folder.now) _ _ _ c.read_tag.ensures.files s c.requires.there c.requires.surveyed _
     (of_err (IsRefusal undo_refuses) _ _ (found_item_may c.tag_place.result.offset (undo_from 32 c.in-Ok.tag.items)) (sym c.in_err-undo.ensures))
     (λ bytes holds. refused_item bytes s c.in-Ok.tag _ (c.in-Ok.ensures.exact bytes holds) (ap (λ n. found_undo n (undo_from 32 c.in-Ok.tag.items)) (sym c.tag_place.ensures.offset) ∙ sym c.in_err-undo.ensures))
@@ -63,8 +61,7 @@ returns-in_err-undo-clause-refused g c =
 
 pub returns-in_err-undo-clause-numbers : goal.returns-in_err-undo-clause-numbers
 returns-in_err-undo-clause-numbers g c =
-    let p = err_from_is_err_and c.from_residual.result c.from_residual.ensures.1 in
-    rw (p.1, p.2) (refusal_numbers undo_refuses _ (of_err (IsRefusal undo_refuses) _ _ (found_item_may c.tag_place.result.offset (undo_from 32 c.in-Ok.tag.items)) (sym c.in_err-undo.ensures)))
+    err_with c.from_residual.ensures.1 (refusal_numbers undo_refuses _ (of_err (IsRefusal undo_refuses) _ _ (found_item_may c.tag_place.result.offset (undo_from 32 c.in-Ok.tag.items)) (sym c.in_err-undo.ensures)))
 
 -- the file's change is the one that its undo item lists
 undone : (g : given.Over) (c : After-undone_change g) (bytes : List ℕ) → Holds (g.D.Folder.files c.args.folder.now) c.args.name.now bytes

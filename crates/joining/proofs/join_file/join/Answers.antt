@@ -1,13 +1,14 @@
 -- A clash of names, what was met before the output is created, and the second pass.
 use Rattle.std.proofs.Common.{◌≡◌, [], List, ℕ, length, map, string_bytes, sym, ◌∙◌, ap, ap₂, subst, arith, append-nil}
 use Rattle.std.proofs.lemmas.List.{length-map}
-use Rattle.std.proofs.lemmas.Result.{err_from_is_err_and, IfErr-weaker}
+use Rattle.std.proofs.lemmas.Result.{IfErr-weaker}
 use Rattle.sync_survey.specs.Faults.{SurveyFields, tells}
 use Rattle.outside.specs.Files.{Files}
 use Rattle.commands.specs.declared.fault.EditFault.TheVariants.{Memory}
 use Rattle.commands.specs.Left.{seen, Leaves}
 use Rattle.commands.specs.One.{IsMaking, NeedsMemory, first_input, one_command}
 use Rattle.commands.proofs.MakeLaws.{clash_left, early_left, one_done, one_left, one_streams}
+use Rattle.commands.proofs.RefusingLaws.{err_with}
 use Rattle.joining.specs.Join.{joined_file, join_task}
 use Rattle.std.specs.Prelude.{IfSome}
 use Rattle.laying.specs.Passing.{IsFresh}
@@ -26,8 +27,7 @@ returns-in-Some-clause-left g c = clash_left (join_task (map string_bytes c.args
 pub returns-in_err-surveys-clause-left : goal.returns-in_err-surveys-clause-left
 returns-in_err-surveys-clause-left g c =
     let names = map string_bytes c.args.inputs.now in
-    let p = err_from_is_err_and c.from_residual.result c.from_residual.ensures.1 in
-    rw (p.1, p.2) (early_left (join_task names) c.args.output.now (sym c.clash.ensures ∙ c.in_default.is) (join-late names) _ _ _ c.in_err-surveys.ensures.refused)
+    err_with c.from_residual.ensures.1 (early_left (join_task names) c.args.output.now (sym c.clash.ensures ∙ c.in_default.is) (join-late names) _ _ _ c.in_err-surveys.ensures.refused)
 
 can : (g : given.Over) (c : In_ok-surveys g) → CanBeJoined (map tells c.in_ok-surveys.surveys.items)
 can g c =
@@ -49,16 +49,14 @@ forgot g c =
 
 pub returns-in_err-planned-clause-left : goal.returns-in_err-planned-clause-left
 returns-in_err-planned-clause-left g c =
-    let p = err_from_is_err_and c.from_residual-in_err-planned.result c.from_residual-in_err-planned.ensures.1 in
-    rw (p.1, p.2) (forgot g (goal.at.returns-in_err-planned-clause-left g c).In_ok-surveys)
+    err_with c.from_residual-in_err-planned.ensures.1 (forgot g (goal.at.returns-in_err-planned-clause-left g c).In_ok-surveys)
 
 pub new_buffers-requires : goal.new_buffers-requires
 new_buffers-requires g c = subst (λ l. CanBeJoined (map tells l)) (sym c.deref-2.ensures.value) (can g (goal.at.new_buffers-requires g c).In_ok-surveys)
 
 pub returns-in_err-buffers-clause-left : goal.returns-in_err-buffers-clause-left
 returns-in_err-buffers-clause-left g c =
-    let p = err_from_is_err_and c.from_residual-in_err-buffers.result c.from_residual-in_err-buffers.ensures.1 in
-    rw (p.1, p.2) (forgot g (goal.at.returns-in_err-buffers-clause-left g c).In_ok-surveys)
+    err_with c.from_residual-in_err-buffers.ensures.1 (forgot g (goal.at.returns-in_err-buffers-clause-left g c).In_ok-surveys)
 
 pub write_joined-requires-clause-fresh : goal.write_joined-requires-clause-fresh
 write_joined-requires-clause-fresh g c =

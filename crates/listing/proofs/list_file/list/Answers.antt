@@ -1,13 +1,12 @@
 -- What the command leaves, by the survey and what was sent of the listing.
-use Rattle.std.proofs.lemmas.Result.{err_from_is_err_and}
 use Rattle.sync_survey.specs.Faults.{tells}
+use Rattle.commands.proofs.RefusingLaws.{err_with}
 use Rattle.listing.proofs.ListLaws.{survey_left, is_done, unsent, holds_streams}
 use Rattle.listing.proofs.list_file.list.Goals as goal
 
 pub returns-in_err-survey-clause-left : goal.returns-in_err-survey-clause-left
 returns-in_err-survey-clause-left g c =
-    let p = err_from_is_err_and c.from_residual.result c.from_residual.ensures.1 in
-    rw (p.1, p.2) (survey_left c.args.input.now _ _ _ c.in_err-survey.ensures.refused)
+    err_with c.from_residual.ensures.1 (survey_left c.args.input.now _ _ _ c.in_err-survey.ensures.refused)
 
 pub returns-in-Ok-clause-done : goal.returns-in-Ok-clause-done
 returns-in-Ok-clause-done g c =

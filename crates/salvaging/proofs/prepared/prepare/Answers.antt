@@ -1,9 +1,9 @@
 -- The reading, the plan of all frames, and the memory, each with its faults.
 use Rattle.std.proofs.Common.{◌≡◌, length, ap, ap₂, arith}
-use Rattle.std.proofs.lemmas.Result.{err_from_is_err_and}
 use Rattle.commands.specs.declared.fault.EditFault.TheVariants.{Memory}
 use Rattle.commands.specs.Left.{seen}
 use Rattle.commands.specs.One.{IsEarlyFault}
+use Rattle.commands.proofs.RefusingLaws.{err_with}
 use Rattle.salvaging.specs.Salvaged.{salvage_task}
 use Rattle.sync_survey.specs.Faults.{tells}
 use Rattle.frame_edits.specs.declared.plans.Selection.{Selection}
@@ -21,18 +21,15 @@ forgot g c = early-memory c.args.input.now _ _ c.in_ok-mended.ensures.mended.of 
 
 pub returns-in_err-planned-clause-refused : goal.returns-in_err-planned-clause-refused
 returns-in_err-planned-clause-refused g c =
-    let p = err_from_is_err_and c.from_residual-in_err-planned.result c.from_residual-in_err-planned.ensures.1 in
-    rw (p.1, p.2) (forgot g (goal.at.returns-in_err-planned-clause-refused g c).In_ok-mended)
+    err_with c.from_residual-in_err-planned.ensures.1 (forgot g (goal.at.returns-in_err-planned-clause-refused g c).In_ok-mended)
 
 pub returns-in_err-laid-clause-refused : goal.returns-in_err-laid-clause-refused
 returns-in_err-laid-clause-refused g c =
-    let p = err_from_is_err_and c.from_residual-in_err-laid.result c.from_residual-in_err-laid.ensures.1 in
-    rw (p.1, p.2) (forgot g (goal.at.returns-in_err-laid-clause-refused g c).In_ok-mended)
+    err_with c.from_residual-in_err-laid.ensures.1 (forgot g (goal.at.returns-in_err-laid-clause-refused g c).In_ok-mended)
 
 pub returns-in_err-sending-clause-refused : goal.returns-in_err-sending-clause-refused
 returns-in_err-sending-clause-refused g c =
-    let p = err_from_is_err_and c.from_residual-in_err-sending.result c.from_residual-in_err-sending.ensures.1 in
-    rw (p.1, p.2) (forgot g (goal.at.returns-in_err-sending-clause-refused g c).In_ok-mended)
+    err_with c.from_residual-in_err-sending.ensures.1 (forgot g (goal.at.returns-in_err-sending-clause-refused g c).In_ok-mended)
 
 pub returns-clause-ready : goal.returns-clause-ready
 returns-clause-ready g c =

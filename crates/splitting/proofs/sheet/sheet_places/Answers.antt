@@ -1,14 +1,12 @@
 -- A sheet whose bytes aren't read says no positions.
-use Rattle.std.proofs.lemmas.Result.{err_from_is_err_and}
+use Rattle.commands.proofs.RefusingLaws.{err_with}
 use Rattle.splitting.proofs.SheetLaws.{unread-fault, unread-number}
 use Rattle.splitting.proofs.sheet.sheet_places.Goals as goal
 
 pub returns-in_err-bytes-clause-refused : goal.returns-in_err-bytes-clause-refused
 returns-in_err-bytes-clause-refused g c =
-    let p = err_from_is_err_and c.from_residual.result c.from_residual.ensures.1 in
-    rw (p.1, p.2) (unread-fault c.args.sheet.now _ _ _ c.in_err-bytes.ensures.refused)
+    err_with c.from_residual.ensures.1 (unread-fault c.args.sheet.now _ _ _ c.in_err-bytes.ensures.refused)
 
 pub returns-in_err-bytes-clause-numbers : goal.returns-in_err-bytes-clause-numbers
 returns-in_err-bytes-clause-numbers g c =
-    let p = err_from_is_err_and c.from_residual.result c.from_residual.ensures.1 in
-    rw (p.1, p.2) (unread-number _ c.in_err-bytes.ensures.numbers)
+    err_with c.from_residual.ensures.1 (unread-number _ c.in_err-bytes.ensures.numbers)

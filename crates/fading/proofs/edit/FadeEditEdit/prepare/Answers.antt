@@ -1,12 +1,12 @@
 -- The survey, the change and the memory, each with its faults.
 use Rattle.std.proofs.Common.{ap₂, sym, ◌∙◌, subst}
-use Rattle.std.proofs.lemmas.Result.{err_from_is_err_and}
 use Rattle.outside.specs.Files.{Holds, IsThere}
 use Rattle.sync_survey.specs.Faults.{tells}
 use Rattle.commands.specs.declared.fault.EditFault.TheVariants.{Memory}
 use Rattle.commands.specs.Left.{seen}
 use Rattle.moved_gains.specs.Change.{change_in}
 use Rattle.gain_edits.proofs.EditLaws.{work_makes, work_movable}
+use Rattle.commands.proofs.RefusingLaws.{err_with}
 use Rattle.fading.specs.Fade.{fade_refuses, fade_task}
 use Rattle.fading.proofs.FadeLaws.{making_in, input_early, input_numbers, change_early, change_early_behind, change_numbers, fade_makes}
 use Rattle.fading.proofs.edit.FadeEditEdit.prepare.Goals as goal
@@ -14,35 +14,30 @@ use Rattle.fading.proofs.edit.FadeEditEdit.prepare.Goals as goal
 pub returns-in_err-survey-clause-refused : goal.returns-in_err-survey-clause-refused
 returns-in_err-survey-clause-refused g c =
     let edit = c.args.self.now in
-    let p = err_from_is_err_and c.from_residual.result c.from_residual.ensures.1 in
-    rw (p.1, p.2) (input_early edit.sheet.now edit.back edit.input.now _ _ _ (c.in_err-survey.ensures.refused (making_in edit.sheet.now edit.back edit.input.now (g.D.Folder.files c.args.folder.now))))
+    err_with c.from_residual.ensures.1 (input_early edit.sheet.now edit.back edit.input.now _ _ _ (c.in_err-survey.ensures.refused (making_in edit.sheet.now edit.back edit.input.now (g.D.Folder.files c.args.folder.now))))
 
 pub returns-in_err-survey-clause-numbers : goal.returns-in_err-survey-clause-numbers
 returns-in_err-survey-clause-numbers g c =
     let edit = c.args.self.now in
-    let p = err_from_is_err_and c.from_residual.result c.from_residual.ensures.1 in
-    rw (p.1, p.2) (input_numbers edit.sheet.now edit.back edit.input.now _ (c.in_err-survey.ensures.numbers fade_refuses))
+    err_with c.from_residual.ensures.1 (input_numbers edit.sheet.now edit.back edit.input.now _ (c.in_err-survey.ensures.numbers fade_refuses))
 
 pub returns-in_err-change-clause-refused : goal.returns-in_err-change-clause-refused
 returns-in_err-change-clause-refused g c =
     let edit = c.args.self.now in
-    let p = err_from_is_err_and c.from_residual-in_err-change.result c.from_residual-in_err-change.ensures.1 in
     let old = seen (g.D.Folder.files c.args.folder.now) (g.D.Folder.counts c.args.folder.now) in
-    rw (p.1, p.2)
+    err_with c.from_residual-in_err-change.ensures.1
     (change_early_behind edit.sheet.now edit.back edit.input.now (tells c.in_ok-survey.survey) old _ c.in_ok-survey.ensures.there c.in_ok-survey.ensures.surveyed _ _
     (ap₂ seen c.survey_input.ensures.files c.in_ok-survey.ensures.done) c.in_err-change.ensures.refused)
 
 pub returns-in_err-change-clause-numbers : goal.returns-in_err-change-clause-numbers
 returns-in_err-change-clause-numbers g c =
     let edit = c.args.self.now in
-    let p = err_from_is_err_and c.from_residual-in_err-change.result c.from_residual-in_err-change.ensures.1 in
-    rw (p.1, p.2) (change_numbers edit.sheet.now edit.back edit.input.now _ c.in_err-change.ensures.numbers)
+    err_with c.from_residual-in_err-change.ensures.1 (change_numbers edit.sheet.now edit.back edit.input.now _ c.in_err-change.ensures.numbers)
 
 pub returns-in_err-work-clause-refused : goal.returns-in_err-work-clause-refused
 returns-in_err-work-clause-refused g c =
     let edit = c.args.self.now in
-    let p = err_from_is_err_and c.from_residual-in_err-work.result c.from_residual-in_err-work.ensures.1 in
-    rw (p.1, p.2)
+    err_with c.from_residual-in_err-work.ensures.1
     (change_early edit.sheet.now edit.back edit.input.now (tells c.in_ok-survey.survey) (seen (g.D.Folder.files c.args.folder.now) (g.D.Folder.counts c.args.folder.now)) _ c.in_ok-survey.ensures.there c.in_ok-survey.ensures.surveyed Memory
     (ap₂ seen (c.fade_change.ensures.files ∙ c.survey_input.ensures.files) (c.in_ok-change.ensures.done ∙ c.in_ok-survey.ensures.done)))
 

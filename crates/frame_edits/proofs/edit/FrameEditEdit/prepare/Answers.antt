@@ -1,6 +1,5 @@
 -- The survey, the chosen frames with their plan, and the memory, each with its faults.
 use Rattle.std.proofs.Common.{ap₂, sym, ◌∙◌, subst}
-use Rattle.std.proofs.lemmas.Result.{err_from_is_err_and}
 use Rattle.outside.specs.Files.{Holds}
 use Rattle.slot_plan.specs.Plans.{entries}
 use Rattle.laying.proofs.ChosenFrames.{survey-had}
@@ -9,6 +8,7 @@ use Rattle.commands.specs.declared.fault.EditFault.TheVariants.{Memory}
 use Rattle.commands.specs.Left.{seen}
 use Rattle.commands.specs.One.{most_frames, IsEarlyFault}
 use Rattle.commands.proofs.InputLaws.{input_is_early, input_numbers, memory_is_input}
+use Rattle.commands.proofs.RefusingLaws.{err_with}
 use Rattle.frame_edits.specs.declared.plans.Selection.{Selection}
 use Rattle.frame_edits.specs.Chosen.{chosen_in, choosing, stream_chosen}
 use Rattle.frame_edits.specs.Choices.{choosing_by, refused_by, task_of}
@@ -21,14 +21,12 @@ use Rattle.frame_edits.proofs.edit.FrameEditEdit.prepare.Goals.{In_ok-chosen}
 pub returns-in_err-survey-clause-refused : goal.returns-in_err-survey-clause-refused
 returns-in_err-survey-clause-refused g c =
     let edit = c.args.self.now in
-    let p = err_from_is_err_and c.from_residual.result c.from_residual.ensures.1 in
-    rw (p.1, p.2) (input_is_early (choosing (choosing_by edit.choice)) (stream_chosen (choosing_by edit.choice)) (refused_by edit.choice) edit.input.now _ _ _ (c.in_err-survey.ensures.refused (choosing (choosing_by edit.choice))))
+    err_with c.from_residual.ensures.1 (input_is_early (choosing (choosing_by edit.choice)) (stream_chosen (choosing_by edit.choice)) (refused_by edit.choice) edit.input.now _ _ _ (c.in_err-survey.ensures.refused (choosing (choosing_by edit.choice))))
 
 pub returns-in_err-survey-clause-numbers : goal.returns-in_err-survey-clause-numbers
 returns-in_err-survey-clause-numbers g c =
     let edit = c.args.self.now in
-    let p = err_from_is_err_and c.from_residual.result c.from_residual.ensures.1 in
-    rw (p.1, p.2) (input_numbers (choosing (choosing_by edit.choice)) (stream_chosen (choosing_by edit.choice)) (refused_by edit.choice) edit.input.now _ (c.in_err-survey.ensures.numbers (refused_by edit.choice)))
+    err_with c.from_residual.ensures.1 (input_numbers (choosing (choosing_by edit.choice)) (stream_chosen (choosing_by edit.choice)) (refused_by edit.choice) edit.input.now _ (c.in_err-survey.ensures.numbers (refused_by edit.choice)))
 
 -- want of memory, once the frames were chosen
 forgot : (g : given.Over) (c : In_ok-chosen g) → IsEarlyFault (task_of c.args.self.now.choice c.args.self.now.input.now)
@@ -42,13 +40,11 @@ forgot g c =
 
 pub returns-in_err-planned-clause-refused : goal.returns-in_err-planned-clause-refused
 returns-in_err-planned-clause-refused g c =
-    let p = err_from_is_err_and c.from_residual-in_err-planned.result c.from_residual-in_err-planned.ensures.1 in
-    rw (p.1, p.2) (forgot g (goal.at.returns-in_err-planned-clause-refused g c).In_ok-chosen)
+    err_with c.from_residual-in_err-planned.ensures.1 (forgot g (goal.at.returns-in_err-planned-clause-refused g c).In_ok-chosen)
 
 pub returns-in_err-work-clause-refused : goal.returns-in_err-work-clause-refused
 returns-in_err-work-clause-refused g c =
-    let p = err_from_is_err_and c.from_residual-in_err-work.result c.from_residual-in_err-work.ensures.1 in
-    rw (p.1, p.2) (forgot g (goal.at.returns-in_err-work-clause-refused g c).In_ok-chosen)
+    err_with c.from_residual-in_err-work.ensures.1 (forgot g (goal.at.returns-in_err-work-clause-refused g c).In_ok-chosen)
 
 pub returns-clause-ready : goal.returns-clause-ready
 returns-clause-ready g c =

@@ -1,6 +1,5 @@
 -- The survey, the change and the memory, each with its faults.
 use Rattle.std.proofs.Common.{ap₂, sym, ◌∙◌, subst}
-use Rattle.std.proofs.lemmas.Result.{err_from_is_err_and}
 use Rattle.outside.specs.Files.{Holds}
 use Rattle.sync_survey.specs.Faults.{tells}
 use Rattle.commands.specs.declared.fault.EditFault.TheVariants.{Memory}
@@ -21,14 +20,12 @@ returns-in_err-survey-clause-refused g c =
 pub returns-in_err-survey-clause-numbers : goal.returns-in_err-survey-clause-numbers
 returns-in_err-survey-clause-numbers g c =
     let edit = c.args.self.now in
-    let p = err_from_is_err_and c.from_residual.result c.from_residual.ensures.1 in
-    rw (p.1, p.2) (input_numbers (changing (changing_by edit.changes)) (stream_moved_by (steps_by edit.changes)) (refused_by edit.changes) edit.input.now _ (c.in_err-survey.ensures.numbers (refused_by edit.changes)))
+    err_with c.from_residual.ensures.1 (input_numbers (changing (changing_by edit.changes)) (stream_moved_by (steps_by edit.changes)) (refused_by edit.changes) edit.input.now _ (c.in_err-survey.ensures.numbers (refused_by edit.changes)))
 
 pub returns-in_err-work-clause-refused : goal.returns-in_err-work-clause-refused
 returns-in_err-work-clause-refused g c =
     let edit = c.args.self.now in
-    let p = err_from_is_err_and c.from_residual-in_err-work.result c.from_residual-in_err-work.ensures.1 in
-    rw (p.1, p.2)
+    err_with c.from_residual-in_err-work.ensures.1
     (input_is_early (changing (changing_by edit.changes)) (stream_moved_by (steps_by edit.changes)) (refused_by edit.changes) edit.input.now (seen (g.D.Folder.files c.args.folder.now) (g.D.Folder.counts c.args.folder.now)) _ Memory
     (memory_is_input (changing (changing_by edit.changes)) edit.input.now (seen (g.D.Folder.files c.args.folder.now) (g.D.Folder.counts c.args.folder.now)) _ (tells c.in_ok-survey.survey) c.in_ok-survey.ensures.there c.in_ok-survey.ensures.surveyed
     (ap₂ seen (c.find.ensures.files ∙ c.survey_input.ensures.files) (c.in_ok-change.ensures.done ∙ c.in_ok-survey.ensures.done))))
