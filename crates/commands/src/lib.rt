@@ -17,4 +17,4 @@ pub use inputs::Inputs;
 pub use limits::{LONGEST_FILE, LONGEST_TAG};
 pub use output::{OutputPass, write_output};
 pub use sheet::sheet_bytes;
-pub use surveys::{survey_at, survey_input};
+pub use surveys::survey_at;

@@ -1,17 +1,15 @@
 //! The survey of an input of a command.
-ghost use Rattle.std.specs.Prelude.{◌≡◌, ◌≤◌, Bool, List, ℕ, length, Ok, IfOk, IfErr, OnOk};
+ghost use Rattle.std.specs.Prelude.{◌≡◌, ◌≤◌, List, ℕ, length, Ok, IfOk, IfErr, OnOk};
 ghost use Rattle.bit_fields.specs.Bits.{AreBytes};
 ghost use Rattle.outside.specs.Files.{Holds, IsThere};
 ghost use Rattle.outside.specs.Counts.{OnlyReads};
 ghost use Rattle.sync_survey.specs.Faults.{tells};
 ghost use Rattle.sync_survey.specs.Survey.{survey_of, IsLaidOut};
-ghost use Rattle.commands.specs.One.{Making, most_frames, IsFileFault, IsInputFault};
+ghost use Rattle.commands.specs.One.{IsFileFault};
 ghost use Rattle.commands.specs.Kinds.{of_survey as of_survey_lem};
-ghost use Rattle.commands.specs.Left.{seen, IsOfSurvey, IsOfInput};
-ghost use Rattle.commands.specs.declared.fault.Refusal.{Refusal};
+ghost use Rattle.commands.specs.Left.{seen, IsOfSurvey};
 
 use crate::fault::EditFault;
-use frame_header::MOST_FRAMES;
 use outside::Folder;
 use std::alloc::Global;
 use sync_survey::{Survey, SurveyFault, survey};
@@ -58,33 +56,4 @@ pub fn survey_at<D: Folder>(
         Ok(survey) => Ok(survey),
         Err(fault) => Err(of_survey(place, fault)),
     }
-}
-
-/// What is known of the only input of a command, which may have at most 2,900,000 frames.
-///
-/// # Errors
-/// `Input(0, ..)` with the fault of the survey; `Memory`.
-pub fn survey_input<D: Folder>(
-    alloc: Global,
-    folder: &mut D,
-    name: &str,
-) -> Result<Survey, EditFault>
-    ensures there { OnOk result (IsThere (D.files folder.old) name.now) }
-    ensures surveyed { IfOk result (λ s. (bytes : List ℕ)
-        → Holds (D.files folder.old) name.now bytes → survey_of bytes most_frames ≡ Ok (tells s)) }
-    ensures laid { IfOk result (λ s. IsLaidOut (tells s)) }
-    ensures few { IfOk result (λ s. length (tells s).frames ≤ most_frames) }
-    ensures octets { OnOk result ((bytes : List ℕ) → Holds (D.files folder.old) name.now bytes
-        → AreBytes bytes) }
-    // Whatever the command makes of the input.
-    ensures refused { IfErr result (λ fault. (make : Making)
-        → IsInputFault make name.now (seen (D.files folder.old) (D.counts folder.old))
-        (seen (D.files folder.new) (D.counts folder.new)) fault) }
-    ensures numbers { IfErr result (λ fault. (refuses : Refusal → Bool)
-        → IsOfInput refuses fault) }
-    ensures done { OnOk result (D.counts folder.new ≡ D.counts folder.old) }
-    ensures files { D.files folder.new ≡ D.files folder.old }
-    ensures counts { OnlyReads (D.counts folder.old) (D.counts folder.new) }
-{
-    survey_at(alloc, folder, name, 0, MOST_FRAMES)
 }

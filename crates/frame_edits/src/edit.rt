@@ -4,7 +4,7 @@ ghost use Rattle.frame_edits.specs.Choices.{task_of, IsChoice};
 use crate::choice::Choice;
 use crate::plans::{Selection, plan_file};
 use crate::work::Work;
-use commands::{Edit, EditFault, Inputs, survey_input};
+use commands::{Edit, EditFault, Inputs, MOST_FRAMES, survey_at};
 use outside::Folder;
 use std::alloc::Global;
 
@@ -27,7 +27,7 @@ impl<'a> Edit for FrameEdit<'a> {
     }
 
     fn prepare<D: Folder>(&self, alloc: Global, folder: &mut D) -> Result<Work, EditFault> {
-        let survey = survey_input(alloc, folder, self.input)?;
+        let survey = survey_at(alloc, folder, self.input, 0, MOST_FRAMES)?;
         let chosen = self.choice.find(folder, self.input, &survey)?;
         let planned = plan_file(alloc, &survey, &chosen)?;
         let work = Work::new(alloc, survey, Selection { chosen, planned })?;

@@ -3,7 +3,7 @@ ghost use Rattle.gain_edits.specs.Changes.{task_of};
 
 use crate::changes::Changes;
 use crate::work::Work;
-use commands::{Edit, EditFault, Inputs, survey_input};
+use commands::{Edit, EditFault, Inputs, MOST_FRAMES, survey_at};
 use outside::Folder;
 use std::alloc::Global;
 
@@ -26,7 +26,7 @@ impl<'a> Edit for GainEdit<'a> {
     }
 
     fn prepare<D: Folder>(&self, alloc: Global, folder: &mut D) -> Result<Work, EditFault> {
-        let survey = survey_input(alloc, folder, self.input)?;
+        let survey = survey_at(alloc, folder, self.input, 0, MOST_FRAMES)?;
         let change = self.changes.find(alloc, folder, self.input, &survey)?;
         let work = Work::new(alloc, survey, change)?;
         Ok(work)

@@ -6,6 +6,7 @@ use Rattle.commands.specs.declared.fault.EditFault.TheVariants.{Memory}
 use Rattle.commands.specs.Left.{seen}
 use Rattle.moved_gains.specs.Change.{change_in}
 use Rattle.gain_edits.proofs.EditLaws.{work_makes, work_movable}
+use Rattle.commands.proofs.InputLaws.{fault_is_input, of_survey_input}
 use Rattle.commands.proofs.RefusingLaws.{err_with}
 use Rattle.fading.specs.Fade.{fade_refuses, fade_task}
 use Rattle.fading.proofs.FadeLaws.{making_in, input_early, input_numbers, change_early, change_early_behind, change_numbers, fade_makes}
@@ -14,12 +15,12 @@ use Rattle.fading.proofs.edit.FadeEditEdit.prepare.Goals as goal
 pub returns-in_err-survey-clause-refused : goal.returns-in_err-survey-clause-refused
 returns-in_err-survey-clause-refused g c =
     let edit = c.args.self.now in
-    err_with c.from_residual.ensures.1 (input_early edit.sheet.now edit.back edit.input.now _ _ _ (c.in_err-survey.ensures.refused (making_in edit.sheet.now edit.back edit.input.now (g.D.Folder.files c.args.folder.now))))
+    err_with c.from_residual.ensures.1 (input_early edit.sheet.now edit.back edit.input.now _ _ _ (fault_is_input (making_in edit.sheet.now edit.back edit.input.now (g.D.Folder.files c.args.folder.now)) edit.input.now _ _ _ c.in_err-survey.ensures.refused))
 
 pub returns-in_err-survey-clause-numbers : goal.returns-in_err-survey-clause-numbers
 returns-in_err-survey-clause-numbers g c =
     let edit = c.args.self.now in
-    err_with c.from_residual.ensures.1 (input_numbers edit.sheet.now edit.back edit.input.now _ (c.in_err-survey.ensures.numbers fade_refuses))
+    err_with c.from_residual.ensures.1 (input_numbers edit.sheet.now edit.back edit.input.now _ (of_survey_input fade_refuses _ c.in_err-survey.ensures.numbers))
 
 pub returns-in_err-change-clause-refused : goal.returns-in_err-change-clause-refused
 returns-in_err-change-clause-refused g c =
@@ -27,7 +28,7 @@ returns-in_err-change-clause-refused g c =
     let old = seen (g.D.Folder.files c.args.folder.now) (g.D.Folder.counts c.args.folder.now) in
     err_with c.from_residual-in_err-change.ensures.1
     (change_early_behind edit.sheet.now edit.back edit.input.now (tells c.in_ok-survey.survey) old _ c.in_ok-survey.ensures.there c.in_ok-survey.ensures.surveyed _ _
-    (ap₂ seen c.survey_input.ensures.files c.in_ok-survey.ensures.done) c.in_err-change.ensures.refused)
+    (ap₂ seen c.survey_at.ensures.files c.in_ok-survey.ensures.done) c.in_err-change.ensures.refused)
 
 pub returns-in_err-change-clause-numbers : goal.returns-in_err-change-clause-numbers
 returns-in_err-change-clause-numbers g c =
@@ -39,7 +40,7 @@ returns-in_err-work-clause-refused g c =
     let edit = c.args.self.now in
     err_with c.from_residual-in_err-work.ensures.1
     (change_early edit.sheet.now edit.back edit.input.now (tells c.in_ok-survey.survey) (seen (g.D.Folder.files c.args.folder.now) (g.D.Folder.counts c.args.folder.now)) _ c.in_ok-survey.ensures.there c.in_ok-survey.ensures.surveyed Memory
-    (ap₂ seen (c.fade_change.ensures.files ∙ c.survey_input.ensures.files) (c.in_ok-change.ensures.done ∙ c.in_ok-survey.ensures.done)))
+    (ap₂ seen (c.fade_change.ensures.files ∙ c.survey_at.ensures.files) (c.in_ok-change.ensures.done ∙ c.in_ok-survey.ensures.done)))
 
 pub returns-clause-ready : goal.returns-clause-ready
 returns-clause-ready g c =
@@ -50,7 +51,7 @@ returns-clause-making g c =
     let edit = c.args.self.now in
     let files = g.D.Folder.files c.args.folder.now in
     let s = tells c.in_ok-survey.survey in
-    let same = c.survey_input.ensures.files in
+    let same = c.survey_at.ensures.files in
     work_makes c.in_ok-survey.survey c.in_ok-change.change c.in_ok-work.work c.in_ok-work.ensures (fade_task edit.sheet.now edit.back edit.input.now) files
     (fade_makes edit.sheet.now edit.back edit.input.now s files (change_in c.in_ok-change.change s) c.in_ok-survey.ensures.there c.in_ok-survey.ensures.surveyed c.in_ok-survey.ensures.octets
     (subst (λ f. IsThere f edit.sheet.now) same c.in_ok-change.ensures.there)

@@ -7,7 +7,7 @@ use Rattle.sync_survey.specs.Faults.{tells}
 use Rattle.commands.specs.declared.fault.EditFault.TheVariants.{Memory}
 use Rattle.commands.specs.Left.{seen}
 use Rattle.commands.specs.One.{most_frames, IsEarlyFault}
-use Rattle.commands.proofs.InputLaws.{input_is_early, input_numbers, memory_is_input}
+use Rattle.commands.proofs.InputLaws.{fault_is_input, of_survey_input, input_is_early, input_numbers, memory_is_input}
 use Rattle.commands.proofs.RefusingLaws.{err_with}
 use Rattle.frame_edits.specs.declared.plans.Selection.{Selection}
 use Rattle.frame_edits.specs.Chosen.{chosen_in, choosing, stream_chosen}
@@ -21,12 +21,12 @@ use Rattle.frame_edits.proofs.edit.FrameEditEdit.prepare.Goals.{In_ok-chosen}
 pub returns-in_err-survey-clause-refused : goal.returns-in_err-survey-clause-refused
 returns-in_err-survey-clause-refused g c =
     let edit = c.args.self.now in
-    err_with c.from_residual.ensures.1 (input_is_early (choosing (choosing_by edit.choice)) (stream_chosen (choosing_by edit.choice)) (refused_by edit.choice) edit.input.now _ _ _ (c.in_err-survey.ensures.refused (choosing (choosing_by edit.choice))))
+    err_with c.from_residual.ensures.1 (input_is_early (choosing (choosing_by edit.choice)) (stream_chosen (choosing_by edit.choice)) (refused_by edit.choice) edit.input.now _ _ _ (fault_is_input (choosing (choosing_by edit.choice)) edit.input.now _ _ _ c.in_err-survey.ensures.refused))
 
 pub returns-in_err-survey-clause-numbers : goal.returns-in_err-survey-clause-numbers
 returns-in_err-survey-clause-numbers g c =
     let edit = c.args.self.now in
-    err_with c.from_residual.ensures.1 (input_numbers (choosing (choosing_by edit.choice)) (stream_chosen (choosing_by edit.choice)) (refused_by edit.choice) edit.input.now _ (c.in_err-survey.ensures.numbers (refused_by edit.choice)))
+    err_with c.from_residual.ensures.1 (input_numbers (choosing (choosing_by edit.choice)) (stream_chosen (choosing_by edit.choice)) (refused_by edit.choice) edit.input.now _ (of_survey_input (refused_by edit.choice) _ c.in_err-survey.ensures.numbers))
 
 -- want of memory, once the frames were chosen
 forgot : (g : given.Over) (c : In_ok-chosen g) → IsEarlyFault (task_of c.args.self.now.choice c.args.self.now.input.now)
@@ -36,7 +36,7 @@ forgot g c =
     let input = c.args.self.now.input.now in
     input_is_early choosing_it (stream_chosen (choosing_by c.args.self.now.choice)) (refused_by c.args.self.now.choice) input _ _ Memory
     (memory_is_input choosing_it input _ _ (tells c.in_ok-survey.survey) c.in_ok-survey.ensures.there c.in_ok-survey.ensures.surveyed
-    (ap₂ seen (c.find.ensures.files ∙ c.survey_input.ensures.files) (c.in_ok-chosen.ensures.done ∙ c.in_ok-survey.ensures.done)))
+    (ap₂ seen (c.find.ensures.files ∙ c.survey_at.ensures.files) (c.in_ok-chosen.ensures.done ∙ c.in_ok-survey.ensures.done)))
 
 pub returns-in_err-planned-clause-refused : goal.returns-in_err-planned-clause-refused
 returns-in_err-planned-clause-refused g c =
@@ -62,4 +62,4 @@ returns-clause-making g c =
     let selection : Selection = record { chosen = c.in_ok-chosen.chosen; planned = c.in_ok-planned.planned } in
     work_makes c.in_ok-survey.survey selection c.in_ok-work.work c.in_ok-work.ensures (task_of edit.choice edit.input.now) files
     (edit_makes edit.choice edit.input.now s (chosen_in c.in_ok-chosen.chosen) (entries c.in_ok-planned.planned.plan) files c.in_ok-survey.ensures.there c.in_ok-survey.ensures.surveyed c.in_ok-survey.ensures.octets
-    (λ bytes holds. c.in_ok-chosen.ensures.chosen bytes (subst (λ f. Holds f edit.input.now bytes) (sym c.survey_input.ensures.files) holds)) c.in_ok-planned.ensures.plan)
+    (λ bytes holds. c.in_ok-chosen.ensures.chosen bytes (subst (λ f. Holds f edit.input.now bytes) (sym c.survey_at.ensures.files) holds)) c.in_ok-planned.ensures.plan)

@@ -5,7 +5,7 @@ use Rattle.sync_survey.specs.Faults.{tells}
 use Rattle.commands.specs.declared.fault.EditFault.TheVariants.{Memory}
 use Rattle.commands.specs.Left.{seen}
 use Rattle.commands.proofs.RefusingLaws.{err_with}
-use Rattle.commands.proofs.InputLaws.{input_is_early, input_numbers, memory_is_input}
+use Rattle.commands.proofs.InputLaws.{fault_is_input, of_survey_input, input_is_early, input_numbers, memory_is_input}
 use Rattle.moved_gains.specs.Change.{change_in}
 use Rattle.gain_edits.specs.Change.{changing, stream_moved_by}
 use Rattle.gain_edits.specs.Changes.{changing_by, steps_by, refused_by, task_of}
@@ -15,12 +15,12 @@ use Rattle.gain_edits.proofs.edit.GainEditEdit.prepare.Goals as goal
 pub returns-in_err-survey-clause-refused : goal.returns-in_err-survey-clause-refused
 returns-in_err-survey-clause-refused g c =
     let edit = c.args.self.now in
-    err_with c.from_residual.ensures.1 (input_is_early (changing (changing_by edit.changes)) (stream_moved_by (steps_by edit.changes)) (refused_by edit.changes) edit.input.now _ _ _ (c.in_err-survey.ensures.refused (changing (changing_by edit.changes))))
+    err_with c.from_residual.ensures.1 (input_is_early (changing (changing_by edit.changes)) (stream_moved_by (steps_by edit.changes)) (refused_by edit.changes) edit.input.now _ _ _ (fault_is_input (changing (changing_by edit.changes)) edit.input.now _ _ _ c.in_err-survey.ensures.refused))
 
 pub returns-in_err-survey-clause-numbers : goal.returns-in_err-survey-clause-numbers
 returns-in_err-survey-clause-numbers g c =
     let edit = c.args.self.now in
-    err_with c.from_residual.ensures.1 (input_numbers (changing (changing_by edit.changes)) (stream_moved_by (steps_by edit.changes)) (refused_by edit.changes) edit.input.now _ (c.in_err-survey.ensures.numbers (refused_by edit.changes)))
+    err_with c.from_residual.ensures.1 (input_numbers (changing (changing_by edit.changes)) (stream_moved_by (steps_by edit.changes)) (refused_by edit.changes) edit.input.now _ (of_survey_input (refused_by edit.changes) _ c.in_err-survey.ensures.numbers))
 
 pub returns-in_err-work-clause-refused : goal.returns-in_err-work-clause-refused
 returns-in_err-work-clause-refused g c =
@@ -28,7 +28,7 @@ returns-in_err-work-clause-refused g c =
     err_with c.from_residual-in_err-work.ensures.1
     (input_is_early (changing (changing_by edit.changes)) (stream_moved_by (steps_by edit.changes)) (refused_by edit.changes) edit.input.now (seen (g.D.Folder.files c.args.folder.now) (g.D.Folder.counts c.args.folder.now)) _ Memory
     (memory_is_input (changing (changing_by edit.changes)) edit.input.now (seen (g.D.Folder.files c.args.folder.now) (g.D.Folder.counts c.args.folder.now)) _ (tells c.in_ok-survey.survey) c.in_ok-survey.ensures.there c.in_ok-survey.ensures.surveyed
-    (ap₂ seen (c.find.ensures.files ∙ c.survey_input.ensures.files) (c.in_ok-change.ensures.done ∙ c.in_ok-survey.ensures.done))))
+    (ap₂ seen (c.find.ensures.files ∙ c.survey_at.ensures.files) (c.in_ok-change.ensures.done ∙ c.in_ok-survey.ensures.done))))
 
 pub returns-clause-ready : goal.returns-clause-ready
 returns-clause-ready g c =
@@ -41,4 +41,4 @@ returns-clause-making g c =
     let s = tells c.in_ok-survey.survey in
     work_makes c.in_ok-survey.survey c.in_ok-change.change c.in_ok-work.work c.in_ok-work.ensures (task_of edit.changes edit.input.now) files
     (edit_makes edit.changes edit.input.now s (change_in c.in_ok-change.change s) files c.in_ok-survey.ensures.there c.in_ok-survey.ensures.surveyed c.in_ok-survey.ensures.octets
-    (λ bytes holds. c.in_ok-change.ensures.change bytes (subst (λ f. Holds f edit.input.now bytes) (sym c.survey_input.ensures.files) holds)))
+    (λ bytes holds. c.in_ok-change.ensures.change bytes (subst (λ f. Holds f edit.input.now bytes) (sym c.survey_at.ensures.files) holds)))
