@@ -1,11 +1,5 @@
-//! Tests of main data that are laid anew, and of the files that hold them.
+//! Tests of main data that are laid anew, of what frames need for that, and of the files that hold them.
 #![tactic(auto)]
 
 #[cfg(test)]
-mod files;
-#[cfg(test)]
-mod infos;
-#[cfg(test)]
-mod outputs;
-#[cfg(test)]
-mod relays;
+mod tests;

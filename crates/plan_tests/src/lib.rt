@@ -1,7 +1,6 @@
-//! Tests of the plans of slots, and of what frames need of them.
+//! Tests of plans: of parts, of the fewest bytes and from a menu, by hand and by trying every list of slots, and of the curves of
+//! fades.
 #![tactic(auto)]
 
 #[cfg(test)]
-mod needs;
-#[cfg(test)]
-mod plans;
+mod tests;

@@ -1,0 +1,4 @@
+//! Plans that take the fewest bytes.
+mod planned;
+mod search;
+mod worked;

@@ -1,0 +1,4 @@
+//! Plans from a menu of slots.
+mod planned;
+mod search;
+mod worked;

@@ -1,0 +1,41 @@
+//! `plan`, called once it is seen that it may be.
+
+use crate::tests::checked::{all_fit, are_of_one_class, are_within, ascend};
+use crate::tests::rows::{Row, expect_rows};
+use slot_plan::{Need, Plan, Policy, plan};
+use std::alloc::{AllocError, AllocGlobal};
+use std::process::Abort;
+
+/// The plan of these parts.
+pub fn plan_of<R: Abort + AllocGlobal, P: Policy>(
+    rt: &R,
+    needs: &[Need],
+    parts: &[u32],
+    policy: &P,
+) -> Result<Plan, AllocError> {
+    assert!(rt; !needs.is_empty());
+    assert!(rt; needs.len() <= 2_900_000);
+    assert!(rt; !parts.is_empty());
+    assert!(rt; parts.len() <= 64);
+    assert!(rt; parts[0] == 0);
+    assert!(rt; ascend(parts));
+    assert!(rt; are_within(parts, needs.len()));
+    assert!(rt; are_of_one_class(needs));
+    let window = needs[0].header.class().window();
+    assert!(rt; all_fit(window, needs, parts));
+    plan(rt.alloc(), needs, parts, policy)
+}
+
+/// The plan of these parts has these frames.
+pub fn expect_plan<R: Abort + AllocGlobal, P: Policy>(
+    rt: &R,
+    needs: &[Need],
+    parts: &[u32],
+    policy: &P,
+    rows: &[Row],
+    name: &str,
+) -> Result<(), AllocError> {
+    let plan = plan_of(rt, needs, parts, policy)?;
+    expect_rows(rt, needs, plan.placed(), rows, name);
+    Ok(())
+}

@@ -1,0 +1,113 @@
+//! Each plan of a part of at most three frames is the first by trying every list of slots.
+
+use super::planned::plan_of;
+use crate::tests::asked::{Asked, HIGH, LOW, needs_of};
+use crate::tests::checked::fit;
+use crate::tests::lists::{Menu, first_of_all, is_found};
+use frame_header::Slot;
+use slot_plan::{Keep, Least, Need, Policy};
+use std::alloc::{AllocError, AllocGlobal};
+use std::process::Abort;
+use std::test::Fail;
+
+/// Whether the plan is that which is found by trying every list.
+fn is_searched<R: Abort + AllocGlobal, P: Policy>(
+    rt: &R,
+    needs: &[Need],
+    policy: &P,
+    menu: Menu<'_>,
+) -> Result<bool, AllocError> {
+    let plan = plan_of(rt, needs, &[0], policy)?;
+    Ok(is_found(plan.placed(), first_of_all(needs, menu)))
+}
+
+/// Whether the plans are, with the slots that the frames have, and with all.
+fn are_searched<R: Abort + AllocGlobal>(
+    rt: &R,
+    needs: &[Need],
+    slots: &[Slot],
+) -> Result<bool, AllocError> {
+    let own = Menu {
+        slots,
+        is_kept: true,
+    };
+    let any = Menu {
+        slots,
+        is_kept: false,
+    };
+    Ok(is_searched(rt, needs, &Keep, own)? && is_searched(rt, needs, &Least, any)?)
+}
+
+/// Searches where the frames can be laid in their own slots after a whole window; answers whether they can.
+fn searched<R: Abort + AllocGlobal>(
+    rt: &R,
+    frames: &[Asked],
+    number: usize,
+) -> Result<bool, AllocError> {
+    let needs = needs_of(rt.alloc(), frames)?;
+    assert!(rt; !needs.is_empty());
+    let class = needs[0].header.class();
+    if !fit(class.window(), needs.as_slice()) {
+        return Ok(false);
+    }
+    let are_so = are_searched(rt, needs.as_slice(), class.slots().as_slice())?;
+    assert!(rt; are_so, "{} frames, number {number}", frames.len());
+    Ok(true)
+}
+
+/// Silent frames, frames that need a byte or a whole window more than their area, and frames that leave a whole window.
+static FRAMES: [Asked; 9] = [
+    Asked(LOW, 0),
+    Asked(LOW, 12),
+    Asked(LOW, 200),
+    Asked(LOW, 266),
+    Asked(HIGH, 0),
+    Asked(HIGH, 213),
+    Asked(HIGH, 468),
+    Asked(HIGH, 600),
+    Asked(HIGH, 723),
+];
+
+/// How many of the lists of so many frames fit in their slots.
+fn count_searched<R: Abort + AllocGlobal>(
+    rt: &R,
+    length: usize,
+    lists: usize,
+) -> Result<u32, AllocError> {
+    let mut count: u32 = 0;
+    for number in 0..lists {
+        let frames = [
+            FRAMES[number % 9],
+            FRAMES[number / 9 % 9],
+            FRAMES[number / 81 % 9],
+        ];
+        if searched(rt, &frames[..length.min(3)], number)? {
+            count = count.saturating_add(1);
+        }
+    }
+    Ok(count)
+}
+
+#[test]
+fn all_single_frames(rt: HostRuntime) -> Result<(), Fail> {
+    assert!(rt; count_searched(&rt, 1, 9)? == 9, "each fits in its slot");
+    Ok(())
+}
+
+#[test]
+fn all_lists_of_two(rt: HostRuntime) -> Result<(), Fail> {
+    assert!(rt;
+        count_searched(&rt, 2, 81)? == 61,
+        "so many fit in their slots"
+    );
+    Ok(())
+}
+
+#[test]
+fn all_lists_of_three(rt: HostRuntime) -> Result<(), Fail> {
+    assert!(rt;
+        count_searched(&rt, 3, 729)? == 416,
+        "so many fit in their slots"
+    );
+    Ok(())
+}

@@ -1,7 +1,0 @@
--- The areas before i rise from one to the next.
-use Rattle.std.proofs.Common.{ℕ, ◌+◌, ◌<◌, get_or}
-use Rattle.slot_plan.specs.Parts.{areas_with}
-use Rattle.rate_tests.proofs.checked.ascend.Given as goal
-
-abbrev pub invariant-loop-i : goal.invariant-loop-i
-invariant-loop-i l = (k : ℕ) → k + 1 < l.i → get_or (areas_with l.class l.protected l.menu) k 0 < get_or (areas_with l.class l.protected l.menu) (k + 1) 0
