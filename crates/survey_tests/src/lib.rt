@@ -1,9 +1,6 @@
-//! Tests of the survey of a folder's file, of the tag that is read there, and of what a folder may do to both.
+//! Tests of the survey of a folder's file, of the tag that is read there, of what a folder may do to both, and of the reading of
+//! damaged files.
 #![tactic(auto)]
 
 #[cfg(test)]
-mod folders;
-#[cfg(test)]
-mod tags;
-#[cfg(test)]
-mod untold;
+mod tests;

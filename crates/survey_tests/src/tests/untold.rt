@@ -2,7 +2,7 @@
 ghost use Rattle.std.specs.Prelude.{◌≡◌, ◌-◌, length, drop, min};
 ghost use Rattle.outside.specs.Files.{untold, Untold};
 
-use outside::{Failed, FindFault, Folder};
+use outside::{Failed, FindFault, Folder, Tally};
 
 /// A folder that tells nothing. Its one file is found with a length of its own, has these bytes at the first read, and
 /// others later.
@@ -12,8 +12,7 @@ pub struct Untold<'a> {
     pub first: &'a [u8],
     pub later: &'a [u8],
     reads: u64,
-    ends: u64,
-    write_faults: u64,
+    tally: Tally,
 }
 
 impl<'a> Untold<'a> {
@@ -23,8 +22,7 @@ impl<'a> Untold<'a> {
             first,
             later,
             reads: 0,
-            ends: 0,
-            write_faults: 0,
+            tally: Tally::new(),
         }
     }
 
@@ -50,7 +48,7 @@ fn copy_from(content: &[u8], at: u64, into: &mut [u8]) -> usize
 impl<'a> Folder for Untold<'a> {
     ghost files = { λ _. untold };
 
-    ghost counts = { λ folder. record { misses = 0; ends = folder.ends; read_faults = 0; write_faults = folder.write_faults } };
+    ghost counts = { λ folder. folder.tally };
 
     fn find(&mut self, _name: &str) -> Result<u64, FindFault> {
         Ok(self.found)
@@ -65,18 +63,18 @@ impl<'a> Folder for Untold<'a> {
         self.reads = self.reads.saturating_add(1);
         let count = copy_from(content, at, into);
         if count == 0 && !into.is_empty() {
-            self.ends = self.ends.saturating_add(1);
+            self.tally.count_end();
         }
         Ok(count)
     }
 
     fn create(&mut self, _name: &str) -> Result<(), Failed> {
-        self.write_faults = self.write_faults.saturating_add(1);
+        self.tally.count_write_fault();
         Err(Failed)
     }
 
     fn write(&mut self, _name: &str, _bytes: &[u8]) -> Result<usize, Failed> {
-        self.write_faults = self.write_faults.saturating_add(1);
+        self.tally.count_write_fault();
         Err(Failed)
     }
 }

@@ -1,10 +1,10 @@
-//! Small files, and their tags: offsets and bytes are worked out by hand from the layouts of frames and blocks.
+//! The tags of small files: where they are, their bytes, and why they aren't read.
 
-use crate::untold::Untold;
+use super::untold::Untold;
 use file_tag::*;
 use in_memory::{Call, MemFolder};
 use outside::Folder;
-use std::alloc::{AllocError, AllocGlobal, Global};
+use std::alloc::{AllocError, Global};
 use std::process::Abort;
 use std::test::Fail;
 use sync_survey::{SurveyFault, survey};
@@ -51,7 +51,7 @@ struct Found {
 }
 
 /// Why a file has no tag that is read.
-#[derive(Clone, Copy, Debug, PartialEq, Eq)]
+#[derive(Clone, Copy)]
 enum NoTag {
     Survey(SurveyFault),
     Tag(FileTagFault),
@@ -106,32 +106,34 @@ static CASES: [Case; 8] = table! {
     ("none, another block in front", &[ID3V2, FRAME], 34, 0, EMPTY)
 };
 
-/// The tag of a file of these stretches.
-fn tag_in(alloc: Global, parts: &[Stretch]) -> Result<Result<Found, NoTag>, AllocError> {
-    let file = bytes_of(alloc, parts)?;
-    let mut folder = MemFolder::new(alloc);
-    folder.put("a", &file)?;
-    Ok(tag_of(alloc, &mut folder))
+fn put_parts(alloc: Global, folder: &mut MemFolder, parts: &[Stretch]) -> Result<(), AllocError> {
+    folder.put("a", &bytes_of(alloc, parts)?)
 }
 
-fn expect_found<R: Abort>(rt: &R, found: &Found, case: &Case) {
-    assert_eq!(rt; found.place.offset, case.offset, "{}", case.name);
-    assert_eq!(rt; found.place.length, case.length, "{}", case.name);
-    assert_eq!(rt; found.bytes.as_slice(), case.tag, "{}", case.name);
+fn is_found(found: &Found, case: &Case) -> bool {
+    found.place.offset == case.offset
+        && found.place.length == case.length
+        && found.bytes.as_slice() == case.tag
 }
 
-fn expect_tag<R: Abort + AllocGlobal>(rt: &R, case: &Case) -> Result<(), AllocError> {
-    match tag_in(rt.alloc(), case.parts)? {
-        Ok(found) => expect_found(rt, &found, case),
-        Err(reason) => panic!(rt; "{}: {reason:?}", case.name),
+fn has_tag_in(alloc: Global, folder: &mut MemFolder, case: &Case) -> Result<bool, AllocError> {
+    put_parts(alloc, folder, case.parts)?;
+    match tag_of(alloc, folder) {
+        Ok(found) => Ok(is_found(&found, case)),
+        Err(_) => Ok(false),
     }
-    Ok(())
+}
+
+/// Whether the case's tag is read.
+fn has_tag(alloc: Global, case: &Case) -> Result<bool, AllocError> {
+    let mut folder = MemFolder::new(alloc);
+    has_tag_in(alloc, &mut folder, case)
 }
 
 #[test]
 fn tags(rt: HostRuntime) -> Result<(), Fail> {
     for case in &CASES {
-        expect_tag(&rt, case)?;
+        assert!(rt; has_tag(rt.alloc(), case)?, "{}", case.name);
     }
     Ok(())
 }
@@ -144,12 +146,20 @@ fn first_offset<D: Folder>(alloc: Global, folder: &mut D) -> Option<u64> {
     }
 }
 
+fn first_offset_in(
+    alloc: Global,
+    folder: &mut MemFolder,
+    parts: &[Stretch],
+) -> Result<Option<u64>, AllocError> {
+    put_parts(alloc, folder, parts)?;
+    Ok(first_offset(alloc, folder))
+}
+
 #[test]
 fn first_tags(rt: HostRuntime) -> Result<(), Fail> {
-    let file = bytes_of(rt.alloc(), &[ID3V2, FRAME, APE])?;
     let mut folder = MemFolder::new(rt.alloc());
-    folder.put("a", &file)?;
-    assert_eq!(rt; first_offset(rt.alloc(), &mut folder), Some(34));
+    let offset = first_offset_in(rt.alloc(), &mut folder, &[ID3V2, FRAME, APE]);
+    assert!(rt; offset == Ok(Some(34)));
     Ok(())
 }
 
@@ -179,21 +189,46 @@ static REFUSED: [Refused; 4] = table! {
         FileTagFault::TooLarge(1_048_577))
 };
 
-/// Why no tag of a file of these stretches is read, where none is.
-fn reason_in(alloc: Global, parts: &[Stretch]) -> Result<Option<NoTag>, AllocError> {
-    match tag_in(alloc, parts)? {
-        Ok(_) => Ok(None),
-        Err(reason) => Ok(Some(reason)),
+/// Whether a tag isn't read for this reason.
+fn is_for(reason: Option<NoTag>, wanted: FileTagFault) -> bool {
+    match reason {
+        Some(NoTag::Tag(fault)) => fault == wanted,
+        _ => false,
     }
+}
+
+fn is_refused_in(
+    alloc: Global,
+    folder: &mut MemFolder,
+    refused: &Refused,
+) -> Result<bool, AllocError> {
+    put_parts(alloc, folder, refused.parts)?;
+    Ok(is_for(no_tag_of(alloc, folder), refused.fault))
+}
+
+/// Whether the case's tag isn't read for its reason.
+fn is_refused(alloc: Global, refused: &Refused) -> Result<bool, AllocError> {
+    let mut folder = MemFolder::new(alloc);
+    is_refused_in(alloc, &mut folder, refused)
 }
 
 #[test]
 fn tags_at_fault(rt: HostRuntime) -> Result<(), Fail> {
     for refused in &REFUSED {
-        let reason = reason_in(rt.alloc(), refused.parts)?;
-        assert_eq!(rt; reason, Some(NoTag::Tag(refused.fault)), "{}", refused.name);
+        assert!(rt; is_refused(rt.alloc(), refused)?, "{}", refused.name);
     }
     Ok(())
+}
+
+fn reason_in(
+    alloc: Global,
+    folder: &mut MemFolder,
+    file: &[u8],
+    number: u64,
+) -> Result<Option<NoTag>, AllocError> {
+    folder.put("a", file)?;
+    folder.fail(Call::Read, number)?;
+    Ok(no_tag_of(alloc, folder))
 }
 
 /// Why no tag is read where this read fails.
@@ -203,26 +238,33 @@ fn reason_where_it_fails(
     number: u64,
 ) -> Result<Option<NoTag>, AllocError> {
     let mut folder = MemFolder::new(alloc);
-    folder.put("a", file)?;
-    folder.fail(Call::Read, number)?;
-    Ok(no_tag_of(alloc, &mut folder))
+    reason_in(alloc, &mut folder, file, number)
 }
 
-/// Lets each read fail in turn: those of the survey, and then the one of the tag.
+/// Whether a read that fails is told: those of the survey, then the one of the tag, and then there are no more.
+fn are_told(alloc: Global, file: &[u8]) -> Result<bool, AllocError> {
+    let mut is_refused = false;
+    for number in 1..10 {
+        let is_told = match reason_where_it_fails(alloc, file, number)? {
+            Some(NoTag::Tag(fault)) => {
+                is_refused = true;
+                fault == FileTagFault::Read
+            }
+            Some(NoTag::Survey(fault)) => fault == SurveyFault::Read,
+            None => is_refused,
+        };
+        if !is_told {
+            return Ok(false);
+        }
+    }
+    Ok(is_refused)
+}
+
+/// Lets each read fail in turn.
 #[test]
 fn reads_that_fail(rt: HostRuntime) -> Result<(), Fail> {
     let file = bytes_of(rt.alloc(), &[FRAME, APE])?;
-    let mut is_refused = false;
-    for number in 1..10 {
-        match reason_where_it_fails(rt.alloc(), &file, number)? {
-            Some(NoTag::Tag(fault)) => {
-                assert_eq!(rt; fault, FileTagFault::Read);
-                is_refused = true;
-            }
-            Some(NoTag::Survey(fault)) => assert_eq!(rt; fault, SurveyFault::Read),
-            None => assert!(rt; is_refused),
-        }
-    }
+    assert!(rt; are_told(rt.alloc(), &file)?);
     Ok(())
 }
 
@@ -240,22 +282,18 @@ static CHANGED: [Changed; 4] = table! {
     (&[FRAME, EMPTY_BLOCK, FRAME], FileTagFault::Bad(24))
 };
 
-fn reason_of_change(
-    alloc: Global,
-    first: &[u8],
-    changed: &Changed,
-) -> Result<Option<NoTag>, AllocError> {
+/// Whether the tag of the changed file isn't read for its reason.
+fn is_seen(alloc: Global, first: &[u8], changed: &Changed) -> Result<bool, AllocError> {
     let later = bytes_of(alloc, changed.later)?;
     let mut folder = Untold::new(first.len() as u64, first, &later);
-    Ok(no_tag_of(alloc, &mut folder))
+    Ok(is_for(no_tag_of(alloc, &mut folder), changed.fault))
 }
 
 #[test]
 fn a_file_that_changes(rt: HostRuntime) -> Result<(), Fail> {
     let first = bytes_of(rt.alloc(), &[FRAME, APE])?;
-    for changed in &CHANGED {
-        let reason = reason_of_change(rt.alloc(), &first, changed)?;
-        assert_eq!(rt; reason, Some(NoTag::Tag(changed.fault)));
+    for (number, changed) in CHANGED.iter().enumerate() {
+        assert!(rt; is_seen(rt.alloc(), &first, changed)?, "row {number}");
     }
     Ok(())
 }
