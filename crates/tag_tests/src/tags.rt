@@ -7,6 +7,7 @@ mod tags;
 mod undo;
 
 use byteorder::{ByteOrder, LittleEndian};
+use std::process::Abort;
 use tag_blocks::*;
 use test_files::table;
 
@@ -38,14 +39,17 @@ static BLOCKS: [Begins; 9] = table! {
         Kind::Ape, 4_294_967_327)
 };
 
+fn is_block(case: &Begins) -> bool {
+    match block_at(case.front) {
+        Some(block) => block.kind == case.kind && block.length == case.length,
+        None => false,
+    }
+}
+
 #[test]
 fn blocks(rt: HostRuntime) {
     for case in &BLOCKS {
-        let wanted = Block {
-            kind: case.kind,
-            length: case.length,
-        };
-        assert_eq!(rt; block_at(case.front), Some(wanted), "{}", case.what);
+        assert!(rt; is_block(case), "{}", case.what);
     }
 }
 
@@ -85,7 +89,7 @@ static OTHERS: [Other; 17] = table! {
 #[test]
 fn bytes_of_no_block(rt: HostRuntime) {
     for case in &OTHERS {
-        assert_eq!(rt; block_at(case.front), None, "{}", case.what);
+        assert!(rt; block_at(case.front).is_none(), "{}", case.what);
     }
 }
 
@@ -101,6 +105,6 @@ fn bytes_of_number(four: [u8; 4]) -> [u8; 4]
 #[test]
 fn numbers_come_back(rt: HostRuntime) {
     let version = [0xd0, 0x07, 0x00, 0x00];
-    assert_eq!(rt; LittleEndian::read_u32(&version), 2000);
-    assert_eq!(rt; bytes_of_number(version), version);
+    assert!(rt; LittleEndian::read_u32(&version) == 2000);
+    assert!(rt; bytes_of_number(version) == version);
 }

@@ -1,6 +1,7 @@
 //! Sheets and their starts, worked out by hand: `(60 * mm + ss) * 75 + ff`.
 
 use cue_sheet::{Cue, CueFault, Place};
+use std::alloc::{AllocError, Global};
 use std::process::Abort;
 use std::test::Fail;
 use test_files::table;
@@ -35,12 +36,25 @@ static SHEETS: [Sheet; 8] = table! {
         &[Place::Time(0, 75)])
 };
 
+/// Whether the sheet is read, and its tracks begin there.
+fn has_starts(alloc: Global, text: &[u8], starts: &[Place]) -> bool {
+    if text.len() > 65_536 {
+        return false;
+    }
+    match Cue::read(alloc, text) {
+        Ok(cue) => cue.starts() == starts,
+        Err(_) => false,
+    }
+}
+
 #[test]
 fn sheets(rt: HostRuntime) -> Result<(), Fail> {
     for sheet in &SHEETS {
-        assert!(rt; sheet.text.len() <= 65_536);
-        let cue = Cue::read(rt.alloc(), sheet.text)?;
-        assert_eq!(rt; cue.starts(), sheet.starts, "{}", sheet.what);
+        assert!(rt;
+            has_starts(rt.alloc(), sheet.text, sheet.starts),
+            "{}",
+            sheet.what
+        );
     }
     Ok(())
 }
@@ -72,14 +86,24 @@ static REFUSED: [Refused; 18] = table! {
     (b"", CueFault::NoTracks)
 };
 
+/// Whether the sheet isn't read for this fault.
+fn has_fault(alloc: Global, text: &[u8], fault: CueFault) -> bool {
+    if text.len() > 65_536 {
+        return false;
+    }
+    match Cue::read(alloc, text) {
+        Ok(_) => false,
+        Err(found) => found == fault,
+    }
+}
+
 #[test]
 fn first_faults(rt: HostRuntime) -> Result<(), Fail> {
-    for refused in &REFUSED {
-        assert!(rt; refused.text.len() <= 65_536);
-        match Cue::read(rt.alloc(), refused.text) {
-            Ok(_) => assert!(rt; false),
-            Err(fault) => assert_eq!(rt; fault, refused.fault),
-        }
+    for (number, refused) in REFUSED.iter().enumerate() {
+        assert!(rt;
+            has_fault(rt.alloc(), refused.text, refused.fault),
+            "row {number}"
+        );
     }
     Ok(())
 }
@@ -90,23 +114,37 @@ fn a_hundredth_track(rt: HostRuntime) -> Result<(), Fail> {
     for _ in 0..100 {
         sheet.extend_from_slice(b"TRACK 99 AUDIO\n")?;
     }
-    assert!(rt; sheet.len() <= 65_536);
-    assert!(rt; matches!(Cue::read(rt.alloc(), &sheet), Err(CueFault::Line(100))));
+    assert!(rt; has_fault(rt.alloc(), &sheet, CueFault::Line(100)));
     Ok(())
 }
 
-// Each of the 99 tracks that a sheet may have starts a minute after the one before it.
-#[test]
-fn ninety_nine_tracks(rt: HostRuntime) -> Result<(), Fail> {
-    let mut sheet: Vec<u8> = Vec::new(rt.alloc());
+/// A sheet of 99 tracks, each of which starts a minute after the one before it.
+fn sheet_of_99(alloc: Global) -> Result<Vec<u8>, AllocError> {
+    let mut sheet: Vec<u8> = Vec::new(alloc);
     for minute in 0..99u8 {
         sheet.extend_from_slice(b"TRACK 01 AUDIO\nINDEX 01 ")?;
         sheet.extend_from_slice(&[b'0' + minute / 10, b'0' + minute % 10])?;
         sheet.extend_from_slice(b":00:00\n")?;
     }
-    assert!(rt; sheet.len() <= 65_536);
-    let cue = Cue::read(rt.alloc(), &sheet)?;
-    assert_eq!(rt; cue.starts().len(), 99);
-    assert_eq!(rt; cue.starts().last(), Some(&Place::Time(98 * 60 * 75, 75)));
+    Ok(sheet)
+}
+
+fn has_99(alloc: Global, text: &[u8]) -> bool {
+    if text.len() > 65_536 {
+        return false;
+    }
+    match Cue::read(alloc, text) {
+        Ok(cue) => {
+            cue.starts().len() == 99 && cue.starts().last() == Some(&Place::Time(98 * 60 * 75, 75))
+        }
+        Err(_) => false,
+    }
+}
+
+/// As many tracks as a sheet may have.
+#[test]
+fn ninety_nine_tracks(rt: HostRuntime) -> Result<(), Fail> {
+    let sheet = sheet_of_99(rt.alloc())?;
+    assert!(rt; has_99(rt.alloc(), &sheet));
     Ok(())
 }

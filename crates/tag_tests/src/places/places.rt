@@ -35,7 +35,7 @@ static OTHERS: [&'static str; 20] = [
 #[test]
 fn words(rt: HostRuntime) -> Result<(), Fail> {
     for word in &WORDS {
-        assert_eq!(rt; Place::read(word.text), word.says);
+        assert!(rt; Place::read(word.text) == word.says, "{}", word.text);
     }
     Ok(())
 }
@@ -43,7 +43,7 @@ fn words(rt: HostRuntime) -> Result<(), Fail> {
 #[test]
 fn words_that_say_no_place(rt: HostRuntime) -> Result<(), Fail> {
     for word in &OTHERS {
-        assert_eq!(rt; Place::read(word), None);
+        assert!(rt; Place::read(word).is_none(), "{word}");
     }
     Ok(())
 }
@@ -78,13 +78,17 @@ fn frames_of_places(rt: HostRuntime) -> Result<(), Fail> {
             frequency_index: at.frequency_index,
             channels: 2,
         };
-        assert_eq!(rt; at.place.frame_of(class, 100), at.frame);
+        assert!(rt;
+            at.place.frame_of(class, 100) == at.frame,
+            "frame {}",
+            at.frame
+        );
     }
     Ok(())
 }
 
 #[test]
 fn without_more_the_end(rt: HostRuntime) -> Result<(), Fail> {
-    assert_eq!(rt; Place::default(), Place::End);
+    assert!(rt; Place::default() == Place::End);
     Ok(())
 }

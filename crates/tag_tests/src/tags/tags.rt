@@ -5,225 +5,117 @@ use std::alloc::Global;
 use std::process::Abort;
 use std::test::Fail;
 use tag_blocks::{Block, Kind, Tag, TagFault, Undo, UndoItem, block_at};
-use test_files::table;
+use test_files::texts::{TextFault, bytes_of_words, define};
+
+/// The parts of tags. An end has a text, a version, the size of all items and the footer, the count of items, flags, and 8 zero
+/// bytes; an item has the size of its value, flags, and its key with a zero byte behind it.
+static NAMES: &str = "\
+HEAD = 'APETAGEX' d0070000 2f000000 01000000 000000a0 0000000000000000
+FOOT = 'APETAGEX' d0070000 2f000000 01000000 00000080 0000000000000000
+HEAD_OF_2 = HEAD@16=02
+FOOT_OF_2 = FOOT@16=02
+HEAD_OF_3 = HEAD@16=03
+FOOT_OF_3 = FOOT@16=03
+AMID_HEAD = 'APETAGEX' d0070000 6d000000 03000000 010000e0 0000000000000000
+AMID_FOOT = 'APETAGEX' d0070000 6d000000 03000000 020000c0 0000000000000000
+DROPPED_HEAD = 'APETAGEX' d0070000 4d000000 02000000 010000e0 0000000000000000
+DROPPED_FOOT = 'APETAGEX' d0070000 4d000000 02000000 020000c0 0000000000000000
+LONG_HEAD = 'APETAGEX' d0070000 29010000 01000000 000000a0 0000000000000000
+LONG_FOOT = 'APETAGEX' d0070000 29010000 01000000 00000080 0000000000000000
+TITLE = 01000000 00000000 'Title' 00 'a'
+MINMAX = 07000000 00000000 'MP3GAIN' 5f 'MINMAX' 00 '089,210'
+UNDO = 0b000000 00000000 'MP3GAIN' 5f 'UNDO' 00
+OTHER_UNDO = 0b000000 02000000 'mp3gain' 5f 'Undo' 00";
 
 /// A tag that has only the undo item: -1 step left and right, with `W`. Header, item of 32 bytes and footer.
-static ALONE: &[u8] = b"\
-    APETAGEX\xd0\x07\x00\x00\x40\x00\x00\x00\
-    \x01\x00\x00\x00\x00\x00\x00\xa0\x00\x00\x00\x00\x00\x00\x00\x00\
-    \x0b\x00\x00\x00\x00\x00\x00\x00MP3GAIN_UNDO\x00-001,-001,W\
-    APETAGEX\xd0\x07\x00\x00\x40\x00\x00\x00\
-    \x01\x00\x00\x00\x00\x00\x00\x80\x00\x00\x00\x00\x00\x00\x00\x00";
+const ALONE: &str = "HEAD@12=40 UNDO '-001,-001,W' FOOT@12=40";
 
 /// A tag whose undo item has its key in another case and flags of its own, with an item before it (15 bytes) and one
 /// after it (30 bytes), and other flags of header and footer.
-static AMID: &[u8] = b"\
-    APETAGEX\xd0\x07\x00\x00\x6d\x00\x00\x00\
-    \x03\x00\x00\x00\x01\x00\x00\xe0\x00\x00\x00\x00\x00\x00\x00\x00\
-    \x01\x00\x00\x00\x00\x00\x00\x00Title\x00a\
-    \x0b\x00\x00\x00\x02\x00\x00\x00mp3gain_Undo\x00+003,-004,N\
-    \x07\x00\x00\x00\x00\x00\x00\x00MP3GAIN_MINMAX\x00089,210\
-    APETAGEX\xd0\x07\x00\x00\x6d\x00\x00\x00\
-    \x03\x00\x00\x00\x02\x00\x00\xc0\x00\x00\x00\x00\x00\x00\x00\x00";
+const AMID: &str = "AMID_HEAD TITLE OTHER_UNDO '+003,-004,N' MINMAX AMID_FOOT";
 
 /// The same with -997 left, 999 right and `W`.
-static AMID_CHANGED: &[u8] = b"\
-    APETAGEX\xd0\x07\x00\x00\x6d\x00\x00\x00\
-    \x03\x00\x00\x00\x01\x00\x00\xe0\x00\x00\x00\x00\x00\x00\x00\x00\
-    \x01\x00\x00\x00\x00\x00\x00\x00Title\x00a\
-    \x0b\x00\x00\x00\x02\x00\x00\x00mp3gain_Undo\x00-997,+999,W\
-    \x07\x00\x00\x00\x00\x00\x00\x00MP3GAIN_MINMAX\x00089,210\
-    APETAGEX\xd0\x07\x00\x00\x6d\x00\x00\x00\
-    \x03\x00\x00\x00\x02\x00\x00\xc0\x00\x00\x00\x00\x00\x00\x00\x00";
+const AMID_CHANGED: &str = "AMID_HEAD TITLE OTHER_UNDO '-997,+999,W' MINMAX AMID_FOOT";
 
 /// The same without the undo item.
-static AMID_DROPPED: &[u8] = b"\
-    APETAGEX\xd0\x07\x00\x00\x4d\x00\x00\x00\
-    \x02\x00\x00\x00\x01\x00\x00\xe0\x00\x00\x00\x00\x00\x00\x00\x00\
-    \x01\x00\x00\x00\x00\x00\x00\x00Title\x00a\
-    \x07\x00\x00\x00\x00\x00\x00\x00MP3GAIN_MINMAX\x00089,210\
-    APETAGEX\xd0\x07\x00\x00\x4d\x00\x00\x00\
-    \x02\x00\x00\x00\x02\x00\x00\xc0\x00\x00\x00\x00\x00\x00\x00\x00";
+const AMID_DROPPED: &str = "DROPPED_HEAD TITLE MINMAX DROPPED_FOOT";
 
 /// The same without the undo item, and then with a new one.
-static AMID_NEW: &[u8] = b"\
-    APETAGEX\xd0\x07\x00\x00\x6d\x00\x00\x00\
-    \x03\x00\x00\x00\x01\x00\x00\xe0\x00\x00\x00\x00\x00\x00\x00\x00\
-    \x01\x00\x00\x00\x00\x00\x00\x00Title\x00a\
-    \x07\x00\x00\x00\x00\x00\x00\x00MP3GAIN_MINMAX\x00089,210\
-    \x0b\x00\x00\x00\x00\x00\x00\x00MP3GAIN_UNDO\x00-001,-001,W\
-    APETAGEX\xd0\x07\x00\x00\x6d\x00\x00\x00\
-    \x03\x00\x00\x00\x02\x00\x00\xc0\x00\x00\x00\x00\x00\x00\x00\x00";
+const AMID_NEW: &str = "AMID_HEAD TITLE MINMAX UNDO '-001,-001,W' AMID_FOOT";
 
 /// A tag whose undo item is after another item, and has a value of 10 bytes.
-static BAD_UNDO: &[u8] = b"\
-    APETAGEX\xd0\x07\x00\x00\x4e\x00\x00\x00\
-    \x02\x00\x00\x00\x00\x00\x00\xa0\x00\x00\x00\x00\x00\x00\x00\x00\
-    \x01\x00\x00\x00\x00\x00\x00\x00Title\x00a\
-    \x0a\x00\x00\x00\x00\x00\x00\x00MP3GAIN_UNDO\x00+00,+000,N\
-    APETAGEX\xd0\x07\x00\x00\x4e\x00\x00\x00\
-    \x02\x00\x00\x00\x00\x00\x00\x80\x00\x00\x00\x00\x00\x00\x00\x00";
+const BAD_UNDO: &str =
+    "HEAD_OF_2@12=4e TITLE 0a000000 00000000 'MP3GAIN' 5f 'UNDO' 00 '+00,+000,N' FOOT_OF_2@12=4e";
 
-/// A block that is no tag, and the place of its first fault.
-struct Faulty {
-    what: &'static str,
-    block: &'static [u8],
-    place: u64,
+/// What is wrong with a block, the place of its first fault, and its bytes.
+static FAULTS: &str = "\
+a byte of the header that has to be zero: 24: HEAD@31=01 TITLE FOOT
+a key of one character: 47: HEAD_OF_2@12=3b TITLE 02000000 00000000 'x' 00 'ab' FOOT_OF_2@12=3b
+a key without a zero byte behind it: 47: HEAD_OF_2@12=3a TITLE 01000000 00000000 'xyz' FOOT_OF_2@12=3a
+a key with a character 1f: 32: HEAD_OF_2@12=3d 02000000 00000000 'a' 1f 'b' 00 'ab' TITLE FOOT_OF_2@12=3d
+a key of 256 characters: 32: LONG_HEAD 00000000 00000000 6b*256 00 LONG_FOOT
+a value that passes the footer by one byte: 47: HEAD_OF_2@12=3e TITLE 04000000 00000000 'key' 00 'abc' FOOT_OF_2@12=3e
+a second undo item: 79: HEAD_OF_3@12=6f UNDO '-001,-001,W' TITLE OTHER_UNDO '+003,-004,N' FOOT_OF_3@12=6f
+fewer items than the header counts: 47: HEAD_OF_2 TITLE FOOT_OF_2
+more items than the header counts: 47: HEAD@12=4d TITLE MINMAX FOOT@12=4d
+another text in the footer: 47: HEAD TITLE FOOT@7=59
+version 1000 in the footer: 47: HEAD TITLE 'APETAGEX' e8030000 2f000000 01000000 00000080 0000000000000000
+another size in the footer: 47: HEAD TITLE FOOT@12=0f
+another count in the footer: 47: HEAD TITLE FOOT@16=02
+a header's flag in the footer: 47: HEAD TITLE FOOT@23=a0
+a byte of the footer that has to be zero: 47: HEAD TITLE FOOT@24=01";
+
+/// The bytes of these words.
+fn bytes_of(alloc: Global, words: &'static str) -> Result<Vec<u8>, TextFault> {
+    let mut names = Vec::new(alloc);
+    for line in NAMES.lines() {
+        define(alloc, &mut names, line)?;
+    }
+    bytes_of_words(alloc, &names, words)
 }
 
-static FAULTY: [Faulty; 15] = table! {
-    Faulty { what, block, place }
-    ("a byte of the header that has to be zero",
-        b"\
-            APETAGEX\xd0\x07\x00\x00\x2f\x00\x00\x00\
-            \x01\x00\x00\x00\x00\x00\x00\xa0\x00\x00\x00\x00\x00\x00\x00\x01\
-            \x01\x00\x00\x00\x00\x00\x00\x00Title\x00a\
-            APETAGEX\xd0\x07\x00\x00\x2f\x00\x00\x00\
-            \x01\x00\x00\x00\x00\x00\x00\x80\x00\x00\x00\x00\x00\x00\x00\x00",
-        24)
-    ("a key of one character",
-        b"\
-            APETAGEX\xd0\x07\x00\x00\x3b\x00\x00\x00\
-            \x02\x00\x00\x00\x00\x00\x00\xa0\x00\x00\x00\x00\x00\x00\x00\x00\
-            \x01\x00\x00\x00\x00\x00\x00\x00Title\x00a\
-            \x02\x00\x00\x00\x00\x00\x00\x00x\x00ab\
-            APETAGEX\xd0\x07\x00\x00\x3b\x00\x00\x00\
-            \x02\x00\x00\x00\x00\x00\x00\x80\x00\x00\x00\x00\x00\x00\x00\x00",
-        47)
-    ("a key without a zero byte behind it",
-        b"\
-            APETAGEX\xd0\x07\x00\x00\x3a\x00\x00\x00\
-            \x02\x00\x00\x00\x00\x00\x00\xa0\x00\x00\x00\x00\x00\x00\x00\x00\
-            \x01\x00\x00\x00\x00\x00\x00\x00Title\x00a\
-            \x01\x00\x00\x00\x00\x00\x00\x00xyz\
-            APETAGEX\xd0\x07\x00\x00\x3a\x00\x00\x00\
-            \x02\x00\x00\x00\x00\x00\x00\x80\x00\x00\x00\x00\x00\x00\x00\x00",
-        47)
-    ("a key with a character 1f",
-        b"\
-            APETAGEX\xd0\x07\x00\x00\x3d\x00\x00\x00\
-            \x02\x00\x00\x00\x00\x00\x00\xa0\x00\x00\x00\x00\x00\x00\x00\x00\
-            \x02\x00\x00\x00\x00\x00\x00\x00a\x1fb\x00ab\
-            \x01\x00\x00\x00\x00\x00\x00\x00Title\x00a\
-            APETAGEX\xd0\x07\x00\x00\x3d\x00\x00\x00\
-            \x02\x00\x00\x00\x00\x00\x00\x80\x00\x00\x00\x00\x00\x00\x00\x00",
-        32)
-    ("a key of 256 characters",
-        b"\
-            APETAGEX\xd0\x07\x00\x00)\x01\x00\x00\
-            \x01\x00\x00\x00\x00\x00\x00\xa0\x00\x00\x00\x00\x00\x00\x00\x00\
-            \x00\x00\x00\x00\x00\x00\x00\x00kkkkkkkkkkkkkkkkkkkkkkkkkkkkkkkkkkkkkkkkkkkkkkkkkkkkkkkkkkkk\
-            kkkkkkkkkkkkkkkkkkkkkkkkkkkkkkkkkkkkkkkkkkkkkkkkkkkkkkkkkkkkkkkkkkkkkkkkkkkkkkkkkkkkkkkkkkkk\
-            kkkkkkkkkkkkkkkkkkkkkkkkkkkkkkkkkkkkkkkkkkkkkkkkkkkkkkkkkkkkkkkkkkkkkkkkkkkkkkkkkkkkkkkkkkkk\
-            kkkkkkkkkkkk\x00\
-            APETAGEX\xd0\x07\x00\x00)\x01\x00\x00\
-            \x01\x00\x00\x00\x00\x00\x00\x80\x00\x00\x00\x00\x00\x00\x00\x00",
-        32)
-    ("a value that passes the footer by one byte",
-        b"\
-            APETAGEX\xd0\x07\x00\x00\x3e\x00\x00\x00\
-            \x02\x00\x00\x00\x00\x00\x00\xa0\x00\x00\x00\x00\x00\x00\x00\x00\
-            \x01\x00\x00\x00\x00\x00\x00\x00Title\x00a\
-            \x04\x00\x00\x00\x00\x00\x00\x00key\x00abc\
-            APETAGEX\xd0\x07\x00\x00\x3e\x00\x00\x00\
-            \x02\x00\x00\x00\x00\x00\x00\x80\x00\x00\x00\x00\x00\x00\x00\x00",
-        47)
-    ("a second undo item",
-        b"\
-            APETAGEX\xd0\x07\x00\x00\x6f\x00\x00\x00\
-            \x03\x00\x00\x00\x00\x00\x00\xa0\x00\x00\x00\x00\x00\x00\x00\x00\
-            \x0b\x00\x00\x00\x00\x00\x00\x00MP3GAIN_UNDO\x00-001,-001,W\
-            \x01\x00\x00\x00\x00\x00\x00\x00Title\x00a\
-            \x0b\x00\x00\x00\x02\x00\x00\x00mp3gain_Undo\x00+003,-004,N\
-            APETAGEX\xd0\x07\x00\x00\x6f\x00\x00\x00\
-            \x03\x00\x00\x00\x00\x00\x00\x80\x00\x00\x00\x00\x00\x00\x00\x00",
-        79)
-    ("fewer items than the header counts",
-        b"\
-            APETAGEX\xd0\x07\x00\x00\x2f\x00\x00\x00\
-            \x02\x00\x00\x00\x00\x00\x00\xa0\x00\x00\x00\x00\x00\x00\x00\x00\
-            \x01\x00\x00\x00\x00\x00\x00\x00Title\x00a\
-            APETAGEX\xd0\x07\x00\x00\x2f\x00\x00\x00\
-            \x02\x00\x00\x00\x00\x00\x00\x80\x00\x00\x00\x00\x00\x00\x00\x00",
-        47)
-    ("more items than the header counts",
-        b"\
-            APETAGEX\xd0\x07\x00\x00\x4d\x00\x00\x00\
-            \x01\x00\x00\x00\x00\x00\x00\xa0\x00\x00\x00\x00\x00\x00\x00\x00\
-            \x01\x00\x00\x00\x00\x00\x00\x00Title\x00a\
-            \x07\x00\x00\x00\x00\x00\x00\x00MP3GAIN_MINMAX\x00089,210\
-            APETAGEX\xd0\x07\x00\x00\x4d\x00\x00\x00\
-            \x01\x00\x00\x00\x00\x00\x00\x80\x00\x00\x00\x00\x00\x00\x00\x00",
-        47)
-    ("another text in the footer",
-        b"\
-            APETAGEX\xd0\x07\x00\x00\x2f\x00\x00\x00\
-            \x01\x00\x00\x00\x00\x00\x00\xa0\x00\x00\x00\x00\x00\x00\x00\x00\
-            \x01\x00\x00\x00\x00\x00\x00\x00Title\x00a\
-            APETAGEY\xd0\x07\x00\x00\x2f\x00\x00\x00\
-            \x01\x00\x00\x00\x00\x00\x00\x80\x00\x00\x00\x00\x00\x00\x00\x00",
-        47)
-    ("version 1000 in the footer",
-        b"\
-            APETAGEX\xd0\x07\x00\x00\x2f\x00\x00\x00\
-            \x01\x00\x00\x00\x00\x00\x00\xa0\x00\x00\x00\x00\x00\x00\x00\x00\
-            \x01\x00\x00\x00\x00\x00\x00\x00Title\x00a\
-            APETAGEX\xe8\x03\x00\x00\x2f\x00\x00\x00\
-            \x01\x00\x00\x00\x00\x00\x00\x80\x00\x00\x00\x00\x00\x00\x00\x00",
-        47)
-    ("another size in the footer",
-        b"\
-            APETAGEX\xd0\x07\x00\x00\x2f\x00\x00\x00\
-            \x01\x00\x00\x00\x00\x00\x00\xa0\x00\x00\x00\x00\x00\x00\x00\x00\
-            \x01\x00\x00\x00\x00\x00\x00\x00Title\x00a\
-            APETAGEX\xd0\x07\x00\x00\x0f\x00\x00\x00\
-            \x01\x00\x00\x00\x00\x00\x00\x80\x00\x00\x00\x00\x00\x00\x00\x00",
-        47)
-    ("another count in the footer",
-        b"\
-            APETAGEX\xd0\x07\x00\x00\x2f\x00\x00\x00\
-            \x01\x00\x00\x00\x00\x00\x00\xa0\x00\x00\x00\x00\x00\x00\x00\x00\
-            \x01\x00\x00\x00\x00\x00\x00\x00Title\x00a\
-            APETAGEX\xd0\x07\x00\x00\x2f\x00\x00\x00\
-            \x02\x00\x00\x00\x00\x00\x00\x80\x00\x00\x00\x00\x00\x00\x00\x00",
-        47)
-    ("a header's flag in the footer",
-        b"\
-            APETAGEX\xd0\x07\x00\x00\x2f\x00\x00\x00\
-            \x01\x00\x00\x00\x00\x00\x00\xa0\x00\x00\x00\x00\x00\x00\x00\x00\
-            \x01\x00\x00\x00\x00\x00\x00\x00Title\x00a\
-            APETAGEX\xd0\x07\x00\x00\x2f\x00\x00\x00\
-            \x01\x00\x00\x00\x00\x00\x00\xa0\x00\x00\x00\x00\x00\x00\x00\x00",
-        47)
-    ("a byte of the footer that has to be zero",
-        b"\
-            APETAGEX\xd0\x07\x00\x00\x2f\x00\x00\x00\
-            \x01\x00\x00\x00\x00\x00\x00\xa0\x00\x00\x00\x00\x00\x00\x00\x00\
-            \x01\x00\x00\x00\x00\x00\x00\x00Title\x00a\
-            APETAGEX\xd0\x07\x00\x00\x2f\x00\x00\x00\
-            \x01\x00\x00\x00\x00\x00\x00\x80\x01\x00\x00\x00\x00\x00\x00\x00",
-        47)
-};
-
 /// The tag of a whole APEv2 block.
-fn read(rt: &impl Abort, alloc: Global, block: &[u8]) -> Result<Tag, TagFault> {
+fn tag_of(rt: &impl Abort, alloc: Global, block: &[u8]) -> Result<Tag, TagFault> {
     assert!(rt; block.len() <= 1_048_576);
     let whole = Block {
         kind: Kind::Ape,
         length: block.len() as u64,
     };
-    assert_eq!(rt; block_at(block), Some(whole));
+    assert!(rt; block_at(block) == Some(whole));
     Tag::read(alloc, block)
 }
 
-/// The undo item of the tag, its length, and its bytes.
-fn expect_tag(rt: &impl Abort, alloc: Global, tag: &Tag, undo: UndoItem, bytes: &[u8]) {
-    assert_eq!(rt; tag.length(), bytes.len() as u64);
-    assert_eq!(rt; tag.undo(), undo);
+/// The tag of a block of these words.
+fn read(rt: &impl Abort, alloc: Global, words: &'static str) -> Result<Tag, Fail> {
+    let block = bytes_of(alloc, words)?;
+    Ok(tag_of(rt, alloc, &block)?)
+}
+
+fn is_written(alloc: Global, tag: &Tag, bytes: &[u8]) -> bool {
     match tag.write(alloc) {
-        Ok(written) => assert_eq!(rt; written.as_slice(), bytes),
-        Err(_) => assert!(rt; false, "no memory"),
+        Ok(written) => written.as_slice() == bytes,
+        Err(_) => false,
     }
+}
+
+/// The undo item of the tag, its length, and its bytes.
+fn expect_tag(
+    rt: &impl Abort,
+    alloc: Global,
+    tag: &Tag,
+    undo: UndoItem,
+    words: &'static str,
+) -> Result<(), Fail> {
+    let bytes = bytes_of(alloc, words)?;
+    assert!(rt; tag.length() == bytes.len() as u64);
+    assert!(rt; tag.undo() == undo);
+    assert!(rt; is_written(alloc, tag, &bytes));
+    Ok(())
+}
+
+/// Whether the tag has no items.
+fn is_bare(tag: &Tag) -> bool {
+    tag.is_empty() && tag.length() == 64 && tag.undo() == UndoItem::Missing
 }
 
 const ONE_LOWER: Undo = Undo {
@@ -235,13 +127,10 @@ const ONE_LOWER: Undo = Undo {
 #[test]
 fn a_new_tag(rt: HostRuntime) -> Result<(), Fail> {
     let mut tag = Tag::new(rt.alloc());
-    assert!(rt; tag.is_empty());
-    assert_eq!(rt; tag.length(), 64);
-    assert_eq!(rt; tag.undo(), UndoItem::Missing);
+    assert!(rt; is_bare(&tag));
     tag.set_undo(&ONE_LOWER)?;
     assert!(rt; !tag.is_empty());
-    expect_tag(&rt, rt.alloc(), &tag, UndoItem::Found(ONE_LOWER), ALONE);
-    Ok(())
+    expect_tag(&rt, rt.alloc(), &tag, UndoItem::Found(ONE_LOWER), ALONE)
 }
 
 #[test]
@@ -252,49 +141,58 @@ fn an_undo_item_amid_others(rt: HostRuntime) -> Result<(), Fail> {
         right: -4,
         wrap: false,
     };
-    expect_tag(&rt, rt.alloc(), &tag, UndoItem::Found(before), AMID);
+    expect_tag(&rt, rt.alloc(), &tag, UndoItem::Found(before), AMID)?;
     let after = Undo {
         left: -997,
         right: 999,
         wrap: true,
     };
     tag.set_undo(&after)?;
-    expect_tag(&rt, rt.alloc(), &tag, UndoItem::Found(after), AMID_CHANGED);
-    Ok(())
+    expect_tag(&rt, rt.alloc(), &tag, UndoItem::Found(after), AMID_CHANGED)
 }
 
 #[test]
 fn an_undo_item_dropped(rt: HostRuntime) -> Result<(), Fail> {
     let mut tag = read(&rt, rt.alloc(), AMID)?;
     tag.drop_undo();
-    expect_tag(&rt, rt.alloc(), &tag, UndoItem::Missing, AMID_DROPPED);
+    expect_tag(&rt, rt.alloc(), &tag, UndoItem::Missing, AMID_DROPPED)?;
     tag.set_undo(&ONE_LOWER)?;
-    expect_tag(&rt, rt.alloc(), &tag, UndoItem::Found(ONE_LOWER), AMID_NEW);
-    Ok(())
+    expect_tag(&rt, rt.alloc(), &tag, UndoItem::Found(ONE_LOWER), AMID_NEW)
 }
 
 #[test]
 fn the_only_item_dropped(rt: HostRuntime) -> Result<(), Fail> {
     let mut tag = read(&rt, rt.alloc(), ALONE)?;
     tag.drop_undo();
-    assert!(rt; tag.is_empty());
-    assert_eq!(rt; tag.length(), 64);
+    assert!(rt; is_bare(&tag));
     Ok(())
 }
 
 #[test]
 fn a_bad_undo_item(rt: HostRuntime) -> Result<(), Fail> {
     let tag = read(&rt, rt.alloc(), BAD_UNDO)?;
-    assert_eq!(rt; tag.undo(), UndoItem::Bad(47));
+    assert!(rt; tag.undo() == UndoItem::Bad(47));
     Ok(())
 }
 
+/// Whether the place of the row is that of the first fault of its block.
+fn has_fault(rt: &impl Abort, alloc: Global, row: &'static str) -> Result<bool, Fail> {
+    let (place, words) = row.split_once(": ").ok_or("no place")?;
+    let block = bytes_of(alloc, words)?;
+    Ok(match tag_of(rt, alloc, &block) {
+        Ok(_) => false,
+        Err(fault) => fault == TagFault::BadTag(place.parse::<u64>()?),
+    })
+}
+
 #[test]
-fn faults(rt: HostRuntime) {
-    for case in &FAULTY {
-        match read(&rt, rt.alloc(), case.block) {
-            Ok(_) => assert!(rt; false, "{} is taken", case.what),
-            Err(fault) => assert_eq!(rt; fault, TagFault::BadTag(case.place), "{}", case.what),
-        }
+fn faults(rt: HostRuntime) -> Result<(), Fail> {
+    let mut count: usize = 0;
+    for line in FAULTS.lines() {
+        let (what, row) = line.split_once(": ").ok_or("no row")?;
+        assert!(rt; has_fault(&rt, rt.alloc(), row)?, "{what}");
+        count = count.saturating_add(1);
     }
+    assert!(rt; count == 15);
+    Ok(())
 }

@@ -1,5 +1,6 @@
 //! Values of undo items, worked out by hand.
 
+use std::process::Abort;
 use tag_blocks::Undo;
 use test_files::table;
 
@@ -26,12 +27,18 @@ static VALUES: [Value; 14] = table! {
     (b"+001,+001,n", None)
 };
 
+/// Whether the value says this, and is written as it was read.
+fn says(case: &Value) -> bool {
+    match (Undo::read(case.text), case.says) {
+        (Some(undo), Some(says)) => undo == says && undo.text().as_slice() == case.text,
+        (None, None) => true,
+        _ => false,
+    }
+}
+
 #[test]
 fn values(rt: HostRuntime) {
-    for case in &VALUES {
-        assert_eq!(rt; Undo::read(case.text), case.says);
-        if let Some(undo) = Undo::read(case.text) {
-            assert_eq!(rt; undo.text().as_slice(), case.text);
-        }
+    for (number, case) in VALUES.iter().enumerate() {
+        assert!(rt; says(case), "row {number}");
     }
 }
