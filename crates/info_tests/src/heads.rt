@@ -8,6 +8,7 @@ mod frames;
 use frame_header::Header;
 use info_header::head_text;
 use std::alloc::{AllocError, Global};
+use std::process::Abort;
 use std::test::Fail;
 use test_files::table;
 
@@ -52,13 +53,21 @@ fn frame_of(alloc: Global, case: &Case) -> Result<Vec<u8>, AllocError> {
     Ok(frame)
 }
 
+/// Whether the case's frame has its length, and the text is where it is wanted.
+fn is_found(alloc: Global, case: &Case) -> Result<bool, AllocError> {
+    let frame = frame_of(alloc, case)?;
+    match Header::read(case.header) {
+        Ok(header) => Ok(
+            header.length() as usize == frame.len() && head_text(&header, &frame) == case.wanted,
+        ),
+        Err(_) => Ok(false),
+    }
+}
+
 #[test]
 fn texts(rt: HostRuntime) -> Result<(), Fail> {
     for case in &CASES {
-        let header = Header::read(case.header)?;
-        let frame = frame_of(rt.alloc(), case)?;
-        assert_eq!(rt; header.length() as usize, frame.len(), "{}", case.what);
-        assert_eq!(rt; head_text(&header, &frame), case.wanted, "{}", case.what);
+        assert!(rt; is_found(rt.alloc(), case)?, "{}", case.what);
     }
     Ok(())
 }

@@ -1,7 +1,10 @@
 //! Fields of heads, by the layout that encoders write: text, flags, and each field whose flag is set.
 
 use info_header::{Info, entry};
+use std::process::Abort;
 use std::test::Fail;
+use test_files::files::Stretch::{Bytes, Fill};
+use test_files::files::{Stretch, bytes_of};
 use test_files::table;
 
 /// A head without fields, which the cases add to.
@@ -41,48 +44,61 @@ static CASES: [Case; 9] = table! {
     ("frames that pass the end, and a flag behind them", b"Info\0\0\0\x09\0\0", None, None, None, [0; 3])
 };
 
-#[test]
-fn heads_without_a_table(rt: HostRuntime) {
-    for case in &CASES {
-        let mut extension = [0; 36];
-        extension[..3].copy_from_slice(&case.extension);
-        let wanted = Info {
-            frames: case.frames,
-            bytes: case.length,
-            quality: case.quality,
-            extension,
-            ..NONE
-        };
-        assert_eq!(rt; Info::read(case.bytes), wanted, "{}", case.what);
+/// The extension with these first bytes, and then 0.
+fn extension_of(front: &[u8]) -> [u8; 36] {
+    let mut extension = [0; 36];
+    for (byte, own) in extension.iter_mut().zip(front) {
+        *byte = *own;
     }
+    extension
+}
+
+fn is_read(case: &Case) -> bool {
+    let wanted = Info {
+        frames: case.frames,
+        bytes: case.length,
+        quality: case.quality,
+        extension: extension_of(&case.extension),
+        ..NONE
+    };
+    Info::read(case.bytes) == wanted
 }
 
 #[test]
-fn a_whole_head(rt: HostRuntime) {
-    let mut bytes = [0x55; 200];
-    bytes[..8].copy_from_slice(b"Xing\0\0\0\x0f");
-    bytes[8..16].copy_from_slice(&[0, 0, 0, 2, 0, 0, 0x02, 0xd9]);
-    bytes[16..116].copy_from_slice(&[7; 100]);
-    bytes[116..120].copy_from_slice(&[0, 0, 0, 100]);
-    let wanted = Info {
+fn heads_without_a_table(rt: HostRuntime) {
+    for case in &CASES {
+        assert!(rt; is_read(case), "{}", case.what);
+    }
+}
+
+/// Text, flags, two frames, 729 bytes, the table, quality 100, and an extension of 36 times 55 (hex) with 44 more bytes behind it.
+static WHOLE: [Stretch; 4] = [
+    Bytes(b"Xing\0\0\0\x0f\0\0\0\x02\0\0\x02\xd9"),
+    Fill(7, 100),
+    Bytes(b"\0\0\0\x64"),
+    Fill(0x55, 80),
+];
+
+/// What that head says, with this extension.
+fn whole_with(extension: [u8; 36]) -> Info {
+    Info {
         vbr: true,
         frames: Some(2),
         bytes: Some(729),
         table: Some([7; 100]),
         quality: Some(100),
-        extension: [0x55; 36],
-    };
-    assert_eq!(rt; Info::read(&bytes), wanted);
-    let short = &bytes[..130];
-    let mut extension = [0; 36];
-    extension[..10].copy_from_slice(&[0x55; 10]);
-    assert_eq!(rt;
-        Info::read(short),
-        Info {
-            extension,
-            ..wanted
-        }
-    );
+        extension,
+    }
+}
+
+#[test]
+fn a_whole_head(rt: HostRuntime) -> Result<(), Fail> {
+    let bytes = bytes_of(rt.alloc(), &WHOLE)?;
+    assert!(rt; Info::read(&bytes) == whole_with([0x55; 36]));
+    // Ten bytes of the extension are left.
+    let short = bytes.get(..130).ok_or("no head")?;
+    assert!(rt; Info::read(short) == whole_with(extension_of(&[0x55; 10])));
+    Ok(())
 }
 
 /// An entry of the table, worked out by hand: the offset of a frame and the length of the file in bytes, and the entry.
@@ -111,16 +127,14 @@ static ENTRIES: [Entry; 10] = table! {
     (0xffff_ffff, 1, 255)
 };
 
+fn is_entry(case: &Entry) -> bool {
+    case.bytes > 0 && entry(case.offset, case.bytes) == case.wanted
+}
+
 #[test]
 fn entries(rt: HostRuntime) -> Result<(), Fail> {
     for case in &ENTRIES {
-        assert!(rt; case.bytes > 0);
-        assert_eq!(rt;
-            entry(case.offset, case.bytes),
-            case.wanted,
-            "{}",
-            case.offset
-        );
+        assert!(rt; is_entry(case), "{}", case.offset);
     }
     Ok(())
 }
