@@ -70,17 +70,6 @@ impl Appending {
         writer.frame(&frame, folder, "o", &mut self.unsent)
     }
 
-    pub fn expect_appended<D: Folder>(
-        &mut self,
-        rt: &impl Abort,
-        header: &Header,
-        side: &Side,
-        bytes: &[u8],
-        folder: &mut D,
-    ) {
-        assert_eq!(rt; self.append(rt, header, side, bytes, folder), Ok(()));
-    }
-
     /// Appends the end of the frames.
     pub fn finish<D: Folder>(&mut self, folder: &mut D) -> Result<(), Failed> {
         folder.find("o")?;

@@ -5,7 +5,6 @@
 
 use in_memory::MemFolder;
 use std::alloc::AllocError;
-use std::process::Abort;
 
 /// Puts a file without bytes, with room for `room`.
 pub fn put_empty(folder: &mut MemFolder, name: &str, room: u64) -> Result<(), AllocError> {
@@ -13,10 +12,11 @@ pub fn put_empty(folder: &mut MemFolder, name: &str, room: u64) -> Result<(), Al
     folder.reserve(name, room)
 }
 
-/// Asserts that these bytes are at these places.
-pub fn expect_at(rt: &impl Abort, bytes: &[u8], places: &[usize], wanted: &[u8]) {
-    assert_eq!(rt; places.len(), wanted.len());
-    for (place, byte) in places.iter().zip(wanted) {
-        assert_eq!(rt; bytes.get(*place), Some(byte), "{place}");
-    }
+/// Whether these bytes are at these places.
+pub fn are_at(bytes: &[u8], places: &[usize], wanted: &[u8]) -> bool {
+    places.len() == wanted.len()
+        && places
+            .iter()
+            .zip(wanted)
+            .all(|(place, byte)| bytes.get(*place) == Some(byte))
 }

@@ -1,17 +1,16 @@
 //! A file that the crates below put together, and what a survey finds in it. Its places were worked out by hand from the
 //! standard's rule of the frame length (ISO/IEC 11172-3, 2.4.3.1).
 
-use crate::appended::{Appending, side_of};
-use crate::outputs::{expect_at, put_empty};
+use crate::outputs::{are_at, put_empty};
+use crate::writers::{Main, write_all};
 use arrayvec::ArrayVec;
 use frame_header::Header;
 use in_memory::MemFolder;
 use info_header::{info_over, write_info};
-use outside::Folder;
 use std::alloc::{AllocError, AllocGlobal, Global};
 use std::process::Abort;
 use std::test::Fail;
-use sync_survey::{Piece, Row, Survey, survey};
+use sync_survey::{Head, Piece, Row, Survey, survey};
 use tag_blocks::{Block, Kind};
 
 /// MPEG-1, 128 kbit/s at 44,100 Hz in two channels: 417 bytes, and an area of 381. An Info frame before such frames
@@ -42,19 +41,26 @@ static BLOCKS: [Piece; 2] = [
 ];
 
 /// Three frames: the second is silent, and the main data of the third begin in the first one's area.
-fn write_frames<D: Folder>(
-    rt: &impl Abort,
-    alloc: Global,
-    header: &Header,
-    folder: &mut D,
-) -> Result<(), Fail> {
-    let mut frames = Appending::new(alloc, header)?;
-    frames.expect_appended(rt, header, &side_of(0, 2400), &[0x11; 300], folder);
-    frames.expect_appended(rt, header, &side_of(81, 0), &[], folder);
-    frames.expect_appended(rt, header, &side_of(462, 3992), &[0x22; 499], folder);
-    assert_eq!(rt; frames.finish(folder), Ok(()));
-    Ok(())
-}
+static FRAMES: [Main; 3] = [
+    Main {
+        begin: 0,
+        bits: 2400,
+        bytes: &[0x11; 300],
+        after: None,
+    },
+    Main {
+        begin: 81,
+        bits: 0,
+        bytes: &[],
+        after: None,
+    },
+    Main {
+        begin: 462,
+        bits: 3992,
+        bytes: &[0x22; 499],
+        after: None,
+    },
+];
 
 /// ID3v2, an Info frame at 12, the frames at 220, 637 and 1,054, and ID3v1 at 1,471: 1,599 bytes.
 fn file_around(alloc: Global, header: &Header, frames: &[u8]) -> Result<Vec<u8>, Fail> {
@@ -73,40 +79,44 @@ fn file_around(alloc: Global, header: &Header, frames: &[u8]) -> Result<Vec<u8>,
     Ok(file)
 }
 
-fn expect_row(rt: &impl Abort, row: &Row, offset: u32, begin: u16, bits: u32) {
-    assert!(rt; row.offset == offset && !row.lost);
-    assert_eq!(rt; row.side.main_data_begin, begin);
-    assert_eq!(rt; row.side.bits(), bits);
+fn is_row(row: &Row, offset: u32, begin: u16, bits: u32) -> bool {
+    row.offset == offset
+        && !row.lost
+        && row.side.main_data_begin == begin
+        && row.side.bits() == bits
 }
 
-fn expect_rows(rt: &impl Abort, rows: &[Row]) {
-    let [first, second, third] = rows else {
-        panic!(rt; "three frames");
-    };
-    expect_row(rt, first, 220, 0, 2400);
-    expect_row(rt, second, 637, 81, 0);
-    expect_row(rt, third, 1054, 462, 3992);
+fn has_rows(rows: &[Row]) -> bool {
+    match rows {
+        [first, second, third] => {
+            is_row(first, 220, 0, 2400)
+                && is_row(second, 637, 81, 0)
+                && is_row(third, 1054, 462, 3992)
+        }
+        _ => false,
+    }
 }
 
-fn expect_blocks(rt: &impl Abort, blocks: &[Piece]) {
-    assert_eq!(rt; blocks, BLOCKS.as_slice());
+fn has_head(head: Option<Head>) -> bool {
+    match head {
+        Some(head) => head.offset == 12 && head.text_at == 36,
+        None => false,
+    }
 }
 
-fn expect_survey(rt: &impl Abort, survey: &Survey) {
-    assert_eq!(rt; (survey.junk(), survey.length()), ((12, 0), 1599));
-    assert_eq!(rt;
-        survey.head().map(|head| (head.offset, head.text_at)),
-        Some((12, 36))
-    );
-    expect_blocks(rt, survey.blocks());
-    expect_rows(rt, survey.frames());
+fn has_places(survey: &Survey) -> bool {
+    survey.junk() == (12, 0) && survey.length() == 1599 && has_head(survey.head())
+}
+
+fn is_surveyed(survey: &Survey) -> bool {
+    has_places(survey) && survey.blocks() == BLOCKS.as_slice() && has_rows(survey.frames())
 }
 
 /// The whole file around the frames, which are written as `o`.
 fn file_over<R: Abort + AllocGlobal>(rt: &R, folder: &mut MemFolder) -> Result<Vec<u8>, Fail> {
     put_empty(folder, "o", 1251)?;
     let header = Header::read(PLAIN)?;
-    write_frames(rt, rt.alloc(), &header, folder)?;
+    write_all(rt, rt.alloc(), &header, &FRAMES, folder)?;
     file_around(rt.alloc(), &header, folder.get("o").unwrap_or(&[]))
 }
 
@@ -127,10 +137,8 @@ fn a_file_of_three_frames(rt: HostRuntime) -> Result<(), Fail> {
     // The third frame's main data begin 300 bytes into the first one's area, at 256, and pass the 36 bytes before the two
     // areas after it.
     let places = [555, 556, 673, 1126, 1127];
-    expect_at(&rt, &file, &places, &[0x11, 0x22, 0x22, 0x22, 0]);
-    let Some(survey) = surveyed(rt.alloc(), &file)? else {
-        panic!(&rt; "no survey");
-    };
-    expect_survey(&rt, &survey);
+    assert!(rt; are_at(&file, &places, &[0x11, 0x22, 0x22, 0x22, 0]));
+    let survey = surveyed(rt.alloc(), &file)?.ok_or("no survey")?;
+    assert!(rt; is_surveyed(&survey));
     Ok(())
 }

@@ -1,9 +1,9 @@
 //! Frames worked out by hand. Rates and lengths are those of ISO/IEC 11172-3 and 13818-3, 2.4.2.3 and 2.4.3.1.
 
 use crate::appended::{Appending, payload_of, side_of};
-use crate::outputs::{expect_at, put_empty};
+use crate::outputs::{are_at, put_empty};
 use frame_header::Header;
-use frame_writer::Areas;
+use frame_writer::{Areas, Writer};
 use in_memory::{Call, MemFolder};
 use outside::{Failed, Folder};
 use reservoir::Window;
@@ -43,23 +43,43 @@ fn push(
     Ok(())
 }
 
+fn has_one(areas: &Areas) -> bool {
+    areas.free() == 81 && areas.settled(511) == 300
+}
+
+fn has_two(areas: &Areas) -> bool {
+    areas.waiting() == 762 && areas.free() == 62
+}
+
 #[test]
 fn two_areas(rt: HostRuntime) -> Result<(), Fail> {
     let mut areas = Areas::new(rt.alloc())?;
     push(&rt, rt.alloc(), &mut areas, 0, &[0x11; 300])?;
-    assert_eq!(rt; areas.free(), 81);
-    assert_eq!(rt; areas.settled(511), 300);
+    assert!(rt; has_one(&areas));
     push(&rt, rt.alloc(), &mut areas, 81, &[0x22; 400])?;
-    assert_eq!(rt; areas.waiting(), 762);
-    assert_eq!(rt; areas.free(), 62);
+    assert!(rt; has_two(&areas));
     Ok(())
 }
 
-/// How many bytes before the frame's own area main data begin, and their bytes.
-type Main<'a> = (u16, &'a [u8]);
+/// The main data of a frame: how many bytes before its own area they begin, how many bits the frame says that they have, and
+/// their bytes; where it is asserted, how far back the next may begin then, and how many frames wait.
+#[derive(Clone, Copy)]
+pub struct Main<'a> {
+    pub begin: u16,
+    pub bits: u16,
+    pub bytes: &'a [u8],
+    pub after: Option<(u32, usize)>,
+}
+
+fn is_after(writer: &Writer, after: Option<(u32, usize)>) -> bool {
+    match after {
+        Some((reach, count)) => writer.reach() == reach && writer.count() == count,
+        None => true,
+    }
+}
 
 /// Writes frames with this header.
-fn write_all<D: Folder>(
+pub fn write_all<D: Folder>(
     rt: &impl Abort,
     alloc: Global,
     header: &Header,
@@ -67,10 +87,12 @@ fn write_all<D: Folder>(
     folder: &mut D,
 ) -> Result<(), AllocError> {
     let mut appending = Appending::new(alloc, header)?;
-    for (begin, bytes) in frames {
-        appending.expect_appended(rt, header, &side_of(*begin, 0), bytes, folder);
+    for main in frames {
+        let side = side_of(main.begin, main.bits);
+        let appended = appending.append(rt, header, &side, main.bytes, folder);
+        assert!(rt; appended.is_ok() && is_after(&appending.writer, main.after));
     }
-    assert_eq!(rt; appending.finish(folder), Ok(()));
+    assert!(rt; appending.finish(folder).is_ok());
     Ok(())
 }
 
@@ -80,8 +102,9 @@ fn file_over<R: Abort + AllocGlobal>(
     folder: &mut MemFolder,
     header: &Header,
     frames: &[Main],
-) -> Result<Vec<u8>, Fail> {
-    put_empty(folder, "o", 6144)?;
+    room: u64,
+) -> Result<Vec<u8>, AllocError> {
+    put_empty(folder, "o", room)?;
     write_all(rt, rt.alloc(), header, frames, folder)?;
     let mut file = Vec::new(rt.alloc());
     file.extend_from_slice(folder.get("o").unwrap_or(&[]))?;
@@ -92,102 +115,107 @@ fn file_of<R: Abort + AllocGlobal>(
     rt: &R,
     header: [u8; 4],
     frames: &[Main],
+    room: u64,
 ) -> Result<Vec<u8>, Fail> {
+    let header = header_of(header)?;
     let mut folder = MemFolder::new(rt.alloc());
-    file_over(rt, &mut folder, &header_of(header)?, frames)
+    Ok(file_over(rt, &mut folder, &header, frames, room)?)
 }
 
-/// The second frame's main data begin in the first one's area. 81 in nine bits is 0 0101 0001.
+/// 81 bytes are left of the first area.
+static TWO: [Main; 2] = [
+    Main {
+        begin: 0,
+        bits: 0,
+        bytes: &[0x11; 300],
+        after: Some((81, 1)),
+    },
+    Main {
+        begin: 81,
+        bits: 0,
+        bytes: &[0x22; 400],
+        after: None,
+    },
+];
+
+/// 81 in nine bits is 0 0101 0001.
+fn are_two(file: &[u8]) -> bool {
+    file.len() == 834
+        && are_at(file, &[1, 2, 4, 35], &[0xfb, 0x90, 0, 0])
+        && are_at(file, &[36, 335, 336, 416], &[0x11, 0x11, 0x22, 0x22])
+        && are_at(file, &[420, 421, 422, 423], &[0x00, 0x28, 0x80, 0])
+        && are_at(file, &[453, 771, 772, 833], &[0x22, 0x22, 0, 0])
+}
+
+/// The second frame's main data begin in the first one's area.
 #[test]
 fn two_frames(rt: HostRuntime) -> Result<(), Fail> {
-    let file = file_of(&rt, PLAIN, &[(0, &[0x11; 300]), (81, &[0x22; 400])])?;
-    assert_eq!(rt; file.len(), 834);
-    expect_at(&rt, &file, &[1, 2, 4, 35], &[0xfb, 0x90, 0, 0]);
-    expect_at(&rt, &file, &[36, 335, 336, 416], &[0x11, 0x11, 0x22, 0x22]);
-    expect_at(&rt, &file, &[420, 421, 422, 423], &[0x00, 0x28, 0x80, 0]);
-    expect_at(&rt, &file, &[453, 771, 772, 833], &[0x22, 0x22, 0, 0]);
+    let file = file_of(&rt, PLAIN, &TWO, 6144)?;
+    assert!(rt; are_two(&file));
     Ok(())
 }
 
-/// Writes 256 frames of the shortest kind, of which the last alone has main data.
-fn write_waiting<D: Folder>(
-    rt: &impl Abort,
-    alloc: Global,
-    header: &Header,
-    folder: &mut D,
-) -> Result<(), AllocError> {
-    let mut appending = Appending::new(alloc, header)?;
+/// The same, written to a file in one write, with no more room than they need.
+#[test]
+fn two_frames_in_a_file(rt: HostRuntime) -> Result<(), Fail> {
+    let file = file_of(&rt, PLAIN, &TWO, 834)?;
+    assert!(rt; are_two(&file));
+    Ok(())
+}
+
+static LAST: [u8; 256] = [0x44; 256];
+
+/// 256 frames of the shortest kind, of which the last alone has main data.
+fn waiting(alloc: Global) -> Result<Vec<Main<'static>>, AllocError> {
+    let mut frames = Vec::new(alloc);
     for begin in 0..255 {
-        appending.expect_appended(rt, header, &side_of(begin, 0), &[], folder);
+        frames.push(Main {
+            begin,
+            bits: 0,
+            bytes: &[],
+            after: if begin == 254 { Some((255, 255)) } else { None },
+        })?;
     }
-    assert_eq!(rt; appending.writer.count(), 255);
-    appending.expect_appended(rt, header, &side_of(255, 0), &[0x44; 256], folder);
-    assert_eq!(rt; appending.finish(folder), Ok(()));
-    Ok(())
+    frames.push(Main {
+        begin: 255,
+        bits: 0,
+        bytes: &LAST,
+        after: None,
+    })?;
+    Ok(frames)
 }
 
-fn expect_waiting<R: Abort + AllocGlobal>(rt: &R, folder: &mut MemFolder) -> Result<(), Fail> {
-    put_empty(folder, "o", 6144)?;
-    write_waiting(rt, rt.alloc(), &header_of(SHORTEST)?, folder)?;
-    let file = folder.get("o").unwrap_or(&[]);
-    assert_eq!(rt; file.len(), 6144);
-    for number in 0..255 {
-        expect_at(
-            rt,
-            file,
-            &[24 * number + 3, 24 * number + 23],
-            &[0x00, 0x44],
-        );
-    }
-    expect_at(rt, file, &[6124, 6125, 6126], &[0x3c, 0x42, 0xff]);
-    expect_at(rt, file, &[6127, 6142, 6143], &[0, 0, 0x44]);
-    Ok(())
+fn have_waited(file: &[u8]) -> bool {
+    file.len() == 6144
+        && are_at(file, &[6124, 6125, 6126], &[0x3c, 0x42, 0xff])
+        && are_at(file, &[6127, 6142, 6143], &[0, 0, 0x44])
+        && file
+            .chunks(24)
+            .take(255)
+            .all(|frame| are_at(frame, &[3, 23], &[0x00, 0x44]))
 }
 
 /// The main data of the 256th frame go through the areas of all of them. Its check word is the remainder of 14 00 ff
 /// and 16 times 00, worked out by another program.
 #[test]
 fn as_many_as_may_wait(rt: HostRuntime) -> Result<(), Fail> {
-    let mut folder = MemFolder::new(rt.alloc());
-    expect_waiting(&rt, &mut folder)
+    let frames = waiting(rt.alloc())?;
+    let file = file_of(&rt, SHORTEST, &frames, 6144)?;
+    assert!(rt; have_waited(&file));
+    Ok(())
 }
 
 #[test]
 fn the_longest_frame(rt: HostRuntime) -> Result<(), Fail> {
-    let file = file_of(&rt, LONGEST, &[(0, &[0x33; 1420])])?;
-    assert_eq!(rt; file.len(), 1441);
-    expect_at(&rt, &file, &[20, 21, 1440], &[0, 0x33, 0x33]);
+    let main = Main {
+        begin: 0,
+        bits: 0,
+        bytes: &[0x33; 1420],
+        after: None,
+    };
+    let file = file_of(&rt, LONGEST, &[main], 6144)?;
+    assert!(rt; file.len() == 1441 && are_at(&file, &[20, 21, 1440], &[0, 0x33, 0x33]));
     Ok(())
-}
-
-fn write_two<R: Abort + AllocGlobal>(
-    rt: &R,
-    header: &Header,
-    folder: &mut MemFolder,
-) -> Result<(), Fail> {
-    let mut frames = Appending::new(rt.alloc(), header)?;
-    frames.expect_appended(rt, header, &side_of(0, 0), &[0x11; 300], folder);
-    assert_eq!(rt; frames.writer.reach(), 81);
-    frames.expect_appended(rt, header, &side_of(81, 0), &[0x22; 400], folder);
-    assert_eq!(rt; frames.finish(folder), Ok(()));
-    Ok(())
-}
-
-fn expect_two<R: Abort + AllocGlobal>(rt: &R, folder: &mut MemFolder) -> Result<(), Fail> {
-    put_empty(folder, "o", 834)?;
-    write_two(rt, &header_of(PLAIN)?, folder)?;
-    let bytes = folder.get("o").unwrap_or(&[]);
-    assert_eq!(rt; bytes.len(), 834);
-    let places = [335, 336, 421, 771, 772];
-    expect_at(rt, bytes, &places, &[0x11, 0x22, 0x28, 0x22, 0]);
-    Ok(())
-}
-
-/// The two frames above, written to a file in one write.
-#[test]
-fn two_frames_in_a_file(rt: HostRuntime) -> Result<(), Fail> {
-    let mut folder = MemFolder::new(rt.alloc());
-    expect_two(&rt, &mut folder)
 }
 
 /// How many bytes of its area the first of several frames of the longest kind uses.
@@ -260,15 +288,13 @@ fn writes_all<R: Abort + AllocGlobal>(
     Ok(write_many(rt, &mut frames, &header, count, folder).is_ok())
 }
 
-/// Asserts that the bytes are those of the file.
-fn expect_pattern(rt: &impl Abort, bytes: &[u8], count: u8, failing: usize) {
-    for (place, byte) in bytes.iter().enumerate() {
-        assert_eq!(rt;
-            *byte,
-            byte_at(place, count),
-            "write {failing}, byte {place}"
-        );
-    }
+/// Whether these are the first `held` bytes of the file.
+fn is_held(bytes: &[u8], count: u8, held: usize) -> bool {
+    bytes.len() == held
+        && bytes
+            .iter()
+            .enumerate()
+            .all(|(place, byte)| *byte == byte_at(place, count))
 }
 
 /// Lets one write fail, counted from 1: the file holds a prefix of the bytes.
@@ -282,10 +308,9 @@ fn expect_held_in<R: Abort + AllocGlobal>(
     put_empty(folder, "o", 144_100)?;
     folder.fail(Call::Write, failing as u64)?;
     let is_whole = writes_all(rt, run.count, folder)?;
-    assert_eq!(rt; is_whole, failing == run.held.len(), "write {failing}");
+    assert!(rt; is_whole == (failing == run.held.len()), "write {failing}");
     let bytes = folder.get("o").unwrap_or(&[]);
-    assert_eq!(rt; bytes.len(), held, "write {failing}");
-    expect_pattern(rt, bytes, run.count, failing);
+    assert!(rt; is_held(bytes, run.count, held), "write {failing}");
     Ok(())
 }
 
