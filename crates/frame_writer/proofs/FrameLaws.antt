@@ -1,25 +1,25 @@
 -- Laws of frames that wait.
-use Rattle.std.proofs.Common.{◌≡◌, ℕ, ◌⊎◌, inl, inr, ◌+◌, ◌*◌, ◌-◌, ◌≤◌, ◌<◌, min, Bool, true, false, cond, eqb, List, [], ◌∷◌, ◌++◌, length, take, drop, refl, sym, subst, ap, ap₂, ◌∙◌, append_assoc, append-nil, arith, length-append, mul-suc, lit≤, zero, suc}
+use Rattle.std.proofs.Common.{◌≡◌, ℕ, ◌⊎◌, inl, inr, ◌+◌, ◌*◌, ◌-◌, ◌≤◌, ◌<◌, min, Bool, true, false, cond, eqb, List, [], ◌∷◌, ◌++◌, length, take, drop, refl, sym, subst, ap, ap₂, ◌∙◌, append_assoc, append-nil, arith, length-append, mul-suc, lit≤}
 use Rattle.std.proofs.lemmas.List.{length-drop, take-append-le, drop-append-le, map-append, drop-drop}
 use Rattle.std.proofs.Math.Seq.{drop-append-add, take-length}
 use Rattle.std.proofs.Math.Nat.{min-eq_left, min-eq_right}
 use Rattle.std.proofs.lemmas.Bool.{cases_lt}
 use Rattle.frame_header.specs.Fields.{ClassFields, SlotFields, IsClass, IsSlot, IsHeader}
-use Rattle.frame_header.specs.Slots.{slot_of}
 use Rattle.frame_header.specs.declared.version.Version.{Version}
 use Rattle.frame_header.specs.declared.version.Version.TheVariants.{One, Two, TwoFive}
-use Rattle.frame_header.specs.Tables.{class_of, area_of, length_of, overhead_of, side_size_of, side_bytes_of, rate_of, frequency_of, window_of}
+use Rattle.frame_header.specs.Tables.{class_of, area_of, overhead_of, side_size_of, side_bytes_of, window_of}
 use Rattle.frame_header.specs.HeaderBits.{header_bits}
 use Rattle.frame_header.specs.Reading.{header_in, header_at}
 use Rattle.frame_header.specs.Fields.{HeaderFields}
 use Rattle.frame_header.proofs.HeaderLaws.{IsClass-class_of, AreBits-header_bits, length-header_bits}
-use Rattle.frame_header.proofs.SlotLaws.{area-most, length-first}
+use Rattle.frame_header.proofs.Lengths.{least_length, length-least}
+use Rattle.frame_header.proofs.SlotLaws.{area-most}
 use Rattle.bit_fields.specs.Bits.{bits, bytes, AreBytes}
 use Rattle.bit_fields.proofs.BitsLaws.{AreBytes-bytes, length-bytes, bits-bytes}
 use Rattle.side_info.specs.declared.side.Side.{Side}
 use Rattle.side_info.specs.Side.{SideFits, side_bits}
 use Rattle.side_info.specs.Frame.{frame_with, word_part}
-use Rattle.side_info.proofs.FrameLaws.{overhead-least, overhead-few}
+use Rattle.side_info.proofs.FrameLaws.{overhead-least}
 use Rattle.circular_buffer.specs.Buffer.{Buffer, buffer, keep_last}
 use Rattle.std.specs.Prelude.{slice_get, Some, unwrap_or, Ok}
 use Rattle.frame_writer.specs.declared.frames.Kept.{Kept}
@@ -181,26 +181,15 @@ least_of Two = 1
 least_of TwoFive = 1
 
 -- the shortest frames have such areas, also with a check word
-least_length : (version : Version) (frequency channels : ℕ) → frequency < 3 →
-    least_of version + 6 + side_bytes_of version channels ≤ length_of (record { version = version; frequency_index = frequency; channels = channels }) (slot_of 1 false)
-unfolding length_of rate_of frequency_of
-least_length One zero channels h = elim (eqb channels 1) as (λ b. 9 + cond b 17 32 ≤ 104) [ true ↦ lit≤ tt | false ↦ lit≤ tt ]
-least_length One (suc zero) channels h = elim (eqb channels 1) as (λ b. 9 + cond b 17 32 ≤ 96) [ true ↦ lit≤ tt | false ↦ lit≤ tt ]
-least_length One (suc (suc zero)) channels h = elim (eqb channels 1) as (λ b. 9 + cond b 17 32 ≤ 144) [ true ↦ lit≤ tt | false ↦ lit≤ tt ]
-least_length One (suc (suc (suc frequency))) channels h = absurd (omega arith)
-least_length Two zero channels h = elim (eqb channels 1) as (λ b. 7 + cond b 9 17 ≤ 26) [ true ↦ lit≤ tt | false ↦ lit≤ tt ]
-least_length Two (suc zero) channels h = elim (eqb channels 1) as (λ b. 7 + cond b 9 17 ≤ 24) [ true ↦ lit≤ tt | false ↦ lit≤ tt ]
-least_length Two (suc (suc zero)) channels h = elim (eqb channels 1) as (λ b. 7 + cond b 9 17 ≤ 36) [ true ↦ lit≤ tt | false ↦ lit≤ tt ]
-least_length Two (suc (suc (suc frequency))) channels h = absurd (omega arith)
-least_length TwoFive zero channels h = elim (eqb channels 1) as (λ b. 7 + cond b 9 17 ≤ 52) [ true ↦ lit≤ tt | false ↦ lit≤ tt ]
-least_length TwoFive (suc zero) channels h = elim (eqb channels 1) as (λ b. 7 + cond b 9 17 ≤ 48) [ true ↦ lit≤ tt | false ↦ lit≤ tt ]
-least_length TwoFive (suc (suc zero)) channels h = elim (eqb channels 1) as (λ b. 7 + cond b 9 17 ≤ 72) [ true ↦ lit≤ tt | false ↦ lit≤ tt ]
-least_length TwoFive (suc (suc (suc frequency))) channels h = absurd (omega arith)
+least_room : (version : Version) (channels : ℕ) → least_of version + 6 + side_bytes_of version channels ≤ least_length version
+least_room One channels = elim (eqb channels 1) as (λ b. 9 + cond b 17 32 ≤ 96) [ true ↦ lit≤ tt | false ↦ lit≤ tt ]
+least_room Two channels = elim (eqb channels 1) as (λ b. 7 + cond b 9 17 ≤ 24) [ true ↦ lit≤ tt | false ↦ lit≤ tt ]
+least_room TwoFive channels = elim (eqb channels 1) as (λ b. 7 + cond b 9 17 ≤ 48) [ true ↦ lit≤ tt | false ↦ lit≤ tt ]
 
 area-least : (c : ClassFields) (s : SlotFields) (protected : Bool) → IsClass c → IsSlot s → least_of c.version ≤ area_of c s protected
 unfolding area_of overhead_of side_size_of
-area-least c s true class is = omega (arith, length-first c s class is, least_length c.version c.frequency_index c.channels (omega (arith, class.0)))
-area-least c s false class is = omega (arith, length-first c s class is, least_length c.version c.frequency_index c.channels (omega (arith, class.0)))
+area-least c s true class is = omega (arith, length-least c s class is, least_room c.version c.channels)
+area-least c s false class is = omega (arith, length-least c s class is, least_room c.version c.channels)
 
 kept-least : (c : ClassFields) (k : Kept) → IsClass c → IsHeader k.header → class_of k.header ≡ c → least_of c.version ≤ area_in k
 kept-least c k class is same =
