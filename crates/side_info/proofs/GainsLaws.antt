@@ -11,8 +11,8 @@ use Rattle.frame_header.specs.Fields.{HeaderFields, ClassFields, IsClass}
 use Rattle.frame_header.specs.Tables.{class_of, side_size_of}
 use Rattle.side_info.specs.declared.granule.Granule.{Granule}
 use Rattle.side_info.specs.declared.side.Side.{Side}
-use Rattle.side_info.specs.Granule.{compress_width, preflag_width, bit_of, no_granule, granule_size, granule_bits, AreAlike}
-use Rattle.side_info.specs.Parts.{front_size, pair_bits, second_bits}
+use Rattle.side_info.specs.Granule.{compress_width, preflag_width, bit_of, no_granule, granule_size, granule_bits}
+use Rattle.side_info.specs.Parts.{front_size, pair_bits, second_bits, AllAlike, PutsPair}
 use Rattle.side_info.specs.Side.{front_widths_of, side_bits, HasOtherGains}
 use Rattle.side_info.specs.CheckWord.{check_word_of}
 use Rattle.side_info.specs.Frame.{frame_with}
@@ -51,9 +51,6 @@ gain_put version g gain at before after old new put l e =
 -- what a gain that is put does to bits
 abbrev pub PutsGain : ℕ → ℕ → List ℕ → List ℕ → Type 0
 PutsGain gain at old new = (version : Version) (g : Granule) (before after : List ℕ) → length before ≡ at → old ≡ before ++ (granule_bits version g ++ after) → new ≡ before ++ (granule_bits version (record g { global_gain = gain }) ++ after)
-
-abbrev pub AllAlike : List Granule → List Granule → Type 0
-AllAlike gs hs = (channel : ℕ) → AreAlike (get_or gs channel no_granule) (get_or hs channel no_granule)
 
 pub one_put : (version : Version) (channels at : ℕ) (gs hs : List Granule) (before after old new : List ℕ) → channels ≡ 1 → length hs ≡ 2 → PutsGain (get_or hs 0 no_granule).global_gain at old new
     → length gs ≡ 2 → length before ≡ at → old ≡ before ++ (pair_bits version channels gs ++ after) → AllAlike gs hs → new ≡ before ++ (pair_bits version channels hs ++ after)
@@ -99,10 +96,6 @@ four_widths TwoFive channels = four_in (eqb channels 1) (8 ∷ 1 ∷ 0 ∷ 0 ∷
 
 length-front : (version : Version) (channels m p : ℕ) (cs : List ℕ) → length cs ≡ 2 → length (spelled (front_widths_of version channels) (m ∷ p ∷ cs)) ≡ front_size version channels
 length-front version channels m p cs two = length-spelled (front_widths_of version channels) (m ∷ p ∷ cs) (omega (arith, four_widths version channels))
-
--- what the gains of a granule's channels that are put do to bits
-abbrev pub PutsPair : (List Granule → List ℕ) → List Granule → ℕ → List ℕ → List ℕ → Type 0
-PutsPair bits_of_pair hs at old new = (gs : List Granule) (before after : List ℕ) → length gs ≡ 2 → length before ≡ at → old ≡ before ++ (bits_of_pair gs ++ after) → AllAlike gs hs → new ≡ before ++ (bits_of_pair hs ++ after)
 
 pub all_put_gains : (c : ClassFields) → IsClass c → (t : Side) → IsShaped t → (old middle new : List ℕ) (begin next : ℕ) → begin ≡ front_size c.version c.channels → next ≡ front_size c.version c.channels + c.channels * granule_size c.version
     → PutsPair (pair_bits c.version c.channels) (get_or t.granules 0 []) begin old middle → PutsPair (second_bits c.version c.channels) (get_or t.granules 1 []) next middle new

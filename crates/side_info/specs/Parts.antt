@@ -1,5 +1,5 @@
 -- The parts of the side information that are read and written in turn (ISO/IEC 11172-3 and 13818-3, 2.4.1.7 and 2.4.2.7).
-use Rattle.std.specs.Prelude.{ℕ, ◌==◌, if◌then◌else◌, List, [], ◌∷◌, take, drop, slice_index, sum, flat_map}
+use Rattle.std.specs.Prelude.{◌≡◌, ℕ, ◌==◌, if◌then◌else◌, List, [], ◌∷◌, ◌++◌, length, take, drop, slice_index, slice_index_or, sum, flat_map}
 use Rattle.bit_fields.specs.Groups.{numbers_at, spelled}
 use Rattle.frame_header.specs.declared.version.Version.{Version}
 use Rattle.frame_header.specs.Fields.{ClassFields}
@@ -7,7 +7,7 @@ use Rattle.frame_header.specs.Tables.{granules_of}
 use Rattle.side_info.specs.declared.front.Front.{Front}
 use Rattle.side_info.specs.declared.granule.Granule.{Granule}
 use Rattle.side_info.specs.declared.side.Side.{Side}
-use Rattle.side_info.specs.Granule.{no_granule, granule_at, granule_bits, granule_size}
+use Rattle.side_info.specs.Granule.{no_granule, granule_at, granule_bits, granule_size, AreAlike}
 use Rattle.side_info.specs.Side.{front_widths_of}
 
 -- the fields before the granules, from their numbers
@@ -54,3 +54,13 @@ pair_bits version channels gs = flat_map (granule_bits version) (take channels g
 -- the same of the second granule
 abbrev pub second_bits : Version → ℕ → List Granule → List ℕ
 second_bits version channels gs = if granules_of version == 1 then [] else pair_bits version channels gs
+
+-- the channels of two granules differ in no field but global_gain
+abbrev pub AllAlike : List Granule → List Granule → Type 0
+AllAlike gs hs = (channel : ℕ) → AreAlike (slice_index_or gs channel no_granule) (slice_index_or hs channel no_granule)
+
+-- the gains of a granule's channels are put where the bits of a granule begin that differs in them alone
+abbrev pub PutsPair : (List Granule → List ℕ) → List Granule → ℕ → List ℕ → List ℕ → Type 0
+PutsPair bits_of_pair hs at old new =
+    (gs : List Granule) (before after : List ℕ) → length gs ≡ 2 → length before ≡ at → old ≡ before ++ (bits_of_pair gs ++ after)
+    → AllAlike gs hs → new ≡ before ++ (bits_of_pair hs ++ after)

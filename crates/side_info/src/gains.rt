@@ -1,11 +1,11 @@
 //! Gains changed in place in a frame.
-ghost use Rattle.std.specs.Prelude.{◌≡◌, ℕ, ◌+◌, ◌*◌, ◌^◌, ◌≤◌, ◌++◌, List, [], length, take, drop, slice_index_or};
+ghost use Rattle.std.specs.Prelude.{◌≡◌, ℕ, ◌+◌, ◌*◌, ◌^◌, ◌≤◌, ◌++◌, List, [], length, take, drop};
 ghost use Rattle.bit_fields.specs.Bits.{bits, bits_of, bytes};
 ghost use Rattle.frame_header.specs.declared.version.Version.{Version};
 ghost use Rattle.frame_header.specs.Tables.{class_of, granules_of, side_size_of, overhead_of};
 ghost use Rattle.side_info.specs.declared.granule.Granule.{Granule};
-ghost use Rattle.side_info.specs.Granule.{no_granule, granule_bits, granule_size, AreAlike};
-ghost use Rattle.side_info.specs.Parts.{pair_bits, second_bits};
+ghost use Rattle.side_info.specs.Granule.{granule_bits, granule_size};
+ghost use Rattle.side_info.specs.Parts.{pair_bits, second_bits, PutsPair};
 ghost use Rattle.side_info.specs.Side.{side_at, side_bits, HasOtherGains};
 ghost use Rattle.side_info.specs.CheckWord.{check_word_of};
 ghost use Rattle.side_info.specs.Frame.{side_in, frame_with};
@@ -41,11 +41,8 @@ fn put_pair(pair: &[Granule; 2], version: Version, channels: u8, bytes: &mut [u8
     requires room { at + channels * granule_size version ≤ 8 * length bytes.old }
     requires short { length bytes.old ≤ 2 ^ 28 }
     ensures two { length pair.now ≡ 2 }
-    ensures put { (gs : List Granule) (before after : List ℕ) → length gs ≡ 2 → length before ≡ at
-        → bits bytes.old ≡ before ++ (pair_bits version channels gs ++ after)
-        → ((channel : ℕ) → AreAlike (slice_index_or gs channel no_granule)
-        (slice_index_or pair.now channel no_granule))
-        → bits bytes.new ≡ before ++ (pair_bits version channels pair.now ++ after) }
+    ensures put { PutsPair (pair_bits version channels) pair.now at (bits bytes.old)
+        (bits bytes.new) }
 {
     put_gain(pair[0].global_gain, bytes, at);
     if channels == 1 {
@@ -63,11 +60,8 @@ fn put_second(pair: &[Granule; 2], version: Version, channels: u8, bytes: &mut [
         → at + channels * granule_size version ≤ 8 * length bytes.old }
     requires short { length bytes.old ≤ 2 ^ 28 }
     ensures two { length pair.now ≡ 2 }
-    ensures put { (gs : List Granule) (before after : List ℕ) → length gs ≡ 2 → length before ≡ at
-        → bits bytes.old ≡ before ++ (second_bits version channels gs ++ after)
-        → ((channel : ℕ) → AreAlike (slice_index_or gs channel no_granule)
-        (slice_index_or pair.now channel no_granule))
-        → bits bytes.new ≡ before ++ (second_bits version channels pair.now ++ after) }
+    ensures put { PutsPair (second_bits version channels) pair.now at (bits bytes.old)
+        (bits bytes.new) }
 {
     match version {
         Version::One => put_pair(pair, version, channels, bytes, at),

@@ -5,11 +5,11 @@ use Rattle.bit_fields.proofs.BitsLaws.{AreBits-bits, length-bits}
 use Rattle.frame_header.specs.Fields.{IsClass}
 use Rattle.frame_header.specs.Tables.{side_size_of, granules_of}
 use Rattle.side_info.specs.Granule.{granule_size}
-use Rattle.side_info.specs.Parts.{class_with, front_size, pair_bits, second_bits}
+use Rattle.side_info.specs.Parts.{class_with, front_size, pair_bits, second_bits, PutsPair}
 use Rattle.side_info.specs.Side.{side_at}
 use Rattle.side_info.proofs.SideLaws.{IsShaped, IsShaped-side_at, side_bits-side_at}
 use Rattle.side_info.proofs.ReadLaws.{parts_size, side_size-small, second_room}
-use Rattle.side_info.proofs.GainsLaws.{PutsPair, all_put_gains}
+use Rattle.side_info.proofs.GainsLaws.{all_put_gains}
 use Rattle.side_info.proofs.gains.put_all.Goals as goal
 use Rattle.side_info.proofs.gains.put_all.Goals.{After-from}
 
