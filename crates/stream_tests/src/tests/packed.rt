@@ -4,7 +4,7 @@
 use commands::{EditFault, Refusal};
 use in_memory::MemFolder;
 use packing::{PackMode, pack_with};
-use std::alloc::AllocGlobal;
+use std::alloc::{AllocError, Global};
 use std::process::Abort;
 use std::test::Fail;
 use sync_survey::SurveyFault;
@@ -63,43 +63,45 @@ static ROWS: [Row; 11] = table! {
     (PackMode::Floor(0), Err(EditFault::Refused(Refusal::NoRate(0))), OLD)
 };
 
-fn expect_row<R: Abort + AllocGlobal>(
-    rt: &R,
-    folder: &mut MemFolder,
-    row: &Row,
-) -> Result<(), Fail> {
-    let input = bytes_of(rt.alloc(), TWO)?;
-    folder.put("a", &input)?;
-    let old = bytes_of(rt.alloc(), OLD)?;
-    folder.put("b", &old)?;
-    folder.reserve("b", 2000)?;
-    let answer = pack_with(rt.alloc(), folder, "a", "b", &row.mode);
-    assert_eq!(rt; answer, row.answer);
-    let wanted = bytes_of(rt.alloc(), row.after)?;
-    assert!(rt;
-        folder.get("b") == Some(wanted.as_slice()),
-        "{:?}",
-        row.mode
-    );
-    Ok(())
+fn put_files(alloc: Global, folder: &mut MemFolder) -> Result<(), AllocError> {
+    folder.put("a", &bytes_of(alloc, TWO)?)?;
+    folder.put("b", &bytes_of(alloc, OLD)?)?;
+    folder.reserve("b", 2000)
 }
 
-/// What is wrong with the input comes before what is wrong with the bit rate.
-fn expect_absent<R: Abort + AllocGlobal>(rt: &R, folder: &mut MemFolder) {
-    let answer = pack_with(rt.alloc(), folder, "c", "b", &PackMode::Constant(100));
-    assert_eq!(rt; answer, Err(EditFault::Input(0, SurveyFault::Absent)));
+fn has_output(folder: &MemFolder, wanted: &[u8]) -> bool {
+    folder.get("b") == Some(wanted)
 }
 
-fn expect_rows<R: Abort + AllocGlobal>(rt: &R, folder: &mut MemFolder) -> Result<(), Fail> {
-    expect_absent(rt, folder);
-    for row in &ROWS {
-        expect_row(rt, folder, row)?;
+/// Whether the mode has its answer, and the output what is in it then.
+fn holds(alloc: Global, folder: &mut MemFolder, row: &Row) -> Result<bool, AllocError> {
+    put_files(alloc, folder)?;
+    let is_answered = pack_with(alloc, folder, "a", "b", &row.mode) == row.answer;
+    let wanted = bytes_of(alloc, row.after)?;
+    Ok(is_answered && has_output(folder, &wanted))
+}
+
+/// Whether what is wrong with the input comes before what is wrong with the bit rate.
+fn is_absent_first(alloc: Global, folder: &mut MemFolder) -> bool {
+    let answer = pack_with(alloc, folder, "c", "b", &PackMode::Constant(100));
+    answer == Err(EditFault::Input(0, SurveyFault::Absent))
+}
+
+/// The first row that doesn't hold; how many rows there are, where all hold.
+fn first_wrong(alloc: Global, folder: &mut MemFolder) -> Result<usize, AllocError> {
+    for (number, row) in ROWS.iter().enumerate() {
+        if !holds(alloc, folder, row)? {
+            return Ok(number);
+        }
     }
-    Ok(())
+    Ok(ROWS.len())
 }
 
 #[test]
 fn each_mode_packs_or_refuses(rt: HostRuntime) -> Result<(), Fail> {
     let mut folder = MemFolder::new(rt.alloc());
-    expect_rows(&rt, &mut folder)
+    assert!(rt; is_absent_first(rt.alloc(), &mut folder));
+    let wrong = first_wrong(rt.alloc(), &mut folder).unwrap_or(0);
+    assert!(rt; wrong == 11, "row {wrong}");
+    Ok(())
 }

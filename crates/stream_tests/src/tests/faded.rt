@@ -4,9 +4,8 @@ use commands::{EditFault, Refusal};
 use fade_plan::EnvelopeFault;
 use fading::fade;
 use in_memory::MemFolder;
-use std::alloc::{AllocError, AllocGlobal, Global};
+use std::alloc::{AllocError, Global};
 use std::process::Abort;
-use std::rt::HostRuntime;
 use std::test::Fail;
 use sync_survey::SurveyFault;
 use test_files::frames::{Frame, G, file_of};
@@ -51,43 +50,45 @@ static FADES: [Fade; 3] = table! {
     (b"\xef\xbb\xbf# two points\r\n\r\n1 -1\r\n2 -2\r\n", &[AT_99, AT_99, AT_98, AT_98])
 };
 
-/// The files of a fade, from `in` to `out` by the sheet `s`, and back to `back`.
-fn fade_and_back(
+fn put_files(
     alloc: Global,
     folder: &mut MemFolder,
-    row: &Fade,
     file: &[u8],
-) -> Result<Result<(), EditFault>, AllocError> {
+    text: &[u8],
+) -> Result<(), AllocError> {
     folder.put("in", file)?;
-    folder.put("s", row.sheet)?;
+    folder.put("s", text)?;
     folder.reserve("out", 2000)?;
-    folder.reserve("back", 2000)?;
-    let faded = fade(alloc, folder, "in", "out", "s", false);
-    if faded.is_err() {
-        return Ok(faded);
-    }
-    Ok(fade(alloc, folder, "out", "back", "s", true))
+    folder.reserve("back", 2000)
 }
 
-fn expect_fade<R: Abort + AllocGlobal>(
-    rt: &R,
-    folder: &mut MemFolder,
-    row: &Fade,
-) -> Result<(), AllocError> {
-    let file = file_of(rt.alloc(), &FLAT)?;
-    let wanted = file_of(rt.alloc(), row.faded)?;
-    let answer = fade_and_back(rt.alloc(), folder, row, &file)?;
-    assert_eq!(rt; answer, Ok(()));
-    assert_eq!(rt; folder.get("out"), Some(wanted.as_slice()));
-    assert_eq!(rt; folder.get("back"), Some(file.as_slice()));
-    Ok(())
+fn has(folder: &MemFolder, name: &str, wanted: &[u8]) -> bool {
+    folder.get(name) == Some(wanted)
+}
+
+/// Whether the file `in` fades to `out` by the sheet `s`, and back to `back`.
+fn goes_and_comes_back(alloc: Global, folder: &mut MemFolder) -> bool {
+    fade(alloc, folder, "in", "out", "s", false) == Ok(())
+        && fade(alloc, folder, "out", "back", "s", true) == Ok(())
+}
+
+fn fades(alloc: Global, folder: &mut MemFolder, row: &Fade) -> Result<bool, AllocError> {
+    let file = file_of(alloc, &FLAT)?;
+    let wanted = file_of(alloc, row.faded)?;
+    put_files(alloc, folder, &file, row.sheet)?;
+    let is_done = goes_and_comes_back(alloc, folder);
+    Ok(is_done && has(folder, "out", &wanted) && has(folder, "back", &file))
+}
+
+fn fades_anew(alloc: Global, row: &Fade) -> Result<bool, AllocError> {
+    let mut folder = MemFolder::new(alloc);
+    fades(alloc, &mut folder, row)
 }
 
 #[test]
 fn each_frame_moves_by_its_own_steps_and_back(rt: HostRuntime) -> Result<(), Fail> {
-    for row in &FADES {
-        let mut folder = MemFolder::new(rt.alloc());
-        expect_fade(&rt, &mut folder, row)?;
+    for (number, row) in FADES.iter().enumerate() {
+        assert!(rt; fades_anew(rt.alloc(), row)?, "row {number}");
     }
     Ok(())
 }
@@ -116,40 +117,28 @@ static REFUSALS: [Refused; 10] = table! {
     ("in", "out", "s", b"1 155\n2 156\n", EditFault::Refused(Refusal::GainRange(834, 0, 0, 100)))
 };
 
-fn put_files(alloc: Global, folder: &mut MemFolder, text: &[u8]) -> Result<(), AllocError> {
-    folder.put("in", &file_of(alloc, &FLAT)?)?;
-    folder.put("s", text)?;
-    folder.reserve("out", 2000)?;
+fn put_long(alloc: Global, folder: &mut MemFolder) -> Result<(), AllocError> {
     let long = vec![in alloc; b'\n'; 65_537]?;
     folder.put("long", &long)
 }
 
-fn answer_of(
-    alloc: Global,
-    folder: &mut MemFolder,
-    row: &Refused,
-) -> Result<Result<(), EditFault>, AllocError> {
-    put_files(alloc, folder, row.text)?;
-    Ok(fade(alloc, folder, row.input, row.output, row.sheet, false))
+/// Whether the command is refused so, and its output isn't there.
+fn refuses(alloc: Global, folder: &mut MemFolder, row: &Refused) -> Result<bool, AllocError> {
+    put_files(alloc, folder, &file_of(alloc, &FLAT)?, row.text)?;
+    put_long(alloc, folder)?;
+    let answer = fade(alloc, folder, row.input, row.output, row.sheet, false);
+    Ok(answer == Err(row.fault) && folder.get("out").is_none())
 }
 
-fn expect_refusal<R: Abort + AllocGlobal>(
-    rt: &R,
-    folder: &mut MemFolder,
-    row: &Refused,
-) -> Result<(), AllocError> {
-    let answer = answer_of(rt.alloc(), folder, row)?;
-    let fault = row.fault;
-    assert_eq!(rt; answer, Err(fault));
-    assert!(rt; folder.get("out").is_none());
-    Ok(())
+fn refuses_anew(alloc: Global, row: &Refused) -> Result<bool, AllocError> {
+    let mut folder = MemFolder::new(alloc);
+    refuses(alloc, &mut folder, row)
 }
 
 #[test]
 fn the_first_fault_is_told_and_nothing_is_created(rt: HostRuntime) -> Result<(), Fail> {
-    for row in &REFUSALS {
-        let mut folder = MemFolder::new(rt.alloc());
-        expect_refusal(&rt, &mut folder, row)?;
+    for (number, row) in REFUSALS.iter().enumerate() {
+        assert!(rt; refuses_anew(rt.alloc(), row)?, "row {number}");
     }
     Ok(())
 }

@@ -1,5 +1,0 @@
-//! Tests of packing in each of its modes.
-#![tactic(auto)]
-
-#[cfg(test)]
-mod modes;
