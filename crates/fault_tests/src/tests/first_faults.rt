@@ -1,10 +1,10 @@
 //! The first faults of small files: worked out by hand, by the plain reading, and by the survey.
 
-use crate::plain::first_fault;
-use crate::shapes::survey_fault;
-use crate::stretches::{HEAD, OTHER_CLASS, SHORT, SHORT_LOUD, SHORT_OF_FOUR, Z};
-use crate::walks;
-use std::alloc::{AllocError, AllocGlobal};
+use super::plain::first_fault;
+use super::shapes::survey_fault;
+use super::stretches::{HEAD, OTHER_CLASS, SHORT, SHORT_LOUD, SHORT_OF_FOUR, Z};
+use super::walks;
+use std::alloc::{AllocError, AllocGlobal, Global};
 use std::process::Abort;
 use std::test::Fail;
 use sync_survey::SurveyFault;
@@ -228,63 +228,74 @@ static ORDERS: [Case; 10] = table! {
         Some(SurveyFault::TooManyFrames(417)))
 };
 
-/// Asserts that both the plain reading and the survey find this first fault, or none.
-fn expect<R: Abort + AllocGlobal>(
-    rt: &R,
+/// Whether both the plain reading and the survey find this first fault, or none.
+fn both_find(
+    alloc: Global,
     file: &[u8],
     allowed: u32,
-    what: &str,
     answer: Option<SurveyFault>,
-) -> Result<(), AllocError> {
-    let plain = first_fault(rt.alloc(), file, allowed)?;
-    assert_eq!(rt; plain, answer, "plainly: {what}");
-    let found = survey_fault(rt.alloc(), file, allowed)?;
-    assert_eq!(rt; found, answer, "survey: {what}");
-    Ok(())
+) -> Result<bool, AllocError> {
+    let plain = first_fault(alloc, file, allowed)?;
+    let found = survey_fault(alloc, file, allowed)?;
+    Ok(plain == answer && found == answer)
 }
 
-fn expect_all<R: Abort + AllocGlobal>(rt: &R, cases: &[Case]) -> Result<(), AllocError> {
+/// The name of the first case whose first fault is another.
+fn first_wrong(alloc: Global, cases: &[Case]) -> Result<Option<&'static str>, AllocError> {
     for case in cases {
-        let file = bytes_of(rt.alloc(), case.file)?;
-        expect(rt, &file, case.allowed, case.name, case.answer)?;
+        let file = bytes_of(alloc, case.file)?;
+        if !both_find(alloc, &file, case.allowed, case.answer)? {
+            return Ok(Some(case.name));
+        }
     }
+    Ok(None)
+}
+
+/// The same of the cases of walks.
+fn first_wrong_walk(alloc: Global) -> Result<Option<&'static str>, AllocError> {
+    for case in &walks::CASES {
+        let file = bytes_of(alloc, case.file)?;
+        let answer = match &case.answer {
+            Ok(_) => None,
+            Err(fault) => Some(*fault),
+        };
+        if !both_find(alloc, &file, MANY, answer)? {
+            return Ok(Some(case.name));
+        }
+    }
+    Ok(None)
+}
+
+fn expect_all<R: Abort + AllocGlobal>(rt: &R, cases: &[Case]) -> Result<(), Fail> {
+    let wrong = first_wrong(rt.alloc(), cases)?.unwrap_or("");
+    assert!(rt; wrong.is_empty(), "{wrong}");
     Ok(())
 }
 
 #[test]
 fn where_main_data_begin(rt: HostRuntime) -> Result<(), Fail> {
-    expect_all(&rt, &BEGINS)?;
-    Ok(())
+    expect_all(&rt, &BEGINS)
 }
 
 #[test]
 fn where_main_data_end(rt: HostRuntime) -> Result<(), Fail> {
-    expect_all(&rt, &ENDS)?;
-    Ok(())
+    expect_all(&rt, &ENDS)
 }
 
 #[test]
 fn kinds_and_numbers_of_frames(rt: HostRuntime) -> Result<(), Fail> {
-    expect_all(&rt, &FRAMES)?;
-    Ok(())
+    expect_all(&rt, &FRAMES)
 }
 
 #[test]
 fn the_first_of_several_faults(rt: HostRuntime) -> Result<(), Fail> {
-    expect_all(&rt, &ORDERS)?;
-    Ok(())
+    expect_all(&rt, &ORDERS)
 }
 
 #[test]
 fn faults_of_walks(rt: HostRuntime) -> Result<(), Fail> {
-    for case in &walks::CASES {
-        let file = bytes_of(rt.alloc(), case.file)?;
-        let answer = match &case.answer {
-            Ok(_) => None,
-            Err(fault) => Some(*fault),
-        };
-        expect(&rt, &file, MANY, case.name, answer)?;
-    }
+    let wrong = first_wrong_walk(rt.alloc())?.unwrap_or("");
+    assert!(rt; wrong.is_empty(), "{wrong}");
     Ok(())
 }
 
@@ -309,14 +320,22 @@ static CUTS: [Cut; 11] = table! {
     (834, None)
 };
 
+/// The length of the first cut file whose fault is another.
+fn wrong_cut(alloc: Global) -> Result<Option<usize>, AllocError> {
+    for cut in &CUTS {
+        let mut file = bytes_of(alloc, TWO_FRAMES)?;
+        file.truncate(cut.length);
+        if !both_find(alloc, &file, 2, cut.answer)? {
+            return Ok(Some(cut.length));
+        }
+    }
+    Ok(None)
+}
+
 #[test]
 fn files_cut_short(rt: HostRuntime) -> Result<(), Fail> {
-    for cut in &CUTS {
-        let mut file = bytes_of(rt.alloc(), TWO_FRAMES)?;
-        file.truncate(cut.length);
-        let what = format!(in rt.alloc(); "{} bytes", cut.length)?;
-        expect(&rt, &file, 2, &what, cut.answer)?;
-    }
+    let wrong = wrong_cut(rt.alloc())?.unwrap_or(1000);
+    assert!(rt; wrong == 1000, "{wrong} bytes");
     Ok(())
 }
 
@@ -355,15 +374,23 @@ static CHANGES: [Change; 23] = table! {
     (420, 0xbf, None)
 };
 
-#[test]
-fn changed_headers(rt: HostRuntime) -> Result<(), Fail> {
+/// The first change whose fault is another.
+fn wrong_change(alloc: Global) -> Result<Option<(usize, u8)>, AllocError> {
     for change in &CHANGES {
-        let mut file = bytes_of(rt.alloc(), TWO_FRAMES)?;
+        let mut file = bytes_of(alloc, TWO_FRAMES)?;
         if let Some(byte) = file.get_mut(change.at) {
             *byte = change.value;
         }
-        let what = format!(in rt.alloc(); "byte {} as {}", change.at, change.value)?;
-        expect(&rt, &file, 2, &what, change.answer)?;
+        if !both_find(alloc, &file, 2, change.answer)? {
+            return Ok(Some((change.at, change.value)));
+        }
     }
+    Ok(None)
+}
+
+#[test]
+fn changed_headers(rt: HostRuntime) -> Result<(), Fail> {
+    let (at, value) = wrong_change(rt.alloc())?.unwrap_or((0, 0));
+    assert!(rt; at == 0, "byte {at} as {value}");
     Ok(())
 }

@@ -1,0 +1,9 @@
+//! Walks over frames and blocks, lost frames, and first faults, which a plain reading finds too.
+mod first_faults;
+mod long;
+mod lost;
+mod plain;
+mod shapes;
+mod shrunk;
+mod stretches;
+mod walks;
