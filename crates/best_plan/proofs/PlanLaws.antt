@@ -18,7 +18,7 @@ use Rattle.best_plan.specs.Best.{IsBestFor, items_behind, IsBestPlan}
 use Rattle.best_plan.specs.Rows.{nothing, IsChoice}
 use Rattle.best_plan.specs.Table.{IsTable, Walks, IsLeadInBy}
 use Rattle.best_plan.proofs.SumLaws.{fits-laid, laid-fits, table-sums, table-bound, table-own}
-use Rattle.best_plan.proofs.WalkLaws.{IsWalked, walked-more, best-walked, walked-best}
+use Rattle.best_plan.proofs.WalkLaws.{IsWalked, table-width, walked-more, best-walked, walked-best}
 
 -- after a whole window the frames can keep their slots
 pub whole-sum : (window : ℕ) (choices : HeaderFields → List SlotFields) (needs : List Need) (sums places : List ℕ) → length needs ≤ 200000 → IsFeasible window window (map own_frame needs) → IsTable window choices needs sums places
@@ -123,5 +123,5 @@ lead-by window class sums cost place slots slot lead choice some all at ascend i
       begin = begin;
     }
 
-pub first-sum : (sums : List ℕ) (value : ℕ) → 0 < length sums → value ≡ get_or sums 0 value → get_or sums 0 0 ≡ value
-first-sum sums value some is = get_or_default sums 0 0 value some ∙ sym is
+pub first-sum : (window : ℕ) (choices : HeaderFields → List SlotFields) (needs : List Need) (sums places : List ℕ) (value : ℕ) → IsTable window choices needs sums places → value ≡ get_or sums 0 value → get_or sums 0 0 ≡ value
+first-sum window choices needs sums places value table is = get_or_default sums 0 0 value (omega (arith, table-width window choices needs sums places table)) ∙ sym is

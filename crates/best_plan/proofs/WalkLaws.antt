@@ -112,9 +112,9 @@ opened window choices free need rest sums places within some table =
       behind = subst (IsTable window choices rest table.later) (sym before) table.behind;
     }
 
-pub walk-open : (window : ℕ) (choices : HeaderFields → List SlotFields) (free : ℕ) (needs : List Need) (i : ℕ) (need : Need) (places : List ℕ) → free ≤ window → i < length needs → need ≡ get_or needs i need
+pub walk-open : {window : ℕ} {choices : HeaderFields → List SlotFields} {free : ℕ} {places : List ℕ} (needs : List Need) (i : ℕ) (need : Need) → free ≤ window → i < length needs → need ≡ get_or needs i need
     → CanWalk window choices free (drop i needs) places → IsOpen window choices free need (drop (i + 1) needs) places
-walk-open window choices free needs i need places within lt is can =
+walk-open {window} {choices} {free} {places} needs i need within lt is can =
     opened window choices free need (drop (i + 1) needs) can.sums places within can.some (subst (λ l. IsTable window choices l can.sums places) (next_need needs i need lt is) can.table)
 
 pub walk-next : (window : ℕ) (choices : HeaderFields → List SlotFields) (free after area : ℕ) (need : Need) (rest : List Need) (places left : List ℕ) (front : IsOpen window choices free need rest places)
@@ -163,8 +163,11 @@ goes-all window choices free after needs i old new within all so_far =
       best = best-walked window free (map (item_of choices) needs) so_far.more within (subst (IsWalked window free (map (item_of choices) needs)) (append-nil so_far.more) (so_far.goes [] none));
     }
 
--- the place that is read
-pub place-is : (places : List ℕ) (count window free value : ℕ) → count ≡ length places → window + 1 ≤ length places → free ≤ window → value ≡ get_or places (count - (window + 1) + free) value
-    → get_or places (length places - (window + 1) + free) 0 ≡ value
-place-is places count window free value all long within is =
-    get_or_default places (length places - (window + 1) + free) 0 value (omega (arith, long, within)) ∙ ap (λ n. get_or places (n - (window + 1) + free) value) (sym all) ∙ sym is
+-- ---- the place that is read, and the area there
+module _ {window : ℕ} {choices : HeaderFields → List SlotFields} {free : ℕ} {need : Need} {rest : List Need} {places : List ℕ} (front : IsOpen window choices free need rest places) (within : free ≤ window) (count value : ℕ)
+    (all : count ≡ length places) (is : value ≡ get_or places (count - (window + 1) + free) value) where
+  pub place-is : get_or places (length places - (window + 1) + free) 0 ≡ value
+  place-is = get_or_default places (length places - (window + 1) + free) 0 value (omega (arith, front.long, within)) ∙ ap (λ n. get_or places (n - (window + 1) + free) value) (sym all) ∙ sym is
+
+  pub area-is : (area : ℕ) → area ≡ get_or (areas_for choices need) value 0 → area ≡ get_or (areas_for choices need) (get_or places (length places - (window + 1) + free) 0) 0
+  area-is area gives = gives ∙ ap (λ n. get_or (areas_for choices need) n 0) (sym place-is)

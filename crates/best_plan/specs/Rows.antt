@@ -1,6 +1,6 @@
 -- How `best` works: for each frame and each number of free bytes before it, the least sum of the areas from it on, and the first area that
 -- has it.
-use Rattle.std.specs.Prelude.{◌≡◌, ℕ, ◌+◌, ◌-◌, ◌<◌, ◌≤◌, List, ◌++◌, length, slice_index}
+use Rattle.std.specs.Prelude.{◌≡◌, ℕ, ◌+◌, ◌-◌, ◌<◌, ◌≤◌, List, ◌++◌, All, AllPairs, length, slice_index}
 use Rattle.slot_plan.specs.Reserve.{free_behind}
 
 -- the sum if nothing fits, greater than all others
@@ -24,6 +24,13 @@ pub record IsChoice (window free bytes : ℕ) (areas later : List ℕ) (cost pla
   pub fits : cost < nothing → bytes ≤ free + slice_index areas place
   pub found : cost < nothing → cost ≡ sum_with window free bytes later (slice_index areas place)
   pub first : (k : ℕ) → k < place → cost < nothing → bytes ≤ free + slice_index areas k → cost < sum_with window free bytes later (slice_index areas k)
+
+-- the areas of a frame after so large a window
+pub record AreChoices (window : ℕ) (areas : List ℕ) : Type 0 where
+  pub narrow : window ≤ 511
+  pub most : All (λ n. n ≤ 1441) areas
+  pub few : length areas ≤ 28
+  pub ascending : AllPairs (λ m n. m < n) areas
 
 -- a row for each number of free bytes up to the window: sums and places
 pub record IsRow (window bytes : ℕ) (areas later row cells : List ℕ) : Type 0 where

@@ -17,6 +17,17 @@ pub(crate) struct Choice {
     pub(crate) place: u8,
 }
 
+/// What a row of choices is made from: at most how many bytes are free before the frame, how many bytes its
+/// main data have, the areas among which it chooses, and the least sums of the frames after it, by the bytes
+/// that are free before them.
+#[derive(Clone, Copy)]
+pub(crate) struct Row<'a> {
+    pub(crate) window: u32,
+    pub(crate) bytes: u32,
+    pub(crate) areas: &'a [u32],
+    pub(crate) later: &'a [u32],
+}
+
 /// What is known before the areas of a frame are tried: those before the place `from` are too small, no
 /// later sum is less than `alone`, and none is less than `together` once the bytes that are free before it
 /// are added.

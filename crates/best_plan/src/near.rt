@@ -1,9 +1,9 @@
 //! Rows in which each free byte spares at most one. In front of such a row the first area that leaves enough free bytes for
 //! the frames after it is the best.
-ghost use Rattle.std.specs.Prelude.{◌≡◌, ℕ, ◌+◌, ◌<◌, ◌≤◌, All, AllPairs, length, slice_index, IfOk, IfSome};
-ghost use Rattle.best_plan.specs.Rows.{nothing, IsNear, AreSums, AppendsRow};
+ghost use Rattle.std.specs.Prelude.{◌≡◌, ℕ, ◌+◌, ◌<◌, ◌≤◌, length, slice_index, IfOk, IfSome};
+ghost use Rattle.best_plan.specs.Rows.{nothing, IsNear, AreChoices, AreSums, AppendsRow};
 
-use crate::choice::NOTHING;
+use crate::choice::{NOTHING, Row};
 use crate::even::end_at;
 use std::alloc::AllocError;
 
@@ -46,26 +46,22 @@ fn write_none(end: usize, sums: &mut [u32])
 }
 
 /// The sums of an area and of the least sum after it, from so many free bytes on and before as many.
-fn write_sums(
-    window: usize,
-    bytes: usize,
-    area: u32,
-    later: &[u32],
-    start: usize,
-    end: usize,
-    sums: &mut [u32],
-)
-    requires window { window ≤ 511 }
+fn write_sums(row: Row<'_>, area: u32, start: usize, end: usize, sums: &mut [u32])
+    requires window { row.window ≤ 511 }
     requires area { area ≤ 1441 }
-    requires later { length later.now ≡ window + 1 }
-    requires width { length sums.old ≡ window + 1 }
-    requires end { end ≤ window + 1 }
-    requires fits { start < end → bytes ≤ start + area }
-    ensures { AreSums window bytes area later.now start end sums.old sums.new }
+    requires later { length row.later.now ≡ row.window + 1 }
+    requires width { length sums.old ≡ row.window + 1 }
+    requires end { end ≤ row.window + 1 }
+    requires fits { start < end → row.bytes ≤ start + area }
+    ensures { AreSums row.entry.window row.entry.bytes area row.entry.later.now start end sums.old
+        sums.new }
 {
     if end <= start {
         return;
     }
+    let window = row.window as usize;
+    let bytes = row.bytes as usize;
+    let later = row.later;
     // Here and later the whole window is free behind the area.
     let full = (window + bytes)
         .saturating_sub(area as usize)
@@ -82,23 +78,23 @@ fn write_sums(
 
 /// The row of a frame in front of one in which each free byte from so many on spares at most one.
 pub(crate) fn append_near(
-    window: u32,
-    bytes: u32,
-    areas: &[u32],
-    later: &[u32],
+    row: Row<'_>,
     least: u32,
     sums: &mut Vec<u32>,
     places: &mut Vec<u8>,
 ) -> Result<(), AllocError>
-    requires window { window ≤ 511 }
-    requires areas { All (λ n. n ≤ 1441) areas.now }
-    requires few { length areas.now ≤ 28 }
-    requires ascending { AllPairs (λ m n. m < n) areas.now }
-    requires later { length later.now ≡ window + 1 }
-    requires near { IsNear later.now least }
-    ensures { IfOk result (λ _. AppendsRow window bytes areas.now later.now sums.new.items
-        places.old.items places.new.items) }
+    requires choices { AreChoices row.window row.areas.now }
+    requires later { length row.later.now ≡ row.window + 1 }
+    requires near { IsNear row.later.now least }
+    ensures { IfOk result (λ _. AppendsRow row.entry.window row.entry.bytes row.entry.areas.now
+        row.entry.later.now sums.new.items places.old.items places.new.items) }
 {
+    let Row {
+        window,
+        bytes,
+        areas,
+        ..
+    } = row;
     let wanted = bytes.saturating_add(least);
     let from = places.len();
     sums.resize(window as usize + 1, NOTHING)?;
@@ -107,15 +103,7 @@ pub(crate) fn append_near(
     places.resize(from + start, 0)?;
     for place in (0..areas.len()).rev() {
         let end = end_at(window, wanted, areas, place) as usize;
-        write_sums(
-            window as usize,
-            bytes as usize,
-            areas[place],
-            later,
-            start,
-            end,
-            sums.as_mut_slice(),
-        );
+        write_sums(row, areas[place], start, end, sums.as_mut_slice());
         places.resize(from + end, place as u8)?;
         start = end;
     }

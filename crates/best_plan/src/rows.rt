@@ -1,8 +1,8 @@
 //! The choices of one frame, for each number of free bytes before it.
-ghost use Rattle.std.specs.Prelude.{◌≡◌, ◌+◌, ◌<◌, ◌≤◌, All, AllPairs, IsTrue, length, slice_index, IfOk, IfSome};
-ghost use Rattle.best_plan.specs.Rows.{nothing, IsEven, IsNear, HasRoom, AppendsRow};
+ghost use Rattle.std.specs.Prelude.{◌≡◌, ◌+◌, ◌<◌, ◌≤◌, AllPairs, IsTrue, length, slice_index, IfOk, IfSome};
+ghost use Rattle.best_plan.specs.Rows.{nothing, IsEven, IsNear, HasRoom, AreChoices, AppendsRow};
 
-use crate::choice::{Known, NOTHING, best_choice, bounds_of, too_small};
+use crate::choice::{Known, NOTHING, Row, best_choice, bounds_of, too_small};
 use crate::even::{add_to_all, append_first, has_room, is_even};
 use crate::near::{append_near, near_from};
 use std::alloc::AllocError;
@@ -25,33 +25,23 @@ pub(crate) struct Sums {
 ///
 /// # Errors
 /// Where there is no memory.
-fn append_row(
-    window: u32,
-    bytes: u32,
-    areas: &[u32],
-    later: &[u32],
-    sums: &mut Vec<u32>,
-    places: &mut Vec<u8>,
-) -> Result<(), AllocError>
-    requires window { window ≤ 511 }
-    requires areas { All (λ n. n ≤ 1441) areas.now }
-    requires few { length areas.now ≤ 28 }
-    requires ascending { AllPairs (λ m n. m < n) areas.now }
-    requires later { length later.now ≡ window + 1 }
-    ensures { IfOk result (λ _. AppendsRow window bytes areas.now later.now sums.new.items
-        places.old.items places.new.items) }
+fn append_row(row: Row<'_>, sums: &mut Vec<u32>, places: &mut Vec<u8>) -> Result<(), AllocError>
+    requires choices { AreChoices row.window row.areas.now }
+    requires later { length row.later.now ≡ row.window + 1 }
+    ensures { IfOk result (λ _. AppendsRow row.entry.window row.entry.bytes row.entry.areas.now
+        row.entry.later.now sums.new.items places.old.items places.new.items) }
 {
-    let bounds = bounds_of(later);
-    let mut from = areas.len();
+    let bounds = bounds_of(row.later);
+    let mut from = row.areas.len();
     sums.clear();
-    for free in 0..window + 1 {
-        from = too_small(free, bytes, areas, from);
+    for free in 0..row.window + 1 {
+        from = too_small(free, row.bytes, row.areas, from);
         let known = Known {
             from,
             alone: bounds.alone,
             together: bounds.together,
         };
-        let choice = best_choice(window, free, bytes, areas, later, known);
+        let choice = best_choice(row.window, free, row.bytes, row.areas, row.later, known);
         sums.push(choice.sum)?;
         places.push(choice.place)?;
     }
@@ -63,26 +53,20 @@ fn append_row(
 /// # Errors
 /// Where there is no memory.
 fn append_next(
-    window: u32,
-    bytes: u32,
-    areas: &[u32],
-    later: &[u32],
+    row: Row<'_>,
     near: Option<u32>,
     sums: &mut Vec<u32>,
     places: &mut Vec<u8>,
 ) -> Result<(), AllocError>
-    requires window { window ≤ 511 }
-    requires areas { All (λ n. n ≤ 1441) areas.now }
-    requires few { length areas.now ≤ 28 }
-    requires ascending { AllPairs (λ m n. m < n) areas.now }
-    requires later { length later.now ≡ window + 1 }
-    requires near { IfSome near (λ least. IsNear later.now least) }
-    ensures { IfOk result (λ _. AppendsRow window bytes areas.now later.now sums.new.items
-        places.old.items places.new.items) }
+    requires choices { AreChoices row.window row.areas.now }
+    requires later { length row.later.now ≡ row.window + 1 }
+    requires near { IfSome near (λ least. IsNear row.later.now least) }
+    ensures { IfOk result (λ _. AppendsRow row.entry.window row.entry.bytes row.entry.areas.now
+        row.entry.later.now sums.new.items places.old.items places.new.items) }
 {
     match near {
-        Some(least) => append_near(window, bytes, areas, later, least, sums, places),
-        None => append_row(window, bytes, areas, later, sums, places),
+        Some(least) => append_near(row, least, sums, places),
+        None => append_row(row, sums, places),
     }
 }
 
@@ -124,32 +108,28 @@ pub(crate) fn append_frame(
     sums: &mut Sums,
     places: &mut Vec<u8>,
 ) -> Result<(), AllocError>
-    requires window { window ≤ 511 }
-    requires areas { All (λ n. n ≤ 1441) areas.now }
-    requires few { length areas.now ≤ 28 }
-    requires ascending { AllPairs (λ m n. m < n) areas.now }
+    requires choices { AreChoices window areas.now }
     requires width { length sums.old.by_free.items ≡ window + 1 }
     requires even { IsTrue sums.old.even → IsEven sums.old.by_free.items }
     requires near { IfSome sums.old.near (λ least. IsNear sums.old.by_free.items least) }
     ensures row { IfOk result (λ _. AppendsRow window bytes areas.now sums.old.by_free.items
         sums.new.by_free.items places.old.items places.new.items) }
     ensures even { IfOk result (λ _. IsTrue sums.new.even → IsEven sums.new.by_free.items) }
-    ensures near { IfOk result (λ _. IfSome sums.new.near (λ least. IsNear sums.new.by_free.items least)) }
+    ensures near { IfOk result (λ _. IfSome sums.new.near
+        (λ least. IsNear sums.new.by_free.items least)) }
 {
     if sums.even && sums.by_free[0] < NOTHING - bytes && has_room(window, bytes, areas) {
         append_even(window, bytes, areas, &mut sums.by_free, places)?;
         sums.near = Some(0);
         return Ok(());
     }
-    append_next(
+    let row = Row {
         window,
         bytes,
         areas,
-        sums.by_free.as_slice(),
-        sums.near,
-        &mut sums.spare,
-        places,
-    )?;
+        later: sums.by_free.as_slice(),
+    };
+    append_next(row, sums.near, &mut sums.spare, places)?;
     swap(&mut sums.by_free, &mut sums.spare);
     sums.even = is_even(sums.by_free.as_slice());
     sums.near = near_from(sums.by_free.as_slice());

@@ -1,9 +1,11 @@
 //! Places the frames, from the first to the last: each in the area that the table has for the bytes that
 //! are free before it.
 ghost use Rattle.std.specs.Prelude.{◌≡◌, ◌<◌, ◌≤◌, false, AllPairs, Contains, length, slice_index, IfOk};
+ghost use Rattle.frame_header.specs.Tables.{class_of, area_of};
 ghost use Rattle.slot_plan.specs.Parts.{area_in, item_of};
 ghost use Rattle.best_plan.specs.Table.{areas_for, CanWalk, Walks};
 
+use frame_header::Slot;
 use slot_plan::{Need, Placed, Policy, free_behind};
 use std::alloc::AllocError;
 
@@ -24,6 +26,14 @@ fn frame_at<P: Policy>(need: &Need, place: u8, free: u32, policy: &P) -> Placed
         slot: choices.as_slice()[place as usize],
         begin: free as u16,
     }
+}
+
+/// The area of a frame in this slot, in bytes.
+fn area_with(need: &Need, slot: Slot) -> u32
+    ensures area { result ≡ area_of (class_of need.now.header) slot need.now.header.protected }
+    ensures most { result ≤ 1441 }
+{
+    need.header.class().area_of(slot, need.header.protected)
 }
 
 /// Places the frames, where so many bytes are free before the first.
@@ -52,8 +62,7 @@ pub(crate) fn walk<P: Policy>(
         let place = places[from + free as usize];
         places.truncate(from);
         let frame = frame_at(need, place, free, policy);
-        let class = need.header.class();
-        let area = class.area_of(frame.slot, need.header.protected);
+        let area = area_with(need, frame.slot);
         free = free_behind(window, free, need.bytes as u32, area);
         placed.push(frame)?;
     }

@@ -3,4 +3,4 @@ use Rattle.best_plan.proofs.NearLaws.{IsNearTo}
 use Rattle.best_plan.proofs.near.append_near.Given as goal
 
 abbrev pub invariant-loop-place : goal.invariant-loop-place
-invariant-loop-place l = IsNearTo l.window l.bytes l.wanted l.areas l.later l.place l.start l.sums.items l.fn.places.items l.places.items
+invariant-loop-place l = IsNearTo l.window l.bytes l.wanted l.areas l.row.later.now l.place l.start l.sums.items l.fn.places.items l.places.items

@@ -8,9 +8,9 @@ loop-free-preserved c =
     let a = c.args in
     record {
       row =
-          subst (λ l. IsRowTo a.window a.bytes a.areas.now a.later.now (c.loop-free.free + 1) l a.places.now.items c.push-in-loop-free.new.self.items) (sym c.in_ok-push.ensures.items)
-          (subst (λ l. IsRowTo a.window a.bytes a.areas.now a.later.now (c.loop-free.free + 1) (c.loop-free.sums.items ++ c.best_choice-choice.result.sum ∷ []) a.places.now.items l) (sym c.in_ok-push-2.ensures.items)
-          (row-more a.window a.bytes a.areas.now a.later.now c.loop-free.free c.loop-free.sums.items a.places.now.items c.loop-free.places.items c.best_choice-choice.result.sum c.best_choice-choice.result.place
+          subst (λ l. IsRowTo a.row.window a.row.bytes a.row.areas.now a.row.later.now (c.loop-free.free + 1) l a.places.now.items c.push-in-loop-free.new.self.items) (sym c.in_ok-push.ensures.items)
+          (subst (λ l. IsRowTo a.row.window a.row.bytes a.row.areas.now a.row.later.now (c.loop-free.free + 1) (c.loop-free.sums.items ++ c.best_choice-choice.result.sum ∷ []) a.places.now.items l) (sym c.in_ok-push-2.ensures.items)
+          (row-more a.row.window a.row.bytes a.row.areas.now a.row.later.now c.loop-free.free c.loop-free.sums.items a.places.now.items c.loop-free.places.items c.best_choice-choice.result.sum c.best_choice-choice.result.place
           c.best_choice-choice.ensures c.loop-free.invariant.row));
       from = omega (arith, c.too_small-from.ensures.within, c.loop-free.invariant.from);
     }

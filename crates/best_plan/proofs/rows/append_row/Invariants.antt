@@ -5,6 +5,6 @@ use Rattle.best_plan.proofs.rows.append_row.Given as goal
 
 abbrev pub invariant-loop-free : goal.invariant-loop-free
 invariant-loop-free l = record {
-  row : IsRowTo l.window l.bytes l.areas l.later l.free l.sums.items l.initial.places.items l.places.items;
-  from : l.from ≤ length l.areas;
+  row : IsRowTo l.row.window l.row.bytes l.row.areas.now l.row.later.now l.free l.sums.items l.initial.places.items l.places.items;
+  from : l.from ≤ length l.row.areas.now;
 }

@@ -19,11 +19,10 @@ returns-then-index-lt-NOTHING g c =
     let needs = c.args.needs.now in
     let choices = g.P.Policy.choices_of c.args.policy.now in
     let sums = c.in_ok-table.table.sums.items in
-    let places = c.in_ok-table.table.places.items in
     let window = window-first needs c.index-needs-0.result c.class-class.result c.window-window.result c.requires.class c.requires.some c.class-class.ensures c.window-window.ensures.window in
-    let first = first-sum sums c.index.result.now (omega (arith, table-width c.window-window.result choices needs sums places c.in_ok-table.ensures)) c.index.ensures in
+    let first = first-sum c.window-window.result choices needs sums c.in_ok-table.table.places.items c.index.result.now c.in_ok-table.ensures c.index.ensures in
     subst (λ n. IsBestPlan n choices needs (entries c.from_placed.result)) window
-    (plan-without c.window-window.result choices needs sums places c.in_ok-placed.placed.items c.walk.new.placed.items (entries c.from_placed.result) c.in_ok-table.ensures (omega (arith, first, c.if-index-lt-NOTHING.true)) c.in_ok-placed.ensures.items c.in_ok-walk.ensures c.from_placed.ensures)
+    (plan-without c.window-window.result choices needs sums c.in_ok-table.table.places.items c.in_ok-placed.placed.items c.walk.new.placed.items (entries c.from_placed.result) c.in_ok-table.ensures (omega (arith, first, c.if-index-lt-NOTHING.true)) c.in_ok-placed.ensures.items c.in_ok-walk.ensures c.from_placed.ensures)
 
 pub lead_in-frame-requires-clause-sums : goal.lead_in-frame-requires-clause-sums
 lead_in-frame-requires-clause-sums g c =
@@ -44,7 +43,7 @@ returns g c =
     let sums = c.in_ok-table.table.sums.items in
     let places = c.in_ok-table.table.places.items in
     let window = window-first needs c.index-needs-0.result c.class-class.result c.window-window.result c.requires.class c.requires.some c.class-class.ensures c.window-window.ensures.window in
-    let first = first-sum sums c.index.result.now (omega (arith, table-width c.window-window.result choices needs sums places c.in_ok-table.ensures)) c.index.ensures in
+    let first = first-sum c.window-window.result choices needs sums places c.index.result.now c.in_ok-table.ensures c.index.ensures in
     let by = subst (λ l. IsLeadInBy c.window-window.result c.class-class.result l c.lead_in-frame.result) c.as_slice.ensures.value c.lead_in-frame.ensures in
     let old = c.in_ok-push.ensures.items ∙ ap (λ l. l ++ c.lead_in-frame.result ∷ []) c.in_ok-placed.ensures.items in
     subst (λ n. IsBestPlan n choices needs (entries c.from_placed-2.result)) window

@@ -1,16 +1,13 @@
 -- One frame more, and the last.
-use Rattle.std.proofs.Common.{◌≡◌, ◌+◌, ◌-◌, length, get_or, take, drop, sym, ap, ◌∙◌, subst, arith}
-use Rattle.frame_header.specs.Tables.{class_of, area_of}
+use Rattle.std.proofs.Common.{◌≡◌, ◌+◌, ◌-◌, length, take, drop, sym, ap, ◌∙◌, subst, arith}
 use Rattle.slot_plan.specs.Parts.{area_in, item_of}
 use Rattle.slot_plan.specs.Reserve.{free_behind}
-use Rattle.best_plan.specs.Table.{areas_for}
-use Rattle.best_plan.proofs.WalkLaws.{GoesOn, walk-open, walk-next, goes-begun, goes-more, goes-all, place-is}
+use Rattle.best_plan.proofs.WalkLaws.{GoesOn, walk-open, walk-next, goes-begun, goes-more, goes-all, place-is, area-is}
 use Rattle.best_plan.proofs.walk.walk.Goals as goal
 
 pub overflow_sub-from : goal.overflow_sub-from
 overflow_sub-from g c =
-    let front = walk-open c.args.window (g.P.Policy.choices_of c.args.policy.now) c.loop-need.free c.args.needs.now c.loop-need.need-index c.need-item.result c.loop-need.places.items
-    c.loop-need.invariant.free c.loop-need-test.true c.need-item.is c.loop-need.invariant.can in
+    let front = walk-open c.args.needs.now c.loop-need.need-index c.need-item.result c.loop-need.invariant.free c.loop-need-test.true c.need-item.is c.loop-need.invariant.can in
     omega (arith, front.long)
 
 pub loop-need-init : goal.loop-need-init
@@ -22,45 +19,30 @@ loop-need-init g c = record {
 
 pub index-place-requires : goal.index-place-requires
 index-place-requires g c =
-    let front = walk-open c.args.window (g.P.Policy.choices_of c.args.policy.now) c.loop-need.free c.args.needs.now c.loop-need.need-index c.need-item.result c.loop-need.places.items
-    c.loop-need.invariant.free c.loop-need-test.true c.need-item.is c.loop-need.invariant.can in
+    let front = walk-open c.args.needs.now c.loop-need.need-index c.need-item.result c.loop-need.invariant.free c.loop-need-test.true c.need-item.is c.loop-need.invariant.can in
     omega (arith, front.long, c.len.ensures, c.loop-need.invariant.free)
 
 pub frame_at-frame-requires-clause-place : goal.frame_at-frame-requires-clause-place
 frame_at-frame-requires-clause-place g c =
-    let front = walk-open c.args.window (g.P.Policy.choices_of c.args.policy.now) c.loop-need.free c.args.needs.now c.loop-need.need-index c.need-item.result c.loop-need.places.items
-    c.loop-need.invariant.free c.loop-need-test.true c.need-item.is c.loop-need.invariant.can in
-    let place = place-is c.loop-need.places.items c.len.result c.args.window c.loop-need.free c.index-place.result.now (omega (arith, c.len.ensures)) front.long c.loop-need.invariant.free c.index-place.ensures in
+    let front = walk-open c.args.needs.now c.loop-need.need-index c.need-item.result c.loop-need.invariant.free c.loop-need-test.true c.need-item.is c.loop-need.invariant.can in
+    let place = place-is front c.loop-need.invariant.free c.len.result c.index-place.result.now (omega (arith, c.len.ensures)) c.index-place.ensures in
     omega (arith, front.choice.within front.some, place)
 
 pub free_behind-free-requires-clause-fits : goal.free_behind-free-requires-clause-fits
 free_behind-free-requires-clause-fits g c =
-    let front = walk-open c.args.window (g.P.Policy.choices_of c.args.policy.now) c.loop-need.free c.args.needs.now c.loop-need.need-index c.need-item.result c.loop-need.places.items
-    c.loop-need.invariant.free c.loop-need-test.true c.need-item.is c.loop-need.invariant.can in
-    let place = place-is c.loop-need.places.items c.len.result c.args.window c.loop-need.free c.index-place.result.now (omega (arith, c.len.ensures)) front.long c.loop-need.invariant.free c.index-place.ensures in
-    let choices = g.P.Policy.choices_of c.args.policy.now in
-    let need = c.need-item.result in
-    let slot = c.frame_at-frame.result.slot in
-    let area : c.area_of-area.result ≡ area_of (class_of need.header) slot need.header.protected =
-    c.area_of-area.ensures.area ∙ ap (λ n. area_of c.class-class.result slot n.header.protected) c.need.view_is ∙ ap (λ k. area_of k slot need.header.protected) c.class-class.ensures in
-    let at : area_in (item_of choices need) slot ≡ get_or (areas_for choices need) (get_or c.loop-need.places.items (length c.loop-need.places.items - (c.args.window + 1) + c.loop-need.free) 0) 0 =
-    c.frame_at-frame.ensures.area ∙ ap (λ n. get_or (areas_for choices need) n 0) (sym place) in
-    omega (arith, front.choice.fits front.some, area, at, ap (λ n. n.bytes) c.need.view_is)
+    let front = walk-open c.args.needs.now c.loop-need.need-index c.need-item.result c.loop-need.invariant.free c.loop-need-test.true c.need-item.is c.loop-need.invariant.can in
+    let at = area-is front c.loop-need.invariant.free c.len.result c.index-place.result.now (omega (arith, c.len.ensures)) c.index-place.ensures _ c.frame_at-frame.ensures.area in
+    omega (arith, front.choice.fits front.some, c.area_with-area.ensures.area, at)
 
 pub loop-need-preserved : goal.loop-need-preserved
 loop-need-preserved g c =
-    let front = walk-open c.args.window (g.P.Policy.choices_of c.args.policy.now) c.loop-need.free c.args.needs.now c.loop-need.need-index c.need-item.result c.loop-need.places.items
-    c.loop-need.invariant.free c.loop-need-test.true c.need-item.is c.loop-need.invariant.can in
-    let place = place-is c.loop-need.places.items c.len.result c.args.window c.loop-need.free c.index-place.result.now (omega (arith, c.len.ensures)) front.long c.loop-need.invariant.free c.index-place.ensures in
+    let front = walk-open c.args.needs.now c.loop-need.need-index c.need-item.result c.loop-need.invariant.free c.loop-need-test.true c.need-item.is c.loop-need.invariant.can in
+    let at = area-is front c.loop-need.invariant.free c.len.result c.index-place.result.now (omega (arith, c.len.ensures)) c.index-place.ensures _ c.frame_at-frame.ensures.area in
     let choices = g.P.Policy.choices_of c.args.policy.now in
     let need = c.need-item.result in
     let slot = c.frame_at-frame.result.slot in
-    let area : c.area_of-area.result ≡ area_of (class_of need.header) slot need.header.protected =
-    c.area_of-area.ensures.area ∙ ap (λ n. area_of c.class-class.result slot n.header.protected) c.need.view_is ∙ ap (λ k. area_of k slot need.header.protected) c.class-class.ensures in
-    let at : area_in (item_of choices need) slot ≡ get_or (areas_for choices need) (get_or c.loop-need.places.items (length c.loop-need.places.items - (c.args.window + 1) + c.loop-need.free) 0) 0 =
-    c.frame_at-frame.ensures.area ∙ ap (λ n. get_or (areas_for choices need) n 0) (sym place) in
     let free : c.free_behind-free.result ≡ free_behind c.args.window c.loop-need.free need.bytes (area_in (item_of choices need) slot) =
-    c.free_behind-free.ensures.free ∙ ap (λ n. free_behind c.args.window c.loop-need.free n.bytes c.area_of-area.result) c.need.view_is ∙ ap (λ n. free_behind c.args.window c.loop-need.free need.bytes n) area in
+    c.free_behind-free.ensures.free ∙ ap (λ n. free_behind c.args.window c.loop-need.free need.bytes n) c.area_with-area.ensures.area in
     let taken : c.truncate.new.self.items ≡ take (length c.loop-need.places.items - (c.args.window + 1)) c.loop-need.places.items =
     c.truncate.ensures.items ∙ ap (λ n. take (n - (c.args.window + 1)) c.loop-need.places.items) (omega (arith, c.len.ensures)) in
     record {
