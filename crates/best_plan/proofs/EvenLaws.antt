@@ -1,5 +1,5 @@
 -- Before a row in which each free byte spares one, the first area with which the main data fit is the best.
-use Rattle.std.proofs.Common.{◌≡◌, ℕ, ◌+◌, ◌-◌, ◌<◌, ◌≤◌, inl, inr, List, [], ◌∷◌, ◌++◌, map, length, length-append, get_or, take, drop, replicate, set, All, refl, sym, ap, ap₂, ◌∙◌, subst, append_assoc, arith}
+use Rattle.std.proofs.Common.{◌≡◌, ℕ, ◌+◌, ◌-◌, ◌<◌, ◌≤◌, inl, inr, List, [], ◌∷◌, ◌++◌, map, length, length-append, get_or, take, drop, replicate, set, All, sym, ap, ap₂, ◌∙◌, subst, append_assoc, arith}
 use Rattle.std.proofs.lemmas.List.{take_all, drop_more, take_more, set_at, length-take-le, map-append, get_or-append_right, get_or-drop, append-nil, get_or_append_left, get_or-append-add, get_or_default, get_or-map, length-map, length-replicate, get_or-replicate}
 use Rattle.std.proofs.lemmas.Bool.{cases_lt}
 use Rattle.slot_plan.specs.Reserve.{free_behind}

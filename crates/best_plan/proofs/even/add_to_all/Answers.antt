@@ -1,7 +1,5 @@
 -- One sum more.
-use Rattle.std.proofs.Common.{◌+◌, ◌<◌, length, get_or, refl, ap, arith}
-use Rattle.std.proofs.lemmas.List.{get_or_default}
-use Rattle.best_plan.specs.Rows.{nothing}
+use Rattle.std.proofs.Common.{◌<◌, length, refl, arith}
 use Rattle.best_plan.proofs.EvenLaws.{added-more}
 use Rattle.best_plan.proofs.even.add_to_all.Goals as goal
 

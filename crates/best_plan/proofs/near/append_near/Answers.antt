@@ -1,5 +1,5 @@
 -- One area more, from the last to the first.
-use Rattle.std.proofs.Common.{◌≡◌, ◌+◌, ◌-◌, ◌<◌, ◌≤◌, ◌++◌, ◌∙◌, length, take, drop, get_or, sym, ap, ap₂, subst, arith}
+use Rattle.std.proofs.Common.{◌≡◌, ◌+◌, ◌-◌, ◌++◌, ◌∙◌, length, take, get_or, sym, ap, ap₂, subst, arith}
 use Rattle.std.specs.Prelude.{replicate}
 use Rattle.best_plan.specs.Rows.{AreSums}
 use Rattle.best_plan.proofs.NearLaws.{IsNearTo, near-begin, near-next, near-end, wrote-back}

@@ -1,5 +1,5 @@
 -- One frame more, from the last to the first.
-use Rattle.std.proofs.Common.{◌≡◌, ◌+◌, ◌-◌, ◌≤◌, ◌∙◌, drop, All, sym, ap, subst, arith}
+use Rattle.std.proofs.Common.{◌≡◌, ◌+◌, ◌-◌, ◌≤◌, ◌∙◌, drop, All, subst, arith}
 use Rattle.best_plan.specs.Rows.{AppendsRow}
 use Rattle.best_plan.specs.Table.{IsTable}
 use Rattle.best_plan.proofs.WalkLaws.{table-none, table-more, table-width}
