@@ -1,5 +1,5 @@
 -- The division of bits: what it makes of exclusive ors, and a byte at a time by a table.
-use Rattle.std.proofs.Common.{◌≡◌, ℕ, zero, suc, ◌+◌, ◌*◌, ◌/◌, ◌%◌, ◌^◌, ◌<◌, ◌≤◌, true, cond, eqb, List, [], ◌∷◌, ◌++◌, bit_xor, length, get_or, take, drop, refl, sym, ap, ap₂, ◌∙◌, add-zero, arith, lit<}
+use Rattle.std.proofs.Common.{◌≡◌, ℕ, zero, suc, ◌+◌, ◌*◌, ◌/◌, ◌%◌, ◌^◌, ◌<◌, ◌≤◌, Bool, true, cond, eqb, List, [], ◌∷◌, ◌++◌, bit_xor, length, get_or, take, drop, refl, sym, ap, ap₂, ◌∙◌, add-zero, arith, lit<}
 use lib.Bits.{xor_assoc, xor_self, xor_zero_r, xor_shifted}
 use Rattle.std.proofs.lemmas.Nat.{xor_comm, xor_shr, xor_mod, xor_block, xor_lt, mod_below}
 use Rattle.std.proofs.lemmas.Bool.{eqb-true}
@@ -7,7 +7,7 @@ use Rattle.std.proofs.lemmas.List.{take_more, take-take, drop-take, take-append-
 use Rattle.std.specs.Int.{bit_at}
 use Rattle.bit_fields.specs.Bits.{bits, bits_of, AreBits}
 use Rattle.bit_fields.proofs.BitsLaws.{AreBits-bits_of, bits-append, bits-one}
-use Rattle.side_info.specs.declared.division.TheConstants.{REMAINDERS, REMAINDERS_2, REMAINDERS_3, REMAINDERS_4, REMAINDERS_5, REMAINDERS_6, REMAINDERS_7, REMAINDERS_8}
+use Rattle.side_info.specs.declared.division.TheConstants.{REMAINDERS}
 use Rattle.side_info.specs.CheckWord.{polynomial, bit_step, remainder}
 use Rattle.frame_header.proofs.Below.{all_below, all_below-pass}
 
@@ -103,8 +103,12 @@ moves : all_below 256 (λ low. eqb (remainder low eight_zeros) (low * 256)) ≡ 
 unfolding remainder bit_step
 moves = refl
 
--- the table has what a byte at the top leaves after eight zero bits
-tabled : all_below 256 (λ b. eqb (remainder (b * 256) eight_zeros) (get_or REMAINDERS b 0)) ≡ true
+-- the table for so many bytes more
+abbrev table : ℕ → List ℕ
+table more = get_or REMAINDERS more []
+
+-- the first table has what a byte at the top leaves after eight zero bits
+tabled : all_below 256 (λ b. eqb (remainder (b * 256) eight_zeros) (get_or (table 0) b 0)) ≡ true
 unfolding remainder bit_step
 tabled = refl
 
@@ -136,18 +140,18 @@ module _ (word byte : ℕ) (small : word < 2 ^ 16) (few : byte < 256) where
       ∙ ap (λ x. x * 256 + word % 256) again
       ∙ omega arith)
 
-  pub remainder-byte : bit_xor (word * 256 % 65536) (get_or REMAINDERS (bit_xor (word / 256) byte) 0) ≡ remainder word (bits_of 8 byte)
+  pub remainder-byte : bit_xor (word * 256 % 65536) (get_or (table 0) (bit_xor (word / 256) byte) 0) ≡ remainder word (bits_of 8 byte)
   remainder-byte =
       let gone : remainder (byte * 256) (bits_of 8 byte) ≡ 0 = eqb-true _ _ (all_below-pass 256 (λ b. eqb (remainder (b * 256) (bits_of 8 b)) 0) byte cancels few) in
       let moved : remainder (word % 256) eight_zeros ≡ word % 256 * 256 = eqb-true _ _ (all_below-pass 256 (λ low. eqb (remainder low eight_zeros) (low * 256)) (word % 256) moves (mod_below word 256 (lit< tt))) in
-      let entry : remainder (left * 256) eight_zeros ≡ get_or REMAINDERS left 0 = eqb-true _ _ (all_below-pass 256 (λ b. eqb (remainder (b * 256) eight_zeros) (get_or REMAINDERS b 0)) left tabled left-below) in
+      let entry : remainder (left * 256) eight_zeros ≡ get_or (table 0) left 0 = eqb-true _ _ (all_below-pass 256 (λ b. eqb (remainder (b * 256) eight_zeros) (get_or (table 0) b 0)) left tabled left-below) in
       let lowest : word * 256 % 65536 ≡ word % 256 * 256 = omega arith in
       sym (ap (λ w. remainder w (bits_of 8 byte)) parts
       ∙ remainder-xor (bits_of 8 byte) (byte * 256) (bit_xor (left * 256) (word % 256)) (AreBits-bits_of 8 byte)
       ∙ ap₂ bit_xor gone (ap (remainder (bit_xor (left * 256) (word % 256))) (zeros-bits_of byte))
       ∙ remainder-xor eight_zeros (left * 256) (word % 256) zeros_are_bits
       ∙ ap₂ bit_xor entry (moved ∙ sym lowest)
-      ∙ xor_comm (get_or REMAINDERS left 0) (word * 256 % 65536))
+      ∙ xor_comm (get_or (table 0) left 0) (word * 256 % 65536))
 
 -- ---- two and eight bytes, by a table for each
 
@@ -180,58 +184,19 @@ both_high : (a b : ℕ) → bit_xor (a * 256) (b * 256) ≡ bit_xor a b * 256
 both_high a b = rw (← add-zero (a * 256), ← add-zero (b * 256), ← add-zero (bit_xor a b * 256)) (xor_block 8 a b 0 0 (lit< tt) (lit< tt))
 
 -- each table has what eight more zero bits make of the one before
-tabled-2 : all_below 256 (λ b. eqb (remainder (get_or REMAINDERS b 0) eight_zeros) (get_or REMAINDERS_2 b 0)) ≡ true
+abbrev follows : ℕ → Bool
+follows k = all_below 256 (λ b. eqb (remainder (get_or (table k) b 0) eight_zeros) (get_or (table (k + 1)) b 0))
+
+all_follow : all_below 7 follows ≡ true
 unfolding remainder bit_step
-tabled-2 = refl
+all_follow = refl
 
-tabled-3 : all_below 256 (λ b. eqb (remainder (get_or REMAINDERS_2 b 0) eight_zeros) (get_or REMAINDERS_3 b 0)) ≡ true
-unfolding remainder bit_step
-tabled-3 = refl
+next : (k byte : ℕ) → k < 7 → byte < 256 → behind (get_or (table k) byte 0) ≡ get_or (table (k + 1)) byte 0
+next k byte less few =
+    eqb-true _ _ (all_below-pass 256 (λ b. eqb (remainder (get_or (table k) b 0) eight_zeros) (get_or (table (k + 1)) b 0)) byte (all_below-pass 7 follows k all_follow less) few)
 
-tabled-4 : all_below 256 (λ b. eqb (remainder (get_or REMAINDERS_3 b 0) eight_zeros) (get_or REMAINDERS_4 b 0)) ≡ true
-unfolding remainder bit_step
-tabled-4 = refl
-
-tabled-5 : all_below 256 (λ b. eqb (remainder (get_or REMAINDERS_4 b 0) eight_zeros) (get_or REMAINDERS_5 b 0)) ≡ true
-unfolding remainder bit_step
-tabled-5 = refl
-
-tabled-6 : all_below 256 (λ b. eqb (remainder (get_or REMAINDERS_5 b 0) eight_zeros) (get_or REMAINDERS_6 b 0)) ≡ true
-unfolding remainder bit_step
-tabled-6 = refl
-
-tabled-7 : all_below 256 (λ b. eqb (remainder (get_or REMAINDERS_6 b 0) eight_zeros) (get_or REMAINDERS_7 b 0)) ≡ true
-unfolding remainder bit_step
-tabled-7 = refl
-
-tabled-8 : all_below 256 (λ b. eqb (remainder (get_or REMAINDERS_7 b 0) eight_zeros) (get_or REMAINDERS_8 b 0)) ≡ true
-unfolding remainder bit_step
-tabled-8 = refl
-
-module _ (byte : ℕ) (few : byte < 256) where
-  entry : behind (byte * 256) ≡ get_or REMAINDERS byte 0
-  entry = eqb-true _ _ (all_below-pass 256 (λ b. eqb (remainder (b * 256) eight_zeros) (get_or REMAINDERS b 0)) byte tabled few)
-
-  next-2 : behind (get_or REMAINDERS byte 0) ≡ get_or REMAINDERS_2 byte 0
-  next-2 = eqb-true _ _ (all_below-pass 256 (λ b. eqb (remainder (get_or REMAINDERS b 0) eight_zeros) (get_or REMAINDERS_2 b 0)) byte tabled-2 few)
-
-  next-3 : behind (get_or REMAINDERS_2 byte 0) ≡ get_or REMAINDERS_3 byte 0
-  next-3 = eqb-true _ _ (all_below-pass 256 (λ b. eqb (remainder (get_or REMAINDERS_2 b 0) eight_zeros) (get_or REMAINDERS_3 b 0)) byte tabled-3 few)
-
-  next-4 : behind (get_or REMAINDERS_3 byte 0) ≡ get_or REMAINDERS_4 byte 0
-  next-4 = eqb-true _ _ (all_below-pass 256 (λ b. eqb (remainder (get_or REMAINDERS_3 b 0) eight_zeros) (get_or REMAINDERS_4 b 0)) byte tabled-4 few)
-
-  next-5 : behind (get_or REMAINDERS_4 byte 0) ≡ get_or REMAINDERS_5 byte 0
-  next-5 = eqb-true _ _ (all_below-pass 256 (λ b. eqb (remainder (get_or REMAINDERS_4 b 0) eight_zeros) (get_or REMAINDERS_5 b 0)) byte tabled-5 few)
-
-  next-6 : behind (get_or REMAINDERS_5 byte 0) ≡ get_or REMAINDERS_6 byte 0
-  next-6 = eqb-true _ _ (all_below-pass 256 (λ b. eqb (remainder (get_or REMAINDERS_5 b 0) eight_zeros) (get_or REMAINDERS_6 b 0)) byte tabled-6 few)
-
-  next-7 : behind (get_or REMAINDERS_6 byte 0) ≡ get_or REMAINDERS_7 byte 0
-  next-7 = eqb-true _ _ (all_below-pass 256 (λ b. eqb (remainder (get_or REMAINDERS_6 b 0) eight_zeros) (get_or REMAINDERS_7 b 0)) byte tabled-7 few)
-
-  next-8 : behind (get_or REMAINDERS_7 byte 0) ≡ get_or REMAINDERS_8 byte 0
-  next-8 = eqb-true _ _ (all_below-pass 256 (λ b. eqb (remainder (get_or REMAINDERS_7 b 0) eight_zeros) (get_or REMAINDERS_8 b 0)) byte tabled-8 few)
+entry : (byte : ℕ) → byte < 256 → behind (byte * 256) ≡ get_or (table 0) byte 0
+entry byte few = eqb-true _ _ (all_below-pass 256 (λ b. eqb (remainder (b * 256) eight_zeros) (get_or (table 0) b 0)) byte tabled few)
 
 module _ (word a b : ℕ) (small : word < 2 ^ 16) (a_few : a < 256) (b_few : b < 256) where
   -- what meets the upper byte of the word, and what meets the lower
@@ -264,11 +229,11 @@ module _ (word a b : ℕ) (small : word < 2 ^ 16) (a_few : a < 256) (b_few : b <
   lower_few : lower < 256
   lower_few = xor_lt 8 (word % 256) b (mod_below word 256 (lit< tt)) b_few
 
-  pub remainder-two : bit_xor (get_or REMAINDERS_2 (bit_xor (word / 256) a) 0) (get_or REMAINDERS (bit_xor (word % 256) b) 0) ≡ remainder (remainder word (bits_of 8 a)) (bits_of 8 b)
-  remainder-two = sym (after_b ∙ ap₂ bit_xor (ap behind (entry upper upper_few) ∙ next-2 upper upper_few) (entry lower lower_few))
+  pub remainder-two : bit_xor (get_or (table 1) (bit_xor (word / 256) a) 0) (get_or (table 0) (bit_xor (word % 256) b) 0) ≡ remainder (remainder word (bits_of 8 a)) (bits_of 8 b)
+  remainder-two = sym (after_b ∙ ap₂ bit_xor (ap behind (entry upper upper_few) ∙ next 0 upper (lit< tt) upper_few) (entry lower lower_few))
 
 -- a byte after others
-remainder-push : (word byte : ℕ) (xs : List ℕ) → byte < 256 → remainder word (bits (xs ++ byte ∷ [])) ≡ bit_xor (behind (remainder word (bits xs))) (get_or REMAINDERS byte 0)
+remainder-push : (word byte : ℕ) (xs : List ℕ) → byte < 256 → remainder word (bits (xs ++ byte ∷ [])) ≡ bit_xor (behind (remainder word (bits xs))) (get_or (table 0) byte 0)
 remainder-push word byte xs few =
     let before = remainder word (bits xs) in
     ap (remainder word) (bits-append xs (byte ∷ []) ∙ ap (λ bs. bits xs ++ bs) (bits-one byte))
@@ -297,44 +262,44 @@ module _ (word a b c d e f g h : ℕ) (small : word < 2 ^ 16) (a_few : a < 256) 
   low_few : low < 256
   low_few = xor_lt 8 (word % 256) b (mod_below word 256 (lit< tt)) b_few
 
-  behind_2 : remainder word (bits (a ∷ b ∷ [])) ≡ bit_xor (get_or REMAINDERS_2 high 0) (get_or REMAINDERS low 0)
+  behind_2 : remainder word (bits (a ∷ b ∷ [])) ≡ bit_xor (get_or (table 1) high 0) (get_or (table 0) low 0)
   behind_2 = remainder-pair word a b ∙ sym (remainder-two word a b small a_few b_few)
 
   behind_3 : remainder word (bits (a ∷ b ∷ c ∷ []))
-      ≡ bit_xor (bit_xor (get_or REMAINDERS_3 high 0) (get_or REMAINDERS_2 low 0)) (get_or REMAINDERS c 0)
+      ≡ bit_xor (bit_xor (get_or (table 2) high 0) (get_or (table 1) low 0)) (get_or (table 0) c 0)
   behind_3 =
       remainder-push word c (a ∷ b ∷ []) c_few
-      ∙ ap (λ w. bit_xor w (get_or REMAINDERS c 0)) (ap behind behind_2 ∙ behind-xor _ _ ∙ ap₂ bit_xor (next-3 high high_few) (next-2 low low_few))
+      ∙ ap (λ w. bit_xor w (get_or (table 0) c 0)) (ap behind behind_2 ∙ behind-xor _ _ ∙ ap₂ bit_xor (next 1 high (lit< tt) high_few) (next 0 low (lit< tt) low_few))
 
   behind_4 : remainder word (bits (a ∷ b ∷ c ∷ d ∷ []))
-      ≡ bit_xor (bit_xor (bit_xor (get_or REMAINDERS_4 high 0) (get_or REMAINDERS_3 low 0)) (get_or REMAINDERS_2 c 0)) (get_or REMAINDERS d 0)
+      ≡ bit_xor (bit_xor (bit_xor (get_or (table 3) high 0) (get_or (table 2) low 0)) (get_or (table 1) c 0)) (get_or (table 0) d 0)
   behind_4 =
       remainder-push word d (a ∷ b ∷ c ∷ []) d_few
-      ∙ ap (λ w. bit_xor w (get_or REMAINDERS d 0)) (ap behind behind_3 ∙ behind-xor _ _ ∙ ap₂ bit_xor (behind-xor _ _ ∙ ap₂ bit_xor (next-4 high high_few) (next-3 low low_few)) (next-2 c c_few))
+      ∙ ap (λ w. bit_xor w (get_or (table 0) d 0)) (ap behind behind_3 ∙ behind-xor _ _ ∙ ap₂ bit_xor (behind-xor _ _ ∙ ap₂ bit_xor (next 2 high (lit< tt) high_few) (next 1 low (lit< tt) low_few)) (next 0 c (lit< tt) c_few))
 
   behind_5 : remainder word (bits (a ∷ b ∷ c ∷ d ∷ e ∷ []))
-      ≡ bit_xor (bit_xor (bit_xor (bit_xor (get_or REMAINDERS_5 high 0) (get_or REMAINDERS_4 low 0)) (get_or REMAINDERS_3 c 0)) (get_or REMAINDERS_2 d 0)) (get_or REMAINDERS e 0)
+      ≡ bit_xor (bit_xor (bit_xor (bit_xor (get_or (table 4) high 0) (get_or (table 3) low 0)) (get_or (table 2) c 0)) (get_or (table 1) d 0)) (get_or (table 0) e 0)
   behind_5 =
       remainder-push word e (a ∷ b ∷ c ∷ d ∷ []) e_few
-      ∙ ap (λ w. bit_xor w (get_or REMAINDERS e 0)) (ap behind behind_4 ∙ behind-xor _ _ ∙ ap₂ bit_xor (behind-xor _ _ ∙ ap₂ bit_xor (behind-xor _ _ ∙ ap₂ bit_xor (next-5 high high_few) (next-4 low low_few)) (next-3 c c_few)) (next-2 d d_few))
+      ∙ ap (λ w. bit_xor w (get_or (table 0) e 0)) (ap behind behind_4 ∙ behind-xor _ _ ∙ ap₂ bit_xor (behind-xor _ _ ∙ ap₂ bit_xor (behind-xor _ _ ∙ ap₂ bit_xor (next 3 high (lit< tt) high_few) (next 2 low (lit< tt) low_few)) (next 1 c (lit< tt) c_few)) (next 0 d (lit< tt) d_few))
 
   behind_6 : remainder word (bits (a ∷ b ∷ c ∷ d ∷ e ∷ f ∷ []))
-      ≡ bit_xor (bit_xor (bit_xor (bit_xor (bit_xor (get_or REMAINDERS_6 high 0) (get_or REMAINDERS_5 low 0)) (get_or REMAINDERS_4 c 0)) (get_or REMAINDERS_3 d 0)) (get_or REMAINDERS_2 e 0)) (get_or REMAINDERS f 0)
+      ≡ bit_xor (bit_xor (bit_xor (bit_xor (bit_xor (get_or (table 5) high 0) (get_or (table 4) low 0)) (get_or (table 3) c 0)) (get_or (table 2) d 0)) (get_or (table 1) e 0)) (get_or (table 0) f 0)
   behind_6 =
       remainder-push word f (a ∷ b ∷ c ∷ d ∷ e ∷ []) f_few
-      ∙ ap (λ w. bit_xor w (get_or REMAINDERS f 0)) (ap behind behind_5 ∙ behind-xor _ _ ∙ ap₂ bit_xor (behind-xor _ _ ∙ ap₂ bit_xor (behind-xor _ _ ∙ ap₂ bit_xor (behind-xor _ _ ∙ ap₂ bit_xor (next-6 high high_few) (next-5 low low_few)) (next-4 c c_few)) (next-3 d d_few)) (next-2 e e_few))
+      ∙ ap (λ w. bit_xor w (get_or (table 0) f 0)) (ap behind behind_5 ∙ behind-xor _ _ ∙ ap₂ bit_xor (behind-xor _ _ ∙ ap₂ bit_xor (behind-xor _ _ ∙ ap₂ bit_xor (behind-xor _ _ ∙ ap₂ bit_xor (next 4 high (lit< tt) high_few) (next 3 low (lit< tt) low_few)) (next 2 c (lit< tt) c_few)) (next 1 d (lit< tt) d_few)) (next 0 e (lit< tt) e_few))
 
   behind_7 : remainder word (bits (a ∷ b ∷ c ∷ d ∷ e ∷ f ∷ g ∷ []))
-      ≡ bit_xor (bit_xor (bit_xor (bit_xor (bit_xor (bit_xor (get_or REMAINDERS_7 high 0) (get_or REMAINDERS_6 low 0)) (get_or REMAINDERS_5 c 0)) (get_or REMAINDERS_4 d 0)) (get_or REMAINDERS_3 e 0)) (get_or REMAINDERS_2 f 0)) (get_or REMAINDERS g 0)
+      ≡ bit_xor (bit_xor (bit_xor (bit_xor (bit_xor (bit_xor (get_or (table 6) high 0) (get_or (table 5) low 0)) (get_or (table 4) c 0)) (get_or (table 3) d 0)) (get_or (table 2) e 0)) (get_or (table 1) f 0)) (get_or (table 0) g 0)
   behind_7 =
       remainder-push word g (a ∷ b ∷ c ∷ d ∷ e ∷ f ∷ []) g_few
-      ∙ ap (λ w. bit_xor w (get_or REMAINDERS g 0)) (ap behind behind_6 ∙ behind-xor _ _ ∙ ap₂ bit_xor (behind-xor _ _ ∙ ap₂ bit_xor (behind-xor _ _ ∙ ap₂ bit_xor (behind-xor _ _ ∙ ap₂ bit_xor (behind-xor _ _ ∙ ap₂ bit_xor (next-7 high high_few) (next-6 low low_few)) (next-5 c c_few)) (next-4 d d_few)) (next-3 e e_few)) (next-2 f f_few))
+      ∙ ap (λ w. bit_xor w (get_or (table 0) g 0)) (ap behind behind_6 ∙ behind-xor _ _ ∙ ap₂ bit_xor (behind-xor _ _ ∙ ap₂ bit_xor (behind-xor _ _ ∙ ap₂ bit_xor (behind-xor _ _ ∙ ap₂ bit_xor (behind-xor _ _ ∙ ap₂ bit_xor (next 5 high (lit< tt) high_few) (next 4 low (lit< tt) low_few)) (next 3 c (lit< tt) c_few)) (next 2 d (lit< tt) d_few)) (next 1 e (lit< tt) e_few)) (next 0 f (lit< tt) f_few))
 
   pub remainder-eight : remainder word (bits (a ∷ b ∷ c ∷ d ∷ e ∷ f ∷ g ∷ h ∷ []))
-      ≡ bit_xor (bit_xor (bit_xor (bit_xor (bit_xor (bit_xor (bit_xor (get_or REMAINDERS_8 high 0) (get_or REMAINDERS_7 low 0)) (get_or REMAINDERS_6 c 0)) (get_or REMAINDERS_5 d 0)) (get_or REMAINDERS_4 e 0)) (get_or REMAINDERS_3 f 0)) (get_or REMAINDERS_2 g 0)) (get_or REMAINDERS h 0)
+      ≡ bit_xor (bit_xor (bit_xor (bit_xor (bit_xor (bit_xor (bit_xor (get_or (table 7) high 0) (get_or (table 6) low 0)) (get_or (table 5) c 0)) (get_or (table 4) d 0)) (get_or (table 3) e 0)) (get_or (table 2) f 0)) (get_or (table 1) g 0)) (get_or (table 0) h 0)
   remainder-eight =
       remainder-push word h (a ∷ b ∷ c ∷ d ∷ e ∷ f ∷ g ∷ []) h_few
-      ∙ ap (λ w. bit_xor w (get_or REMAINDERS h 0)) (ap behind behind_7 ∙ behind-xor _ _ ∙ ap₂ bit_xor (behind-xor _ _ ∙ ap₂ bit_xor (behind-xor _ _ ∙ ap₂ bit_xor (behind-xor _ _ ∙ ap₂ bit_xor (behind-xor _ _ ∙ ap₂ bit_xor (behind-xor _ _ ∙ ap₂ bit_xor (next-8 high high_few) (next-7 low low_few)) (next-6 c c_few)) (next-5 d d_few)) (next-4 e e_few)) (next-3 f f_few)) (next-2 g g_few))
+      ∙ ap (λ w. bit_xor w (get_or (table 0) h 0)) (ap behind behind_7 ∙ behind-xor _ _ ∙ ap₂ bit_xor (behind-xor _ _ ∙ ap₂ bit_xor (behind-xor _ _ ∙ ap₂ bit_xor (behind-xor _ _ ∙ ap₂ bit_xor (behind-xor _ _ ∙ ap₂ bit_xor (behind-xor _ _ ∙ ap₂ bit_xor (next 6 high (lit< tt) high_few) (next 5 low (lit< tt) low_few)) (next 4 c (lit< tt) c_few)) (next 3 d (lit< tt) d_few)) (next 2 e (lit< tt) e_few)) (next 1 f (lit< tt) f_few)) (next 0 g (lit< tt) g_few))
 
 -- ---- bytes
 -- one byte more
@@ -351,7 +316,7 @@ remainder-bits_append word xs ys = sym (remainder-append (bits xs) (bits ys) wor
 
 -- the first eight of some bytes
 pub eight_list : (word : ℕ) (xs : List ℕ) → word < 2 ^ 16 → ((i : ℕ) → get_or xs i 0 < 256) → 8 ≤ length xs
-    → bit_xor (bit_xor (bit_xor (bit_xor (bit_xor (bit_xor (bit_xor (get_or REMAINDERS_8 (bit_xor (word / 256) (get_or xs 0 0)) 0) (get_or REMAINDERS_7 (bit_xor (word % 256) (get_or xs 1 0)) 0)) (get_or REMAINDERS_6 (get_or xs 2 0) 0)) (get_or REMAINDERS_5 (get_or xs 3 0) 0)) (get_or REMAINDERS_4 (get_or xs 4 0) 0)) (get_or REMAINDERS_3 (get_or xs 5 0) 0)) (get_or REMAINDERS_2 (get_or xs 6 0) 0)) (get_or REMAINDERS (get_or xs 7 0) 0) ≡ remainder word (bits (take 8 xs))
+    → bit_xor (bit_xor (bit_xor (bit_xor (bit_xor (bit_xor (bit_xor (get_or (table 7) (bit_xor (word / 256) (get_or xs 0 0)) 0) (get_or (table 6) (bit_xor (word % 256) (get_or xs 1 0)) 0)) (get_or (table 5) (get_or xs 2 0) 0)) (get_or (table 4) (get_or xs 3 0) 0)) (get_or (table 3) (get_or xs 4 0) 0)) (get_or (table 2) (get_or xs 5 0) 0)) (get_or (table 1) (get_or xs 6 0) 0)) (get_or (table 0) (get_or xs 7 0) 0) ≡ remainder word (bits (take 8 xs))
 eight_list word [] small few long = absurd (omega (arith, long))
 eight_list word (a ∷ []) small few long = absurd (omega (arith, long))
 eight_list word (a ∷ b ∷ []) small few long = absurd (omega (arith, long))
