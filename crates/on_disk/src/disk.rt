@@ -217,10 +217,10 @@ impl<'a, R: Files> DiskFolder<'a, R> {
         ensures some { IfOk result (λ k. 0 < length bytes.now → 0 < k) }
         ensures tally { disk_counts self.new ≡ disk_counts self.old }
         ensures touched { self.new.touched ≡ self.old.touched }
-        ensures appended { AppendsOpen R.File.contents self.old self.new name.now bytes.now result }
-        ensures aside { LeavesOthers self.old self.new name.now }
         ensures kept { OnErr result (Keeps (created_bytes R.File.contents self.old)
             (created_bytes R.File.contents self.new)) }
+        ensures appended { AppendsOpen R.File.contents self.old self.new name.now bytes.now result }
+        ensures aside { LeavesOthers self.old self.new name.now }
         ensures opened { created_name self.new ≡ created_name self.old }
         ensures found { self.new.found ≡ self.old.found }
     {
