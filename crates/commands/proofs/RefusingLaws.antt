@@ -50,13 +50,10 @@ pub of_err : {A : Type 0} (P : EditFault → Type 0) (r : Result A EditFault) (f
 of_err P (Ok a) fault is e = absurd cc
 of_err P (Err first) fault is e = let same : first ≡ fault = cc in subst P same is
 
-err_in : {T E : Type 0} (P : E → Type 0) (r : Result T E) (fault : E) → IsErrAnd r (λ y. y ≡ fault) → P fault → IfErr r P
-err_in P (Ok a) fault is holds = absurd is
-err_in P (Err first) fault is holds = subst P (sym is) holds
-
 -- what is said of the fault that a `?` returns
-pub err_with : {T E : Type 0} {P : E → Type 0} {r : Result T E} {fault : E} → IsErrAnd r (λ y. y ≡ fault) → P fault → IfErr r P
-err_with {T} {E} {P} {r} {fault} is holds = err_in P r fault is holds
+pub err_with : {T E : Type 0} (P : E → Type 0) (r : Result T E) {fault : E} → IsErrAnd r (λ y. y ≡ fault) → P fault → IfErr r P
+err_with P (Ok a) is holds = absurd is
+err_with P (Err first) is holds = subst P (sym is) holds
 
 pub unless_ok : {A : Type 0} (o : Option Refusal) (a b : A) → unless o a ≡ Ok b → (o ≡ None) × (a ≡ b)
 unless_ok (Some refusal) a b e = absurd cc

@@ -20,7 +20,7 @@ returns-in_err-work g c =
     let free = clash_is c.inputs-inputs.result task c.inputs-inputs.ensures c.args.output.now c.clash.ensures c.in_default.is in
     record {
       done = search rules;
-      left = err_with c.from_residual.ensures.1 (early_left task c.args.output.now free c.requires.proper.late _ _ _ c.in_err-work.ensures.refused);
+      left = err_with _ _ c.from_residual.ensures.1 (early_left task c.args.output.now free c.requires.proper.late _ _ _ c.in_err-work.ensures.refused);
       numbers = search rules;
       names = search rules;
       streams = search rules;

@@ -6,7 +6,7 @@ use Rattle.fading.proofs.fade_change.fade_in.Goals as goal
 
 pub returns-in_err-curve : goal.returns-in_err-curve
 returns-in_err-curve c =
-    err_with c.from_residual.ensures.1 (curve_fault c.args.sheet.now c.args.back (tells c.args.survey.now) _ c.in_err-curve.ensures)
+    err_with _ _ c.from_residual.ensures.1 (curve_fault c.args.sheet.now c.args.back (tells c.args.survey.now) _ c.in_err-curve.ensures)
 
 pub returns : goal.returns
 returns c = along_answer c.args.sheet.now c.args.back (tells c.args.survey.now) c.in_ok-curve.curve c.in_ok-curve.ensures c.change_along.result c.change_along.ensures

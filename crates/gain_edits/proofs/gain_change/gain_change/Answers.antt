@@ -85,7 +85,7 @@ noted_undo-requires g c = subst (λ n. n ≤ longest_file) (sym c.tag_place.ensu
 pub returns-in_err-undo-clause-refused : goal.returns-in_err-undo-clause-refused
 returns-in_err-undo-clause-refused g c =
     let s = tells c.args.survey.now in
-    err_with c.from_residual.ensures.1
+    err_with _ _ c.from_residual.ensures.1
     (choice_is_input (gain_change c.args.shift.now c.args.tags) (gain_refuses true) c.args.name.now (g.D.Folder.files c.args.folder.now) _ _ _ c.read_tag.ensures.files s c.requires.there c.requires.surveyed _
     (of_err (IsRefusal (gain_refuses true)) _ _ (noted_item_may c.tag_place.result.offset (undo_from 32 c.in-Ok.tag.items)) (sym c.in_err-undo.ensures))
     (λ bytes holds. refused_item c.args.shift.now c.args.tags bytes s c.in-Ok.tag _ c.if-not-tags.false (c.in-Ok.ensures.exact bytes holds) (ap (λ n. noted_undo n (undo_from 32 c.in-Ok.tag.items)) (sym c.tag_place.ensures.offset) ∙ sym c.in_err-undo.ensures))

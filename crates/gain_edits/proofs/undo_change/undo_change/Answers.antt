@@ -53,7 +53,7 @@ found_undo-requires g c = subst (λ n. n ≤ longest_file) (sym c.tag_place.ensu
 pub returns-in_err-undo-clause-refused : goal.returns-in_err-undo-clause-refused
 returns-in_err-undo-clause-refused g c =
     let s = tells c.args.survey.now in
-    err_with c.from_residual.ensures.1
+    err_with _ _ c.from_residual.ensures.1
     (choice_is_input undo_change undo_refuses c.args.name.now (g.D.Folder.files c.args.folder.now) _ _ _ c.read_tag.ensures.files s c.requires.there c.requires.surveyed _
     (of_err (IsRefusal undo_refuses) _ _ (found_item_may c.tag_place.result.offset (undo_from 32 c.in-Ok.tag.items)) (sym c.in_err-undo.ensures))
     (λ bytes holds. refused_item bytes s c.in-Ok.tag _ (c.in-Ok.ensures.exact bytes holds) (ap (λ n. found_undo n (undo_from 32 c.in-Ok.tag.items)) (sym c.tag_place.ensures.offset) ∙ sym c.in_err-undo.ensures))
@@ -61,7 +61,7 @@ returns-in_err-undo-clause-refused g c =
 
 pub returns-in_err-undo-clause-numbers : goal.returns-in_err-undo-clause-numbers
 returns-in_err-undo-clause-numbers g c =
-    err_with c.from_residual.ensures.1 (refusal_numbers undo_refuses _ (of_err (IsRefusal undo_refuses) _ _ (found_item_may c.tag_place.result.offset (undo_from 32 c.in-Ok.tag.items)) (sym c.in_err-undo.ensures)))
+    err_with _ _ c.from_residual.ensures.1 (refusal_numbers undo_refuses _ (of_err (IsRefusal undo_refuses) _ _ (found_item_may c.tag_place.result.offset (undo_from 32 c.in-Ok.tag.items)) (sym c.in_err-undo.ensures)))
 
 -- the file's change is the one that its undo item lists
 undone : (g : given.Over) (c : After-undone_change g) (bytes : List ℕ) → Holds (g.D.Folder.files c.args.folder.now) c.args.name.now bytes

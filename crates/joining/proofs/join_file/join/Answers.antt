@@ -27,7 +27,7 @@ returns-in-Some-clause-left g c = clash_left (join_task (map string_bytes c.args
 pub returns-in_err-surveys-clause-left : goal.returns-in_err-surveys-clause-left
 returns-in_err-surveys-clause-left g c =
     let names = map string_bytes c.args.inputs.now in
-    err_with c.from_residual.ensures.1 (early_left (join_task names) c.args.output.now (sym c.clash.ensures ∙ c.in_default.is) (join-late names) _ _ _ c.in_err-surveys.ensures.refused)
+    err_with _ _ c.from_residual.ensures.1 (early_left (join_task names) c.args.output.now (sym c.clash.ensures ∙ c.in_default.is) (join-late names) _ _ _ c.in_err-surveys.ensures.refused)
 
 can : (g : given.Over) (c : In_ok-surveys g) → CanBeJoined (map tells c.in_ok-surveys.surveys.items)
 can g c =
@@ -49,14 +49,14 @@ forgot g c =
 
 pub returns-in_err-planned-clause-left : goal.returns-in_err-planned-clause-left
 returns-in_err-planned-clause-left g c =
-    err_with c.from_residual-in_err-planned.ensures.1 (forgot g (goal.at.returns-in_err-planned-clause-left g c).In_ok-surveys)
+    err_with _ _ c.from_residual-in_err-planned.ensures.1 (forgot g (goal.at.returns-in_err-planned-clause-left g c).In_ok-surveys)
 
 pub new_buffers-requires : goal.new_buffers-requires
 new_buffers-requires g c = subst (λ l. CanBeJoined (map tells l)) (sym c.deref-2.ensures.value) (can g (goal.at.new_buffers-requires g c).In_ok-surveys)
 
 pub returns-in_err-buffers-clause-left : goal.returns-in_err-buffers-clause-left
 returns-in_err-buffers-clause-left g c =
-    err_with c.from_residual-in_err-buffers.ensures.1 (forgot g (goal.at.returns-in_err-buffers-clause-left g c).In_ok-surveys)
+    err_with _ _ c.from_residual-in_err-buffers.ensures.1 (forgot g (goal.at.returns-in_err-buffers-clause-left g c).In_ok-surveys)
 
 pub write_joined-requires-clause-fresh : goal.write_joined-requires-clause-fresh
 write_joined-requires-clause-fresh g c =

@@ -33,7 +33,7 @@ returns-in_err-survey-clause-refused g c =
     let files = g.D.Folder.files in
     let counts = g.D.Folder.counts in
     let long : length (take place names) ≡ place = omega (arith, length-take place names, length-map c.args.inputs.now string_bytes, c.loop-place-test.true) in
-    err_with c.from_residual.ensures.1
+    err_with _ _ c.from_residual.ensures.1
     (part-early names (take place names) c.name_at-name.result.now (drop (place + 1) names) (map tells c.loop-place.surveys.items) place c.loop-place.left c.first_class-first.result
     (seen (files c.args.folder.now) (counts c.args.folder.now)) (seen (files c.loop-place.folder) (counts c.loop-place.folder)) (seen (files c.survey_part.new.folder) (counts c.survey_part.new.folder)) _
     (ap (λ l. take place names ++ l) (sym c.name_at-name.ensures) ∙ take-append-drop place names) long (c.first_class-first.ensures ∙ ap (λ l. class_in (map tells l)) c.deref.ensures.value) inv.allowed (ap₂ seen inv.files inv.counts) inv.surveyed c.in_err-survey.ensures.refused)
@@ -62,7 +62,7 @@ returns-in_err-push-clause-refused g c =
     let new = seen (g.D.Folder.files c.survey_part.new.folder) (g.D.Folder.counts c.survey_part.new.folder) in
     let whole : (take place names ++ name ∷ []) ++ drop (place + 1) names ≡ names =
     append_assoc (take place names) (name ∷ []) (drop (place + 1) names) ∙ ap (λ l. take place names ++ l) (sym c.name_at-name.ensures) ∙ take-append-drop place names in
-    err_with c.from_residual-in_err-push.ensures.1
+    err_with _ _ c.from_residual-in_err-push.ensures.1
     (subst (λ (l : List (List ℕ)). NeedsMemory (first_input l) old new) whole
     (found-input most_frames (take place names ++ name ∷ []) (drop (place + 1) names) _ old new (are g (goal.at.returns-in_err-push-clause-refused g c).In_ok-survey) (omega (arith, length-append (take place names) (name ∷ [])))
     (ap₂ seen (c.survey_part.ensures.files ∙ inv.files) (c.in_ok-survey.ensures.done ∙ inv.counts))))

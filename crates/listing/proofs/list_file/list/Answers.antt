@@ -6,7 +6,7 @@ use Rattle.listing.proofs.list_file.list.Goals as goal
 
 pub returns-in_err-survey-clause-left : goal.returns-in_err-survey-clause-left
 returns-in_err-survey-clause-left g c =
-    err_with c.from_residual.ensures.1 (survey_left c.args.input.now _ _ _ c.in_err-survey.ensures.refused)
+    err_with _ _ c.from_residual.ensures.1 (survey_left c.args.input.now _ _ _ c.in_err-survey.ensures.refused)
 
 pub returns-in-Ok-clause-done : goal.returns-in-Ok-clause-done
 returns-in-Ok-clause-done g c =

@@ -21,15 +21,15 @@ forgot g c = early-memory c.args.input.now _ _ c.in_ok-mended.ensures.mended.of 
 
 pub returns-in_err-planned-clause-refused : goal.returns-in_err-planned-clause-refused
 returns-in_err-planned-clause-refused g c =
-    err_with c.from_residual-in_err-planned.ensures.1 (forgot g (goal.at.returns-in_err-planned-clause-refused g c).In_ok-mended)
+    err_with _ _ c.from_residual-in_err-planned.ensures.1 (forgot g (goal.at.returns-in_err-planned-clause-refused g c).In_ok-mended)
 
 pub returns-in_err-laid-clause-refused : goal.returns-in_err-laid-clause-refused
 returns-in_err-laid-clause-refused g c =
-    err_with c.from_residual-in_err-laid.ensures.1 (forgot g (goal.at.returns-in_err-laid-clause-refused g c).In_ok-mended)
+    err_with _ _ c.from_residual-in_err-laid.ensures.1 (forgot g (goal.at.returns-in_err-laid-clause-refused g c).In_ok-mended)
 
 pub returns-in_err-sending-clause-refused : goal.returns-in_err-sending-clause-refused
 returns-in_err-sending-clause-refused g c =
-    err_with c.from_residual-in_err-sending.ensures.1 (forgot g (goal.at.returns-in_err-sending-clause-refused g c).In_ok-mended)
+    err_with _ _ c.from_residual-in_err-sending.ensures.1 (forgot g (goal.at.returns-in_err-sending-clause-refused g c).In_ok-mended)
 
 pub returns-clause-ready : goal.returns-clause-ready
 returns-clause-ready g c =

@@ -15,11 +15,11 @@ returns-in-Some-clause-left g c = left-clash c.args.input.now c.args.output.now 
 
 pub returns-in_err-work-clause-left : goal.returns-in_err-work-clause-left
 returns-in_err-work-clause-left g c =
-    err_with c.from_residual.ensures.1 (left-early c.args.input.now c.args.output.now (sym c.clash.ensures ∙ c.in_default.is) _ _ _ c.in_err-work.ensures.refused)
+    err_with _ _ c.from_residual.ensures.1 (left-early c.args.input.now c.args.output.now (sym c.clash.ensures ∙ c.in_default.is) _ _ _ c.in_err-work.ensures.refused)
 
 pub returns-in_err-work-clause-numbers : goal.returns-in_err-work-clause-numbers
 returns-in_err-work-clause-numbers g c =
-    err_with c.from_residual.ensures.1 (numbers-early c.args.input.now c.args.output.now _ c.in_err-work.ensures.numbers)
+    err_with _ _ c.from_residual.ensures.1 (numbers-early c.args.input.now c.args.output.now _ c.in_err-work.ensures.numbers)
 
 pub write_output-requires-clause-apart : goal.write_output-requires-clause-apart
 write_output-requires-clause-apart g c = source_apart (c.args.input.now ∷ []) c.args.input.now c.args.output.now (omega arith) refl (sym c.clash.ensures ∙ c.in_default.is)
@@ -34,13 +34,13 @@ pub returns-in_err-write_output-clause-left : goal.returns-in_err-write_output-c
 returns-in_err-write_output-clause-left g c =
     let files = g.D.Folder.files in
     let counts = g.D.Folder.counts in
-    err_with c.from_residual-in_err-write_output.ensures.1
+    err_with _ _ c.from_residual-in_err-write_output.ensures.1
     (left-part c.args.input.now c.args.output.now (sym c.clash.ensures ∙ c.in_default.is) (seen (files c.args.folder.now) (counts c.args.folder.now)) (seen (files c.prepare.new.folder) (counts c.prepare.new.folder)) (seen (files c.write_output.new.folder) (counts c.write_output.new.folder))
     c.in_ok-work.work (ap₂ seen c.prepare.ensures.files c.in_ok-work.ensures.done) c.in_ok-work.ensures.ready c.write_output.ensures.touches _ c.in_err-write_output.ensures.left)
 
 pub returns-in_err-write_output-clause-numbers : goal.returns-in_err-write_output-clause-numbers
 returns-in_err-write_output-clause-numbers g c =
-    err_with c.from_residual-in_err-write_output.ensures.1 (numbers-pass c.args.input.now c.args.output.now _ c.in_err-write_output.ensures.numbers)
+    err_with _ _ c.from_residual-in_err-write_output.ensures.1 (numbers-pass c.args.input.now c.args.output.now _ c.in_err-write_output.ensures.numbers)
 
 pub returns-in-Ok-clause-done : goal.returns-in-Ok-clause-done
 returns-in-Ok-clause-done g c =

@@ -20,13 +20,13 @@ returns-in-Some-clause-left g c = equal-left c.args.points.now c.args.input.now 
 
 pub returns-in_err-survey-clause-left : goal.returns-in_err-survey-clause-left
 returns-in_err-survey-clause-left g c =
-    err_with c.from_residual.ensures.1 (input-left c.args.points.now c.args.input.now c.args.prefix.now (sym c.clash.ensures ∙ c.in_default.is) _ _ _ c.in_err-survey.ensures.refused)
+    err_with _ _ c.from_residual.ensures.1 (input-left c.args.points.now c.args.input.now c.args.prefix.now (sym c.clash.ensures ∙ c.in_default.is) _ _ _ c.in_err-survey.ensures.refused)
 
 pub returns-in_err-places-clause-left : goal.returns-in_err-places-clause-left
 returns-in_err-places-clause-left g c =
     let files = g.D.Folder.files in
     let counts = g.D.Folder.counts in
-    err_with c.from_residual-in_err-places.ensures.1
+    err_with _ _ c.from_residual-in_err-places.ensures.1
     (places-left c.args.points.now c.args.input.now c.args.prefix.now (sym c.clash.ensures ∙ c.in_default.is) (tells c.in_ok-survey.survey) (seen (files c.args.folder.now) (counts c.args.folder.now)) (seen (files c.survey_at.new.folder) (counts c.survey_at.new.folder)) _
     (ap₂ seen c.survey_at.ensures.files c.in_ok-survey.ensures.done) c.in_ok-survey.ensures.there c.in_ok-survey.ensures.surveyed _ c.in_err-places.ensures.refused)
 
@@ -42,12 +42,12 @@ stays g c = ap₂ seen (c.places_of.ensures.files ∙ c.survey_at.ensures.files)
 pub returns-in_err-pieces-clause-left : goal.returns-in_err-pieces-clause-left
 returns-in_err-pieces-clause-left g c =
     let at = (goal.at.returns-in_err-pieces-clause-left g c).After-as_slice in
-    err_with c.from_residual-in_err-pieces.ensures.1
+    err_with _ _ c.from_residual-in_err-pieces.ensures.1
     (range-left c.args.points.now c.args.input.now c.args.prefix.now (sym c.clash.ensures ∙ c.in_default.is) (tells c.in_ok-survey.survey) _ _ _ (stays g at) c.in_ok-survey.ensures.there c.in_ok-survey.ensures.surveyed c.as_slice.result.now (said g at) _ refl c.in_err-pieces.ensures.chosen)
 
 pub returns-in_err-buffers-clause-left : goal.returns-in_err-buffers-clause-left
 returns-in_err-buffers-clause-left g c =
-    err_with c.from_residual-in_err-buffers.ensures.1
+    err_with _ _ c.from_residual-in_err-buffers.ensures.1
     (memory-left c.args.points.now c.args.input.now c.args.prefix.now (sym c.clash.ensures ∙ c.in_default.is) (tells c.in_ok-survey.survey) _ _ _ (stays g (goal.at.returns-in_err-buffers-clause-left g c).After-as_slice) c.in_ok-survey.ensures.there c.in_ok-survey.ensures.surveyed refl)
 
 pub write_pieces-requires-clause-ready : goal.write_pieces-requires-clause-ready

@@ -15,30 +15,30 @@ use Rattle.fading.proofs.edit.FadeEditEdit.prepare.Goals as goal
 pub returns-in_err-survey-clause-refused : goal.returns-in_err-survey-clause-refused
 returns-in_err-survey-clause-refused g c =
     let edit = c.args.self.now in
-    err_with c.from_residual.ensures.1 (input_early edit.sheet.now edit.back edit.input.now _ _ _ (fault_is_input (making_in edit.sheet.now edit.back edit.input.now (g.D.Folder.files c.args.folder.now)) edit.input.now _ _ _ c.in_err-survey.ensures.refused))
+    err_with _ _ c.from_residual.ensures.1 (input_early edit.sheet.now edit.back edit.input.now _ _ _ (fault_is_input (making_in edit.sheet.now edit.back edit.input.now (g.D.Folder.files c.args.folder.now)) edit.input.now _ _ _ c.in_err-survey.ensures.refused))
 
 pub returns-in_err-survey-clause-numbers : goal.returns-in_err-survey-clause-numbers
 returns-in_err-survey-clause-numbers g c =
     let edit = c.args.self.now in
-    err_with c.from_residual.ensures.1 (input_numbers edit.sheet.now edit.back edit.input.now _ (of_survey_input fade_refuses _ c.in_err-survey.ensures.numbers))
+    err_with _ _ c.from_residual.ensures.1 (input_numbers edit.sheet.now edit.back edit.input.now _ (of_survey_input fade_refuses _ c.in_err-survey.ensures.numbers))
 
 pub returns-in_err-change-clause-refused : goal.returns-in_err-change-clause-refused
 returns-in_err-change-clause-refused g c =
     let edit = c.args.self.now in
     let old = seen (g.D.Folder.files c.args.folder.now) (g.D.Folder.counts c.args.folder.now) in
-    err_with c.from_residual-in_err-change.ensures.1
+    err_with _ _ c.from_residual-in_err-change.ensures.1
     (change_early_behind edit.sheet.now edit.back edit.input.now (tells c.in_ok-survey.survey) old _ c.in_ok-survey.ensures.there c.in_ok-survey.ensures.surveyed _ _
     (ap₂ seen c.survey_at.ensures.files c.in_ok-survey.ensures.done) c.in_err-change.ensures.refused)
 
 pub returns-in_err-change-clause-numbers : goal.returns-in_err-change-clause-numbers
 returns-in_err-change-clause-numbers g c =
     let edit = c.args.self.now in
-    err_with c.from_residual-in_err-change.ensures.1 (change_numbers edit.sheet.now edit.back edit.input.now _ c.in_err-change.ensures.numbers)
+    err_with _ _ c.from_residual-in_err-change.ensures.1 (change_numbers edit.sheet.now edit.back edit.input.now _ c.in_err-change.ensures.numbers)
 
 pub returns-in_err-work-clause-refused : goal.returns-in_err-work-clause-refused
 returns-in_err-work-clause-refused g c =
     let edit = c.args.self.now in
-    err_with c.from_residual-in_err-work.ensures.1
+    err_with _ _ c.from_residual-in_err-work.ensures.1
     (change_early edit.sheet.now edit.back edit.input.now (tells c.in_ok-survey.survey) (seen (g.D.Folder.files c.args.folder.now) (g.D.Folder.counts c.args.folder.now)) _ c.in_ok-survey.ensures.there c.in_ok-survey.ensures.surveyed Memory
     (ap₂ seen (c.fade_change.ensures.files ∙ c.survey_at.ensures.files) (c.in_ok-change.ensures.done ∙ c.in_ok-survey.ensures.done)))
 

@@ -21,12 +21,12 @@ use Rattle.frame_edits.proofs.edit.FrameEditEdit.prepare.Goals.{In_ok-chosen}
 pub returns-in_err-survey-clause-refused : goal.returns-in_err-survey-clause-refused
 returns-in_err-survey-clause-refused g c =
     let edit = c.args.self.now in
-    err_with c.from_residual.ensures.1 (input_is_early (choosing (choosing_by edit.choice)) (stream_chosen (choosing_by edit.choice)) (refused_by edit.choice) edit.input.now _ _ _ (fault_is_input (choosing (choosing_by edit.choice)) edit.input.now _ _ _ c.in_err-survey.ensures.refused))
+    err_with _ _ c.from_residual.ensures.1 (input_is_early (choosing (choosing_by edit.choice)) (stream_chosen (choosing_by edit.choice)) (refused_by edit.choice) edit.input.now _ _ _ (fault_is_input (choosing (choosing_by edit.choice)) edit.input.now _ _ _ c.in_err-survey.ensures.refused))
 
 pub returns-in_err-survey-clause-numbers : goal.returns-in_err-survey-clause-numbers
 returns-in_err-survey-clause-numbers g c =
     let edit = c.args.self.now in
-    err_with c.from_residual.ensures.1 (input_numbers (choosing (choosing_by edit.choice)) (stream_chosen (choosing_by edit.choice)) (refused_by edit.choice) edit.input.now _ (of_survey_input (refused_by edit.choice) _ c.in_err-survey.ensures.numbers))
+    err_with _ _ c.from_residual.ensures.1 (input_numbers (choosing (choosing_by edit.choice)) (stream_chosen (choosing_by edit.choice)) (refused_by edit.choice) edit.input.now _ (of_survey_input (refused_by edit.choice) _ c.in_err-survey.ensures.numbers))
 
 -- want of memory, once the frames were chosen
 forgot : (g : given.Over) (c : In_ok-chosen g) → IsEarlyFault (task_of c.args.self.now.choice c.args.self.now.input.now)
@@ -40,11 +40,11 @@ forgot g c =
 
 pub returns-in_err-planned-clause-refused : goal.returns-in_err-planned-clause-refused
 returns-in_err-planned-clause-refused g c =
-    err_with c.from_residual-in_err-planned.ensures.1 (forgot g (goal.at.returns-in_err-planned-clause-refused g c).In_ok-chosen)
+    err_with _ _ c.from_residual-in_err-planned.ensures.1 (forgot g (goal.at.returns-in_err-planned-clause-refused g c).In_ok-chosen)
 
 pub returns-in_err-work-clause-refused : goal.returns-in_err-work-clause-refused
 returns-in_err-work-clause-refused g c =
-    err_with c.from_residual-in_err-work.ensures.1 (forgot g (goal.at.returns-in_err-work-clause-refused g c).In_ok-chosen)
+    err_with _ _ c.from_residual-in_err-work.ensures.1 (forgot g (goal.at.returns-in_err-work-clause-refused g c).In_ok-chosen)
 
 pub returns-clause-ready : goal.returns-clause-ready
 returns-clause-ready g c =

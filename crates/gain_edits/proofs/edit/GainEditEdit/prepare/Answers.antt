@@ -15,17 +15,17 @@ use Rattle.gain_edits.proofs.edit.GainEditEdit.prepare.Goals as goal
 pub returns-in_err-survey-clause-refused : goal.returns-in_err-survey-clause-refused
 returns-in_err-survey-clause-refused g c =
     let edit = c.args.self.now in
-    err_with c.from_residual.ensures.1 (input_is_early (changing (changing_by edit.changes)) (stream_moved_by (steps_by edit.changes)) (refused_by edit.changes) edit.input.now _ _ _ (fault_is_input (changing (changing_by edit.changes)) edit.input.now _ _ _ c.in_err-survey.ensures.refused))
+    err_with _ _ c.from_residual.ensures.1 (input_is_early (changing (changing_by edit.changes)) (stream_moved_by (steps_by edit.changes)) (refused_by edit.changes) edit.input.now _ _ _ (fault_is_input (changing (changing_by edit.changes)) edit.input.now _ _ _ c.in_err-survey.ensures.refused))
 
 pub returns-in_err-survey-clause-numbers : goal.returns-in_err-survey-clause-numbers
 returns-in_err-survey-clause-numbers g c =
     let edit = c.args.self.now in
-    err_with c.from_residual.ensures.1 (input_numbers (changing (changing_by edit.changes)) (stream_moved_by (steps_by edit.changes)) (refused_by edit.changes) edit.input.now _ (of_survey_input (refused_by edit.changes) _ c.in_err-survey.ensures.numbers))
+    err_with _ _ c.from_residual.ensures.1 (input_numbers (changing (changing_by edit.changes)) (stream_moved_by (steps_by edit.changes)) (refused_by edit.changes) edit.input.now _ (of_survey_input (refused_by edit.changes) _ c.in_err-survey.ensures.numbers))
 
 pub returns-in_err-work-clause-refused : goal.returns-in_err-work-clause-refused
 returns-in_err-work-clause-refused g c =
     let edit = c.args.self.now in
-    err_with c.from_residual-in_err-work.ensures.1
+    err_with _ _ c.from_residual-in_err-work.ensures.1
     (input_is_early (changing (changing_by edit.changes)) (stream_moved_by (steps_by edit.changes)) (refused_by edit.changes) edit.input.now (seen (g.D.Folder.files c.args.folder.now) (g.D.Folder.counts c.args.folder.now)) _ Memory
     (memory_is_input (changing (changing_by edit.changes)) edit.input.now (seen (g.D.Folder.files c.args.folder.now) (g.D.Folder.counts c.args.folder.now)) _ (tells c.in_ok-survey.survey) c.in_ok-survey.ensures.there c.in_ok-survey.ensures.surveyed
     (ap₂ seen (c.find.ensures.files ∙ c.survey_at.ensures.files) (c.in_ok-change.ensures.done ∙ c.in_ok-survey.ensures.done))))

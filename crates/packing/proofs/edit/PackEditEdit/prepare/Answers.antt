@@ -23,20 +23,20 @@ returns-in_err-chosen-clause-refused g c =
     let edit = c.args.self.now in
     let make = packing (plan_by edit.rule) in
     let old = seen (g.D.Folder.files c.args.folder.now) (g.D.Folder.counts c.args.folder.now) in
-    err_with c.from_residual-in_err-chosen.ensures.1
+    err_with _ _ c.from_residual-in_err-chosen.ensures.1
     (rule_early edit.rule edit.input.now old _ _ (λ file holds. (_, c.in_ok-survey.ensures.limited file holds))
     (input_moved make edit.input.now _ old _ _ (ap₂ seen c.survey_packed.ensures.files c.in_ok-survey.ensures.done) (c.in_err-chosen.ensures.refused make)))
 
 pub returns-in_err-chosen-clause-numbers : goal.returns-in_err-chosen-clause-numbers
 returns-in_err-chosen-clause-numbers g c =
     let edit = c.args.self.now in
-    err_with c.from_residual-in_err-chosen.ensures.1 (rule_numbers edit.rule edit.input.now _ (c.in_err-chosen.ensures.numbers (refuses_by edit.rule)))
+    err_with _ _ c.from_residual-in_err-chosen.ensures.1 (rule_numbers edit.rule edit.input.now _ (c.in_err-chosen.ensures.numbers (refuses_by edit.rule)))
 
 pub returns-in_err-planned-clause-refused : goal.returns-in_err-planned-clause-refused
 returns-in_err-planned-clause-refused g c =
     let edit = c.args.self.now in
     let old = seen (g.D.Folder.files c.args.folder.now) (g.D.Folder.counts c.args.folder.now) in
-    err_with c.from_residual-in_err-planned.ensures.1
+    err_with _ _ c.from_residual-in_err-planned.ensures.1
     (rule_early edit.rule edit.input.now old _ _ (λ file holds. (_, c.in_ok-survey.ensures.limited file holds))
     (plan_is_input (plan_by edit.rule) (refuses_by edit.rule) edit.input.now old _ (tells c.in_ok-survey.survey) (chosen_in c.in_ok-chosen.chosen) c.in_ok-survey.ensures.there c.in_ok-survey.ensures.surveyed
     (λ bytes holds. c.in_ok-chosen.ensures.chosen bytes (subst (λ f. Holds f edit.input.now bytes) (sym c.survey_packed.ensures.files) holds))
@@ -46,14 +46,14 @@ pub returns-in_err-planned-clause-numbers : goal.returns-in_err-planned-clause-n
 returns-in_err-planned-clause-numbers g c =
     let edit = c.args.self.now in
     let s = tells c.in_ok-survey.survey in
-    err_with c.from_residual-in_err-planned.ensures.1
+    err_with _ _ c.from_residual-in_err-planned.ensures.1
     (rule_numbers edit.rule edit.input.now _ (plan_numbers (plan_by edit.rule) (refuses_by edit.rule) s.class (needs_of (chosen_in c.in_ok-chosen.chosen) s) _ c.in_err-planned.ensures.refused))
 
 pub returns-in_err-work-clause-refused : goal.returns-in_err-work-clause-refused
 returns-in_err-work-clause-refused g c =
     let edit = c.args.self.now in
     let old = seen (g.D.Folder.files c.args.folder.now) (g.D.Folder.counts c.args.folder.now) in
-    err_with c.from_residual-in_err-work.ensures.1
+    err_with _ _ c.from_residual-in_err-work.ensures.1
     (rule_early edit.rule edit.input.now old _ Memory (λ file holds. (_, c.in_ok-survey.ensures.limited file holds))
     (memory_is_input (packing (plan_by edit.rule)) edit.input.now old _ (tells c.in_ok-survey.survey) c.in_ok-survey.ensures.there c.in_ok-survey.ensures.surveyed
     (ap₂ seen (c.all_choice.ensures.files ∙ c.survey_packed.ensures.files) (c.in_ok-chosen.ensures.done ∙ c.in_ok-survey.ensures.done))))
