@@ -32,7 +32,8 @@ module _ (survey : Survey) (change : CodeChange) (work : Work) (of : IsWorkOf su
   -- and makes the changed file
   pub work_makes : (task : Task) (files : Files) → IsMaking task (λ file. changed (change_in change (tells survey)) file (tells survey)) files → IsMaking task (moved_file work) files
   work_makes task files making =
-      subst (λ made. IsMaking task made files) (ap₂ (λ (s : Survey) (c : CodeChange) (file : List ℕ). changed (change_in c (tells s)) file (tells s)) (sym of.survey_is) (sym of.change_is)) making
+      let made_by : Survey → CodeChange → List ℕ → List ℕ = λ s c file. changed (change_in c (tells s)) file (tells s) in
+      subst (λ made. IsMaking task made files) (ap₂ made_by (sym of.survey_is) (sym of.change_is)) making
 
 -- ---- the commands
 
