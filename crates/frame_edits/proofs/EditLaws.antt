@@ -39,7 +39,8 @@ module _ (survey : Survey) (selection : Selection) (work : Work) (of : IsWorkOf 
   -- and makes the file of the chosen frames
   pub work_makes : (task : Task) (files : Files) → IsMaking task (λ file. file_laid (laid_in selection) file (tells survey)) files → IsMaking task (work_file work) files
   work_makes task files making =
-      subst (λ made. IsMaking task made files) (ap₂ (λ (s : Survey) (l : Selection) (file : List ℕ). file_laid (laid_in l) file (tells s)) (sym of.survey_is) (sym of.selection_is)) making
+      let made_by : Survey → Selection → List ℕ → List ℕ = λ s l file. file_laid (laid_in l) file (tells s) in
+      subst (λ made. IsMaking task made files) (ap₂ made_by (sym of.survey_is) (sym of.selection_is)) making
 
 -- ---- the commands
 
