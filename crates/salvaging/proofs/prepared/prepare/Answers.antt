@@ -34,9 +34,9 @@ returns-in_err-sending-clause-refused g c =
 pub returns-clause-ready : goal.returns-clause-ready
 returns-clause-ready g c =
     let m = c.in_ok-mended.mended in
-    let selection : Selection = record { chosen = c.all_frames.result; planned = c.in_ok-planned.planned } in
-    let from : c.all_frames.result.from ≡ 0 = ap (λ (chosen : Chosen). chosen.from) c.all_frames.ensures in
-    let to : c.all_frames.result.to ≡ length (tells m.survey).frames = ap (λ (chosen : Chosen). chosen.to) c.all_frames.ensures in
+    let selection : Selection = record { chosen = c.all_frames-chosen.result; planned = c.in_ok-planned.planned } in
+    let from : c.all_frames-chosen.result.from ≡ 0 = ap (λ (chosen : Chosen). chosen.from) c.all_frames-chosen.ensures in
+    let to : c.all_frames-chosen.result.to ≡ length (tells m.survey).frames = ap (λ (chosen : Chosen). chosen.to) c.all_frames-chosen.ensures in
     let selected : IsSelected (tells m.survey) selection = record {
       some = omega (arith, from, to, c.in_ok-mended.ensures.laid.some);
       within = omega (arith, to);
@@ -45,4 +45,4 @@ returns-clause-ready g c =
       info = c.in_ok-planned.ensures.info;
     } in
     ready-of c.args.input.now (g.D.Folder.files c.args.folder.now) m selection _ c.in_ok-mended.ensures.mended c.in_ok-laid.ensures c.in_ok-mended.ensures.there c.in_ok-mended.ensures.octets c.in_ok-mended.ensures.laid
-    c.all_frames.ensures selected c.in_ok-sending.ensures (λ d emptied gaps. record { gaps = gaps; emptied = emptied })
+    c.all_frames-chosen.ensures selected c.in_ok-sending.ensures (λ d emptied gaps. record { gaps = gaps; emptied = emptied })
