@@ -2,12 +2,4 @@
 #![tactic(auto)]
 
 #[cfg(test)]
-mod bad_words;
-#[cfg(test)]
-mod lines;
-#[cfg(test)]
-mod reading;
-#[cfg(test)]
-mod said;
-#[cfg(test)]
-mod words_read;
+mod tests;

@@ -1,6 +1,6 @@
 //! Texts that the program says of itself.
 
-use crate::reading::owned;
+use crate::tests::reading::owned;
 use in_memory::{MemFolder, MemSink};
 use mp3_cli::run;
 use std::alloc::{AllocError, Global};

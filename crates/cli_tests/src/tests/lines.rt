@@ -106,35 +106,19 @@ fn expect_line<R: Abort + AllocGlobal>(rt: &R, case: &Line) -> Result<(), AllocE
     Ok(())
 }
 
-#[test]
-fn lines_of_inputs(rt: HostRuntime) -> Result<(), Fail> {
-    for case in &INPUT_LINES {
-        expect_line(&rt, case)?;
+fn expect_lines<R: Abort + AllocGlobal>(rt: &R, cases: &[Line]) -> Result<(), AllocError> {
+    for case in cases {
+        expect_line(rt, case)?;
     }
     Ok(())
 }
 
 #[test]
 fn lines(rt: HostRuntime) -> Result<(), Fail> {
-    for case in &LINES {
-        expect_line(&rt, case)?;
-    }
-    Ok(())
-}
-
-#[test]
-fn lines_of_bit_rates(rt: HostRuntime) -> Result<(), Fail> {
-    for case in &RATE_LINES {
-        expect_line(&rt, case)?;
-    }
-    Ok(())
-}
-
-#[test]
-fn lines_of_several_files(rt: HostRuntime) -> Result<(), Fail> {
-    for case in &SEVERAL_LINES {
-        expect_line(&rt, case)?;
-    }
+    expect_lines(&rt, &INPUT_LINES)?;
+    expect_lines(&rt, &LINES)?;
+    expect_lines(&rt, &RATE_LINES)?;
+    expect_lines(&rt, &SEVERAL_LINES)?;
     Ok(())
 }
 

@@ -1,0 +1,117 @@
+//! Words that no form takes, and the place of the first bad one, counted from 1.
+
+use crate::tests::reading::{bad_word, first_unlike, join_words, split_words};
+use std::test::Fail;
+
+static ROWS: &str = "
+# No number of steps.
+gain -s s -g 300 a b => bad word 5
+gain -s s -g 256 a b => bad word 5
+gain -s s -g -256 a b => bad word 5
+gain -s s -g - a b => bad word 5
+gain -s s -g + a b => bad word 5
+gain -s s -g 0001 a b => bad word 5
+gain -s s -g +-1 a b => bad word 5
+gain -s s -g ++1 a b => bad word 5
+gain -s s -g '' a b => bad word 5
+gain -s s -g 1a a b => bad word 5
+gain -s s -g x a b => bad word 5
+
+# Gains and undo.
+gain => bad word 2
+gain -g 300 a b => bad word 3
+gain -s t -g 3 a b => bad word 3
+gain -s s -g 3 a => bad word 7
+gain -s s -g 3 -a b => bad word 6
+gain -s s -g 3 a '' => bad word 7
+gain -s s -g 3 a b c => bad word 8
+gain -w -w -g 1 a b => bad word 3
+gain -s s -s s -g 1 a b => bad word 4
+gain -g 1 -w a b => bad word 4
+gain -w -s s -w -g 1 a b => bad word 5
+gain -s s -l 2 1 a b => bad word 5
+gain -w -s => bad word 4
+gain -s -w -g 1 a b => bad word 3
+gain -w -u a b => bad word 3
+gain -s s -u a b => bad word 4
+gain -u -w a b => bad word 3
+gain -u a => bad word 4
+gain -u a b c => bad word 5
+
+# Splits and joins.
+split => bad word 2
+split a -p 0 1 => bad word 3
+split a p => bad word 4
+split a p 0 => bad word 5
+split a p 0 x => bad word 5
+split a p 0 1 -c => bad word 6
+split a p -c => bad word 5
+split a p -c -s => bad word 5
+split a p -c s t => bad word 6
+join => bad word 2
+join o => bad word 3
+join o a -b => bad word 4
+
+# Packings in a mode.
+pack --constant => bad word 3
+pack --constant '' a b => bad word 3
+pack --constant 1000 a b => bad word 3
+pack --constant +96 a b => bad word 3
+pack --constant 96 a => bad word 5
+pack --constant 96 --floor 32 a b => bad word 4
+pack --floor a b => bad word 3
+pack --floor 32 -a b => bad word 4
+pack --floor 32 a b c => bad word 6
+pack --best 96 a b => bad word 5
+pack --best --floor 32 a b => bad word 3
+
+# Fades.
+fade => bad word 2
+fade a b => bad word 4
+fade --back a b => bad word 5
+fade --back --back a b s => bad word 3
+fade a b s --back => bad word 5
+fade a b -s => bad word 4
+fade --least a b s => bad word 2
+
+# Drills.
+drill => bad word 2
+drill 2147483648 1 => bad word 2
+drill 00000000001 1 => bad word 2
+drill -1 1 => bad word 2
+drill 1a 1 => bad word 2
+drill '' 1 => bad word 2
+drill 1 0 => bad word 3
+drill 1 20001 => bad word 3
+drill 1 000001 => bad word 3
+drill 1 1 a => bad word 4
+
+# The other forms, and none.
+=> bad word 1
+lisp a => bad word 1
+-v => bad word 1
+--help list => bad word 2
+list => bad word 2
+list -a => bad word 2
+list a b => bad word 3
+cut a 0 => bad word 4
+cut a 0 1.60 b => bad word 4
+cut --least a 0 b => bad word 5
+cut --least --least a 0 1 b => bad word 3
+pack --least a b => bad word 2
+pack a => bad word 3
+";
+
+#[test]
+fn bad_words(rt: HostRuntime) -> Result<(), Fail> {
+    assert_eq!(rt; first_unlike(rt.alloc(), ROWS)?, None);
+    Ok(())
+}
+
+/// A split has at most 100 positions, and a join at most 64 inputs.
+#[test]
+fn one_word_too_many(rt: HostRuntime) -> Result<(), Fail> {
+    assert_eq!(rt; bad_word(&split_words(rt.alloc(), 101)?), Some(104));
+    assert_eq!(rt; bad_word(&join_words(rt.alloc(), 65)?), Some(67));
+    Ok(())
+}

@@ -1,0 +1,85 @@
+//! Lists of words, and how they are read.
+
+use mp3_cli::job;
+use std::alloc::{AllocError, Global};
+
+pub fn owned(alloc: Global, words: &[&str]) -> Result<Vec<String>, AllocError> {
+    let mut owned = Vec::new(alloc);
+    for word in words {
+        owned.push(String::from_str(alloc, word)?)?;
+    }
+    Ok(owned)
+}
+
+/// The place of the first bad word, where there is one.
+pub fn bad_word(words: &[String]) -> Option<u32> {
+    match job(words) {
+        Ok(_) => None,
+        Err(place) => Some(place),
+    }
+}
+
+/// The words of a split of `a` with the prefix `p` at the frames from 0 on, `count` of them.
+pub fn split_words(alloc: Global, count: u32) -> Result<Vec<String>, AllocError> {
+    let mut words = owned(alloc, &["split", "a", "p"])?;
+    for number in 0..count {
+        words.push(format!(in alloc; "{number}")?)?;
+    }
+    Ok(words)
+}
+
+/// The words of a join of `count` times `a` to `o`.
+pub fn join_words(alloc: Global, count: u32) -> Result<Vec<String>, AllocError> {
+    let mut words = owned(alloc, &["join", "o"])?;
+    for _ in 0..count {
+        words.push(String::from_str(alloc, "a")?)?;
+    }
+    Ok(words)
+}
+
+/// The words of a line, where `''` is one without a character.
+fn words_of(alloc: Global, line: &str) -> Result<Vec<String>, AllocError> {
+    let mut words = Vec::new(alloc);
+    for word in line.split_ascii_whitespace() {
+        let word = if word == "''" { "" } else { word };
+        words.push(String::from_str(alloc, word)?)?;
+    }
+    Ok(words)
+}
+
+/// What the words ask for, or the place of the first bad one.
+fn read(alloc: Global, words: &[String]) -> Result<String, AllocError> {
+    match job(words) {
+        Ok(job) => format!(in alloc; "{job:?}"),
+        Err(place) => format!(in alloc; "bad word {place}"),
+    }
+}
+
+fn other_than(alloc: Global, words: &str, wanted: &str) -> Result<Option<String>, AllocError> {
+    let found = read(alloc, &words_of(alloc, words)?)?;
+    if found.as_str() == wanted {
+        return Ok(None);
+    }
+    Ok(Some(format!(in alloc; "{words}: {found}")?))
+}
+
+/// A line that says nothing is a fault, so that none is passed over.
+fn unlike_in(alloc: Global, line: &str) -> Result<Option<String>, AllocError> {
+    match line.split_once("=> ") {
+        Some((words, wanted)) => other_than(alloc, words, wanted),
+        None if line.is_empty() || line.starts_with("# ") => Ok(None),
+        None => Ok(Some(String::from_str(alloc, line)?)),
+    }
+}
+
+/// The first words that are read otherwise than a line says, and how they are read. Each line has words and `=> `, and then what they
+/// ask for, or which word is bad.
+pub fn first_unlike(alloc: Global, rows: &str) -> Result<Option<String>, AllocError> {
+    for line in rows.lines() {
+        let unlike = unlike_in(alloc, line)?;
+        if unlike.is_some() {
+            return Ok(unlike);
+        }
+    }
+    Ok(None)
+}

@@ -1,0 +1,96 @@
+//! Words that have a form, and what they ask for.
+
+use crate::tests::reading::{first_unlike, join_words, split_words};
+use arrayvec::ArrayVec;
+use cue_sheet::Place;
+use mp3_cli::{Job, job};
+use std::test::Fail;
+
+static ROWS: &str = "
+# Steps.
+gain -s s -g 3 a ./-b => Gain { shift: Shift { channels: Both, steps: 3, wrap: false }, tags: false, input: \"a\", output: \"./-b\" }
+gain -s s -g +007 a ./-b => Gain { shift: Shift { channels: Both, steps: 7, wrap: false }, tags: false, input: \"a\", output: \"./-b\" }
+gain -s s -g -0 a ./-b => Gain { shift: Shift { channels: Both, steps: 0, wrap: false }, tags: false, input: \"a\", output: \"./-b\" }
+gain -s s -g 255 a ./-b => Gain { shift: Shift { channels: Both, steps: 255, wrap: false }, tags: false, input: \"a\", output: \"./-b\" }
+gain -s s -g -255 a ./-b => Gain { shift: Shift { channels: Both, steps: -255, wrap: false }, tags: false, input: \"a\", output: \"./-b\" }
+gain -s s -g -12 a ./-b => Gain { shift: Shift { channels: Both, steps: -12, wrap: false }, tags: false, input: \"a\", output: \"./-b\" }
+
+# Gains and undo.
+gain -g -7 a b => Gain { shift: Shift { channels: Both, steps: -7, wrap: false }, tags: true, input: \"a\", output: \"b\" }
+gain -s s -g -7 a b => Gain { shift: Shift { channels: Both, steps: -7, wrap: false }, tags: false, input: \"a\", output: \"b\" }
+gain -w -g -7 a b => Gain { shift: Shift { channels: Both, steps: -7, wrap: true }, tags: true, input: \"a\", output: \"b\" }
+gain -s s -w -g -7 a b => Gain { shift: Shift { channels: Both, steps: -7, wrap: true }, tags: false, input: \"a\", output: \"b\" }
+gain -w -s s -g -7 a b => Gain { shift: Shift { channels: Both, steps: -7, wrap: true }, tags: false, input: \"a\", output: \"b\" }
+gain -l 0 -7 a b => Gain { shift: Shift { channels: Left, steps: -7, wrap: false }, tags: true, input: \"a\", output: \"b\" }
+gain -s s -l 0 -7 a b => Gain { shift: Shift { channels: Left, steps: -7, wrap: false }, tags: false, input: \"a\", output: \"b\" }
+gain -w -l 0 -7 a b => Gain { shift: Shift { channels: Left, steps: -7, wrap: true }, tags: true, input: \"a\", output: \"b\" }
+gain -s s -w -l 1 -7 a b => Gain { shift: Shift { channels: Right, steps: -7, wrap: true }, tags: false, input: \"a\", output: \"b\" }
+gain -w -s s -l 1 -7 a b => Gain { shift: Shift { channels: Right, steps: -7, wrap: true }, tags: false, input: \"a\", output: \"b\" }
+gain -u a b => Undo { input: \"a\", output: \"b\" }
+
+# Files to list and pack. Any number of one to three digits is a word for a bit rate.
+list a => List { input: \"a\" }
+pack a b => Pack { mode: Least, input: \"a\", output: \"b\" }
+pack --constant 96 a b => Pack { mode: Constant(96), input: \"a\", output: \"b\" }
+pack --constant 0 a b => Pack { mode: Constant(0), input: \"a\", output: \"b\" }
+pack --floor 008 a b => Pack { mode: Floor(8), input: \"a\", output: \"b\" }
+pack --floor 999 a b => Pack { mode: Floor(999), input: \"a\", output: \"b\" }
+pack --best a b => Pack { mode: Best, input: \"a\", output: \"b\" }
+
+# Drills.
+drill 2147483647 20000 => Drill { seed: 2147483647, count: 20000 }
+drill 0000000000 00001 => Drill { seed: 0, count: 1 }
+
+# Fades.
+fade a b s => Fade { back: false, input: \"a\", output: \"b\", sheet: \"s\" }
+fade --back a b s => Fade { back: true, input: \"a\", output: \"b\", sheet: \"s\" }
+
+# Words alone.
+--help => Help
+-h => Help
+--version => Version
+
+# Cuts and splits.
+cut a 1 EOF b => Cut { from: Frame(1), to: End, least: false, input: \"a\", output: \"b\" }
+cut --least a 0.0 1.02.5 b => Cut { from: Time(0, 100), to: Time(6205, 100), least: true, input: \"a\", output: \"b\" }
+split a p -c s => SplitBy { input: \"a\", prefix: \"p\", sheet: \"s\" }
+split a p 0.0 7 EOF => SplitAt { input: \"a\", prefix: \"p\", places: [Time(0, 100), Frame(7), End] }
+";
+
+#[test]
+fn words_of_each_form(rt: HostRuntime) -> Result<(), Fail> {
+    assert_eq!(rt; first_unlike(rt.alloc(), ROWS)?, None);
+    Ok(())
+}
+
+#[test]
+fn the_most_places(rt: HostRuntime) -> Result<(), Fail> {
+    let mut places = ArrayVec::new();
+    for number in 0..100 {
+        assert!(rt; places.try_push(Place::Frame(number)).is_ok());
+    }
+    let wanted = Job::SplitAt {
+        input: "a",
+        prefix: "p",
+        places,
+    };
+    assert_eq!(rt; job(&split_words(rt.alloc(), 100)?), Ok(wanted));
+    Ok(())
+}
+
+/// How many files are joined: the fewest, two, and the most.
+static COUNTS: [u32; 3] = [1, 2, 64];
+
+#[test]
+fn joins(rt: HostRuntime) -> Result<(), Fail> {
+    for count in &COUNTS {
+        let words = join_words(rt.alloc(), *count)?;
+        assert_eq!(rt; words.len(), *count as usize + 2);
+        let wanted = Job::Join {
+            output: "o",
+            inputs: &words[2..],
+        };
+        assert_eq!(rt; job(&words), Ok(wanted));
+    }
+    Ok(())
+}
