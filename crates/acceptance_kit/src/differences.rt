@@ -1,27 +1,56 @@
 //! What a command left and told, beside what it should have.
 
-use crate::running::{Ended, run_with_room};
+use crate::running::{Ended, Program, run_with_room};
 use outside::Folder;
 use std::alloc::{AllocError, Global};
 
-/// What was found in place of what has to be.
+/// What was found in place of what has to be. One struct for all kinds costs the check less than an enum of them.
 #[derive(Debug, PartialEq, Eq, Drop)]
-pub enum Found {
-    Status(u8),
-    Line(String),
-    Text(String),
-    /// The file of this name has so many bytes where so many are looked for, and they differ from a place on.
-    Bytes {
+pub struct Found {
+    pub what: &'static str,
+    /// The file, the word or the row that it is about, where there is one.
+    pub name: &'static str,
+    /// A status, or numbers of bytes: those that were written, or of a file those that are there, those that are looked for, and those up
+    /// to the first that differs.
+    pub numbers: [usize; 3],
+    /// What was sent.
+    pub sent: Option<String>,
+}
+
+impl Found {
+    fn new(
+        what: &'static str,
         name: &'static str,
-        length: usize,
-        wanted: usize,
-        place: usize,
-    },
-    Absent(&'static str),
-    Present(&'static str),
-    Same(&'static str),
-    /// A word of a text stands for nothing.
-    Word(&'static str),
+        numbers: [usize; 3],
+        sent: Option<String>,
+    ) -> Found {
+        Found {
+            what,
+            name,
+            numbers,
+            sent,
+        }
+    }
+
+    pub(crate) fn of(what: &'static str, name: &'static str) -> Found {
+        Found::new(what, name, [0, 0, 0], None)
+    }
+
+    pub(crate) fn number(what: &'static str, number: usize) -> Found {
+        Found::new(what, "", [number, 0, 0], None)
+    }
+
+    pub(crate) fn status(status: u8) -> Found {
+        Found::number("this status", usize::from(status))
+    }
+
+    pub(crate) fn word(word: &'static str) -> Found {
+        Found::of("a word that stands for nothing", word)
+    }
+
+    pub(crate) fn sent(what: &'static str, sent: String) -> Found {
+        Found::new(what, "", [0, 0, 0], Some(sent))
+    }
 }
 
 /// The first place where the bytes differ, or the length of the shorter.
@@ -34,25 +63,34 @@ pub(crate) fn bytes_differ(name: &'static str, found: &[u8], wanted: &[u8]) -> O
     if found == wanted {
         return None;
     }
-    Some(Found::Bytes {
-        name,
-        length: found.len(),
-        wanted: wanted.len(),
-        place: place_of_difference(found, wanted),
-    })
+    let place = place_of_difference(found, wanted);
+    let numbers = [found.len(), wanted.len(), place];
+    Some(Found::new("other bytes", name, numbers, None))
+}
+
+/// Whether this text was sent, in which three dots stand for any bytes.
+fn is_text(sent: &[u8], text: &str) -> bool {
+    match text.split_once("...") {
+        Some((front, end)) => {
+            front.len().saturating_add(end.len()) <= sent.len()
+                && sent.starts_with(front.as_bytes())
+                && sent.ends_with(end.as_bytes())
+        }
+        None => sent == text.as_bytes(),
+    }
 }
 
 /// How what was sent differs from this text.
 pub(crate) fn difference_of_sent(
     alloc: Global,
     sent: &[u8],
-    text: &[u8],
+    text: &str,
 ) -> Result<Option<Found>, AllocError> {
-    if sent == text {
+    if is_text(sent, text) {
         return Ok(None);
     }
     let found = String::from_utf8_lossy(alloc, sent)?;
-    Ok(Some(Found::Text(found)))
+    Ok(Some(Found::sent("this text", found)))
 }
 
 /// Whether the command told want of memory.
@@ -72,25 +110,25 @@ fn difference_of_end(
     }
     if ended.err.sent() != line.as_bytes() {
         let found = String::from_utf8_lossy(alloc, ended.err.sent())?;
-        return Ok(Some(Found::Line(found)));
+        return Ok(Some(Found::sent("this line", found)));
     }
     if ended.status != status {
-        return Ok(Some(Found::Status(ended.status)));
+        return Ok(Some(Found::status(ended.status)));
     }
-    difference_of_sent(alloc, ended.out.sent(), b"")
+    difference_of_sent(alloc, ended.out.sent(), "")
 }
 
 /// How the words end otherwise than with this status and line, and without text.
 ///
 /// # Errors
 /// Where there is no memory, or the command told so.
-pub fn other_end<D: Folder>(
+pub fn other_end<P: Program, D: Folder>(
     alloc: Global,
     folder: &mut D,
     words: &str,
     status: u8,
     line: &'static str,
 ) -> Result<Option<Found>, AllocError> {
-    let ended = run_with_room(alloc, folder, words)?;
+    let ended = run_with_room::<P, D>(alloc, folder, words)?;
     difference_of_end(alloc, &ended, status, line)
 }

@@ -4,5 +4,5 @@
 pub mod differences;
 pub mod running;
 pub mod scripts;
-pub mod steps;
-pub mod tables;
+mod tells;
+mod turns;

@@ -1,17 +1,26 @@
-//! Commands in words, over a folder in memory.
+//! Commands in words, over a folder and sinks in memory.
 
 use in_memory::{MemFolder, MemSink};
-use mp3_cli::run;
 use outside::Folder;
 use std::alloc::{AllocError, Global};
-use test_files::files::{Stretch, bytes_of};
-use test_files::frames::{Frame, file_of};
 
 /// More than any line of these tests takes.
 const TEXT_ROOM: u64 = 100;
 
 /// More than any listing of these tests takes.
-const LISTING_ROOM: u64 = 1_000_000;
+const LISTING_ROOM: u64 = 16_000_000;
+
+/// A program whose commands are run. What it promises isn't known here, so that the check doesn't read all that it is made of.
+pub trait Program {
+    /// Does what the words ask for, and gives the status.
+    fn run<D: Folder>(
+        alloc: Global,
+        words: &[String],
+        folder: &mut D,
+        out: &mut MemSink,
+        err: &mut MemSink,
+    ) -> u8;
+}
 
 /// How a command ended: its status, and what it wrote.
 #[derive(Drop)]
@@ -31,49 +40,6 @@ pub(crate) fn reserve(folder: &mut MemFolder, name: &str, room: u64) -> Result<(
     folder.reserve(name, room)
 }
 
-/// Puts one file into the folder, and makes room for the file `o`.
-fn put_with_room(
-    folder: &mut MemFolder,
-    name: &str,
-    bytes: &[u8],
-    room: usize,
-) -> Result<(), AllocError> {
-    put(folder, name, bytes)?;
-    reserve(folder, "o", room as u64)
-}
-
-/// A folder with one file, and with room for the file `o`.
-pub fn folder_of(
-    alloc: Global,
-    name: &str,
-    bytes: &[u8],
-    room: usize,
-) -> Result<MemFolder, AllocError> {
-    let mut folder = MemFolder::new(alloc);
-    put_with_room(&mut folder, name, bytes, room)?;
-    Ok(folder)
-}
-
-/// Such a folder with these frames end to end, and with room for as many bytes.
-pub fn folder_of_frames(
-    alloc: Global,
-    name: &str,
-    frames: &[Frame],
-) -> Result<MemFolder, AllocError> {
-    let bytes = file_of(alloc, frames)?;
-    folder_of(alloc, name, &bytes, bytes.len())
-}
-
-/// Such a folder with these stretches end to end, and with room for as many bytes.
-pub fn folder_of_file(
-    alloc: Global,
-    name: &str,
-    file: &[Stretch],
-) -> Result<MemFolder, AllocError> {
-    let bytes = bytes_of(alloc, file)?;
-    folder_of(alloc, name, &bytes, bytes.len())
-}
-
 fn make_room(sink: &mut MemSink, room: u64, failing: Option<u64>) -> Result<(), AllocError> {
     sink.reserve(room)?;
     match failing {
@@ -89,11 +55,6 @@ fn sink_of(alloc: Global, room: u64, failing: Option<u64>) -> Result<MemSink, Al
     Ok(sink)
 }
 
-/// A sink with room for a line.
-pub fn sink(alloc: Global) -> Result<MemSink, AllocError> {
-    sink_of(alloc, TEXT_ROOM, None)
-}
-
 /// The words of a text, which blanks part.
 fn words_of(alloc: Global, text: &str) -> Result<Vec<String>, AllocError> {
     text.split_ascii_whitespace()
@@ -103,19 +64,19 @@ fn words_of(alloc: Global, text: &str) -> Result<Vec<String>, AllocError> {
 
 /// Runs the words with these sinks as standard output and standard error. It is apart from where they are made, since what is
 /// owned costs the check at each `?` that may let it go.
-fn ended_of<D: Folder>(
+fn ended_of<P: Program, D: Folder>(
     alloc: Global,
     words: &[String],
     folder: &mut D,
     mut out: MemSink,
     mut err: MemSink,
 ) -> Ended {
-    let status = run(alloc, words, folder, &mut out, &mut err);
+    let status = P::run(alloc, words, folder, &mut out, &mut err);
     Ended { status, out, err }
 }
 
 /// Runs the words, which blanks part, with these sinks.
-fn run_to<D: Folder>(
+fn run_to<P: Program, D: Folder>(
     alloc: Global,
     folder: &mut D,
     words: &str,
@@ -123,37 +84,28 @@ fn run_to<D: Folder>(
     err: MemSink,
 ) -> Result<Ended, AllocError> {
     let words = words_of(alloc, words)?;
-    Ok(ended_of(alloc, &words, folder, out, err))
+    Ok(ended_of::<P, D>(alloc, &words, folder, out, err))
 }
 
-/// Runs the words, which blanks part, with this sink as standard error.
-pub fn run_over<D: Folder>(
+/// Runs the words, which blanks part, with sinks that have room enough. The writes of these numbers to standard output and to standard
+/// error are to fail.
+pub fn run_failing<P: Program, D: Folder>(
     alloc: Global,
     folder: &mut D,
     words: &str,
-    err: MemSink,
+    sending: Option<u64>,
+    telling: Option<u64>,
 ) -> Result<Ended, AllocError> {
-    let out = sink(alloc)?;
-    run_to(alloc, folder, words, out, err)
-}
-
-/// Runs the words, which blanks part, with sinks that have room enough. The write of this number to standard output is to fail.
-pub fn run_sending<D: Folder>(
-    alloc: Global,
-    folder: &mut D,
-    words: &str,
-    failing: Option<u64>,
-) -> Result<Ended, AllocError> {
-    let out = sink_of(alloc, LISTING_ROOM, failing)?;
-    let err = sink(alloc)?;
-    run_to(alloc, folder, words, out, err)
+    let out = sink_of(alloc, LISTING_ROOM, sending)?;
+    let err = sink_of(alloc, TEXT_ROOM, telling)?;
+    run_to::<P, D>(alloc, folder, words, out, err)
 }
 
 /// Runs the words, which blanks part, with sinks that have room enough.
-pub fn run_with_room<D: Folder>(
+pub fn run_with_room<P: Program, D: Folder>(
     alloc: Global,
     folder: &mut D,
     words: &str,
 ) -> Result<Ended, AllocError> {
-    run_sending(alloc, folder, words, None)
+    run_failing::<P, D>(alloc, folder, words, None, None)
 }

@@ -7,35 +7,41 @@
 //! < a FIRST SECOND        a file that is there before: its name, and words of `test_files::texts`
 //! to o p                  names that a command may write; where they aren't said, `o` alone
 //! room 416                the room of each of them; where it isn't said, 200,000 bytes
-//! fail Read 2             a call of the folder that is to fail: its kind, and its number, counted from 1
+//! fail Read 2             a call that is to fail: its kind, `Send` for a write to standard output, and its number, counted from 1
 //! $ gain -g 1 a o         a command; all but the last have to be done
 //! ! 1 a: no frame at 0    the status of the last one, and its line on standard error; where it isn't said, 0 and none
-//! | 1 frames              a line of its text on standard output; where none is said, none
+//! | 1 frames              a line of its text on standard output, or three dots for any lines; where none is said, none
 //! > o FIRST_LOUDER        a file that is there after it
 //! ~ o FIRST               a file that must have become another than this
 //! - x                     a further name that must be absent
+//! each Read 2 a: ..       calls that fail too, each in a further run, as `turns` says
+//! tell 15                 how many writes to standard error fail too, each in a further run, the last of which makes none of this number
 //! ```
 //!
 //! A file that was there and isn't named by `>` has to stay, and a name of the outputs that no line of a file names has to be
-//! absent. A line `NAME = words` defines bytes for the lines after it.
+//! absent. A line `NAME = words` defines bytes for the lines after it, up to the end of the text.
 
 use crate::differences::{Found, bytes_differ, difference_of_sent, other_end, wants_memory};
-use crate::running::{Ended, put, reserve, run_with_room};
+use crate::running::{Ended, Program, put, reserve, run_failing};
+use crate::tells::run_tells;
+use crate::turns::run_turns;
 use in_memory::{Call, MemFolder};
 use std::alloc::{AllocError, AllocFailed, Global};
 use test_files::named::FILES;
 use test_files::texts::{Named, TextFault, bytes_of_words, define, number_of};
 
 /// How the lines of a row begin. All others define bytes.
-static FRONTS: [&str; 11] = [
-    "# ", "< ", "to ", "room ", "fail ", "$", "! ", "| ", "> ", "~ ", "- ",
+static FRONTS: [&str; 13] = [
+    "# ", "< ", "to ", "room ", "fail ", "$", "! ", "| ", "> ", "~ ", "- ", "each ", "tell ",
 ];
 
 /// Why a row isn't as it says.
 #[derive(Drop)]
-enum Stop {
+pub(crate) enum Stop {
     Memory,
     Found(Found),
+    /// The same where a call fails: its line, and its number.
+    Turn(&'static str, usize, Found),
 }
 
 impl From<AllocError> for Stop {
@@ -48,7 +54,7 @@ impl From<TextFault> for Stop {
     fn from(fault: TextFault) -> Stop {
         match fault {
             TextFault::Memory => Stop::Memory,
-            TextFault::Word(word) => Stop::Found(Found::Word(word)),
+            TextFault::Word(word) => Stop::Found(Found::word(word)),
         }
     }
 }
@@ -56,7 +62,12 @@ impl From<TextFault> for Stop {
 /// The first row that ended otherwise than it says, and how.
 #[derive(Debug, PartialEq, Eq, Drop)]
 pub struct Unlike {
+    /// The first row of its text.
+    pub text: &'static str,
     pub row: &'static str,
+    /// Of calls that fail in turn their line and the number of the one that failed; else nothing and 0.
+    pub calls: &'static str,
+    pub number: usize,
     pub found: Found,
 }
 
@@ -69,12 +80,12 @@ fn none_of(found: Option<Found>) -> Result<(), Stop> {
 }
 
 /// A name, and what is after it.
-fn parted(text: &'static str) -> (&'static str, &'static str) {
+pub(crate) fn parted(text: &'static str) -> (&'static str, &'static str) {
     text.split_once(' ').unwrap_or((text, ""))
 }
 
 /// What is after this prefix in the first line that has it.
-fn said(row: &'static str, front: &str) -> Option<&'static str> {
+pub(crate) fn said(row: &'static str, front: &str) -> Option<&'static str> {
     for line in row.lines() {
         if let Some(rest) = line.strip_prefix(front) {
             return Some(rest);
@@ -84,7 +95,7 @@ fn said(row: &'static str, front: &str) -> Option<&'static str> {
 }
 
 /// What is after this prefix in the last line that has it.
-fn last_said(row: &'static str, front: &str) -> Option<&'static str> {
+pub(crate) fn last_said(row: &'static str, front: &str) -> Option<&'static str> {
     let mut last = None;
     for line in row.lines() {
         if let Some(rest) = line.strip_prefix(front) {
@@ -143,37 +154,64 @@ fn reserve_outputs(folder: &mut MemFolder, row: &'static str) -> Result<(), Stop
     Ok(())
 }
 
-fn call_of(name: &'static str) -> Result<Call, Stop> {
-    match name {
-        "Find" => Ok(Call::Find),
-        "Read" => Ok(Call::Read),
-        "Create" => Ok(Call::Create),
-        "Write" => Ok(Call::Write),
-        _ => Err(Stop::Found(Found::Word(name))),
+/// A call of the folder, or none for a write to standard output.
+pub(crate) fn call_of(kind: &'static str) -> Result<Option<Call>, Stop> {
+    match kind {
+        "Find" => Ok(Some(Call::Find)),
+        "Read" => Ok(Some(Call::Read)),
+        "Create" => Ok(Some(Call::Create)),
+        "Write" => Ok(Some(Call::Write)),
+        "Send" => Ok(None),
+        _ => Err(Stop::Found(Found::word(kind))),
     }
 }
 
-fn fail_calls(folder: &mut MemFolder, row: &'static str) -> Result<(), Stop> {
+/// Lets a call of the folder fail. A write to standard output is the answer: which of them is to fail.
+pub(crate) fn fail_call(
+    folder: &mut MemFolder,
+    call: Option<Call>,
+    number: u64,
+) -> Result<Option<u64>, Stop> {
+    match call {
+        Some(call) => {
+            folder.fail(call, number)?;
+            Ok(None)
+        }
+        None => Ok(Some(number)),
+    }
+}
+
+/// Lets the calls of the row fail. The answer is which write to standard output is to fail.
+fn fail_calls(folder: &mut MemFolder, row: &'static str) -> Result<Option<u64>, Stop> {
+    let mut sending = None;
     for line in row.lines() {
         if let Some(failing) = line.strip_prefix("fail ") {
-            let (call, number) = parted(failing);
-            folder.fail(call_of(call)?, number_of(number)? as u64)?;
+            let (kind, number) = parted(failing);
+            sending = sending.or(fail_call(folder, call_of(kind)?, number_of(number)? as u64)?);
         }
     }
-    Ok(())
+    Ok(sending)
 }
 
-fn run_done(alloc: Global, folder: &mut MemFolder, words: &'static str) -> Result<(), Stop> {
-    none_of(other_end(alloc, folder, words, 0, "")?)
+fn run_done<P: Program>(
+    alloc: Global,
+    folder: &mut MemFolder,
+    words: &'static str,
+) -> Result<(), Stop> {
+    none_of(other_end::<P, MemFolder>(alloc, folder, words, 0, "")?)
 }
 
 /// Runs the commands except the last.
-fn run_front(alloc: Global, folder: &mut MemFolder, row: &'static str) -> Result<(), Stop> {
+fn run_front<P: Program>(
+    alloc: Global,
+    folder: &mut MemFolder,
+    row: &'static str,
+) -> Result<(), Stop> {
     let mut waiting = None;
     for line in row.lines() {
         if let Some(words) = line.strip_prefix("$") {
             if let Some(before) = waiting {
-                run_done(alloc, folder, before)?;
+                run_done::<P>(alloc, folder, before)?;
             }
             waiting = Some(words);
         }
@@ -182,10 +220,18 @@ fn run_front(alloc: Global, folder: &mut MemFolder, row: &'static str) -> Result
 }
 
 /// Whether this line was sent, or nothing where it is empty.
-fn is_line(sent: &[u8], line: &str) -> bool {
+pub(crate) fn is_line(sent: &[u8], line: &str) -> bool {
     match sent.split_last() {
         Some((end, front)) => !line.is_empty() && *end == b'\n' && front == line.as_bytes(),
         None => line.is_empty(),
+    }
+}
+
+/// What was sent in place of a line.
+pub(crate) fn other_line(alloc: Global, sent: &[u8]) -> Stop {
+    match String::from_utf8_lossy(alloc, sent) {
+        Ok(found) => Stop::Found(Found::sent("this line", found)),
+        Err(_) => Stop::Memory,
     }
 }
 
@@ -193,22 +239,21 @@ fn is_line(sent: &[u8], line: &str) -> bool {
 fn compare_status(alloc: Global, row: &'static str, ended: &Ended) -> Result<(), Stop> {
     let (status, line) = parted(said(row, "! ").unwrap_or("0"));
     if !is_line(ended.err.sent(), line) {
-        let found = String::from_utf8_lossy(alloc, ended.err.sent())?;
-        return Err(Stop::Found(Found::Line(found)));
+        return Err(other_line(alloc, ended.err.sent()));
     }
     if usize::from(ended.status) != number_of(status)? {
-        return Err(Stop::Found(Found::Status(ended.status)));
+        return Err(Stop::Found(Found::status(ended.status)));
     }
     Ok(())
 }
 
 /// The text that the row says.
-fn text_of(alloc: Global, row: &'static str) -> Result<Vec<u8>, AllocError> {
-    let mut text = Vec::new(alloc);
+fn text_of(alloc: Global, row: &'static str) -> Result<String, AllocError> {
+    let mut text = String::new(alloc);
     for line in row.lines() {
         if let Some(line) = line.strip_prefix("| ") {
-            text.extend_from_slice(line.as_bytes())?;
-            text.push(b'\n')?;
+            text.push_str(line)?;
+            text.push('\n')?;
         }
     }
     Ok(text)
@@ -230,7 +275,7 @@ fn found_in_file(
     let wanted = bytes_of_words(alloc, names, words)?;
     Ok(match folder.get(name) {
         Some(found) => bytes_differ(name, found, &wanted),
-        None => Some(Found::Absent(name)),
+        None => Some(Found::of("no file", name)),
     })
 }
 
@@ -259,7 +304,7 @@ fn compare_made(
 }
 
 /// Compares the files that have to stay: those that no line with this prefix names.
-fn compare_kept(
+pub(crate) fn compare_kept(
     alloc: Global,
     folder: &MemFolder,
     names: &[Named],
@@ -286,7 +331,7 @@ fn compare_others(
     for line in row.lines() {
         if let Some(file) = line.strip_prefix("~ ") {
             if found_in_file(alloc, folder, names, file)?.is_none() {
-                return Err(Stop::Found(Found::Same(parted(file).0)));
+                return Err(Stop::Found(Found::of("the same bytes", parted(file).0)));
             }
         }
     }
@@ -295,7 +340,7 @@ fn compare_others(
 
 fn expect_absent(folder: &MemFolder, name: &'static str) -> Result<(), Stop> {
     match folder.get(name) {
-        Some(_) => Err(Stop::Found(Found::Present(name))),
+        Some(_) => Err(Stop::Found(Found::of("a file", name))),
         None => Ok(()),
     }
 }
@@ -310,7 +355,11 @@ fn compare_absent(folder: &MemFolder, row: &'static str) -> Result<(), Stop> {
 }
 
 /// Looks for an output that is there, and that no line of a file names.
-fn compare_outputs(folder: &MemFolder, row: &'static str, front: &str) -> Result<(), Stop> {
+pub(crate) fn compare_outputs(
+    folder: &MemFolder,
+    row: &'static str,
+    front: &str,
+) -> Result<(), Stop> {
     for name in outputs_of(row).split_ascii_whitespace() {
         let is_named = names_file(row, "< ", name) || names_file(row, front, name);
         if !is_named && !names_file(row, "~ ", name) {
@@ -373,45 +422,63 @@ fn compare_ended(
     compare_folder(alloc, folder, names, row)
 }
 
-fn run_last(
+fn run_last<P: Program>(
     alloc: Global,
     folder: &mut MemFolder,
     names: &[Named],
     row: &'static str,
-    words: &'static str,
-) -> Result<(), Stop> {
-    let ended = run_with_room(alloc, folder, words)?;
-    compare_ended(alloc, folder, names, row, &ended)
+    sending: Option<u64>,
+) -> Result<Ended, Stop> {
+    let words = last_said(row, "$").unwrap_or("");
+    let ended = run_failing::<P, MemFolder>(alloc, folder, words, sending, None)?;
+    compare_ended(alloc, folder, names, row, &ended)?;
+    Ok(ended)
 }
 
 /// A row without a command may have only definitions.
 fn expect_definitions(row: &'static str) -> Result<(), Stop> {
     if said(row, "< ").is_some() || said(row, "> ").is_some() || said(row, "! ").is_some() {
-        return Err(Stop::Found(Found::Word(row)));
+        return Err(Stop::Found(Found::word(row)));
     }
     Ok(())
 }
 
-/// Runs a row over an empty folder.
-fn run_row(
+pub(crate) fn prepare(
     alloc: Global,
     folder: &mut MemFolder,
     names: &[Named],
     row: &'static str,
 ) -> Result<(), Stop> {
-    let Some(words) = last_said(row, "$") else {
-        return expect_definitions(row);
-    };
     put_files(alloc, folder, names, row)?;
-    reserve_outputs(folder, row)?;
-    fail_calls(folder, row)?;
-    run_front(alloc, folder, row)?;
-    run_last(alloc, folder, names, row, words)
+    reserve_outputs(folder, row)
 }
 
-fn run_over_empty(alloc: Global, names: &[Named], row: &'static str) -> Result<(), Stop> {
+fn run_over<P: Program>(
+    alloc: Global,
+    folder: &mut MemFolder,
+    names: &[Named],
+    row: &'static str,
+) -> Result<Ended, Stop> {
+    prepare(alloc, folder, names, row)?;
+    let sending = fail_calls(folder, row)?;
+    run_front::<P>(alloc, folder, row)?;
+    run_last::<P>(alloc, folder, names, row, sending)
+}
+
+/// Runs a row over an empty folder.
+fn run_once<P: Program>(alloc: Global, names: &[Named], row: &'static str) -> Result<Ended, Stop> {
     let mut folder = MemFolder::new(alloc);
-    run_row(alloc, &mut folder, names, row)
+    run_over::<P>(alloc, &mut folder, names, row)
+}
+
+/// Runs a row, and then with each call failing that it says.
+fn run_row<P: Program>(alloc: Global, names: &[Named], row: &'static str) -> Result<(), Stop> {
+    if said(row, "$").is_none() {
+        return expect_definitions(row);
+    }
+    let ended = run_once::<P>(alloc, names, row)?;
+    run_turns::<P>(alloc, names, row, ended.out.sent())?;
+    run_tells::<P>(alloc, names, row)
 }
 
 /// Whether the line is empty or has one of the prefixes.
@@ -440,60 +507,100 @@ fn define_all(alloc: Global, names: &mut Vec<Named>, row: &'static str) -> Resul
     Ok(())
 }
 
-fn unlike_in_row(
+fn define_and_run<P: Program>(
     alloc: Global,
     names: &mut Vec<Named>,
     row: &'static str,
-) -> Result<Option<Unlike>, AllocError> {
-    let done = match define_all(alloc, names, row) {
-        Ok(()) => run_over_empty(alloc, names, row),
-        Err(stop) => Err(stop),
-    };
-    match done {
-        Ok(()) => Ok(None),
-        Err(Stop::Memory) => Err(AllocError),
-        Err(Stop::Found(found)) => Ok(Some(Unlike { row, found })),
+) -> Result<(), Stop> {
+    define_all(alloc, names, row)?;
+    run_row::<P>(alloc, names, row)
+}
+
+/// Why a run over texts stopped.
+#[derive(Drop)]
+enum End {
+    Memory,
+    Unlike(Unlike),
+}
+
+/// The first row of a text, which says what the text is about.
+fn first_row(text: &'static str) -> &'static str {
+    match text.split_once("\n\n") {
+        Some((row, _)) => row,
+        None => text,
     }
 }
 
-fn unlike_in_text(
+fn end_of(text: &'static str, row: &'static str, stop: Stop) -> End {
+    let (calls, number, found) = match stop {
+        Stop::Memory => return End::Memory,
+        Stop::Found(found) => ("", 0, found),
+        Stop::Turn(calls, number, found) => (calls, number, found),
+    };
+    End::Unlike(Unlike {
+        text,
+        row,
+        calls,
+        number,
+        found,
+    })
+}
+
+fn run_rows<P: Program>(
     alloc: Global,
     names: &mut Vec<Named>,
     text: &'static str,
-) -> Result<Option<Unlike>, AllocError> {
+) -> Result<(), End> {
     for row in text.split("\n\n") {
-        let unlike = unlike_in_row(alloc, names, row)?;
-        if unlike.is_some() {
-            return Ok(unlike);
+        if let Err(stop) = define_and_run::<P>(alloc, names, row) {
+            return Err(end_of(first_row(text), row, stop));
         }
     }
-    Ok(None)
+    Ok(())
 }
 
-fn unlike_in_texts(
+/// What a text defines holds up to its end.
+fn run_text<P: Program>(
     alloc: Global,
     names: &mut Vec<Named>,
+    text: &'static str,
+) -> Result<(), End> {
+    let known = names.len();
+    run_rows::<P>(alloc, names, text)?;
+    names.truncate(known);
+    Ok(())
+}
+
+fn run_texts<P: Program>(
+    alloc: Global,
+    names: &mut Vec<Named>,
+    shared: &[&'static str],
     texts: &[&'static str],
-) -> Result<Option<Unlike>, AllocError> {
-    for text in texts {
-        let unlike = unlike_in_text(alloc, names, text)?;
-        if unlike.is_some() {
-            return Ok(unlike);
-        }
+) -> Result<(), End> {
+    run_rows::<P>(alloc, names, FILES)?;
+    for text in shared {
+        run_rows::<P>(alloc, names, text)?;
     }
-    Ok(None)
+    for text in texts {
+        run_text::<P>(alloc, names, text)?;
+    }
+    Ok(())
 }
 
 /// Runs the rows of the texts, each over a folder of its own, up to the first that ends otherwise than it says. That is `None`
-/// where all end so. What `FILES` and the earlier texts define holds in the later ones.
+/// where all end so. What `FILES` and `shared` define holds in all texts.
 ///
 /// # Errors
 /// Where there is no memory: for the folders and what is compared, or a command told it and left its files.
-pub fn first_unlike(alloc: Global, texts: &[&'static str]) -> Result<Option<Unlike>, AllocError> {
+pub fn first_unlike<P: Program>(
+    alloc: Global,
+    shared: &[&'static str],
+    texts: &[&'static str],
+) -> Result<Option<Unlike>, AllocError> {
     let mut names = Vec::new(alloc);
-    let unlike = unlike_in_text(alloc, &mut names, FILES)?;
-    if unlike.is_some() {
-        return Ok(unlike);
+    match run_texts::<P>(alloc, &mut names, shared, texts) {
+        Ok(()) => Ok(None),
+        Err(End::Memory) => Err(AllocError),
+        Err(End::Unlike(unlike)) => Ok(Some(unlike)),
     }
-    unlike_in_texts(alloc, &mut names, texts)
 }

@@ -16,19 +16,10 @@ pub enum Stretch {
     Fill(u8, usize),
     /// These bytes, and then one byte this many times.
     Filled(&'static [u8], u8, usize),
-    /// These bytes around this value.
-    Valued(&'static Ends, &'static [u8]),
-    /// These bytes, with another one at this place.
-    Changed(&'static [u8], usize, u8),
     /// A frame of 417 bytes, the last 381 of them for main data: MPEG-1, 44,100 Hz, 128 kbit/s, stereo, without check word.
     /// Its main_data_begin in bytes, and how many bits its first granule's first channel has; every other field is 0.
     Frame(u16, u16),
-    /// This many frames of 417 bytes that begin with these bytes and are filled up with 0x5a.
-    Copies(&'static [u8], usize),
 }
-
-/// What is before a value, and what is after it.
-pub struct Ends(pub &'static [u8], pub &'static [u8]);
 
 /// An ID3v2 block of 40 bytes: the flag of a footer, and size 20.
 pub const ID3V2_BLOCK: Stretch = Stretch::Filled(b"ID3\x04\0\x10\0\0\0\x14", 0x11, 30);
@@ -92,24 +83,6 @@ fn push_filled(file: &mut Vec<u8>, front: &[u8], byte: u8, count: usize) -> Resu
     push_fill(file, byte, count)
 }
 
-fn push_valued(file: &mut Vec<u8>, ends: &Ends, value: &[u8]) -> Result<(), AllocError> {
-    file.extend_from_slice(ends.0)?;
-    file.extend_from_slice(value)?;
-    file.extend_from_slice(ends.1)
-}
-
-fn push_changed(
-    file: &mut Vec<u8>,
-    bytes: &[u8],
-    place: usize,
-    byte: u8,
-) -> Result<(), AllocError> {
-    for (at, own) in bytes.iter().enumerate() {
-        file.push(if at == place { byte } else { *own })?;
-    }
-    Ok(())
-}
-
 /// A frame of 417 bytes. main_data_begin is the first 9 bits of the side information, and how many bits the first channel's
 /// main data have is in the 21st to the 32nd (ISO/IEC 11172-3, 2.4.1.7).
 fn push_frame(file: &mut Vec<u8>, begin: u16, bits: u16) -> Result<(), AllocError> {
@@ -117,15 +90,6 @@ fn push_frame(file: &mut Vec<u8>, begin: u16, bits: u16) -> Result<(), AllocErro
     file.extend_from_slice(&[0xff, 0xfb, 0x90, 0x00])?;
     file.extend_from_slice(&side_front.to_be_bytes())?;
     push_fill(file, 0, 409)
-}
-
-fn push_copies(file: &mut Vec<u8>, front: &[u8], count: usize) -> Result<(), AllocError> {
-    let rest = 417_usize.saturating_sub(front.len());
-    for _ in 0..count {
-        file.extend_from_slice(front)?;
-        push_fill(file, 0x5a, rest)?;
-    }
-    Ok(())
 }
 
 fn push_repeated(
@@ -149,10 +113,7 @@ impl Stretch {
             Stretch::Bytes(bytes) => file.extend_from_slice(bytes),
             Stretch::Fill(byte, count) => push_fill(file, *byte, *count),
             Stretch::Filled(front, byte, count) => push_filled(file, front, *byte, *count),
-            Stretch::Valued(ends, value) => push_valued(file, ends, value),
-            Stretch::Changed(bytes, place, byte) => push_changed(file, bytes, *place, *byte),
             Stretch::Frame(begin, bits) => push_frame(file, *begin, *bits),
-            Stretch::Copies(front, count) => push_copies(file, front, *count),
         }
     }
 }

@@ -40,30 +40,6 @@ pub const G: Frame = Frame {
 pub const G_LOWER: Frame =
     frame! { side: b"\0\0\0\x08\0\x2f\x80\0\0\0\x01\0\x06\0\0\0\0\0\x20\x01\xf4\0\0\0\0\x04\0\x15\x40", ..G };
 
-/// G with the gains 10, 20, 30, 40, and with a text that only in the first frame is a head's.
-pub const QUIET: Frame =
-    frame! { side: b"\0\0\0\x08\0\x05\0\0\0\0\x01\0\x01\x40\0\0\0\0\x20\0\x3c\0\0\0\0\x04\0\x0a", area: b"Xing", ..G };
-
-/// The same with the gains 5, 15, 25, 35.
-pub const QUIETER: Frame =
-    frame! { side: b"\0\0\0\x08\0\x02\x80\0\0\0\x01\0\0\xf0\0\0\0\0\x20\0\x32\0\0\0\0\x04\0\x08\xc0", area: b"Xing", ..G };
-
-/// G with the gains 100, 254, 255, 90.
-pub const LOUD: Frame =
-    frame! { side: b"\0\0\0\x08\0\x32\0\0\0\0\x01\0\x0f\xe0\0\0\0\0\x20\x01\xfe\0\0\0\0\x04\0\x16\x80", ..G };
-
-/// G with the gains 100, 101, 250, 4.
-pub const LOW: Frame =
-    frame! { side: b"\0\0\0\x08\0\x32\0\0\0\0\x01\0\x06\x50\0\0\0\0\x20\x01\xf4\0\0\0\0\x04\0\x01", ..G };
-
-/// The second channel has no bits; the gains are 100, 255, 200, 0.
-pub const LEFT_ALONE: Frame =
-    frame! { side: b"\0\0\0\x08\0\x32\0\0\0\0\0\0\x0f\xf0\0\0\0\0\x20\x01\x90", ..G };
-
-/// The same with the gains 155, 255, 255, 0.
-pub const LEFT_ALONE_LOUDER: Frame =
-    frame! { side: b"\0\0\0\x08\0\x4d\x80\0\0\0\0\0\x0f\xf0\0\0\0\0\x20\x01\xfe", ..G };
-
 /// Padded. The granules' channels have 8, 16, 24 and 32 bits and the gains 5, 6, 7, 8; every other bit of
 /// the side information but main_data_begin is 1.
 pub const PADDED: Frame = Frame {
@@ -73,66 +49,21 @@ pub const PADDED: Frame = Frame {
     ..G
 };
 
-/// The same with the gains 0, 1, 2, 3.
-pub const PADDED_LOWER: Frame = Frame {
-    side: b"\0\x7f\xf0\x08\xff\x80\x7f\xff\xff\xfe\x02\x1f\xf0\x1f\xff\xff\xff\xc0\x63\xfe\x05\xff\xff\xff\xf8\x10\x7f\xc0\xff\xff\xff\xff",
-    ..PADDED
-};
-
 /// One channel, with 17 bytes of side information. The granules have 8 and 16 bits and the gains 100 and
 /// 200; scfsi is 1010, and every other bit but main_data_begin is 1.
 pub const MONO: Frame =
     frame! { header: [0xff, 0xfb, 0x90, 0xc0], side: b"\0\x7e\x80\x23\xfe\xc9\xff\xff\xff\xf8\x08\x7f\xf2\x3f\xff\xff\xff", ..G };
 
-/// The same with the gains 95 and 195.
-pub const MONO_LOWER: Frame =
-    frame! { side: b"\0\x7e\x80\x23\xfe\xbf\xff\xff\xff\xf8\x08\x7f\xf0\xff\xff\xff\xff", ..MONO };
-
 /// Four times 762 bits, which fill the area of 381 bytes; all gains are 100.
 pub const FULL: Frame =
     frame! { side: b"\0\0\x02\xfa\0\x32\0\0\0\0\x5f\x40\x06\x40\0\0\0\x0b\xe8\0\xc8\0\0\0\x01\x7d\0\x19", ..G };
-
-/// The same with all gains 101.
-pub const FULL_LOUDER: Frame =
-    frame! { side: b"\0\0\x02\xfa\0\x32\x80\0\0\0\x5f\x40\x06\x50\0\0\0\x0b\xe8\0\xca\0\0\0\x01\x7d\0\x19\x40", ..G };
 
 /// FULL with one bit more than the area has.
 pub const OVERFULL: Frame =
     frame! { side: b"\0\0\x02\xfa\0\x32\0\0\0\0\x5f\x40\x06\x40\0\0\0\x0b\xe8\0\xc8\0\0\0\x01\x7d\x80\x19", ..G };
 
-/// main_data_begin is 10, and all else is as in Z.
-pub const BACK_POINTER: Frame = frame! { side: &[0x05, 0x00], ..Z };
-
-/// G at 48 kHz.
-pub const G_AT_48_KHZ: Frame = frame! { header: [0xff, 0xfb, 0x94, 0x00], length: 384, ..G };
-
-/// The same with the gains 95, 96, 250, 85.
-pub const G_AT_48_KHZ_LOWER: Frame =
-    frame! { header: [0xff, 0xfb, 0x94, 0x00], length: 384, ..G_LOWER };
-
-/// G at 32 kHz.
-pub const G_AT_32_KHZ: Frame = frame! { header: [0xff, 0xfb, 0x98, 0x00], length: 576, ..G };
-
-/// The same with the gains 95, 96, 250, 85.
-pub const G_AT_32_KHZ_LOWER: Frame =
-    frame! { header: [0xff, 0xfb, 0x98, 0x00], length: 576, ..G_LOWER };
-
-/// G at 160 kbit/s, with a text one byte after the place of a head's.
-pub const LONG: Frame =
-    frame! { header: [0xff, 0xfb, 0xa0, 0x00], area: b"-Info", length: 522, ..G };
-
-/// The same with the gains 95, 96, 250, 85.
-pub const LONG_LOWER: Frame =
-    frame! { header: [0xff, 0xfb, 0xa0, 0x00], area: b"-Info", length: 522, ..G_LOWER };
-
 /// Z with the text of a head.
 pub const HEAD: Frame = Frame { area: b"Info", ..Z };
-
-/// MONO with the text of a head.
-pub const MONO_HEAD: Frame = frame! { area: b"Info", ..MONO };
-
-/// The same with the gains 95 and 195.
-pub const MONO_HEAD_LOWER: Frame = frame! { area: b"Info", ..MONO_LOWER };
 
 /// G with a wrong check word, and with the text of a head after the side information.
 pub const PROTECTED_HEAD: Frame =
@@ -167,35 +98,8 @@ pub const LOWER: Frame = Frame {
     length: 209,
 };
 
-/// The same with the gains 95 and 195.
-pub const LOWER_QUIETER: Frame =
-    frame! { side: b"\0\xc0\x23\xfe\xbf\xff\xff\xff\xff\x80\x87\xff\x0f\xff\xff\xff\xff", ..LOWER };
-
-/// LOWER with a check word.
-pub const PROTECTED_LOWER: Frame =
-    frame! { header: [0xff, 0xf2, 0x82, 0x00], word: Some(0x4fa8), ..LOWER };
-
-/// The same with the gains 95 and 195.
-pub const PROTECTED_LOWER_QUIETER: Frame =
-    frame! { header: [0xff, 0xf2, 0x82, 0x00], word: Some(0x2bff), ..LOWER_QUIETER };
-
 /// MPEG-2, 22,050 Hz, 64 kbit/s, all bytes after the header 0.
 pub const MPEG_2: Frame = frame! { header: [0xff, 0xf3, 0x80, 0x00], length: 208, ..Z };
-
-/// The same with the version that the standard reserves.
-pub const RESERVED_VERSION: Frame = frame! { header: [0xff, 0xeb, 0x80, 0x00], length: 208, ..Z };
-
-/// Z with the layer field of Layer II.
-pub const LAYER_2: Frame = frame! { header: [0xff, 0xfd, 0x90, 0x00], ..Z };
-
-/// Z in free format.
-pub const FREE: Frame = frame! { header: [0xff, 0xfb, 0x00, 0x00], ..Z };
-
-/// Z with the forbidden bit rate.
-pub const FORBIDDEN_RATE: Frame = frame! { header: [0xff, 0xfb, 0xf0, 0x00], ..Z };
-
-/// Z with the reserved frequency.
-pub const RESERVED_FREQUENCY: Frame = frame! { header: [0xff, 0xfb, 0x9c, 0x00], ..Z };
 
 /// The frames end to end.
 pub fn file_of(alloc: Global, frames: &[Frame]) -> Result<Vec<u8>, AllocError> {

@@ -81,8 +81,8 @@ fn push_hex(bytes: &mut Vec<u8>, word: &'static str) -> Result<(), TextFault> {
 }
 
 fn push_quoted(bytes: &mut Vec<u8>, text: &str) -> Result<(), TextFault> {
-    for byte in text.bytes() {
-        bytes.push(if byte == b'_' { b' ' } else { byte })?;
+    for byte in text.as_bytes() {
+        bytes.push(if *byte == b'_' { b' ' } else { *byte })?;
     }
     Ok(())
 }

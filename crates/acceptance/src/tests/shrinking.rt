@@ -1,0 +1,321 @@
+//! Inputs that a folder finds with another length than it reads, that become shorter after the survey, or that are too long; and a
+//! folder that reads and writes a few bytes at a time, where things go wrong once the output was created.
+ghost use Rattle.std.specs.Prelude.{◌≡◌, ◌≤◌, length, drop};
+
+use crate::tests::Mp3edit;
+use crate::tests::frames::pass;
+use acceptance_kit::differences::other_end;
+use outside::{Failed, FindFault, Folder};
+use std::alloc::{AllocError, AllocGlobal, Global};
+use std::process::Abort;
+use std::test::Fail;
+use test_files::table;
+use test_files::texts::{Named, TextFault, bytes_of_words, define};
+
+/// What happens to the files.
+#[derive(Clone, Copy, Debug, PartialEq, Eq)]
+enum Trouble {
+    Nothing,
+    /// After this many reads they have no more than this length.
+    Short(u64, usize),
+    /// They have no more than this length once the output was created.
+    Shorter(usize),
+    /// Once it was created reads fail from this offset on.
+    Unread(u64),
+    /// Writes fail after this many bytes.
+    Unwritten(usize),
+}
+
+/// A folder whose files are all found with one length and have these bytes. At most 1,000 bytes are read at once, and 700 written. It
+/// tells nothing of them.
+#[derive(Drop)]
+struct Changing {
+    found: u64,
+    bytes: Vec<u8>,
+    trouble: Trouble,
+    reads: u64,
+    output: Vec<u8>,
+    created: u64,
+    ends: u64,
+    read_faults: u64,
+    write_faults: u64,
+}
+
+impl Changing {
+    fn new(alloc: Global, found: u64, bytes: Vec<u8>, trouble: Trouble) -> Self {
+        Changing {
+            found,
+            bytes,
+            trouble,
+            reads: 0,
+            output: Vec::new(alloc),
+            created: 0,
+            ends: 0,
+            read_faults: 0,
+            write_faults: 0,
+        }
+    }
+
+    /// How many bytes there are to read.
+    fn there(&self) -> usize {
+        let length = self.bytes.len();
+        match self.trouble {
+            Trouble::Short(reads, shorter) if reads < self.reads => length.min(shorter),
+            Trouble::Shorter(shorter) if self.created > 0 => length.min(shorter),
+            _ => length,
+        }
+    }
+
+    fn fails_to_read(&self, at: u64) -> bool {
+        match self.trouble {
+            Trouble::Unread(from) => self.created > 0 && from <= at,
+            _ => false,
+        }
+    }
+
+    fn fails_to_write(&self) -> bool {
+        match self.trouble {
+            Trouble::Unwritten(most) => most <= self.output.len(),
+            _ => false,
+        }
+    }
+}
+
+/// Copies at most 1,000 bytes from an offset on, of as many as there are.
+fn copy_some(content: &[u8], at: u64, there: usize, into: &mut [u8]) -> usize
+    ensures count { result ≤ length into.old }
+    ensures rest { drop result into.new ≡ drop result into.old }
+{
+    let end = there.min(content.len());
+    let begin = (at as usize).min(end);
+    let count = into.len().min(end - begin).min(1000);
+    into[..count].copy_from_slice(&content[begin..begin + count]);
+    count
+}
+
+impl Folder for Changing {
+    ghost use Rattle.outside.specs.Files.{untold};
+
+    ghost files = { λ _. untold };
+
+    ghost counts = { λ folder. record { misses = 0; ends = folder.ends; read_faults = folder.read_faults; write_faults = folder.write_faults } };
+
+    fn find(&mut self, _name: &str) -> Result<u64, FindFault> {
+        Ok(self.found)
+    }
+
+    fn read(&mut self, _name: &str, at: u64, into: &mut [u8]) -> Result<usize, Failed> {
+        self.reads = self.reads.saturating_add(1);
+        if self.fails_to_read(at) {
+            self.read_faults = self.read_faults.saturating_add(1);
+            return Err(Failed);
+        }
+        let there = self.there();
+        let count = copy_some(&self.bytes, at, there, into);
+        if count == 0 && !into.is_empty() {
+            self.ends = self.ends.saturating_add(1);
+        }
+        Ok(count)
+    }
+
+    #[tactic(auto, unfolding(outside::specs::Files::emptied))]
+    fn create(&mut self, _name: &str) -> Result<(), Failed> {
+        self.output.clear();
+        self.created = self.created.saturating_add(1);
+        Ok(())
+    }
+
+    #[tactic(auto, unfolding(outside::specs::Files::appended))]
+    fn write(&mut self, _name: &str, bytes: &[u8]) -> Result<usize, Failed> {
+        let count = bytes.len().min(700);
+        if self.fails_to_write() || self.output.extend_from_slice(&bytes[..count]).is_err() {
+            self.write_faults = self.write_faults.saturating_add(1);
+            return Err(Failed);
+        }
+        Ok(count)
+    }
+}
+
+fn define_lines(alloc: Global, names: &mut Vec<Named>) -> Result<(), TextFault> {
+    for line in pass::DEFINED.lines() {
+        if line.contains(" = ") {
+            define(alloc, names, line)?;
+        }
+    }
+    Ok(())
+}
+
+fn bytes_named(alloc: Global, words: &'static str) -> Result<Vec<u8>, TextFault> {
+    let mut names = Vec::new(alloc);
+    define_lines(alloc, &mut names)?;
+    bytes_of_words(alloc, &names, words)
+}
+
+/// The bytes of these words. Where one stands for nothing there are none, so that the test fails.
+fn bytes_of(alloc: Global, words: &'static str) -> Result<Vec<u8>, AllocError> {
+    match bytes_named(alloc, words) {
+        Ok(bytes) => Ok(bytes),
+        Err(TextFault::Memory) => Err(AllocError),
+        Err(TextFault::Word(_)) => Ok(Vec::new(alloc)),
+    }
+}
+
+/// A command over such files, and how it ends: its status and line, how often a read meets the end of a file, and how many outputs
+/// are created.
+struct Case {
+    words: &'static str,
+    found: u64,
+    trouble: Trouble,
+    status: u8,
+    line: &'static str,
+    ends: u64,
+    created: u64,
+}
+
+/// Asserts how the words end, how often the end was met, and how many outputs were created.
+fn expect_over<R: Abort + AllocGlobal>(
+    rt: &R,
+    folder: &mut Changing,
+    case: &Case,
+) -> Result<(), AllocError> {
+    let other = other_end::<Mp3edit, Changing>(
+        rt.alloc(),
+        folder,
+        case.words,
+        case.status,
+        case.line,
+    )?;
+    assert_eq!(rt; other, None, "{} {}", case.words, case.line);
+    assert_eq!(rt; folder.ends, case.ends, "{} {}", case.words, case.line);
+    assert_eq!(rt;
+        folder.created,
+        case.created,
+        "{} {}",
+        case.words, case.line
+    );
+    Ok(())
+}
+
+fn expect_case<R: Abort + AllocGlobal>(
+    rt: &R,
+    case: &Case,
+    file: &'static str,
+) -> Result<(), AllocError> {
+    let bytes = bytes_of(rt.alloc(), file)?;
+    let mut folder = Changing::new(rt.alloc(), case.found, bytes, case.trouble);
+    expect_over(rt, &mut folder, case)
+}
+
+fn expect_cases<R: Abort + AllocGlobal>(
+    rt: &R,
+    cases: &[Case],
+    file: &'static str,
+) -> Result<(), AllocError> {
+    for case in cases {
+        expect_case(rt, case, file)?;
+    }
+    Ok(())
+}
+
+// Of the last file nothing is read.
+static FOUND: [Case; 3] = table! {
+    Case { words, found, trouble, status, line, ends, created }
+    ("gain -s s -g 1 a o", 834, Trouble::Short(0, 417), 3, "a: shrunk from 834 to 417\n", 1, 0)
+    ("gain -s s -g 1 a o", 1, Trouble::Short(0, 0), 3, "a: shrunk from 1 to 0\n", 1, 0)
+    ("gain -s s -g 1 a o", 1_073_741_825, Trouble::Short(0, 0), 1, "a: too long, 1073741825 bytes\n", 0, 0)
+};
+
+#[test]
+fn inputs_that_shrink_or_are_too_long(rt: HostRuntime) -> Result<(), Fail> {
+    expect_cases(&rt, &FOUND, "00*417")?;
+    Ok(())
+}
+
+// The survey makes the first read, and the tag is read by the second.
+static SHRUNK: [Case; 10] = table! {
+    Case { words, found, trouble, status, line, ends, created }
+    ("gain -g 1 a o", 513, Trouble::Short(0, 500), 3, "a: shrunk from 513 to 500\n", 1, 0)
+    ("gain -u a o", 513, Trouble::Short(0, 500), 3, "a: shrunk from 513 to 500\n", 1, 0)
+    ("gain -g 1 a o", 513, Trouble::Short(1, 512), 3, "a: shrunk from 513 to 512\n", 1, 0)
+    ("gain -u a o", 513, Trouble::Short(1, 512), 3, "a: shrunk from 513 to 512\n", 1, 0)
+    ("gain -g 1 a o", 513, Trouble::Short(1, 417), 3, "a: shrunk from 513 to 417\n", 1, 0)
+    ("gain -u a o", 513, Trouble::Short(1, 417), 3, "a: shrunk from 513 to 417\n", 1, 0)
+    ("gain -g 1 a o", 513, Trouble::Short(1, 100), 3, "a: shrunk from 513 to 417\n", 1, 0)
+    ("gain -u a o", 513, Trouble::Short(1, 100), 3, "a: shrunk from 513 to 417\n", 1, 0)
+    ("gain -g 1 a o", 513, Trouble::Short(2, 100), 3, "a: shrunk from 513 to 100\n", 1, 1)
+    ("gain -u a o", 513, Trouble::Short(2, 100), 3, "a: shrunk from 513 to 100\n", 1, 1)
+};
+
+#[test]
+fn a_file_that_becomes_shorter(rt: HostRuntime) -> Result<(), Fail> {
+    expect_cases(&rt, &SHRUNK, "NOTED_FRAME")?;
+    Ok(())
+}
+
+// Each survey makes one read, and so does the second pass over each input. The line names the input that became shorter, and
+// nothing but the output is created.
+static LAID: [Case; 6] = table! {
+    Case { words, found, trouble, status, line, ends, created }
+    ("cut a 0 1 o", 513, Trouble::Short(1, 100), 3, "a: shrunk from 513 to 100\n", 1, 1)
+    ("pack a o", 513, Trouble::Short(1, 100), 3, "a: shrunk from 513 to 100\n", 1, 1)
+    ("split a p 0 1", 513, Trouble::Short(1, 100), 3, "a: shrunk from 513 to 100\n", 1, 1)
+    ("join o a c", 513, Trouble::Short(1, 100), 3, "c: shrunk from 513 to 100\n", 1, 0)
+    ("join o a c", 513, Trouble::Short(2, 100), 3, "a: shrunk from 513 to 100\n", 1, 1)
+    ("join o a c", 513, Trouble::Short(3, 100), 3, "c: shrunk from 513 to 100\n", 1, 1)
+};
+
+#[test]
+fn an_input_of_several_that_becomes_shorter(rt: HostRuntime) -> Result<(), Fail> {
+    expect_cases(&rt, &LAID, "NOTED_FRAME")?;
+    Ok(())
+}
+
+/// What goes wrong once the output was created, the status and the line, and how many bytes were written.
+struct Slow {
+    trouble: Trouble,
+    status: u8,
+    line: &'static str,
+    written: usize,
+}
+
+static SLOW: [Slow; 4] = table! {
+    Slow { trouble, status, line, written }
+    (Trouble::Nothing, 0, "", 76_090)
+    (Trouble::Unread(70_000), 3, "quiet: read fault\n", 65_536)
+    (Trouble::Shorter(70_000), 3, "quiet: shrunk from 76097 to 70000\n", 65_536)
+    (Trouble::Unwritten(70_000), 3, "loud: write fault\n", 70_436)
+};
+
+/// Asserts how the words end, and that as many bytes were written as the case says, which are the first of these.
+fn expect_slow<R: Abort + AllocGlobal>(
+    rt: &R,
+    folder: &mut Changing,
+    case: &Slow,
+    loud: &[u8],
+) -> Result<(), AllocError> {
+    let words = "gain -s s -w -g 1 quiet loud";
+    let other = other_end::<Mp3edit, Changing>(rt.alloc(), folder, words, case.status, case.line)?;
+    assert_eq!(rt; other, None, "{:?}", case.trouble);
+    assert_eq!(rt; folder.output.len(), case.written, "{:?}", case.trouble);
+    assert!(rt; loud.starts_with(&folder.output), "{:?}", case.trouble);
+    Ok(())
+}
+
+fn expect_slow_over_quiet<R: Abort + AllocGlobal>(
+    rt: &R,
+    case: &Slow,
+    loud: &[u8],
+) -> Result<(), AllocError> {
+    let quiet = bytes_of(rt.alloc(), "QUIET_FILE")?;
+    let mut folder = Changing::new(rt.alloc(), quiet.len() as u64, quiet, case.trouble);
+    expect_slow(rt, &mut folder, case, loud)
+}
+
+#[test]
+fn reads_and_writes_a_few_bytes_at_a_time(rt: HostRuntime) -> Result<(), Fail> {
+    let loud = bytes_of(rt.alloc(), "LOUD_FILE")?;
+    for case in &SLOW {
+        expect_slow_over_quiet(&rt, case, &loud)?;
+    }
+    Ok(())
+}

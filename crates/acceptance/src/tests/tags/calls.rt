@@ -1,0 +1,96 @@
+//! Calls of the outside that fail, where tags are read and written.
+
+pub static ROWS: &str = "
+# tags/calls
+
+NOTED = G_LOWER UNDO_FRONT '+005,+005,N' UNDO_END
+
+# The file is read once by the survey, and its tag once more. The second pass comes last.
+
+< u NOTED
+fail Read 1
+$ gain -g -5 u o
+! 3 u: read fault
+
+< u NOTED
+fail Read 2
+$ gain -g -5 u o
+! 3 u: read fault
+
+< u NOTED
+fail Read 3
+$ gain -g -5 u o
+! 3 u: read fault
+> o
+
+< u NOTED
+fail Read 1
+$ gain -u u o
+! 3 u: read fault
+
+< u NOTED
+fail Read 2
+$ gain -u u o
+! 3 u: read fault
+
+< u NOTED
+fail Read 3
+$ gain -u u o
+! 3 u: read fault
+> o
+
+# Want of memory comes before the output is created.
+
+< u ID3V2_BLOCK 00*2 55*10 HEAD G Z PROTECTED_G THREE_FRONT '-003,-003,N' THREE_END ID3V1_BLOCK
+$ gain -g -5 u o
+> o ID3V2_BLOCK 00*2 HEAD G_LOWER Z PROTECTED_G_LOWER THREE_FRONT '+002,+002,N' THREE_END ID3V1_BLOCK
+
+< u G Z ID3V1_BLOCK
+$ gain -g -5 u o
+> o G_LOWER Z UNDO_FRONT '+005,+005,N' UNDO_END ID3V1_BLOCK
+
+< u ID3V2_BLOCK 55*10 HEAD G_LOWER Z PROTECTED_G_LOWER THREE_FRONT '+005,+005,N' THREE_END ID3V1_BLOCK
+$ gain -u u o
+> o ID3V2_BLOCK HEAD G Z PROTECTED_G TWO ID3V1_BLOCK
+
+# Each call fails in turn.
+
+< u G
+$ gain -w -g 1 u o
+> o G_WRAPPED_UP UNDO_FRONT '-001,-001,W' UNDO_END
+each Find 1 u: read fault
+each Read 1 u: read fault
+each Create 1 o: write fault
+each Write 1 o: write fault
+
+< u ID3V2_BLOCK 00*2 55*10 HEAD G Z PROTECTED_G THREE_FRONT '-003,-003,N' THREE_END ID3V1_BLOCK
+$ gain -g -5 u o
+> o ID3V2_BLOCK 00*2 HEAD G_LOWER Z PROTECTED_G_LOWER THREE_FRONT '+002,+002,N' THREE_END ID3V1_BLOCK
+each Find 1 u: read fault
+each Read 1 u: read fault
+each Create 1 o: write fault
+each Write 1 o: write fault
+
+< u G Z ID3V1_BLOCK
+$ gain -g -5 u o
+> o G_LOWER Z UNDO_FRONT '+005,+005,N' UNDO_END ID3V1_BLOCK
+each Find 1 u: read fault
+each Read 1 u: read fault
+each Create 1 o: write fault
+each Write 1 o: write fault
+
+< u ID3V2_BLOCK 55*10 HEAD G_LOWER Z PROTECTED_G_LOWER THREE_FRONT '+005,+005,N' THREE_END ID3V1_BLOCK
+$ gain -u u o
+> o ID3V2_BLOCK HEAD G Z PROTECTED_G TWO ID3V1_BLOCK
+each Find 1 u: read fault
+each Read 1 u: read fault
+each Create 1 o: write fault
+each Write 1 o: write fault
+
+# The output is written while the input is still read: neither is held whole. The tag has 96 bytes.
+< u Z*400 UNDO_FRONT '+000,+000,N' UNDO_END
+room 166800
+$ gain -u u o
+> o Z*400
+each Read 1 after 65536 u: read fault
+";

@@ -1,5 +1,0 @@
-//! Tests of gains, cuts and packing.
-
-mod cutting;
-mod pass;
-mod slow;
