@@ -3,7 +3,7 @@
 mod fades;
 mod frames;
 mod laid;
-mod salvage;
+mod salvaged;
 mod shrinking;
 mod tags;
 
