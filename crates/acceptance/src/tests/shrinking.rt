@@ -32,8 +32,11 @@ const TRACK: &[u8] = b"TRACK 01 AUDIO\nINDEX 01 00:00:00\n";
 /// A sheet of a fade.
 const FADE: &[u8] = b"0 -5";
 
-/// A folder with the sheets `cue` and `fade`, whose other files are all found with one length and have these bytes. At most 1,000 bytes are read at once, and 700 written. It
-/// tells nothing of them.
+/// More bytes than any output here has, so that no write wants memory.
+const MOST_WRITTEN: usize = 100_000;
+
+/// A folder with the sheets `cue` and `fade`, whose other files are all found with one length and have these bytes. At most 1,000
+/// bytes are read at once, and 700 written. It tells nothing of them.
 #[derive(Drop)]
 struct Changing {
     found: u64,
@@ -48,13 +51,13 @@ struct Changing {
 }
 
 impl Changing {
-    fn new(alloc: Global, found: u64, bytes: Vec<u8>, trouble: Trouble) -> Self {
+    fn new(found: u64, bytes: Vec<u8>, trouble: Trouble, output: Vec<u8>) -> Self {
         Changing {
             found,
             bytes,
             trouble,
             reads: 0,
-            output: Vec::new(alloc),
+            output,
             created: 0,
             ends: 0,
             read_faults: 0,
@@ -226,7 +229,8 @@ fn expect_case<R: Abort + AllocGlobal>(
     file: &'static str,
 ) -> Result<(), AllocError> {
     let bytes = bytes_of(rt.alloc(), file)?;
-    let mut folder = Changing::new(rt.alloc(), case.found, bytes, case.trouble);
+    let output = Vec::with_capacity(rt.alloc(), MOST_WRITTEN)?;
+    let mut folder = Changing::new(case.found, bytes, case.trouble, output);
     expect_over(rt, &mut folder, case)
 }
 
@@ -356,7 +360,8 @@ fn expect_slow_over_quiet<R: Abort + AllocGlobal>(
     loud: &[u8],
 ) -> Result<(), AllocError> {
     let quiet = bytes_of(rt.alloc(), "QUIET_FILE")?;
-    let mut folder = Changing::new(rt.alloc(), quiet.len() as u64, quiet, case.trouble);
+    let output = Vec::with_capacity(rt.alloc(), MOST_WRITTEN)?;
+    let mut folder = Changing::new(quiet.len() as u64, quiet, case.trouble, output);
     expect_slow(rt, &mut folder, case, loud)
 }
 
