@@ -7,7 +7,7 @@ mod salvaged;
 mod shrinking;
 mod tags;
 
-use acceptance_kit::running::Program;
+use command_runs::running::Program;
 use in_memory::MemSink;
 use mp3_cli::run;
 use outside::Folder;

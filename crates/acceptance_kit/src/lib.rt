@@ -1,8 +1,6 @@
-//! What the tests of whole commands share: commands over a folder and sinks in memory.
+//! What the tests of whole commands share: rows in words, and what runs them over a folder and sinks in memory.
 #![tactic(auto)]
 
-pub mod differences;
-pub mod running;
 pub mod scripts;
 mod tells;
 mod turns;

@@ -21,10 +21,10 @@
 //! A file that was there and isn't named by `>` has to stay, and a name of the outputs that no line of a file names has to be
 //! absent. A line `NAME = words` defines bytes for the lines after it, up to the end of the text.
 
-use crate::differences::{Found, bytes_differ, difference_of_sent, other_end, wants_memory};
-use crate::running::{Ended, Program, put, reserve, run_failing};
 use crate::tells::run_tells;
 use crate::turns::run_turns;
+use command_runs::differences::{Found, bytes_differ, difference_of_sent, other_end, wants_memory};
+use command_runs::running::{Ended, Program, put, reserve, run_failing};
 use in_memory::{Call, MemFolder};
 use std::alloc::{AllocError, AllocFailed, Global};
 use test_files::named::FILES;

@@ -3,9 +3,9 @@
 //! The status stays, and a prefix of the line was sent: nothing where the first write fails, and all of it where none of the number
 //! is made.
 
-use crate::differences::{Found, wants_memory};
-use crate::running::{Ended, Program, run_failing};
 use crate::scripts::{Stop, is_line, last_said, other_line, parted, prepare, said};
+use command_runs::differences::{Found, wants_memory};
+use command_runs::running::{Ended, Program, run_failing};
 use in_memory::MemFolder;
 use std::alloc::Global;
 use test_files::texts::{Named, number_of};

@@ -9,12 +9,12 @@
 //! names them, whole up to one, of which there is a prefix, with nothing after it. One where no call fails ends with status 0 and all
 //! outputs whole. The text counts as the last output.
 
-use crate::differences::{Found, wants_memory};
-use crate::running::{Ended, Program, run_failing};
 use crate::scripts::{
     Stop, call_of, compare_kept, compare_outputs, fail_call, is_line, last_said, other_line,
     parted, prepare, said,
 };
+use command_runs::differences::{Found, wants_memory};
+use command_runs::running::{Ended, Program, run_failing};
 use in_memory::{Call, MemFolder};
 use std::alloc::Global;
 use test_files::texts::{Named, bytes_of_words, number_of};

@@ -4,7 +4,7 @@ ghost use Rattle.std.specs.Prelude.{◌≡◌, ◌≤◌, length, drop};
 
 use crate::tests::Mp3edit;
 use crate::tests::frames::pass;
-use acceptance_kit::differences::other_end;
+use command_runs::differences::other_end;
 use outside::{Failed, FindFault, Folder};
 use std::alloc::{AllocError, AllocGlobal, Global};
 use std::process::Abort;

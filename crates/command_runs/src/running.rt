@@ -31,12 +31,12 @@ pub struct Ended {
 }
 
 /// Puts a file into the folder. It says nothing of the folder, so that a call leaves no facts, which cost the check.
-pub(crate) fn put(folder: &mut MemFolder, name: &str, bytes: &[u8]) -> Result<(), AllocError> {
+pub fn put(folder: &mut MemFolder, name: &str, bytes: &[u8]) -> Result<(), AllocError> {
     folder.put(name, bytes)
 }
 
 /// Makes room for a file, and says as little.
-pub(crate) fn reserve(folder: &mut MemFolder, name: &str, room: u64) -> Result<(), AllocError> {
+pub fn reserve(folder: &mut MemFolder, name: &str, room: u64) -> Result<(), AllocError> {
     folder.reserve(name, room)
 }
 

@@ -32,23 +32,23 @@ impl Found {
         }
     }
 
-    pub(crate) fn of(what: &'static str, name: &'static str) -> Found {
+    pub fn of(what: &'static str, name: &'static str) -> Found {
         Found::new(what, name, [0, 0, 0], None)
     }
 
-    pub(crate) fn number(what: &'static str, number: usize) -> Found {
+    pub fn number(what: &'static str, number: usize) -> Found {
         Found::new(what, "", [number, 0, 0], None)
     }
 
-    pub(crate) fn status(status: u8) -> Found {
+    pub fn status(status: u8) -> Found {
         Found::number("this status", usize::from(status))
     }
 
-    pub(crate) fn word(word: &'static str) -> Found {
+    pub fn word(word: &'static str) -> Found {
         Found::of("a word that stands for nothing", word)
     }
 
-    pub(crate) fn sent(what: &'static str, sent: String) -> Found {
+    pub fn sent(what: &'static str, sent: String) -> Found {
         Found::new(what, "", [0, 0, 0], Some(sent))
     }
 }
@@ -59,7 +59,7 @@ fn place_of_difference(found: &[u8], wanted: &[u8]) -> usize {
 }
 
 /// How what was found in a file differs from these bytes.
-pub(crate) fn bytes_differ(name: &'static str, found: &[u8], wanted: &[u8]) -> Option<Found> {
+pub fn bytes_differ(name: &'static str, found: &[u8], wanted: &[u8]) -> Option<Found> {
     if found == wanted {
         return None;
     }
@@ -81,7 +81,7 @@ fn is_text(sent: &[u8], text: &str) -> bool {
 }
 
 /// How what was sent differs from this text.
-pub(crate) fn difference_of_sent(
+pub fn difference_of_sent(
     alloc: Global,
     sent: &[u8],
     text: &str,
