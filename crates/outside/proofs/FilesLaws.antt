@@ -5,7 +5,7 @@ use Rattle.std.proofs.lemmas.List.{append-nil, take_all}
 use Rattle.std.proofs.lemmas.List.Elements.{All-nil, All-cons, All-head, All-tail}
 use Rattle.std.proofs.lemmas.Map.{update_same, update_other, update-update}
 use Rattle.std.proofs.lemmas.Slice.Eq.{bytes_eq-Decides}
-use Rattle.std.specs.Prelude.{Bool, true, false, cond, ◌||◌, ◌&&◌, ◌⊎◌, Option, Some, None, unwrap_or, IsSome, is_some, bytes_eq, Result, Ok, Err, IfOk}
+use Rattle.std.specs.Prelude.{Bool, true, false, cond, ◌||◌, ◌&&◌, Option, Some, None, unwrap_or, IsSome, is_some, bytes_eq, Result, Ok, Err, IfOk}
 use Rattle.std.specs.List.{All}
 use Rattle.std.specs.Map.{update}
 use Rattle.outside.specs.Files.{Contents, Touched, Files, Told, Untold, untold, Sent, is_told, with_file, with_touch, is_some_byte, emptied, appended, tried, FailsToCreate, OnlyTouches, sent_more, Holds, IsThere}

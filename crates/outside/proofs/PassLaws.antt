@@ -13,7 +13,7 @@ use Rattle.outside.specs.declared.exact.ReadFault.TheVariants.{Failed, Shrunk as
 use Rattle.outside.specs.declared.pass.Pass.{Pass}
 use Rattle.outside.specs.declared.pass.PassFault.{PassFault}
 use Rattle.outside.specs.declared.pass.PassFault.TheVariants.{Read, Shrunk, Write}
-use Rattle.outside.specs.Pass.{IsReady, AreMade, bytes_between, Writes, AppendsPart, WritesPrefix, Appends, AppendsPrefix, of_read, IsOfRead, HasPassCause}
+use Rattle.outside.specs.Pass.{IsReady, AreMade, bytes_between, Writes, AppendsPart, WritesPrefix, Appends, AppendsPrefix, of_read, IsOfRead, Route, HasPassCause}
 use Rattle.outside.proofs.FilesLaws.{appended_twice, appended_nothing, appended_holds_other, appended_held_other, appended_keeps, appended_told}
 use Rattle.outside.proofs.PassedLaws.{passed_more}
 
@@ -266,9 +266,9 @@ module _ {input output : List ℕ} (apart : input ≢ output) {made : List ℕ �
 -- ---- counts and causes
 
 -- that of a read is a cause of the pass
-pub read_cause : (size : ℕ) (files : Files) (before after : Counts) (fault : ReadFault) → HasReadCause size files before after fault → HasPassCause size files before after (of_read fault)
-read_cause size files before after Failed cause = cause
-read_cause size files before after (ShrunkRead first second) cause = cause
+pub read_cause : (way : Route) (files : Files) (before after : Counts) (fault : ReadFault) → HasReadCause way.input way.size files before after fault → HasPassCause way files before after (of_read fault)
+read_cause way files before after Failed cause = cause
+read_cause way files before after (ShrunkRead first second) cause = cause
 
 -- that of a read is no fault of a write
 pub read_kind : (fault : ReadFault) → IsOfRead (of_read fault)
@@ -276,25 +276,25 @@ read_kind Failed = tt
 read_kind (ShrunkRead first second) = tt
 
 -- a cause after a step that succeeded
-pub cause_later : (size : ℕ) (old now : Files) (output more : List ℕ) (before mid after : Counts) (fault : PassFault) → now ≡ appended old output more → mid ≡ before
-    → HasPassCause size now mid after fault → HasPassCause size old before after fault
-cause_later size old now output more before mid after Read grown same cause = subst (λ counts. HasPassCause size old counts after Read) same cause
-cause_later size old now output more before mid after (Shrunk first second) grown same cause =
-    subst (λ counts. HasPassCause size old counts after (Shrunk first second)) same (sym (ap is_told grown ∙ appended_told old output more) ∙ cause.0, cause.1, cause.2, cause.3, cause.4, cause.5)
-cause_later size old now output more before mid after Write grown same cause = subst (λ counts. HasPassCause size old counts after Write) same cause
+pub cause_later : (way : Route) (old now : Files) (output more : List ℕ) (before mid after : Counts) (fault : PassFault) → now ≡ appended old output more → mid ≡ before
+    → HasPassCause way now mid after fault → HasPassCause way old before after fault
+cause_later way old now output more before mid after Read grown same cause = subst (λ counts. HasPassCause way old counts after Read) same cause
+cause_later way old now output more before mid after (Shrunk first second) grown same cause =
+    subst (λ counts. HasPassCause way old counts after (Shrunk first second)) same (sym (ap is_told grown ∙ appended_told old output more) ∙ cause.0, cause.1, cause.2, cause.3, cause.4, cause.5)
+cause_later way old now output more before mid after Write grown same cause = subst (λ counts. HasPassCause way old counts after Write) same cause
 
-pub causes_later : {T : Type 0} (r : Result T PassFault) (size : ℕ) (old now : Files) (output more : List ℕ) (before mid after : Counts) → now ≡ appended old output more → mid ≡ before
-    → IfErr r (HasPassCause size now mid after) → IfErr r (HasPassCause size old before after)
-causes_later (Ok x) size old now output more before mid after grown same cause = tt
-causes_later (Err fault) size old now output more before mid after grown same cause = cause_later size old now output more before mid after fault grown same cause
+pub causes_later : {T : Type 0} (r : Result T PassFault) (way : Route) (old now : Files) (output more : List ℕ) (before mid after : Counts) → now ≡ appended old output more → mid ≡ before
+    → IfErr r (HasPassCause way now mid after) → IfErr r (HasPassCause way old before after)
+causes_later (Ok x) way old now output more before mid after grown same cause = tt
+causes_later (Err fault) way old now output more before mid after grown same cause = cause_later way old now output more before mid after fault grown same cause
 
 -- after bytes that went on
-module _ {pass : Pass} {made : List ℕ → List ℕ} {before mid : List ℕ} {old now : Files} (step : Writes pass made before mid old now) (size : ℕ) (then between after : Counts) (same : between ≡ then) where
-  pub cause_behind : (fault : PassFault) → HasPassCause size now between after fault → HasPassCause size old then after fault
-  cause_behind fault cause = cause_later size old now pass.output.now step.passed.passed then between after fault step.passed.files same cause
+module _ {pass : Pass} {made : List ℕ → List ℕ} {before mid : List ℕ} {old now : Files} (step : Writes pass made before mid old now) (way : Route) (then between after : Counts) (same : between ≡ then) where
+  pub cause_behind : (fault : PassFault) → HasPassCause way now between after fault → HasPassCause way old then after fault
+  cause_behind fault cause = cause_later way old now pass.output.now step.passed.passed then between after fault step.passed.files same cause
 
-  pub causes_behind : {T : Type 0} (r : Result T PassFault) → IfErr r (HasPassCause size now between after) → IfErr r (HasPassCause size old then after)
-  causes_behind r cause = causes_later r size old now pass.output.now step.passed.passed then between after step.passed.files same cause
+  pub causes_behind : {T : Type 0} (r : Result T PassFault) → IfErr r (HasPassCause way now between after) → IfErr r (HasPassCause way old then after)
+  causes_behind r cause = causes_later r way old now pass.output.now step.passed.passed then between after step.passed.files same cause
 
 -- ---- bytes from one offset to another
 

@@ -1,41 +1,68 @@
--- How often a folder or a sink has failed, and what a call does to these counts.
-use Rattle.std.specs.Prelude.{◌≡◌, ℕ, ◌+◌, ◌-◌, ◌^◌, ◌≤◌, min, Result, OnOk, OnErr}
+-- How often a folder or a sink has failed, over which file it did last, and what a call does to these counts.
+use Rattle.std.specs.Prelude.{◌≡◌, ℕ, ◌+◌, ◌-◌, ◌^◌, ◌≤◌, min, List, [], take, Result, OnOk, OnErr}
 
 -- a count has grown, or is at the greatest value of a u64
 abbrev pub Rose : ℕ → ℕ → Type 0
 Rose before now = min (before + 1) (2 ^ 64 - 1) ≤ now
 
--- the counts of a folder
+-- what is noted of a name: its first 4,096 bytes, which are all of a name that a system takes
+abbrev pub noted : List ℕ → List ℕ
+noted name = take 4096 name
+
+-- how often something happened, and the noted name of the file that it happened to last
+pub record Happened : Type 0 where
+  pub times : ℕ
+  pub name : List ℕ
+
+-- the same of reads that gave no byte though there was room for one, and the offset of the last
+pub record Ended : Type 0 where
+  pub times : ℕ
+  pub name : List ℕ
+  pub place : ℕ
+
+-- these reads, of which the last was at this offset
+abbrev pub ended : Happened → ℕ → Ended
+ended last place = record { times = last.times; name = last.name; place = place }
+
+-- what a folder counts
 pub record Counts : Type 0 where
   -- missing files that `find` met
-  pub misses : ℕ
+  pub misses : Happened
   -- reads that gave no byte though there was room for one
-  pub ends : ℕ
+  pub ends : Ended
   -- failures of `find` and `read`
-  pub read_faults : ℕ
+  pub read_faults : Happened
   -- failures of `create` and `write`
-  pub write_faults : ℕ
+  pub write_faults : Happened
+
+-- it happened again, and this file was the last
+abbrev pub HappenedTo : List ℕ → Happened → Happened → Type 0
+HappenedTo name before now = Rose before.times now.times × (now.name ≡ noted name)
+
+-- a read of this file at this offset gave no byte, and was the last that did so
+abbrev pub EndedAt : List ℕ → ℕ → Ended → Ended → Type 0
+EndedAt name place before now = Rose before.times now.times × (now.name ≡ noted name) × (now.place ≡ place)
 
 -- no count has fallen
 pub record NoneFell (old new : Counts) : Type 0 where
-  pub misses : old.misses ≤ new.misses
-  pub ends : old.ends ≤ new.ends
-  pub read_faults : old.read_faults ≤ new.read_faults
-  pub write_faults : old.write_faults ≤ new.write_faults
+  pub misses : old.misses.times ≤ new.misses.times
+  pub ends : old.ends.times ≤ new.ends.times
+  pub read_faults : old.read_faults.times ≤ new.read_faults.times
+  pub write_faults : old.write_faults.times ≤ new.write_faults.times
 
 -- what a call that only reads does to the counts
 pub record OnlyReads (old new : Counts) : Type 0 where
-  pub misses : old.misses ≤ new.misses
-  pub ends : old.ends ≤ new.ends
-  pub read_faults : old.read_faults ≤ new.read_faults
+  pub misses : old.misses.times ≤ new.misses.times
+  pub ends : old.ends.times ≤ new.ends.times
+  pub read_faults : old.read_faults.times ≤ new.read_faults.times
   pub write_faults : new.write_faults ≡ old.write_faults
 
 -- what a call that only writes does to the counts
 pub record OnlyWrites (old new : Counts) : Type 0 where
-  pub misses : old.misses ≤ new.misses
+  pub misses : old.misses.times ≤ new.misses.times
   pub ends : new.ends ≡ old.ends
   pub read_faults : new.read_faults ≡ old.read_faults
-  pub write_faults : old.write_faults ≤ new.write_faults
+  pub write_faults : old.write_faults.times ≤ new.write_faults.times
 
 -- no file was missing, and no call failed
 pub record NothingFailed (old new : Counts) : Type 0 where
@@ -53,18 +80,26 @@ pub record HasCause {T E : Type 0} (before now : ℕ) (result : Result T E) : Ty
 abbrev pub one_more : ℕ → ℕ
 one_more n = min (n + 1) (2 ^ 64 - 1)
 
+-- it happened once more, to this file
+abbrev pub once_more : List ℕ → Happened → Happened
+once_more name before = record { times = one_more before.times; name = noted name }
+
+-- it never happened
+abbrev pub never : Happened
+never = record { times = 0; name = [] }
+
 -- the counts before anything happened
 abbrev pub none_counted : Counts
-none_counted = record { misses = 0; ends = 0; read_faults = 0; write_faults = 0 }
+none_counted = record { misses = never; ends = ended never 0; read_faults = never; write_faults = never }
 
-abbrev pub with_miss : Counts → Counts
-with_miss counts = record counts { misses = one_more counts.misses }
+abbrev pub with_miss : List ℕ → Counts → Counts
+with_miss name counts = record counts { misses = once_more name counts.misses }
 
-abbrev pub with_end : Counts → Counts
-with_end counts = record counts { ends = one_more counts.ends }
+abbrev pub with_end : List ℕ → ℕ → Counts → Counts
+with_end name place counts = record counts { ends = ended (record { times = one_more counts.ends.times; name = noted name }) place }
 
-abbrev pub with_read_fault : Counts → Counts
-with_read_fault counts = record counts { read_faults = one_more counts.read_faults }
+abbrev pub with_read_fault : List ℕ → Counts → Counts
+with_read_fault name counts = record counts { read_faults = once_more name counts.read_faults }
 
-abbrev pub with_write_fault : Counts → Counts
-with_write_fault counts = record counts { write_faults = one_more counts.write_faults }
+abbrev pub with_write_fault : List ℕ → Counts → Counts
+with_write_fault name counts = record counts { write_faults = once_more name counts.write_faults }

@@ -1,7 +1,7 @@
 -- What a pass over an input makes of its output, and why it ends early.
 use Rattle.std.specs.Prelude.{◌≡◌, ◌≢◌, ℕ, ◌-◌, ◌^◌, ◌<◌, ◌≤◌, List, [], ◌++◌, length, take, drop}
 use Rattle.outside.specs.Files.{Files, appended, Holds, IsThere}
-use Rattle.outside.specs.Counts.{Counts, Rose, OnlyWrites}
+use Rattle.outside.specs.Counts.{Counts, HappenedTo, OnlyWrites}
 use Rattle.outside.specs.Passed.{PassedOn}
 use Rattle.outside.specs.Feed.{Fed, IsFedFrom}
 use Rattle.outside.specs.Exact.{HasReadCause}
@@ -73,8 +73,20 @@ abbrev pub IsOfRead : PassFault → Type 0
 IsOfRead Write = ⊥
 IsOfRead _ = Unit {0}
 
--- The cause of a fault: that of the read, or the count of failed writes rose, and no count of a read.
-abbrev pub HasPassCause : ℕ → Files → Counts → Counts → PassFault → Type 0
-HasPassCause size files before after Read = HasReadCause size files before after Failed
-HasPassCause size files before after (Shrunk first second) = HasReadCause size files before after (ShrunkRead first second)
-HasPassCause size files before after Write = Rose before.write_faults after.write_faults × OnlyWrites before after
+-- from which file to which a pass goes, and the length in bytes that its input was found with
+pub record Route : Type 0 where
+  pub input : List ℕ
+  pub output : List ℕ
+  pub size : ℕ
+
+abbrev pub route : List ℕ → List ℕ → ℕ → Route
+route input output size = record { input = input; output = output; size = size }
+
+abbrev pub route_of : Pass → Route
+route_of pass = route pass.input.now pass.output.now pass.length
+
+-- The cause of a fault: that of a read of the input; or a call failed that writes the output, and nothing is counted of reads.
+abbrev pub HasPassCause : Route → Files → Counts → Counts → PassFault → Type 0
+HasPassCause way files before after Read = HasReadCause way.input way.size files before after Failed
+HasPassCause way files before after (Shrunk first second) = HasReadCause way.input way.size files before after (ShrunkRead first second)
+HasPassCause way files before after Write = HappenedTo way.output before.write_faults after.write_faults × OnlyWrites before after

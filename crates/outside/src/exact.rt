@@ -39,7 +39,7 @@ pub fn read_exact<D: Folder>(
     ensures bytes { OnOk result ((bytes : List ℕ) → Holds (D.files folder.old) name.now bytes
         → into.new ≡ take (length into.old) (drop at bytes)) }
     ensures done { OnOk result (D.counts folder.new ≡ D.counts folder.old) }
-    ensures cause { IfErr result (HasReadCause size (D.files folder.old)
+    ensures cause { IfErr result (HasReadCause name.now size (D.files folder.old)
         (D.counts folder.old) (D.counts folder.new)) }
     ensures files { D.files folder.new ≡ D.files folder.old }
     ensures counts { OnlyReads (D.counts folder.old) (D.counts folder.new) }
@@ -77,7 +77,7 @@ impl Feed {
         ensures bytes { OnOk result ((bytes : List ℕ) → Holds (D.files folder.old) name.now bytes
             → self.new.given ≡ take n (drop at bytes)) }
         ensures done { OnOk result (D.counts folder.new ≡ D.counts folder.old) }
-        ensures cause { IfErr result (HasReadCause size (D.files folder.old)
+        ensures cause { IfErr result (HasReadCause name.now size (D.files folder.old)
             (D.counts folder.old) (D.counts folder.new)) }
         ensures fed { IsFedFrom self.new (D.files folder.new) name.now }
         ensures files { D.files folder.new ≡ D.files folder.old }

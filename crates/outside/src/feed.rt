@@ -2,7 +2,7 @@
 ghost use Rattle.std.specs.Prelude.{◌≡◌, ◌+◌, ◌-◌, ◌^◌, ◌<◌, ◌≤◌, List, ℕ, [], length, take, drop, IfOk, OnOk, OnErr};
 ghost use Rattle.outside.specs.Files.{Files, Holds, IsThere};
 ghost use Rattle.outside.specs.Feed.{IsFedFrom};
-ghost use Rattle.outside.specs.Counts.{OnlyReads, NothingFailed, Rose};
+ghost use Rattle.outside.specs.Counts.{OnlyReads, NothingFailed, HappenedTo, EndedAt};
 
 use crate::folder::{Failed, Folder};
 use crate::helpers::read_on;
@@ -101,8 +101,8 @@ impl Feed {
             → Holds (D.files folder.old) name.now bytes → self.new.given ≡ take n (drop at bytes)) }
         ensures whole { IfOk result (λ k. k ≡ n → D.counts folder.new ≡ D.counts folder.old) }
         ensures ended { IfOk result (λ k. k < n
-            → Rose (D.counts folder.old).ends (D.counts folder.new).ends) }
-        ensures failed { OnErr result (Rose (D.counts folder.old).read_faults
+            → EndedAt name.now (at + k) (D.counts folder.old).ends (D.counts folder.new).ends) }
+        ensures failed { OnErr result (HappenedTo name.now (D.counts folder.old).read_faults
             (D.counts folder.new).read_faults) }
         ensures none { OnErr result (self.new.given ≡ []) }
         ensures fed { IsFedFrom self.new (D.files folder.new) name.now }
@@ -138,8 +138,8 @@ impl Feed {
             → Holds (D.files folder.old) name.now bytes → self.new.given ≡ take n (drop at bytes)) }
         ensures whole { IfOk result (λ k. k ≡ n → D.counts folder.new ≡ D.counts folder.old) }
         ensures ended { IfOk result (λ k. k < n
-            → Rose (D.counts folder.old).ends (D.counts folder.new).ends) }
-        ensures failed { OnErr result (Rose (D.counts folder.old).read_faults
+            → EndedAt name.now (at + k) (D.counts folder.old).ends (D.counts folder.new).ends) }
+        ensures failed { OnErr result (HappenedTo name.now (D.counts folder.old).read_faults
             (D.counts folder.new).read_faults) }
         ensures none { OnErr result (self.new.given ≡ []) }
         ensures fed { IsFedFrom self.new (D.files folder.new) name.now }

@@ -1,7 +1,7 @@
 //! A folder of files.
 ghost use Rattle.std.specs.Prelude.{◌≡◌, ◌⊎◌, ◌-◌, ◌<◌, ◌≤◌, List, ℕ, length, take, drop, string_bytes, IfOk, OnOk, OnErr, IsErrOf};
 ghost use Rattle.outside.specs.Files.{Files, emptied, appended, FailsToCreate, Holds, IsThere, IsMissing, AreOctets};
-ghost use Rattle.outside.specs.Counts.{Counts, OnlyReads, OnlyWrites, NothingFailed, Rose};
+ghost use Rattle.outside.specs.Counts.{Counts, OnlyReads, OnlyWrites, NothingFailed, HappenedTo, EndedAt};
 
 use std::alloc::AllocError;
 use std::io;
@@ -68,7 +68,7 @@ pub trait Folder {
     /// What is told of the files. Whether their content is told never changes.
     ghost files: { Self → Files };
 
-    /// How often a file was missing, a read met an end, and a call failed.
+    /// How often a file was missing, a read met an end, and a call failed, and of which file it was the last time.
     ghost counts: { Self → Counts };
 
     /// The length of the file in bytes. What is told of its content are bytes, so numbers below 256.
@@ -83,9 +83,9 @@ pub trait Folder {
             → AreOctets bytes) }
         ensures missing { IsErrOf result FindFault.Absent → IsMissing (files self.old) name.now }
         ensures absent { IsErrOf result FindFault.Absent
-            → Rose (counts self.old).misses (counts self.new).misses }
+            → HappenedTo name.now (counts self.old).misses (counts self.new).misses }
         ensures failed { IsErrOf result FindFault.Failed
-            → Rose (counts self.old).read_faults (counts self.new).read_faults }
+            → HappenedTo name.now (counts self.old).read_faults (counts self.new).read_faults }
         ensures files { files self.new ≡ files self.old }
         ensures ends { (counts self.new).ends ≡ (counts self.old).ends }
         ensures done { OnOk result (counts self.new ≡ counts self.old) }
@@ -107,8 +107,8 @@ pub trait Folder {
         ensures within { IfOk result (λ k. (bytes : List ℕ) → Holds (files self.old) name.now bytes
             → k ≤ length bytes - at) }
         ensures ended { IfOk result (λ k. k ≡ 0 → 0 < length into.old
-            → Rose (counts self.old).ends (counts self.new).ends) }
-        ensures failed { OnErr result (Rose (counts self.old).read_faults
+            → EndedAt name.now at (counts self.old).ends (counts self.new).ends) }
+        ensures failed { OnErr result (HappenedTo name.now (counts self.old).read_faults
             (counts self.new).read_faults) }
         ensures files { files self.new ≡ files self.old }
         ensures got { IfOk result (λ k. (0 < k) ⊎ (length into.old ≡ 0)
@@ -124,7 +124,7 @@ pub trait Folder {
     fn create(&mut self, name: &str) -> Result<(), Failed>
         ensures created { OnOk result (files self.new ≡ emptied (files self.old) name.now) }
         ensures kept { OnErr result (FailsToCreate name.now (files self.old) (files self.new)) }
-        ensures failed { OnErr result (Rose (counts self.old).write_faults
+        ensures failed { OnErr result (HappenedTo name.now (counts self.old).write_faults
             (counts self.new).write_faults) }
         ensures done { OnOk result (counts self.new ≡ counts self.old) }
         ensures counts { OnlyWrites (counts self.old) (counts self.new) };
@@ -141,7 +141,7 @@ pub trait Folder {
         ensures written { IfOk result (λ k. files self.new ≡ appended (files self.old) name.now
             (take k bytes.now)) }
         ensures kept { OnErr result (files self.new ≡ files self.old) }
-        ensures failed { OnErr result (Rose (counts self.old).write_faults
+        ensures failed { OnErr result (HappenedTo name.now (counts self.old).write_faults
             (counts self.new).write_faults) }
         ensures done { OnOk result (counts self.new ≡ counts self.old) }
         ensures counts { OnlyWrites (counts self.old) (counts self.new) };

@@ -1,7 +1,7 @@
 //! Bytes read, appended and sent whole, in as many calls as it takes.
 ghost use Rattle.std.specs.Prelude.{◌≡◌, ◌+◌, ◌-◌, ◌^◌, ◌<◌, ◌≤◌, List, ℕ, length, take, drop, IfOk, OnOk, OnErr};
 ghost use Rattle.outside.specs.Files.{appended, sent_more, Holds, IsThere};
-ghost use Rattle.outside.specs.Counts.{OnlyReads, OnlyWrites, NothingFailed, HasCause, Rose};
+ghost use Rattle.outside.specs.Counts.{OnlyReads, OnlyWrites, NothingFailed, HasCause, HappenedTo, EndedAt};
 
 use crate::folder::{Failed, Folder};
 use crate::sink::Sink;
@@ -16,7 +16,7 @@ pub fn write_all<D: Folder>(folder: &mut D, name: &str, bytes: &[u8]) -> Result<
         (D.files folder.old) name.now bytes.now) }
     ensures front { OnErr result ((k : ℕ) × (k < length bytes.now)
         × (D.files folder.new ≡ appended (D.files folder.old) name.now (take k bytes.now))) }
-    ensures failed { OnErr result (Rose (D.counts folder.old).write_faults
+    ensures failed { OnErr result (HappenedTo name.now (D.counts folder.old).write_faults
         (D.counts folder.new).write_faults) }
     ensures done { OnOk result (D.counts folder.new ≡ D.counts folder.old) }
     ensures counts { OnlyWrites (D.counts folder.old) (D.counts folder.new) }
@@ -65,8 +65,8 @@ pub fn read_full<D: Folder>(
     ensures end { IfOk result (λ k. (bytes : List ℕ) → Holds (D.files folder.old) name.now bytes
         → k < length into.old → k ≡ length bytes - at) }
     ensures ended { IfOk result (λ k. k < length into.old
-        → Rose (D.counts folder.old).ends (D.counts folder.new).ends) }
-    ensures failed { OnErr result (Rose (D.counts folder.old).read_faults
+        → EndedAt name.now (at + k) (D.counts folder.old).ends (D.counts folder.new).ends) }
+    ensures failed { OnErr result (HappenedTo name.now (D.counts folder.old).read_faults
         (D.counts folder.new).read_faults) }
     ensures files { D.files folder.new ≡ D.files folder.old }
     ensures filled { IfOk result (λ k. k ≡ length into.old
@@ -107,9 +107,9 @@ pub fn read_on<D: Folder>(
     ensures within { IfOk result (λ k. (bytes : List ℕ) → Holds (D.files folder.old) name.now bytes
         → have ≤ length bytes - at → k ≤ length bytes - at) }
     ensures ended { IfOk result (λ k. k < enough
-        → Rose (D.counts folder.old).ends (D.counts folder.new).ends) }
+        → EndedAt name.now (at + k) (D.counts folder.old).ends (D.counts folder.new).ends) }
     ensures filled { IfOk result (λ k. enough ≤ k → D.counts folder.new ≡ D.counts folder.old) }
-    ensures failed { OnErr result (Rose (D.counts folder.old).read_faults
+    ensures failed { OnErr result (HappenedTo name.now (D.counts folder.old).read_faults
         (D.counts folder.new).read_faults) }
     ensures files { D.files folder.new ≡ D.files folder.old }
     ensures done { OnOk result (NothingFailed (D.counts folder.old) (D.counts folder.new)) }

@@ -6,6 +6,7 @@ mod exact;
 mod feed;
 mod folder;
 mod helpers;
+mod occurrences;
 mod pass;
 mod send_buffer;
 mod sink;

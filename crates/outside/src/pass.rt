@@ -2,7 +2,7 @@
 ghost use Rattle.std.specs.Prelude.{◌≡◌, ◌+◌, ◌≤◌, ◌++◌, [], length, IfErr, OnOk, OnErr};
 ghost use Rattle.outside.specs.Files.{appended, IsThere};
 ghost use Rattle.outside.specs.Passed.{PassedOn, AppendedPrefix};
-ghost use Rattle.outside.specs.Pass.{IsReady, AreMade, bytes_at, bytes_between, Writes, WritesPrefix, IsOfRead, HasPassCause};
+ghost use Rattle.outside.specs.Pass.{IsReady, AreMade, bytes_at, bytes_between, Writes, WritesPrefix, IsOfRead, route_of, HasPassCause};
 
 use crate::exact::ReadFault;
 use crate::feed::Feed;
@@ -67,7 +67,7 @@ impl<'a> Pass<'a> {
         ensures bytes { OnOk result (AreMade (D.files folder.old) self.now.input.now (bytes_at at n)
             feed.new.given) }
         ensures done { OnOk result (D.counts folder.new ≡ D.counts folder.old) }
-        ensures cause { IfErr result (HasPassCause self.now.length (D.files folder.old)
+        ensures cause { IfErr result (HasPassCause (route_of self.now) (D.files folder.old)
             (D.counts folder.old) (D.counts folder.new)) }
         ensures read { IfErr result IsOfRead }
         ensures files { D.files folder.new ≡ D.files folder.old }
@@ -95,7 +95,7 @@ impl<'a> Pass<'a> {
             (D.files folder.old) (D.files folder.new)) }
         ensures none { OnErr result (waiting.new ≡ []) }
         ensures done { OnOk result (D.counts folder.new ≡ D.counts folder.old) }
-        ensures cause { IfErr result (HasPassCause self.now.length (D.files folder.old)
+        ensures cause { IfErr result (HasPassCause (route_of self.now) (D.files folder.old)
             (D.counts folder.old) (D.counts folder.new)) }
     {
         match waiting.push(folder, self.output, piece) {
@@ -124,7 +124,7 @@ impl<'a> Pass<'a> {
             (waiting.old ++ (front.now ++ rest.now)) (D.files folder.old) (D.files folder.new)) }
         ensures none { OnErr result (waiting.new ≡ []) }
         ensures done { OnOk result (D.counts folder.new ≡ D.counts folder.old) }
-        ensures cause { IfErr result (HasPassCause self.now.length (D.files folder.old)
+        ensures cause { IfErr result (HasPassCause (route_of self.now) (D.files folder.old)
             (D.counts folder.old) (D.counts folder.new)) }
     {
         self.push(folder, front, waiting)?;
@@ -152,7 +152,7 @@ impl<'a> Pass<'a> {
         ensures prefix { IfErr result (WritesPrefix self.now (λ file. bytes_between file from to)
             waiting.old (D.files folder.old) (D.files folder.new)) }
         ensures done { OnOk result (D.counts folder.new ≡ D.counts folder.old) }
-        ensures cause { IfErr result (HasPassCause self.now.length (D.files folder.old)
+        ensures cause { IfErr result (HasPassCause (route_of self.now) (D.files folder.old)
             (D.counts folder.old) (D.counts folder.new)) }
         ensures ready { OnOk result (IsReady self.now (D.files folder.new) feed.new) }
     {
@@ -183,7 +183,7 @@ impl<'a> Pass<'a> {
         ensures prefix { IfErr result (WritesPrefix self.now (bytes_at at n)
             waiting.old (D.files folder.old) (D.files folder.new)) }
         ensures done { OnOk result (D.counts folder.new ≡ D.counts folder.old) }
-        ensures cause { IfErr result (HasPassCause self.now.length (D.files folder.old)
+        ensures cause { IfErr result (HasPassCause (route_of self.now) (D.files folder.old)
             (D.counts folder.old) (D.counts folder.new)) }
         ensures ready { OnOk result (IsReady self.now (D.files folder.new) feed.new) }
     {
@@ -207,7 +207,7 @@ impl<'a> Pass<'a> {
             (D.files folder.old) (D.files folder.new)) }
         ensures none { waiting.new ≡ [] }
         ensures done { OnOk result (D.counts folder.new ≡ D.counts folder.old) }
-        ensures cause { IfErr result (HasPassCause self.now.length (D.files folder.old)
+        ensures cause { IfErr result (HasPassCause (route_of self.now) (D.files folder.old)
             (D.counts folder.old) (D.counts folder.new)) }
     {
         match waiting.finish(folder, self.output) {

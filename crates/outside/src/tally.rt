@@ -2,24 +2,27 @@
 ghost use Rattle.std.specs.Prelude.{◌≡◌};
 ghost use Rattle.outside.specs.Counts.{none_counted, with_miss, with_end, with_read_fault, with_write_fault, OnlyReads, OnlyWrites};
 
+use crate::occurrences::Occurrences;
 use std::marker::Model;
 
-/// How often a file was missing, a read met an end, and a call failed. A count that has reached `u64::MAX`
-/// stays there.
+/// How often a file was missing, a read met an end, and a call failed, and of which file it was the last time.
+/// A count that has reached `u64::MAX` stays there, and of a name longer than 4,096 bytes the first 4,096 are kept.
 #[derive(Drop)]
 pub struct Tally {
-    misses: u64,
-    ends: u64,
-    read_faults: u64,
-    write_faults: u64,
+    misses: Occurrences,
+    ends: Occurrences,
+    // The offset of the last read that met an end.
+    end: u64,
+    read_faults: Occurrences,
+    write_faults: Occurrences,
 }
 
 impl Model for Tally {
-    ghost use Rattle.outside.specs.Counts.{Counts};
+    ghost use Rattle.outside.specs.Counts.{Counts, ended};
 
     ghost Value = { Counts };
 
-    ghost view = { λ t. record { misses = t.misses; ends = t.ends; read_faults = t.read_faults; write_faults = t.write_faults } };
+    ghost view = { λ t. record { misses = t.misses; ends = ended t.ends t.end; read_faults = t.read_faults; write_faults = t.write_faults } };
 }
 
 impl Tally {
@@ -27,38 +30,44 @@ impl Tally {
         ensures { result ≡ none_counted }
     {
         Tally {
-            misses: 0,
-            ends: 0,
-            read_faults: 0,
-            write_faults: 0,
+            misses: Occurrences::none(),
+            ends: Occurrences::none(),
+            end: 0,
+            read_faults: Occurrences::none(),
+            write_faults: Occurrences::none(),
         }
     }
 
-    pub fn count_miss(&mut self)
-        ensures counted { self.new ≡ with_miss self.old }
+    /// A file of this name is missing.
+    pub fn count_miss(&mut self, name: &str)
+        ensures counted { self.new ≡ with_miss name.now self.old }
         ensures later { OnlyReads self.old self.new }
     {
-        self.misses = self.misses.saturating_add(1);
+        self.misses.add(name);
     }
 
-    pub fn count_end(&mut self)
-        ensures counted { self.new ≡ with_end self.old }
+    /// A read of this file at this offset gave no byte.
+    pub fn count_end(&mut self, name: &str, at: u64)
+        ensures counted { self.new ≡ with_end name.now at self.old }
         ensures later { OnlyReads self.old self.new }
     {
-        self.ends = self.ends.saturating_add(1);
+        self.ends.add(name);
+        self.end = at;
     }
 
-    pub fn count_read_fault(&mut self)
-        ensures counted { self.new ≡ with_read_fault self.old }
+    /// A call failed that looks for this file or reads it.
+    pub fn count_read_fault(&mut self, name: &str)
+        ensures counted { self.new ≡ with_read_fault name.now self.old }
         ensures later { OnlyReads self.old self.new }
     {
-        self.read_faults = self.read_faults.saturating_add(1);
+        self.read_faults.add(name);
     }
 
-    pub fn count_write_fault(&mut self)
-        ensures counted { self.new ≡ with_write_fault self.old }
+    /// A call failed that creates this file or writes to it.
+    pub fn count_write_fault(&mut self, name: &str)
+        ensures counted { self.new ≡ with_write_fault name.now self.old }
         ensures later { OnlyWrites self.old self.new }
     {
-        self.write_faults = self.write_faults.saturating_add(1);
+        self.write_faults.add(name);
     }
 }

@@ -2,7 +2,7 @@
 ghost use Rattle.std.specs.Prelude.{◌≡◌, ◌+◌, ◌-◌, ◌<◌, ◌≤◌, [], ◌++◌, length, take, IfOk, OnOk, OnErr};
 ghost use Rattle.outside.specs.Files.{appended, IsThere};
 ghost use Rattle.outside.specs.Passed.{PassedOn, AppendedPrefix};
-ghost use Rattle.outside.specs.Counts.{OnlyWrites, Rose};
+ghost use Rattle.outside.specs.Counts.{OnlyWrites, HappenedTo};
 
 use crate::folder::{Failed, Folder};
 use crate::helpers::write_all;
@@ -63,7 +63,7 @@ impl WriteBuffer {
             (D.files folder.old) (D.files folder.new)) }
         ensures none { OnErr result (self.new ≡ []) }
         ensures few { length self.new ≤ 65536 }
-        ensures failed { OnErr result (Rose (D.counts folder.old).write_faults
+        ensures failed { OnErr result (HappenedTo name.now (D.counts folder.old).write_faults
             (D.counts folder.new).write_faults) }
         ensures done { OnOk result (D.counts folder.new ≡ D.counts folder.old) }
         ensures counts { OnlyWrites (D.counts folder.old) (D.counts folder.new) }
@@ -86,7 +86,7 @@ impl WriteBuffer {
         ensures prefix { OnErr result (AppendedPrefix name.now self.old (D.files folder.old)
             (D.files folder.new)) }
         ensures none { self.new ≡ [] }
-        ensures failed { OnErr result (Rose (D.counts folder.old).write_faults
+        ensures failed { OnErr result (HappenedTo name.now (D.counts folder.old).write_faults
             (D.counts folder.new).write_faults) }
         ensures done { OnOk result (D.counts folder.new ≡ D.counts folder.old) }
         ensures counts { OnlyWrites (D.counts folder.old) (D.counts folder.new) }
@@ -124,7 +124,7 @@ impl WriteBuffer {
             (D.files folder.old) (D.files folder.new)) }
         ensures none { OnErr result (self.new ≡ []) }
         ensures few { length self.new ≤ 65536 }
-        ensures failed { OnErr result (Rose (D.counts folder.old).write_faults
+        ensures failed { OnErr result (HappenedTo name.now (D.counts folder.old).write_faults
             (D.counts folder.new).write_faults) }
         ensures done { OnOk result (D.counts folder.new ≡ D.counts folder.old) }
         ensures counts { OnlyWrites (D.counts folder.old) (D.counts folder.new) }
@@ -148,7 +148,7 @@ fn write_whole<D: Folder>(folder: &mut D, name: &str, bytes: &[u8]) -> Result<us
         (take k bytes.now)) }
     ensures prefix { OnErr result (AppendedPrefix name.now bytes.now (D.files folder.old)
         (D.files folder.new)) }
-    ensures failed { OnErr result (Rose (D.counts folder.old).write_faults
+    ensures failed { OnErr result (HappenedTo name.now (D.counts folder.old).write_faults
         (D.counts folder.new).write_faults) }
     ensures done { OnOk result (D.counts folder.new ≡ D.counts folder.old) }
     ensures counts { OnlyWrites (D.counts folder.old) (D.counts folder.new) }

@@ -1,7 +1,7 @@
 -- One piece more goes on.
 use Rattle.std.proofs.Common.{◌+◌, ◌≤◌, refl, ◌∙◌, arith}
 use Rattle.std.proofs.lemmas.Result.{err_from_is_err_and}
-use Rattle.outside.specs.Pass.{bytes_at, bytes_between}
+use Rattle.outside.specs.Pass.{bytes_at, bytes_between, route_of}
 use Rattle.outside.proofs.PassedLaws.{err_at}
 use Rattle.outside.proofs.PassLaws.{up_to_begun, up_to_more, up_to_prefix, between_split, cause_behind}
 use Rattle.outside.proofs.pass.Pass.copy.Goals as goal
@@ -26,7 +26,7 @@ returns-in_err-copy_piece-clause-prefix g c =
 pub returns-in_err-copy_piece-clause-cause : goal.returns-in_err-copy_piece-clause-cause
 returns-in_err-copy_piece-clause-cause g c =
     let p = err_from_is_err_and c.from_residual.result c.from_residual.ensures.1 in
-    rw (p.1, p.2) (cause_behind c.loop-at.invariant.up_to.written c.args.self.now.length _ _ _ c.loop-at.invariant.counts _ c.in_err-copy_piece.ensures.cause)
+    rw (p.1, p.2) (cause_behind c.loop-at.invariant.up_to.written (route_of c.args.self.now) _ _ _ c.loop-at.invariant.counts _ c.in_err-copy_piece.ensures.cause)
 
 pub loop-at-preserved : goal.loop-at-preserved
 loop-at-preserved g c =

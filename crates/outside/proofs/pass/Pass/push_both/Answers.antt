@@ -1,6 +1,7 @@
 -- The first piece, and the second after it.
 use Rattle.std.proofs.Common.{List, ℕ, subst, append_assoc}
 use Rattle.std.proofs.lemmas.Result.{on_ok_weaker, on_err_weaker}
+use Rattle.outside.specs.Pass.{route_of}
 use Rattle.outside.specs.Passed.{PassedOn, AppendedPrefix}
 use Rattle.outside.proofs.PassedLaws.{on_err, passed_there, passed_more, passed_more_prefix, prefix_in_front}
 use Rattle.outside.proofs.PassLaws.{causes_later}
@@ -34,4 +35,4 @@ returns-clause-prefix g c =
 pub returns-clause-cause : goal.returns-clause-cause
 returns-clause-cause g c =
     let passed = c.in_ok-push.ensures.passed in
-    causes_later c.push-2.result c.args.self.now.length _ _ c.args.self.now.output.now passed.passed _ _ _ passed.files c.in_ok-push.ensures.done c.push-2.ensures.cause
+    causes_later c.push-2.result (route_of c.args.self.now) _ _ c.args.self.now.output.now passed.passed _ _ _ passed.files c.in_ok-push.ensures.done c.push-2.ensures.cause

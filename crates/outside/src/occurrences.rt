@@ -1,0 +1,56 @@
+//! How often something happened, and to which file last.
+ghost use Rattle.std.specs.Prelude.{◌≡◌, ◌≤◌, length};
+ghost use Rattle.outside.specs.Counts.{never, once_more, noted};
+
+use arrayvec::ArrayVec;
+use std::marker::Model;
+
+// How many bytes of a name are kept: no system takes a longer one.
+const LONGEST: usize = 4096;
+
+/// How often something happened, and the name of the file that it happened to last. It takes no memory.
+#[derive(Drop)]
+pub(crate) struct Occurrences {
+    times: u64,
+    name: ArrayVec<u8, LONGEST>,
+}
+
+impl Model for Occurrences {
+    ghost use Rattle.outside.specs.Counts.{Happened};
+
+    ghost Value = { Happened };
+
+    ghost view = { λ o. record { times = o.times; name = o.name.items } };
+}
+
+impl Occurrences {
+    pub fn none() -> Self
+        ensures { result ≡ never }
+    {
+        Occurrences {
+            times: 0,
+            name: ArrayVec::new(),
+        }
+    }
+
+    /// It happened once more, to the file of this name.
+    pub fn add(&mut self, name: &str)
+        ensures counted { self.new ≡ once_more name.now self.old }
+        ensures later { self.old.times ≤ self.new.times }
+    {
+        self.times = self.times.saturating_add(1);
+        self.name.clear();
+        // There is room for as many.
+        let _ = self.name.try_extend_from_slice(front_of(name));
+    }
+}
+
+// The first bytes of a name, as many as are kept.
+#[tactic(auto, using(std::proofs::lemmas::List::take_min))]
+fn front_of(name: &str) -> &[u8]
+    ensures front { result.now ≡ noted name.now }
+    ensures few { length result.now ≤ 4096 }
+{
+    let bytes = name.as_bytes();
+    &bytes[..LONGEST.min(bytes.len())]
+}
