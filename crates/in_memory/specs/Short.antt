@@ -7,9 +7,9 @@ use Rattle.outside.specs.Counts.{Counts}
 use Rattle.outside.specs.Files.{with_file}
 use Rattle.in_memory.specs.Memory.{contents_of, bytes_of, counts_of, create_fails, write_fails}
 
--- the counts of the folder inside, with an end for each read, into some room, of a name that isn't in it
+-- the counts of the folder inside, but for the reads that gave no byte, which this folder counts itself
 abbrev pub short_counts : ShortFolder → Counts
-short_counts folder = record (counts_of folder.inner) { ends = (counts_of folder.inner).ends + folder.unread }
+short_counts folder = record (counts_of folder.inner) { ends = folder.tally.ends }
 
 -- the name is in the folder inside
 abbrev pub is_inside : ShortFolder → List ℕ → Bool

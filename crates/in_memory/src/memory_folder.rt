@@ -1,7 +1,7 @@
 //! A folder in memory, for tests.
 ghost use Rattle.std.specs.Prelude.{◌≡◌, ◌≢◌, ℕ, ◌+◌, ◌-◌, ◌<◌, ◌≤◌, [], ◌∷◌, ◌++◌, List, None, Some, Ok, Err, length, take, drop, min, IfOk, OnOk, OnErr, IsErrOf, is_err, option_copied, if◌then◌else◌, ◌==◌, ◌&&◌, ◌⊎◌, nat_lt};
 ghost use Rattle.outside.specs.Files.{Told, with_file, emptied, appended, FailsToCreate, Holds, IsThere, IsMissing, AreOctets};
-ghost use Rattle.outside.specs.Counts.{none_counted, with_miss, with_end, with_read_fault, with_write_fault, OnlyReads, OnlyWrites, NothingFailed, Rose};
+ghost use Rattle.outside.specs.Counts.{none_counted, with_miss, with_end, with_read_fault, with_write_fault, OnlyReads, OnlyWrites, NothingFailed, HappenedTo, EndedAt};
 
 use crate::schedule::Schedule;
 use crate::slots::{Slot, Slots};
@@ -150,9 +150,9 @@ impl Folder for MemFolder {
         ensures missing { IsErrOf result FindFault.Absent
             → IsMissing (Told (contents_of self.old)) name.now }
         ensures absent { IsErrOf result FindFault.Absent
-            → Rose (counts_of self.old).misses (counts_of self.new).misses }
+            → HappenedTo name.now (counts_of self.old).misses (counts_of self.new).misses }
         ensures failed { IsErrOf result FindFault.Failed
-            → Rose (counts_of self.old).read_faults (counts_of self.new).read_faults }
+            → HappenedTo name.now (counts_of self.old).read_faults (counts_of self.new).read_faults }
         ensures files { Told (contents_of self.new) ≡ Told (contents_of self.old) }
         ensures ends { (counts_of self.new).ends ≡ (counts_of self.old).ends }
         ensures done { OnOk result (counts_of self.new ≡ counts_of self.old) }
@@ -160,18 +160,18 @@ impl Folder for MemFolder {
         ensures exact { result ≡ find_answer self.old name.now }
         ensures called { Called self.old self.new Call.Find }
         ensures absent_counts { IsErrOf result FindFault.Absent
-            → counts_of self.new ≡ with_miss (counts_of self.old) }
+            → counts_of self.new ≡ with_miss name.now (counts_of self.old) }
         ensures failed_counts { IsErrOf result FindFault.Failed
-            → counts_of self.new ≡ with_read_fault (counts_of self.old) }
+            → counts_of self.new ≡ with_read_fault name.now (counts_of self.old) }
     {
         if self.finds.next_fails() {
-            self.tally.count_read_fault();
+            self.tally.count_read_fault(name);
             return Err(FindFault::Failed);
         }
         match self.slots.content(name) {
             Some(content) => Ok(size_of(content)),
             None => {
-                self.tally.count_miss();
+                self.tally.count_miss(name);
                 Err(FindFault::Absent)
             }
         }
@@ -190,8 +190,8 @@ impl Folder for MemFolder {
         ensures within { IfOk result (λ k. (bytes : List ℕ)
             → Holds (Told (contents_of self.old)) name.now bytes → k ≤ length bytes - at) }
         ensures ended { IfOk result (λ k. k ≡ 0 → 0 < length into.old
-            → Rose (counts_of self.old).ends (counts_of self.new).ends) }
-        ensures failed { OnErr result (Rose (counts_of self.old).read_faults
+            → EndedAt name.now at (counts_of self.old).ends (counts_of self.new).ends) }
+        ensures failed { OnErr result (HappenedTo name.now (counts_of self.old).read_faults
             (counts_of self.new).read_faults) }
         ensures files { Told (contents_of self.new) ≡ Told (contents_of self.old) }
         ensures got { IfOk result (λ k. (0 < k) ⊎ (length into.old ≡ 0)
@@ -204,19 +204,19 @@ impl Folder for MemFolder {
         ensures called { Called self.old self.new Call.Read }
         ensures kept { OnErr result (into.new ≡ into.old) }
         ensures read_counts { IfOk result
-            (λ k. counts_of self.new ≡ (if k == 0 && nat_lt 0 (length into.old) then with_end
+            (λ k. counts_of self.new ≡ (if k == 0 && nat_lt 0 (length into.old) then with_end name.now at
             (counts_of self.old) else counts_of self.old)) }
         ensures failed_counts { OnErr result
-            (counts_of self.new ≡ with_read_fault (counts_of self.old)) }
+            (counts_of self.new ≡ with_read_fault name.now (counts_of self.old)) }
     {
         if self.reads.next_fails() {
-            self.tally.count_read_fault();
+            self.tally.count_read_fault(name);
             return Err(Failed);
         }
         let content = self.slots.content(name).unwrap_or(&[]);
         let count = copy_from(content, at, into);
         if count == 0 && !into.is_empty() {
-            self.tally.count_end();
+            self.tally.count_end(name, at);
         }
         Ok(count)
     }
@@ -227,17 +227,17 @@ impl Folder for MemFolder {
         ensures kept { OnErr result (FailsToCreate name.now (Told (contents_of self.old))
             (Told (contents_of self.new))) }
         ensures stays { OnErr result (contents_of self.new ≡ contents_of self.old) }
-        ensures failed { OnErr result (Rose (counts_of self.old).write_faults
+        ensures failed { OnErr result (HappenedTo name.now (counts_of self.old).write_faults
             (counts_of self.new).write_faults) }
         ensures done { OnOk result (counts_of self.new ≡ counts_of self.old) }
         ensures counts { OnlyWrites (counts_of self.old) (counts_of self.new) }
         ensures fails { is_err result ≡ create_fails self.old name.now }
         ensures called { Called self.old self.new Call.Create }
         ensures failed_counts { OnErr result
-            (counts_of self.new ≡ with_write_fault (counts_of self.old)) }
+            (counts_of self.new ≡ with_write_fault name.now (counts_of self.old)) }
     {
         if self.creates.next_fails() || !self.slots.create(name) {
-            self.tally.count_write_fault();
+            self.tally.count_write_fault(name);
             return Err(Failed);
         }
         Ok(())
@@ -250,7 +250,7 @@ impl Folder for MemFolder {
         ensures written { IfOk result (λ k. Told (contents_of self.new) ≡ appended
             (Told (contents_of self.old)) name.now (take k bytes.now)) }
         ensures kept { OnErr result (Told (contents_of self.new) ≡ Told (contents_of self.old)) }
-        ensures failed { OnErr result (Rose (counts_of self.old).write_faults
+        ensures failed { OnErr result (HappenedTo name.now (counts_of self.old).write_faults
             (counts_of self.new).write_faults) }
         ensures done { OnOk result (counts_of self.new ≡ counts_of self.old) }
         ensures counts { OnlyWrites (counts_of self.old) (counts_of self.new) }
@@ -258,10 +258,10 @@ impl Folder for MemFolder {
         ensures whole { IfOk result (λ k. k ≡ length bytes.now) }
         ensures called { Called self.old self.new Call.Write }
         ensures failed_counts { OnErr result
-            (counts_of self.new ≡ with_write_fault (counts_of self.old)) }
+            (counts_of self.new ≡ with_write_fault name.now (counts_of self.old)) }
     {
         if self.writes.next_fails() || !self.slots.append(name, bytes) {
-            self.tally.count_write_fault();
+            self.tally.count_write_fault(name);
             return Err(Failed);
         }
         Ok(bytes.len())

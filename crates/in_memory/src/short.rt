@@ -3,10 +3,10 @@ ghost use Rattle.std.specs.Prelude.{◌≡◌, ℕ, ◌+◌, ◌-◌, ◌<◌, �
 ghost use Rattle.outside.specs.Files.{Told, untold, FailsToCreate, with_file, emptied, appended, Holds, IsThere, IsMissing, AreOctets};
 ghost use Rattle.in_memory.specs.Memory.{contents_of, counts_of};
 ghost use Rattle.in_memory.specs.Short.{create_missing_fails, IsCreated};
-ghost use Rattle.outside.specs.Counts.{OnlyReads, OnlyWrites, NothingFailed, Rose};
+ghost use Rattle.outside.specs.Counts.{none_counted, OnlyReads, OnlyWrites, NothingFailed, HappenedTo, EndedAt};
 
 use crate::memory_folder::MemFolder;
-use outside::{Failed, FindFault, Folder};
+use outside::{Failed, FindFault, Folder, Tally};
 
 /// A folder over one in memory that tells nothing, and whose files are shorter than `find` says, as if
 /// another program cut them off while they are read. Its calls are those of the folder inside, except three
@@ -16,8 +16,8 @@ use outside::{Failed, FindFault, Folder};
 pub struct ShortFolder {
     inner: MemFolder,
     extra: u64,
-    // The reads, into some room, of names that aren't inside.
-    unread: u64,
+    // Counts the reads that gave no byte.
+    tally: Tally,
 }
 
 impl ShortFolder {
@@ -27,12 +27,12 @@ impl ShortFolder {
     pub fn new(inner: MemFolder, extra: u64) -> Self
         ensures inner { result.inner ≡ inner }
         ensures extra { result.extra ≡ extra }
-        ensures unread { result.unread ≡ 0 }
+        ensures tally { result.tally ≡ none_counted }
     {
         ShortFolder {
             inner,
             extra,
-            unread: 0,
+            tally: Tally::new(),
         }
     }
 
@@ -49,7 +49,7 @@ fn create_missing(folder: &mut MemFolder, name: &str) -> Result<(), Failed>
     ensures fails { is_err result ≡ create_missing_fails folder.old name.now }
     ensures there { OnOk result (IsThere (Told (contents_of folder.new)) name.now) }
     ensures made { OnOk result (IsCreated folder.old folder.new name.now) }
-    ensures failed { OnErr result (Rose (counts_of folder.old).write_faults
+    ensures failed { OnErr result (HappenedTo name.now (counts_of folder.old).write_faults
         (counts_of folder.new).write_faults) }
     ensures done { OnOk result (counts_of folder.new ≡ counts_of folder.old) }
     ensures counts { OnlyWrites (counts_of folder.old) (counts_of folder.new) }
@@ -77,9 +77,9 @@ impl Folder for ShortFolder {
             → AreOctets bytes) }
         ensures missing { IsErrOf result FindFault.Absent → IsMissing untold name.now }
         ensures absent { IsErrOf result FindFault.Absent
-            → Rose (short_counts self.old).misses (short_counts self.new).misses }
+            → HappenedTo name.now (short_counts self.old).misses (short_counts self.new).misses }
         ensures failed { IsErrOf result FindFault.Failed
-            → Rose (short_counts self.old).read_faults (short_counts self.new).read_faults }
+            → HappenedTo name.now (short_counts self.old).read_faults (short_counts self.new).read_faults }
         ensures files { untold ≡ untold }
         ensures ends { (short_counts self.new).ends ≡ (short_counts self.old).ends }
         ensures done { OnOk result (short_counts self.new ≡ short_counts self.old) }
@@ -88,7 +88,7 @@ impl Folder for ShortFolder {
         ensures inside { contents_of self.new.inner ≡ contents_of self.old.inner }
         ensures called { Called self.old.inner self.new.inner Call.Find }
         ensures extra { self.new.extra ≡ self.old.extra }
-        ensures unread { self.new.unread ≡ self.old.unread }
+        ensures tally { self.new.tally ≡ self.old.tally }
     {
         let size = self.inner.find(name)?;
         Ok(size.saturating_add(self.extra))
@@ -105,8 +105,8 @@ impl Folder for ShortFolder {
         ensures within { IfOk result (λ k. (bytes : List ℕ) → Holds untold name.now bytes
             → k ≤ length bytes - at) }
         ensures ended { IfOk result (λ k. k ≡ 0 → 0 < length into.old
-            → Rose (short_counts self.old).ends (short_counts self.new).ends) }
-        ensures failed { OnErr result (Rose (short_counts self.old).read_faults
+            → EndedAt name.now at (short_counts self.old).ends (short_counts self.new).ends) }
+        ensures failed { OnErr result (HappenedTo name.now (short_counts self.old).read_faults
             (short_counts self.new).read_faults) }
         ensures files { untold ≡ untold }
         ensures got { IfOk result (λ k. (0 < k) ⊎ (length into.old ≡ 0)
@@ -130,18 +130,22 @@ impl Folder for ShortFolder {
     {
         if self.inner.get(name).is_none() {
             if !into.is_empty() {
-                self.unread = self.unread.saturating_add(1);
+                self.tally.count_end(name, at);
             }
             return Ok(0);
         }
-        self.inner.read(name, at, into)
+        let count = self.inner.read(name, at, into)?;
+        if count == 0 && !into.is_empty() {
+            self.tally.count_end(name, at);
+        }
+        Ok(count)
     }
 
     #[tactic(auto, unfolding(outside::specs::Files::emptied))]
     fn create(&mut self, name: &str) -> Result<(), Failed>
         ensures created { OnOk result (untold ≡ emptied untold name.now) }
         ensures kept { OnErr result (FailsToCreate name.now untold untold) }
-        ensures failed { OnErr result (Rose (short_counts self.old).write_faults
+        ensures failed { OnErr result (HappenedTo name.now (short_counts self.old).write_faults
             (short_counts self.new).write_faults) }
         ensures done { OnOk result (short_counts self.new ≡ short_counts self.old) }
         ensures counts { OnlyWrites (short_counts self.old) (short_counts self.new) }
@@ -152,7 +156,7 @@ impl Folder for ShortFolder {
             contents_of self.old.inner) }
         ensures called { Called self.old.inner self.new.inner Call.Create }
         ensures extra { self.new.extra ≡ self.old.extra }
-        ensures unread { self.new.unread ≡ self.old.unread }
+        ensures tally { self.new.tally ≡ self.old.tally }
     {
         self.inner.create(name)
     }
@@ -165,7 +169,7 @@ impl Folder for ShortFolder {
         ensures written { IfOk result (λ k. untold ≡ appended untold name.now
             (take k bytes.now)) }
         ensures kept { OnErr result (untold ≡ untold) }
-        ensures failed { OnErr result (Rose (short_counts self.old).write_faults
+        ensures failed { OnErr result (HappenedTo name.now (short_counts self.old).write_faults
             (short_counts self.new).write_faults) }
         ensures done { OnOk result (short_counts self.new ≡ short_counts self.old) }
         ensures counts { OnlyWrites (short_counts self.old) (short_counts self.new) }
@@ -175,7 +179,7 @@ impl Folder for ShortFolder {
             (contents_of self.old.inner) name.now
             (bytes_of self.old.inner name.now ++ bytes.now)) }
         ensures extra { self.new.extra ≡ self.old.extra }
-        ensures unread { self.new.unread ≡ self.old.unread }
+        ensures tally { self.new.tally ≡ self.old.tally }
     {
         create_missing(&mut self.inner, name)?;
         self.inner.write(name, bytes)

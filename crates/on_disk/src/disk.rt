@@ -5,7 +5,7 @@ ghost use Rattle.std.specs.Fs.{new_options};
 ghost use Rattle.std.specs.Io.KnownBytes.{Keeps, WriteAppends};
 ghost use Rattle.on_disk.specs.Real.{open_name, TellsBytes, ReadsOn};
 ghost use Rattle.outside.specs.Files.{Untold, emptied, appended, FailsToCreate, Holds, IsThere, IsMissing, AreOctets};
-ghost use Rattle.outside.specs.Counts.{none_counted, with_miss, with_end, with_read_fault, with_write_fault, OnlyReads, OnlyWrites, NothingFailed, Rose};
+ghost use Rattle.outside.specs.Counts.{none_counted, with_miss, with_end, with_read_fault, with_write_fault, OnlyReads, OnlyWrites, NothingFailed, HappenedTo, EndedAt};
 
 use crate::noted::{FileId, Noted, Opening, opening_of};
 use crate::reading::{length_of, read_part};
@@ -287,9 +287,9 @@ impl<'a, R: Files> Folder for DiskFolder<'a, R> {
         ensures missing { IsErrOf result FindFault.Absent
             → IsMissing (disk_files self.old) name.now }
         ensures absent { IsErrOf result FindFault.Absent
-            → Rose (disk_counts self.old).misses (disk_counts self.new).misses }
+            → HappenedTo name.now (disk_counts self.old).misses (disk_counts self.new).misses }
         ensures failed { IsErrOf result FindFault.Failed
-            → Rose (disk_counts self.old).read_faults (disk_counts self.new).read_faults }
+            → HappenedTo name.now (disk_counts self.old).read_faults (disk_counts self.new).read_faults }
         ensures files { disk_files self.new ≡ disk_files self.old }
         ensures ends { (disk_counts self.new).ends ≡ (disk_counts self.old).ends }
         ensures done { OnOk result (disk_counts self.new ≡ disk_counts self.old) }
@@ -300,18 +300,18 @@ impl<'a, R: Files> Folder for DiskFolder<'a, R> {
             (λ file. EndsAt R.File.stream_position R.File.stream_bytes file n)) }
         ensures created_stays { self.new.created ≡ self.old.created }
         ensures absent_counts { IsErrOf result FindFault.Absent
-            → disk_counts self.new ≡ with_miss (disk_counts self.old) }
+            → disk_counts self.new ≡ with_miss name.now (disk_counts self.old) }
         ensures failed_counts { IsErrOf result FindFault.Failed
-            → disk_counts self.new ≡ with_read_fault (disk_counts self.old) }
+            → disk_counts self.new ≡ with_read_fault name.now (disk_counts self.old) }
     {
         match self.locate(name) {
             Ok(length) => Ok(length),
             Err(FindFault::Absent) => {
-                self.tally.count_miss();
+                self.tally.count_miss(name);
                 Err(FindFault::Absent)
             }
             Err(FindFault::Failed) => {
-                self.tally.count_read_fault();
+                self.tally.count_read_fault(name);
                 Err(FindFault::Failed)
             }
         }
@@ -333,8 +333,8 @@ impl<'a, R: Files> Folder for DiskFolder<'a, R> {
         ensures within { IfOk result (λ k. (bytes : List ℕ)
             → Holds (disk_files self.old) name.now bytes → k ≤ length bytes - at) }
         ensures ended { IfOk result (λ k. k ≡ 0 → 0 < length into.old
-            → Rose (disk_counts self.old).ends (disk_counts self.new).ends) }
-        ensures failed { OnErr result (Rose (disk_counts self.old).read_faults
+            → EndedAt name.now at (disk_counts self.old).ends (disk_counts self.new).ends) }
+        ensures failed { OnErr result (HappenedTo name.now (disk_counts self.old).read_faults
             (disk_counts self.new).read_faults) }
         ensures files { disk_files self.new ≡ disk_files self.old }
         ensures got { IfOk result (λ k. (0 < k) ⊎ (length into.old ≡ 0)
@@ -349,17 +349,17 @@ impl<'a, R: Files> Folder for DiskFolder<'a, R> {
             self.old name.now at into.new result }
         ensures created_stays { self.new.created ≡ self.old.created }
         ensures read_counts { IfOk result
-            (λ k. disk_counts self.new ≡ (if k == 0 && nat_lt 0 (length into.old) then with_end
+            (λ k. disk_counts self.new ≡ (if k == 0 && nat_lt 0 (length into.old) then with_end name.now at
             (disk_counts self.old) else disk_counts self.old)) }
         ensures failed_counts { OnErr result
-            (disk_counts self.new ≡ with_read_fault (disk_counts self.old)) }
+            (disk_counts self.new ≡ with_read_fault name.now (disk_counts self.old)) }
     {
         let Ok(count) = self.read_there(name, at, into) else {
-            self.tally.count_read_fault();
+            self.tally.count_read_fault(name);
             return Err(Failed);
         };
         if count == 0 && !into.is_empty() {
-            self.tally.count_end();
+            self.tally.count_end(name, at);
         }
         Ok(count)
     }
@@ -375,7 +375,7 @@ impl<'a, R: Files> Folder for DiskFolder<'a, R> {
             ≡ emptied (disk_files self.old) name.now) }
         ensures kept { OnErr result (FailsToCreate name.now (disk_files self.old)
             (disk_files self.new)) }
-        ensures failed { OnErr result (Rose (disk_counts self.old).write_faults
+        ensures failed { OnErr result (HappenedTo name.now (disk_counts self.old).write_faults
             (disk_counts self.new).write_faults) }
         ensures done { OnOk result (disk_counts self.new ≡ disk_counts self.old) }
         ensures counts { OnlyWrites (disk_counts self.old) (disk_counts self.new) }
@@ -383,10 +383,10 @@ impl<'a, R: Files> Folder for DiskFolder<'a, R> {
         ensures found_stays { self.new.found ≡ self.old.found }
         ensures noted_stay { self.new.noted ≡ self.old.noted }
         ensures failed_counts { OnErr result
-            (disk_counts self.new ≡ with_write_fault (disk_counts self.old)) }
+            (disk_counts self.new ≡ with_write_fault name.now (disk_counts self.old)) }
     {
         if self.touch_and_empty(name).is_err() {
-            self.tally.count_write_fault();
+            self.tally.count_write_fault(name);
             return Err(Failed);
         }
         Ok(())
@@ -404,7 +404,7 @@ impl<'a, R: Files> Folder for DiskFolder<'a, R> {
         ensures written { IfOk result (λ k. disk_files self.new
             ≡ appended (disk_files self.old) name.now (take k bytes.now)) }
         ensures kept { OnErr result (disk_files self.new ≡ disk_files self.old) }
-        ensures failed { OnErr result (Rose (disk_counts self.old).write_faults
+        ensures failed { OnErr result (HappenedTo name.now (disk_counts self.old).write_faults
             (disk_counts self.new).write_faults) }
         ensures done { OnOk result (disk_counts self.new ≡ disk_counts self.old) }
         ensures counts { OnlyWrites (disk_counts self.old) (disk_counts self.new) }
@@ -417,14 +417,14 @@ impl<'a, R: Files> Folder for DiskFolder<'a, R> {
         ensures opened { created_name self.new ≡ created_name self.old }
         ensures found_stays { self.new.found ≡ self.old.found }
         ensures failed_counts { OnErr result
-            (disk_counts self.new ≡ with_write_fault (disk_counts self.old)) }
+            (disk_counts self.new ≡ with_write_fault name.now (disk_counts self.old)) }
     {
         if !self.touched.has(name) {
-            self.tally.count_write_fault();
+            self.tally.count_write_fault(name);
             return Err(Failed);
         }
         let Ok(count) = self.append(name, bytes) else {
-            self.tally.count_write_fault();
+            self.tally.count_write_fault(name);
             return Err(Failed);
         };
         Ok(count)
