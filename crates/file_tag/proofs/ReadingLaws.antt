@@ -44,7 +44,7 @@ module _ (name : List ℕ) (files : Files) (s : SurveyFields) (surveyed : (bytes
       surveyed-length bytes is.0 s (survey_of-surveyed bytes is.0 s is.1)
 
   -- bytes that aren't read
-  pub read-cause : (before after : Counts) (size : ℕ) → size ≡ s.length → (fault : ReadFault) → HasReadCause size files before after fault → IsTagCause name files s before after (of_read fault)
+  pub read-cause : (before after : Counts) (size : ℕ) → size ≡ s.length → (fault : ReadFault) → HasReadCause name size files before after fault → IsTagCause name files s before after (of_read fault)
   read-cause before after size is Failed cause = cause.0
   read-cause before after size is (ShrunkRead first second) cause = (cause.0, cause.1 ∙ is, cause.2, cause.3, cause.4)
 

@@ -68,8 +68,8 @@ RefusesTag name files s fault = (bytes : List ℕ) → Holds files name bytes �
 abbrev pub IsTagCause : List ℕ → Files → SurveyFields → Counts → Counts → FileTagFault → Type 0
 IsTagCause name files s before after (TooLarge size) = RefusesTag name files s (TooLarge size) × (size ≡ tag_length s) × (longest_tag < size) × (after ≡ before)
 IsTagCause name files s before after (Bad at) = RefusesTag name files s (Bad at) × (tag_at s ≤ at) × (0 < tag_length s → at < tag_at s + tag_length s) × (after ≡ before)
-IsTagCause name files s before after Read = Rose before.read_faults after.read_faults
-IsTagCause name files s before after (Shrunk first second) = (is_told files ≡ false) × (first ≡ s.length) × (second < first) × Rose before.ends after.ends × NothingFailed before after
+IsTagCause name files s before after Read = HappenedTo name before.read_faults after.read_faults
+IsTagCause name files s before after (Shrunk first second) = (is_told files ≡ false) × (first ≡ s.length) × (second < first) × EndedAt name second before.ends after.ends × NothingFailed before after
 IsTagCause name files s before after Memory = after ≡ before
 
 -- Why there is no tag of a block at this offset: its tag is refused with this fault, or no block of its length begins with its bytes; or

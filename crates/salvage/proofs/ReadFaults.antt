@@ -6,7 +6,7 @@ use Rattle.outside.specs.Counts.{Counts}
 use Rattle.sync_survey.specs.declared.survey_fault.SurveyFault.{SurveyFault}
 use Rattle.sync_survey.specs.declared.survey_fault.SurveyFault.TheVariants.{TooLong, Memory}
 use Rattle.sync_survey.specs.Faults.{longest_file}
-use Rattle.sync_survey.specs.Kinds.{InputKind, IsAbsent, IsUnread, IsShorter, IsTooMuch, IsRefused, kind_of, HasRightNumbers, IsFromOutside, RefusesRightly}
+use Rattle.sync_survey.specs.Kinds.{InputKind, IsAbsent, IsUnread, IsShorter, IsTooMuch, IsRefused, kind_of, end_of, HasRightNumbers, IsFromOutside, RefusesRightly}
 use Rattle.sync_survey.specs.Survey.{IsRefusal, IsSurveyFaultBy, IsUnreadBy, RefusesBytes, HasLength, IsOfLength}
 use Rattle.salvage.specs.Damaged.{damaged, damaged_of, RefusesDamaged, IsReadRefusal}
 
@@ -15,7 +15,7 @@ module _ (name : List ℕ) (files : Files) (before after : Counts) (fault : Surv
   SurveyCause kind = IsSurveyFaultBy name files 0 before after fault kind
 
   abbrev ReadCause : InputKind → Type 0
-  ReadCause kind = IsUnreadBy name files before after (RefusesDamaged name files before after fault) kind
+  ReadCause kind = IsUnreadBy name files before after (end_of fault) (RefusesDamaged name files before after fault) kind
 
   cause_by : (kind : InputKind) → SurveyCause kind → (kind ≡ IsRefused → RefusesDamaged name files before after fault) → ReadCause kind
   cause_by IsAbsent is refused = is

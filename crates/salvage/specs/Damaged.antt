@@ -93,7 +93,7 @@ pub record RefusesDamaged (name : List ℕ) (files : Files) (before after : Coun
 
 -- why nothing is read, by the fault's kind: as for a survey, or what is read is refused
 abbrev pub IsReadFault : List ℕ → Files → Counts → Counts → SurveyFault → Type 0
-IsReadFault name files before after fault = IsUnreadBy name files before after (RefusesDamaged name files before after fault) (kind_of fault)
+IsReadFault name files before after fault = IsUnreadBy name files before after (end_of fault) (RefusesDamaged name files before after fault) (kind_of fault)
 
 -- with the right numbers
 pub record IsReadRefusal (name : List ℕ) (files : Files) (before after : Counts) (fault : SurveyFault) : Type 0 where

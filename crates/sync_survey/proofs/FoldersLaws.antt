@@ -41,7 +41,7 @@ octets_bytes bytes all = AreBytes-from_slice bytes (λ i. record { fits = all i 
 
 -- ---- by a read that ends early
 
-pub read_refusal : (name : List ℕ) (files : Files) (allowed : ℕ) (before after : Counts) (size : ℕ) (fault : ReadFault) → HasReadCause size files before after fault → IsRefusal name files allowed before after (of_read fault)
+pub read_refusal : (name : List ℕ) (files : Files) (allowed : ℕ) (before after : Counts) (size : ℕ) (fault : ReadFault) → HasReadCause name size files before after fault → IsRefusal name files allowed before after (of_read fault)
 read_refusal name files allowed before after size Failed cause = record { cause = cause.0; numbers = tt }
 read_refusal name files allowed before after size (ShrunkRead first second) cause = record {
   cause = record { nothing_told = cause.0; ended = cause.3; counts = cause.4 };

@@ -1,5 +1,5 @@
 -- The kinds of a survey's faults.
-use Rattle.std.specs.Prelude.{◌≡◌, ◌<◌}
+use Rattle.std.specs.Prelude.{◌≡◌, ◌<◌, ℕ}
 use Rattle.outside.specs.declared.exact.ReadFault.{ReadFault}
 use Rattle.outside.specs.declared.exact.ReadFault.TheVariants.{Failed, Shrunk as ShrunkRead}
 use Rattle.sync_survey.specs.declared.survey_fault.SurveyFault.{SurveyFault}
@@ -32,6 +32,11 @@ abbrev pub HasRightNumbers : SurveyFault → Type 0
 HasRightNumbers (TooLong size) = longest_file < size
 HasRightNumbers (Shrunk first second) = second < first
 HasRightNumbers _ = Unit {0}
+
+-- the offset at which a file that became shorter ended
+abbrev pub end_of : SurveyFault → ℕ
+end_of (Shrunk first second) = second
+end_of _ = 0
 
 -- the file isn't refused: a call failed, the file became shorter, or there is no memory
 abbrev pub IsFromOutside : SurveyFault → Type 0

@@ -5,7 +5,7 @@ use Rattle.frame_header.specs.Fields.{ClassFields, IsHeader}
 use Rattle.frame_header.specs.Tables.{class_of, length_of}
 use Rattle.side_info.specs.Side.{SideFits}
 use Rattle.outside.specs.Files.{Files, is_told, Holds, IsThere, IsMissing}
-use Rattle.outside.specs.Counts.{Counts, Rose, OnlyReads, NothingFailed}
+use Rattle.outside.specs.Counts.{Counts, HappenedTo, EndedAt, OnlyReads, NothingFailed}
 use Rattle.outside.specs.Feed.{Fed, IsFedFrom}
 use Rattle.sync_survey.specs.declared.items.Item.TheVariants.{Frame}
 use Rattle.sync_survey.specs.declared.places.Head.{Head}
@@ -20,7 +20,7 @@ use Rattle.sync_survey.specs.MainData.{place, end_before, is_lost}
 use Rattle.sync_survey.specs.Faults.{SurveyFields, surveyed, data_faults, faults_from, fault_place, NoneBefore, longest_file}
 use Rattle.sync_survey.specs.Start.{start_of}
 use Rattle.sync_survey.specs.Walk.{head_of}
-use Rattle.sync_survey.specs.Kinds.{InputKind, IsRefused, kind_of, by_kind, HasRightNumbers}
+use Rattle.sync_survey.specs.Kinds.{InputKind, IsRefused, kind_of, by_kind, end_of, HasRightNumbers}
 
 -- the survey of a file with these bytes, or why there is none: it is too long, or else its first fault
 unfoldable pub survey_of : List ℕ → ℕ → Result SurveyFields SurveyFault
@@ -47,10 +47,10 @@ pub record RefusesBytes (name : List ℕ) (files : Files) (allowed : ℕ) (befor
   pub bytes : (bytes : List ℕ) → Holds files name bytes → survey_of bytes allowed ≡ Err fault
   pub counts : after ≡ before
 
--- of the file nothing is told, a read gave no byte, and no call failed
-pub record HasShrunk (files : Files) (before after : Counts) : Type 0 where
+-- of the file nothing is told, a read of it at this offset gave no byte, and no call failed
+pub record HasShrunk (name : List ℕ) (place : ℕ) (files : Files) (before after : Counts) : Type 0 where
   pub nothing_told : is_told files ≡ false
-  pub ended : Rose before.ends after.ends
+  pub ended : EndedAt name place before.ends after.ends
   pub counts : NothingFailed before after
 
 -- the file is there and isn't too long, so that memory is taken, and nothing is counted
@@ -59,13 +59,14 @@ pub record AsksForMemory (name : List ℕ) (files : Files) (before after : Count
   pub few : (bytes : List ℕ) → Holds files name bytes → length bytes ≤ longest_file
   pub counts : after ≡ before
 
--- why a file isn't read, by the fault's kind: it isn't there, could not be read, became shorter, there is no memory, or it is refused so
-abbrev pub IsUnreadBy : List ℕ → Files → Counts → Counts → Type 0 → InputKind → Type 0
-IsUnreadBy name files before after refused kind = by_kind
+-- why a file isn't read, by the fault's kind: it isn't there, could not be read, became shorter and ended at this offset, there is no memory, or
+-- it is refused so
+abbrev pub IsUnreadBy : List ℕ → Files → Counts → Counts → ℕ → Type 0 → InputKind → Type 0
+IsUnreadBy name files before after place refused kind = by_kind
     (record {
-      absent = IsMissing files name × Rose before.misses after.misses;
-      unread = Rose before.read_faults after.read_faults;
-      shorter = HasShrunk files before after;
+      absent = IsMissing files name × HappenedTo name before.misses after.misses;
+      unread = HappenedTo name before.read_faults after.read_faults;
+      shorter = HasShrunk name place files before after;
       too_much = AsksForMemory name files before after;
       refused = refused;
     })
@@ -73,7 +74,7 @@ IsUnreadBy name files before after refused kind = by_kind
 
 -- why there is no survey
 abbrev pub IsSurveyFaultBy : List ℕ → Files → ℕ → Counts → Counts → SurveyFault → InputKind → Type 0
-IsSurveyFaultBy name files allowed before after fault kind = IsUnreadBy name files before after (RefusesBytes name files allowed before after fault) kind
+IsSurveyFaultBy name files allowed before after fault kind = IsUnreadBy name files before after (end_of fault) (RefusesBytes name files allowed before after fault) kind
 
 abbrev pub IsSurveyFault : List ℕ → Files → ℕ → Counts → Counts → SurveyFault → Type 0
 IsSurveyFault name files allowed before after fault = IsSurveyFaultBy name files allowed before after fault (kind_of fault)
