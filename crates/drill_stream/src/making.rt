@@ -62,7 +62,8 @@ impl Making {
             self.old.draws.state }
         ensures reach { reach_of self.new.writer ≡
             reach_with (class_of drill_header_lem) (next_frame self.old) }
-        ensures failed { OnErr result (WriteFailed (D.counts folder.old) (D.counts folder.new)) }
+        ensures failed { OnErr result (WriteFailed name.now (D.counts folder.old)
+            (D.counts folder.new)) }
         ensures done { OnOk result (D.counts folder.new ≡ D.counts folder.old) }
         ensures counts { OnlyWrites (D.counts folder.old) (D.counts folder.new) }
     {
@@ -88,7 +89,8 @@ impl Making {
             (drill_frames self.old.draws.state count) (D.files folder.old) (D.files folder.new)) }
         ensures prefix { OnErr result (AppendedPrefix name.now
             (drill_stream self.old.draws.state count) (D.files folder.old) (D.files folder.new)) }
-        ensures failed { OnErr result (WriteFailed (D.counts folder.old) (D.counts folder.new)) }
+        ensures failed { OnErr result (WriteFailed name.now (D.counts folder.old)
+            (D.counts folder.new)) }
         ensures done { OnOk result (D.counts folder.new ≡ D.counts folder.old) }
         ensures counts { OnlyWrites (D.counts folder.old) (D.counts folder.new) }
     {
@@ -115,7 +117,8 @@ impl Making {
             (drill_stream self.old.draws.state count)) }
         ensures prefix { OnErr result (AppendedPrefix name.now
             (drill_stream self.old.draws.state count) (D.files folder.old) (D.files folder.new)) }
-        ensures failed { OnErr result (WriteFailed (D.counts folder.old) (D.counts folder.new)) }
+        ensures failed { OnErr result (WriteFailed name.now (D.counts folder.old)
+            (D.counts folder.new)) }
         ensures done { OnOk result (D.counts folder.new ≡ D.counts folder.old) }
         ensures counts { OnlyWrites (D.counts folder.old) (D.counts folder.new) }
     {

@@ -30,7 +30,7 @@ pub fn write_stream<D: Folder>(
         → FailsToCreate name.now (D.files folder.old) (D.files folder.new) ⊎ AppendedPrefix name.now (drill_stream seed count)
         (emptied (D.files folder.old) name.now) (D.files folder.new) }
     ensures failed { IsErrOf result StreamFault.Write →
-        WriteFailed (D.counts folder.old) (D.counts folder.new) }
+        WriteFailed name.now (D.counts folder.old) (D.counts folder.new) }
     ensures kept { IsErrOf result StreamFault.Memory → D.files folder.new ≡ D.files folder.old }
     ensures none { IsErrOf result StreamFault.Memory → D.counts folder.new ≡ D.counts folder.old }
     ensures done { OnOk result (D.counts folder.new ≡ D.counts folder.old) }

@@ -8,7 +8,7 @@ use Rattle.tag_blocks.specs.Tags.{TagFields, tag_of}
 use Rattle.outside.specs.declared.exact.ReadFault.{ReadFault}
 use Rattle.outside.specs.declared.exact.ReadFault.TheVariants.{Failed, Shrunk as ShrunkRead}
 use Rattle.outside.specs.Files.{Files, is_told, Holds, IsThere}
-use Rattle.outside.specs.Counts.{Counts, Rose, NothingFailed}
+use Rattle.outside.specs.Counts.{Counts, HappenedTo, EndedAt, NothingFailed}
 use Rattle.sync_survey.specs.declared.places.Piece.{Piece}
 use Rattle.sync_survey.specs.Faults.{SurveyFields}
 use Rattle.sync_survey.specs.Survey.{survey_of, IsLaidOut}

@@ -2,7 +2,7 @@
 ghost use Rattle.std.specs.Prelude.{◌≡◌, ◌≢◌, List, ℕ, [], is_some, IfErr, OnOk};
 ghost use Rattle.outside.specs.Files.{Holds, IsThere};
 ghost use Rattle.outside.specs.Counts.{NoneFell};
-ghost use Rattle.outside.specs.Pass.{Appends, AppendsPrefix, HasPassCause};
+ghost use Rattle.outside.specs.Pass.{Appends, AppendsPrefix, route_of, HasPassCause};
 ghost use Rattle.laying.specs.Passing.{IsReady};
 ghost use Rattle.sync_survey.specs.Faults.{tells};
 ghost use Rattle.sync_survey.specs.Survey.{IsLaidOut};
@@ -37,7 +37,7 @@ pub fn write_laid<D: Folder>(
         (λ file. file_laid (laid_in selection.now) file (tells relay.now.survey.now))
         (D.files folder.old) (D.files folder.new)) }
     ensures done { OnOk result (D.counts folder.new ≡ D.counts folder.old) }
-    ensures cause { IfErr result (HasPassCause relay.now.pass.length (D.files folder.old)
+    ensures cause { IfErr result (HasPassCause (route_of relay.now.pass) (D.files folder.old)
         (D.counts folder.old) (D.counts folder.new)) }
     // What another file of chosen frames may be written with.
     ensures ready { OnOk result (IsReady relay.now (D.files folder.new) buffers.new.feed) }
@@ -75,7 +75,7 @@ pub fn write_selection<D: Folder>(
         (selected_file (tells relay.now.survey.now) selection.now)
         (D.files folder.old) (D.files folder.new)) }
     ensures done { OnOk result (D.counts folder.new ≡ D.counts folder.old) }
-    ensures cause { IfErr result (HasPassCause relay.now.pass.length (D.files folder.old)
+    ensures cause { IfErr result (HasPassCause (route_of relay.now.pass) (D.files folder.old)
         (D.counts folder.old) (D.counts folder.new)) }
     // What another file of chosen frames may be written with.
     ensures ready { OnOk result (IsReady relay.now (D.files folder.new) buffers.new.feed) }

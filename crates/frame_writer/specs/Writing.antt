@@ -3,7 +3,7 @@ use Rattle.std.specs.Prelude.{◌≡◌, ℕ, List, [], ◌∷◌, ◌++◌}
 use Rattle.frame_header.specs.Fields.{ClassFields}
 use Rattle.outside.specs.Files.{Files, appended}
 use Rattle.outside.specs.Passed.{PassedOn, AppendedPrefix}
-use Rattle.outside.specs.Counts.{Counts, Rose}
+use Rattle.outside.specs.Counts.{Counts, HappenedTo}
 use Rattle.frame_writer.specs.Frames.{Frame, Held, held_bytes, framed, areas_with, IsNextSettled, AreWritten}
 
 -- the frames that wait, and the bytes in the buffer before the file
@@ -30,8 +30,9 @@ pub record IsNew (class : ClassFields) (held : Held) : Type 0 where
   pub written : AreWritten [] held []
   pub unsettled : IsNextSettled held → ⊥
 
-abbrev pub WriteFailed : Counts → Counts → Type 0
-WriteFailed before after = Rose before.write_faults after.write_faults
+-- a call failed that writes to the file of this name
+abbrev pub WriteFailed : List ℕ → Counts → Counts → Type 0
+WriteFailed name before after = HappenedTo name before.write_faults after.write_faults
 
 -- frames that waited were handed on
 pub record HandedOn (old new : Held) : Type 0 where

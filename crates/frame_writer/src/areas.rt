@@ -118,7 +118,8 @@ impl Areas {
             unsent.new (D.files folder.old) (D.files folder.new)) }
         ensures prefix { OnErr result (AppendedPrefix name.now
             (unsent.old ++ take count self.now.bytes) (D.files folder.old) (D.files folder.new)) }
-        ensures failed { OnErr result (WriteFailed (D.counts folder.old) (D.counts folder.new)) }
+        ensures failed { OnErr result (WriteFailed name.now (D.counts folder.old)
+            (D.counts folder.new)) }
         ensures done { OnOk result (D.counts folder.new ≡ D.counts folder.old) }
         ensures counts { OnlyWrites (D.counts folder.old) (D.counts folder.new) }
     {
@@ -189,7 +190,8 @@ fn add_zeros<D: Folder>(
         unsent.new (D.files folder.old) (D.files folder.new)) }
     ensures prefix { OnErr result (AppendedPrefix name.now (unsent.old ++ zeros count)
         (D.files folder.old) (D.files folder.new)) }
-    ensures failed { OnErr result (WriteFailed (D.counts folder.old) (D.counts folder.new)) }
+    ensures failed { OnErr result (WriteFailed name.now (D.counts folder.old)
+        (D.counts folder.new)) }
     ensures done { OnOk result (D.counts folder.new ≡ D.counts folder.old) }
     ensures counts { OnlyWrites (D.counts folder.old) (D.counts folder.new) }
 {

@@ -79,7 +79,8 @@ pub(crate) fn add_frame<D: Folder>(
     ensures prefix { OnErr result (AppendedPrefix name.now
         (unsent.old ++ first_bytes kept.now areas.now.bytes)
         (D.files folder.old) (D.files folder.new)) }
-    ensures failed { OnErr result (WriteFailed (D.counts folder.old) (D.counts folder.new)) }
+    ensures failed { OnErr result (WriteFailed name.now (D.counts folder.old)
+        (D.counts folder.new)) }
     ensures done { OnOk result (D.counts folder.new ≡ D.counts folder.old) }
     ensures counts { OnlyWrites (D.counts folder.old) (D.counts folder.new) }
 {

@@ -124,7 +124,8 @@ impl Writer {
         ensures class { self.new.class ≡ self.old.class }
         ensures reach { reach_of self.new ≡ reach_with self.old.class frame.now }
         ensures unsettled { OnOk result (IsNextSettled self.new → ⊥) }
-        ensures failed { OnErr result (WriteFailed (D.counts folder.old) (D.counts folder.new)) }
+        ensures failed { OnErr result (WriteFailed name.now (D.counts folder.old)
+            (D.counts folder.new)) }
         ensures done { OnOk result (D.counts folder.new ≡ D.counts folder.old) }
         ensures counts { OnlyWrites (D.counts folder.old) (D.counts folder.new) }
     {
@@ -148,7 +149,8 @@ impl Writer {
         ensures none { OnOk result (self.new.kept ≡ []) }
         ensures prefix { OnErr result (AppendedPrefix name.now (unsent.old ++ held_bytes self.old)
             (D.files folder.old) (D.files folder.new)) }
-        ensures failed { OnErr result (WriteFailed (D.counts folder.old) (D.counts folder.new)) }
+        ensures failed { OnErr result (WriteFailed name.now (D.counts folder.old)
+            (D.counts folder.new)) }
         ensures done { OnOk result (D.counts folder.new ≡ D.counts folder.old) }
         ensures counts { OnlyWrites (D.counts folder.old) (D.counts folder.new) }
     {
@@ -177,7 +179,8 @@ impl Writer {
         ensures unsettled { OnOk result (IsNextSettled self.new → ⊥) }
         ensures prefix { OnErr result (AppendedPrefix name.now (unsent.old ++ held_bytes self.old)
             (D.files folder.old) (D.files folder.new)) }
-        ensures failed { OnErr result (WriteFailed (D.counts folder.old) (D.counts folder.new)) }
+        ensures failed { OnErr result (WriteFailed name.now (D.counts folder.old)
+            (D.counts folder.new)) }
         ensures done { OnOk result (D.counts folder.new ≡ D.counts folder.old) }
         ensures counts { OnlyWrites (D.counts folder.old) (D.counts folder.new) }
     {
@@ -242,7 +245,8 @@ impl Writer {
         ensures free { self.new.waiting.free ≡ min self.old.waiting.free
             (length self.new.waiting.bytes) }
         ensures reach { IsNextSettled self.old → reach_of self.new ≡ reach_of self.old }
-        ensures failed { OnErr result (WriteFailed (D.counts folder.old) (D.counts folder.new)) }
+        ensures failed { OnErr result (WriteFailed name.now (D.counts folder.old)
+            (D.counts folder.new)) }
         ensures done { OnOk result (D.counts folder.new ≡ D.counts folder.old) }
         ensures counts { OnlyWrites (D.counts folder.old) (D.counts folder.new) }
     {

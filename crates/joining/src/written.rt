@@ -3,7 +3,7 @@ ghost use Rattle.std.specs.Prelude.{◌≡◌, ◌≤◌, ◌++◌, List, ℕ, [
 ghost use Rattle.outside.specs.Files.{IsThere, Holds, is_told, OnlyTouches};
 ghost use Rattle.outside.specs.Counts.{NoneFell};
 ghost use Rattle.std.specs.List.{concat};
-ghost use Rattle.outside.specs.Pass.{Appends, AppendsPrefix, HasPassCause};
+ghost use Rattle.outside.specs.Pass.{Appends, AppendsPrefix, route_of, HasPassCause};
 ghost use Rattle.laying.specs.Written.{front_blocks};
 ghost use Rattle.laying.specs.Passing.{IsReady, IsFresh};
 ghost use Rattle.sync_survey.specs.Faults.{tells};
@@ -41,7 +41,7 @@ fn append_front<D: Folder>(
     ensures none { OnOk result (buffers.new.waiting ≡ []) }
     ensures writer { buffers.new.writer ≡ buffers.old.writer }
     ensures done { OnOk result (D.counts folder.new ≡ D.counts folder.old) }
-    ensures cause { IfErr result (HasPassCause relay.now.pass.length (D.files folder.old)
+    ensures cause { IfErr result (HasPassCause (route_of relay.now.pass) (D.files folder.old)
         (D.counts folder.old) (D.counts folder.new)) }
 {
     relay.write_front(folder, info, &mut buffers.feed, &mut buffers.waiting)?;

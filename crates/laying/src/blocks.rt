@@ -1,6 +1,6 @@
 //! The blocks of a surveyed input, copied through the buffer of an output.
 ghost use Rattle.std.specs.Prelude.{◌≡◌, ◌+◌, ◌≤◌, [], ◌∷◌, IfErr, OnOk};
-ghost use Rattle.outside.specs.Pass.{Writes, WritesPrefix, HasPassCause};
+ghost use Rattle.outside.specs.Pass.{Writes, WritesPrefix, route_of, HasPassCause};
 ghost use Rattle.sync_survey.specs.Faults.{tells};
 ghost use Rattle.laying.specs.Written.{goes_in_front as goes_in_front_lem};
 ghost use Rattle.laying.specs.Copying.{chosen_bytes};
@@ -42,7 +42,7 @@ impl<'a> Relay<'a> {
             (chosen_bytes in_front (tells self.now.survey.now) (block.now ∷ []))
             waiting.old (D.files folder.old) (D.files folder.new)) }
         ensures done { OnOk result (D.counts folder.new ≡ D.counts folder.old) }
-        ensures cause { IfErr result (HasPassCause self.now.pass.length (D.files folder.old)
+        ensures cause { IfErr result (HasPassCause (route_of self.now.pass) (D.files folder.old)
             (D.counts folder.old) (D.counts folder.new)) }
         ensures ready { OnOk result (IsReady self.now (D.files folder.new) feed.new) }
     {
@@ -74,7 +74,7 @@ impl<'a> Relay<'a> {
             (chosen_bytes in_front (tells self.now.survey.now) (tells self.now.survey.now).blocks)
             waiting.old (D.files folder.old) (D.files folder.new)) }
         ensures done { OnOk result (D.counts folder.new ≡ D.counts folder.old) }
-        ensures cause { IfErr result (HasPassCause self.now.pass.length (D.files folder.old)
+        ensures cause { IfErr result (HasPassCause (route_of self.now.pass) (D.files folder.old)
             (D.counts folder.old) (D.counts folder.new)) }
         ensures ready { OnOk result (IsReady self.now (D.files folder.new) feed.new) }
     {

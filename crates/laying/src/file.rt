@@ -1,7 +1,7 @@
 //! A whole file of the frames of one part.
 ghost use Rattle.std.specs.Prelude.{◌≡◌, ◌++◌, [], IfErr, OnOk};
 ghost use Rattle.std.specs.List.{concat};
-ghost use Rattle.outside.specs.Pass.{Writes, WritesPrefix, Appends, AppendsPrefix, HasPassCause};
+ghost use Rattle.outside.specs.Pass.{Writes, WritesPrefix, Appends, AppendsPrefix, route_of, HasPassCause};
 ghost use Rattle.sync_survey.specs.Faults.{tells};
 ghost use Rattle.laying.specs.Written.{front_blocks};
 ghost use Rattle.laying.specs.Passing.{IsReady, IsSection, section_front, section_file};
@@ -32,7 +32,7 @@ impl<'a> Relay<'a> {
             (λ file. concat (front_blocks file (tells self.now.survey.now)) ++ info.now)
             waiting.old (D.files folder.old) (D.files folder.new)) }
         ensures done { OnOk result (D.counts folder.new ≡ D.counts folder.old) }
-        ensures cause { IfErr result (HasPassCause self.now.pass.length (D.files folder.old)
+        ensures cause { IfErr result (HasPassCause (route_of self.now.pass) (D.files folder.old)
             (D.counts folder.old) (D.counts folder.new)) }
         ensures ready { OnOk result (IsReady self.now (D.files folder.new) feed.new) }
     {
@@ -59,7 +59,7 @@ impl<'a> Relay<'a> {
             (section_front (tells self.now.survey.now) section.now)
             buffers.old.waiting (D.files folder.old) (D.files folder.new)) }
         ensures done { OnOk result (D.counts folder.new ≡ D.counts folder.old) }
-        ensures cause { IfErr result (HasPassCause self.now.pass.length (D.files folder.old)
+        ensures cause { IfErr result (HasPassCause (route_of self.now.pass) (D.files folder.old)
             (D.counts folder.old) (D.counts folder.new)) }
         ensures ready { OnOk result (IsReady self.now (D.files folder.new) buffers.new.feed) }
     {
@@ -99,7 +99,7 @@ impl<'a> Relay<'a> {
             (D.files folder.old) (D.files folder.new)) }
         ensures none { OnOk result (buffers.new.waiting ≡ []) }
         ensures done { OnOk result (D.counts folder.new ≡ D.counts folder.old) }
-        ensures cause { IfErr result (HasPassCause self.now.pass.length (D.files folder.old)
+        ensures cause { IfErr result (HasPassCause (route_of self.now.pass) (D.files folder.old)
             (D.counts folder.old) (D.counts folder.new)) }
         ensures ready { OnOk result (IsReady self.now (D.files folder.new) buffers.new.feed) }
     {

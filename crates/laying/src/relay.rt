@@ -4,7 +4,7 @@ ghost use Rattle.std.specs.Prelude.{◌≡◌, ◌⊎◌, false, if◌then◌els
 ghost use Rattle.frame_header.specs.Tables.{class_of, area_of, overhead_of, window_of};
 ghost use Rattle.outside.specs.Files.{IsThere};
 ghost use Rattle.outside.specs.Passed.{PassedOn, AppendedPrefix};
-ghost use Rattle.outside.specs.Pass.{Writes, WritesPrefix, IsOfRead, HasPassCause};
+ghost use Rattle.outside.specs.Pass.{Writes, WritesPrefix, IsOfRead, route_of, HasPassCause};
 ghost use Rattle.side_info.specs.Side.{SideFits};
 ghost use Rattle.frame_writer.specs.Frames.{EndsInArea, held_bytes, frame_bytes, reach_of, reach_with, IsNextSettled};
 ghost use Rattle.frame_writer.specs.Writing.{writing, IsNew, WritesOn, WritesPart};
@@ -73,7 +73,7 @@ impl<'a> Relay<'a> {
         ensures class { OnOk result (writer.new.class ≡ writer.old.class) }
         ensures unsettled { OnOk result (IsNextSettled writer.new → ⊥) }
         ensures done { OnOk result (D.counts folder.new ≡ D.counts folder.old) }
-        ensures cause { IfErr result (HasPassCause self.now.pass.length (D.files folder.old)
+        ensures cause { IfErr result (HasPassCause (route_of self.now.pass) (D.files folder.old)
             (D.counts folder.old) (D.counts folder.new)) }
     {
         match writer.frame(frame, folder, self.pass.output, unsent) {
@@ -111,7 +111,7 @@ impl<'a> Relay<'a> {
         ensures class { OnOk result (writer.new.class ≡ writer.old.class) }
         ensures unsettled { OnOk result (IsNextSettled writer.new → ⊥) }
         ensures done { OnOk result (D.counts folder.new ≡ D.counts folder.old) }
-        ensures cause { IfErr result (HasPassCause self.now.pass.length (D.files folder.old)
+        ensures cause { IfErr result (HasPassCause (route_of self.now.pass) (D.files folder.old)
             (D.counts folder.old) (D.counts folder.new)) }
     {
         let kept = Kept {
@@ -143,7 +143,7 @@ impl<'a> Relay<'a> {
         ensures area { OnOk result (HasArea window.old window.new self.now.pass.input.now
             (D.files folder.new) row.now) }
         ensures done { OnOk result (D.counts folder.new ≡ D.counts folder.old) }
-        ensures cause { IfErr result (HasPassCause self.now.pass.length (D.files folder.old)
+        ensures cause { IfErr result (HasPassCause (route_of self.now.pass) (D.files folder.old)
             (D.counts folder.old) (D.counts folder.new)) }
         ensures read { IfErr result IsOfRead }
         ensures files { D.files folder.new ≡ D.files folder.old }
@@ -171,7 +171,7 @@ impl<'a> Relay<'a> {
         ensures over { OnOk result (IsOver window.new self.now.pass.input.now (D.files folder.new)
             (tells self.now.survey.now) 0) }
         ensures done { OnOk result (D.counts folder.new ≡ D.counts folder.old) }
-        ensures cause { IfErr result (HasPassCause self.now.pass.length (D.files folder.old)
+        ensures cause { IfErr result (HasPassCause (route_of self.now.pass) (D.files folder.old)
             (D.counts folder.old) (D.counts folder.new)) }
         ensures read { IfErr result IsOfRead }
         ensures files { D.files folder.new ≡ D.files folder.old }
@@ -223,7 +223,7 @@ impl<'a> Relay<'a> {
         ensures over { OnOk result (IsOverLast window.new self.now.pass.input.now
             (D.files folder.new) (tells self.now.survey.now) first first) }
         ensures done { OnOk result (D.counts folder.new ≡ D.counts folder.old) }
-        ensures cause { IfErr result (HasPassCause self.now.pass.length (D.files folder.old)
+        ensures cause { IfErr result (HasPassCause (route_of self.now.pass) (D.files folder.old)
             (D.counts folder.old) (D.counts folder.new)) }
         ensures read { IfErr result IsOfRead }
         ensures files { D.files folder.new ≡ D.files folder.old }
@@ -253,7 +253,7 @@ impl<'a> Relay<'a> {
         ensures over { OnOk result (IsOver window.new self.now.pass.input.now (D.files folder.new)
             (tells self.now.survey.now) i) }
         ensures done { OnOk result (D.counts folder.new ≡ D.counts folder.old) }
-        ensures cause { IfErr result (HasPassCause self.now.pass.length (D.files folder.old)
+        ensures cause { IfErr result (HasPassCause (route_of self.now.pass) (D.files folder.old)
             (D.counts folder.old) (D.counts folder.new)) }
         ensures read { IfErr result IsOfRead }
         ensures files { D.files folder.new ≡ D.files folder.old }
@@ -306,7 +306,7 @@ impl<'a> Relay<'a> {
             (D.files folder.new) (tells self.now.survey.now) (i + 1)) }
         ensures ready { OnOk result (IsReady self.now (D.files folder.new) buffers.new.feed) }
         ensures done { OnOk result (D.counts folder.new ≡ D.counts folder.old) }
-        ensures cause { IfErr result (HasPassCause self.now.pass.length (D.files folder.old)
+        ensures cause { IfErr result (HasPassCause (route_of self.now.pass) (D.files folder.old)
             (D.counts folder.old) (D.counts folder.new)) }
     {
         let area = row.header.area();
@@ -357,7 +357,7 @@ impl<'a> Relay<'a> {
             (D.files folder.new) (tells self.now.survey.now) next) }
         ensures ready { OnOk result (IsReady self.now (D.files folder.new) buffers.new.feed) }
         ensures done { OnOk result (D.counts folder.new ≡ D.counts folder.old) }
-        ensures cause { IfErr result (HasPassCause self.now.pass.length (D.files folder.old)
+        ensures cause { IfErr result (HasPassCause (route_of self.now.pass) (D.files folder.old)
             (D.counts folder.old) (D.counts folder.new)) }
     {
         if place.lead_in {
@@ -408,7 +408,7 @@ impl<'a> Relay<'a> {
         ensures unsettled { OnOk result (IsNextSettled buffers.new.writer → ⊥) }
         ensures ready { OnOk result (IsReady self.now (D.files folder.new) buffers.new.feed) }
         ensures done { OnOk result (D.counts folder.new ≡ D.counts folder.old) }
-        ensures cause { IfErr result (HasPassCause self.now.pass.length (D.files folder.old)
+        ensures cause { IfErr result (HasPassCause (route_of self.now.pass) (D.files folder.old)
             (D.counts folder.old) (D.counts folder.new)) }
     {
         let rows = self.survey.frames();
@@ -436,7 +436,7 @@ impl<'a> Relay<'a> {
         ensures prefix { OnErr result (AppendedPrefix self.now.pass.output.now
             (unsent.old ++ held_bytes writer.old) (D.files folder.old) (D.files folder.new)) }
         ensures done { OnOk result (D.counts folder.new ≡ D.counts folder.old) }
-        ensures cause { IfErr result (HasPassCause self.now.pass.length (D.files folder.old)
+        ensures cause { IfErr result (HasPassCause (route_of self.now.pass) (D.files folder.old)
             (D.counts folder.old) (D.counts folder.new)) }
     {
         match writer.finish(folder, self.pass.output, unsent) {
@@ -470,7 +470,7 @@ impl<'a> Relay<'a> {
             buffers.old.waiting (D.files folder.old) (D.files folder.new)) }
         ensures ready { OnOk result (IsReady self.now (D.files folder.new) buffers.new.feed) }
         ensures done { OnOk result (D.counts folder.new ≡ D.counts folder.old) }
-        ensures cause { IfErr result (HasPassCause self.now.pass.length (D.files folder.old)
+        ensures cause { IfErr result (HasPassCause (route_of self.now.pass) (D.files folder.old)
             (D.counts folder.old) (D.counts folder.new)) }
     {
         self.read_before(folder, section.from, &mut buffers.feed, &mut buffers.window)?;

@@ -1,7 +1,7 @@
 //! All frames of an input, for a writer that gets those of other inputs too.
 ghost use Rattle.std.specs.Prelude.{◌≡◌, ◌≤◌, length, map, IfOk, IfErr, OnOk};
 ghost use Rattle.frame_header.specs.Tables.{window_of};
-ghost use Rattle.outside.specs.Pass.{HasPassCause};
+ghost use Rattle.outside.specs.Pass.{route_of, HasPassCause};
 ghost use Rattle.part_needs.specs.Needs.{need_of};
 ghost use Rattle.frame_writer.specs.Frames.{reach_of, IsNextSettled};
 ghost use Rattle.sync_survey.specs.Faults.{tells};
@@ -66,7 +66,7 @@ impl<'a> Relay<'a> {
         ensures class { OnOk result (buffers.new.writer.class ≡ (tells self.now.survey.now).class) }
         ensures unsettled { OnOk result (IsNextSettled buffers.new.writer → ⊥) }
         ensures done { OnOk result (D.counts folder.new ≡ D.counts folder.old) }
-        ensures cause { IfErr result (HasPassCause self.now.pass.length (D.files folder.old)
+        ensures cause { IfErr result (HasPassCause (route_of self.now.pass) (D.files folder.old)
             (D.counts folder.old) (D.counts folder.new)) }
     {
         self.read_before(folder, 0, &mut buffers.feed, &mut buffers.window)?;

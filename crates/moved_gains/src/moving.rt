@@ -5,7 +5,7 @@ ghost use Rattle.frame_header.specs.Fields.{HeaderFields};
 ghost use Rattle.frame_header.specs.Tables.{class_of, length_of, overhead_of};
 ghost use Rattle.side_info.specs.Frame.{side_in};
 ghost use Rattle.outside.specs.Files.{Holds, IsThere};
-ghost use Rattle.outside.specs.Pass.{IsReady, Writes, WritesPrefix, Appends, AppendsPrefix, HasPassCause};
+ghost use Rattle.outside.specs.Pass.{IsReady, Writes, WritesPrefix, Appends, AppendsPrefix, route_of, HasPassCause};
 ghost use Rattle.sync_survey.specs.Faults.{tells};
 ghost use Rattle.sync_survey.specs.Survey.{survey_of, AreLaid, IsLaidOut};
 ghost use Rattle.moved_gains.specs.Buffers.{AreFresh};
@@ -99,7 +99,7 @@ impl<'a> GainPass<'a> {
             (λ file. copied self.now.tag file from to)
             buffers.old.waiting (D.files folder.old) (D.files folder.new)) }
         ensures done { OnOk result (D.counts folder.new ≡ D.counts folder.old) }
-        ensures cause { IfErr result (HasPassCause self.now.pass.length (D.files folder.old)
+        ensures cause { IfErr result (HasPassCause (route_of self.now.pass) (D.files folder.old)
             (D.counts folder.old) (D.counts folder.new)) }
         ensures ready { OnOk result (IsReady self.now.pass (D.files folder.new) buffers.new.feed) }
     {
@@ -137,7 +137,7 @@ impl<'a> GainPass<'a> {
         ensures prefix { IfErr result (WritesPrefix self.now.pass (bytes_around tag.now from to)
             buffers.old.waiting (D.files folder.old) (D.files folder.new)) }
         ensures done { OnOk result (D.counts folder.new ≡ D.counts folder.old) }
-        ensures cause { IfErr result (HasPassCause self.now.pass.length (D.files folder.old)
+        ensures cause { IfErr result (HasPassCause (route_of self.now.pass) (D.files folder.old)
             (D.counts folder.old) (D.counts folder.new)) }
         ensures ready { OnOk result (IsReady self.now.pass (D.files folder.new) buffers.new.feed) }
     {
@@ -174,7 +174,7 @@ impl<'a> GainPass<'a> {
             (λ file. moved_row_bytes moved.now.steps file moved.now.row.now)
             waiting.old (D.files folder.old) (D.files folder.new)) }
         ensures done { OnOk result (D.counts folder.new ≡ D.counts folder.old) }
-        ensures cause { IfErr result (HasPassCause self.now.pass.length (D.files folder.old)
+        ensures cause { IfErr result (HasPassCause (route_of self.now.pass) (D.files folder.old)
             (D.counts folder.old) (D.counts folder.new)) }
     {
         let mut room = [0; MOST_OVERHEAD];
@@ -207,7 +207,7 @@ impl<'a> GainPass<'a> {
             (λ file. moved_row_bytes moved.now.steps file moved.now.row.now)
             waiting.old (D.files folder.old) (D.files folder.new)) }
         ensures done { OnOk result (D.counts folder.new ≡ D.counts folder.old) }
-        ensures cause { IfErr result (HasPassCause self.now.pass.length (D.files folder.old)
+        ensures cause { IfErr result (HasPassCause (route_of self.now.pass) (D.files folder.old)
             (D.counts folder.old) (D.counts folder.new)) }
     {
         // Copying is fastest if the number of bytes is a constant.
@@ -241,7 +241,7 @@ impl<'a> GainPass<'a> {
             buffers.old.waiting (D.files folder.old) (D.files folder.new)) }
         ensures end { IfOk result (λ end. end ≡ row_end moved.now.row.now) }
         ensures done { OnOk result (D.counts folder.new ≡ D.counts folder.old) }
-        ensures cause { IfErr result (HasPassCause self.now.pass.length (D.files folder.old)
+        ensures cause { IfErr result (HasPassCause (route_of self.now.pass) (D.files folder.old)
             (D.counts folder.old) (D.counts folder.new)) }
         ensures ready { OnOk result (IsReady self.now.pass (D.files folder.new) buffers.new.feed) }
     {
@@ -279,7 +279,7 @@ impl<'a> GainPass<'a> {
             (λ file. written_from (steps_over self.now.course.now rows.now) self.now.tag file from rows.now)
             buffers.old.waiting (D.files folder.old) (D.files folder.new)) }
         ensures done { OnOk result (D.counts folder.new ≡ D.counts folder.old) }
-        ensures cause { IfErr result (HasPassCause self.now.pass.length (D.files folder.old)
+        ensures cause { IfErr result (HasPassCause (route_of self.now.pass) (D.files folder.old)
             (D.counts folder.old) (D.counts folder.new)) }
     {
         let mut at = from;

@@ -13,7 +13,7 @@ use Rattle.sync_survey.specs.Start.{front_end_of}
 use Rattle.sync_survey.specs.Walk.{head_of, numbered_at}
 use Rattle.sync_survey.specs.Faults.{SurveyFields, tells, longest_file}
 pub use Rattle.sync_survey.specs.Limits.{most_frames}
-use Rattle.sync_survey.specs.Kinds.{kind_of, HasRightNumbers}
+use Rattle.sync_survey.specs.Kinds.{kind_of, end_of, HasRightNumbers}
 use Rattle.sync_survey.specs.Survey.{IsUnreadBy}
 use Rattle.salvage.specs.declared.damaged.Damaged.{Damaged}
 use Rattle.salvage.specs.declared.gap.Gap.{Gap}
