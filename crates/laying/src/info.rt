@@ -3,7 +3,7 @@ ghost use Rattle.std.specs.Prelude.{◌≡◌, ◌+◌, ◌≤◌, List, ℕ, le
 ghost use Rattle.frame_header.specs.Limits.{most_placed};
 ghost use Rattle.outside.specs.Files.{Holds, IsThere};
 ghost use Rattle.outside.specs.Counts.{OnlyReads};
-ghost use Rattle.outside.specs.Pass.{HasPassCause};
+ghost use Rattle.outside.specs.Pass.{HasInputCause};
 ghost use Rattle.info_header.specs.Info.{info_in};
 ghost use Rattle.frame_writer.specs.Frames.{Frame};
 ghost use Rattle.sync_survey.specs.Faults.{tells, longest_file};
@@ -111,8 +111,8 @@ pub fn kept_fields<D: Folder>(
     ensures none { (tells survey.now).head ≡ None
         → result ≡ Ok (record { quality = None; extension = replicate 36 0 }) }
     ensures done { OnOk result (D.counts folder.new ≡ D.counts folder.old) }
-    ensures cause { IfErr result (HasPassCause (tells survey.now).length (D.files folder.old)
-        (D.counts folder.old) (D.counts folder.new)) }
+    ensures cause { IfErr result (HasInputCause name.now (tells survey.now).length
+        (D.files folder.old) (D.counts folder.old) (D.counts folder.new)) }
     ensures reads { IsErrOf result PassFault.Write → ⊥ }
     ensures files { D.files folder.new ≡ D.files folder.old }
     ensures counts { OnlyReads (D.counts folder.old) (D.counts folder.new) }

@@ -5,7 +5,7 @@ ghost use Rattle.frame_header.specs.Fields.{HeaderFields};
 ghost use Rattle.frame_header.specs.Tables.{class_of, length_of, overhead_of};
 ghost use Rattle.side_info.specs.Frame.{side_in};
 ghost use Rattle.outside.specs.Files.{Holds, IsThere};
-ghost use Rattle.outside.specs.Pass.{IsReady, Writes, WritesPrefix, Appends, AppendsPrefix, route_of, HasPassCause};
+ghost use Rattle.outside.specs.Pass.{IsReady, Writes, WritesPrefix, Appends, AppendsPrefix, route, route_of, HasPassCause};
 ghost use Rattle.sync_survey.specs.Faults.{tells};
 ghost use Rattle.sync_survey.specs.Survey.{survey_of, AreLaid, IsLaidOut};
 ghost use Rattle.moved_gains.specs.Buffers.{AreFresh};
@@ -336,7 +336,8 @@ pub fn write_changed<D: Folder>(
         (λ file. changed (change_in change.now (tells survey.now)) file (tells survey.now))
         (D.files folder.old) (D.files folder.new)) }
     ensures done { OnOk result (D.counts folder.new ≡ D.counts folder.old) }
-    ensures cause { IfErr result (HasPassCause (tells survey.now).length (D.files folder.old)
+    ensures cause { IfErr result (HasPassCause
+        (route input.now output.now (tells survey.now).length) (D.files folder.old)
         (D.counts folder.old) (D.counts folder.new)) }
 {
     let pass = Pass {

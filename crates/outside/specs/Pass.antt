@@ -90,3 +90,7 @@ abbrev pub HasPassCause : Route → Files → Counts → Counts → PassFault �
 HasPassCause way files before after Read = HasReadCause way.input way.size files before after Failed
 HasPassCause way files before after (Shrunk first second) = HasReadCause way.input way.size files before after (ShrunkRead first second)
 HasPassCause way files before after Write = HappenedTo way.output before.write_faults after.write_faults × OnlyWrites before after
+
+-- that of a fault that comes before there is an output
+abbrev pub HasInputCause : List ℕ → ℕ → Files → Counts → Counts → PassFault → Type 0
+HasInputCause name size files before after fault = HasPassCause (route name [] size) files before after fault

@@ -17,4 +17,4 @@ returns-clause-prefix g c =
 
 pub returns-clause-cause : goal.returns-clause-cause
 returns-clause-cause g c =
-    causes_behind c.in_ok-write_front.ensures.written c.args.relay.now.pass.length _ _ _ c.in_ok-write_front.ensures.done c.finish.result c.finish.ensures.cause
+    causes_behind c.in_ok-write_front.ensures.written _ _ _ _ c.in_ok-write_front.ensures.done c.finish.result c.finish.ensures.cause

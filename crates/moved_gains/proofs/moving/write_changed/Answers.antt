@@ -2,7 +2,7 @@
 use Rattle.std.proofs.Common.{◌≡◌, ◌++◌, List, [], ℕ, Option, length, refl, sym, ◌∙◌, ap, ap₂, subst, arith, Ok, append-nil}
 use Rattle.std.specs.Prelude.{IfErr}
 use Rattle.std.proofs.lemmas.Result.{err_from_is_err_and, on_ok_weaker}
-use Rattle.outside.specs.Pass.{Writes, HasPassCause}
+use Rattle.outside.specs.Pass.{Writes, route, HasPassCause}
 use Rattle.outside.proofs.PassedLaws.{err_at, err_by}
 use Rattle.outside.proofs.PassLaws.{writes_held, writes_there, writes_then, writes_as, writes_all, writes_end, writes_behind_none, part_behind_none, prefix_as, prefix_then, cause_behind, causes_behind}
 use Rattle.sync_survey.specs.declared.rows.Row.{Row}
@@ -81,8 +81,8 @@ returns-in_err-move_frames-clause-prefix g c =
 pub returns-in_err-move_frames-clause-cause : goal.returns-in_err-move_frames-clause-cause
 returns-in_err-move_frames-clause-cause g c =
     let p = err_from_is_err_and c.from_residual-in_err-move_frames.result c.from_residual-in_err-move_frames.ensures.1 in
-    let cause = subst (λ n. HasPassCause n (g.D.Folder.files c.copy.new.folder) (g.D.Folder.counts c.copy.new.folder) (g.D.Folder.counts c.move_frames.new.folder) c.in_err-move_frames.field-0.0) c.length.ensures c.in_err-move_frames.ensures.cause in
-    rw (p.1, p.2) (cause_behind c.in_ok-copy.ensures.written (tells c.args.survey.now).length _ _ _ c.in_ok-copy.ensures.done _ cause)
+    let cause = subst (λ n. HasPassCause (route c.args.input.now c.args.output.now n) (g.D.Folder.files c.copy.new.folder) (g.D.Folder.counts c.copy.new.folder) (g.D.Folder.counts c.move_frames.new.folder) c.in_err-move_frames.field-0.0) c.length.ensures c.in_err-move_frames.ensures.cause in
+    rw (p.1, p.2) (cause_behind c.in_ok-copy.ensures.written _ _ _ _ c.in_ok-copy.ensures.done _ cause)
 
 pub finish-requires : goal.finish-requires
 finish-requires g c =
@@ -108,10 +108,9 @@ returns-clause-prefix g c = err_by c.finish.result (λ fault. writes_end _ _ (mo
 
 pub returns-clause-cause : goal.returns-clause-cause
 returns-clause-cause g c =
-    let size = (tells c.args.survey.now).length in
-    let cause = subst (λ n. IfErr c.finish.result (HasPassCause n (g.D.Folder.files c.move_frames.new.folder) (g.D.Folder.counts c.move_frames.new.folder) (g.D.Folder.counts c.finish.new.folder))) c.length.ensures c.finish.ensures.cause in
-    causes_behind c.in_ok-copy.ensures.written size _ _ _ c.in_ok-copy.ensures.done c.finish.result
-    (causes_behind c.in_ok-move_frames.ensures.written size _ _ _ c.in_ok-move_frames.ensures.done c.finish.result cause)
+    let cause = subst (λ n. IfErr c.finish.result (HasPassCause (route c.args.input.now c.args.output.now n) (g.D.Folder.files c.move_frames.new.folder) (g.D.Folder.counts c.move_frames.new.folder) (g.D.Folder.counts c.finish.new.folder))) c.length.ensures c.finish.ensures.cause in
+    causes_behind c.in_ok-copy.ensures.written _ _ _ _ c.in_ok-copy.ensures.done c.finish.result
+    (causes_behind c.in_ok-move_frames.ensures.written _ _ _ _ c.in_ok-move_frames.ensures.done c.finish.result cause)
 
 pub move_frames-requires-clause-numbered : goal.move_frames-requires-clause-numbered
 move_frames-requires-clause-numbered g c = subst AreNumbered (sym c.frames.ensures) (out_numbered (tells c.args.survey.now) c.requires.laid)

@@ -66,7 +66,7 @@ pub returns-in_err-copy_chosen-clause-cause : goal.returns-in_err-copy_chosen-cl
 returns-in_err-copy_chosen-clause-cause g c =
     let p = err_from_is_err_and c.from_residual.result c.from_residual.ensures.1 in
     rw (p.1, p.2)
-    (cause_behind c.loop-block.invariant.up_to.written c.args.self.now.pass.length _ _ _ c.loop-block.invariant.counts _ c.in_err-copy_chosen.ensures.cause)
+    (cause_behind c.loop-block.invariant.up_to.written _ _ _ _ c.loop-block.invariant.counts _ c.in_err-copy_chosen.ensures.cause)
 
 pub loop-block-preserved : goal.loop-block-preserved
 loop-block-preserved g c =

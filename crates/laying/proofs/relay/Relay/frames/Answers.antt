@@ -140,7 +140,7 @@ returns-in_err-i-clause-cause g c =
     let sofar = c.loop-place.invariant.lays in
     let q = err_from_is_err_and c.from_residual.result c.from_residual.ensures.1 in
     rw (q.1, q.2)
-    (cause_later c.args.self.now.pass.length (g.D.Folder.files c.args.folder.now) (g.D.Folder.files c.loop-place.folder) c.args.self.now.pass.output.now sofar.lays.passed _ _ _ _ sofar.lays.files c.loop-place.invariant.counts c.in_err-i.ensures.cause)
+    (cause_later _ (g.D.Folder.files c.args.folder.now) (g.D.Folder.files c.loop-place.folder) c.args.self.now.pass.output.now sofar.lays.passed _ _ _ _ sofar.lays.files c.loop-place.invariant.counts c.in_err-i.ensures.cause)
 
 pub loop-place-preserved : goal.loop-place-preserved
 loop-place-preserved g c =

@@ -53,7 +53,7 @@ returns-clause-cause g c =
     let self = c.args.self.now in
     let files = g.D.Folder.files in
     let lays = c.in_ok-frames.ensures.lays in
-    causes_later c.finish.result self.pass.length (files c.args.folder.now) (files c.frames.new.folder) self.pass.output.now lays.passed _ _ _
+    causes_later c.finish.result _ (files c.args.folder.now) (files c.frames.new.folder) self.pass.output.now lays.passed _ _ _
     (lays.files ∙ ap (λ f. appended f self.pass.output.now lays.passed) c.read_before.ensures.files) (c.in_ok-frames.ensures.done ∙ c.in_ok-read_before.ensures.done) c.finish.ensures.cause
 
 pub returns-clause-ready : goal.returns-clause-ready

@@ -46,7 +46,7 @@ returns-in_err-copy_blocks-clause-prefix g c =
 pub returns-in_err-copy_blocks-clause-cause : goal.returns-in_err-copy_blocks-clause-cause
 returns-in_err-copy_blocks-clause-cause g c =
     let p = err_from_is_err_and c.from_residual-in_err-copy_blocks.result c.from_residual-in_err-copy_blocks.ensures.1 in
-    rw (p.1, p.2) (cause_behind c.in_ok-write_frames.ensures.written c.args.self.now.pass.length _ _ _ c.in_ok-write_frames.ensures.done _ c.in_err-copy_blocks.ensures.cause)
+    rw (p.1, p.2) (cause_behind c.in_ok-write_frames.ensures.written _ _ _ _ c.in_ok-write_frames.ensures.done _ c.in_err-copy_blocks.ensures.cause)
 
 -- the frames with what is before them, and then the other blocks
 module _ (g : given.Over) (c : In_ok-copy_blocks g) where
@@ -75,7 +75,7 @@ returns-clause-prefix g c =
 
 pub returns-clause-cause : goal.returns-clause-cause
 returns-clause-cause g c =
-    causes_behind (both g (goal.at.returns-clause-cause g c).In_ok-copy_blocks) c.args.self.now.pass.length _ _ _ (c.in_ok-copy_blocks.ensures.done ∙ c.in_ok-write_frames.ensures.done) c.finish.result c.finish.ensures.cause
+    causes_behind (both g (goal.at.returns-clause-cause g c).In_ok-copy_blocks) _ _ _ _ (c.in_ok-copy_blocks.ensures.done ∙ c.in_ok-write_frames.ensures.done) c.finish.result c.finish.ensures.cause
 
 pub returns-clause-ready : goal.returns-clause-ready
 returns-clause-ready g c =

@@ -29,4 +29,4 @@ returns-clause-prefix g c =
 
 pub returns-clause-cause : goal.returns-clause-cause
 returns-clause-cause g c =
-    causes_behind c.in_ok-write_front.ensures.written c.args.self.now.pass.length _ _ _ c.in_ok-write_front.ensures.done c.lay.result c.lay.ensures.cause
+    causes_behind c.in_ok-write_front.ensures.written _ _ _ _ c.in_ok-write_front.ensures.done c.lay.result c.lay.ensures.cause

@@ -27,7 +27,7 @@ returns-clause-prefix g c =
 
 pub returns-clause-cause : goal.returns-clause-cause
 returns-clause-cause g c =
-    causes_behind c.in_ok-copy_blocks.ensures.written c.args.self.now.pass.length _ _ _ c.in_ok-copy_blocks.ensures.done c.push.result c.push.ensures.cause
+    causes_behind c.in_ok-copy_blocks.ensures.written _ _ _ _ c.in_ok-copy_blocks.ensures.done c.push.result c.push.ensures.cause
 
 pub returns-clause-ready : goal.returns-clause-ready
 returns-clause-ready g c =

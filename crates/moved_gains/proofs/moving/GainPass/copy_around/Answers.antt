@@ -30,7 +30,7 @@ returns-in_err-push-clause-prefix g c =
 pub returns-in_err-push-clause-cause : goal.returns-in_err-push-clause-cause
 returns-in_err-push-clause-cause g c =
     let p = err_from_is_err_and c.from_residual-in_err-push.result c.from_residual-in_err-push.ensures.1 in
-    rw (p.1, p.2) (cause_behind c.in_ok-copy.ensures.written c.args.self.now.pass.length _ _ _ c.in_ok-copy.ensures.done _ c.in_err-push.ensures.cause)
+    rw (p.1, p.2) (cause_behind c.in_ok-copy.ensures.written _ _ _ _ c.in_ok-copy.ensures.done _ c.in_err-push.ensures.cause)
 
 pub copy-requires-2-clause-ready : goal.copy-requires-2-clause-ready
 copy-requires-2-clause-ready g c = passed_ready c.args.self.now.pass c.in_ok-push.ensures.passed c.in_ok-copy.ensures.ready
@@ -54,5 +54,5 @@ pub returns-clause-cause : goal.returns-clause-cause
 returns-clause-cause g c =
     let pass = c.args.self.now.pass in
     let second = writes_piece pass (λ file. c.args.tag.now.bytes.now) (λ file holds. refl) c.in_ok-push.ensures.passed in
-    causes_behind c.in_ok-copy.ensures.written pass.length _ _ _ c.in_ok-copy.ensures.done c.copy-2.result
-    (causes_behind second pass.length _ _ _ c.in_ok-push.ensures.done c.copy-2.result c.copy-2.ensures.cause)
+    causes_behind c.in_ok-copy.ensures.written _ _ _ _ c.in_ok-copy.ensures.done c.copy-2.result
+    (causes_behind second _ _ _ _ c.in_ok-push.ensures.done c.copy-2.result c.copy-2.ensures.cause)

@@ -95,7 +95,7 @@ returns-in_err-copy-clause-prefix g c =
 pub returns-in_err-copy-clause-cause : goal.returns-in_err-copy-clause-cause
 returns-in_err-copy-clause-cause g c =
     let p = err_from_is_err_and c.from_residual.result c.from_residual.ensures.1 in
-    rw (p.1, p.2) (cause_behind c.loop-frame.invariant.up_to.written c.args.self.now.pass.length _ _ _ c.loop-frame.invariant.counts _ c.in_err-copy.ensures.cause)
+    rw (p.1, p.2) (cause_behind c.loop-frame.invariant.up_to.written _ _ _ _ c.loop-frame.invariant.counts _ c.in_err-copy.ensures.cause)
 
 pub move_frame-requires-clause-within : goal.move_frame-requires-clause-within
 move_frame-requires-clause-within g c = within g (goal.at.move_frame-requires-clause-within g c).After-from
@@ -119,11 +119,10 @@ returns-in_err-at-clause-prefix g c =
 
 pub returns-in_err-at-clause-cause : goal.returns-in_err-at-clause-cause
 returns-in_err-at-clause-cause g c =
-    let size = c.args.self.now.pass.length in
     let p = err_from_is_err_and c.from_residual-in_err-at.result c.from_residual-in_err-at.ensures.1 in
     rw (p.1, p.2)
-    (cause_behind c.loop-frame.invariant.up_to.written size _ _ _ c.loop-frame.invariant.counts _
-    (cause_behind c.in_ok-copy.ensures.written size _ _ _ c.in_ok-copy.ensures.done _ c.in_err-at.ensures.cause))
+    (cause_behind c.loop-frame.invariant.up_to.written _ _ _ _ c.loop-frame.invariant.counts _
+    (cause_behind c.in_ok-copy.ensures.written _ _ _ _ c.in_ok-copy.ensures.done _ c.in_err-at.ensures.cause))
 
 pub loop-frame-preserved : goal.loop-frame-preserved
 loop-frame-preserved g c =
@@ -164,4 +163,4 @@ returns-clause-prefix g c =
 
 pub returns-clause-cause : goal.returns-clause-cause
 returns-clause-cause g c =
-    causes_behind c.loop-frame.invariant.up_to.written c.args.self.now.pass.length _ _ _ c.loop-frame.invariant.counts c.copy-2.result c.copy-2.ensures.cause
+    causes_behind c.loop-frame.invariant.up_to.written _ _ _ _ c.loop-frame.invariant.counts c.copy-2.result c.copy-2.ensures.cause
