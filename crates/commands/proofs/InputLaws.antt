@@ -1,14 +1,15 @@
 -- A command that reads one file: the faults of its input, and what it makes of it.
-use Rattle.std.proofs.Common.{◌≡◌, ℕ, ◌≤◌, true, false, List, [], ◌∷◌, length, Option, Some, None, refl, sym, ◌∙◌, ap, subst, Result, Ok, Err, arith, inl}
-use Rattle.std.specs.Prelude.{Bool, IfSome, IfErr, unwrap_or}
+use Rattle.std.proofs.Common.{◌≡◌, ℕ, ◌≤◌, true, false, List, [], ◌∷◌, length, Option, Some, None, refl, sym, ◌∙◌, ap, ap₂, subst, Result, Ok, Err, arith, inl}
+use Rattle.std.specs.Prelude.{Bool, IfErr, unwrap_or}
 use Rattle.bit_fields.specs.Bits.{AreBytes}
 use Rattle.outside.specs.Files.{Contents, Files, Holds, IsThere, Told, Untold, IfTold}
 use Rattle.outside.proofs.FilesLaws.{there_holds}
 use Rattle.sync_survey.specs.declared.survey_fault.SurveyFault.{SurveyFault}
-use Rattle.sync_survey.specs.declared.survey_fault.SurveyFault.TheVariants.{Absent, TooLong}
+use Rattle.sync_survey.specs.declared.survey_fault.SurveyFault.TheVariants.{Absent, TooLong, Read, Shrunk, Memory as NoRoom}
 use Rattle.sync_survey.specs.MainData.{StreamFrame}
 use Rattle.sync_survey.specs.Faults.{longest_file, SurveyFields, surveyed, HoldsStream}
-use Rattle.sync_survey.specs.Survey.{survey_of}
+use Rattle.sync_survey.specs.Survey.{survey_of, IsSurveyFault}
+use Rattle.commands.specs.Kinds.{of_survey}
 use Rattle.sync_survey.proofs.BytesFaults.{IsOfBytes, surveyed_of_bytes}
 use Rattle.sync_survey.proofs.FoldersLaws.{survey_of-short}
 use Rattle.commands.specs.declared.fault.EditFault.{EditFault}
@@ -16,11 +17,21 @@ use Rattle.commands.specs.declared.fault.EditFault.TheVariants.{Input, Refused, 
 use Rattle.commands.specs.declared.fault.Refusal.{Refusal}
 use Rattle.commands.specs.One.{Making, most_frames, made_by, made_file, made_where, file_task, Refuses, RefusesInput, IsFileFaultBy, IsFileFault, IsInputFaultBy, IsInputFault, IsEarlyFaultBy, IsEarlyFault, IsOfInputs, IsMaking, IsProper}
 use Rattle.commands.specs.Command.{AreSound}
-use Rattle.commands.specs.Left.{Why, Rejected, Missing, Unread, Unwritten, Unsent, why_of, Seen, is_before_memory, IsLate, IsOfSurvey, IsOfInput, IsRefusal}
+use Rattle.commands.specs.Left.{Why, Rejected, Missing, Unread, Shorter, Unwritten, Unsent, why_of, Seen, seen, is_before_memory, IsLate, IsOfSurvey, IsOfInput, IsRefusal}
+use Rattle.commands.proofs.NamedLaws.{missed_name, unread_name, lost_name}
 use Rattle.commands.proofs.RefusingLaws.{before_first}
 use Rattle.sync_survey.proofs.SurveyedFiles.{survey_of-parts, survey_of-sound}
 
 -- ---- the survey of the input
+
+-- its fault is one of the input
+pub file_fault : (place allowed : ℕ) (name : List ℕ) (old new : Seen) (fault : SurveyFault) → new.files ≡ old.files → IsSurveyFault name old.files allowed old.counts new.counts fault → IsFileFault place allowed name old new (of_survey place fault)
+file_fault place allowed name old new Absent same h = (refl, h.0, h.1, same)
+file_fault place allowed name old new Read same h = record { is = refl; rose = h; files = same }
+file_fault place allowed name old new (Shrunk first second) same h =
+    record { first = first; second = second; is = refl; rose = h.ended; counts = h.counts; untold = h.nothing_told; files = same }
+file_fault place allowed name old new NoRoom same h = record { there = h.there; few = h.few; stays = ap₂ seen same h.counts }
+file_fault place allowed name old new fault same h = (fault, refl, record { there = h.there; bytes = h.bytes; stays = ap₂ seen same h.counts })
 
 made-fault : (make : Making) (bytes : List ℕ) (fault : SurveyFault) → survey_of bytes most_frames ≡ Err fault → made_file make bytes ≡ Err (Input 0 fault)
 unfolding made_file
@@ -82,8 +93,9 @@ module _ (make : Making) (stream : List ℕ → List StreamFrame) (refuses : Ref
   module _ (old new : Seen) (fault : EditFault) where
     input_is_early_by : (why : Why) → IsInputFaultBy make input old new fault why → IsEarlyFaultBy (file_task make stream refuses input) old new fault why
     input_is_early_by Rejected h = record { defined = refuses_held old.files fault h.there h.bytes; stays = h.stays }
-    input_is_early_by Missing h = record { defined = refuses_where old.files fault None h.missing (ap (λ f. Err f) (sym h.is)); rose = h.rose; files = h.files }
-    input_is_early_by Unread h = record { before = before_first old.files (file_task make stream refuses input).makes fault h.is; rose = h.rose; files = h.files }
+    input_is_early_by Missing h = record { defined = refuses_where old.files fault None h.missing (ap (λ f. Err f) (sym h.is)); rose = missed_name (input ∷ []) 0 refl h; files = h.files }
+    input_is_early_by Unread h = record { before = before_first old.files (file_task make stream refuses input).makes fault h.is; rose = unread_name (input ∷ []) 0 refl h; files = h.files }
+    input_is_early_by Shorter h = record { ended = lost_name (input ∷ []) 0 refl h; files = h.files }
     input_is_early_by (Unwritten k) h = absurd h
     input_is_early_by Unsent h = absurd h
     input_is_early_by _ h = h

@@ -1,5 +1,6 @@
 -- The lemmas of this crate.
 pub mod OutputLaws
+pub mod NamedLaws
 pub mod RefusingLaws
 pub mod InputLaws
 pub mod MakeLaws

@@ -2,7 +2,7 @@
 use Rattle.std.proofs.Common.{◌≡◌, ℕ, cond, true, false, List, length, Option, Some, None, Ok, Err, refl, sym, ◌∙◌, ap, subst}
 use Rattle.std.specs.Prelude.{IfErr, nat_lt}
 use Rattle.outside.specs.Files.{Files, is_told}
-use Rattle.outside.specs.Counts.{Counts, Rose, NothingFailed}
+use Rattle.outside.specs.Counts.{Counts, HappenedTo, EndedAt, NothingFailed}
 use Rattle.outside.specs.Exact.{HasReadCause}
 use Rattle.outside.specs.declared.exact.ReadFault.{ReadFault}
 use Rattle.outside.specs.declared.exact.ReadFault.TheVariants.{Failed, Shrunk as ShrunkRead}
@@ -26,15 +26,18 @@ sheet-late sheet = sheet-all IsLate refl (λ size. refl) sheet
 
 -- a sheet that was found, and whose bytes aren't read
 module _ (sheet : List ℕ) (files mid last : Files) (before between after : Counts) (size : ℕ) (found : mid ≡ files) (stays : last ≡ mid) (same : between ≡ before) where
-  pub read-fault : (fault : ReadFault) → HasReadCause size mid between after fault → IsSheetFault sheet (seen files before) (seen last after) (Input 1 (of_read fault))
-  read-fault Failed cause = record { is = refl; rose = subst (λ k. Rose k.read_faults after.read_faults) same cause.0; files = stays ∙ found }
+  pub read-fault : (fault : ReadFault) → HasReadCause sheet size mid between after fault → IsSheetFault sheet (seen files before) (seen last after) (Input 1 (of_read fault))
+  read-fault Failed cause = record { is = refl; rose = subst (λ k. HappenedTo sheet k.read_faults after.read_faults) same cause.0; files = stays ∙ found }
   read-fault (ShrunkRead first second) cause = record {
-    rose = subst (λ k. Rose k.ends after.ends) same cause.3;
+    first = first;
+    second = second;
+    is = refl;
+    rose = subst (λ k. EndedAt sheet second k.ends after.ends) same cause.3;
     counts = subst (λ k. NothingFailed k after) same cause.4;
     untold = sym (ap is_told found) ∙ cause.0;
     files = stays ∙ found;
   }
 
-  pub read-number : (fault : ReadFault) → HasReadCause size mid between after fault → IsOfSheet (Input 1 (of_read fault))
+  pub read-number : (fault : ReadFault) → HasReadCause sheet size mid between after fault → IsOfSheet (Input 1 (of_read fault))
   read-number Failed cause = (refl, (λ e. cc), tt, (λ e. cc))
   read-number (ShrunkRead first second) cause = (refl, (λ e. cc), cause.2, (λ e. cc))

@@ -1,6 +1,6 @@
 -- A command with a text leaves of the files what it leaves without.
-use Rattle.std.proofs.Common.{◌≡◌, ◌≢◌, ℕ, List, Option, Some, None, Result, Ok, Err, refl, sym, ◌∙◌, ap, subst, inl, inr}
-use Rattle.std.specs.Prelude.{◌⊎◌, IfSome, IfErr}
+use Rattle.std.proofs.Common.{◌≡◌, ℕ, List, Result, Ok, Err, refl, sym, ◌∙◌, ap, subst, inl, inr}
+use Rattle.std.specs.Prelude.{◌⊎◌, IfErr}
 use Rattle.outside.specs.Files.{Contents, Files, Told, Untold, IfTold}
 use Rattle.commands.specs.declared.fault.EditFault.{EditFault}
 use Rattle.commands.specs.declared.fault.EditFault.TheVariants.{EqualNames, Input, Refused, Write, Sent as NotSent, Memory}
@@ -58,7 +58,7 @@ module _ (text : Contents → List ℕ) (command : Command) where
     left-by Rejected h = record { defined = telling-gives old.files fault h.defined; stays = h.stays }
     left-by Missing h = record { defined = telling-gives old.files fault h.defined; rose = h.rose; files = h.files }
     left-by Unread h = record { names = h.names; before = all-told old.files (IsNotBefore fault) h.before; rose = h.rose; files = unread-to h.files }
-    left-by Shorter h = record { rose = h.rose; counts = h.counts; untold = h.untold; touches = h.touches }
+    left-by Shorter h = record { ended = h.ended; touches = h.touches }
     left-by (Unwritten k) h = record { rose = h.rose; files = unfinished-to k old.files new.files h.files }
     left-by Unsent h = telling-done old new h
     left-by NoMemory h = record { names = h.names; takes = takes_memory old.files h.takes; stays = h.stays }

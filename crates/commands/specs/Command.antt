@@ -1,5 +1,5 @@
 -- What a command is as seen from outside: of the files that are there it makes files and a text, or it is refused.
-use Rattle.std.specs.Prelude.{◌≡◌, ℕ, ◌+◌, ◌<◌, Bool, List, [], ◌∷◌, ◌++◌, length, take, drop, if◌then◌else◌, bytes_eq, Option, Some, None, Result, Ok, IfSome}
+use Rattle.std.specs.Prelude.{◌≡◌, ℕ, ◌+◌, ◌<◌, Bool, List, [], ◌∷◌, ◌++◌, length, take, drop, if◌then◌else◌, bytes_eq, Option, Some, None, Result, Ok}
 use Rattle.std.specs.List.{list_any}
 use Rattle.outside.specs.Files.{Contents, Files, with_file, IfTold}
 use Rattle.sync_survey.specs.MainData.{StreamFrame}

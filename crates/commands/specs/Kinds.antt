@@ -1,5 +1,5 @@
 -- The fault of a command's input, by the kind of the survey's fault.
-pub use Rattle.sync_survey.specs.Kinds.{InputKind, IsAbsent, IsUnread, IsShorter, IsTooMuch, IsRefused, kind_of, HasRightNumbers, IsFromOutside, ByKind, by_kind}
+pub use Rattle.sync_survey.specs.Kinds.{InputKind, IsAbsent, IsUnread, IsShorter, IsTooMuch, IsRefused, kind_of, end_of, HasRightNumbers, IsFromOutside, ByKind, by_kind}
 use Rattle.std.specs.Prelude.{ℕ}
 use Rattle.sync_survey.specs.declared.survey_fault.SurveyFault.{SurveyFault}
 use Rattle.commands.specs.declared.fault.EditFault.{EditFault}

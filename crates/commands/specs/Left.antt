@@ -1,10 +1,10 @@
 -- What a command leaves of the files, by its answer, and the cause of each refusal.
-use Rattle.std.specs.Prelude.{◌≡◌, ◌≢◌, ◌⊎◌, ℕ, ◌+◌, ◌<◌, ◌≤◌, ◌==◌, length, take, drop, Bool, true, false, Option, Some, None, [], Result, Ok, Err, IfErr}
+use Rattle.std.specs.Prelude.{◌≡◌, ◌≢◌, ◌⊎◌, ℕ, ◌+◌, ◌<◌, ◌≤◌, ◌==◌, List, length, take, drop, slice_index_or, Bool, true, false, Option, Some, None, [], Result, Ok, Err, IfErr}
 use Rattle.outside.specs.Files.{Files, Told, IfTold, is_told, OnlyTouches}
-use Rattle.outside.specs.Counts.{Counts, Rose, NothingFailed}
+use Rattle.outside.specs.Counts.{Counts, HappenedTo, EndedAt, NothingFailed}
 use Rattle.sync_survey.specs.declared.survey_fault.SurveyFault.{SurveyFault}
 use Rattle.sync_survey.specs.declared.survey_fault.SurveyFault.TheVariants.{Absent, TooLong, Memory as NoRoom}
-use Rattle.commands.specs.Kinds.{kind_of, by_kind, HasRightNumbers, IsFromOutside}
+use Rattle.commands.specs.Kinds.{kind_of, by_kind, end_of, HasRightNumbers, IsFromOutside}
 use Rattle.commands.specs.declared.fault.EditFault.{EditFault}
 use Rattle.commands.specs.declared.fault.Refusal.{Refusal}
 use Rattle.commands.specs.declared.fault.Refusal.TheVariants.{Differ}
@@ -45,6 +45,24 @@ why_of Memory = NoMemory
 why_of (EqualNames place) = Rejected
 why_of (Refused refusal) = Rejected
 
+-- ---- which file it was
+
+-- the name of the input that a fault is of
+abbrev pub input_of : List (List ℕ) → EditFault → List ℕ
+input_of inputs (Input place fault) = slice_index_or inputs place []
+input_of inputs _ = []
+
+-- the offset at which that input ended, if it became shorter
+abbrev pub ended_at : EditFault → ℕ
+ended_at (Input place fault) = end_of fault
+ended_at _ = 0
+
+-- of nothing is told, a read of the input that the fault is of gave no byte at the offset that the fault says, and no call failed
+pub record EndsEarly (inputs : List (List ℕ)) (old new : Seen) (fault : EditFault) : Type 0 where
+  pub rose : EndedAt (input_of inputs fault) (ended_at fault) old.counts.ends new.counts.ends
+  pub counts : NothingFailed old.counts new.counts
+  pub untold : is_told old.files ≡ false
+
 -- ---- what is left
 
 -- the command was done: all that it makes was written, and no count changed
@@ -69,9 +87,10 @@ pub record IsRefused (command : Command) (old new : Seen) (fault : EditFault) : 
   pub defined : Gives command old.files (Err fault)
   pub stays : new ≡ old
 
+-- the command is refused since the input that the fault is of isn't there
 pub record IsMissing (command : Command) (old new : Seen) (fault : EditFault) : Type 0 where
   pub defined : Gives command old.files (Err fault)
-  pub rose : Rose old.counts.misses new.counts.misses
+  pub rose : HappenedTo (input_of command.inputs fault) old.counts.misses new.counts.misses
   pub files : new.files ≡ old.files
 
 -- The answer isn't one of an input before that of the fault. The inputs are judged in their order, so where one could not be read, those before it
@@ -81,22 +100,22 @@ IsNotBefore (Input place fault) (Input at first) = place ≤ at
 IsNotBefore (Input place fault) (Refused (Differ at)) = place ≤ at
 IsNotBefore fault answer = Unit {0}
 
--- no name of an input is an output's, and no input before this one is at fault
+-- A call failed that looks for the input that the fault is of, or reads it. No name of an input is an output's, and no input before this one
+-- is at fault.
 pub record IsUnread (command : Command) (old new : Seen) (fault : EditFault) : Type 0 where
   pub names : clash_of command ≡ None
   pub before : IfTold old.files (λ f. IfErr (command.makes f) (IsNotBefore fault))
-  pub rose : Rose old.counts.read_faults new.counts.read_faults
+  pub rose : HappenedTo (input_of command.inputs fault) old.counts.read_faults new.counts.read_faults
   pub files : (new.files ≡ old.files) ⊎ ((k : ℕ) × IsWrittenTo command k old.files new.files)
 
 -- only a folder that tells nothing can have such a file
-pub record IsShorter (command : Command) (old new : Seen) : Type 0 where
-  pub rose : Rose old.counts.ends new.counts.ends
-  pub counts : NothingFailed old.counts new.counts
-  pub untold : is_told old.files ≡ false
+pub record IsShorter (command : Command) (old new : Seen) (fault : EditFault) : Type 0 where
+  pub ended : EndsEarly command.inputs old new fault
   pub touches : OnlyTouches command.outputs old.files new.files
 
+-- a call failed that creates this output or writes to it
 pub record IsUnwritten (command : Command) (k : ℕ) (old new : Seen) : Type 0 where
-  pub rose : Rose old.counts.write_faults new.counts.write_faults
+  pub rose : HappenedTo (slice_index_or command.outputs k []) old.counts.write_faults new.counts.write_faults
   pub files : IsUnfinished command k old.files new.files
 
 -- equal names, an absent first input and one that is too long are found before any memory is taken
@@ -124,7 +143,7 @@ abbrev pub LeavesBy : Command → Seen → Seen → EditFault → Why → Type 0
 LeavesBy command old new fault Rejected = IsRefused command old new fault
 LeavesBy command old new fault Missing = IsMissing command old new fault
 LeavesBy command old new fault Unread = IsUnread command old new fault
-LeavesBy command old new fault Shorter = IsShorter command old new
+LeavesBy command old new fault Shorter = IsShorter command old new fault
 LeavesBy command old new fault (Unwritten k) = IsUnwritten command k old new
 LeavesBy command old new fault Unsent = IsDone command old new
 LeavesBy command old new fault NoMemory = IsOutOfMemory command old new

@@ -1,11 +1,11 @@
 -- A command that makes one file.
 pub use Rattle.sync_survey.specs.Limits.{most_frames}
-use Rattle.std.specs.Prelude.{◌≡◌, ◌≢◌, ◌⊎◌, ℕ, ◌<◌, ◌≤◌, Bool, true, false, take, List, [], ◌∷◌, length, slice_get, unwrap_or, Option, Some, None, Result, Ok, Err, IfSome, IfErr, option_map}
+use Rattle.std.specs.Prelude.{◌≡◌, ◌≢◌, ◌⊎◌, ℕ, ◌<◌, ◌≤◌, Bool, true, false, take, List, [], ◌∷◌, length, slice_get, unwrap_or, Option, Some, None, Result, Ok, Err, IfErr}
 use Rattle.bit_fields.specs.Bits.{AreBytes}
 use Rattle.outside.specs.Files.{Contents, Files, Told, Untold, is_told, with_file, with_touch, Holds, IsThere, IsMissing, IfTold}
-use Rattle.outside.specs.Counts.{Rose, NothingFailed}
+use Rattle.outside.specs.Counts.{HappenedTo, EndedAt, NothingFailed}
 use Rattle.sync_survey.specs.declared.survey_fault.SurveyFault.{SurveyFault}
-use Rattle.sync_survey.specs.declared.survey_fault.SurveyFault.TheVariants.{Absent, Read, Memory as NoRoom}
+use Rattle.sync_survey.specs.declared.survey_fault.SurveyFault.TheVariants.{Absent, Read, Shrunk, Memory as NoRoom}
 use Rattle.sync_survey.specs.MainData.{StreamFrame}
 use Rattle.sync_survey.specs.Faults.{SurveyFields, longest_file, HoldsStream}
 use Rattle.sync_survey.specs.Survey.{survey_of}
@@ -14,7 +14,7 @@ use Rattle.commands.specs.declared.fault.EditFault.TheVariants.{EqualNames, Inpu
 use Rattle.commands.specs.declared.fault.Refusal.{Refusal}
 use Rattle.commands.specs.Kinds.{HasRightNumbers}
 use Rattle.commands.specs.Command.{Made, Command, clash_from, AreSound}
-use Rattle.commands.specs.Left.{Why, Rejected, Missing, Unread, Shorter, Unwritten, Unsent, NoMemory, why_of, Seen, IsLate, IsNotBefore, IsOfPlace}
+use Rattle.commands.specs.Left.{Why, Rejected, Missing, Unread, Shorter, Unwritten, Unsent, NoMemory, why_of, Seen, input_of, EndsEarly, IsLate, IsNotBefore, IsOfPlace}
 
 -- what it makes of a file with this survey, or why it refuses it
 abbrev pub Making : Type 0
@@ -119,21 +119,24 @@ pub record RefusesInput (make : Making) (name : List ℕ) (old new : Seen) (faul
 pub record MissesAt (place : ℕ) (name : List ℕ) (old new : Seen) (fault : EditFault) : Type 0 where
   pub is : fault ≡ Input place Absent
   pub missing : IsMissing old.files name
-  pub rose : Rose old.counts.misses new.counts.misses
+  pub rose : HappenedTo name old.counts.misses new.counts.misses
   pub files : new.files ≡ old.files
 
 abbrev pub MissesInput : List ℕ → Seen → Seen → EditFault → Type 0
 MissesInput name old new fault = MissesAt 0 name old new fault
 
 -- an input could not be read
-pub record ReadsNothing (place : ℕ) (old new : Seen) (fault : EditFault) : Type 0 where
+pub record ReadsNothing (place : ℕ) (name : List ℕ) (old new : Seen) (fault : EditFault) : Type 0 where
   pub is : fault ≡ Input place Read
-  pub rose : Rose old.counts.read_faults new.counts.read_faults
+  pub rose : HappenedTo name old.counts.read_faults new.counts.read_faults
   pub files : new.files ≡ old.files
 
--- only a folder that tells nothing can have such a file
-pub record LosesInput (old new : Seen) : Type 0 where
-  pub rose : Rose old.counts.ends new.counts.ends
+-- an input became shorter; only a folder that tells nothing can have such a file
+pub record LosesInput (place : ℕ) (name : List ℕ) (old new : Seen) (fault : EditFault) : Type 0 where
+  pub first : ℕ
+  pub second : ℕ
+  pub is : fault ≡ Input place (Shrunk first second)
+  pub rose : EndedAt name second old.counts.ends new.counts.ends
   pub counts : NothingFailed old.counts new.counts
   pub untold : is_told old.files ≡ false
   pub files : new.files ≡ old.files
@@ -146,9 +149,9 @@ pub record NeedsMemory (name : List ℕ) (old new : Seen) : Type 0 where
 
 abbrev pub IsFileFaultBy : ℕ → ℕ → List ℕ → Seen → Seen → EditFault → Why → Type 0
 IsFileFaultBy place allowed name old new fault Rejected = (f : SurveyFault) × (fault ≡ Input place f) × RefusesFile allowed name old new f
-IsFileFaultBy place allowed name old new fault Missing = (fault ≡ Input place Absent) × IsMissing old.files name × Rose old.counts.misses new.counts.misses × (new.files ≡ old.files)
-IsFileFaultBy place allowed name old new fault Unread = ReadsNothing place old new fault
-IsFileFaultBy place allowed name old new fault Shorter = LosesInput old new
+IsFileFaultBy place allowed name old new fault Missing = (fault ≡ Input place Absent) × IsMissing old.files name × HappenedTo name old.counts.misses new.counts.misses × (new.files ≡ old.files)
+IsFileFaultBy place allowed name old new fault Unread = ReadsNothing place name old new fault
+IsFileFaultBy place allowed name old new fault Shorter = LosesInput place name old new fault
 IsFileFaultBy place allowed name old new fault (Unwritten k) = ⊥
 IsFileFaultBy place allowed name old new fault Unsent = ⊥
 IsFileFaultBy place allowed name old new fault NoMemory = NeedsMemory name old new
@@ -160,8 +163,8 @@ IsFileFault place allowed name old new fault = IsFileFaultBy place allowed name 
 abbrev pub IsInputFaultBy : Making → List ℕ → Seen → Seen → EditFault → Why → Type 0
 IsInputFaultBy make name old new fault Rejected = RefusesInput make name old new fault
 IsInputFaultBy make name old new fault Missing = MissesInput name old new fault
-IsInputFaultBy make name old new fault Unread = ReadsNothing 0 old new fault
-IsInputFaultBy make name old new fault Shorter = LosesInput old new
+IsInputFaultBy make name old new fault Unread = ReadsNothing 0 name old new fault
+IsInputFaultBy make name old new fault Shorter = LosesInput 0 name old new fault
 IsInputFaultBy make name old new fault (Unwritten k) = ⊥
 IsInputFaultBy make name old new fault Unsent = ⊥
 IsInputFaultBy make name old new fault NoMemory = NeedsMemory name old new
@@ -180,22 +183,28 @@ pub record RefusesFiles (task : Task) (old new : Seen) (fault : EditFault) : Typ
   pub defined : Refuses task old.files fault
   pub stays : new ≡ old
 
+-- the input that the fault is of isn't there
 pub record MissesFile (task : Task) (old new : Seen) (fault : EditFault) : Type 0 where
   pub defined : Refuses task old.files fault
-  pub rose : Rose old.counts.misses new.counts.misses
+  pub rose : HappenedTo (input_of task.inputs fault) old.counts.misses new.counts.misses
   pub files : new.files ≡ old.files
 
 -- no input before the one that could not be read is at fault
 pub record ReadsNoFile (task : Task) (old new : Seen) (fault : EditFault) : Type 0 where
   pub before : IfTold old.files (λ f. IfErr (task.makes f) (IsNotBefore fault))
-  pub rose : Rose old.counts.read_faults new.counts.read_faults
+  pub rose : HappenedTo (input_of task.inputs fault) old.counts.read_faults new.counts.read_faults
+  pub files : new.files ≡ old.files
+
+-- the input that the fault is of became shorter
+pub record LosesFile (task : Task) (old new : Seen) (fault : EditFault) : Type 0 where
+  pub ended : EndsEarly task.inputs old new fault
   pub files : new.files ≡ old.files
 
 abbrev pub IsEarlyFaultBy : Task → Seen → Seen → EditFault → Why → Type 0
 IsEarlyFaultBy task old new fault Rejected = RefusesFiles task old new fault
 IsEarlyFaultBy task old new fault Missing = MissesFile task old new fault
 IsEarlyFaultBy task old new fault Unread = ReadsNoFile task old new fault
-IsEarlyFaultBy task old new fault Shorter = LosesInput old new
+IsEarlyFaultBy task old new fault Shorter = LosesFile task old new fault
 IsEarlyFaultBy task old new fault (Unwritten k) = ⊥
 IsEarlyFaultBy task old new fault Unsent = ⊥
 IsEarlyFaultBy task old new fault NoMemory = NeedsMemory task.source old new
@@ -234,26 +243,22 @@ IsBegun made input output old new = (bytes : List ℕ) → Holds old input bytes
 abbrev pub IsLeftShort : (List ℕ → List ℕ) → List ℕ → List ℕ → Files → Files → Type 0
 IsLeftShort made input output old new = (bytes : List ℕ) → Holds old input bytes → HoldsLess output (made bytes) old new
 
-pub record StopsReading (made : List ℕ → List ℕ) (input output : List ℕ) (old new : Seen) : Type 0 where
-  pub rose : Rose old.counts.read_faults new.counts.read_faults
-  pub files : IsBegun made input output old.files new.files
-
-pub record StopsShort (old new : Seen) : Type 0 where
-  pub rose : Rose old.counts.ends new.counts.ends
-  pub counts : NothingFailed old.counts new.counts
-  pub untold : is_told old.files ≡ false
+-- the input that the fault is of could not be read again; the output is made by the first input
+pub record StopsReading (made : List ℕ → List ℕ) (inputs : List (List ℕ)) (output : List ℕ) (old new : Seen) (fault : EditFault) : Type 0 where
+  pub rose : HappenedTo (input_of inputs fault) old.counts.read_faults new.counts.read_faults
+  pub files : IsBegun made (first_input inputs) output old.files new.files
 
 pub record StopsWriting (made : List ℕ → List ℕ) (input output : List ℕ) (old new : Seen) : Type 0 where
-  pub rose : Rose old.counts.write_faults new.counts.write_faults
+  pub rose : HappenedTo output old.counts.write_faults new.counts.write_faults
   pub files : IsLeftShort made input output old.files new.files
 
-abbrev pub IsPassFaultBy : (List ℕ → List ℕ) → List ℕ → List ℕ → Seen → Seen → Why → Type 0
-IsPassFaultBy made input output old new Unread = StopsReading made input output old new
-IsPassFaultBy made input output old new Shorter = StopsShort old new
-IsPassFaultBy made input output old new (Unwritten k) = (k ≡ 0) × StopsWriting made input output old new
-IsPassFaultBy made input output old new NoMemory = new ≡ old
-IsPassFaultBy made input output old new _ = ⊥
+abbrev pub IsPassFaultBy : (List ℕ → List ℕ) → List (List ℕ) → List ℕ → Seen → Seen → EditFault → Why → Type 0
+IsPassFaultBy made inputs output old new fault Unread = StopsReading made inputs output old new fault
+IsPassFaultBy made inputs output old new fault Shorter = EndsEarly inputs old new fault
+IsPassFaultBy made inputs output old new fault (Unwritten k) = (k ≡ 0) × StopsWriting made (first_input inputs) output old new
+IsPassFaultBy made inputs output old new fault NoMemory = new ≡ old
+IsPassFaultBy made inputs output old new fault _ = ⊥
 
 -- what a fault leaves that was met while the output was written
-abbrev pub IsPassFault : (List ℕ → List ℕ) → List ℕ → List ℕ → Seen → Seen → EditFault → Type 0
-IsPassFault made input output old new fault = IsPassFaultBy made input output old new (why_of fault)
+abbrev pub IsPassFault : (List ℕ → List ℕ) → List (List ℕ) → List ℕ → Seen → Seen → EditFault → Type 0
+IsPassFault made inputs output old new fault = IsPassFaultBy made inputs output old new fault (why_of fault)

@@ -35,8 +35,8 @@ MissesSheet name old new fault = MissesAt 1 name old new fault
 abbrev pub IsSheetFaultBy : List ℕ → Seen → Seen → EditFault → Why → Type 0
 IsSheetFaultBy name old new fault Rejected = RefusesSheet name old new fault
 IsSheetFaultBy name old new fault Missing = MissesSheet name old new fault
-IsSheetFaultBy name old new fault Unread = ReadsNothing 1 old new fault
-IsSheetFaultBy name old new fault Shorter = LosesInput old new
+IsSheetFaultBy name old new fault Unread = ReadsNothing 1 name old new fault
+IsSheetFaultBy name old new fault Shorter = LosesInput 1 name old new fault
 IsSheetFaultBy name old new fault NoMemory = new ≡ old
 IsSheetFaultBy name old new fault _ = ⊥
 

@@ -2,7 +2,7 @@
 ghost use Rattle.std.specs.Prelude.{◌≡◌, ◌≢◌, List, [], ◌∷◌, ℕ, IfErr, OnOk};
 ghost use Rattle.outside.specs.Files.{Files, emptied, Holds, OnlyTouches};
 ghost use Rattle.outside.specs.Counts.{NoneFell};
-ghost use Rattle.outside.specs.Pass.{Appends, AppendsPrefix, HasPassCause};
+ghost use Rattle.outside.specs.Pass.{Appends, AppendsPrefix, route, HasPassCause};
 ghost use Rattle.commands.specs.Left.{seen, IsOfPass};
 ghost use Rattle.commands.specs.One.{holding, IsPassFault};
 
@@ -37,7 +37,8 @@ pub trait OutputPass: Drop {
         ensures prefix { IfErr result (AppendsPrefix input.now output.now (file_of self.old)
             (D.files folder.old) (D.files folder.new)) }
         ensures done { OnOk result (D.counts folder.new ≡ D.counts folder.old) }
-        ensures cause { IfErr result (λ fault. (size : ℕ) × HasPassCause size (D.files folder.old)
+        ensures cause { IfErr result (λ fault. (size : ℕ) × HasPassCause
+            (route input.now output.now size) (D.files folder.old)
             (D.counts folder.old) (D.counts folder.new) fault) };
 }
 
@@ -60,7 +61,7 @@ pub fn write_output<W: OutputPass, D: Folder>(
         (W.file_of work.old bytes)) }
     ensures touches { OnlyTouches (output.now ∷ []) (D.files folder.old) (D.files folder.new) }
     ensures done { OnOk result (D.counts folder.new ≡ D.counts folder.old) }
-    ensures left { IfErr result (IsPassFault (W.file_of work.old) input.now output.now
+    ensures left { IfErr result (IsPassFault (W.file_of work.old) (input.now ∷ []) output.now
         (seen (D.files folder.old) (D.counts folder.old))
         (seen (D.files folder.new) (D.counts folder.new))) }
     ensures numbers { IfErr result IsOfPass }

@@ -1,5 +1,5 @@
 -- A clash of names, what was met before the output is created, and the second pass.
-use Rattle.std.proofs.Common.{◌≡◌, ◌≢◌, ℕ, List, ap₂, sym, subst, rules}
+use Rattle.std.proofs.Common.{◌≡◌, ◌≢◌, ℕ, List, [], ◌∷◌, ap₂, sym, subst, rules}
 use Rattle.std.specs.Prelude.{IfErr, OnOk}
 use Rattle.outside.specs.Files.{Holds}
 use Rattle.commands.specs.Left.{seen}
@@ -53,10 +53,10 @@ returns g c =
     let same = ap₂ seen c.prepare.ensures.files c.in_ok-work.ensures.done in
     let making = c.in_ok-work.ensures.making in
     let wrote = subst (λ source. OnOk c.write_output.result ((bytes : List ℕ) → Holds mid.files source bytes → new.files ≡ holding mid.files output (file bytes))) source c.write_output.ensures.written in
-    let stopped = subst (λ source. IfErr c.write_output.result (IsPassFault file source output mid new)) source c.write_output.ensures.left in
+    let stopped = subst (λ source. IfErr c.write_output.result (IsPassFault file (source ∷ []) output mid new)) source c.write_output.ensures.left in
     record {
       done = one_done task output free file _ mid new same making c.write_output.ensures.touches c.write_output.result wrote c.write_output.ensures.done;
-      left = one_left task output free file _ mid new same making c.write_output.ensures.touches c.write_output.result stopped;
+      left = one_left task output free file _ mid new same making c.write_output.ensures.touches c.requires.proper.first c.write_output.result c.write_output.ensures.numbers stopped;
       numbers = search rules;
       names = search rules;
       streams = one_streams task output free file _ making (proper_holds task output free file c.requires.proper.streams _ making) c.write_output.result;

@@ -1,5 +1,5 @@
 -- The output is created, and then written by a pass over the source, which stays.
-use Rattle.std.proofs.Common.{refl, sym, subst}
+use Rattle.std.proofs.Common.{[], ◌∷◌, refl, sym, subst}
 use Rattle.commands.specs.Left.{seen}
 use Rattle.commands.specs.One.{IsPassFault}
 use Rattle.commands.proofs.OutputLaws.{output_whole, touches_whole, touches_prefix, pass_fault, not_begun}
@@ -23,7 +23,7 @@ returns-in-Err-clause-left g c =
     let files = g.D.Folder.files in
     let counts = g.D.Folder.counts in
     subst
-    (IsPassFault (g.W.OutputPass.file_of c.args.work.now) c.args.input.now c.args.output.now (seen (files c.args.folder.now) (counts c.args.folder.now)) (seen (files c.append.new.folder) (counts c.append.new.folder)))
+    (IsPassFault (g.W.OutputPass.file_of c.args.work.now) (c.args.input.now ∷ []) c.args.output.now (seen (files c.args.folder.now) (counts c.args.folder.now)) (seen (files c.append.new.folder) (counts c.append.new.folder)))
     (sym c.into.ensures)
     (pass_fault (g.W.OutputPass.file_of c.args.work.now) c.args.input.now c.args.output.now c.requires.apart (files c.args.folder.now) _ _ c.in-Ok.ensures.created c.in-Err.fault
     c.in-Err.ensures.cause.0 (counts c.args.folder.now) _ _ c.in-Ok.ensures.done c.in-Err.ensures.prefix c.in-Err.ensures.cause.1)

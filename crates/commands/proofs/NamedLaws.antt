@@ -1,0 +1,36 @@
+-- The file that a fault is of, by its place among the inputs.
+use Rattle.std.proofs.Common.{◌≡◌, ℕ, List, [], ◌∷◌, slice_index_or, refl, sym, ◌∙◌, subst}
+use Rattle.outside.specs.Counts.{HappenedTo, EndedAt}
+use Rattle.commands.specs.declared.fault.EditFault.{EditFault}
+use Rattle.commands.specs.declared.fault.EditFault.TheVariants.{Input}
+use Rattle.commands.specs.Left.{Seen, input_of, ended_at, EndsEarly, IsOfPass}
+use Rattle.commands.specs.One.{first_input, MissesAt, ReadsNothing, LosesInput}
+
+module _ (inputs : List (List ℕ)) (place : ℕ) {name : List ℕ} (named : name ≡ slice_index_or inputs place []) {old new : Seen} {fault : EditFault} where
+  pub missed_name : MissesAt place name old new fault → HappenedTo (input_of inputs fault) old.counts.misses new.counts.misses
+  missed_name h =
+      subst (λ e. HappenedTo (input_of inputs e) old.counts.misses new.counts.misses) (sym h.is) (subst (λ (n : List ℕ). HappenedTo n old.counts.misses new.counts.misses) named h.rose)
+
+  pub unread_name : ReadsNothing place name old new fault → HappenedTo (input_of inputs fault) old.counts.read_faults new.counts.read_faults
+  unread_name h =
+      subst (λ e. HappenedTo (input_of inputs e) old.counts.read_faults new.counts.read_faults) (sym h.is) (subst (λ (n : List ℕ). HappenedTo n old.counts.read_faults new.counts.read_faults) named h.rose)
+
+  pub lost_name : LosesInput place name old new fault → EndsEarly inputs old new fault
+  lost_name h = record {
+    rose =
+        subst (λ e. EndedAt (input_of inputs e) (ended_at e) old.counts.ends new.counts.ends) (sym h.is)
+        (subst (λ (n : List ℕ). EndedAt n h.second old.counts.ends new.counts.ends) named h.rose);
+    counts = h.counts;
+    untold = h.untold;
+  }
+
+-- ---- of a pass over the first input
+
+first_at : (inputs : List (List ℕ)) → first_input inputs ≡ slice_index_or inputs 0 []
+first_at [] = refl
+first_at (name ∷ inputs) = refl
+
+-- the fault is one of this input, whichever others there are
+pub source_name : (inputs : List (List ℕ)) (source : List ℕ) → first_input inputs ≡ source → (fault : EditFault) → IsOfPass fault → input_of (source ∷ []) fault ≡ input_of inputs fault
+source_name inputs source first (Input place f) is = subst (λ n. slice_index_or (source ∷ []) n [] ≡ slice_index_or inputs n []) (sym is.0) (sym first ∙ first_at inputs)
+source_name inputs source first _ is = refl
