@@ -14,9 +14,10 @@ use Rattle.commands.specs.declared.fault.Refusal.{Refusal}
 use Rattle.commands.specs.declared.fault.Refusal.TheVariants.{Differ}
 use Rattle.commands.specs.Refusing.{unless, then_made}
 use Rattle.commands.specs.Left.{Why, Rejected, Missing, Unread, Shorter, Unwritten, Unsent, NoMemory, why_of, Seen, IsNotBefore, IsRefusal, IsOfInput}
-use Rattle.commands.specs.One.{Making, most_frames, made_where, file_task, Refuses, IsEarlyFaultBy, IsEarlyFault, IsOfInputs, IsInputFault, IsMaking}
+use Rattle.commands.specs.One.{Making, most_frames, made_where, file_task, Refuses, IsEarlyFaultBy, IsEarlyFault, IsOfInputs, IsInputFaultBy, IsInputFault, IsMaking}
 use Rattle.commands.specs.Sheet.{sheet_in}
 use Rattle.commands.proofs.InputLaws.{made-survey, input_is_early}
+use Rattle.commands.proofs.NamedLaws.{missed_name, unread_name, lost_name}
 use Rattle.commands.proofs.RefusingLaws.{unless_all, then_all}
 use Rattle.commands.proofs.SheetLaws.{sheet-all}
 use Rattle.moved_gains.specs.declared.change.Change.{Change as CodeChange}
@@ -122,16 +123,18 @@ module _ (sheet : List ℕ) (back : Bool) (input : List ℕ) where
   before_same (Told f) P is = is
 
   module _ (old new : Seen) (fault : EditFault) where
-    early_by : (why : Why) → IsEarlyFaultBy (file_task (making_in old.files) (faded_stream None back) fade_refuses input) old new fault why → IsEarlyFaultBy (fade_task sheet back input) old new fault why
-    early_by Rejected h = record { defined = refuses_same old.files fault h.defined; stays = h.stays }
-    early_by Missing h = record { defined = refuses_same old.files fault h.defined; rose = h.rose; files = h.files }
-    early_by Unread h = record { before = before_same old.files (IsNotBefore fault) h.before; rose = h.rose; files = h.files }
-    early_by (Unwritten k) h = absurd h
-    early_by Unsent h = absurd h
-    early_by _ h = h
+    early_by : (why : Why) → IsInputFaultBy (making_in old.files) input old new fault why → IsEarlyFaultBy (file_task (making_in old.files) (faded_stream None back) fade_refuses input) old new fault why
+        → IsEarlyFaultBy (fade_task sheet back input) old new fault why
+    early_by Rejected i h = record { defined = refuses_same old.files fault h.defined; stays = h.stays }
+    early_by Missing i h = record { defined = refuses_same old.files fault h.defined; rose = missed_name (fade_task sheet back input).inputs 0 refl i; files = h.files }
+    early_by Unread i h = record { before = before_same old.files (IsNotBefore fault) h.before; rose = unread_name (fade_task sheet back input).inputs 0 refl i; files = h.files }
+    early_by Shorter i h = record { ended = lost_name (fade_task sheet back input).inputs 0 refl i; files = h.files }
+    early_by (Unwritten k) i h = absurd h
+    early_by Unsent i h = absurd h
+    early_by _ i h = h
 
     pub input_early : IsInputFault (making_in old.files) input old new fault → IsEarlyFault (fade_task sheet back input) old new fault
-    input_early h = early_by (why_of fault) (input_is_early (making_in old.files) (faded_stream None back) fade_refuses input old new fault h)
+    input_early h = early_by (why_of fault) h (input_is_early (making_in old.files) (faded_stream None back) fade_refuses input old new fault h)
 
   -- the input was surveyed
   module _ (s : SurveyFields) where
@@ -165,9 +168,9 @@ module _ (sheet : List ℕ) (back : Bool) (input : List ℕ) where
     module _ (old new : Seen) (there : IsThere old.files input) (surveyed : (bytes : List ℕ) → Holds old.files input bytes → survey_of bytes most_frames ≡ Ok s) where
       change_by : (fault : EditFault) (why : Why) → IsChangeFaultBy sheet back s old new fault why → IsEarlyFaultBy (fade_task sheet back input) old new fault why
       change_by fault Rejected h = record { defined = refuses_by old.files fault there surveyed (with_sheet old.files (Err fault) h.there h.bytes); stays = h.stays }
-      change_by fault Missing h = record { defined = refuses_by old.files fault there surveyed (without_sheet old.files fault h.missing h.is); rose = h.rose; files = h.files }
-      change_by fault Unread h = record { before = sheet_before old.files fault there surveyed h.is; rose = h.rose; files = h.files }
-      change_by fault Shorter h = h
+      change_by fault Missing h = record { defined = refuses_by old.files fault there surveyed (without_sheet old.files fault h.missing h.is); rose = missed_name (fade_task sheet back input).inputs 1 refl h; files = h.files }
+      change_by fault Unread h = record { before = sheet_before old.files fault there surveyed h.is; rose = unread_name (fade_task sheet back input).inputs 1 refl h; files = h.files }
+      change_by fault Shorter h = record { ended = lost_name (fade_task sheet back input).inputs 1 refl h; files = h.files }
       change_by fault (Unwritten k) h = absurd h
       change_by fault Unsent h = absurd h
       change_by fault NoMemory h = record { there = there; few = λ bytes holds. (survey_of-parts bytes most_frames s (surveyed bytes holds)).0; stays = h }

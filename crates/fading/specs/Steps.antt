@@ -20,8 +20,8 @@ pub record RefusesChange (sheet : List ℕ) (back : Bool) (s : SurveyFields) (ol
 abbrev pub IsChangeFaultBy : List ℕ → Bool → SurveyFields → Seen → Seen → EditFault → Why → Type 0
 IsChangeFaultBy sheet back s old new fault Rejected = RefusesChange sheet back s old new fault
 IsChangeFaultBy sheet back s old new fault Missing = MissesSheet sheet old new fault
-IsChangeFaultBy sheet back s old new fault Unread = ReadsNothing 1 old new fault
-IsChangeFaultBy sheet back s old new fault Shorter = LosesInput old new
+IsChangeFaultBy sheet back s old new fault Unread = ReadsNothing 1 sheet old new fault
+IsChangeFaultBy sheet back s old new fault Shorter = LosesInput 1 sheet old new fault
 IsChangeFaultBy sheet back s old new fault (Unwritten k) = ⊥
 IsChangeFaultBy sheet back s old new fault Unsent = ⊥
 IsChangeFaultBy sheet back s old new fault NoMemory = new ≡ old

@@ -38,7 +38,7 @@ module _ (of : Changing) (may : Refusal → Bool) (name : List ℕ) (files new :
   tag_is_input (Bad at) refuses h =
       refusal_is_input (changing of) name (seen files before) (seen new after) s (BadTag at) there is (λ bytes holds. ap (changed_with bytes s) (refuses bytes (h.0 bytes holds))) (ap₂ seen same h.3)
   tag_is_input Read refuses h = record { is = refl; rose = h; files = same }
-  tag_is_input (Shrunk first second) refuses h = record { rose = h.3; counts = h.4; untold = h.0; files = same }
+  tag_is_input (Shrunk first second) refuses h = record { first = first; second = second; is = refl; rose = h.3; counts = h.4; untold = h.0; files = same }
   tag_is_input NoRoom refuses h = memory_is_input (changing of) name (seen files before) (seen new after) s there is (ap₂ seen same h)
 
   -- a refusal after it

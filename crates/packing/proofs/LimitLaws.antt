@@ -1,5 +1,5 @@
 -- A file of at most so many frames: its faults, and that it has none where more frames are allowed, if it has none here.
-use Rattle.std.proofs.Common.{◌≡◌, ℕ, ◌≤◌, ◌==◌, false, List, length, Option, Some, None, Result, Ok, Err, refl, sym, ◌∙◌, ap, subst, inl, inr, arith, rules}
+use Rattle.std.proofs.Common.{◌≡◌, ℕ, ◌≤◌, ◌==◌, false, List, [], ◌∷◌, length, Option, Some, None, Result, Ok, Err, refl, sym, ◌∙◌, ap, subst, inl, inr, arith, rules}
 use Rattle.std.specs.Prelude.{Bool, IfErr, IfSome}
 use Rattle.std.proofs.lemmas.Option.{slice_get_within, slice_get_cases}
 use Rattle.std.proofs.lemmas.Bool.{ne_eqb}
@@ -22,10 +22,12 @@ use Rattle.sync_survey.proofs.FoldersLaws.{survey_of-short}
 use Rattle.commands.specs.declared.fault.EditFault.{EditFault}
 use Rattle.commands.specs.declared.fault.EditFault.TheVariants.{EqualNames, Input, Refused, Write, Sent, Memory}
 use Rattle.commands.specs.declared.fault.Refusal.{Refusal}
-use Rattle.commands.specs.Left.{Why, Rejected, Missing, Unread, Shorter, Unwritten, Unsent, NoMemory, why_of, Seen, IsLate, IsNotBefore}
+use Rattle.commands.specs.Left.{Why, Rejected, Missing, Unread, Shorter, Unwritten, Unsent, NoMemory, why_of, Seen, input_of, IsLate, IsNotBefore}
 use Rattle.commands.specs.One.{Making, made_where, Task, file_task, Refuses, IsFileFaultBy, IsFileFault, IsEarlyFaultBy, IsEarlyFault, IsOfInputs, IsMaking, IsProper}
 use Rattle.commands.proofs.InputLaws.{of_bytes_behind}
+use Rattle.commands.proofs.NamedLaws.{unread_name, lost_name}
 use Rattle.commands.proofs.RefusingLaws.{before_first}
+use Rattle.outside.specs.Counts.{HappenedTo}
 use Rattle.packing.specs.Rules.{unless_fault, limited_by, limited}
 
 -- ---- where more frames are allowed
@@ -151,9 +153,9 @@ module _ (allowed : ℕ) (make : Making) (stream : List ℕ → List StreamFrame
   module _ (old new : Seen) (fault : EditFault) where
     survey-by : (why : Why) → IsFileFaultBy 0 allowed input old new fault why → IsEarlyFaultBy (limited (Some allowed) of_file) old new fault why
     survey-by Rejected h = record { defined = subst (Refuses (limited (Some allowed) of_file) old.files) (sym h.1) (file-refused old.files h.0 h.2.there h.2.bytes); stays = h.2.stays }
-    survey-by Missing h = record { defined = subst (Refuses (limited (Some allowed) of_file) old.files) (sym h.0) (file-missing old.files h.1); rose = h.2; files = h.3 }
-    survey-by Unread h = record { before = before_first old.files (limited (Some allowed) of_file).makes fault h.is; rose = h.rose; files = h.files }
-    survey-by Shorter h = h
+    survey-by Missing h = record { defined = subst (Refuses (limited (Some allowed) of_file) old.files) (sym h.0) (file-missing old.files h.1); rose = subst (λ e. HappenedTo (input_of (input ∷ []) e) old.counts.misses new.counts.misses) (sym h.0) h.2; files = h.3 }
+    survey-by Unread h = record { before = before_first old.files (limited (Some allowed) of_file).makes fault h.is; rose = unread_name (input ∷ []) 0 refl h; files = h.files }
+    survey-by Shorter h = record { ended = lost_name (input ∷ []) 0 refl h; files = h.files }
     survey-by (Unwritten k) h = absurd h
     survey-by Unsent h = absurd h
     survey-by NoMemory h = h

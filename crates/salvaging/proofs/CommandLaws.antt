@@ -97,7 +97,7 @@ module _ (input : List ℕ) where
     early-fault Absent h = record { defined = refuses-absent files h.0; rose = h.1; files = same }
     early-fault (TooLong n) h = let r = rejected (TooLong n) h in record { defined = r.0; stays = r.1 }
     early-fault Read h = record { before = before_first files (salvage_task input).makes (Input 0 Read) refl; rose = h; files = same }
-    early-fault (Shrunk first second) h = record { rose = h.ended; counts = h.counts; untold = h.nothing_told; files = same }
+    early-fault (Shrunk first second) h = record { ended = record { rose = h.ended; counts = h.counts; untold = h.nothing_told }; files = same }
     early-fault NoRoom h = record { there = h.there; few = h.few; stays = ap₂ seen same h.counts }
     early-fault (NoFrame at) h = let r = rejected (NoFrame at) h in record { defined = r.0; stays = r.1 }
     early-fault (LostSync at) h = let r = rejected (LostSync at) h in record { defined = r.0; stays = r.1 }
@@ -232,8 +232,8 @@ module _ (input output : List ℕ) (free : clash_in (salvage_task input) output 
         done : Result (Unit {0}) EditFault
         done = Ok tt
 
-    pub left-part : (fault : EditFault) → IsPassFault made input output mid new fault → Leaves (salvage_command input output) old new fault
-    left-part fault h = telling-left text silent old new fault (one_left (salvage_task input) output free made old mid new stays making touches failed h)
+    pub left-part : (fault : EditFault) → IsOfPass fault → IsPassFault made (input ∷ []) output mid new fault → Leaves (salvage_command input output) old new fault
+    left-part fault numbers h = telling-left text silent old new fault (one_left (salvage_task input) output free made old mid new stays making touches refl failed numbers h)
       where
         failed : Result (Unit {0}) EditFault
         failed = Err fault

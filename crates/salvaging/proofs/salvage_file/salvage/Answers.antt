@@ -36,7 +36,7 @@ returns-in_err-write_output-clause-left g c =
     let counts = g.D.Folder.counts in
     err_with _ _ c.from_residual-in_err-write_output.ensures.1
     (left-part c.args.input.now c.args.output.now (sym c.clash.ensures ∙ c.in_default.is) (seen (files c.args.folder.now) (counts c.args.folder.now)) (seen (files c.prepare.new.folder) (counts c.prepare.new.folder)) (seen (files c.write_output.new.folder) (counts c.write_output.new.folder))
-    c.in_ok-work.work (ap₂ seen c.prepare.ensures.files c.in_ok-work.ensures.done) c.in_ok-work.ensures.ready c.write_output.ensures.touches _ c.in_err-write_output.ensures.left)
+    c.in_ok-work.work (ap₂ seen c.prepare.ensures.files c.in_ok-work.ensures.done) c.in_ok-work.ensures.ready c.write_output.ensures.touches _ c.in_err-write_output.ensures.numbers c.in_err-write_output.ensures.left)
 
 pub returns-in_err-write_output-clause-numbers : goal.returns-in_err-write_output-clause-numbers
 returns-in_err-write_output-clause-numbers g c =
