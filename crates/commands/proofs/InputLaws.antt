@@ -26,7 +26,7 @@ use Rattle.sync_survey.proofs.SurveyedFiles.{survey_of-parts, survey_of-sound}
 
 -- its fault is one of the input
 pub file_fault : (place allowed : ℕ) (name : List ℕ) (old new : Seen) (fault : SurveyFault) → new.files ≡ old.files → IsSurveyFault name old.files allowed old.counts new.counts fault → IsFileFault place allowed name old new (of_survey place fault)
-file_fault place allowed name old new Absent same h = (refl, h.0, h.1, same)
+file_fault place allowed name old new Absent same h = record { is = refl; missing = h.0; rose = h.1; files = same }
 file_fault place allowed name old new Read same h = record { is = refl; rose = h; files = same }
 file_fault place allowed name old new (Shrunk first second) same h =
     record { first = first; second = second; is = refl; rose = h.ended; counts = h.counts; untold = h.nothing_told; files = same }
@@ -46,7 +46,6 @@ module _ (make : Making) (name : List ℕ) (old new : Seen) (fault : EditFault) 
   fault_is_input_by : (why : Why) → IsFileFaultBy 0 most_frames name old new fault why → IsInputFaultBy make name old new fault why
   fault_is_input_by Rejected h =
       subst (RefusesInput make name old new) (sym h.1) (record { there = h.2.there; bytes = λ bytes holds. made-fault make bytes h.0 (h.2.bytes bytes holds); stays = h.2.stays })
-  fault_is_input_by Missing h = record { is = h.0; missing = h.1; rose = h.2; files = h.3 }
   fault_is_input_by (Unwritten k) h = absurd h
   fault_is_input_by Unsent h = absurd h
   fault_is_input_by _ h = h

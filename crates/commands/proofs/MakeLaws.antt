@@ -9,12 +9,12 @@ use Rattle.sync_survey.specs.Faults.{longest_file, HoldsStream}
 use Rattle.commands.specs.declared.fault.EditFault.{EditFault}
 use Rattle.commands.specs.declared.fault.EditFault.TheVariants.{EqualNames}
 use Rattle.commands.specs.declared.inputs.Inputs.{Inputs}
-use Rattle.commands.proofs.NamedLaws.{source_name}
-use Rattle.outside.specs.Counts.{HappenedTo, EndedAt}
+use Rattle.commands.proofs.NamedLaws.{among_all}
+use Rattle.outside.specs.Counts.{HappenedTo}
 use Rattle.commands.specs.Inputs.{names_of}
-use Rattle.commands.specs.One.{Task, first_input, clash_in, made_result, made_of, one_command, holding, Refuses, IsEarlyFaultBy, IsEarlyFault, IsMaking, HoldsPrefix, HoldsLess, IsPassFaultBy, IsPassFault}
+use Rattle.commands.specs.One.{Task, first_input, clash_in, made_result, made_of, one_command, holding, Refuses, IsEarlyFaultBy, IsEarlyFault, IsMaking, HoldsPrefix, HoldsLess, IsBegun, IsLeftShort, IsPassFaultBy, IsPassFault}
 use Rattle.commands.specs.Command.{Made, clash_from, Gives, written, LacksBytes, written_to, AreSound, MakesStreams, HoldsStreams}
-use Rattle.commands.specs.Left.{Why, Rejected, Missing, Unread, Shorter, Unwritten, NoMemory, why_of, Seen, input_of, ended_at, IsLate, IsOfPass, IsDone, IsWrittenTo, IsUnfinished, IsNotBefore, TakesMemory, LeavesBy, Leaves}
+use Rattle.commands.specs.Left.{Why, Rejected, Missing, Unread, Shorter, Unwritten, NoMemory, why_of, Seen, IsLate, IsOfPass, IsDone, IsWrittenTo, IsUnfinished, IsNotBefore, TakesMemory, LeavesBy, Leaves}
 
 abbrev pub ok_made : Made → Result Made EditFault
 ok_made made = Ok made
@@ -166,12 +166,18 @@ module _ (task : Task) (output : List ℕ) (free : clash_in task output ≡ None
         let begun = less_to f new (file gives.0) (part gives.0 gives.1) in
         record { made = (whole_made gives.0, gives.2, omega arith, begun.0, begun.1, begun.2); touches = touches }
 
-    module _ (old new : Seen) (fault : EditFault) (making : IsMaking task file old.files) (touches : OnlyTouches (output ∷ []) old.files new.files) (named : input_of (task.source ∷ []) fault ≡ input_of task.inputs fault) where
-      pass_left_by : (why : Why) → IsPassFaultBy file (task.source ∷ []) output old new fault why → LeavesBy (one_command task output) old new fault why
-      pass_left_by Unread h = record { names = free; before = made_none old.files (IsNotBefore fault) making; rose = subst (λ (n : List ℕ). HappenedTo n old.counts.read_faults new.counts.read_faults) named h.rose; files = inr (0, written_part old.files new.files making h.files touches) }
-      pass_left_by Shorter h = record { ended = record { rose = subst (λ (n : List ℕ). EndedAt n (ended_at fault) old.counts.ends new.counts.ends) named h.rose; counts = h.counts; untold = h.untold }; touches = touches }
+    module _ (first : first_input task.inputs ≡ task.source) (old new : Seen) (fault : EditFault) (making : IsMaking task file old.files) (touches : OnlyTouches (output ∷ []) old.files new.files) where
+      pass_left_by : (why : Why) → IsPassFaultBy file task.inputs output old new fault why → LeavesBy (one_command task output) old new fault why
+      pass_left_by Unread h =
+          let begun = subst (λ n. IsBegun file n output old.files new.files) first h.files in
+          record { names = free; before = made_none old.files (IsNotBefore fault) making; rose = h.rose; files = inr (0, written_part old.files new.files making begun touches) }
+      pass_left_by Shorter h = record { ended = h; touches = touches }
       pass_left_by (Unwritten k) h =
-          record { rose = subst (λ n. HappenedTo (slice_index_or (output ∷ []) n []) old.counts.write_faults new.counts.write_faults) (sym h.0) h.1.rose; files = subst (λ n. IsUnfinished (one_command task output) n old.files new.files) (sym h.0) (unfinished_part old.files new.files making h.1.files touches) }
+          let short = subst (λ n. IsLeftShort file n output old.files new.files) first h.1.files in
+          record {
+            rose = subst (λ n. HappenedTo (slice_index_or (output ∷ []) n []) old.counts.write_faults new.counts.write_faults) (sym h.0) h.1.rose;
+            files = subst (λ n. IsUnfinished (one_command task output) n old.files new.files) (sym h.0) (unfinished_part old.files new.files making short touches);
+          }
       pass_left_by NoMemory h = record { names = free; takes = made_takes old.files making; stays = h }
       pass_left_by _ h = absurd h
 
@@ -186,11 +192,18 @@ module _ (task : Task) (output : List ℕ) (free : clash_in task output ≡ None
           }
       one_done (Err fault) wrote counts = tt
 
+      pub all_left : first_input task.inputs ≡ task.source → (r : Result T EditFault) → IfErr r (IsPassFault file task.inputs output mid new) → IfErr r (Leaves (one_command task output) old new)
+      all_left first (Ok x) h = tt
+      all_left first (Err fault) h =
+          pass_left_by first old new fault making (subst (λ (m : Seen). OnlyTouches (output ∷ []) m.files new.files) stays touches) (why_of fault) (subst (λ m. IsPassFault file task.inputs output m new fault) stays h)
+
+      -- the same of a pass over the source alone
       pub one_left : first_input task.inputs ≡ task.source → (r : Result T EditFault) → IfErr r IsOfPass → IfErr r (IsPassFault file (task.source ∷ []) output mid new) → IfErr r (Leaves (one_command task output) old new)
       one_left first (Ok x) numbers h = tt
-      one_left first (Err fault) numbers h =
-          pass_left_by old new fault making (subst (λ (m : Seen). OnlyTouches (output ∷ []) m.files new.files) stays touches) (source_name task.inputs task.source first fault numbers) (why_of fault)
-          (subst (λ m. IsPassFault file (task.source ∷ []) output m new fault) stays h)
+      one_left first (Err fault) numbers h = all_left first failed (among_all file task.inputs task.source first output mid new fault numbers h)
+        where
+          failed : Result T EditFault
+          failed = Err fault
 
     -- ---- what the output holds
 

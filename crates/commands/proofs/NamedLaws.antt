@@ -3,8 +3,8 @@ use Rattle.std.proofs.Common.{◌≡◌, ℕ, List, [], ◌∷◌, slice_index_o
 use Rattle.outside.specs.Counts.{HappenedTo, EndedAt}
 use Rattle.commands.specs.declared.fault.EditFault.{EditFault}
 use Rattle.commands.specs.declared.fault.EditFault.TheVariants.{Input}
-use Rattle.commands.specs.Left.{Seen, input_of, ended_at, EndsEarly, IsOfPass}
-use Rattle.commands.specs.One.{first_input, MissesAt, ReadsNothing, LosesInput}
+use Rattle.commands.specs.Left.{Why, Unread, Shorter, Unwritten, NoMemory, why_of, Seen, input_of, ended_at, EndsEarly, IsOfPass}
+use Rattle.commands.specs.One.{first_input, MissesAt, ReadsNothing, LosesInput, IsBegun, IsLeftShort, IsPassFaultBy, IsPassFault}
 
 module _ (inputs : List (List ℕ)) (place : ℕ) {name : List ℕ} (named : name ≡ slice_index_or inputs place []) {old new : Seen} {fault : EditFault} where
   pub missed_name : MissesAt place name old new fault → HappenedTo (input_of inputs fault) old.counts.misses new.counts.misses
@@ -26,11 +26,28 @@ module _ (inputs : List (List ℕ)) (place : ℕ) {name : List ℕ} (named : nam
 
 -- ---- of a pass over the first input
 
-first_at : (inputs : List (List ℕ)) → first_input inputs ≡ slice_index_or inputs 0 []
+pub first_at : (inputs : List (List ℕ)) → first_input inputs ≡ slice_index_or inputs 0 []
 first_at [] = refl
 first_at (name ∷ inputs) = refl
 
 -- the fault is one of this input, whichever others there are
-pub source_name : (inputs : List (List ℕ)) (source : List ℕ) → first_input inputs ≡ source → (fault : EditFault) → IsOfPass fault → input_of (source ∷ []) fault ≡ input_of inputs fault
+source_name : (inputs : List (List ℕ)) (source : List ℕ) → first_input inputs ≡ source → (fault : EditFault) → IsOfPass fault → input_of (source ∷ []) fault ≡ input_of inputs fault
 source_name inputs source first (Input place f) is = subst (λ n. slice_index_or (source ∷ []) n [] ≡ slice_index_or inputs n []) (sym is.0) (sym first ∙ first_at inputs)
 source_name inputs source first _ is = refl
+
+-- a fault of the pass over this input is one of all inputs
+pub among_all : (made : List ℕ → List ℕ) (inputs : List (List ℕ)) (source : List ℕ) → first_input inputs ≡ source → (output : List ℕ) (old new : Seen) (fault : EditFault) → IsOfPass fault → IsPassFault made (source ∷ []) output old new fault → IsPassFault made inputs output old new fault
+among_all made inputs source first output old new fault numbers h = at (why_of fault) h
+  where
+    named : input_of (source ∷ []) fault ≡ input_of inputs fault
+    named = source_name inputs source first fault numbers
+
+    at : (why : Why) → IsPassFaultBy made (source ∷ []) output old new fault why → IsPassFaultBy made inputs output old new fault why
+    at Unread h = record {
+      rose = subst (λ (n : List ℕ). HappenedTo n old.counts.read_faults new.counts.read_faults) named h.rose;
+      files = subst (λ n. IsBegun made n output old.files new.files) (sym first) h.files;
+    }
+    at Shorter h = record { rose = subst (λ (n : List ℕ). EndedAt n (ended_at fault) old.counts.ends new.counts.ends) named h.rose; counts = h.counts; untold = h.untold }
+    at (Unwritten k) h = (h.0, record { rose = h.1.rose; files = subst (λ n. IsLeftShort made n output old.files new.files) (sym first) h.1.files })
+    at NoMemory h = h
+    at _ h = absurd h

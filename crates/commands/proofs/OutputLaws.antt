@@ -38,7 +38,7 @@ module _ (made : List ℕ → List ℕ) (input output : List ℕ) (apart : input
   output_prefix part file holds = inr (length part.bytes, holding_new part.bytes part.files ∙ ap (holding old output) (part.prefix file (held_mid file holds)))
 
   -- where a write failed, not all of it
-  output_short : AppendsPrefix input output made mid new Write → IsLeftShort made input output old new
+  pub output_short : AppendsPrefix input output made mid new Write → IsLeftShort made input output old new
   output_short part file holds =
       let held = held_mid file holds in
       inr (length part.bytes, part.short refl file held, holding_new part.bytes part.files ∙ ap (holding old output) (part.prefix file held))

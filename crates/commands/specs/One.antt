@@ -149,7 +149,7 @@ pub record NeedsMemory (name : List ℕ) (old new : Seen) : Type 0 where
 
 abbrev pub IsFileFaultBy : ℕ → ℕ → List ℕ → Seen → Seen → EditFault → Why → Type 0
 IsFileFaultBy place allowed name old new fault Rejected = (f : SurveyFault) × (fault ≡ Input place f) × RefusesFile allowed name old new f
-IsFileFaultBy place allowed name old new fault Missing = (fault ≡ Input place Absent) × IsMissing old.files name × HappenedTo name old.counts.misses new.counts.misses × (new.files ≡ old.files)
+IsFileFaultBy place allowed name old new fault Missing = MissesAt place name old new fault
 IsFileFaultBy place allowed name old new fault Unread = ReadsNothing place name old new fault
 IsFileFaultBy place allowed name old new fault Shorter = LosesInput place name old new fault
 IsFileFaultBy place allowed name old new fault (Unwritten k) = ⊥

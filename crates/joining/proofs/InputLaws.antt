@@ -1,6 +1,7 @@
 -- The surveys of the inputs, one after the other, and what is made of the inputs by them.
-use Rattle.std.proofs.Common.{◌≡◌, ℕ, zero, suc, take, drop, ◌+◌, ◌-◌, ◌<◌, ◌≤◌, ◌==◌, Bool, true, false, cond, List, [], ◌∷◌, ◌++◌, length, Option, Some, None, Result, Ok, Err, refl, sym, ◌∙◌, ap, ap₂, subst, arith, append-nil}
+use Rattle.std.proofs.Common.{◌≡◌, ℕ, zero, suc, take, drop, ◌+◌, ◌-◌, ◌<◌, ◌≤◌, ◌==◌, Bool, true, false, cond, List, [], ◌∷◌, ◌++◌, length, slice_index_or, Option, Some, None, Result, Ok, Err, refl, sym, ◌∙◌, ap, ap₂, subst, arith, append-nil}
 use Rattle.std.specs.Prelude.{IfSome, IfErr, unwrap_or}
+use Rattle.std.proofs.lemmas.List.{get_or_at}
 use Rattle.outside.specs.Files.{Contents, Files, Told, Untold, IfTold}
 use Rattle.outside.proofs.FilesLaws.{there_holds}
 use Rattle.frame_header.specs.Fields.{ClassFields, same_class}
@@ -17,9 +18,10 @@ use Rattle.commands.specs.declared.fault.EditFault.TheVariants.{Input, Refused}
 use Rattle.commands.specs.declared.fault.Refusal.TheVariants.{Differ}
 use Rattle.commands.specs.Refusing.{then_made}
 use Rattle.commands.specs.One.{most_frames, NeedsMemory, Refuses, IsEarlyFaultBy, IsEarlyFault, first_input}
-use Rattle.commands.specs.Left.{Why, Rejected, Missing, Unread, Unwritten, Unsent, NoMemory, why_of, Seen, IsLate, IsNotBefore}
+use Rattle.commands.specs.Left.{Why, Rejected, Missing, Unread, Shorter, Unwritten, Unsent, NoMemory, why_of, Seen, IsLate, IsNotBefore}
 use Rattle.sync_survey.proofs.SurveyedFiles.{survey_of-parts}
 use Rattle.commands.proofs.InputLaws.{of_bytes_behind}
+use Rattle.commands.proofs.NamedLaws.{missed_name, unread_name, lost_name}
 use Rattle.commands.proofs.RefusingLaws.{then_all, then_late}
 use Rattle.joining.specs.Join.{whole_part, may_follow, part_by, part_of, parts_from, parts_of, joined_file, join_task}
 use Rattle.joining.specs.Inputs.{IsInput, IsPartFaultBy, IsPartFault, Follows, AreInputs, class_in, frames_of, parts_in}
@@ -237,6 +239,9 @@ behind-before f before after ss are =
 
 -- ---- a fault of an input, after those before it
 
+name-at : (before : List (List ℕ)) (name : List ℕ) (after : List (List ℕ)) → name ≡ slice_index_or (before ++ name ∷ after) (length before) []
+name-at before name after = sym (get_or_at before name after [] (length before) refl)
+
 module _ (before : List (List ℕ)) (name : List ℕ) (after : List (List ℕ)) (ss : List SurveyFields) where
   refuses-by : (files : Files) (fault : EditFault) → AreInputs None most_frames files before ss → IfTold files (λ f. part_of (length before) (class_after None ss) (most_frames - frames_of ss) (f name) ≡ Err fault) → Refuses (join_task (before ++ name ∷ after)) files fault
   refuses-by (Untold touched) fault are is = tt
@@ -251,12 +256,12 @@ module _ (before : List (List ℕ)) (name : List ℕ) (after : List (List ℕ)) 
   module _ (old new : Seen) (fault : EditFault) (are : AreInputs None most_frames old.files before ss) where
     early-by : (why : Why) → IsPartFaultBy (length before) (class_after None ss) (most_frames - frames_of ss) name old new fault why → IsEarlyFaultBy (join_task (before ++ name ∷ after)) old new fault why
     early-by Rejected h = record { defined = refuses-by old.files fault are h.0; stays = h.1 }
-    early-by Missing h = record { defined = refuses-by old.files fault are h.0; rose = h.1; files = h.2 }
-    early-by Unread h = record { before = unread-by old.files fault are h.is; rose = h.rose; files = h.files }
+    early-by Missing h = record { defined = refuses-by old.files fault are h.0; rose = missed_name (before ++ name ∷ after) (length before) (name-at before name after) h.1; files = h.1.files }
+    early-by Unread h = record { before = unread-by old.files fault are h.is; rose = unread_name (before ++ name ∷ after) (length before) (name-at before name after) h; files = h.files }
+    early-by Shorter h = record { ended = lost_name (before ++ name ∷ after) (length before) (name-at before name after) h; files = h.files }
     early-by (Unwritten k) h = absurd h
     early-by Unsent h = absurd h
     early-by NoMemory h = found-next before name after ss old new are h
-    early-by _ h = h
 
 -- the same by the numbers of the code
 pub part-early : (names before : List (List ℕ)) (name : List ℕ) (after : List (List ℕ)) (ss : List SurveyFields) (place allowed : ℕ) (first : Option ClassFields) (old mid new : Seen) (fault : EditFault) → before ++ name ∷ after ≡ names → length before ≡ place → first ≡ class_in ss

@@ -1,10 +1,11 @@
 -- What is appended to the output: the blocks and the Info frame at its beginning, and then the frames of all inputs.
-use Rattle.std.proofs.Common.{◌≡◌, ◌≢◌, ℕ, List, [], ◌∷◌, ◌++◌, map, Option, Some, None, Result, Ok, Err, refl, sym, ◌∙◌, ap, ap₂, subst, append_assoc, append-nil}
+use Rattle.std.proofs.Common.{◌≡◌, ◌≢◌, ℕ, ◌+◌, List, [], ◌∷◌, ◌++◌, map, drop, slice_index_or, Option, Some, None, Result, Ok, Err, refl, sym, ◌∙◌, ap, ap₂, subst, append_assoc, append-nil, arith}
+use Rattle.std.proofs.lemmas.List.{get_or-drop}
 use Rattle.std.specs.Prelude.{IfErr, OnOk, unwrap_or, flat_map}
 use Rattle.std.specs.List.{concat}
-use Rattle.outside.specs.Files.{Contents, Files, emptied, appended, with_file, Holds, IsThere, Told, Untold}
-use Rattle.outside.specs.Counts.{Counts}
-use Rattle.outside.proofs.FilesLaws.{with_file_other, emptied_keeps, emptied_held_other}
+use Rattle.outside.specs.Files.{Contents, Files, is_told, emptied, appended, with_file, Holds, IsThere, Told, Untold}
+use Rattle.outside.specs.Counts.{Counts, HappenedTo, EndedAt, NothingFailed}
+use Rattle.outside.proofs.FilesLaws.{emptied_told, with_file_other, emptied_keeps, emptied_held_other}
 use Rattle.frame_header.specs.Fields.{ClassFields}
 use Rattle.slot_plan.specs.declared.needs.Placed.{Placed}
 use Rattle.frame_writer.specs.Frames.{frame_bytes}
@@ -17,13 +18,12 @@ use Rattle.laying.specs.Written.{front_blocks, plain_info}
 use Rattle.outside.proofs.PassLaws.{input_held, still_there, part_for, cause_later}
 use Rattle.sync_survey.specs.Faults.{SurveyFields}
 use Rattle.commands.specs.declared.fault.EditFault.{EditFault}
-use Rattle.commands.specs.One.{IsPassFault}
-use Rattle.commands.specs.PassFaults.{of_pass as of_one}
+use Rattle.commands.specs.One.{first_input, IsBegun, IsLeftShort, IsPassFault}
 use Rattle.commands.specs.Left.{seen}
-use Rattle.outside.specs.Pass.{AppendsPrefix}
+use Rattle.outside.specs.Pass.{AppendsPrefix, route, HasPassCause}
 use Rattle.slot_plan.specs.Plans.{entries}
 use Rattle.frame_edits.specs.declared.plans.Planned.{Planned}
-use Rattle.commands.proofs.OutputLaws.{pass_fault}
+use Rattle.commands.proofs.OutputLaws.{output_prefix, output_short}
 use Rattle.joining.specs.Join.{whole_part, plan_of, joined_frames, joined_file}
 use Rattle.joining.specs.Inputs.{CanBeJoined, parts_in, told_parts}
 use Rattle.joining.specs.Laying.{the_plan_of, IsJoinedInfo, IsPlanned, AreSources, of_pass, pass_of, HasJoinCause}
@@ -128,25 +128,46 @@ of_one-fault place pass fault is failed = at pass (sym (ap pass_of is) ∙ faile
     at Read failed = failed
     at (Shrunk first second) failed = absurd cc
 
-pub join-cause_later : (count : ℕ) (old now : Files) (output more : List ℕ) (before mid after : Counts) (fault : EditFault) → now ≡ appended old output more → mid ≡ before → HasJoinCause count now mid after fault → HasJoinCause count old before after fault
-join-cause_later count old now output more before mid after fault grown same h = record {
+-- the input is named by its place
+pub cause-named : (names : List (List ℕ)) (place : ℕ) (name output : List ℕ) (rest : List (List ℕ)) (size : ℕ) (files : Files) (before after : Counts) (fault : PassFault) → drop place names ≡ name ∷ rest → HasPassCause (route name output size) files before after fault
+    → HasPassCause (route (slice_index_or names place []) output size) files before after fault
+cause-named names place name output rest size files before after fault is cause =
+    subst (λ n. HasPassCause (route n output size) files before after fault) (sym (name-at names place name rest is)) cause
+  where
+    name-at : (names : List (List ℕ)) (place : ℕ) (name : List ℕ) (rest : List (List ℕ)) → drop place names ≡ name ∷ rest → slice_index_or names place [] ≡ name
+    name-at names place name rest is = ap (λ n. slice_index_or names n []) (let e : place ≡ place + 0 = omega arith in e) ∙ sym (get_or-drop place names 0 []) ∙ ap (λ (l : List (List ℕ)). slice_index_or l 0 []) is
+
+pub join-cause_later : (inputs : List (List ℕ)) (old now : Files) (output more : List ℕ) (before mid after : Counts) (fault : EditFault) → now ≡ appended old output more → mid ≡ before → HasJoinCause inputs output now mid after fault → HasJoinCause inputs output old before after fault
+join-cause_later inputs old now output more before mid after fault grown same h = record {
   place = h.place;
   size = h.size;
   pass = h.pass;
   within = h.within;
   is = h.is;
-  cause = cause_later h.size old now output more before mid after h.pass grown same h.cause;
+  cause = cause_later _ old now output more before mid after h.pass grown same h.cause;
 }
 
 -- a fault of the pass, once the output was created
 module _ (made : List ℕ → List ℕ) (input output : List ℕ) (apart : input ≢ output) (old mid new : Files) (created : mid ≡ emptied old output) (before between after : Counts) (same : between ≡ before) where
-  of-place : (place : ℕ) (pass : PassFault) → IsPassFault made input output (seen old before) (seen new after) (of_one pass) → IsPassFault made input output (seen old before) (seen new after) (of_pass place pass)
-  of-place place Read h = h
-  of-place place _ h = h
+  pub join-fault : (inputs : List (List ℕ)) → first_input inputs ≡ input → (fault : EditFault) → AppendsPrefix input output made mid new (pass_of fault) → HasJoinCause inputs output mid between after fault → IsPassFault made inputs output (seen old before) (seen new after) fault
+  join-fault inputs first fault part h =
+      subst (IsPassFault made inputs output (seen old before) (seen new after)) (sym h.is) (at h.pass h.cause (part_for (λ failed. write-of h.place h.pass fault h.is failed) part))
+    where
+      name : List ℕ
+      name = slice_index_or inputs h.place []
 
-  pub join-fault : (count : ℕ) (fault : EditFault) → AppendsPrefix input output made mid new (pass_of fault) → HasJoinCause count mid between after fault → IsPassFault made input output (seen old before) (seen new after) fault
-  join-fault count fault part h =
-      subst (IsPassFault made input output (seen old before) (seen new after)) (sym h.is) (of-place h.place h.pass (pass_fault made input output apart old mid new created h.pass h.size before between after same (part_for (λ failed. write-of h.place h.pass fault h.is failed) part) h.cause))
+      at : (pass : PassFault) → HasPassCause (route name output h.size) mid between after pass → AppendsPrefix input output made mid new pass → IsPassFault made inputs output (seen old before) (seen new after) (of_pass h.place pass)
+      at Read cause part = record {
+        rose = subst (λ c. HappenedTo name c.read_faults after.read_faults) same cause.0;
+        files = subst (λ n. IsBegun made n output old new) (sym first) (output_prefix made input output apart old mid new created part);
+      }
+      at (Shrunk from to) cause part = record {
+        rose = subst (λ c. EndedAt name to c.ends after.ends) same cause.3;
+        counts = subst (λ c. NothingFailed c after) same cause.4;
+        untold = sym (ap is_told created ∙ emptied_told old output) ∙ cause.0;
+      }
+      at Write cause part =
+          (refl, record { rose = subst (λ c. HappenedTo output c.write_faults after.write_faults) same cause.0; files = subst (λ n. IsLeftShort made n output old new) (sym first) (output_short made input output apart old mid new created part) })
 
 -- ---- by the answer of a step
 

@@ -1,7 +1,6 @@
 -- The surveys of the inputs, as they are made one after the other.
 use Rattle.std.specs.Prelude.{◌≡◌, ◌≢◌, true, ℕ, ◌+◌, ◌-◌, ◌<◌, ◌≤◌, List, [], ◌∷◌, length, map, unwrap_or, IfSome, Option, Some, None, Ok, Err}
 use Rattle.outside.specs.Files.{Contents, Files, Holds, IsThere, IfTold, Told, Untold}
-use Rattle.outside.specs.Counts.{Rose}
 use Rattle.frame_header.specs.Fields.{ClassFields}
 use Rattle.sync_survey.specs.declared.rows.Row.{Row}
 use Rattle.sync_survey.specs.declared.survey_fault.SurveyFault.TheVariants.{Memory as NoRoom}
@@ -12,7 +11,7 @@ use Rattle.commands.specs.declared.fault.EditFault.{EditFault}
 use Rattle.commands.specs.declared.fault.EditFault.TheVariants.{Input, Refused, Write, Memory}
 use Rattle.commands.specs.Kinds.{HasRightNumbers}
 use Rattle.commands.specs.Left.{Why, Rejected, Missing, Unread, Shorter, Unwritten, Unsent, NoMemory, why_of, Seen}
-use Rattle.commands.specs.One.{most_frames, ReadsNothing, LosesInput, NeedsMemory}
+use Rattle.commands.specs.One.{most_frames, MissesAt, ReadsNothing, LosesInput, NeedsMemory}
 use Rattle.joining.specs.Join.{whole_part, part_of, join_refuses}
 
 -- ---- one input
@@ -32,9 +31,9 @@ GivesFault place first allowed name files fault = IfTold files (λ f. part_of pl
 
 abbrev pub IsPartFaultBy : ℕ → Option ClassFields → ℕ → List ℕ → Seen → Seen → EditFault → Why → Type 0
 IsPartFaultBy place first allowed name old new fault Rejected = GivesFault place first allowed name old.files fault × (new ≡ old)
-IsPartFaultBy place first allowed name old new fault Missing = GivesFault place first allowed name old.files fault × Rose old.counts.misses new.counts.misses × (new.files ≡ old.files)
-IsPartFaultBy place first allowed name old new fault Unread = ReadsNothing place old new fault
-IsPartFaultBy place first allowed name old new fault Shorter = LosesInput old new
+IsPartFaultBy place first allowed name old new fault Missing = GivesFault place first allowed name old.files fault × MissesAt place name old new fault
+IsPartFaultBy place first allowed name old new fault Unread = ReadsNothing place name old new fault
+IsPartFaultBy place first allowed name old new fault Shorter = LosesInput place name old new fault
 IsPartFaultBy place first allowed name old new fault (Unwritten k) = ⊥
 IsPartFaultBy place first allowed name old new fault Unsent = ⊥
 IsPartFaultBy place first allowed name old new fault NoMemory = NeedsMemory name old new

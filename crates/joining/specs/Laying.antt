@@ -1,5 +1,5 @@
 -- The second pass over the inputs.
-use Rattle.std.specs.Prelude.{◌≡◌, ◌≢◌, ℕ, ◌<◌, List, [], ◌∷◌, map, flat_map, slice_get, Some}
+use Rattle.std.specs.Prelude.{◌≡◌, ◌≢◌, ℕ, ◌<◌, List, [], ◌∷◌, length, slice_index_or, map, flat_map, slice_get, Some}
 use Rattle.outside.specs.Files.{Files, Holds, IsThere}
 use Rattle.outside.specs.Counts.{Counts}
 use Rattle.frame_header.specs.Fields.{ClassFields}
@@ -13,7 +13,7 @@ use Rattle.part_needs.specs.Fit.{own_choice}
 use Rattle.frame_writer.specs.Frames.{Frame}
 use Rattle.outside.specs.declared.pass.PassFault.{PassFault}
 use Rattle.outside.specs.declared.pass.PassFault.TheVariants.{Read, Shrunk, Write}
-use Rattle.outside.specs.Pass.{HasPassCause}
+use Rattle.outside.specs.Pass.{route, HasPassCause}
 use Rattle.laying.specs.Relaid.{frames_in, relaid}
 use Rattle.laying.specs.Fits.{FitsFrom}
 use Rattle.laying.specs.Written.{slot_in, plain_info}
@@ -84,11 +84,11 @@ abbrev pub pass_of : EditFault → PassFault
 pass_of (Unwritten place) = Write
 pass_of _ = Read
 
--- the fault is one of the pass over one of `count` inputs, with its cause
-pub record HasJoinCause (count : ℕ) (files : Files) (before after : Counts) (fault : EditFault) : Type 0 where
+-- the fault is one of the pass over one of these inputs, with its cause
+pub record HasJoinCause (inputs : List (List ℕ)) (output : List ℕ) (files : Files) (before after : Counts) (fault : EditFault) : Type 0 where
   pub place : ℕ
   pub size : ℕ
   pub pass : PassFault
-  pub within : place < count
+  pub within : place < length inputs
   pub is : fault ≡ of_pass place pass
-  pub cause : HasPassCause size files before after pass
+  pub cause : HasPassCause (route (slice_index_or inputs place []) output size) files before after pass

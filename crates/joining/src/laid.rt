@@ -1,5 +1,5 @@
 //! The frames of all inputs, read one input after the other and given to one writer.
-ghost use Rattle.std.specs.Prelude.{◌≡◌, ◌≢◌, ◌≤◌, length, map, string_bytes, IfErr, OnOk};
+ghost use Rattle.std.specs.Prelude.{drop, ◌∷◌, ◌≡◌, ◌≢◌, ◌≤◌, length, map, string_bytes, IfErr, OnOk};
 ghost use Rattle.frame_header.specs.Tables.{window_of};
 ghost use Rattle.outside.specs.Files.{IsThere};
 ghost use Rattle.outside.specs.Pass.{Writes, WritesPrefix};
@@ -47,6 +47,8 @@ pub(crate) fn lay_all<'a, D: Folder>(
 ) -> Result<(), EditFault>
     requires some { 1 ≤ length inputs.now }
     requires few { length inputs.now ≤ 64 }
+    requires names { map string_bytes inputs.now
+        ≡ first.now.pass.input.now ∷ drop 1 (map string_bytes inputs.now) }
     requires apart { first.now.pass.input.now ≢ first.now.pass.output.now }
     requires sources { AreSources (tells first.now.survey.now).class first.now.pass.output.now
         (D.files folder.old) (map string_bytes inputs.now) (map tells surveys.now) }
@@ -64,7 +66,8 @@ pub(crate) fn lay_all<'a, D: Folder>(
         (map tells surveys.now) placed.now file))
         buffers.old.waiting (D.files folder.old) (D.files folder.new) (pass_of fault)) }
     ensures done { OnOk result (D.counts folder.new ≡ D.counts folder.old) }
-    ensures cause { IfErr result (HasJoinCause (length inputs.now) (D.files folder.old)
+    ensures cause { IfErr result (HasJoinCause (map string_bytes inputs.now)
+        first.now.pass.output.now (D.files folder.old)
         (D.counts folder.old) (D.counts folder.new)) }
 {
     let mut at = 0;

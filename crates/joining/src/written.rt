@@ -82,7 +82,8 @@ fn append_joined<'a, D: Folder>(
         (map tells surveys.now)))
         (D.files folder.old) (D.files folder.new) (pass_of fault)) }
     ensures done { OnOk result (D.counts folder.new ≡ D.counts folder.old) }
-    ensures cause { IfErr result (HasJoinCause (length inputs.now) (D.files folder.old)
+    ensures cause { IfErr result (HasJoinCause (map string_bytes inputs.now)
+        first.now.pass.output.now (D.files folder.old)
         (D.counts folder.old) (D.counts folder.new)) }
 {
     let info = planned.info.as_slice();
@@ -142,7 +143,7 @@ pub(crate) fn write_joined<D: Folder>(
     ensures done { OnOk result (D.counts folder.new ≡ D.counts folder.old) }
     ensures left { IfErr result (IsPassFault (λ _. joined_file (told_parts (D.files folder.old)
         (map string_bytes inputs.now) (map tells surveys.now)))
-        (first_input (map string_bytes inputs.now)) output.now
+        (map string_bytes inputs.now) output.now
         (seen (D.files folder.old) (D.counts folder.old))
         (seen (D.files folder.new) (D.counts folder.new))) }
     ensures numbers { IfErr result (IsOfJoin (length inputs.now)) }

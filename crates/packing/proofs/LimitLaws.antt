@@ -22,12 +22,11 @@ use Rattle.sync_survey.proofs.FoldersLaws.{survey_of-short}
 use Rattle.commands.specs.declared.fault.EditFault.{EditFault}
 use Rattle.commands.specs.declared.fault.EditFault.TheVariants.{EqualNames, Input, Refused, Write, Sent, Memory}
 use Rattle.commands.specs.declared.fault.Refusal.{Refusal}
-use Rattle.commands.specs.Left.{Why, Rejected, Missing, Unread, Shorter, Unwritten, Unsent, NoMemory, why_of, Seen, input_of, IsLate, IsNotBefore}
+use Rattle.commands.specs.Left.{Why, Rejected, Missing, Unread, Shorter, Unwritten, Unsent, NoMemory, why_of, Seen, IsLate, IsNotBefore}
 use Rattle.commands.specs.One.{Making, made_where, Task, file_task, Refuses, IsFileFaultBy, IsFileFault, IsEarlyFaultBy, IsEarlyFault, IsOfInputs, IsMaking, IsProper}
 use Rattle.commands.proofs.InputLaws.{of_bytes_behind}
-use Rattle.commands.proofs.NamedLaws.{unread_name, lost_name}
+use Rattle.commands.proofs.NamedLaws.{missed_name, unread_name, lost_name}
 use Rattle.commands.proofs.RefusingLaws.{before_first}
-use Rattle.outside.specs.Counts.{HappenedTo}
 use Rattle.packing.specs.Rules.{unless_fault, limited_by, limited}
 
 -- ---- where more frames are allowed
@@ -102,7 +101,7 @@ module _ (allowed : ℕ) (task : Task) where
     early-by Rejected h = record { defined = limited-refuses old.files fault sound h.defined; stays = h.stays }
     early-by Missing h = record { defined = limited-refuses old.files fault sound h.defined; rose = h.rose; files = h.files }
     early-by Unread h = record { before = limited-before old.files (IsNotBefore fault) sound h.before; rose = h.rose; files = h.files }
-    early-by Shorter h = h
+    early-by Shorter h = record { ended = h.ended; files = h.files }
     early-by (Unwritten k) h = absurd h
     early-by Unsent h = absurd h
     early-by NoMemory h = h
@@ -153,7 +152,7 @@ module _ (allowed : ℕ) (make : Making) (stream : List ℕ → List StreamFrame
   module _ (old new : Seen) (fault : EditFault) where
     survey-by : (why : Why) → IsFileFaultBy 0 allowed input old new fault why → IsEarlyFaultBy (limited (Some allowed) of_file) old new fault why
     survey-by Rejected h = record { defined = subst (Refuses (limited (Some allowed) of_file) old.files) (sym h.1) (file-refused old.files h.0 h.2.there h.2.bytes); stays = h.2.stays }
-    survey-by Missing h = record { defined = subst (Refuses (limited (Some allowed) of_file) old.files) (sym h.0) (file-missing old.files h.1); rose = subst (λ e. HappenedTo (input_of (input ∷ []) e) old.counts.misses new.counts.misses) (sym h.0) h.2; files = h.3 }
+    survey-by Missing h = record { defined = subst (Refuses (limited (Some allowed) of_file) old.files) (sym h.is) (file-missing old.files h.missing); rose = missed_name (input ∷ []) 0 refl h; files = h.files }
     survey-by Unread h = record { before = before_first old.files (limited (Some allowed) of_file).makes fault h.is; rose = unread_name (input ∷ []) 0 refl h; files = h.files }
     survey-by Shorter h = record { ended = lost_name (input ∷ []) 0 refl h; files = h.files }
     survey-by (Unwritten k) h = absurd h

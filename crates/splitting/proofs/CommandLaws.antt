@@ -27,16 +27,18 @@ use Rattle.commands.specs.Refusing.{then_made}
 use Rattle.commands.specs.Sheet.{sheet_in}
 use Rattle.frame_edits.specs.Chosen.{Chosen, cut_refuses, chosen_file, chosen_stream, stream_with, stream_chosen_by, cut_choice, laid_with}
 use Rattle.commands.specs.Command.{Output, Made, Command, clash_of, Gives, written, LacksBytes, written_to, AreStreams, HoldsStreams}
-use Rattle.commands.specs.Left.{Why, Rejected, Missing, Unread, Shorter, Unwritten, NoMemory, why_of, Seen, IsNotBefore, IsLate, IsDone, IsWrittenTo, IsUnfinished, TakesMemory, LeavesBy, Leaves, IsRefusal}
+use Rattle.commands.specs.Left.{Why, Rejected, Missing, Unread, Shorter, Unwritten, NoMemory, why_of, Seen, IsNotBefore, IsLate, IsDone, IsWrittenTo, IsUnfinished, TakesMemory, LeavesBy, Leaves, IsRefusal, input_of, ended_at}
 use Rattle.commands.specs.One.{most_frames, IsFileFaultBy, IsFileFault}
 use Rattle.sync_survey.proofs.SurveyedFiles.{survey_of-sound}
 use Rattle.frame_edits.proofs.ChosenLaws.{cut_proper}
-use Rattle.splitting.specs.Split.{piece_names, frames_between, with_first, chosen_from, chosen_at, pieces_from, made_of, made_at, made_by, made_where, unless_equal, made_result, streams_of, streams_at, streams_by, streams_where, Placing, split_command_of, given, with_end, places_where, told_by, placing_of}
+use Rattle.splitting.specs.Split.{piece_names, frames_between, with_first, chosen_from, chosen_at, pieces_from, made_of, made_at, made_by, made_where, unless_equal, made_result, streams_of, streams_at, streams_by, streams_where, Placing, split_command_of, given, with_end, places_where, told_by, placing_of, more_of}
 use Rattle.splitting.specs.declared.piece.Piece.{Piece}
 use Rattle.splitting.specs.declared.split_file.Points.{Points}
 use Rattle.splitting.specs.declared.split_file.Points.TheVariants.{Places, Sheet as InSheet}
-use Rattle.splitting.specs.Steps.{Says, IsPlacesFaultBy, IsPlacesFault, ArePieces, chosen_of, outputs_of, names_of, with_outputs, with_part, IsWrittenPart, IsUnfinishedPart, IsPiecesFaultBy, IsPiecesFault}
-use Rattle.splitting.proofs.PiecesLaws.{outputs-are, names-first, names-all}
+use Rattle.splitting.specs.Steps.{Says, IsPlacesFaultBy, IsPlacesFault, ArePieces, chosen_of, outputs_of, names_of, with_outputs, with_part, IsWrittenPart, IsUnfinishedPart, IsPiecesFaultBy, IsPiecesFault, StopsShort}
+use Rattle.splitting.proofs.PiecesLaws.{outputs-are, names-first, names-all, name-here}
+use Rattle.commands.proofs.NamedLaws.{first_at, missed_name, unread_name, lost_name}
+use Rattle.outside.specs.Counts.{HappenedTo, EndedAt}
 
 -- ---- what holds of every refusal once the input was surveyed
 
@@ -154,6 +156,9 @@ module _ (points : Points) (input prefix : List ℕ) where
   abbrev placing : Placing
   placing = placing_of points
 
+  abbrev more : List (List ℕ)
+  more = more_of points
+
   abbrev command : Command
   command = split_command_of points input prefix
 
@@ -200,9 +205,9 @@ module _ (points : Points) (input prefix : List ℕ) where
       input-left-by Rejected h =
           record { defined = subst (λ e. Gives command old.files (Err e)) (sym h.1) (input-refused old.files h.0 h.2.there h.2.bytes); stays = h.2.stays }
       input-left-by Missing h =
-          record { defined = subst (λ e. Gives command old.files (Err e)) (sym h.0) (input-missing old.files h.1); rose = h.2; files = h.3 }
-      input-left-by Unread h = record { names = apart; before = before_first old.files command.makes fault h.is; rose = h.rose; files = inl h.files }
-      input-left-by Shorter h = record { rose = h.rose; counts = h.counts; untold = h.untold; touches = stays-touched h.files }
+          record { defined = subst (λ e. Gives command old.files (Err e)) (sym h.is) (input-missing old.files h.missing); rose = missed_name command.inputs 0 refl h; files = h.files }
+      input-left-by Unread h = record { names = apart; before = before_first old.files command.makes fault h.is; rose = unread_name command.inputs 0 refl h; files = inl h.files }
+      input-left-by Shorter h = record { ended = lost_name command.inputs 0 refl h; touches = stays-touched h.files }
       input-left-by NoMemory h = record { names = apart; takes = input-takes old.files h.there h.few; stays = h.stays }
       input-left-by _ h = absurd h
 
@@ -323,17 +328,17 @@ module _ (points : Points) (input prefix : List ℕ) where
     -- ---- what is left of a surveyed input, by a step after those that left all as it was
 
     module _ (s : SurveyFields) (old mid new : Seen) (stays : mid ≡ old) (there : IsThere old.files input) (surveyed : (bytes : List ℕ) → Holds old.files input bytes → survey_of bytes most_frames ≡ Ok s) where
-      places-left-by : (fault : EditFault) (why : Why) → IsPlacesFaultBy placing old new fault why → LeavesBy command old new fault why
+      places-left-by : (fault : EditFault) (why : Why) → IsPlacesFaultBy placing more old new fault why → LeavesBy command old new fault why
       places-left-by fault Rejected h = record { defined = places-refused s old.files there surveyed fault h.0; stays = h.1 }
-      places-left-by fault Missing h = record { defined = places-refused s old.files there surveyed fault h.0; rose = h.1; files = h.2 }
-      places-left-by fault Unread h = record { names = apart; before = behind-before s old.files there surveyed fault h.is; rose = h.rose; files = inl h.files }
-      places-left-by fault Shorter h = record { rose = h.rose; counts = h.counts; untold = h.untold; touches = stays-touched old new fault h.files }
+      places-left-by fault Missing h = record { defined = places-refused s old.files there surveyed fault h.0; rose = missed_name (input ∷ more) 1 (first_at more) h.1; files = h.1.files }
+      places-left-by fault Unread h = record { names = apart; before = behind-before s old.files there surveyed fault h.is; rose = unread_name (input ∷ more) 1 (first_at more) h; files = inl h.files }
+      places-left-by fault Shorter h = record { ended = lost_name (input ∷ more) 1 (first_at more) h; touches = stays-touched old new fault h.files }
       places-left-by fault NoMemory h = record { names = apart; takes = behind-takes s old.files there surveyed; stays = h }
       places-left-by fault _ h = absurd h
 
       -- what is left where there are no positions
-      pub places-left : (fault : EditFault) → IsPlacesFault placing mid new fault → Leaves command old new fault
-      places-left fault h = places-left-by fault (why_of fault) (subst (λ (m : Seen). IsPlacesFault placing m new fault) stays h)
+      pub places-left : (fault : EditFault) → IsPlacesFault placing more mid new fault → Leaves command old new fault
+      places-left fault h = places-left-by fault (why_of fault) (subst (λ (m : Seen). IsPlacesFault placing more m new fault) stays h)
 
       pub memory-left : new ≡ mid → Leaves command old new Memory
       memory-left same = record { names = apart; takes = behind-takes s old.files there surveyed; stays = same ∙ stays }
@@ -359,10 +364,18 @@ module _ (points : Points) (input prefix : List ℕ) where
           part-left : (k : ℕ) → length pieces ≤ 99 → IsWrittenPart (outputs_of s pieces) (names_of pieces) input k old.files new.files → IsWrittenTo command k old.files new.files
           part-left k few h = part s old.files there surveyed places are pieces named chosen k new.files few h
 
-          split-left-by : (fault : EditFault) (why : Why) → length pieces ≤ 99 → OnlyTouches (names_of pieces) old.files new.files → IsPiecesFaultBy (outputs_of s pieces) (names_of pieces) input old new why → LeavesBy command old new fault why
-          split-left-by fault Unread few only h = record { names = apart; before = none-before s old.files there surveyed places are pieces named chosen (IsNotBefore fault); rose = h.rose; files = inr (h.place, part-left h.place few h.files) }
-          split-left-by fault Shorter few only h = record { rose = h.rose; counts = h.counts; untold = h.untold; touches = names-touched few old.files new.files only }
-          split-left-by fault (Unwritten k) few only h = record { rose = h.rose; files = unfinished s old.files there surveyed places are pieces named chosen k new.files few h.files }
+          ended-name : (fault : EditFault) → StopsShort input old new fault → EndedAt (input_of (input ∷ more) fault) (ended_at fault) old.counts.ends new.counts.ends
+          ended-name fault h =
+              subst (λ e. EndedAt (input_of (input ∷ more) e) (ended_at e) old.counts.ends new.counts.ends) (sym h.is)
+              (subst (λ e. EndedAt (input_of (input ∷ []) e) (ended_at e) old.counts.ends new.counts.ends) h.is h.ended.rose)
+
+          split-left-by : (fault : EditFault) (why : Why) → length pieces ≤ 99 → OnlyTouches (names_of pieces) old.files new.files → IsPiecesFaultBy (outputs_of s pieces) (names_of pieces) input old new fault why → LeavesBy command old new fault why
+          split-left-by fault Unread few only h = record { names = apart; before = none-before s old.files there surveyed places are pieces named chosen (IsNotBefore fault); rose = subst (λ e. HappenedTo (input_of (input ∷ more) e) old.counts.read_faults new.counts.read_faults) (sym h.is) h.rose; files = inr (h.place, part-left h.place few h.files) }
+          split-left-by fault Shorter few only h = record {
+            ended = record { rose = ended-name fault h; counts = h.ended.counts; untold = h.ended.untold };
+            touches = names-touched few old.files new.files only;
+          }
+          split-left-by fault (Unwritten k) few only h = record { rose = subst (λ n. HappenedTo n old.counts.write_faults new.counts.write_faults) (name-here prefix s pieces k few h.within named) h.rose; files = unfinished s old.files there surveyed places are pieces named chosen k new.files few h.files }
           split-left-by fault _ few only h = absurd h
 
           -- a fault of the second pass

@@ -1,11 +1,11 @@
 -- Outputs that are written one after the other.
-use Rattle.std.proofs.Common.{◌≡◌, ◌≢◌, ℕ, ◌+◌, ◌<◌, List, [], ◌∷◌, ◌++◌, length, take, drop, Option, Some, None, Result, Ok, Err, refl, sym, ◌∙◌, ap, ap₂, subst, string_bytes, is_some, inl, inr, arith, append-nil, append_assoc, length-append}
+use Rattle.std.proofs.Common.{◌≡◌, ◌≢◌, ℕ, ◌+◌, ◌<◌, List, [], ◌∷◌, ◌++◌, length, take, drop, slice_index_or, Option, Some, None, Result, Ok, Err, refl, sym, ◌∙◌, ap, ap₂, subst, string_bytes, is_some, inl, inr, arith, append-nil, append_assoc, length-append}
 use Rattle.std.specs.Prelude.{IfErr, OnOk}
 use Rattle.std.proofs.Math.Seq.{take-append_seam, drop-append_seam}
 use Rattle.std.proofs.lemmas.List.{map-append, length-map}
 use Rattle.std.proofs.lemmas.List.Elements.{All-take}
 use Rattle.outside.specs.Files.{Contents, Files, Told, Untold, with_file, emptied, Holds, IsThere, OnlyTouches}
-use Rattle.outside.specs.Counts.{Counts, Rose, NothingFailed}
+use Rattle.outside.specs.Counts.{Counts, HappenedTo, EndedAt, NothingFailed}
 use Rattle.outside.specs.Feed.{Fed, IsFedFrom}
 use Rattle.outside.proofs.FilesLaws.{there_holds, with_file_other, emptied_held_other, touches_none, touches_both, touches_more, touches_told}
 use Rattle.sync_survey.specs.Faults.{SurveyFields}
@@ -15,7 +15,7 @@ use Rattle.commands.specs.Command.{Output, begun, LacksBytes, written}
 use Rattle.frame_edits.specs.Chosen.{chosen_in, chosen_file}
 use Rattle.commands.specs.One.{holding, HoldsPrefix, HoldsLess, IsPassFault}
 use Rattle.commands.specs.Left.{seen}
-use Rattle.outside.specs.Pass.{Appends, AppendsPrefix, HasPassCause}
+use Rattle.outside.specs.Pass.{Appends, AppendsPrefix, route, HasPassCause}
 use Rattle.commands.specs.PassFaults.{of_pass}
 use Rattle.commands.proofs.OutputLaws.{output_whole, touches_whole, touches_prefix, pass_fault}
 use Rattle.splitting.specs.declared.piece.Piece.{Piece}
@@ -110,14 +110,14 @@ module _ {T : Type 0} (made : List ℕ → List ℕ) (size : ℕ) (input output 
       at (Ok x) h k = touches_whole made input output apart-from old mid new created h
       at (Err fault) h k = touches_prefix made input output apart-from old mid new created k
 
-  pub piece-left : (before between after : Counts) → between ≡ before → IfErr r (AppendsPrefix input output made mid new) → IfErr r (HasPassCause size mid between after)
-      → IfErr r (λ fault. IsPassFault made input name (seen old before) (seen new after) (of_pass fault))
+  pub piece-left : (before between after : Counts) → between ≡ before → IfErr r (AppendsPrefix input output made mid new) → IfErr r (HasPassCause (route input output size) mid between after)
+      → IfErr r (λ fault. IsPassFault made (input ∷ []) name (seen old before) (seen new after) (of_pass fault))
   piece-left before between after same h k = at r h k
     where
-      at : (r : Result T PassFault) → IfErr r (AppendsPrefix input output made mid new) → IfErr r (HasPassCause size mid between after) → IfErr r (λ fault. IsPassFault made input name (seen old before) (seen new after) (of_pass fault))
+      at : (r : Result T PassFault) → IfErr r (AppendsPrefix input output made mid new) → IfErr r (HasPassCause (route input output size) mid between after) → IfErr r (λ fault. IsPassFault made (input ∷ []) name (seen old before) (seen new after) (of_pass fault))
       at (Ok x) h k = tt
       at (Err fault) h k =
-          subst (λ n. IsPassFault made input n (seen old before) (seen new after) (of_pass fault)) is
+          subst (λ n. IsPassFault made (input ∷ []) n (seen old before) (seen new after) (of_pass fault)) is
           (pass_fault made input output apart-from old mid new created fault size before between after same h k)
 
 -- ---- pieces that were written
@@ -155,6 +155,10 @@ more-wrote s input done piece old now new apart wrote written touches =
       };
     }
 
+name-between : (done : List Piece) (piece : Piece) (rest : List Piece) → slice_index_or (names_of (done ++ piece ∷ rest)) (length done) [] ≡ string_bytes piece.name
+name-between [] piece rest = refl
+name-between (first ∷ done) piece rest = name-between done piece rest
+
 -- one more was begun
 module _ (s : SurveyFields) (input : List ℕ) (done : List Piece) (piece : Piece) (rest all : List Piece) (old now new : Files) (split : done ++ piece ∷ rest ≡ all) (wrote : Wrote s input done old now) (touches : OnlyTouches (string_bytes piece.name ∷ []) now new) where
   touched-first : (place : ℕ) → place ≡ length done → names_of done ++ string_bytes piece.name ∷ [] ≡ take (place + 1) (names_of all)
@@ -164,6 +168,10 @@ module _ (s : SurveyFields) (input : List ℕ) (done : List Piece) (piece : Piec
       let whole : first ++ names_of rest ≡ names_of all =
       append_assoc (names_of done) (string_bytes piece.name ∷ []) (names_of rest) ∙ sym (map-append (λ (p : Piece). string_bytes p.name) done (piece ∷ rest)) ∙ ap names_of split in
       sym (take-append_seam first (names_of rest)) ∙ ap₂ (λ n names. take n names) size whole
+
+  name-here : (place : ℕ) → place ≡ length done → slice_index_or (names_of all) place [] ≡ string_bytes piece.name
+  name-here place is =
+      ap₂ (λ n (ps : List Piece). slice_index_or (names_of ps) n []) is (sym split) ∙ name-between done piece rest
 
   touched-here : (place : ℕ) → place ≡ length done → OnlyTouches (take (place + 1) (names_of all)) old new
   touched-here place is = subst (λ names. OnlyTouches names old new) (touched-first place is) (touches_both (names_of done) (string_bytes piece.name ∷ []) old now new wrote.touches touches)
@@ -206,13 +214,22 @@ module _ (s : SurveyFields) (input : List ℕ) (done : List Piece) (piece : Piec
   }
 
   pub pieces-fault : (fault : PassFault) (place : ℕ) (before between after : Counts) → place ≡ length done → between ≡ before
-      → IsPassFault (piece_made s piece) input (string_bytes piece.name) (seen now between) (seen new after) (of_pass fault) → IsPiecesFault (outputs_of s all) (names_of all) input (seen old before) (seen new after) (of_piece place fault)
+      → IsPassFault (piece_made s piece) (input ∷ []) (string_bytes piece.name) (seen now between) (seen new after) (of_pass fault) → IsPiecesFault (outputs_of s all) (names_of all) input (seen old before) (seen new after) (of_piece place fault)
   pieces-fault Read place before between after is same h =
-      record { rose = subst (λ c. Rose c.read_faults after.read_faults) same h.rose; place = place; files = part-written h.files place is }
+      record { is = refl; rose = subst (λ c. HappenedTo input c.read_faults after.read_faults) same h.rose; place = place; files = part-written h.files place is }
   pieces-fault (Shrunk first second) place before between after is same h = record {
-    rose = subst (λ c. Rose c.ends after.ends) same h.rose;
-    counts = subst (λ c. NothingFailed c after) same h.counts;
-    untold = sym (touches_told (names_of done) old now wrote.touches) ∙ h.untold;
+    first = first;
+    second = second;
+    is = refl;
+    ended = record {
+      rose = subst (λ c. EndedAt input second c.ends after.ends) same h.rose;
+      counts = subst (λ c. NothingFailed c after) same h.counts;
+      untold = sym (touches_told (names_of done) old now wrote.touches) ∙ h.untold;
+    };
   }
   pieces-fault Write place before between after is same h =
-      record { rose = subst (λ c. Rose c.write_faults after.write_faults) same h.1.rose; files = part-unfinished h.1.files place is }
+      record {
+        within = omega (arith, is, ap length split, length-append done (piece ∷ rest), length-map all (λ (p : Piece). string_bytes p.name));
+        rose = subst (λ n. HappenedTo n before.write_faults after.write_faults) (sym (name-here place is)) (subst (λ c. HappenedTo (string_bytes piece.name) c.write_faults after.write_faults) same h.1.rose);
+        files = part-unfinished h.1.files place is;
+      }

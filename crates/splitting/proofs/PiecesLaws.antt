@@ -1,7 +1,7 @@
 -- Pieces one more at a time, from the positions and for the outputs.
-use Rattle.std.proofs.Common.{◌≡◌, ◌≢◌, ℕ, ◌+◌, ◌-◌, ◌<◌, ◌≤◌, true, false, List, [], ◌∷◌, ◌++◌, length, map, take, drop, get_or, Result, Ok, Err, refl, sym, ◌∙◌, ap, ap₂, subst, zero, suc, bytes_eq, string_bytes, arith, append_assoc}
+use Rattle.std.proofs.Common.{◌≡◌, ◌≢◌, ℕ, ◌+◌, ◌-◌, ◌<◌, ◌≤◌, true, false, List, [], ◌∷◌, ◌++◌, length, map, take, drop, get_or, slice_index_or, Result, Ok, Err, refl, sym, ◌∙◌, ap, ap₂, subst, zero, suc, bytes_eq, string_bytes, arith, append_assoc}
 use Rattle.std.specs.List.{All, list_any, range_with_len}
-use Rattle.std.proofs.lemmas.List.{drop_more}
+use Rattle.std.proofs.lemmas.List.{drop_more, get_or-take, length-map}
 use Rattle.std.proofs.lemmas.List.Elements.{All-nil, All-cons, All-head, All-tail, All-take}
 use Rattle.std.proofs.lemmas.List.Folds.{list_any_at}
 use Rattle.std.proofs.lemmas.List.FromFn.{length-map-range_with_len, get_or-map-range_with_len, take-map-range_with_len}
@@ -79,6 +79,11 @@ names-are prefix s k (piece ∷ pieces) are = ap₂ (λ name names. name ∷ nam
 names-prefix : (prefix : List ℕ) (s : SurveyFields) (pieces : List Piece) → length pieces ≤ 99 → ArePieces prefix s 1 pieces → names_of pieces ≡ take (length pieces) (piece_names prefix)
 unfolding piece_names
 names-prefix prefix s pieces few are = names-are prefix s 1 pieces are ∙ sym (take-map-range_with_len (piece_name prefix) 1 99 (length pieces) few)
+
+pub name-here : (prefix : List ℕ) (s : SurveyFields) (pieces : List Piece) (k : ℕ) → length pieces ≤ 99 → k < length (names_of pieces) → ArePieces prefix s 1 pieces → slice_index_or (names_of pieces) k [] ≡ slice_index_or (piece_names prefix) k []
+name-here prefix s pieces k few within are =
+    ap (λ (names : List (List ℕ)). slice_index_or names k []) (names-prefix prefix s pieces few are)
+    ∙ get_or-take (length pieces) (piece_names prefix) k [] (omega (arith, within, length-map pieces (λ (p : Piece). string_bytes p.name)))
 
 All-first : {X : Type 0} (P : X → Type 0) (m n : ℕ) (xs : List X) → All P (take m xs) → All P (take m (take n xs))
 All-first P zero n xs all = All-nil P

@@ -1,7 +1,7 @@
 -- The steps of a command that cuts a file.
-use Rattle.std.specs.Prelude.{◌≡◌, ◌≢◌, ℕ, ◌+◌, ◌<◌, true, List, [], ◌∷◌, length, map, take, drop, string_bytes, Option, Some, Result, Err}
+use Rattle.std.specs.Prelude.{◌≡◌, ◌≢◌, ℕ, ◌+◌, ◌<◌, true, List, [], ◌∷◌, length, map, take, drop, slice_index_or, string_bytes, Option, Some, Result, Err}
 use Rattle.outside.specs.Files.{Files, Holds, IsThere, IfTold, Told, Untold, OnlyTouches}
-use Rattle.outside.specs.Counts.{Rose}
+use Rattle.outside.specs.Counts.{HappenedTo}
 use Rattle.sync_survey.specs.declared.survey_fault.SurveyFault.TheVariants.{Read, Shrunk, Memory as NoRoom}
 use Rattle.sync_survey.specs.Faults.{SurveyFields}
 use Rattle.commands.specs.declared.fault.EditFault.{EditFault}
@@ -11,9 +11,9 @@ use Rattle.outside.specs.declared.pass.PassFault.{PassFault}
 use Rattle.outside.specs.declared.pass.PassFault.TheVariants.{Read as CopyRead, Shrunk as CopyShrunk, Write as CopyWrite}
 use Rattle.commands.specs.Kinds.{HasRightNumbers}
 use Rattle.commands.specs.Command.{Output, written, LacksBytes, written_to}
-use Rattle.commands.specs.Left.{Why, Rejected, Missing, Unread, Shorter, Unwritten, Unsent, NoMemory, why_of, Seen}
-use Rattle.commands.specs.One.{ReadsNothing, LosesInput, StopsShort}
-use Rattle.commands.specs.Sheet.{IsSheetFaultBy as IsUnreadBy, IsOfSheet as IsOfRead}
+use Rattle.commands.specs.Left.{Why, Rejected, Missing, Unread, Shorter, Unwritten, Unsent, NoMemory, why_of, Seen, EndsEarly}
+use Rattle.commands.specs.One.{first_input, ReadsNothing, LosesInput}
+use Rattle.commands.specs.Sheet.{MissesSheet, IsSheetFaultBy as IsUnreadBy, IsOfSheet as IsOfRead}
 use Rattle.frame_edits.specs.Chosen.{Chosen, chosen_in, chosen_file}
 use Rattle.frame_edits.specs.Selected.{IsSelected}
 use Rattle.splitting.specs.declared.piece.Piece.{Piece}
@@ -48,18 +48,19 @@ IsOfSheet fault = IsOfRead fault
 abbrev pub Says : Placing → Files → Result (List Place) EditFault → Type 0
 Says placing files answer = IfTold files (λ f. placing.places f ≡ answer)
 
-abbrev pub IsPlacesFaultBy : Placing → Seen → Seen → EditFault → Why → Type 0
-IsPlacesFaultBy placing old new fault Rejected = Says placing old.files (Err fault) × (new ≡ old)
-IsPlacesFaultBy placing old new fault Missing = Says placing old.files (Err fault) × Rose old.counts.misses new.counts.misses × (new.files ≡ old.files)
-IsPlacesFaultBy placing old new fault Unread = ReadsNothing 1 old new fault
-IsPlacesFaultBy placing old new fault Shorter = LosesInput old new
-IsPlacesFaultBy placing old new fault (Unwritten k) = ⊥
-IsPlacesFaultBy placing old new fault Unsent = ⊥
-IsPlacesFaultBy placing old new fault NoMemory = new ≡ old
+-- the name of the sheet, which is the first input besides the one that is cut, and input 1 of the command
+abbrev pub IsPlacesFaultBy : Placing → List (List ℕ) → Seen → Seen → EditFault → Why → Type 0
+IsPlacesFaultBy placing more old new fault Rejected = Says placing old.files (Err fault) × (new ≡ old)
+IsPlacesFaultBy placing more old new fault Missing = Says placing old.files (Err fault) × MissesSheet (first_input more) old new fault
+IsPlacesFaultBy placing more old new fault Unread = ReadsNothing 1 (first_input more) old new fault
+IsPlacesFaultBy placing more old new fault Shorter = LosesInput 1 (first_input more) old new fault
+IsPlacesFaultBy placing more old new fault (Unwritten k) = ⊥
+IsPlacesFaultBy placing more old new fault Unsent = ⊥
+IsPlacesFaultBy placing more old new fault NoMemory = new ≡ old
 
 -- what a fault that was met while the positions were found says of its cause
-abbrev pub IsPlacesFault : Placing → Seen → Seen → EditFault → Type 0
-IsPlacesFault placing old new fault = IsPlacesFaultBy placing old new fault (why_of fault)
+abbrev pub IsPlacesFault : Placing → List (List ℕ) → Seen → Seen → EditFault → Type 0
+IsPlacesFault placing more old new fault = IsPlacesFaultBy placing more old new fault (why_of fault)
 
 -- the fault is one of the sheet, or want of memory; of given positions only want of memory
 abbrev pub IsOfPlaces : Points → EditFault → Type 0
@@ -117,24 +118,35 @@ pub record IsUnfinishedPart (made : List ℕ → List Output) (names : List (Lis
   pub files : (bytes : List ℕ) → Holds old input bytes → (k < length (made bytes)) × (count : Option ℕ) × LacksBytes count (drop k (made bytes)) × (new ≡ with_part k count (made bytes) old)
   pub touches : OnlyTouches (take (k + 1) names) old new
 
-pub record StopsReading (made : List ℕ → List Output) (names : List (List ℕ)) (input : List ℕ) (old new : Seen) : Type 0 where
-  pub rose : Rose old.counts.read_faults new.counts.read_faults
+-- the input, which is the first, could not be read again
+pub record StopsReading (made : List ℕ → List Output) (names : List (List ℕ)) (input : List ℕ) (old new : Seen) (fault : EditFault) : Type 0 where
+  pub is : fault ≡ Input 0 Read
+  pub rose : HappenedTo input old.counts.read_faults new.counts.read_faults
   pub place : ℕ
   pub files : IsWrittenPart made names input place old.files new.files
 
+-- it became shorter
+pub record StopsShort (input : List ℕ) (old new : Seen) (fault : EditFault) : Type 0 where
+  pub first : ℕ
+  pub second : ℕ
+  pub is : fault ≡ Input 0 (Shrunk first second)
+  pub ended : EndsEarly (input ∷ []) old new fault
+
+-- the output of this place could not be written
 pub record StopsWriting (made : List ℕ → List Output) (names : List (List ℕ)) (input : List ℕ) (place : ℕ) (old new : Seen) : Type 0 where
-  pub rose : Rose old.counts.write_faults new.counts.write_faults
+  pub within : place < length names
+  pub rose : HappenedTo (slice_index_or names place []) old.counts.write_faults new.counts.write_faults
   pub files : IsUnfinishedPart made names input place old.files new.files
 
-abbrev pub IsPiecesFaultBy : (List ℕ → List Output) → List (List ℕ) → List ℕ → Seen → Seen → Why → Type 0
-IsPiecesFaultBy made names input old new Unread = StopsReading made names input old new
-IsPiecesFaultBy made names input old new Shorter = StopsShort old new
-IsPiecesFaultBy made names input old new (Unwritten k) = StopsWriting made names input k old new
-IsPiecesFaultBy made names input old new _ = ⊥
+abbrev pub IsPiecesFaultBy : (List ℕ → List Output) → List (List ℕ) → List ℕ → Seen → Seen → EditFault → Why → Type 0
+IsPiecesFaultBy made names input old new fault Unread = StopsReading made names input old new fault
+IsPiecesFaultBy made names input old new fault Shorter = StopsShort input old new fault
+IsPiecesFaultBy made names input old new fault (Unwritten k) = StopsWriting made names input k old new
+IsPiecesFaultBy made names input old new fault _ = ⊥
 
 -- what a fault that was met while the pieces were written leaves
 abbrev pub IsPiecesFault : (List ℕ → List Output) → List (List ℕ) → List ℕ → Seen → Seen → EditFault → Type 0
-IsPiecesFault made names input old new fault = IsPiecesFaultBy made names input old new (why_of fault)
+IsPiecesFault made names input old new fault = IsPiecesFaultBy made names input old new fault (why_of fault)
 
 -- the fault of the pass that writes this piece, counted from 0
 abbrev pub of_piece : ℕ → PassFault → EditFault

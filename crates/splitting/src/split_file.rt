@@ -5,7 +5,7 @@ ghost use Rattle.outside.specs.Counts.{NoneFell, OnlyReads};
 ghost use Rattle.cue_sheet.specs.Places.{IsPlace};
 ghost use Rattle.commands.specs.Command.{HoldsStreams, clash_of};
 ghost use Rattle.commands.specs.Left.{seen, IsDone, Leaves, HasNumbers};
-ghost use Rattle.splitting.specs.Split.{placing_of, split_command_of, ArePoints};
+ghost use Rattle.splitting.specs.Split.{placing_of, more_of, split_command_of, ArePoints};
 ghost use Rattle.splitting.specs.Steps.{Says, IsPlacesFault, IsOfPlaces};
 
 use crate::names::is_piece_name;
@@ -61,7 +61,7 @@ fn places_of<D: Folder>(
     ensures sound { IfOk result (λ places. All IsPlace places.items) }
     ensures some { IfOk result (λ places. 2 ≤ length places.items) }
     ensures most { IfOk result (λ places. length places.items ≤ 100) }
-    ensures refused { IfErr result (IsPlacesFault (placing_of points.now)
+    ensures refused { IfErr result (IsPlacesFault (placing_of points.now) (more_of points.now)
         (seen (D.files folder.old) (D.counts folder.old))
         (seen (D.files folder.new) (D.counts folder.new))) }
     ensures numbers { IfErr result (IsOfPlaces points.now) }

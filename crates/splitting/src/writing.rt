@@ -55,7 +55,8 @@ fn write_piece<'a, D: Folder>(
     ensures done { OnOk result (D.counts folder.new ≡ D.counts folder.old) }
     ensures left { IfErr result (λ fault. IsPassFault
         (λ file. chosen_file (chosen_in piece.now.selection.chosen) file (tells survey.now))
-        input.now (string_bytes piece.now.name) (seen (D.files folder.old) (D.counts folder.old))
+        (input.now ∷ []) (string_bytes piece.now.name)
+        (seen (D.files folder.old) (D.counts folder.old))
         (seen (D.files folder.new) (D.counts folder.new)) (of_pass fault)) }
     ensures numbers { IfErr result IsOfCopy }
     ensures counts { NoneFell (D.counts folder.old) (D.counts folder.new) }

@@ -1,5 +1,5 @@
 -- A clash of names, what was met before the output is created, and the second pass.
-use Rattle.std.proofs.Common.{◌≡◌, [], List, ℕ, length, map, string_bytes, sym, ◌∙◌, ap, ap₂, subst, arith, append-nil}
+use Rattle.std.proofs.Common.{refl, ◌≡◌, [], List, ℕ, length, map, string_bytes, sym, ◌∙◌, ap, ap₂, subst, arith, append-nil}
 use Rattle.std.proofs.lemmas.List.{length-map}
 use Rattle.std.proofs.lemmas.Result.{IfErr-weaker}
 use Rattle.sync_survey.specs.Faults.{SurveyFields, tells}
@@ -7,7 +7,7 @@ use Rattle.outside.specs.Files.{Files}
 use Rattle.commands.specs.declared.fault.EditFault.TheVariants.{Memory}
 use Rattle.commands.specs.Left.{seen, Leaves}
 use Rattle.commands.specs.One.{IsMaking, NeedsMemory, first_input, one_command}
-use Rattle.commands.proofs.MakeLaws.{clash_left, early_left, one_done, one_left, one_streams}
+use Rattle.commands.proofs.MakeLaws.{clash_left, early_left, one_done, all_left, one_streams}
 use Rattle.commands.proofs.RefusingLaws.{err_with}
 use Rattle.joining.specs.Join.{joined_file, join_task}
 use Rattle.std.specs.Prelude.{IfSome}
@@ -83,9 +83,9 @@ pub returns-clause-left : goal.returns-clause-left
 returns-clause-left g c =
     let files = g.D.Folder.files in
     let counts = g.D.Folder.counts in
-    one_left (join_task (map string_bytes c.args.inputs.now)) c.args.output.now (sym c.clash.ensures ∙ c.in_default.is) _ (seen (files c.args.folder.now) (counts c.args.folder.now)) (seen (files c.survey_all.new.folder) (counts c.survey_all.new.folder)) _
+    all_left (join_task (map string_bytes c.args.inputs.now)) c.args.output.now (sym c.clash.ensures ∙ c.in_default.is) _ (seen (files c.args.folder.now) (counts c.args.folder.now)) (seen (files c.survey_all.new.folder) (counts c.survey_all.new.folder)) _
     (ap₂ seen c.survey_all.ensures.files c.in_ok-surveys.ensures.done) (making g (goal.at.returns-clause-left g c).In_ok-surveys _ _ c.survey_all.ensures.files (ap (map tells) c.deref-3.ensures.value))
-    c.write_joined.ensures.touches c.write_joined.result c.write_joined.ensures.left
+    c.write_joined.ensures.touches refl c.write_joined.result c.write_joined.ensures.left
 
 pub returns-clause-numbers : goal.returns-clause-numbers
 returns-clause-numbers g c =

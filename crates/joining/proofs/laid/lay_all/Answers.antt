@@ -8,7 +8,7 @@ use Rattle.laying.proofs.EndLaws.{new-behind, lays-written, lays-prefix, part-pr
 use Rattle.joining.specs.Laying.{all_laid}
 use Rattle.joining.proofs.StreamLaws.{sources-length}
 use Rattle.joining.proofs.StepLaws.{source-ready, laid-none, laid-all, next-source, next-class, next-fits, next-laid, next-part}
-use Rattle.joining.proofs.OutLaws.{of_one-fault}
+use Rattle.joining.proofs.OutLaws.{cause-named, of_one-fault}
 use Rattle.joining.proofs.laid.lay_all.Given as given
 use Rattle.joining.proofs.laid.lay_all.Goals as goal
 use Rattle.joining.proofs.laid.lay_all.Goals.{After-finish}
@@ -59,9 +59,9 @@ returns-in-Err-clause-cause g c =
       place = c.loop-i.i;
       size = c.length.result;
       pass = c.in-Err.fault;
-      within = omega (arith, c.loop-i-test.true);
+      within = omega (arith, c.loop-i-test.true, length-map c.args.inputs.now string_bytes);
       is = c.of_pass.ensures;
-      cause = cause_later _ _ _ c.args.first.now.pass.output.now sofar.passed _ _ _ c.in-Err.fault sofar.files c.loop-i.invariant.counts c.in-Err.ensures.cause;
+      cause = cause-named (map string_bytes c.args.inputs.now) c.loop-i.i _ _ _ _ _ _ _ _ c.name_at.ensures (cause_later _ _ _ c.args.first.now.pass.output.now sofar.passed _ _ _ c.in-Err.fault sofar.files c.loop-i.invariant.counts c.in-Err.ensures.cause);
     }
 
 pub loop-i-preserved : goal.loop-i-preserved
@@ -104,7 +104,7 @@ returns-in-Err-finish-clause-cause g c =
       place = 0;
       size = c.args.first.now.pass.length;
       pass = c.in-Err-finish.fault;
-      within = omega (arith, c.requires.some);
+      within = omega (arith, c.requires.some, length-map c.args.inputs.now string_bytes);
       is = c.of_pass-in-Err-finish.ensures;
-      cause = cause_later _ _ _ c.args.first.now.pass.output.now sofar.passed _ _ _ c.in-Err-finish.fault sofar.files c.loop-i.invariant.counts c.in-Err-finish.ensures.cause;
+      cause = cause-named (map string_bytes c.args.inputs.now) 0 _ _ _ _ _ _ _ _ c.requires.names (cause_later _ _ _ c.args.first.now.pass.output.now sofar.passed _ _ _ c.in-Err-finish.fault sofar.files c.loop-i.invariant.counts c.in-Err-finish.ensures.cause);
     }

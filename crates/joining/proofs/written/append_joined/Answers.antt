@@ -20,7 +20,7 @@ use Rattle.joining.specs.Inputs.{told_parts}
 use Rattle.joining.proofs.LayLaws.{told_frames}
 use Rattle.joining.proofs.StepLaws.{source-ready}
 use Rattle.joining.proofs.StreamLaws.{first-source}
-use Rattle.joining.proofs.OutLaws.{sources-appended, of_one-fault, join-cause_later, whole-is, whole-mid}
+use Rattle.joining.proofs.OutLaws.{cause-named, sources-appended, of_one-fault, join-cause_later, whole-is, whole-mid}
 use Rattle.joining.proofs.written.append_joined.Given as given
 use Rattle.joining.proofs.written.append_joined.Goals as goal
 use Rattle.joining.proofs.written.append_joined.Goals.{After-lay_all}
@@ -36,6 +36,16 @@ returns-in-Err-clause-prefix g c =
     (prefix_as first.pass _ (λ _. frame_bytes (relaid (told_frames old (map string_bytes c.args.inputs.now) (map tells c.args.surveys.now)) (entries c.args.planned.now.plan)))
     (λ file holds. sym (whole-is first.pass.output.now old first.pass.input.now _ _ (tells first.survey.now) _ _ c.args.planned.now c.as_slice-info.result.now (entries c.args.planned.now.plan) c.requires.names c.requires.known c.requires.planned c.requires.sources c.as_slice-info.ensures.value refl file holds))
     c.in-Err.ensures.prefix)
+
+pub returns-in-Err-clause-cause : goal.returns-in-Err-clause-cause
+returns-in-Err-clause-cause g c = record {
+  place = 0;
+  size = c.args.first.now.pass.length;
+  pass = c.in-Err.fault;
+  within = omega (arith, ap length c.requires.names);
+  is = c.of_pass.ensures;
+  cause = cause-named (map string_bytes c.args.inputs.now) 0 _ _ _ _ _ _ _ _ c.requires.names c.in-Err.ensures.cause;
+}
 
 pub lay_all-requires-clause-apart : goal.lay_all-requires-clause-apart
 lay_all-requires-clause-apart g c = (first-source _ c.requires.names c.requires.known c.requires.sources).apart
@@ -104,7 +114,7 @@ returns-in_err-lay_all-clause-cause g c =
     let front = c.in_default.ensures.written in
     let q = err_from_is_err_and c.from_residual.result c.from_residual.ensures.1 in
     rw (q.1, q.2)
-    (join-cause_later (length c.args.inputs.now) (files c.args.folder.now) (files c.append_front.new.folder) c.args.first.now.pass.output.now front.bytes (counts c.args.folder.now) (counts c.append_front.new.folder) (counts c.lay_all.new.folder) _ front.files c.in_default.ensures.done c.in_err-lay_all.ensures.cause)
+    (join-cause_later (map string_bytes c.args.inputs.now) (files c.args.folder.now) (files c.append_front.new.folder) c.args.first.now.pass.output.now front.bytes (counts c.args.folder.now) (counts c.append_front.new.folder) (counts c.lay_all.new.folder) _ front.files c.in_default.ensures.done c.in_err-lay_all.ensures.cause)
 
 pub finish-requires : goal.finish-requires
 finish-requires g c = passed_there c.in_ok-lay_all.ensures.written.passed
@@ -120,13 +130,12 @@ returns-in-Err-finish-clause-prefix g c =
 pub returns-in-Err-finish-clause-cause : goal.returns-in-Err-finish-clause-cause
 returns-in-Err-finish-clause-cause g c =
     let front = c.in_default.ensures.written in
-    let size = c.args.first.now.pass.length in
     record {
       place = 0;
-      size = size;
+      size = c.args.first.now.pass.length;
       pass = c.in-Err-finish.fault;
       within = omega (arith, ap length c.requires.names, length-map c.args.inputs.now string_bytes);
       is = c.of_pass-in-Err-finish.ensures;
-      cause = cause_later size _ _ c.args.first.now.pass.output.now front.bytes _ _ _ c.in-Err-finish.fault front.files c.in_default.ensures.done
-          (cause_behind c.in_ok-lay_all.ensures.written size _ _ _ c.in_ok-lay_all.ensures.done c.in-Err-finish.fault c.in-Err-finish.ensures.cause);
+      cause = cause-named (map string_bytes c.args.inputs.now) 0 _ _ _ _ _ _ _ _ c.requires.names (cause_later _ _ _ c.args.first.now.pass.output.now front.bytes _ _ _ c.in-Err-finish.fault front.files c.in_default.ensures.done
+          (cause_behind c.in_ok-lay_all.ensures.written _ _ _ _ c.in_ok-lay_all.ensures.done c.in-Err-finish.fault c.in-Err-finish.ensures.cause));
     }

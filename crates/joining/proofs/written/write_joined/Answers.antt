@@ -71,13 +71,12 @@ returns-clause-left g c =
     let files = g.D.Folder.files in
     let counts = g.D.Folder.counts in
     let old = files c.args.folder.now in
-    let left = λ (bytes name : List ℕ). IsPassFault (λ _. bytes) name c.args.output.now (seen old (counts c.args.folder.now)) (seen (files c.append_joined.new.folder) (counts c.append_joined.new.folder)) in
+    let left = λ (bytes : List ℕ). IsPassFault (λ _. bytes) (map string_bytes c.args.inputs.now) c.args.output.now (seen old (counts c.args.folder.now)) (seen (files c.append_joined.new.folder) (counts c.append_joined.new.folder)) in
     let source = first-source _ c.name_at.ensures c.known_at-survey.ensures (sources g at) in
     err-both c.append_joined.result c.append_joined.ensures.prefix c.append_joined.ensures.cause
     (λ fault prefix cause.
-    subst (λ n. left (joined_file (told_parts old (map string_bytes c.args.inputs.now) (map tells c.args.surveys.now))) n fault) (sym (ap first_input c.name_at.ensures))
-    (subst (λ bytes. left bytes c.name_at.result.now fault) (same g at)
-    (join-fault _ c.name_at.result.now c.args.output.now source.apart old _ _ c.in-Ok.ensures.created (counts c.args.folder.now) _ _ c.in-Ok.ensures.done _ fault prefix cause)))
+    subst (λ bytes. left bytes fault) (same g at)
+    (join-fault _ c.name_at.result.now c.args.output.now source.apart old _ _ c.in-Ok.ensures.created (counts c.args.folder.now) _ _ c.in-Ok.ensures.done (map string_bytes c.args.inputs.now) (ap first_input c.name_at.ensures) fault prefix cause))
 
 -- the output wasn't created
 pub returns-in_default-clause-touches : goal.returns-in_default-clause-touches

@@ -1,5 +1,6 @@
 -- The output is created, and then written by a pass over the input, which stays.
 use Rattle.std.proofs.Common.{◌≢◌, [], ◌∷◌, refl, ◌∙◌, subst}
+use Rattle.outside.specs.Counts.{HappenedTo}
 use Rattle.outside.specs.Files.{OnlyTouches, FailsToCreate}
 use Rattle.outside.proofs.FilesLaws.{fails_touches}
 use Rattle.commands.proofs.OutputLaws.{not_begun}
@@ -40,4 +41,4 @@ returns-in_default-clause-touches g c =
 
 pub returns-in_default-clause-left : goal.returns-in_default-clause-left
 returns-in_default-clause-left g c =
-    (refl, record { rose = c.in_default.ensures.failed; files = not_begun _ c.args.input.now _ _ _ (subst (λ n. FailsToCreate n (g.D.Folder.files c.args.folder.now) (g.D.Folder.files c.create.new.self)) c.as_str-output.ensures.value c.in_default.ensures.kept) })
+    (refl, record { rose = subst (λ n. HappenedTo n (g.D.Folder.counts c.args.folder.now).write_faults (g.D.Folder.counts c.create.new.self).write_faults) c.as_str-output.ensures.value c.in_default.ensures.failed; files = not_begun _ c.args.input.now _ _ _ (subst (λ n. FailsToCreate n (g.D.Folder.files c.args.folder.now) (g.D.Folder.files c.create.new.self)) c.as_str-output.ensures.value c.in_default.ensures.kept) })
