@@ -1,5 +1,5 @@
 -- What the list command leaves, by the survey of its input.
-use Rattle.std.proofs.Common.{◌≡◌, ℕ, ◌+◌, ◌≤◌, List, [], length, Some, None, Result, Ok, Err, refl, sym, ◌∙◌, ap, ap₂, subst, inl, arith}
+use Rattle.std.proofs.Common.{◌≡◌, ℕ, ◌+◌, ◌≤◌, List, [], ◌∷◌, length, Some, None, Result, Ok, Err, refl, sym, ◌∙◌, ap, ap₂, subst, inl, arith}
 use Rattle.std.specs.Prelude.{IfSome, is_some}
 use Rattle.outside.specs.Files.{Contents, Files, Holds, IsThere, IsMissing, Told, Untold, IfTold, OnlyTouches}
 use Rattle.outside.specs.Counts.{Counts}
@@ -19,6 +19,7 @@ use Rattle.commands.specs.Left.{Why, Rejected, Missing, Unread, Shorter, NoMemor
 use Rattle.listing.specs.Listing.{listed_by, listed_where, listing, list_command}
 use Rattle.commands.proofs.InputLaws.{of_bytes_behind}
 use Rattle.commands.proofs.MakeLaws.{ok_made, made-same}
+use Rattle.commands.proofs.NamedLaws.{missed_name, unread_name, lost_name}
 use Rattle.commands.proofs.RefusingLaws.{before_first}
 use Rattle.sync_survey.proofs.SurveyedFiles.{survey_of-parts}
 
@@ -51,9 +52,9 @@ module _ (input : List ℕ) where
   module _ (old new : Seen) (fault : EditFault) where
     survey_left_by : (why : Why) → IsFileFaultBy 0 most_frames input old new fault why → LeavesBy (list_command input) old new fault why
     survey_left_by Rejected h = record { defined = subst (λ e. Gives (list_command input) old.files (Err e)) (sym h.1) (gives_bytes old.files (Err h.0) h.2.there h.2.bytes); stays = h.2.stays }
-    survey_left_by Missing h = record { defined = subst (λ e. Gives (list_command input) old.files (Err e)) (sym h.0) (gives_absent old.files h.1); rose = h.2; files = h.3 }
-    survey_left_by Unread h = record { names = refl; before = before_first old.files (list_command input).makes fault h.is; rose = h.rose; files = inl h.files }
-    survey_left_by Shorter h = record { rose = h.rose; counts = h.counts; untold = h.untold; touches = subst (λ files. OnlyTouches [] old.files files) (sym h.files) (touches_none [] old.files) }
+    survey_left_by Missing h = record { defined = subst (λ e. Gives (list_command input) old.files (Err e)) (sym h.is) (gives_absent old.files h.missing); rose = missed_name (input ∷ []) 0 refl h; files = h.files }
+    survey_left_by Unread h = record { names = refl; before = before_first old.files (list_command input).makes fault h.is; rose = unread_name (input ∷ []) 0 refl h; files = inl h.files }
+    survey_left_by Shorter h = record { ended = lost_name (input ∷ []) 0 refl h; touches = subst (λ files. OnlyTouches [] old.files files) (sym h.files) (touches_none [] old.files) }
     survey_left_by NoMemory h = record { names = refl; takes = takes_memory old.files h.there h.few; stays = h.stays }
     survey_left_by _ h = absurd h
 

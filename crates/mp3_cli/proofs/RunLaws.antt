@@ -153,11 +153,11 @@ module _ (command : Command) (old new : Seen) (out_old out_new err_old err_new :
         let both : true ≡ false = sym (ap is_told told) ∙ e in
         absurd cc
 
-    not_failed : (made : Made) (fault : EditFault) (why : Why) → command.makes f ≡ Ok made → (Rose old.counts.read_faults new.counts.read_faults → ⊥) → (Rose old.counts.write_faults new.counts.write_faults → ⊥) → (Rose out_old.faults out_new.faults → ⊥) → status ≢ 4
+    not_failed : (made : Made) (fault : EditFault) (why : Why) → command.makes f ≡ Ok made → (Rose old.counts.read_faults.times new.counts.read_faults.times → ⊥) → (Rose old.counts.write_faults.times new.counts.write_faults.times → ⊥) → (Rose out_old.faults out_new.faults → ⊥) → status ≢ 4
         → all.fault ≡ Some fault → why_of fault ≡ why → status ≡ status_by why → LeavesBy command old new fault why → ⊥
-    not_failed made fault Unread ok reads writes sends found e w is left = reads left.rose
-    not_failed made fault Shorter ok reads writes sends found e w is left = told_twice left.untold
-    not_failed made fault (Unwritten k) ok reads writes sends found e w is left = writes left.rose
+    not_failed made fault Unread ok reads writes sends found e w is left = reads left.rose.0
+    not_failed made fault Shorter ok reads writes sends found e w is left = told_twice left.ended.untold
+    not_failed made fault (Unwritten k) ok reads writes sends found e w is left = writes left.rose.0
     not_failed made fault NoMemory ok reads writes sends found e w is left = found is
     not_failed made fault Unsent ok reads writes sends found e w is left = sends (sent_rose command old.files out_old out_new fault w (says_here (Some fault) e))
     not_failed made fault _ ok reads writes sends found e w is left = not_made made fault ok (gives (Err fault) left.defined)
@@ -177,7 +177,7 @@ module _ (command : Command) (old new : Seen) (out_old out_new err_old err_new :
         at (Done is e) = let made = made_here e in (made.0, made.1)
         at (Failed fault why e is w left) = absurd (omega (arith, is, zero_is, (by_status why).0))
 
-    pub done_where_made : (Rose old.counts.read_faults new.counts.read_faults → ⊥) → (Rose old.counts.write_faults new.counts.write_faults → ⊥) → (Rose out_old.faults out_new.faults → ⊥) → status ≢ 4 → (made : Made) × (command.makes f ≡ Ok made) → status ≡ 0
+    pub done_where_made : (Rose old.counts.read_faults.times new.counts.read_faults.times → ⊥) → (Rose old.counts.write_faults.times new.counts.write_faults.times → ⊥) → (Rose out_old.faults out_new.faults → ⊥) → status ≢ 4 → (made : Made) × (command.makes f ≡ Ok made) → status ≡ 0
     done_where_made reads writes sends found made = at case_of
       where
         at : Case → status ≡ 0
@@ -211,7 +211,7 @@ module _ (words : List (List ℕ)) (asked : Asked) (is : job_of words ≡ Ok ask
           subst (λ o. IsOutcome o (world old out_old err_old) (world new out_new err_new) status) (sym (outcome-words words f (Ok asked) is))
           (as_defined (command_of asked) old new out_old out_new err_old err_new status all f told low)
 
-  pub is_accepted : (f : Contents) → old.files ≡ Told f → (Rose old.counts.read_faults new.counts.read_faults → ⊥) → (Rose old.counts.write_faults new.counts.write_faults → ⊥) → (Rose out_old.faults out_new.faults → ⊥)
+  pub is_accepted : (f : Contents) → old.files ≡ Told f → (Rose old.counts.read_faults.times new.counts.read_faults.times → ⊥) → (Rose old.counts.write_faults.times new.counts.write_faults.times → ⊥) → (Rose out_old.faults out_new.faults → ⊥)
       → status ≢ 4 → (status ≡ 0) ↔ IsLegal words f
   is_accepted f told reads writes sends found =
       let law = legal-by (Ok asked) f in (

@@ -169,8 +169,10 @@ pub fn run<D: Folder, T: Sink, E: Sink>(
     // command, no input is an output, each input that is read as a stream is there, no longer than allowed and well-formed, and the
     // choices are legal.
     ensures accepted { (files : Contents) → D.files folder.old ≡ Told files
-        → (Rose (D.counts folder.old).read_faults (D.counts folder.new).read_faults → ⊥)
-        → (Rose (D.counts folder.old).write_faults (D.counts folder.new).write_faults → ⊥)
+        → (Rose (D.counts folder.old).read_faults.times
+        (D.counts folder.new).read_faults.times → ⊥)
+        → (Rose (D.counts folder.old).write_faults.times
+        (D.counts folder.new).write_faults.times → ⊥)
         → (Rose (T.faults out.old) (T.faults out.new) → ⊥) → result ≢ 4
         → ((result ≡ 0) ↔ IsLegal (map string_bytes words.now) files) }
 

@@ -53,8 +53,10 @@ fn answer<D: Folder, T: Sink, E: Sink>(
         (heard (T.sent out.new) (T.faults out.new)) (heard (E.sent err.new) (E.faults err.new)))
         result (job_of (map string_bytes v.items))) }
     ensures accepted { IfOk words (λ v. (files : Contents) → D.files folder.old ≡ Told files
-        → (Rose (D.counts folder.old).read_faults (D.counts folder.new).read_faults → ⊥)
-        → (Rose (D.counts folder.old).write_faults (D.counts folder.new).write_faults → ⊥)
+        → (Rose (D.counts folder.old).read_faults.times
+        (D.counts folder.new).read_faults.times → ⊥)
+        → (Rose (D.counts folder.old).write_faults.times
+        (D.counts folder.new).write_faults.times → ⊥)
         → (Rose (T.faults out.old) (T.faults out.new) → ⊥) → result ≢ 4
         → ((result ≡ 0) ↔ IsLegal (map string_bytes v.items) files)) }
     ensures streams { IfOk words (λ v. result ≡ 0

@@ -5,7 +5,7 @@ ghost use Rattle.std.specs.Prelude.{◌≡◌, ◌≤◌, length, drop};
 use crate::tests::Mp3edit;
 use crate::tests::frames::pass;
 use command_runs::differences::other_end;
-use outside::{Failed, FindFault, Folder};
+use outside::{Failed, FindFault, Folder, Tally};
 use std::alloc::{AllocError, AllocGlobal, Global};
 use std::process::Abort;
 use std::test::Fail;
@@ -46,8 +46,7 @@ struct Changing {
     output: Vec<u8>,
     created: u64,
     ends: u64,
-    read_faults: u64,
-    write_faults: u64,
+    tally: Tally,
 }
 
 impl Changing {
@@ -60,8 +59,7 @@ impl Changing {
             output,
             created: 0,
             ends: 0,
-            read_faults: 0,
-            write_faults: 0,
+            tally: Tally::new(),
         }
     }
 
@@ -124,7 +122,7 @@ impl Folder for Changing {
 
     ghost files = { λ _. untold };
 
-    ghost counts = { λ folder. record { misses = 0; ends = folder.ends; read_faults = folder.read_faults; write_faults = folder.write_faults } };
+    ghost counts = { λ folder. folder.tally };
 
     fn find(&mut self, name: &str) -> Result<u64, FindFault> {
         Ok(found(name, self.found))
@@ -133,7 +131,7 @@ impl Folder for Changing {
     fn read(&mut self, name: &str, at: u64, into: &mut [u8]) -> Result<usize, Failed> {
         self.reads = self.reads.saturating_add(1);
         if self.fails_to_read(at) {
-            self.read_faults = self.read_faults.saturating_add(1);
+            self.tally.count_read_fault(name);
             return Err(Failed);
         }
         let bytes = whole(name, &self.bytes);
@@ -141,6 +139,7 @@ impl Folder for Changing {
         let count = copy_some(bytes, at, there, into);
         if count == 0 && !into.is_empty() {
             self.ends = self.ends.saturating_add(1);
+            self.tally.count_end(name, at);
         }
         Ok(count)
     }
@@ -153,10 +152,10 @@ impl Folder for Changing {
     }
 
     #[tactic(auto, unfolding(outside::specs::Files::appended))]
-    fn write(&mut self, _name: &str, bytes: &[u8]) -> Result<usize, Failed> {
+    fn write(&mut self, name: &str, bytes: &[u8]) -> Result<usize, Failed> {
         let count = bytes.len().min(700);
         if self.fails_to_write() || self.output.extend_from_slice(&bytes[..count]).is_err() {
-            self.write_faults = self.write_faults.saturating_add(1);
+            self.tally.count_write_fault(name);
             return Err(Failed);
         }
         Ok(count)

@@ -78,16 +78,16 @@ impl Folder for Slow {
         Ok(self.content.len() as u64)
     }
 
-    fn read(&mut self, _name: &str, at: u64, into: &mut [u8]) -> Result<usize, Failed> {
+    fn read(&mut self, name: &str, at: u64, into: &mut [u8]) -> Result<usize, Failed> {
         if self.calls.next_fails() {
-            self.tally.count_read_fault();
+            self.tally.count_read_fault(name);
             return Err(Failed);
         }
         let start = self.content.len().min(at as usize);
         let got = into.len().min(self.most).min(self.content.len() - start);
         into[..got].copy_from_slice(&self.content[start..start + got]);
         if got == 0 && !into.is_empty() {
-            self.tally.count_end();
+            self.tally.count_end(name, at);
         }
         Ok(got)
     }
@@ -99,14 +99,14 @@ impl Folder for Slow {
     }
 
     #[tactic(auto, unfolding(outside::specs::Files::appended))]
-    fn write(&mut self, _name: &str, bytes: &[u8]) -> Result<usize, Failed> {
+    fn write(&mut self, name: &str, bytes: &[u8]) -> Result<usize, Failed> {
         if self.calls.next_fails() {
-            self.tally.count_write_fault();
+            self.tally.count_write_fault(name);
             return Err(Failed);
         }
         let taken = bytes.len().min(self.most.max(1));
         if self.content.extend_from_slice(&bytes[..taken]).is_err() {
-            self.tally.count_write_fault();
+            self.tally.count_write_fault(name);
             return Err(Failed);
         }
         Ok(taken)

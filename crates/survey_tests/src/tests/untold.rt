@@ -54,7 +54,7 @@ impl<'a> Folder for Untold<'a> {
         Ok(self.found)
     }
 
-    fn read(&mut self, _name: &str, at: u64, into: &mut [u8]) -> Result<usize, Failed> {
+    fn read(&mut self, name: &str, at: u64, into: &mut [u8]) -> Result<usize, Failed> {
         let content = if self.reads == 0 {
             self.first
         } else {
@@ -63,18 +63,18 @@ impl<'a> Folder for Untold<'a> {
         self.reads = self.reads.saturating_add(1);
         let count = copy_from(content, at, into);
         if count == 0 && !into.is_empty() {
-            self.tally.count_end();
+            self.tally.count_end(name, at);
         }
         Ok(count)
     }
 
-    fn create(&mut self, _name: &str) -> Result<(), Failed> {
-        self.tally.count_write_fault();
+    fn create(&mut self, name: &str) -> Result<(), Failed> {
+        self.tally.count_write_fault(name);
         Err(Failed)
     }
 
-    fn write(&mut self, _name: &str, _bytes: &[u8]) -> Result<usize, Failed> {
-        self.tally.count_write_fault();
+    fn write(&mut self, name: &str, _bytes: &[u8]) -> Result<usize, Failed> {
+        self.tally.count_write_fault(name);
         Err(Failed)
     }
 }
