@@ -8,7 +8,7 @@ use mir.Val.{Fits}
 use mir.Syntax.{w8}
 use Rattle.std.proofs.lemmas.Nat.{pow-add, shr-shr, shr_split, mod-pow-add, shr_high, mul-add-lt, mod_below, from_be_bytes-to_be_bytes_8}
 use Rattle.std.proofs.lemmas.Nat.Bits.{bit_at-lt, bit_at_cat_low}
-use Rattle.bit_fields.specs.Bits.{bits_of, number, bits, bytes, AreBits, AreBytes}
+use Rattle.bit_fields.specs.Bits.{bits_of, number, bits, bytes, AreBelow, AreBits, AreBytes}
 
 -- ---- lengths
 pub length-bits_of : (width n : ℕ) → length (bits_of width n) ≡ width
@@ -21,21 +21,22 @@ unfolding bits
 length-bits [] = refl
 length-bits (x ∷ xs) = omega (arith, length-append (bits_of 8 x) (bits xs), length-bits_of 8 x, length-bits xs)
 
+-- ---- each is below a limit
+pub AreBelow-append : (limit : ℕ) (xs ys : List ℕ) → AreBelow limit xs → AreBelow limit ys → AreBelow limit (xs ++ ys)
+AreBelow-append limit [] ys hx hy = hy
+AreBelow-append limit (x ∷ xs) ys hx hy = (hx.0, AreBelow-append limit xs ys hx.1 hy)
+
+pub AreBelow-take : (limit n : ℕ) (xs : List ℕ) → AreBelow limit xs → AreBelow limit (take n xs)
+AreBelow-take limit zero xs h = tt
+AreBelow-take limit (suc n) [] h = tt
+AreBelow-take limit (suc n) (x ∷ xs) h = (h.0, AreBelow-take limit n xs h.1)
+
+pub AreBelow-drop : (limit n : ℕ) (xs : List ℕ) → AreBelow limit xs → AreBelow limit (drop n xs)
+AreBelow-drop limit zero xs h = h
+AreBelow-drop limit (suc n) [] h = tt
+AreBelow-drop limit (suc n) (x ∷ xs) h = AreBelow-drop limit n xs h.1
+
 -- ---- each is 0 or 1
-pub AreBits-append : (cs bs : List ℕ) → AreBits cs → AreBits bs → AreBits (cs ++ bs)
-AreBits-append [] bs ha hb = hb
-AreBits-append (c ∷ cs) bs ha hb = (ha.0, AreBits-append cs bs ha.1 hb)
-
-pub AreBits-take : (n : ℕ) (bs : List ℕ) → AreBits bs → AreBits (take n bs)
-AreBits-take zero bs h = tt
-AreBits-take (suc n) [] h = tt
-AreBits-take (suc n) (b ∷ bs) h = (h.0, AreBits-take n bs h.1)
-
-pub AreBits-drop : (n : ℕ) (bs : List ℕ) → AreBits bs → AreBits (drop n bs)
-AreBits-drop zero bs h = h
-AreBits-drop (suc n) [] h = tt
-AreBits-drop (suc n) (b ∷ bs) h = AreBits-drop n bs h.1
-
 pub AreBits-bits_of : (width n : ℕ) → AreBits (bits_of width n)
 unfolding bits_of
 AreBits-bits_of zero n = tt
@@ -44,7 +45,7 @@ AreBits-bits_of (suc width) n = (bit_at-lt n width, AreBits-bits_of width n)
 pub AreBits-bits : (xs : List ℕ) → AreBits (bits xs)
 unfolding bits
 AreBits-bits [] = tt
-AreBits-bits (x ∷ xs) = AreBits-append (bits_of 8 x) (bits xs) (AreBits-bits_of 8 x) (AreBits-bits xs)
+AreBits-bits (x ∷ xs) = AreBelow-append 2 (bits_of 8 x) (bits xs) (AreBits-bits_of 8 x) (AreBits-bits xs)
 
 -- ---- the number of bits
 pub number-nil : number [] ≡ 0
@@ -221,7 +222,7 @@ length-bytes (suc k) bs h =
 pub AreBytes-bytes : (bs : List ℕ) → AreBits bs → AreBytes (bytes bs)
 unfolding bytes
 AreBytes-bytes (a ∷ b ∷ c ∷ d ∷ e ∷ f ∷ g ∷ h ∷ bs) all =
-    (number-below (a ∷ b ∷ c ∷ d ∷ e ∷ f ∷ g ∷ h ∷ []) (AreBits-take 8 (a ∷ b ∷ c ∷ d ∷ e ∷ f ∷ g ∷ h ∷ bs) all), AreBytes-bytes bs (AreBits-drop 8 (a ∷ b ∷ c ∷ d ∷ e ∷ f ∷ g ∷ h ∷ bs) all))
+    (number-below (a ∷ b ∷ c ∷ d ∷ e ∷ f ∷ g ∷ h ∷ []) (AreBelow-take 2 8 (a ∷ b ∷ c ∷ d ∷ e ∷ f ∷ g ∷ h ∷ bs) all), AreBytes-bytes bs (AreBelow-drop 2 8 (a ∷ b ∷ c ∷ d ∷ e ∷ f ∷ g ∷ h ∷ bs) all))
 AreBytes-bytes bs all = tt
 
 pub bytes-append : (k : ℕ) (cs bs : List ℕ) → length cs ≡ 8 * k → bytes (cs ++ bs) ≡ bytes cs ++ bytes bs
@@ -264,28 +265,14 @@ bits-bytes (suc k) bs all h =
     ap bits (bytes-front bs m)
     ∙ bits-cons (number (take 8 bs)) (bytes (drop 8 bs))
     ∙ ap₂ (λ cs ds. cs ++ ds)
-    (ap (λ w. bits_of w (number (take 8 bs))) (sym e) ∙ bits_of-number (take 8 bs) (AreBits-take 8 bs all))
-    (bits-bytes k (drop 8 bs) (AreBits-drop 8 bs all) l)
+    (ap (λ w. bits_of w (number (take 8 bs))) (sym e) ∙ bits_of-number (take 8 bs) (AreBelow-take 2 8 bs all))
+    (bits-bytes k (drop 8 bs) (AreBelow-drop 2 8 bs all) l)
     ∙ take-append-drop 8 bs
 
 pub bits-injective : (xs ys : List ℕ) → AreBytes xs → AreBytes ys → bits xs ≡ bits ys → xs ≡ ys
 bits-injective xs ys hx hy e = sym (bytes-bits xs hx) ∙ ap bytes e ∙ bytes-bits ys hy
 
 -- ---- each is below 256
-pub AreBytes-append : (xs ys : List ℕ) → AreBytes xs → AreBytes ys → AreBytes (xs ++ ys)
-AreBytes-append [] ys hx hy = hy
-AreBytes-append (x ∷ xs) ys hx hy = (hx.0, AreBytes-append xs ys hx.1 hy)
-
-pub AreBytes-take : (n : ℕ) (xs : List ℕ) → AreBytes xs → AreBytes (take n xs)
-AreBytes-take zero xs h = tt
-AreBytes-take (suc n) [] h = tt
-AreBytes-take (suc n) (x ∷ xs) h = (h.0, AreBytes-take n xs h.1)
-
-pub AreBytes-drop : (n : ℕ) (xs : List ℕ) → AreBytes xs → AreBytes (drop n xs)
-AreBytes-drop zero xs h = h
-AreBytes-drop (suc n) [] h = tt
-AreBytes-drop (suc n) (x ∷ xs) h = AreBytes-drop n xs h.1
-
 -- if the bytes of a slice of `u8` are below 256 place by place, all are
 pub AreBytes-from_places : (xs : List ℕ) → ((i : ℕ) → get_or xs i 0 < 256) → AreBytes xs
 AreBytes-from_places [] h = tt

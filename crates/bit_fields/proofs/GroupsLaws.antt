@@ -7,7 +7,7 @@ use Rattle.std.proofs.lemmas.Nat.{shr_high, pow-add, mul-add-lt}
 use Rattle.std.proofs.lemmas.List.Sums.{sum_by-cons, sum_by-append}
 use Rattle.bit_fields.specs.Bits.{bits_of, number, bits, AreBits}
 use Rattle.bit_fields.specs.Groups.{group, numbers_at, spelled, Fits}
-use Rattle.bit_fields.proofs.BitsLaws.{length-bits_of, number-below, number-bits_of, number-bits_of-below, number-append, bits_of-cat, bits_of-cat_low, take-bits_of, bits_of-number, AreBits-append, AreBits-take, AreBits-drop, AreBits-bits_of, take-bits, drop-bits, number-within}
+use Rattle.bit_fields.proofs.BitsLaws.{length-bits_of, number-below, number-bits_of, number-bits_of-below, number-append, bits_of-cat, bits_of-cat_low, take-bits_of, bits_of-number, AreBelow-append, AreBelow-take, AreBelow-drop, AreBits-bits_of, take-bits, drop-bits, number-within}
 
 -- ---- how many bits
 pub sum-cons : (width : ℕ) (widths : List ℕ) → sum (width ∷ widths) ≡ width + sum widths
@@ -65,18 +65,18 @@ unfolding spelled
 AreBits-spelled [] ns = tt
 AreBits-spelled (width ∷ widths) [] = tt
 AreBits-spelled (width ∷ widths) (n ∷ ns) =
-    AreBits-append (bits_of width n) (spelled widths ns) (AreBits-bits_of width n) (AreBits-spelled widths ns)
+    AreBelow-append 2 (bits_of width n) (spelled widths ns) (AreBits-bits_of width n) (AreBits-spelled widths ns)
 
 pub group-below : (from width : ℕ) (bs : List ℕ) → AreBits bs → group from width bs < 2 ^ width
 unfolding group
 group-below from width bs h =
     let few : length (take width (drop from bs)) ≤ width = simp length-take (omega arith) in
-    lt_of_lt_of_le (number-below (take width (drop from bs)) (AreBits-take width (drop from bs) (AreBits-drop from bs h))) (pow_mono few)
+    lt_of_lt_of_le (number-below (take width (drop from bs)) (AreBelow-take 2 width (drop from bs) (AreBelow-drop 2 from bs h))) (pow_mono few)
 
 pub Fits-numbers_at : (widths bs : List ℕ) → AreBits bs → Fits widths (numbers_at widths bs)
 unfolding numbers_at group
 Fits-numbers_at [] bs h = tt
-Fits-numbers_at (width ∷ widths) bs h = (group-below 0 width bs h, Fits-numbers_at widths (drop width bs) (AreBits-drop width bs h))
+Fits-numbers_at (width ∷ widths) bs h = (group-below 0 width bs h, Fits-numbers_at widths (drop width bs) (AreBelow-drop 2 width bs h))
 
 -- ---- there and back
 pub numbers_at-spelled_more : (widths ns more : List ℕ) → Fits widths ns → numbers_at widths (spelled widths ns ++ more) ≡ ns
@@ -104,8 +104,8 @@ spelled-numbers_at_front (width ∷ widths) bs all h =
     let l : length (take width bs) ≡ width = length-take-le width bs (omega arith) in
     let m : sum widths ≤ length (drop width bs) = simp length-drop (omega arith) in
     ap₂ (λ cs ds. cs ++ ds)
-    (ap (λ w. bits_of w (number (take width bs))) (sym l) ∙ bits_of-number (take width bs) (AreBits-take width bs all))
-    (spelled-numbers_at_front widths (drop width bs) (AreBits-drop width bs all) m)
+    (ap (λ w. bits_of w (number (take width bs))) (sym l) ∙ bits_of-number (take width bs) (AreBelow-take 2 width bs all))
+    (spelled-numbers_at_front widths (drop width bs) (AreBelow-drop 2 width bs all) m)
     ∙ sym (take-add width (sum widths) bs)
     ∙ ap (λ n. take n bs) (sym both)
 
@@ -207,9 +207,9 @@ module _ (bs : List ℕ) (at width value : ℕ) (room : at + width ≤ length bs
 
   pub AreBits-put : AreBits bs → AreBits (take at bs ++ bits_of width value ++ drop (at + width) bs)
   AreBits-put h =
-      AreBits-append (take at bs ++ bits_of width value) (drop (at + width) bs)
-      (AreBits-append (take at bs) (bits_of width value) (AreBits-take at bs h) (AreBits-bits_of width value))
-      (AreBits-drop (at + width) bs h)
+      AreBelow-append 2 (take at bs ++ bits_of width value) (drop (at + width) bs)
+      (AreBelow-append 2 (take at bs) (bits_of width value) (AreBelow-take 2 at bs h) (AreBits-bits_of width value))
+      (AreBelow-drop 2 (at + width) bs h)
 
   -- what is before it stays, and the value follows
   pub take-put : take (at + width) (take at bs ++ bits_of width value ++ drop (at + width) bs) ≡ take at bs ++ bits_of width value
@@ -280,13 +280,13 @@ numbers_at-number (width ∷ widths) bs all h =
     ap number (sym (take-append-drop width bs))
     ∙ number-append (take width bs) (drop width bs)
     ∙ ap (λ k. number (take width bs) * 2 ^ k + number (drop width bs)) rest in
-    let small : number (drop width bs) < 2 ^ sum widths = rw (← rest) (number-below (drop width bs) (AreBits-drop width bs all)) in
+    let small : number (drop width bs) < 2 ^ sum widths = rw (← rest) (number-below (drop width bs) (AreBelow-drop 2 width bs all)) in
     let l : length (take width bs) ≡ width = length-take-le width bs (omega arith) in
-    let low : number (take width bs) < 2 ^ width = subst (λ k. number (take width bs) < 2 ^ k) l (number-below (take width bs) (AreBits-take width bs all)) in
+    let low : number (take width bs) < 2 ^ width = subst (λ k. number (take width bs) < 2 ^ k) l (number-below (take width bs) (AreBelow-take 2 width bs all)) in
     ap₂ (λ m ms. m ∷ ms)
     (sym (mod-eq_of_lt low)
     ∙ ap (λ m. m % 2 ^ width) (sym (shr_high (number (take width bs)) (sum widths) (number (drop width bs)) small) ∙ ap (λ m. m / 2 ^ sum widths) (sym upper)))
-    (numbers_at-number widths (drop width bs) (AreBits-drop width bs all) rest
+    (numbers_at-number widths (drop width bs) (AreBelow-drop 2 width bs all) rest
     ∙ sym (sliced-cat widths (sum widths) (number (take width bs)) (number (drop width bs)) (omega arith))
     ∙ ap (sliced widths) (sym upper))
 
@@ -294,7 +294,7 @@ numbers_at-number (width ∷ widths) bs all h =
 pub numbers_at-number_front : (widths bs : List ℕ) → AreBits bs → sum widths ≤ length bs → numbers_at widths bs ≡ sliced widths (number (take (sum widths) bs))
 numbers_at-number_front widths bs all h =
     sym (numbers_at-take widths bs (sum widths) (omega arith) h)
-    ∙ numbers_at-number widths (take (sum widths) bs) (AreBits-take (sum widths) bs all) (length-take-le (sum widths) bs h)
+    ∙ numbers_at-number widths (take (sum widths) bs) (AreBelow-take 2 (sum widths) bs all) (length-take-le (sum widths) bs h)
 
 pub joined-below : (widths ns : List ℕ) → Fits widths ns → joined widths ns < 2 ^ sum widths
 unfolding joined

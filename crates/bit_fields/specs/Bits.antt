@@ -22,12 +22,15 @@ unfoldable pub bytes : List ℕ → List ℕ
 bytes (a ∷ b ∷ c ∷ d ∷ e ∷ f ∷ g ∷ h ∷ rest) = number (a ∷ b ∷ c ∷ d ∷ e ∷ f ∷ g ∷ h ∷ []) ∷ bytes rest
 bytes rest = []
 
+-- each is below a limit
+abbrev pub AreBelow : ℕ → List ℕ → Type 0
+AreBelow limit [] = Unit {0}
+AreBelow limit (n ∷ rest) = (n < limit) × AreBelow limit rest
+
 -- each is 0 or 1
 abbrev pub AreBits : List ℕ → Type 0
-AreBits [] = Unit {0}
-AreBits (bit ∷ rest) = (bit < 2) × AreBits rest
+AreBits bits = AreBelow 2 bits
 
 -- each is below 256
 abbrev pub AreBytes : List ℕ → Type 0
-AreBytes [] = Unit {0}
-AreBytes (byte ∷ rest) = (byte < 256) × AreBytes rest
+AreBytes bytes = AreBelow 256 bytes

@@ -9,7 +9,7 @@ use Rattle.std.proofs.lemmas.List.{length-map, length-drop, drop_at, length-take
 use Rattle.std.proofs.lemmas.List.Elements.{All-nil, All-cons, All-head, All-tail, All-append, All-take, All-replicate}
 use Rattle.std.proofs.lemmas.Nat.{mod_below}
 use Rattle.bit_fields.specs.Bits.{bits_of, bits, bytes, number, AreBits}
-use Rattle.bit_fields.proofs.BitsLaws.{AreBits-append, AreBits-take, AreBits-bits, AreBytes-bytes, bits-bytes, length-bits, length-bits_of, bits-cons, bytes-nil, bytes-eight, number-append, number-bits_of, number-bits_of-below, bits-one, take-bits_of}
+use Rattle.bit_fields.proofs.BitsLaws.{AreBelow-append, AreBelow-take, AreBits-bits, AreBytes-bytes, bits-bytes, length-bits, length-bits_of, bits-cons, bytes-nil, bytes-eight, number-append, number-bits_of, number-bits_of-below, bits-one, take-bits_of}
 use Rattle.frame_header.specs.Fields.{HeaderFields, IsHeader}
 use Rattle.frame_header.specs.Tables.{class_of, overhead_of, side_size_of}
 use Rattle.side_info.specs.Side.{payload_bytes}
@@ -46,7 +46,7 @@ abbrev spelled : ℕ → List ℕ → List ℕ
 spelled count octets = take count (bits octets) ++ zeros (8 * length octets - count)
 
 AreBits-spelled : (count : ℕ) (octets : List ℕ) → AreBits (spelled count octets)
-AreBits-spelled count octets = AreBits-append (take count (bits octets)) (zeros (8 * length octets - count)) (AreBits-take count (bits octets) (AreBits-bits octets)) (AreBits-zeros (8 * length octets - count))
+AreBits-spelled count octets = AreBelow-append 2 (take count (bits octets)) (zeros (8 * length octets - count)) (AreBelow-take 2 count (bits octets) (AreBits-bits octets)) (AreBits-zeros (8 * length octets - count))
 
 bits-first : (count : ℕ) (octets : List ℕ) → count ≤ 8 * length octets → bits (first_bits count octets) ≡ spelled count octets
 bits-first count octets few = bits-bytes (length octets) (spelled count octets) (AreBits-spelled count octets) (length-spelled count octets few)

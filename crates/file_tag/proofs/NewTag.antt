@@ -7,7 +7,7 @@ use Rattle.std.proofs.lemmas.Bool.{ne_eqb, ltb-false}
 use Rattle.std.proofs.lemmas.List.{take-append-drop, drop-drop}
 use Rattle.std.proofs.lemmas.List.Folds.{find-append}
 use Rattle.bit_fields.specs.Bits.{AreBytes}
-use Rattle.bit_fields.proofs.BitsLaws.{AreBytes-take, AreBytes-drop, places_below}
+use Rattle.bit_fields.proofs.BitsLaws.{AreBelow-take, AreBelow-drop, places_below}
 use Rattle.tag_blocks.specs.declared.block.Kind.TheVariants.{Ape}
 use Rattle.tag_blocks.specs.declared.tag_fault.TagFault.{TagFault}
 use Rattle.tag_blocks.specs.declared.tag_fault.TagFault.TheVariants.{BadTag, Memory as NoMemory}
@@ -117,7 +117,7 @@ block_bytes at block tag all is e =
 own_read : (file : List ℕ) (allowed : ℕ) (s : SurveyFields) → surveyed file allowed ≡ Ok s → (tag : TagFields) (b : Piece) → AreBytes file → tag_block s ≡ Some b → file_tag file s ≡ Ok tag → IsTag tag × (tag_bytes tag ≡ own_bytes file s)
 own_read file allowed s e tag b all is found =
     let block = take b.block.length (drop b.offset file) in
-    let own = block_bytes b.offset block tag (AreBytes-take b.block.length (drop b.offset file) (AreBytes-drop b.offset file all)) (tag-there file allowed s b e is).front (sym (file_tag-some file s b is) ∙ found) in
+    let own = block_bytes b.offset block tag (AreBelow-take 256 b.block.length (drop b.offset file) (AreBelow-drop 256 b.offset file all)) (tag-there file allowed s b e is).front (sym (file_tag-some file s b is) ∙ found) in
     (own.0, own.1 ∙ sym (own_is file s b is))
 
 pub own-tag : (file : List ℕ) (allowed : ℕ) (s : SurveyFields) → surveyed file allowed ≡ Ok s → HasOwnTag file s

@@ -3,7 +3,7 @@ use Rattle.std.proofs.Common.{◌≡◌, ℕ, ◌+◌, ◌-◌, ◌<◌, ◌≤�
 use Rattle.std.proofs.lemmas.Bool.{lt-ltb, le-ltb}
 use Rattle.std.proofs.lemmas.List.{length-take-le, take-append-le, take-take, drop-drop, drop-take, drop_at, take_at}
 use Rattle.bit_fields.specs.Bits.{AreBytes}
-use Rattle.bit_fields.proofs.BitsLaws.{AreBytes-append, AreBytes-take, AreBytes-drop}
+use Rattle.bit_fields.proofs.BitsLaws.{AreBelow-append, AreBelow-take, AreBelow-drop}
 use Rattle.sync_survey.specs.Faults.{SurveyFields}
 use Rattle.file_tag.specs.Places.{tag_at, tag_length, with_tag, moved_at}
 use Rattle.file_tag.proofs.MovedItems.{IsMovedTo}
@@ -40,7 +40,7 @@ module _ (bytes file : List ℕ) (s : SurveyFields) (room : tag_at s + tag_lengt
   pub new-bytes : AreBytes file → AreBytes bytes → AreBytes new
   new-bytes all more =
       subst AreBytes (sym new-is)
-      (AreBytes-append (take cut file) (bytes ++ later) (AreBytes-take cut file all) (AreBytes-append bytes later more (AreBytes-drop (cut + gone) file all)))
+      (AreBelow-append 256 (take cut file) (bytes ++ later) (AreBelow-take 256 cut file all) (AreBelow-append 256 bytes later more (AreBelow-drop 256 (cut + gone) file all)))
 
   pub new-front : take cut new ≡ take cut file
   new-front = ap (take cut) new-is ∙ take_at (take cut file) (bytes ++ later) cut front-long

@@ -6,7 +6,7 @@ use Rattle.std.proofs.lemmas.Bool.{ltb-false}
 use Rattle.std.proofs.lemmas.List.{length-take-le, take_at, drop_at}
 use Rattle.std.proofs.lemmas.List.Sums.{sum_by-cons}
 use Rattle.bit_fields.specs.Bits.{bits, AreBits, AreBytes}
-use Rattle.bit_fields.proofs.BitsLaws.{length-bits, AreBits-append, AreBits-take, AreBits-drop, AreBits-bits, length-bytes, AreBytes-bytes, bits-bytes}
+use Rattle.bit_fields.proofs.BitsLaws.{length-bits, AreBelow-append, AreBelow-take, AreBelow-drop, AreBits-bits, length-bytes, AreBytes-bytes, bits-bytes}
 use Rattle.frame_header.specs.Fields.{ClassFields, HeaderFields}
 use Rattle.frame_header.specs.Tables.{class_of, overhead_of}
 use Rattle.frame_header.proofs.HeaderLaws.{IsClass-class_of}
@@ -165,7 +165,7 @@ module _ (bs : List ℕ) (are : AreBits bs) where
   whole = omega (arith, length-append bs filling, length-zeros (8 * count - length bs))
 
   filled-bits : AreBits (bs ++ filling)
-  filled-bits = AreBits-append bs filling are (zeros-bits (8 * count - length bs))
+  filled-bits = AreBelow-append 2 bs filling are (zeros-bits (8 * count - length bs))
 
   pub packed-length : length (packed bs) ≡ count
   packed-length = length-bytes count (bs ++ filling) whole
@@ -207,7 +207,7 @@ module _ (file : List ℕ) (head : Option Head) (c : ClassFields) (rows : List R
     own_bits = payload_at main (start_of_data (place head rows i) r) (side_of r)
 
     data-bits : AreBits own_bits
-    data-bits = AreBits-take (payload_bits (side_of r)) (drop (8 * start_of_data (place head rows i) r) (bits main)) (AreBits-drop (8 * start_of_data (place head rows i) r) (bits main) (AreBits-bits main))
+    data-bits = AreBelow-take 2 (payload_bits (side_of r)) (drop (8 * start_of_data (place head rows i) r) (bits main)) (AreBelow-drop 2 (8 * start_of_data (place head rows i) r) (bits main) (AreBits-bits main))
 
     data-length : length own_bits ≡ payload_bits (side_of r)
     data-length =

@@ -9,7 +9,7 @@ use Rattle.std.proofs.lemmas.List.Sums.{sum_by-cons}
 use Rattle.outside.specs.Files.{Files, Holds, IsThere, Told, Untold}
 use Rattle.outside.proofs.FilesLaws.{there_holds}
 use Rattle.bit_fields.specs.Bits.{bits, bytes, AreBits, AreBytes}
-use Rattle.bit_fields.proofs.BitsLaws.{length-bits, bits-injective, AreBits-take, AreBits-drop, AreBits-bits, bits-front}
+use Rattle.bit_fields.proofs.BitsLaws.{length-bits, bits-injective, AreBelow-take, AreBelow-drop, AreBits-bits, bits-front}
 use Rattle.frame_header.specs.declared.version.Version.{Version}
 use Rattle.frame_header.specs.declared.version.Version.TheVariants.{One, Two, TwoFive}
 use Rattle.frame_header.specs.Fields.{ClassFields}
@@ -139,7 +139,7 @@ cut-is file main new s i r area begin count found kept within long is area_is be
     ∙ sym (bits-front main front.0 at (payload_bits r.side) reach)
     ∙ ap (λ (l : List ℕ). take (payload_bits r.side) (drop (8 * at) (bits l))) (ap (λ (l : List ℕ). l ++ front.0) is ∙ sym front.1) in
     let own = main_bits main (length main - area - begin) count in
-    let are : AreBits own = AreBits-take count (drop (8 * (length main - area - begin)) (bits main)) (AreBits-drop (8 * (length main - area - begin)) (bits main) (AreBits-bits main)) in
+    let are : AreBits own = AreBelow-take 2 count (drop (8 * (length main - area - begin)) (bits main)) (AreBelow-drop 2 (8 * (length main - area - begin)) (bits main) (AreBits-bits main)) in
     let many : length own ≡ count = length-take-le count (drop (8 * (length main - area - begin)) (bits main)) (omega (arith, start, reach, count_is, length-bits main, length-drop (8 * (length main - area - begin)) (bits main))) in
     packed-is new own count octets are many cut
     ∙ ap packed bits_are

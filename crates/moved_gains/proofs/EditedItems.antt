@@ -4,7 +4,7 @@ use Rattle.std.specs.List.{cons_option}
 use Rattle.std.proofs.lemmas.Bool.{false≢true}
 use Rattle.std.proofs.lemmas.List.{drop-drop, drop_at, take-take, length-take-le}
 use Rattle.bit_fields.specs.Bits.{AreBytes}
-use Rattle.bit_fields.proofs.BitsLaws.{AreBytes-take, AreBytes-drop}
+use Rattle.bit_fields.proofs.BitsLaws.{AreBelow-take, AreBelow-drop}
 use Rattle.frame_header.specs.Fields.{HeaderFields}
 use Rattle.sync_survey.specs.declared.items.Item.{Item}
 use Rattle.sync_survey.specs.declared.items.Item.TheVariants.{Frame, Block, Zero}
@@ -32,7 +32,7 @@ frame_whole file at h all is within =
     record {
       header = header_front-four (take size bytes) bytes (take-take 4 size bytes (frame-least h (header_front-in_range bytes h header))) ∙ header;
       size = length-take-le size bytes (omega (arith, within, length-drop at file));
-      all = AreBytes-take size bytes (AreBytes-drop at file all);
+      all = AreBelow-take 256 size bytes (AreBelow-drop 256 at file all);
     }
 
 -- a whole item of a file with moved gains is the same item

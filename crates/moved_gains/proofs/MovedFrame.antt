@@ -1,7 +1,7 @@
 -- A frame with moved gains: what it has in common with the frame, moved twice, and not at all.
 use Rattle.std.proofs.Common.{◌≡◌, ℕ, zero, suc, ◌+◌, ◌-◌, ◌<◌, Bool, true, false, cond, List, [], ◌++◌, length, take, drop, refl, sym, ◌∙◌, ap, arith, ℤ, Ok}
 use Rattle.bit_fields.specs.Bits.{bits_of, bytes, AreBytes}
-use Rattle.bit_fields.proofs.BitsLaws.{AreBits-bits_of, AreBytes-bytes, AreBytes-append, AreBytes-take, AreBytes-drop}
+use Rattle.bit_fields.proofs.BitsLaws.{AreBits-bits_of, AreBytes-bytes, AreBelow-append, AreBelow-take, AreBelow-drop}
 use Rattle.frame_header.specs.Fields.{HeaderFields, ClassFields, IsClass}
 use Rattle.frame_header.specs.Tables.{class_of, side_size_of, overhead_of, length_of}
 use Rattle.frame_header.proofs.HeaderLaws.{IsClass-class_of}
@@ -78,9 +78,9 @@ unfolding frame_with
 frame_bytes h s frame all =
     let side = bytes (side_bits (class_of h) s) in
     let rest = drop (overhead_of (class_of h) h.protected) frame in
-    AreBytes-append (take 4 frame) (word_part h s ++ (side ++ rest)) (AreBytes-take 4 frame all)
-    (AreBytes-append (word_part h s) (side ++ rest) (word_bytes h s h.protected)
-    (AreBytes-append side rest (AreBytes-bytes (side_bits (class_of h) s) (AreBits-side_bits (class_of h) s)) (AreBytes-drop (overhead_of (class_of h) h.protected) frame all)))
+    AreBelow-append 256 (take 4 frame) (word_part h s ++ (side ++ rest)) (AreBelow-take 256 4 frame all)
+    (AreBelow-append 256 (word_part h s) (side ++ rest) (word_bytes h s h.protected)
+    (AreBelow-append 256 side rest (AreBytes-bytes (side_bits (class_of h) s) (AreBits-side_bits (class_of h) s)) (AreBelow-drop 256 (overhead_of (class_of h) h.protected) frame all)))
 
 -- ---- a whole frame
 

@@ -4,7 +4,7 @@ use Rattle.std.specs.Int.{to_be_bytes, from_be_bytes, w16}
 use Rattle.std.proofs.lemmas.Nat.{mod_below, xor_lt, from_be_bytes-to_be_bytes_2}
 use Rattle.std.proofs.lemmas.List.{take_at, drop_at, length-take, drop-drop, take-take}
 use Rattle.bit_fields.specs.Bits.{bits, bits_of, bytes, number, AreBytes}
-use Rattle.bit_fields.proofs.BitsLaws.{bits-one, number-bits_of-below, number-bits-push, bits-bits_of, bytes-bits, bits-bytes, length-bytes, length-bits, length-bits_of, AreBits-bits, AreBits-bits_of, AreBytes-from_places, AreBytes-take, AreBytes-drop}
+use Rattle.bit_fields.proofs.BitsLaws.{bits-one, number-bits_of-below, number-bits-push, bits-bits_of, bytes-bits, bits-bytes, length-bytes, length-bits, length-bits_of, AreBits-bits, AreBits-bits_of, AreBytes-from_places, AreBelow-take, AreBelow-drop}
 use Rattle.frame_header.specs.Fields.{HeaderFields, ClassFields, IsClass}
 use Rattle.frame_header.specs.Tables.{class_of, side_size_of, overhead_of}
 use Rattle.side_info.specs.declared.side.Side.{Side}
@@ -42,8 +42,8 @@ bytes-word n h = sym (bytes-bits (to_be_bytes w16 n) (AreBytes-word n)) ∙ ap b
 pub between : (before part after : List ℕ) → ((i : ℕ) → get_or (before ++ (part ++ after)) i 0 < 256) → AreBytes part
 between before part after all =
     let whole = AreBytes-from_places (before ++ (part ++ after)) all in
-    let behind = subst AreBytes (drop_at before (part ++ after) (length before) refl) (AreBytes-drop (length before) (before ++ (part ++ after)) whole) in
-    subst AreBytes (take_at part after (length part) refl) (AreBytes-take (length part) (part ++ after) behind)
+    let behind = subst AreBytes (drop_at before (part ++ after) (length before) refl) (AreBelow-drop 256 (length before) (before ++ (part ++ after)) whole) in
+    subst AreBytes (take_at part after (length part) refl) (AreBelow-take 256 (length part) (part ++ after) behind)
 
 -- ---- the check word that is in a frame
 
@@ -265,7 +265,7 @@ unfolding word_said
 word_of-said frame all long =
     let word = take 2 (drop 4 frame) in
     let two : length word ≡ 2 = omega (arith, long, length-take 2 (drop 4 frame), length-drop 4 frame) in
-    ap (λ n. bytes (bits_of (8 * n) (number (bits word)))) (sym two) ∙ ap bytes (sym (bits-bits_of word)) ∙ bytes-bits word (AreBytes-take 2 (drop 4 frame) (AreBytes-drop 4 frame all))
+    ap (λ n. bytes (bits_of (8 * n) (number (bits word)))) (sym two) ∙ ap bytes (sym (bits-bits_of word)) ∙ bytes-bits word (AreBelow-take 256 2 (drop 4 frame) (AreBelow-drop 256 4 frame all))
 
 word_cases : (h : HeaderFields) (s : Side) (frame : List ℕ) (b : Bool) → h.protected ≡ b → AreBytes frame → HasRoom h frame → (h.protected ≡ true → word_said frame ≡ check_word_of h s)
     → cond b (bytes (bits_of 16 (check_word_of h s))) [] ++ drop (side_place b) frame ≡ drop 4 frame
@@ -283,7 +283,7 @@ side_there h frame class all room =
     let part = take (side_size_of c) behind in
     let long : length part ≡ side_size_of c = omega (arith, room, overhead-is c h.protected, length-take (side_size_of c) behind, length-drop (side_place h.protected) frame) in
     ap bytes (side_bits-side_at c class (bits part) (AreBits-bits part) (length-bits part ∙ ap (λ n. 8 * n) long))
-    ∙ bytes-bits part (AreBytes-take (side_size_of c) behind (AreBytes-drop (side_place h.protected) frame all))
+    ∙ bytes-bits part (AreBelow-take 256 (side_size_of c) behind (AreBelow-drop 256 (side_place h.protected) frame all))
 
 -- a frame stays as it is when its own side information is put in, if its check word is right
 pub frame_with-own : (h : HeaderFields) (frame : List ℕ) → IsClass (class_of h) → AreBytes frame → HasRoom h frame → IsRight h frame → frame_with h (side_in h frame) frame ≡ frame

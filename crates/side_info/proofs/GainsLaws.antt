@@ -3,7 +3,7 @@ use Rattle.std.proofs.Common.{◌≡◌, ℕ, ◌+◌, ◌*◌, ◌≤◌, Bool,
 use Rattle.std.proofs.lemmas.List.{take_at, drop_at, drop-drop, take-take, length-take-le}
 use Rattle.bit_fields.specs.Bits.{bits, bits_of, bytes, AreBytes}
 use Rattle.bit_fields.specs.Groups.{spelled}
-use Rattle.bit_fields.proofs.BitsLaws.{length-bits_of, bytes-bits, AreBytes-take, AreBytes-drop}
+use Rattle.bit_fields.proofs.BitsLaws.{length-bits_of, bytes-bits, AreBelow-take, AreBelow-drop}
 use Rattle.bit_fields.proofs.GroupsLaws.{length-spelled}
 use Rattle.frame_header.specs.declared.version.Version.{Version}
 use Rattle.frame_header.specs.declared.version.Version.TheVariants.{One, Two, TwoFive}
@@ -124,14 +124,14 @@ all_put_gains c class t t_shaped old middle new begin next begin_is next_is firs
 bytes_there : (place size : ℕ) (frame bs : List ℕ) → AreBytes (drop place frame) → bits (take size (drop place frame)) ≡ bs → drop place frame ≡ bytes bs ++ drop (place + size) frame
 bytes_there place size frame bs all e =
     sym (take-append-drop size (drop place frame))
-    ∙ ap₂ (λ xs ys. xs ++ ys) (sym (bytes-bits (take size (drop place frame)) (AreBytes-take size (drop place frame) all)) ∙ ap bytes e) (drop-drop size place frame)
+    ∙ ap₂ (λ xs ys. xs ++ ys) (sym (bytes-bits (take size (drop place frame)) (AreBelow-take 256 size (drop place frame) all)) ∙ ap bytes e) (drop-drop size place frame)
 
 pub gains-unprotected : (h : HeaderFields) (s : Side) (old new : List ℕ) → h.protected ≡ false → AreBytes new → take 4 new ≡ take 4 old → drop (4 + side_size_of (class_of h)) new ≡ drop (4 + side_size_of (class_of h)) old
     → bits (take (side_size_of (class_of h)) (drop 4 new)) ≡ side_bits (class_of h) s → new ≡ frame_with h s old
 gains-unprotected h s old new is all front behind side =
     let size : ℕ = side_size_of (class_of h) in
     sym (take-append-drop 4 new)
-    ∙ ap₂ (λ xs ys. xs ++ ys) front (bytes_there 4 size new (side_bits (class_of h) s) (AreBytes-drop 4 new all) side ∙ ap (λ ys. bytes (side_bits (class_of h) s) ++ ys) behind)
+    ∙ ap₂ (λ xs ys. xs ++ ys) front (bytes_there 4 size new (side_bits (class_of h) s) (AreBelow-drop 256 4 new all) side ∙ ap (λ ys. bytes (side_bits (class_of h) s) ++ ys) behind)
     ∙ sym (frame_with-unprotected h s old is)
 
 pub gains-protected : (h : HeaderFields) (s : Side) (old middle new : List ℕ) → h.protected ≡ true → AreBytes (drop 6 middle) → take 6 middle ≡ take 6 old → drop (6 + side_size_of (class_of h)) middle ≡ drop (6 + side_size_of (class_of h)) old

@@ -6,7 +6,7 @@ use Rattle.std.proofs.Math.Seq.{take-add, drop-append-add}
 use Rattle.std.proofs.lemmas.List.{drop-drop}
 use Rattle.bit_fields.specs.Bits.{bits_of, AreBits}
 use Rattle.bit_fields.specs.Groups.{numbers_at, spelled, Fits}
-use Rattle.bit_fields.proofs.BitsLaws.{AreBits-append, AreBits-drop}
+use Rattle.bit_fields.proofs.BitsLaws.{AreBelow-append, AreBelow-drop}
 use Rattle.bit_fields.proofs.GroupsLaws.{spelled-append, spelled-cons, length-Fits, length-spelled, AreBits-spelled, Fits-numbers_at, numbers_at-spelled_more, spelled-numbers_at_front}
 use Rattle.frame_header.specs.declared.version.Version.{Version}
 use Rattle.frame_header.specs.declared.version.Version.TheVariants.{One, Two, TwoFive}
@@ -124,7 +124,7 @@ length-flat version (g ∷ gs) =
 
 pub AreBits-flat : (version : Version) (gs : List Granule) → AreBits (flat_map (granule_bits version) gs)
 AreBits-flat version [] = tt
-AreBits-flat version (g ∷ gs) = AreBits-append (granule_bits version g) (flat_map (granule_bits version) gs) (AreBits-granule_bits version g) (AreBits-flat version gs)
+AreBits-flat version (g ∷ gs) = AreBelow-append 2 (granule_bits version g) (flat_map (granule_bits version) gs) (AreBits-granule_bits version g) (AreBits-flat version gs)
 
 -- granules are read back from the bits that they spell
 pub nth_granule-flat : (version : Version) (gs : List Granule) (n : ℕ) (more : List ℕ) → n < length gs → GranuleFits version (get_or gs n no_granule) → nth_granule version n (flat_map (granule_bits version) gs ++ more) ≡ get_or gs n no_granule
@@ -149,7 +149,7 @@ flat-granules_from version n (suc count) bs all h =
     let whole : (n + suc count) * size ≡ n * size + suc count * size = add-mul n (suc count) size in
     let more : suc count * size ≡ count * size + size = suc-mul count size in
     let next : (n + 1) * size ≡ n * size + size = add-mul n 1 size ∙ ap (λ k. n * size + k) (one-mul size) in
-    let one : granule_bits version (granule_at version (drop (n * size) bs)) ≡ take size (drop (n * size) bs) = granule_bits-granule_at version (drop (n * size) bs) (AreBits-drop (n * size) bs all) (simp length-drop (omega arith)) in
+    let one : granule_bits version (granule_at version (drop (n * size) bs)) ≡ take size (drop (n * size) bs) = granule_bits-granule_at version (drop (n * size) bs) (AreBelow-drop 2 (n * size) bs all) (simp length-drop (omega arith)) in
     let others : flat_map (granule_bits version) (granules_from version (n + 1) count bs) ≡ take (count * size) (drop size (drop (n * size) bs)) =
     flat-granules_from version (n + 1) count bs all (rw (add_assoc n 1 count, one-add count) h)
     ∙ ap (λ k. take (count * size) (drop k bs)) next

@@ -5,7 +5,7 @@ use Rattle.std.proofs.lemmas.Nat.{shr-shr, shr_below}
 use Rattle.std.proofs.lemmas.List.{drop-drop}
 use Rattle.bit_fields.specs.Bits.{number, AreBits}
 use Rattle.bit_fields.specs.Groups.{group, numbers_at}
-use Rattle.bit_fields.proofs.BitsLaws.{AreBits-drop}
+use Rattle.bit_fields.proofs.BitsLaws.{AreBelow-drop}
 use Rattle.bit_fields.proofs.GroupsLaws.{sliced, sum-cons, numbers_at-append, numbers_at-number_front}
 use Rattle.frame_header.specs.declared.version.Version.{Version}
 use Rattle.frame_header.specs.declared.version.Version.TheVariants.{One, Two, TwoFive}
@@ -93,15 +93,15 @@ module _ (version : Version) (bs : List ℕ) (at first middle last : ℕ) (all :
       ap (λ k. drop k (drop 29 rest)) middle_sum ∙ drop-drop (cw + 23) 29 rest ∙ drop-drop (29 + (cw + 23)) at bs ∙ ap (λ k. drop k bs) (omega arith) in
       let one : first / 131072 ∷ first / 256 % 512 ∷ first % 256 ∷ [] ≡ numbers_at (12 ∷ 9 ∷ 8 ∷ []) rest =
       (λ i. sym (mod-eq_of_lt length-below) i ∷ first / 256 % 512 ∷ ap (λ m. m % 256) (sym (div-one first)) i ∷ [])
-      ∙ ap (sliced (12 ∷ 9 ∷ 8 ∷ [])) first_is ∙ sym (numbers_at-number_front (12 ∷ 9 ∷ 8 ∷ []) rest (AreBits-drop at bs all) (omega arith)) in
+      ∙ ap (sliced (12 ∷ 9 ∷ 8 ∷ [])) first_is ∙ sym (numbers_at-number_front (12 ∷ 9 ∷ 8 ∷ []) rest (AreBelow-drop 2 at bs all) (omega arith)) in
       let two : middle / 8388608 ∷ middle / 4194304 % 2 ∷ middle % 4194304 ∷ [] ≡ numbers_at (cw ∷ 1 ∷ 22 ∷ []) (drop 29 rest) =
       (λ i. sym (mod-eq_of_lt compress-below) i ∷ middle / 4194304 % 2 ∷ ap (λ m. m % 4194304) (sym (div-one middle)) i ∷ [])
       ∙ ap (sliced (cw ∷ 1 ∷ 22 ∷ [])) (middle_is ∙ ap₂ (λ k ds. number (take k ds)) (sym middle_sum) (sym (drop-drop 29 at bs)))
-      ∙ sym (numbers_at-number_front (cw ∷ 1 ∷ 22 ∷ []) (drop 29 rest) (AreBits-drop 29 rest (AreBits-drop at bs all)) (simp length-drop (omega arith))) in
+      ∙ sym (numbers_at-number_front (cw ∷ 1 ∷ 22 ∷ []) (drop 29 rest) (AreBelow-drop 2 29 rest (AreBelow-drop 2 at bs all)) (simp length-drop (omega arith))) in
       let three : last / 4 ∷ last / 2 % 2 ∷ last % 2 ∷ [] ≡ numbers_at (pw ∷ 1 ∷ 1 ∷ []) (drop (sum (cw ∷ 1 ∷ 22 ∷ [])) (drop 29 rest)) =
       (λ i. sym (mod-eq_of_lt preflag-below) i ∷ last / 2 % 2 ∷ ap (λ m. m % 2) (sym (div-one last)) i ∷ [])
       ∙ ap (sliced (pw ∷ 1 ∷ 1 ∷ [])) (last_is ∙ ap₂ (λ k ds. number (take k ds)) (sym last_sum) (sym behind_middle))
-      ∙ sym (numbers_at-number_front (pw ∷ 1 ∷ 1 ∷ []) (drop (sum (cw ∷ 1 ∷ 22 ∷ [])) (drop 29 rest)) (AreBits-drop (sum (cw ∷ 1 ∷ 22 ∷ [])) (drop 29 rest) (AreBits-drop 29 rest (AreBits-drop at bs all))) (rw behind_middle (simp length-drop (omega arith)))) in
+      ∙ sym (numbers_at-number_front (pw ∷ 1 ∷ 1 ∷ []) (drop (sum (cw ∷ 1 ∷ 22 ∷ [])) (drop 29 rest)) (AreBelow-drop 2 (sum (cw ∷ 1 ∷ 22 ∷ [])) (drop 29 rest) (AreBelow-drop 2 29 rest (AreBelow-drop 2 at bs all))) (rw behind_middle (simp length-drop (omega arith)))) in
       ap granule_of
       (ap₂ (λ xs ys. xs ++ ys) one (ap₂ (λ xs ys. xs ++ ys) two three ∙ sym (numbers_at-append (cw ∷ 1 ∷ 22 ∷ []) (pw ∷ 1 ∷ 1 ∷ []) (drop 29 rest)))
       ∙ sym (numbers_at-append (12 ∷ 9 ∷ 8 ∷ []) (cw ∷ 1 ∷ 22 ∷ pw ∷ 1 ∷ 1 ∷ []) rest))

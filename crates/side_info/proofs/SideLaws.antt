@@ -8,7 +8,7 @@ use Rattle.std.proofs.lemmas.Nat.{pow_pos}
 use Rattle.std.proofs.lemmas.List.{drop_at}
 use Rattle.bit_fields.specs.Bits.{AreBits}
 use Rattle.bit_fields.specs.Groups.{numbers_at, spelled, Fits}
-use Rattle.bit_fields.proofs.BitsLaws.{AreBits-append, AreBits-drop}
+use Rattle.bit_fields.proofs.BitsLaws.{AreBelow-append, AreBelow-drop}
 use Rattle.bit_fields.proofs.GroupsLaws.{length-spelled, AreBits-spelled, Fits-numbers_at, numbers_at-spelled_more, spelled-numbers_at_front}
 use Rattle.frame_header.specs.declared.version.Version.{Version}
 use Rattle.frame_header.specs.declared.version.Version.TheVariants.{One, Two, TwoFive}
@@ -67,7 +67,7 @@ side_bits-side_at c class bs all h =
     ap₂ (λ cs ds. cs ++ ds)
     (front-side_at c class bs ∙ spelled-numbers_at_front (front_widths c) bs all (omega arith))
     (ap (flat_map (granule_bits c.version)) (granules_in-side_at c class bs)
-    ∙ flat-granules_from c.version 0 (granule_count c) rest (AreBits-drop front bs all) most
+    ∙ flat-granules_from c.version 0 (granule_count c) rest (AreBelow-drop 2 front bs all) most
     ∙ ap (λ k. take (granule_count c * granule_size c.version) (drop k rest)) (zero-mul (granule_size c.version))
     ∙ take_all (granule_count c * granule_size c.version) rest (omega arith))
     ∙ take-append-drop front bs
@@ -190,7 +190,7 @@ side_at-side_bits c class s shaped =
 pub AreBits-side_bits : (c : ClassFields) (s : Side) → AreBits (side_bits c s)
 unfolding side_bits
 AreBits-side_bits c s =
-    AreBits-append (spelled (front_widths c) (s.main_data_begin ∷ s.private_bits ∷ s.scfsi)) (flat_map (granule_bits c.version) (granules_in c s))
+    AreBelow-append 2 (spelled (front_widths c) (s.main_data_begin ∷ s.private_bits ∷ s.scfsi)) (flat_map (granule_bits c.version) (granules_in c s))
     (AreBits-spelled (front_widths c) (s.main_data_begin ∷ s.private_bits ∷ s.scfsi)) (AreBits-flat c.version (granules_in c s))
 
 abbrev Long : ClassFields → Side → Type 0
@@ -252,7 +252,7 @@ none_fits version true = no_granule-fits version
 none_fits version false = refl
 
 some_fits : (version : Version) (bs : List ℕ) (n : ℕ) → AreBits bs → GranuleFits version (nth_granule version n bs)
-some_fits version bs n all = GranuleFits-granule_at version (drop (n * granule_size version) bs) (AreBits-drop (n * granule_size version) bs all)
+some_fits version bs n all = GranuleFits-granule_at version (drop (n * granule_size version) bs) (AreBelow-drop 2 (n * granule_size version) bs all)
 
 abbrev FitsAt : ClassFields → Side → ℕ → ℕ → Type 0
 FitsAt c s granule channel = MatchBool (has_granule c granule channel) (GranuleFits c.version (granule_in s granule channel)) (granule_in s granule channel ≡ no_granule)
@@ -285,25 +285,25 @@ fits_by c m p a b g h k l front x0 x1 x2 x3 = record {
 fits_one_mono : (f : ℕ) (bs : List ℕ) → AreBits bs → SideFits (class_with One f 1) (side_at (class_with One f 1) bs)
 unfolding side_at numbers_at
 fits_one_mono f bs all =
-    let rest : AreBits (drop 18 bs) = AreBits-drop 18 bs all in
+    let rest : AreBits (drop 18 bs) = AreBelow-drop 2 18 bs all in
     fits_by (class_with One f 1) _ _ _ _ _ no_granule _ no_granule (Fits-numbers_at (front_widths (class_with One f 1)) bs all) (some_fits One (drop 18 bs) 0 rest) refl (some_fits One (drop 18 bs) 1 rest) refl
 
 fits_one_stereo : (f : ℕ) (bs : List ℕ) → AreBits bs → SideFits (class_with One f 2) (side_at (class_with One f 2) bs)
 unfolding side_at numbers_at
 fits_one_stereo f bs all =
-    let rest : AreBits (drop 20 bs) = AreBits-drop 20 bs all in
+    let rest : AreBits (drop 20 bs) = AreBelow-drop 2 20 bs all in
     fits_by (class_with One f 2) _ _ _ _ _ _ _ _ (Fits-numbers_at (front_widths (class_with One f 2)) bs all) (some_fits One (drop 20 bs) 0 rest) (some_fits One (drop 20 bs) 1 rest) (some_fits One (drop 20 bs) 2 rest) (some_fits One (drop 20 bs) 3 rest)
 
 fits_two_mono : (f : ℕ) (bs : List ℕ) → AreBits bs → SideFits (class_with Two f 1) (side_at (class_with Two f 1) bs)
 unfolding side_at numbers_at
 fits_two_mono f bs all =
-    let rest : AreBits (drop 9 bs) = AreBits-drop 9 bs all in
+    let rest : AreBits (drop 9 bs) = AreBelow-drop 2 9 bs all in
     fits_by (class_with Two f 1) _ _ _ _ _ no_granule no_granule no_granule (Fits-numbers_at (front_widths (class_with Two f 1)) bs all) (some_fits Two (drop 9 bs) 0 rest) refl refl refl
 
 fits_two_stereo : (f : ℕ) (bs : List ℕ) → AreBits bs → SideFits (class_with Two f 2) (side_at (class_with Two f 2) bs)
 unfolding side_at numbers_at
 fits_two_stereo f bs all =
-    let rest : AreBits (drop 10 bs) = AreBits-drop 10 bs all in
+    let rest : AreBits (drop 10 bs) = AreBelow-drop 2 10 bs all in
     fits_by (class_with Two f 2) _ _ _ _ _ _ no_granule no_granule (Fits-numbers_at (front_widths (class_with Two f 2)) bs all) (some_fits Two (drop 10 bs) 0 rest) (some_fits Two (drop 10 bs) 1 rest) refl refl
 
 fits_as_two : (f channels : ℕ) (bs : List ℕ) → SideFits (class_with Two f channels) (side_at (class_with Two f channels) bs) → SideFits (class_with TwoFive f channels) (side_at (class_with TwoFive f channels) bs)

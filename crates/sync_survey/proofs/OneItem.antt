@@ -5,7 +5,7 @@ use Rattle.std.proofs.lemmas.List.{length-take}
 use Rattle.std.proofs.Math.Seq.{take-append-add}
 use Rattle.bit_fields.specs.Bits.{bits, bits_of, number}
 use Rattle.bit_fields.specs.Groups.{group}
-use Rattle.bit_fields.proofs.BitsLaws.{length-bits_of, length-bits, bits-cons, number-append, number-below, number-bits_of-below, AreBits-take, AreBits-bits}
+use Rattle.bit_fields.proofs.BitsLaws.{length-bits_of, length-bits, bits-cons, number-append, number-below, number-bits_of-below, AreBelow-take, AreBits-bits}
 use Rattle.frame_header.specs.declared.header.NotHeader.{NotHeader}
 use Rattle.frame_header.specs.declared.header.NotHeader.TheVariants.{Free as FreeHeader, No}
 use Rattle.frame_header.specs.Fields.{HeaderFields}
@@ -33,7 +33,7 @@ sync_byte byte next rest below sync =
     let three : length (take 3 behind) ≡ 3 = omega (arith, length-take 3 behind, length-bits (next ∷ rest)) in
     let whole : number (take 11 (bits (byte ∷ next ∷ rest))) ≡ byte * 8 + number (take 3 behind) =
     ap number front ∙ number-append (bits_of 8 byte) (take 3 behind) ∙ (λ i. number-bits_of-below 8 byte below i * 2 ^ three i + number (take 3 behind)) in
-    let few : number (take 3 behind) < 8 = subst (λ n. number (take 3 behind) < 2 ^ n) three (number-below (take 3 behind) (AreBits-take 3 behind (AreBits-bits (next ∷ rest)))) in
+    let few : number (take 3 behind) < 8 = subst (λ n. number (take 3 behind) < 2 ^ n) three (number-below (take 3 behind) (AreBelow-take 2 3 behind (AreBits-bits (next ∷ rest)))) in
     omega (arith, few, sym whole ∙ sync)
 
 readable_sync : (h : List ℕ) → is_readable h ≡ true → group 0 11 h ≡ 2047

@@ -2,7 +2,7 @@
 use Rattle.std.proofs.Common.{◌≡◌, ℕ, ◌+◌, ◌-◌, List, length, take, drop, sym, ap, ◌∙◌, arith, length-drop}
 use Rattle.std.proofs.lemmas.List.{length-take-le}
 use Rattle.bit_fields.specs.Bits.{bits, number}
-use Rattle.bit_fields.proofs.BitsLaws.{number-bits-be_bytes_8, AreBytes-from_places, AreBytes-take, AreBytes-drop}
+use Rattle.bit_fields.proofs.BitsLaws.{number-bits-be_bytes_8, AreBytes-from_places, AreBelow-take, AreBelow-drop}
 use Rattle.bit_fields.proofs.window.word_at.Goals as goal
 
 pub returns : goal.returns
@@ -13,5 +13,5 @@ returns c =
     let eight : count ≡ 8 = omega arith in
     let size : length (take count rest) ≡ 8 = length-take-le count rest (simp length-drop (omega arith)) ∙ eight in
     c.from_be_bytes.ensures
-    ∙ sym (number-bits-be_bytes_8 (take count rest) size (AreBytes-take count rest (AreBytes-drop c.args.first c.args.bytes.now all)))
+    ∙ sym (number-bits-be_bytes_8 (take count rest) size (AreBelow-take 256 count rest (AreBelow-drop 256 c.args.first c.args.bytes.now all)))
     ∙ ap (λ n. number (bits (take n rest))) eight

@@ -2,7 +2,7 @@
 use Rattle.std.proofs.Common.{◌≡◌, ◌+◌, take, drop, true, false, sym, ap, ap₂, ◌∙◌, subst, arith}
 use Rattle.std.proofs.lemmas.List.{drop-drop}
 use Rattle.bit_fields.specs.Bits.{bits, AreBytes}
-use Rattle.bit_fields.proofs.BitsLaws.{AreBytes-from_places, AreBytes-drop}
+use Rattle.bit_fields.proofs.BitsLaws.{AreBytes-from_places, AreBelow-drop}
 use Rattle.frame_header.specs.Fields.{ClassFields}
 use Rattle.frame_header.specs.Tables.{class_of, side_size_of, overhead_of}
 use Rattle.side_info.specs.Side.{side_at, side_bits, HasOtherGains}
@@ -68,7 +68,7 @@ returns-then-header-clause-gains c other =
     let same : side_in h old ≡ side_at c.class-class.result (bits (take (side_size_of c.class-class.result) (drop 6 old))) =
     ap₂ (λ (d : ClassFields) k. side_at d (bits (take (side_size_of d) (drop k old)))) (sym class) (ap side_place is) in
     let side = subst (λ d. bits (take (side_size_of d) (drop 6 middle)) ≡ side_bits d t) class (c.put_at_place.ensures.side (subst (λ s. HasOtherGains s t) same other)) in
-    let all : AreBytes (drop 6 middle) = subst AreBytes c.put_right_word.ensures.behind (AreBytes-drop 6 new (AreBytes-from_places new (λ i. omega (arith, c.type_inv.frame i)))) in
+    let all : AreBytes (drop 6 middle) = subst AreBytes c.put_right_word.ensures.behind (AreBelow-drop 256 6 new (AreBytes-from_places new (λ i. omega (arith, c.type_inv.frame i)))) in
     gains-protected h t old middle new is all c.put_at_place.ensures.before
     (subst (λ d. drop (6 + side_size_of d) middle ≡ drop (6 + side_size_of d) old) class c.put_at_place.ensures.behind)
     side (c.put_right_word.ensures.word t side)

@@ -1,7 +1,7 @@
 -- Whole bytes of the main data, and the bits after them.
 use Rattle.std.proofs.Common.{◌≡◌, ◌+◌, ◌-◌, ◌/◌, ◌%◌, ◌++◌, ℕ, List, take, drop, length, sym, subst, ap, ap₂, ◌∙◌, arith}
 use Rattle.bit_fields.specs.Bits.{AreBytes}
-use Rattle.bit_fields.proofs.BitsLaws.{AreBytes-append}
+use Rattle.bit_fields.proofs.BitsLaws.{AreBelow-append}
 use Rattle.reservoir.specs.Window.{ArePacked, main_bits, byte_of}
 use Rattle.reservoir.proofs.WindowLaws.{packed}
 use Rattle.reservoir.proofs.window.Window.payload.Goals as goal
@@ -28,4 +28,4 @@ returns-clause-payload c = λ main over.
 
 pub returns-clause-bytes : goal.returns-clause-bytes
 returns-clause-bytes c =
-    subst AreBytes (sym c.new.ensures.payload) (AreBytes-append _ _ c.new.ensures.bytes c.last_byte-last.ensures.bytes)
+    subst AreBytes (sym c.new.ensures.payload) (AreBelow-append 256 _ _ c.new.ensures.bytes c.last_byte-last.ensures.bytes)
