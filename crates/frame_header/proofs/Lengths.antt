@@ -12,17 +12,12 @@ use Rattle.frame_header.specs.Fields.{SlotFields, ClassFields, IsSlot, IsClass}
 use Rattle.frame_header.specs.Tables.{rates, frequencies, rate_of, frequency_of, side_bytes_of, side_size_of, length_factor, length_of, version_place}
 use Rattle.frame_header.specs.declared.class.TheConstants.{LENGTHS}
 
--- the lowest bit rate of a version in kbit/s
+-- the lowest bit rate of a version in kbit/s, which is the first, and its highest frequency in Hz, which is the second
 abbrev pub least_rate : Version → ℕ
-least_rate One = 32
-least_rate Two = 8
-least_rate TwoFive = 8
+least_rate version = get_or (rates version) 0 0
 
--- the highest frequency of a version in Hz
 abbrev pub highest_frequency : Version → ℕ
-highest_frequency One = 48000
-highest_frequency Two = 24000
-highest_frequency TwoFive = 12000
+highest_frequency version = get_or (frequencies version) 1 0
 
 not_false : (b : Bool) → (b ≡ false → ⊥) → b ≡ true
 not_false true h = refl

@@ -8,16 +8,9 @@ use Rattle.frame_header.specs.declared.header.NotHeader.{NotHeader}
 use Rattle.frame_header.specs.declared.header.NotHeader.TheVariants.{Free, No}
 use Rattle.frame_header.specs.Fields.{HeaderFields}
 
--- the groups of these 32 bits; first the 11 bits of the sync word that all versions share
-abbrev pub sync_word : List ℕ → ℕ
-sync_word h = group 0 11 h
-
--- the twelfth bit and ID
+-- groups of these 32 bits; first the twelfth bit and ID
 abbrev pub version_bits : List ℕ → ℕ
 version_bits h = group 11 2 h
-
-abbrev pub layer_bits : List ℕ → ℕ
-layer_bits h = group 13 2 h
 
 abbrev pub protection_bit : List ℕ → ℕ
 protection_bit h = group 15 1 h
@@ -28,10 +21,10 @@ rate_bits h = group 16 4 h
 abbrev pub frequency_bits : List ℕ → ℕ
 frequency_bits h = group 20 2 h
 
--- the first 11 bits are ones; the twelfth is 1, or it and ID are both 0; the layer is III; and the bit rate isn't the forbidden one nor the
--- frequency the reserved one
+-- the first 11 bits, the sync word that all versions share, are ones; the twelfth is 1, or it and ID are both 0; the layer, of two bits, is
+-- III; and the bit rate isn't the forbidden one nor the frequency the reserved one
 unfoldable pub is_readable : List ℕ → Bool
-is_readable h = (sync_word h == 2047) && not (version_bits h == 1) && (layer_bits h == 1) && not (rate_bits h == 15) && not (frequency_bits h == 3)
+is_readable h = (group 0 11 h == 2047) && not (version_bits h == 1) && (group 13 2 h == 1) && not (rate_bits h == 15) && not (frequency_bits h == 3)
 
 abbrev pub version_of : List ℕ → Version
 version_of h = if version_bits h == 3 then One else (if version_bits h == 2 then Two else TwoFive)

@@ -27,6 +27,10 @@ granules_of TwoFive = 1
 abbrev pub samples_of : Version → ℕ
 samples_of version = 576 * granules_of version
 
+-- an eighth of that, which is a frame's bytes at one bit a sample
+abbrev pub length_factor : Version → ℕ
+length_factor version = 72 * granules_of version
+
 -- how many bytes before a frame's own area its main data may begin: the greatest main_data_begin
 abbrev pub window_of : Version → ℕ
 window_of One = 511
@@ -53,12 +57,6 @@ abbrev pub version_place : Version → ℕ
 version_place One = 0
 version_place Two = 1
 version_place TwoFive = 2
-
--- an eighth of the samples of a frame, which are its bytes at one bit a sample
-abbrev pub length_factor : Version → ℕ
-length_factor One = 144
-length_factor Two = 72
-length_factor TwoFive = 72
 
 -- the length of a frame in bytes: the factor times the bit rate in bit/s, divided by the frequency and rounded down, and the padding
 unfoldable pub length_of : ClassFields → SlotFields → ℕ
