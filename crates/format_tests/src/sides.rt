@@ -1,6 +1,8 @@
 //! Side information by the tables of the standard, ISO/IEC 11172-3 and 13818-3, 2.4.1.7, and check words.
 use frame_header::{Class, Header, Version};
-use side_info::{Granule, Side, check_word, check_word_of_bytes, put_gains, word_of_bytes};
+use side_info::{
+    Granule, NO_GRANULE as NONE, Side, check_word, check_word_of_bytes, put_gains, word_of_bytes,
+};
 use std::alloc::{AllocError, Global};
 use std::process::Abort;
 use std::test::Fail;
@@ -15,18 +17,6 @@ const BEFORE: [u8; 32] = *b"\
 const AFTER: [u8; 32] = *b"\
     \x00\x00\x00\x08\x00\x32\x80\x00\x00\x00\x01\x00\x06\x60\x00\x00\
     \x00\x00\x20\x00\x00\x00\x00\x00\x00\x04\x00\x16\xc0\x00\x00\x00";
-
-const NONE: Granule = Granule {
-    detail: 0,
-    part2_3_length: 0,
-    big_values: 0,
-    scalefac_compress: 0,
-    global_gain: 0,
-    window_switching: false,
-    preflag: false,
-    scalefac_scale: false,
-    count1table_select: false,
-};
 
 // A granule of 8 bits of main data with this gain.
 fn granule(global_gain: u8) -> Granule {

@@ -136,38 +136,29 @@ back_one_mono : (f m p a b : ℕ) (g h k l : Granule) → GivesBack (class_with 
 unfolding side_bits granules_in built
 back_one_mono f m p a b g h k l fits =
     let gs : List Granule = g ∷ k ∷ [] in
-    let q0 : nth_granule One 0 (flat_map (granule_bits One) gs) ≡ g = nth One gs 0 (omega arith) (fits.granules 0 0) in
-    let q1 : nth_granule One 1 (flat_map (granule_bits One) gs) ≡ k = nth One gs 1 (omega arith) (fits.granules 1 0) in
     back (class_with One f 1) (m ∷ p ∷ a ∷ b ∷ []) gs (fits.main_data_begin, (fits.private_bits, (fits.scfsi 0, (fits.scfsi 1, tt)))) refl
-    ∙ (λ i. side_with m p a b (q0 i) (sym (fits.granules 0 1) i) (q1 i) (sym (fits.granules 1 1) i))
+    ∙ (λ i. side_with m p a b (nth One gs 0 (omega arith) (fits.granules 0 0) i) (sym (fits.granules 0 1) i) (nth One gs 1 (omega arith) (fits.granules 1 0) i) (sym (fits.granules 1 1) i))
 
 back_one_stereo : (f m p a b : ℕ) (g h k l : Granule) → GivesBack (class_with One f 2) (side_with m p a b g h k l)
 unfolding side_bits granules_in built
 back_one_stereo f m p a b g h k l fits =
     let gs : List Granule = g ∷ h ∷ k ∷ l ∷ [] in
-    let q0 : nth_granule One 0 (flat_map (granule_bits One) gs) ≡ g = nth One gs 0 (omega arith) (fits.granules 0 0) in
-    let q1 : nth_granule One 1 (flat_map (granule_bits One) gs) ≡ h = nth One gs 1 (omega arith) (fits.granules 0 1) in
-    let q2 : nth_granule One 2 (flat_map (granule_bits One) gs) ≡ k = nth One gs 2 (omega arith) (fits.granules 1 0) in
-    let q3 : nth_granule One 3 (flat_map (granule_bits One) gs) ≡ l = nth One gs 3 (omega arith) (fits.granules 1 1) in
     back (class_with One f 2) (m ∷ p ∷ a ∷ b ∷ []) gs (fits.main_data_begin, (fits.private_bits, (fits.scfsi 0, (fits.scfsi 1, tt)))) refl
-    ∙ (λ i. side_with m p a b (q0 i) (q1 i) (q2 i) (q3 i))
+    ∙ (λ i. side_with m p a b (nth One gs 0 (omega arith) (fits.granules 0 0) i) (nth One gs 1 (omega arith) (fits.granules 0 1) i) (nth One gs 2 (omega arith) (fits.granules 1 0) i) (nth One gs 3 (omega arith) (fits.granules 1 1) i))
 
 back_two_mono : (f m p a b : ℕ) (g h k l : Granule) → GivesBack (class_with Two f 1) (side_with m p a b g h k l)
 unfolding side_bits granules_in built
 back_two_mono f m p a b g h k l fits =
     let gs : List Granule = g ∷ [] in
-    let q0 : nth_granule Two 0 (flat_map (granule_bits Two) gs) ≡ g = nth Two gs 0 (omega arith) (fits.granules 0 0) in
     back (class_with Two f 1) (m ∷ p ∷ a ∷ b ∷ []) gs (fits.main_data_begin, (fits.private_bits, (fits.scfsi 0, (fits.scfsi 1, tt)))) refl
-    ∙ (λ i. side_with m p a b (q0 i) (sym (fits.granules 0 1) i) (sym (fits.granules 1 0) i) (sym (fits.granules 1 1) i))
+    ∙ (λ i. side_with m p a b (nth Two gs 0 (omega arith) (fits.granules 0 0) i) (sym (fits.granules 0 1) i) (sym (fits.granules 1 0) i) (sym (fits.granules 1 1) i))
 
 back_two_stereo : (f m p a b : ℕ) (g h k l : Granule) → GivesBack (class_with Two f 2) (side_with m p a b g h k l)
 unfolding side_bits granules_in built
 back_two_stereo f m p a b g h k l fits =
     let gs : List Granule = g ∷ h ∷ [] in
-    let q0 : nth_granule Two 0 (flat_map (granule_bits Two) gs) ≡ g = nth Two gs 0 (omega arith) (fits.granules 0 0) in
-    let q1 : nth_granule Two 1 (flat_map (granule_bits Two) gs) ≡ h = nth Two gs 1 (omega arith) (fits.granules 0 1) in
     back (class_with Two f 2) (m ∷ p ∷ a ∷ b ∷ []) gs (fits.main_data_begin, (fits.private_bits, (fits.scfsi 0, (fits.scfsi 1, tt)))) refl
-    ∙ (λ i. side_with m p a b (q0 i) (q1 i) (sym (fits.granules 1 0) i) (sym (fits.granules 1 1) i))
+    ∙ (λ i. side_with m p a b (nth Two gs 0 (omega arith) (fits.granules 0 0) i) (nth Two gs 1 (omega arith) (fits.granules 0 1) i) (sym (fits.granules 1 0) i) (sym (fits.granules 1 1) i))
 
 -- what fits MPEG-2.5 fits MPEG-2, and back
 fits_two : (f channels : ℕ) (s : Side) → SideFits (class_with TwoFive f channels) s → SideFits (class_with Two f channels) s

@@ -45,7 +45,7 @@ impl Granule {
 }
 
 /// All fields 0.
-pub(crate) const NO_GRANULE: Granule = Granule {
+pub const NO_GRANULE: Granule = Granule {
     detail: 0,
     part2_3_length: 0,
     big_values: 0,

@@ -15,5 +15,5 @@ mod writing;
 pub use division::{check_word, check_word_of_bytes, word_of_bytes};
 pub use frame::{put_side, read_side, side_of_frame, word_said};
 pub use gains::put_gains;
-pub use granule::Granule;
+pub use granule::{Granule, NO_GRANULE};
 pub use side::Side;

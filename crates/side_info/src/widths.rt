@@ -18,16 +18,13 @@ pub(crate) fn compress_width(version: Version) -> u32
     }
 }
 
-/// How many bits preflag has.
+/// How many bits preflag has; MPEG-1 alone has it.
 #[inline]
 pub(crate) fn preflag_width(version: Version) -> u32
     ensures width { result ≡ preflag_width_lem version }
     ensures most { result ≤ 1 }
 {
-    match version {
-        Version::One => 1,
-        Version::Two | Version::TwoFive => 0,
-    }
+    u32::from(matches!(version, Version::One))
 }
 
 /// How many bits one granule and channel has.

@@ -1,9 +1,9 @@
 -- The side information and the check word, where there is one, are those of the other gains.
-use Rattle.std.proofs.Common.{◌≡◌, ◌+◌, take, drop, true, false, sym, ap, ap₂, ◌∙◌, subst, arith}
+use Rattle.std.proofs.Common.{◌≡◌, ℕ, ◌+◌, List, take, drop, true, false, sym, ap, ap₂, ◌∙◌, subst, arith}
 use Rattle.std.proofs.lemmas.List.{drop-drop}
 use Rattle.bit_fields.specs.Bits.{bits, AreBytes}
 use Rattle.bit_fields.proofs.BitsLaws.{AreBytes-from_places, AreBelow-drop}
-use Rattle.frame_header.specs.Fields.{ClassFields}
+use Rattle.frame_header.specs.Fields.{ClassFields, HeaderFields}
 use Rattle.frame_header.specs.Tables.{class_of, side_size_of, overhead_of}
 use Rattle.side_info.specs.Side.{side_at, side_bits, HasOtherGains}
 use Rattle.side_info.specs.Frame.{side_place, side_in, side_part}
@@ -55,8 +55,12 @@ returns-else-header-clause-behind c =
     ∙ subst (λ d. drop (4 + side_size_of d) new ≡ drop (4 + side_size_of d) old) c.class-class.ensures c.put_at_place-else-header.ensures.behind
     ∙ sym (ap (λ n. drop n old) over)
 
-pub returns-then-header-clause-gains : goal.returns-then-header-clause-gains
+-- the side information of a frame, read at its place
+side_read : (h : HeaderFields) (d : ClassFields) (place : ℕ) (frame : List ℕ) → d ≡ class_of h → side_place h.protected ≡ place → side_in h frame ≡ side_at d (bits (take (side_size_of d) (drop place frame)))
 unfolding side_in side_part
+side_read h d place frame class at = ap₂ (λ (d : ClassFields) k. side_at d (bits (take (side_size_of d) (drop k frame)))) (sym class) at
+
+pub returns-then-header-clause-gains : goal.returns-then-header-clause-gains
 returns-then-header-clause-gains c other =
     let h = c.args.header.now in
     let t = c.args.side.now in
@@ -65,8 +69,7 @@ returns-then-header-clause-gains c other =
     let new = c.put_right_word.new.frame in
     let class = c.class-class.ensures in
     let is : h.protected ≡ true = sym (ap (λ h. h.protected) c.header.view_is) ∙ c.if-header.true in
-    let same : side_in h old ≡ side_at c.class-class.result (bits (take (side_size_of c.class-class.result) (drop 6 old))) =
-    ap₂ (λ (d : ClassFields) k. side_at d (bits (take (side_size_of d) (drop k old)))) (sym class) (ap side_place is) in
+    let same = side_read h c.class-class.result 6 old class (ap side_place is) in
     let side = subst (λ d. bits (take (side_size_of d) (drop 6 middle)) ≡ side_bits d t) class (c.put_at_place.ensures.side (subst (λ s. HasOtherGains s t) same other)) in
     let all : AreBytes (drop 6 middle) = subst AreBytes c.put_right_word.ensures.behind (AreBelow-drop 256 6 new (AreBytes-from_places new (λ i. omega (arith, c.type_inv.frame i)))) in
     gains-protected h t old middle new is all c.put_at_place.ensures.before
@@ -74,7 +77,6 @@ returns-then-header-clause-gains c other =
     side (c.put_right_word.ensures.word t side)
 
 pub returns-else-header-clause-gains : goal.returns-else-header-clause-gains
-unfolding side_in side_part
 returns-else-header-clause-gains c other =
     let h = c.args.header.now in
     let t = c.args.side.now in
@@ -82,8 +84,7 @@ returns-else-header-clause-gains c other =
     let new = c.put_at_place-else-header.new.frame in
     let class = c.class-class.ensures in
     let is : h.protected ≡ false = sym (ap (λ h. h.protected) c.header.view_is) ∙ c.if-header.false in
-    let same : side_in h old ≡ side_at c.class-class.result (bits (take (side_size_of c.class-class.result) (drop 4 old))) =
-    ap₂ (λ (d : ClassFields) k. side_at d (bits (take (side_size_of d) (drop k old)))) (sym class) (ap side_place is) in
+    let same = side_read h c.class-class.result 4 old class (ap side_place is) in
     let all : AreBytes new = AreBytes-from_places new (λ i. omega (arith, c.type_inv.frame i)) in
     gains-unprotected h t old new is all c.put_at_place-else-header.ensures.before
     (subst (λ d. drop (4 + side_size_of d) new ≡ drop (4 + side_size_of d) old) class c.put_at_place-else-header.ensures.behind)
