@@ -1,5 +1,5 @@
 -- Laws of windows: the last bytes of main data, and the bits of a frame's main data among them.
-use Rattle.std.proofs.Common.{◌≡◌, ◌⊎◌, ℕ, zero, suc, min, ◌<◌, inl, inr, ◌+◌, ◌-◌, ◌*◌, ◌/◌, ◌%◌, ◌^◌, ◌≤◌, List, [], ◌∷◌, ◌++◌, length, take, drop, replicate, refl, sym, subst, ap, ap₂, ◌∙◌, append_assoc, append-nil, arith, length-append}
+use Rattle.std.proofs.Common.{◌≡◌, ℕ, zero, suc, min, ◌<◌, inl, inr, ◌+◌, ◌-◌, ◌*◌, ◌/◌, ◌%◌, ◌^◌, ◌≤◌, List, [], ◌∷◌, ◌++◌, length, take, drop, replicate, refl, sym, subst, ap, ap₂, ◌∙◌, append_assoc, append-nil, arith, length-append}
 use Rattle.std.proofs.lemmas.List.{length-drop, length-take-le, take-append-le, drop-append-le, take-append-drop, drop-drop}
 use Rattle.std.proofs.Math.Seq.{drop-append-add, take-append-add, drop-length, take-length, take-add, drop-cons}
 use Rattle.std.proofs.Math.Nat.{min-eq_left, min-eq_right, zero-div}
@@ -117,31 +117,25 @@ packed held main whole last reach count rest n is within all fits same last_is =
 
 -- ---- two lists, one after the other
 
-drop_two_cases : (from : ℕ) (xs ys : List ℕ) → (from < length xs) ⊎ (length xs ≤ from) → drop from (xs ++ ys) ≡ drop (min from (length xs)) xs ++ drop (from - min from (length xs)) ys
-drop_two_cases from xs ys (inl within) =
-    let least : min from (length xs) ≡ from = min-eq_left (omega arith) in
-    let none : from - min from (length xs) ≡ 0 = omega (arith, least) in
-    rw (none, least) (drop-append-le from xs ys (omega arith))
-drop_two_cases from xs ys (inr past) =
-    let least : min from (length xs) ≡ length xs = min-eq_right past in
-    let split : from ≡ length xs + (from - length xs) = omega arith in
-    rw (least, drop-length xs) (ap (λ k. drop k (xs ++ ys)) split ∙ drop-append-add xs ys (from - length xs))
+-- of so many items of two lists the first list has as many as it can, and the second has the rest
+of_both : (n most : ℕ) (P : ℕ → ℕ → Type 0) → (n < most → P n 0) → (most ≤ n → P most (n - most)) → P (min n most) (n - min n most)
+of_both n most P within past = elim (cases_lt n most) as (λ _. P (min n most) (n - min n most)) [
+  | inl less ↦
+      let least : min n most ≡ n = min-eq_left (omega arith) in
+      let none : n - min n most ≡ 0 = omega (arith, least) in
+      rw (none, least) (within less)
+  | inr more ↦ let least : min n most ≡ most = min-eq_right more in rw least (past more)
+]
 
 pub drop_two : (from : ℕ) (xs ys : List ℕ) → drop from (xs ++ ys) ≡ drop (min from (length xs)) xs ++ drop (from - min from (length xs)) ys
-drop_two from xs ys = drop_two_cases from xs ys (cases_lt from (length xs))
-
-take_two_cases : (count : ℕ) (xs ys : List ℕ) → (count < length xs) ⊎ (length xs ≤ count) → take count (xs ++ ys) ≡ take (min count (length xs)) xs ++ take (count - min count (length xs)) ys
-take_two_cases count xs ys (inl within) =
-    let least : min count (length xs) ≡ count = min-eq_left (omega arith) in
-    let none : count - min count (length xs) ≡ 0 = omega (arith, least) in
-    rw (none, least) (take-append-le count xs ys (omega arith) ∙ sym (append-nil (take count xs)))
-take_two_cases count xs ys (inr past) =
-    let least : min count (length xs) ≡ length xs = min-eq_right past in
-    let split : count ≡ length xs + (count - length xs) = omega arith in
-    rw (least, take-length xs) (ap (λ k. take k (xs ++ ys)) split ∙ take-append-add xs ys (count - length xs))
+drop_two from xs ys =
+    of_both from (length xs) (λ m k. drop from (xs ++ ys) ≡ drop m xs ++ drop k ys) (λ within. drop-append-le from xs ys (omega arith))
+    (λ past. let split : from ≡ length xs + (from - length xs) = omega arith in rw (drop-length xs) (ap (λ k. drop k (xs ++ ys)) split ∙ drop-append-add xs ys (from - length xs)))
 
 pub take_two : (count : ℕ) (xs ys : List ℕ) → take count (xs ++ ys) ≡ take (min count (length xs)) xs ++ take (count - min count (length xs)) ys
-take_two count xs ys = take_two_cases count xs ys (cases_lt count (length xs))
+take_two count xs ys =
+    of_both count (length xs) (λ m k. take count (xs ++ ys) ≡ take m xs ++ take k ys) (λ within. take-append-le count xs ys (omega arith) ∙ sym (append-nil (take count xs)))
+    (λ past. let split : count ≡ length xs + (count - length xs) = omega arith in rw (take-length xs) (ap (λ k. take k (xs ++ ys)) split ∙ take-append-add xs ys (count - length xs)))
 
 -- the last of what is held, and of an area after it
 pub last-pushed : (k over : ℕ) (held area new : List ℕ) → length held ≤ 2048 → k ≡ length area - 2048 → over ≡ length held + length (drop k area) - 2048 → new ≡ drop over held ++ drop k area → new ≡ keep_last 2048 (held ++ area)
