@@ -1,9 +1,8 @@
 //! Where a block begins, and how long it is.
-ghost use Rattle.std.specs.Prelude.{◌≡◌, ◌+◌, ◌^◌, ◌==◌, ◌<◌, ◌≤◌, nat_lt, IsTrue, length, IfSome};
+ghost use Rattle.std.specs.Prelude.{◌≡◌, ◌+◌, ◌^◌, ◌==◌, ◌&&◌, ◌<◌, ◌≤◌, nat_le, nat_lt, IsTrue, length, IfSome};
 ghost use Rattle.std.specs.List.{list_all};
 ghost use Rattle.std.specs.Int.{bit_at};
-ghost use Rattle.tag_blocks.specs.declared.block.Kind.TheVariants.{Id3v2, Id3v1, Ape};
-ghost use Rattle.tag_blocks.specs.Blocks.{seven_bit_number as seven_bit_number_lem, is_id3v2 as is_id3v2_lem, ape_number as ape_number_lem, is_ape as is_ape_lem, front_as, block_front};
+ghost use Rattle.tag_blocks.specs.Blocks.{begins_with, seven_bit_number as seven_bit_number_lem, is_id3v2 as is_id3v2_lem, id3v2_length as id3v2_length_lem, ape_number as ape_number_lem, is_ape as is_ape_lem, block_front};
 
 use byteorder::{ByteOrder, LittleEndian};
 
@@ -23,6 +22,14 @@ pub enum Kind {
 pub struct Block {
     pub kind: Kind,
     pub length: u64,
+}
+
+impl Block {
+    fn of(kind: Kind, length: u64) -> Block
+        ensures { result ≡ record { kind = kind; length = length } }
+    {
+        Block { kind, length }
+    }
 }
 
 /// The length of the header of ID3v2, and of its footer where there is one, in bytes.
@@ -76,49 +83,37 @@ fn seven_bit_number(four: &[u8]) -> u64
         + u64::from(four[3])
 }
 
+/// Whether so many bytes are there, and begin with this text.
+fn has_front(bytes: &[u8], least: usize, text: &[u8]) -> bool
+    ensures front { result ≡ (nat_le least (length bytes.now) && begins_with text.now bytes.now) }
+    ensures there { IsTrue result → least ≤ length bytes.now }
+{
+    bytes.len() >= least && bytes.starts_with(text)
+}
+
 /// Whether the bytes begin with an ID3v2 block.
 #[tactic(auto, unfolding(crate::specs::Blocks::is_id3v2))]
 fn is_id3v2(front: &[u8]) -> bool
     ensures begins { result ≡ is_id3v2_lem front.now }
     ensures header { IsTrue result → 10 ≤ length front.now }
 {
-    front.len() >= ID3V2_HEADER
-        && front.starts_with(b"ID3")
+    has_front(front, ID3V2_HEADER, b"ID3")
         && front[3] != 0xff
         && front[4] != 0xff
         && have_seven_bits(&front[6..10])
 }
 
-/// The ID3v2 block with which the bytes begin.
+/// The length of the ID3v2 block with which the bytes begin.
 #[tactic(auto, unfolding(crate::specs::Blocks::id3v2_length))]
-fn id3v2_at(front: &[u8]) -> Option<Block>
-    ensures block { result ≡ front_as Id3v2 front.now }
-    ensures most { IfSome result (λ b. b.length ≤ 4294967327) }
+fn id3v2_length(front: &[u8]) -> u64
+    requires { 10 ≤ length front.now }
+    ensures length { result ≡ id3v2_length_lem front.now }
+    ensures least { 10 ≤ result }
+    ensures most { result ≤ 4294967327 }
 {
-    if !is_id3v2(front) {
-        return None;
-    }
     let has_footer = is_set(u32::from(front[5]), ID3V2_HAS_FOOTER);
     let footer = if has_footer { ID3V2_HEADER } else { 0 };
-    Some(Block {
-        kind: Kind::Id3v2,
-        length: (ID3V2_HEADER + footer) as u64 + seven_bit_number(&front[6..10]),
-    })
-}
-
-/// The ID3v1 block with which the bytes begin.
-#[tactic(auto, unfolding(crate::specs::Blocks::is_id3v1))]
-fn id3v1_at(front: &[u8]) -> Option<Block>
-    ensures block { result ≡ front_as Id3v1 front.now }
-    ensures most { IfSome result (λ b. b.length ≤ 4294967327) }
-{
-    if !front.starts_with(b"TAG") {
-        return None;
-    }
-    Some(Block {
-        kind: Kind::Id3v1,
-        length: ID3V1_LENGTH,
-    })
+    (ID3V2_HEADER + footer) as u64 + seven_bit_number(&front[6..10])
 }
 
 /// The little-endian number of 32 bits at byte `at` of an APEv2 header.
@@ -135,27 +130,11 @@ fn is_ape(front: &[u8]) -> bool
     ensures begins { result ≡ is_ape_lem front.now }
     ensures header { IsTrue result → 32 ≤ length front.now }
 {
-    front.len() >= APE_HEADER
-        && front.starts_with(b"APETAGEX")
+    has_front(front, APE_HEADER, b"APETAGEX")
         && ape_number(front, APE_VERSION_AT) == 2000
         && ape_number(front, APE_SIZE_AT) >= 32
         && is_set(ape_number(front, APE_FLAGS_AT), APE_HAS_HEADER)
         && is_set(ape_number(front, APE_FLAGS_AT), APE_IS_HEADER)
-}
-
-/// The APEv2 block with which the bytes begin.
-#[tactic(auto, unfolding(crate::specs::Blocks::ape_length))]
-fn ape_at(front: &[u8]) -> Option<Block>
-    ensures block { result ≡ front_as Ape front.now }
-    ensures most { IfSome result (λ b. b.length ≤ 4294967327) }
-{
-    if !is_ape(front) {
-        return None;
-    }
-    Some(Block {
-        kind: Kind::Ape,
-        length: APE_HEADER as u64 + u64::from(ape_number(front, APE_SIZE_AT)),
-    })
 }
 
 /// The block that begins at an offset of a file. `front` is the first 32 bytes there, or all that are left;
@@ -168,11 +147,21 @@ fn ape_at(front: &[u8]) -> Option<Block>
 ///   with bits 31 and 29 set, and any 8 bytes.
 ///
 /// The length is in bytes, from 10 to 4,294,967,327. Whether so many bytes are there isn't judged.
-#[tactic(auto, unfolding(crate::specs::Blocks::block_front))]
+#[tactic(auto, unfolding(crate::specs::Blocks::block_front, crate::specs::Blocks::is_id3v1, crate::specs::Blocks::ape_length))]
 pub fn block_at(front: &[u8]) -> Option<Block>
     ensures block { result ≡ block_front front.now }
     ensures least { IfSome result (λ b. 10 ≤ b.length) }
     ensures most { IfSome result (λ b. b.length ≤ 4294967327) }
 {
-    id3v2_at(front).or(id3v1_at(front)).or(ape_at(front))
+    if is_id3v2(front) {
+        return Some(Block::of(Kind::Id3v2, id3v2_length(front)));
+    }
+    if front.starts_with(b"TAG") {
+        return Some(Block::of(Kind::Id3v1, ID3V1_LENGTH));
+    }
+    if is_ape(front) {
+        let size = ape_number(front, APE_SIZE_AT);
+        return Some(Block::of(Kind::Ape, APE_HEADER as u64 + u64::from(size)));
+    }
+    None
 }
