@@ -1,5 +1,5 @@
 -- One part more.
-use Rattle.std.proofs.Common.{◌+◌, ◌<◌, length, get_or, drop, refl, sym, subst, arith}
+use Rattle.std.proofs.Common.{◌+◌, ◌<◌, length, get_or, drop, refl, sym, subst, arith, rules}
 use Rattle.slot_plan.specs.Parts.{ArePartsFeasible, parts_of}
 use Rattle.slot_plan.specs.Plans.{IsPlan}
 use Rattle.slot_plan.proofs.PartLaws.{window-first, part-ready, parts-cons, parts-none}
@@ -18,19 +18,19 @@ loop-at-init g c =
           (parts-begun c.window-window.result (g.P.Policy.choices_of c.args.policy.now) (parts_of needs c.args.parts.now));
     }
 
-pub place_part-requires-clause-same : goal.place_part-requires-clause-same
-place_part-requires-clause-same g c =
+pub place_part-requires : goal.place_part-requires
+place_part-requires g c =
     let needs = c.args.needs.now in
     let some : 0 < length needs = omega (arith, c.requires.within 0 0 c.requires.some) in
     let window = window-first needs c.index-needs-0.result c.class.result c.window-window.result c.requires.class some c.class.ensures c.window-window.ensures.window in
-    (part-ready needs c.args.parts.now c.loop-at.at c.end_of.result c.window-window.result c.requires.class c.requires.ascending c.requires.within c.loop-at-test.true c.end_of.ensures.next c.end_of.ensures.last window c.loop-at.invariant.feasible).1
-
-pub place_part-requires-clause-feasible : goal.place_part-requires-clause-feasible
-place_part-requires-clause-feasible g c =
-    let needs = c.args.needs.now in
-    let some : 0 < length needs = omega (arith, c.requires.within 0 0 c.requires.some) in
-    let window = window-first needs c.index-needs-0.result c.class.result c.window-window.result c.requires.class some c.class.ensures c.window-window.ensures.window in
-    (part-ready needs c.args.parts.now c.loop-at.at c.end_of.result c.window-window.result c.requires.class c.requires.ascending c.requires.within c.loop-at-test.true c.end_of.ensures.next c.end_of.ensures.last window c.loop-at.invariant.feasible).2
+    let ready = part-ready needs c.args.parts.now c.loop-at.at c.end_of.result c.window-window.result c.requires.class c.requires.ascending c.requires.within c.loop-at-test.true c.end_of.ensures.next c.end_of.ensures.last window c.loop-at.invariant.feasible in
+    record {
+      some = ready.0;
+      window = search rules;
+      same = ready.1;
+      free = c.loop-at.invariant.free;
+      feasible = ready.2;
+    }
 
 pub loop-at-preserved : goal.loop-at-preserved
 loop-at-preserved g c =
