@@ -55,7 +55,7 @@ fn read_track(rest: &[u8]) -> Entry
     ensures { result ≡ of_two track_of (words_of rest.now) }
 {
     match read_pair(rest) {
-        Some(pair) if is_track_number(pair.first) && is_word(pair.second, b"AUDIO") => Entry::Track,
+        Some((number, kind)) if is_track_number(number) && is_word(kind, b"AUDIO") => Entry::Track,
         _ => Entry::Broken,
     }
 }
@@ -76,7 +76,7 @@ fn read_index(rest: &[u8]) -> Entry
     ensures { result ≡ of_two index_of (words_of rest.now) }
 {
     match read_pair(rest) {
-        Some(pair) => index_at(pair.first, pair.second),
+        Some((number, time)) => index_at(number, time),
         None => Entry::Broken,
     }
 }

@@ -119,26 +119,16 @@ pub fn next_word(line: &[u8]) -> Option<Word<'_>>
     })
 }
 
-/// Two words.
-#[derive(Clone, Copy)]
-pub struct Pair<'a> {
-    pub first: &'a [u8],
-    pub second: &'a [u8],
-}
-
 /// The two words of a line. `None` exactly where it has fewer or more.
-pub fn read_pair(line: &[u8]) -> Option<Pair<'_>>
+pub fn read_pair(line: &[u8]) -> Option<(&[u8], &[u8])>
     ensures { MatchOption result
         (HasNotTwo (words_of line.now))
-        (λ pair. words_of line.now ≡ pair.first.now ∷ pair.second.now ∷ []) }
+        (λ pair. words_of line.now ≡ pair.0.now ∷ pair.1.now ∷ []) }
 {
     let first = next_word(line)?;
     let second = next_word(first.rest)?;
     if next_word(second.rest).is_some() {
         return None;
     }
-    Some(Pair {
-        first: first.word,
-        second: second.word,
-    })
+    Some((first.word, second.word))
 }

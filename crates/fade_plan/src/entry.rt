@@ -52,10 +52,10 @@ fn read_point(line: &[u8]) -> Entry
     ensures point { result ≡ point_of (words_of line.now) }
     ensures sound { IsEntry result }
 {
-    let Some(pair) = read_pair(line) else {
+    let Some((place, steps)) = read_pair(line) else {
         return Entry::Broken;
     };
-    match (Place::of_word(pair.first), read_steps(pair.second)) {
+    match (Place::of_word(place), read_steps(steps)) {
         (Some(place), Some(steps)) => Entry::At(place, steps),
         _ => Entry::Broken,
     }
