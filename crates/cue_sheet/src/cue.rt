@@ -1,5 +1,5 @@
 //! Cue sheets.
-ghost use Rattle.std.specs.Prelude.{◌≡◌, ◌≤◌, ◌++◌, ◌⊎◌, ◌∷◌, [], length, IfOk, MatchResult, Ok, Err};
+ghost use Rattle.std.specs.Prelude.{◌≡◌, ◌≤◌, ◌++◌, ◌⊎◌, ◌∷◌, [], length, IfOk, OnOk, MatchResult, Ok, Err};
 ghost use Rattle.cue_sheet.specs.declared.cue_fault.CueFault.TheVariants.{Memory};
 ghost use Rattle.cue_sheet.specs.Cues.{places_of, entries_from, cue_in, cue_of, AreStarts};
 
@@ -8,17 +8,16 @@ use crate::entry::{Entry, read_entry};
 use crate::place::Place;
 use crate::seen::Seen;
 use crate::words::{line_at, without_mark};
-use std::alloc::Global;
+use std::alloc::{AllocError, Global};
 use std::marker::Model;
 
 /// Keeps the time of a line that is a start.
 ///
 /// # Errors
-/// `Memory` where there is no memory.
-fn keep_start(starts: &mut Vec<Place>, entry: Entry) -> Result<(), CueFault>
-    ensures kept { MatchResult result
-        (λ _. starts.new.items ≡ starts.old.items ++ places_of (entry ∷ []))
-        (λ fault. fault ≡ Memory) }
+/// Where there is no memory.
+fn keep_start(starts: &mut Vec<Place>, entry: Entry) -> Result<(), AllocError>
+    ensures kept { OnOk result
+        (starts.new.items ≡ starts.old.items ++ places_of (entry ∷ [])) }
 {
     if let Entry::Start(time) = entry {
         starts.push(Place::Time(time, 75))?;
@@ -45,7 +44,9 @@ fn read_lines(alloc: Global, text: &[u8]) -> Result<Vec<Place>, CueFault>
         if let Some(fault) = seen.fault(entry) {
             return Err(fault);
         }
-        keep_start(&mut starts, entry)?;
+        let Ok(()) = keep_start(&mut starts, entry) else {
+            return Err(CueFault::Memory);
+        };
         seen = seen.behind(entry);
         at = line.next;
     }

@@ -1,8 +1,4 @@
 //! Why a cue sheet isn't read.
-ghost use Rattle.std.specs.Prelude.{◌≡◌};
-ghost use Rattle.cue_sheet.specs.declared.cue_fault.CueFault.TheVariants.{Memory};
-
-use std::alloc::{AllocError, AllocFailed};
 use thiserror::Error;
 
 /// Why a cue sheet isn't read. Lines are counted from 1.
@@ -20,20 +16,4 @@ pub enum CueFault {
     /// There was no memory left.
     #[error("out of memory")]
     Memory,
-}
-
-impl From<AllocError> for CueFault {
-    ghost from_gives = { λ _ fault. fault ≡ Memory };
-
-    fn from(_: AllocError) -> CueFault {
-        CueFault::Memory
-    }
-}
-
-impl<T: Drop> From<AllocFailed<T>> for CueFault {
-    ghost from_gives = { λ _ fault. fault ≡ Memory };
-
-    fn from(_: AllocFailed<T>) -> CueFault {
-        CueFault::Memory
-    }
 }

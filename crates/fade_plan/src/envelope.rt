@@ -1,5 +1,5 @@
 //! Envelopes: the points of a sheet.
-ghost use Rattle.std.specs.Prelude.{◌≡◌, ◌≤◌, ◌++◌, ◌⊎◌, length, map, IfOk, MatchResult, Ok, Err};
+ghost use Rattle.std.specs.Prelude.{◌≡◌, ◌≤◌, ◌++◌, ◌⊎◌, length, map, IfOk, OnOk, MatchResult, Ok, Err};
 ghost use Rattle.std.specs.List.{All};
 ghost use Rattle.fade_plan.specs.declared.envelope_fault.EnvelopeFault.TheVariants.{Memory};
 ghost use Rattle.fade_plan.specs.Sheets.{IsEntry, is_at_fault as is_at_fault_lem, point_at, entries_from, envelope_in, envelope_of};
@@ -12,7 +12,7 @@ use crate::envelope_fault::EnvelopeFault;
 use crate::point::{Point, first_low, place_all};
 use cue_sheet::words::{line_at, without_mark};
 use frame_header::Class;
-use std::alloc::Global;
+use std::alloc::{AllocError, Global};
 use std::marker::Model;
 
 /// How many points a sheet has at most.
@@ -32,14 +32,12 @@ fn is_at_fault(points: usize, entry: Entry) -> bool
 /// Keeps the point of a line that is one.
 ///
 /// # Errors
-/// `Memory` where there is no memory.
-fn keep(points: &mut Vec<Point>, line: u32, entry: Entry) -> Result<(), EnvelopeFault>
+/// Where there is no memory.
+fn keep(points: &mut Vec<Point>, line: u32, entry: Entry) -> Result<(), AllocError>
     requires sound { IsEntry entry }
     requires kept { All IsKept points.old.items }
-    ensures points { MatchResult result
-        (λ _. map in_envelope points.new.items
-        ≡ map in_envelope points.old.items ++ point_at line entry)
-        (λ fault. fault ≡ Memory) }
+    ensures points { OnOk result (map in_envelope points.new.items
+        ≡ map in_envelope points.old.items ++ point_at line entry) }
     ensures kept { IfOk result (λ _. All IsKept points.new.items) }
 {
     if let Entry::At(place, steps) = entry {
@@ -70,7 +68,9 @@ fn read_points(alloc: Global, text: &[u8]) -> Result<Vec<Point>, EnvelopeFault>
         if is_at_fault(points.len(), entry) {
             return Err(EnvelopeFault::Line(line));
         }
-        keep(&mut points, line, entry)?;
+        let Ok(()) = keep(&mut points, line, entry) else {
+            return Err(EnvelopeFault::Memory);
+        };
         line += 1;
         at = here.next;
     }

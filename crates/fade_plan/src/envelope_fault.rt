@@ -1,8 +1,4 @@
 //! Why a sheet isn't read.
-ghost use Rattle.std.specs.Prelude.{◌≡◌};
-ghost use Rattle.fade_plan.specs.declared.envelope_fault.EnvelopeFault.TheVariants.{Memory};
-
-use std::alloc::{AllocError, AllocFailed};
 use thiserror::Error;
 
 /// Why a sheet isn't read. Lines are counted from 1.
@@ -17,20 +13,4 @@ pub enum EnvelopeFault {
     /// There was no memory left.
     #[error("out of memory")]
     Memory,
-}
-
-impl From<AllocError> for EnvelopeFault {
-    ghost from_gives = { λ _ fault. fault ≡ Memory };
-
-    fn from(_: AllocError) -> EnvelopeFault {
-        EnvelopeFault::Memory
-    }
-}
-
-impl<T: Drop> From<AllocFailed<T>> for EnvelopeFault {
-    ghost from_gives = { λ _ fault. fault ≡ Memory };
-
-    fn from(_: AllocFailed<T>) -> EnvelopeFault {
-        EnvelopeFault::Memory
-    }
 }

@@ -56,7 +56,9 @@ fn read_block(alloc: Global, block: &[u8]) -> Result<Tag, TagFault>
     }
     let end = block.len() - APE_HEADER;
     let count = ape_number(block, COUNT_AT);
-    let items = read_items(alloc, &block[APE_HEADER..end], count)?;
+    let Ok(items) = read_items(alloc, &block[APE_HEADER..end], count) else {
+        return Err(TagFault::Memory);
+    };
     let place = APE_HEADER + items_length(&items);
     if items.len() != count as usize || place != end {
         return Err(TagFault::BadTag(place as u64));

@@ -15,7 +15,7 @@ pub loop-at-preserved : goal.loop-at-preserved
 loop-at-preserved c =
     let line = first_said entry_in c.args.text.now c.loop-at.at c.line_at-line.result.next _ _ c.line_at-line.ensures.line c.read_entry-entry.ensures in
     let read = goes_on c.args.text.now c.loop-at.at c.line_at-line.result.next c.loop-at.seen c.behind-seen.result c.loop-at.starts.items _ c.loop-at.invariant.0 line (λ before seen. sym c.in_default.is ∙ c.fault.ensures before seen) c.behind-seen.ensures.seen in
-    (subst (HaveRead c.args.text.now c.line_at-line.result.next c.behind-seen.result) (sym c.in_ok-keep_start.ensures.kept) read, c.line_at-line.ensures.within, omega (arith, c.behind-seen.ensures.lines, c.loop-at.invariant.2, c.line_at-line.ensures.on), c.behind-seen.ensures.tracks)
+    (subst (HaveRead c.args.text.now c.line_at-line.result.next c.behind-seen.result) (sym c.in-Ok.ensures.kept) read, c.line_at-line.ensures.within, omega (arith, c.behind-seen.ensures.lines, c.loop-at.invariant.2, c.line_at-line.ensures.on), c.behind-seen.ensures.tracks)
 
 pub returns-then-is_empty-clause-cue : goal.returns-then-is_empty-clause-cue
 returns-then-is_empty-clause-cue c =

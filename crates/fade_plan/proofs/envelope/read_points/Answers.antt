@@ -17,8 +17,8 @@ loop-at-preserved c =
     let entry = c.read_entry-entry.result in
     let said = first_said entry_in c.args.text.now at.at c.line_at-here.result.next _ entry c.line_at-here.ensures.line c.read_entry-entry.ensures.entry in
     let right = ap (λ n. is_at_fault n entry) (sym (c.len.ensures ∙ at.points.ok.0)) ∙ sym c.if-is_at_fault.ensures in (
-      goes_on c.args.text.now at.at c.line_at-here.result.next at.line at.points.items c.keep.new.points.items entry at.invariant.0 said right c.in_ok-keep.ensures.points,
-      c.in_ok-keep.ensures.kept,
+      goes_on c.args.text.now at.at c.line_at-here.result.next at.line at.points.items c.keep.new.points.items entry at.invariant.0 said right c.in-Ok.ensures.points,
+      c.in-Ok.ensures.kept,
       c.line_at-here.ensures.within,
       omega (arith, at.invariant.3, c.line_at-here.ensures.on),
     )

@@ -13,11 +13,11 @@ pub returns-then-not-is_reserved-clause-tag : goal.returns-then-not-is_reserved-
 returns-then-not-is_reserved-clause-tag c = inr (tag_of-reserved c.args.block.now (sym c.is_reserved.ensures ∙ c.if-not-is_reserved.true))
 
 -- the items that were read are those of the block
-items : (c : After-deref) → c.in_ok-items.items.items ≡ items_of c.args.block.now
-items c = c.in_ok-items.ensures ∙ ap (λ k. items_from k false (item_part c.args.block.now)) c.ape_number-count.ensures
+items : (c : After-deref) → c.in-Ok.items.items ≡ items_of c.args.block.now
+items c = c.in-Ok.ensures ∙ ap (λ k. items_from k false (item_part c.args.block.now)) c.ape_number-count.ensures
 
 -- so are the numbers beside them
-found : (c : After-len) → c.in_ok-items.items.items ≡ items_of c.args.block.now → AreFound c.args.block.now c.in_ok-items.items.items c.len.result c.items_length-place.result c.ape_number-count.result
+found : (c : After-len) → c.in-Ok.items.items ≡ items_of c.args.block.now → AreFound c.args.block.now c.in-Ok.items.items c.len.result c.items_length-place.result c.ape_number-count.result
 found c items_is = record {
   items_is = items_is;
   many_is = omega (arith, c.len.ensures, c.deref.ensures.len, ap length c.deref.ensures.value);
@@ -52,7 +52,7 @@ returns-then-not-is_footer-clause-tag c =
     inr (footer_fault block _ _ _ _ (found at.After-len (items at.After-deref)) c.if-len-count.false c.if-place-end.false
     (rw (← c.ape_number.ensures, ← c.ape_number-count.ensures, ← take_rest block (footer_place block)) (sym c.is_footer.ensures ∙ c.if-not-is_footer.true)))
 
-whole : (c : goal.After-ape_number-3) → AreFound c.args.block.now c.in_ok-items.items.items c.len.result c.items_length-place.result c.ape_number-count.result → IsWhole c.args.block.now
+whole : (c : goal.After-ape_number-3) → AreFound c.args.block.now c.in-Ok.items.items c.len.result c.items_length-place.result c.ape_number-count.result → IsWhole c.args.block.now
 whole c is =
     let block = c.args.block.now in
     let octets : AreOctets block = search rules in
@@ -60,7 +60,7 @@ whole c is =
     (rw (← c.ape_number.ensures, ← c.ape_number-count.ensures, ← take_rest block (footer_place block)) (sym c.is_footer.ensures ∙ c.if-not-is_footer.false))
 
 -- the fields that were read are those of the block's tag
-same : (c : goal.After-ape_number-3) → c.in_ok-items.items.items ≡ items_of c.args.block.now → tag_in c.args.block.now ≡ record { header_flags = c.ape_number-2.result; footer_flags = c.ape_number-3.result; items = c.in_ok-items.items.items }
+same : (c : goal.After-ape_number-3) → c.in-Ok.items.items ≡ items_of c.args.block.now → tag_in c.args.block.now ≡ record { header_flags = c.ape_number-2.result; footer_flags = c.ape_number-3.result; items = c.in-Ok.items.items }
 same c items_is =
     let block = c.args.block.now in
     let footer : c.ape_number-3.result ≡ ape_flags (drop (footer_place block) block) = c.ape_number-3.ensures ∙ ap ape_flags (take_rest block (footer_place block)) in
