@@ -1,8 +1,4 @@
 //! Why a stream wasn't written.
-ghost use Rattle.std.specs.Prelude.{◌≡◌};
-ghost use Rattle.drill_stream.specs.declared.fault.StreamFault.TheVariants.{Memory};
-
-use std::alloc::{AllocError, AllocFailed};
 use thiserror::Error;
 
 /// Why a stream wasn't written.
@@ -14,12 +10,4 @@ pub enum StreamFault {
     /// The file could not be created or written.
     #[error("write fault")]
     Write,
-}
-
-impl From<AllocError> for StreamFault {
-    ghost from_gives = { λ _ fault. fault ≡ Memory };
-
-    fn from(_: AllocError) -> StreamFault {
-        StreamFault::Memory
-    }
 }

@@ -36,7 +36,9 @@ pub fn write_stream<D: Folder>(
     ensures done { OnOk result (D.counts folder.new ≡ D.counts folder.old) }
     ensures counts { OnlyWrites (D.counts folder.old) (D.counts folder.new) }
 {
-    let mut making = Making::new(alloc, seed)?;
+    let Ok(mut making) = Making::new(alloc, seed) else {
+        return Err(StreamFault::Memory);
+    };
     let Ok(()) = folder.create(name) else {
         return Err(StreamFault::Write);
     };
