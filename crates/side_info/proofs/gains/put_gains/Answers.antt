@@ -10,7 +10,6 @@ use Rattle.side_info.specs.Frame.{side_place, side_in, side_part}
 use Rattle.side_info.proofs.FrameLaws.{overhead-protected, overhead-unprotected}
 use Rattle.side_info.proofs.GainsLaws.{gains-protected, gains-unprotected}
 use Rattle.side_info.proofs.gains.put_gains.Goals as goal
-use Rattle.side_info.proofs.gains.put_gains.Goals.{After-put_at_place-arg-1, After-put_at_place-arg-else-header-1}
 
 pub put_at_place-requires : goal.put_at_place-requires
 put_at_place-requires c =

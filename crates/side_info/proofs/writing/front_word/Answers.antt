@@ -1,5 +1,5 @@
 -- The fields are joined to one number.
-use Rattle.std.proofs.Common.{◌≡◌, ℕ, ◌+◌, ◌*◌, ◌^◌, ◌<◌, List, [], ◌∷◌, get_or, subst, sym, ap, ◌∙◌, arith, rules, sum}
+use Rattle.std.proofs.Common.{◌≡◌, ℕ, ◌+◌, ◌^◌, ◌<◌, [], ◌∷◌, get_or, subst, sym, ap, ◌∙◌, arith, rules, sum}
 use Rattle.bit_fields.specs.Bits.{bits_of}
 use Rattle.bit_fields.specs.Groups.{spelled}
 use Rattle.bit_fields.proofs.GroupsLaws.{joined}
