@@ -1,7 +1,7 @@
 -- The best plan is that of the function.
 use Rattle.std.proofs.Common.{◌≡◌, ℕ, zero, suc, ◌+◌, ◌<◌, ◌≤◌, ◌==◌, ◌&&◌, ◌||◌, cond, Bool, true, false, inl, inr, List, [], ◌∷◌, ◌++◌, map, length, get_or, Contains, Option, Some, None, refl, sym, ap, ap₂, ◌∙◌, subst, arith, rules, drop}
 use Rattle.std.specs.Prelude.{◌⊎◌, ◌↔◌, ltb, leb, sum, flat_map}
-use Rattle.std.proofs.lemmas.Bool.{ltb-true, ltb-false, leb-true, le-leb, eqb-true, eqb-false}
+use Rattle.std.proofs.lemmas.Bool.{ltb-true, ltb-false, leb-true, le-leb, eqb-true, eqb-false, or_cases, and_parts}
 use Rattle.std.proofs.lemmas.List.{length-map, append-nil}
 use Rattle.frame_header.specs.Fields.{SlotFields, ClassFields, HeaderFields}
 use Rattle.frame_header.specs.Tables.{class_of, area_of}
@@ -175,18 +175,23 @@ not_behind-on (l ∷ ls) (m ∷ ms) (n ∷ ns) (inl less) (inr at) = inl (omega 
 not_behind-on (l ∷ ls) (m ∷ ms) (n ∷ ns) (inr at) (inl more) = inl (omega (arith, more, at.0))
 not_behind-on (l ∷ ls) (m ∷ ms) (n ∷ ns) (inr at) (inr also) = inr (at.0 ∙ also.0, not_behind-on ls ms ns at.1 also.1)
 
+-- what comes before another by its first item, or by the others
+by_first : (m n : ℕ) (rest : Bool) → (ltb m n || ((m == n) && rest)) ≡ true → (m < n) ⊎ ((m ≡ n) × (rest ≡ true))
+by_first m n rest is = elim (or_cases (ltb m n) ((m == n) && rest) is) as (λ _. (m < n) ⊎ ((m ≡ n) × (rest ≡ true))) [
+  | inl less ↦ inl (ltb-true m n less)
+  | inr at ↦ let parts = and_parts (m == n) rest at in inr (eqb-true m n parts.0, parts.1)
+]
+
 -- what comes before isn't after
 before-first : (ms ns : List ℕ) → comes_before ms ns ≡ true → IsNotBehind ms ns
 unfolding comes_before IsNotBehind
 before-first [] [] is = tt
 before-first [] (n ∷ ns) is = tt
 before-first (m ∷ ms) [] is = absurd cc
-before-first (m ∷ ms) (n ∷ ns) is = at (ltb m n) refl (m == n) refl is (λ e. before-first ms ns e)
-  where
-    at : (a : Bool) → ltb m n ≡ a → (b : Bool) → (m == n) ≡ b → (a || (b && comes_before ms ns)) ≡ true → (comes_before ms ns ≡ true → IsNotBehind ms ns) → (m < n) ⊎ ((m ≡ n) × IsNotBehind ms ns)
-    at true less b same e rest = inl (ltb-true m n less)
-    at false less true same e rest = inr (eqb-true m n same, rest e)
-    at false less false same e rest = absurd cc
+before-first (m ∷ ms) (n ∷ ns) is = elim (by_first m n (comes_before ms ns) is) as (λ _. (m < n) ⊎ ((m ≡ n) × IsNotBehind ms ns)) [
+  | inl less ↦ inl less
+  | inr at ↦ inr (at.0, before-first ms ns at.1)
+]
 
 -- what is found costs no more than any
 pub record IsCheapest (items : List Item) (plans : List (List Placed)) (found : List Placed) : Type 0 where
