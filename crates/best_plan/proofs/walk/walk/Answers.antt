@@ -1,8 +1,8 @@
 -- One frame more, and the last.
-use Rattle.std.proofs.Common.{◌≡◌, ◌+◌, ◌-◌, length, take, drop, sym, ap, ◌∙◌, subst, arith}
+use Rattle.std.proofs.Common.{◌≡◌, ◌+◌, ◌-◌, length, take, drop, ap, ◌∙◌, arith}
 use Rattle.slot_plan.specs.Parts.{area_in, item_of}
 use Rattle.slot_plan.specs.Reserve.{free_behind}
-use Rattle.best_plan.proofs.WalkLaws.{GoesOn, walk-open, walk-next, goes-begun, goes-more, goes-all, place-is, area-is}
+use Rattle.best_plan.proofs.WalkLaws.{walk-open, walk-next, goes-begun, goes-more, goes-all, place-is, area-is}
 use Rattle.best_plan.proofs.walk.walk.Goals as goal
 
 pub overflow_sub-from : goal.overflow_sub-from
@@ -31,13 +31,13 @@ frame_at-frame-requires-clause-place g c =
 pub free_behind-free-requires-clause-fits : goal.free_behind-free-requires-clause-fits
 free_behind-free-requires-clause-fits g c =
     let front = walk-open c.args.needs.now c.loop-need.need-index c.need-item.result c.loop-need.invariant.free c.loop-need-test.true c.need-item.is c.loop-need.invariant.can in
-    let at = area-is front c.loop-need.invariant.free c.len.result c.index-place.result.now (omega (arith, c.len.ensures)) c.index-place.ensures _ c.frame_at-frame.ensures.area in
+    let at = area-is front c.loop-need.invariant.free c.len.result c.index-place.result.now (omega (arith, c.len.ensures)) c.index-place.ensures (area_in (item_of (g.P.Policy.choices_of c.args.policy.now) c.need-item.result) c.frame_at-frame.result.slot) c.frame_at-frame.ensures.area in
     omega (arith, front.choice.fits front.some, c.area_with-area.ensures.area, at)
 
 pub loop-need-preserved : goal.loop-need-preserved
 loop-need-preserved g c =
     let front = walk-open c.args.needs.now c.loop-need.need-index c.need-item.result c.loop-need.invariant.free c.loop-need-test.true c.need-item.is c.loop-need.invariant.can in
-    let at = area-is front c.loop-need.invariant.free c.len.result c.index-place.result.now (omega (arith, c.len.ensures)) c.index-place.ensures _ c.frame_at-frame.ensures.area in
+    let at = area-is front c.loop-need.invariant.free c.len.result c.index-place.result.now (omega (arith, c.len.ensures)) c.index-place.ensures (area_in (item_of (g.P.Policy.choices_of c.args.policy.now) c.need-item.result) c.frame_at-frame.result.slot) c.frame_at-frame.ensures.area in
     let choices = g.P.Policy.choices_of c.args.policy.now in
     let need = c.need-item.result in
     let slot = c.frame_at-frame.result.slot in
@@ -48,7 +48,7 @@ loop-need-preserved g c =
     record {
       free = c.free_behind-free.ensures.within;
       can = walk-next c.args.window choices c.loop-need.free c.free_behind-free.result (area_in (item_of choices need) slot) need (drop (c.loop-need.need-index + 1) c.args.needs.now) c.loop-need.places.items c.truncate.new.self.items front at free taken;
-      goes = subst (λ l. GoesOn c.args.window choices c.args.free c.free_behind-free.result c.args.needs.now (drop (c.loop-need.need-index + 1) c.args.needs.now) c.args.placed.now.items l) (sym c.in_ok-push.ensures.items)
+      goes = rw c.in_ok-push.ensures.items
           (goes-more c.args.window choices c.args.free c.loop-need.free c.free_behind-free.result c.args.needs.now c.loop-need.need-index need c.frame_at-frame.result c.loop-need.places.items c.args.placed.now.items c.loop-need.placed.items
           c.loop-need-test.true c.need-item.is front c.frame_at-frame.ensures.ascending at c.frame_at-frame.ensures.chosen c.frame_at-frame.ensures.frame c.frame_at-frame.ensures.begin free c.loop-need.invariant.goes);
     }
