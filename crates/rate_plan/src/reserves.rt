@@ -8,17 +8,8 @@ ghost use Rattle.rate_plan.specs.Placing.{NeedAtMost, HasReserves};
 
 use crate::menu::largest_area;
 use frame_header::{Class, Slot};
-use slot_plan::Need;
+use slot_plan::{Need, Reserves};
 use std::alloc::{AllocError, Global};
-
-/// How many bytes have to be free.
-#[derive(Drop)]
-pub(crate) struct Reserves {
-    /// After each frame, the last frame's first.
-    pub(crate) behind: Vec<u16>,
-    /// Before the first frame.
-    pub(crate) before: u16,
-}
 
 /// How many bytes have to be free before a frame, if `behind` bytes have to be free after it.
 fn needed_before(class: Class, need: &Need, behind: u16, menu: &[Slot]) -> u64

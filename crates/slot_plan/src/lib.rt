@@ -14,4 +14,5 @@ pub use laws::{lead_ins_come_first, plans_are_unique, the_plan_is_the_plan};
 pub use needs::{Need, Placed, Plan};
 pub use plans::{end_of, plan};
 pub use policy::{Keep, Least, Policy};
+pub use reserves::Reserves;
 pub use slots::free_behind;

@@ -11,11 +11,11 @@ use std::alloc::{AllocError, Global};
 
 /// How many bytes have to be free.
 #[derive(Drop)]
-pub(crate) struct Reserves {
+pub struct Reserves {
     /// After each frame, the last frame's first.
-    pub(crate) behind: Vec<u16>,
+    pub behind: Vec<u16>,
     /// Before the first frame.
-    pub(crate) before: u16,
+    pub before: u16,
 }
 
 /// How many bytes have to be free before a frame, if `behind` bytes have to be free after it.
