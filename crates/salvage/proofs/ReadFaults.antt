@@ -3,11 +3,13 @@ use Rattle.std.proofs.Common.{◌≡◌, ℕ, ◌<◌, ◌≤◌, ltb, true, fal
 use Rattle.std.proofs.lemmas.Bool.{lt-ltb, le-ltb}
 use Rattle.outside.specs.Files.{Files, Holds}
 use Rattle.outside.specs.Counts.{Counts}
+use Rattle.outside.specs.Feed.{Fed}
 use Rattle.sync_survey.specs.declared.survey_fault.SurveyFault.{SurveyFault}
 use Rattle.sync_survey.specs.declared.survey_fault.SurveyFault.TheVariants.{TooLong, Memory}
 use Rattle.sync_survey.specs.Faults.{longest_file}
 use Rattle.sync_survey.specs.Kinds.{InputKind, IsAbsent, IsUnread, IsShorter, IsTooMuch, IsRefused, kind_of, end_of, HasRightNumbers, IsFromOutside, RefusesRightly}
 use Rattle.sync_survey.specs.Survey.{IsRefusal, IsSurveyFaultBy, IsUnreadBy, RefusesBytes, HasLength, IsOfLength}
+use Rattle.sync_survey.proofs.FoldersLaws.{HasRead, refusal_after}
 use Rattle.salvage.specs.Damaged.{damaged, damaged_of, RefusesDamaged, IsReadRefusal}
 
 module _ (name : List ℕ) (files : Files) (before after : Counts) (fault : SurveyFault) where
@@ -41,16 +43,10 @@ memory_refusal name files before after size known same = record {
   numbers = tt;
 }
 
--- after calls that left the files and all counts
-pub refusal_later : (name : List ℕ) (files mid : Files) (before between after : Counts) (fault : SurveyFault) → mid ≡ files → between ≡ before → IsReadRefusal name mid between after fault → IsReadRefusal name files before after fault
-refusal_later name files mid before between after fault same_files same_counts is =
-    subst (λ f. IsReadRefusal name f before after fault) same_files (subst (λ n. IsReadRefusal name mid n after fault) same_counts is)
-
 -- a look failed
-pub look_refusal : (name : List ℕ) (files mid : Files) (before between after : Counts) (fault : SurveyFault) → mid ≡ files → between ≡ before → ((allowed : ℕ) → IsRefusal name mid allowed between after fault) → IsFromOutside fault
+pub look_refusal : {feed : Fed} {name : List ℕ} {files mid : Files} {before between after : Counts} {fault : SurveyFault} → HasRead feed name files mid before between → IsRefusal name mid 0 between after fault → IsFromOutside fault
     → IsReadRefusal name files before after fault
-look_refusal name files mid before between after fault same_files same_counts is outside =
-    refusal_later name files mid before between after fault same_files same_counts (outside_refusal name mid between after fault (is 0) outside)
+look_refusal {name = name} {files = files} {before = before} {after = after} {fault = fault} read is outside = outside_refusal name files before after fault (refusal_after read is) outside
 
 -- ---- by the length
 

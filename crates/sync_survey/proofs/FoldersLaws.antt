@@ -10,6 +10,7 @@ use Rattle.outside.specs.declared.exact.ReadFault.{ReadFault}
 use Rattle.outside.specs.declared.exact.ReadFault.TheVariants.{Failed, Shrunk as ShrunkRead}
 use Rattle.outside.specs.Files.{Files, Holds, IsThere, AreOctets}
 use Rattle.outside.specs.Counts.{Counts}
+use Rattle.outside.specs.Feed.{Fed, IsFedFrom}
 use Rattle.sync_survey.specs.declared.places.Start.{Start}
 use Rattle.sync_survey.specs.declared.survey_fault.SurveyFault.{SurveyFault}
 use Rattle.sync_survey.specs.declared.survey_fault.SurveyFault.TheVariants.{TooLong, Memory}
@@ -17,7 +18,7 @@ use Rattle.sync_survey.specs.Looks.{look_size, Shows}
 use Rattle.sync_survey.specs.Start.{start_of}
 use Rattle.sync_survey.specs.Faults.{survey_by, surveyed, longest_file}
 use Rattle.sync_survey.specs.Kinds.{of_read, RefusesRightly}
-use Rattle.sync_survey.specs.Survey.{survey_of, RefusesBytes, IsSurveyFaultBy, IsRefusal, HasLength}
+use Rattle.sync_survey.specs.Survey.{survey_of, RefusesBytes, IsSurveyFaultBy, IsRefusal, HasLength, ReadsBy}
 
 -- ---- by the length
 
@@ -70,11 +71,31 @@ memory_refusal name files allowed before after size known same = record {
   numbers = tt;
 }
 
--- ---- a refusal after calls that left the files and all counts
+-- ---- after calls that left the files and all counts
 
-pub refusal_later : (name : List ℕ) (files mid : Files) (allowed : ℕ) (before between after : Counts) (fault : SurveyFault) → mid ≡ files → between ≡ before → IsRefusal name mid allowed between after fault → IsRefusal name files allowed before after fault
-refusal_later name files mid allowed before between after fault same_files same_counts is =
+-- the feed is fed from the name's file, and the files and all counts are as they were
+pub record HasRead (feed : Fed) (name : List ℕ) (before after : Files) (old new : Counts) : Type 0 where
+  pub fed : IsFedFrom feed after name
+  pub files : after ≡ before
+  pub counts : new ≡ old
+
+pub none_read : {feed : Fed} {name : List ℕ} {files : Files} {counts : Counts} → IsFedFrom feed files name → HasRead feed name files files counts counts
+none_read fed = record { fed = fed; files = refl; counts = refl }
+
+pub read_more : {T : Type 0} {x : T} {feed next : Fed} {name : List ℕ} {files mid now : Files} {old between new : Counts} → HasRead feed name files mid old between → ReadsBy next name (Ok x) mid now between new → HasRead next name files now old new
+read_more before reads = record { fed = reads.fed; files = reads.files ∙ before.files; counts = reads.done ∙ before.counts }
+
+-- the file is what it was
+pub still_held : {feed : Fed} {name : List ℕ} {files now : Files} {old new : Counts} → HasRead feed name files now old new → (bytes : List ℕ) → Holds files name bytes → Holds now name bytes
+still_held {name = name} before bytes holds = subst (λ f. Holds f name bytes) (sym before.files) holds
+
+-- a refusal is one of all these calls
+pub refusal_later : {name : List ℕ} {files mid : Files} {allowed : ℕ} {before between after : Counts} {fault : SurveyFault} → mid ≡ files → between ≡ before → IsRefusal name mid allowed between after fault → IsRefusal name files allowed before after fault
+refusal_later {name = name} {mid = mid} {allowed = allowed} {before = before} {after = after} {fault = fault} same_files same_counts is =
     subst (λ f. IsRefusal name f allowed before after fault) same_files (subst (λ n. IsRefusal name mid allowed n after fault) same_counts is)
+
+pub refusal_after : {feed : Fed} {name : List ℕ} {files mid : Files} {allowed : ℕ} {before between after : Counts} {fault : SurveyFault} → HasRead feed name files mid before between → IsRefusal name mid allowed between after fault → IsRefusal name files allowed before after fault
+refusal_after read is = refusal_later read.files read.counts is
 
 -- ---- by the bytes
 

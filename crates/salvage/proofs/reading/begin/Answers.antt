@@ -1,17 +1,16 @@
 -- There is no first frame, or a call failed.
 use Rattle.std.proofs.Common.{refl, sym, ◌∙◌, subst, arith}
-use Rattle.std.proofs.lemmas.Result.{err_from_is_err_and}
 use Rattle.outside.specs.Files.{Holds}
+use Rattle.outside.proofs.PassedLaws.{err_at}
 use Rattle.sync_survey.specs.declared.survey_fault.SurveyFault.TheVariants.{NoFrame}
+use Rattle.sync_survey.proofs.FoldersLaws.{none_read, read_more}
 use Rattle.salvage.proofs.ReadFaults.{look_refusal, bytes_refusal}
 use Rattle.salvage.proofs.ProgressLaws.{no_first}
 use Rattle.salvage.proofs.reading.begin.Goals as goal
 
 pub returns-in_err-front_end-clause-refused : goal.returns-in_err-front_end-clause-refused
 returns-in_err-front_end-clause-refused g c =
-    let p = err_from_is_err_and c.from_residual.result c.from_residual.ensures.1 in
-    rw (p.1, p.2) (look_refusal c.args.name.now (g.D.Folder.files c.args.folder.now) (g.D.Folder.files c.args.folder.now) (g.D.Folder.counts c.args.folder.now) (g.D.Folder.counts c.args.folder.now)
-    (g.D.Folder.counts c.pass_front.new.folder) c.in_err-front_end.field-0.0 refl refl c.in_err-front_end.ensures.refused c.in_err-front_end.ensures.outside)
+    err_at _ _ c.from_residual.ensures.1 (look_refusal (none_read c.requires.fed) (c.in_err-front_end.ensures.refused 0) c.in_err-front_end.ensures.outside)
 
 pub returns-in_default-clause-refused : goal.returns-in_default-clause-refused
 returns-in_default-clause-refused g c =
@@ -23,7 +22,5 @@ returns-in_default-clause-refused g c =
 
 pub returns-in_err-head-clause-refused : goal.returns-in_err-head-clause-refused
 returns-in_err-head-clause-refused g c =
-    let p = err_from_is_err_and c.from_residual-in_err-head.result c.from_residual-in_err-head.ensures.1 in
-    rw (p.1, p.2) (look_refusal c.args.name.now (g.D.Folder.files c.args.folder.now) (g.D.Folder.files c.first_frame.new.folder) (g.D.Folder.counts c.args.folder.now) (g.D.Folder.counts c.first_frame.new.folder)
-    (g.D.Folder.counts c.find_head.new.folder) c.in_err-head.field-0.0 (c.in_ok-first.ensures.reads.files ∙ c.in_ok-front_end.ensures.reads.files) (c.in_ok-first.ensures.reads.done ∙ c.in_ok-front_end.ensures.reads.done)
-    c.in_err-head.ensures.refused c.in_err-head.ensures.outside)
+    err_at _ _ c.from_residual-in_err-head.ensures.1
+    (look_refusal (read_more (read_more (none_read c.requires.fed) c.in_ok-front_end.ensures.reads) c.in_ok-first.ensures.reads) (c.in_err-head.ensures.refused 0) c.in_err-head.ensures.outside)

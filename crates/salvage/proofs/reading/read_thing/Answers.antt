@@ -1,9 +1,10 @@
 -- The item is kept, or refused as a frame too many.
-use Rattle.std.proofs.Common.{◌≡◌, true, Some, ◌⊎◌, inl, inr, ◌+◌, ◌≤◌, length, refl, sym, ◌∙◌, ap, subst, arith}
-use Rattle.std.proofs.lemmas.Result.{err_from_is_err_and}
+use Rattle.std.proofs.Common.{◌≡◌, true, Some, ◌⊎◌, inl, inr, ◌+◌, ◌≤◌, length, sym, ◌∙◌, ap, subst, arith}
 use Rattle.frame_header.specs.Tables.{class_of, overhead_of}
+use Rattle.outside.proofs.PassedLaws.{err_at}
 use Rattle.sync_survey.specs.declared.survey_fault.SurveyFault.TheVariants.{Memory}
 use Rattle.sync_survey.specs.Looks.{Shows}
+use Rattle.sync_survey.proofs.FoldersLaws.{none_read}
 use Rattle.sync_survey.proofs.StepLaws.{shown_room}
 use Rattle.salvage.specs.declared.usable.Role.{Role}
 use Rattle.salvage.specs.Damaged.{IsReadRefusal}
@@ -16,9 +17,7 @@ use Rattle.salvage.proofs.reading.read_thing.Goals as goal
 
 pub returns-in_err-left-clause-refused : goal.returns-in_err-left-clause-refused
 returns-in_err-left-clause-refused g c =
-    let p = err_from_is_err_and c.from_residual.result c.from_residual.ensures.1 in
-    rw (p.1, p.2) (look_refusal c.args.name.now (g.D.Folder.files c.args.folder.now) (g.D.Folder.files c.args.folder.now) (g.D.Folder.counts c.args.folder.now) (g.D.Folder.counts c.args.folder.now)
-    (g.D.Folder.counts c.look.new.folder) c.in_err-left.field-0.0 refl refl c.in_err-left.ensures.refused c.in_err-left.ensures.outside)
+    err_at _ _ c.from_residual.ensures.1 (look_refusal (none_read c.requires.fed) (c.in_err-left.ensures.refused 0) c.in_err-left.ensures.outside)
 
 pub keep-requires-clause-room : goal.keep-requires-clause-room
 keep-requires-clause-room g c = λ h frame.

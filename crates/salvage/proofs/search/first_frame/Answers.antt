@@ -1,10 +1,12 @@
 -- The frame where the front ends, or the next one.
-use Rattle.std.proofs.Common.{ℕ, ◌+◌, Option, Some, None, refl, sym, subst, arith}
+use Rattle.std.proofs.Common.{ℕ, ◌+◌, Option, Some, None, sym, subst, arith}
 use Rattle.std.specs.Prelude.{IfSome}
-use Rattle.std.proofs.lemmas.Result.{err_from_is_err_and, IfOk-weaker}
+use Rattle.std.proofs.lemmas.Result.{IfOk-weaker}
+use Rattle.outside.proofs.PassedLaws.{err_at}
 use Rattle.sync_survey.specs.declared.places.PlacedFrame.{PlacedFrame}
 use Rattle.sync_survey.specs.Survey.{IsWholeFrom}
 use Rattle.sync_survey.specs.Looks.{Shows}
+use Rattle.sync_survey.proofs.FoldersLaws.{none_read}
 use Rattle.salvage.proofs.ReadFaults.{look_refusal}
 use Rattle.salvage.proofs.SearchLaws.{first_here, first_behind}
 use Rattle.salvage.proofs.search.first_frame.Goals as goal
@@ -16,9 +18,7 @@ whole_before from size (Some p) is = record { behind = omega (arith, is.behind);
 
 pub returns-in_err-left-clause-refused : goal.returns-in_err-left-clause-refused
 returns-in_err-left-clause-refused g c =
-    let p = err_from_is_err_and c.from_residual.result c.from_residual.ensures.1 in
-    rw (p.1, p.2) (look_refusal c.args.name.now (g.D.Folder.files c.args.folder.now) (g.D.Folder.files c.args.folder.now) (g.D.Folder.counts c.args.folder.now) (g.D.Folder.counts c.args.folder.now)
-    (g.D.Folder.counts c.look.new.folder) c.in_err-left.field-0.0 refl refl c.in_err-left.ensures.refused c.in_err-left.ensures.outside)
+    err_at _ _ c.from_residual.ensures.1 (look_refusal (none_read c.requires.fed) (c.in_err-left.ensures.refused 0) c.in_err-left.ensures.outside)
 
 pub returns-in-Some-clause-first : goal.returns-in-Some-clause-first
 returns-in-Some-clause-first g c = λ bytes holds.

@@ -1,21 +1,19 @@
 -- The offsets at which no header may begin are passed.
-use Rattle.std.proofs.Common.{◌+◌, sym, ◌∙◌, subst, arith}
-use Rattle.std.proofs.lemmas.Result.{err_from_is_err_and}
-use Rattle.outside.specs.Files.{Holds}
+use Rattle.std.proofs.Common.{◌+◌, sym, subst, arith}
+use Rattle.outside.proofs.PassedLaws.{err_at}
 use Rattle.sync_survey.specs.Looks.{Shows}
+use Rattle.sync_survey.proofs.FoldersLaws.{read_more, still_held}
 use Rattle.salvage.proofs.ReadFaults.{look_refusal}
 use Rattle.salvage.proofs.SearchLaws.{passed_bare, none_later, next_usable-some, next_usable-none}
 use Rattle.salvage.proofs.search.next_usable.Goals as goal
 
 pub returns-in_err-left-clause-refused : goal.returns-in_err-left-clause-refused
 returns-in_err-left-clause-refused g c =
-    let p = err_from_is_err_and c.from_residual.result c.from_residual.ensures.1 in
-    rw (p.1, p.2) (look_refusal c.args.name.now (g.D.Folder.files c.args.folder.now) (g.D.Folder.files c.loop-at.folder) (g.D.Folder.counts c.args.folder.now) (g.D.Folder.counts c.loop-at.folder)
-    (g.D.Folder.counts c.look.new.folder) c.in_err-left.field-0.0 c.loop-at.invariant.files c.loop-at.invariant.counts c.in_err-left.ensures.refused c.in_err-left.ensures.outside)
+    err_at _ _ c.from_residual.ensures.1 (look_refusal c.loop-at.invariant.read (c.in_err-left.ensures.refused 0) c.in_err-left.ensures.outside)
 
 pub returns-in-Some-clause-next : goal.returns-in-Some-clause-next
 returns-in-Some-clause-next g c = λ bytes holds.
-    let shows = c.in_ok-left.ensures.shows bytes (subst (λ f. Holds f c.args.name.now bytes) (sym c.loop-at.invariant.files) holds) in
+    let shows = c.in_ok-left.ensures.shows bytes (still_held c.loop-at.invariant.read bytes holds) in
     sym (next_usable-some bytes c.args.role c.args.from c.loop-at.at c.in-Some.frame c.loop-at.invariant.low (omega (arith, c.loop-at-test.true, c.requires.known.long bytes holds))
     (sym (c.in-Some.ensures.frame bytes (subst (λ front. Shows bytes c.loop-at.at front c.in_ok-left.left) (sym c.bytes.ensures) shows))) (c.loop-at.invariant.none bytes holds))
 
@@ -28,16 +26,14 @@ returns-in-Some-clause-placed g c = record {
 pub loop-at-preserved : goal.loop-at-preserved
 loop-at-preserved g c = record {
   none = λ bytes holds earlier low high.
-      let shows = c.in_ok-left.ensures.shows bytes (subst (λ f. Holds f c.args.name.now bytes) (sym c.loop-at.invariant.files) holds) in
+      let shows = c.in_ok-left.ensures.shows bytes (still_held c.loop-at.invariant.read bytes holds) in
       let seen = subst (λ front. Shows bytes c.loop-at.at front c.in_ok-left.left) (sym c.bytes.ensures) shows in
       let again = subst (λ front. Shows bytes c.loop-at.at front c.in_ok-left.left) (sym c.bytes-in-loop-at.ensures) shows in
       none_later bytes c.args.role c.args.from c.loop-at.at (c.loop-at.at + c.bare-at.result) earlier (c.loop-at.invariant.none bytes holds)
       (sym (c.in_default.ensures.frame bytes seen))
       (λ k low high. passed_bare bytes c.loop-at.at c.bytes-in-loop-at.result.now c.in_ok-left.left again c.args.role c.bare-at.result k c.bare-at.ensures.few c.bare-at.ensures.none low high) low high;
   low = omega (arith, c.loop-at.invariant.low);
-  fed = c.in_ok-left.ensures.reads.fed;
-  files = c.in_ok-left.ensures.reads.files ∙ c.loop-at.invariant.files;
-  counts = c.in_ok-left.ensures.reads.done ∙ c.loop-at.invariant.counts;
+  read = read_more c.loop-at.invariant.read c.in_ok-left.ensures.reads;
 }
 
 pub returns-clause-next : goal.returns-clause-next

@@ -1,7 +1,7 @@
 -- No usable anchored frame is at an offset before.
 use Rattle.std.proofs.Common.{◌-◌, ◌≡◌, ℕ, ◌<◌, ◌≤◌, List, None}
 use Rattle.outside.specs.Files.{Holds}
-use Rattle.outside.specs.Feed.{IsFedFrom}
+use Rattle.sync_survey.proofs.FoldersLaws.{HasRead}
 use Rattle.salvage.specs.Usable.{usable_anchored}
 use Rattle.salvage.proofs.search.next_usable.Given as goal
 
@@ -9,9 +9,7 @@ abbrev pub invariant-loop-at : goal.invariant-loop-at
 invariant-loop-at g l = record {
   none : (bytes : List ℕ) → Holds (g.D.Folder.files l.initial.folder) l.name bytes → (earlier : ℕ) → l.from ≤ earlier → earlier < l.at → usable_anchored bytes l.role earlier ≡ None;
   low : l.from ≤ l.at;
-  fed : IsFedFrom l.feed (g.D.Folder.files l.folder) l.name;
-  files : g.D.Folder.files l.folder ≡ g.D.Folder.files l.initial.folder;
-  counts : g.D.Folder.counts l.folder ≡ g.D.Folder.counts l.initial.folder;
+  read : HasRead l.feed l.name (g.D.Folder.files l.initial.folder) (g.D.Folder.files l.folder) (g.D.Folder.counts l.initial.folder) (g.D.Folder.counts l.folder);
 }
 
 abbrev pub decreases-loop-at : goal.decreases-loop-at

@@ -2,9 +2,8 @@
 use Rattle.std.proofs.Common.{◌≡◌, ℕ, ◌+◌, ◌<◌, ◌≤◌, List, [], ◌∷◌, length, Ok, Err, Option, Some, None, refl, sym, ◌∙◌, ap, ap₂, subst, arith}
 use Rattle.std.specs.Prelude.{vec_len, IfSome}
 use Rattle.std.proofs.lemmas.Bool.{true≢false, eq-eqb, eqb-true}
-use Rattle.std.proofs.lemmas.Result.{err_from_is_err_and}
 use Rattle.frame_header.specs.Tables.{class_of, overhead_of}
-use Rattle.outside.specs.Files.{Holds}
+use Rattle.outside.proofs.PassedLaws.{err_at}
 use Rattle.sync_survey.specs.declared.items.Item.TheVariants.{Frame}
 use Rattle.sync_survey.specs.declared.places.Head.{Head}
 use Rattle.sync_survey.specs.declared.places.Start.{Start}
@@ -20,7 +19,7 @@ use Rattle.sync_survey.proofs.FrontLaws.{pieces_later}
 use Rattle.sync_survey.proofs.FaultsLaws.{marked-length, marked-none}
 use Rattle.sync_survey.proofs.SurveyLaws.{told_by}
 use Rattle.sync_survey.proofs.LooksLaws.{item_at-shown}
-use Rattle.sync_survey.proofs.FoldersLaws.{refusal_later, bytes_refusal, survey_of-short}
+use Rattle.sync_survey.proofs.FoldersLaws.{none_read, read_more, still_held, refusal_after, bytes_refusal, survey_of-short}
 use Rattle.sync_survey.proofs.PlacedRows.{ArePlacedTo, placed_none}
 use Rattle.sync_survey.proofs.Progress.{IsSurveyedTo, surveyed_none, stopped_fault, no_frame, whole}
 use Rattle.sync_survey.proofs.StepLaws.{item_header, shown_room, few_by, kept, refused, laid_more, laid_later, few_more, keep_refusal}
@@ -57,24 +56,20 @@ loop-at-init g c = record {
   };
   few = omega (arith, ap length c.new.ensures.items);
   within = omega (arith, c.numbered_from-at.ensures.within, c.requires.walk.whole);
-  fed = c.requires.fed;
-  files = refl;
-  counts = refl;
+  read = none_read c.requires.fed;
 }
 
 pub returns-in_err-left-clause-refused : goal.returns-in_err-left-clause-refused
 returns-in_err-left-clause-refused g c =
-    let p = err_from_is_err_and c.from_residual.result c.from_residual.ensures.1 in
-    rw (p.1, p.2) (refusal_later c.args.name.now (g.D.Folder.files c.args.folder.now) (g.D.Folder.files c.loop-at.folder) c.args.allowed (g.D.Folder.counts c.args.folder.now) (g.D.Folder.counts c.loop-at.folder)
-    (g.D.Folder.counts c.look.new.folder) c.in_err-left.field-0.0 c.loop-at.invariant.files c.loop-at.invariant.counts (c.in_err-left.ensures.refused c.args.allowed))
+    err_at _ _ c.from_residual.ensures.1 (refusal_after c.loop-at.invariant.read (c.in_err-left.ensures.refused c.args.allowed))
 
 pub returns-in_default-clause-refused : goal.returns-in_default-clause-refused
 returns-in_default-clause-refused g c =
     bytes_refusal c.args.name.now (g.D.Folder.files c.args.folder.now) c.args.allowed (g.D.Folder.counts c.args.folder.now) (g.D.Folder.counts c.look.new.folder) c.args.walk.size c.stop_fault.result c.requires.walk.known
-    (c.in_ok-left.ensures.reads.done ∙ c.loop-at.invariant.counts) c.stop_fault.ensures.refused (λ bytes holds.
+    (c.in_ok-left.ensures.reads.done ∙ c.loop-at.invariant.read.counts) c.stop_fault.ensures.refused (λ bytes holds.
     let now = c.loop-at.found in
     let so_far = c.loop-at.invariant.surveyed bytes holds in
-    let shows = c.in_ok-left.ensures.shows bytes (subst (λ f. Holds f c.args.name.now bytes) (sym c.loop-at.invariant.files) holds) in
+    let shows = c.in_ok-left.ensures.shows bytes (still_held c.loop-at.invariant.read bytes holds) in
     let seen = subst (λ front. Shows bytes c.loop-at.at front c.in_ok-left.left) (sym c.bytes.ensures) shows in
     stopped_fault bytes c.args.walk.start c.args.walk.head c.args.allowed so_far.frames now.pieces.items now.before.place now.before.ended c.loop-at.at so_far.surveyed
     (record { start_is = (c.requires.walk.told bytes holds).start; head_is = (c.requires.walk.told bytes holds).head }) c.stop_fault.result (c.in_default.ensures.step bytes c.loop-at.at seen)
@@ -88,14 +83,13 @@ keep-requires-clause-room g c = λ h frame.
 
 pub returns-in_err-keep-clause-refused : goal.returns-in_err-keep-clause-refused
 returns-in_err-keep-clause-refused g c =
-    let p = err_from_is_err_and c.from_residual-in_err-keep.result c.from_residual-in_err-keep.ensures.1 in
     let now = c.loop-at.found in
     let item = c.in-Some.step.item in
     let front = c.bytes.result.now in
-    rw (p.1, p.2)
+    err_at _ _ c.from_residual-in_err-keep.ensures.1
     (keep_refusal c.args.name.now (g.D.Folder.files c.args.folder.now) c.args.allowed (g.D.Folder.counts c.args.folder.now) (g.D.Folder.counts c.look.new.folder) c.args.walk.size c.in_err-keep.field-0.0 c.class-class.result c.loop-at.at
-    item c.bytes-in-loop-at.result.now now c.requires.walk.known (c.in_ok-left.ensures.reads.done ∙ c.loop-at.invariant.counts) (λ bytes holds is.
-    let shows = c.in_ok-left.ensures.shows bytes (subst (λ f. Holds f c.args.name.now bytes) (sym c.loop-at.invariant.files) holds) in
+    item c.bytes-in-loop-at.result.now now c.requires.walk.known (c.in_ok-left.ensures.reads.done ∙ c.loop-at.invariant.read.counts) (λ bytes holds is.
+    let shows = c.in_ok-left.ensures.shows bytes (still_held c.loop-at.invariant.read bytes holds) in
     let seen = subst (λ l. Shows bytes c.loop-at.at l c.in_ok-left.left) (sym c.bytes.ensures) shows in
     refused bytes c.args.walk.start c.args.walk.head c.args.allowed now c.loop-at.at (c.loop-at.invariant.surveyed bytes holds) front c.in_ok-left.left seen
     (record { start_is = (c.requires.walk.told bytes holds).start; head_is = (c.requires.walk.told bytes holds).head }) item c.in-Some.step.size c.in_err-keep.field-0.0 (few_by front item c.in-Some.ensures.passes.item c.in-Some.ensures.passes.most)
@@ -113,21 +107,19 @@ loop-at-preserved g c =
     (subst (λ class. Keeps class c.args.allowed c.loop-at.at item c.bytes-in-loop-at.result.now now c.keep.new.self) c.class-class.ensures c.in_ok-keep.ensures) in
     record {
       surveyed = λ bytes holds.
-          let shows = c.in_ok-left.ensures.shows bytes (subst (λ f. Holds f c.args.name.now bytes) (sym c.loop-at.invariant.files) holds) in
+          let shows = c.in_ok-left.ensures.shows bytes (still_held c.loop-at.invariant.read bytes holds) in
           let seen = subst (λ l. Shows bytes c.loop-at.at l c.in_ok-left.left) (sym c.bytes.ensures) shows in
           kept bytes c.args.walk.start c.args.walk.head c.args.allowed now c.loop-at.at (c.loop-at.invariant.surveyed bytes holds) front c.in_ok-left.left seen item c.keep.new.self c.in-Some.step.size
           (few_by front item c.in-Some.ensures.passes.item c.in-Some.ensures.passes.most) (c.in-Some.ensures.step bytes c.loop-at.at seen) keeps;
       laid = laid_more c.args.walk.head c.args.walk.start.first.offset (class_from c.args.walk.start) c.args.allowed c.loop-at.at front now c.keep.new.self c.in-Some.step.size c.loop-at.invariant.laid item (item_header front item c.in-Some.ensures.passes.item) c.in-Some.ensures.passes.least keeps;
       few = few_more (class_from c.args.walk.start) c.args.allowed c.loop-at.at front now c.keep.new.self item keeps c.loop-at.invariant.few;
       within = omega (arith, c.in-Some.ensures.passes.within, c.in_ok-left.ensures.left, c.loop-at.invariant.within);
-      fed = c.in_ok-left.ensures.reads.fed;
-      files = c.in_ok-left.ensures.reads.files ∙ c.loop-at.invariant.files;
-      counts = c.in_ok-left.ensures.reads.done ∙ c.loop-at.invariant.counts;
+      read = read_more c.loop-at.invariant.read c.in_ok-left.ensures.reads;
     }
 
 pub returns-then-is_empty-clause-refused : goal.returns-then-is_empty-clause-refused
 returns-then-is_empty-clause-refused g c =
-    bytes_refusal c.args.name.now (g.D.Folder.files c.args.folder.now) c.args.allowed (g.D.Folder.counts c.args.folder.now) (g.D.Folder.counts c.loop-at.folder) c.args.walk.size (NoFrame c.args.walk.size) c.requires.walk.known c.loop-at.invariant.counts
+    bytes_refusal c.args.name.now (g.D.Folder.files c.args.folder.now) c.args.allowed (g.D.Folder.counts c.args.folder.now) (g.D.Folder.counts c.loop-at.folder) c.args.walk.size (NoFrame c.args.walk.size) c.requires.walk.known c.loop-at.invariant.read.counts
     (refl, tt) (λ bytes holds.
     let now = c.loop-at.found in
     let is_size = c.requires.walk.known.long bytes holds in

@@ -1,8 +1,8 @@
 -- The file was surveyed up to an offset.
-use Rattle.std.proofs.Common.{◌≡◌, ℕ, ◌-◌, ◌≤◌, List, length}
+use Rattle.std.proofs.Common.{ℕ, ◌-◌, ◌≤◌, List, length}
 use Rattle.outside.specs.Files.{Holds}
-use Rattle.outside.specs.Feed.{IsFedFrom}
 use Rattle.sync_survey.specs.Faults.{class_from}
+use Rattle.sync_survey.proofs.FoldersLaws.{HasRead}
 use Rattle.sync_survey.proofs.Progress.{IsMarkedTo}
 use Rattle.sync_survey.proofs.StepLaws.{IsLaidTo}
 use Rattle.sync_survey.proofs.folders.judge_frames.Given as goal
@@ -13,9 +13,7 @@ invariant-loop-at g l = record {
   laid : IsLaidTo l.head (class_from l.start) l.start.first.offset l.found l.at;
   few : length l.found.rows.items ≤ l.allowed;
   within : l.at ≤ l.size;
-  fed : IsFedFrom l.feed (g.D.Folder.files l.folder) l.name;
-  files : g.D.Folder.files l.folder ≡ g.D.Folder.files l.initial.folder;
-  counts : g.D.Folder.counts l.folder ≡ g.D.Folder.counts l.initial.folder;
+  read : HasRead l.feed l.name (g.D.Folder.files l.initial.folder) (g.D.Folder.files l.folder) (g.D.Folder.counts l.initial.folder) (g.D.Folder.counts l.folder);
 }
 
 abbrev pub decreases-loop-at : goal.decreases-loop-at

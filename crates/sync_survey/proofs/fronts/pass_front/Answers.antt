@@ -1,9 +1,8 @@
 -- One item more, or none.
-use Rattle.std.proofs.Common.{refl, sym, ◌∙◌, subst, arith}
-use Rattle.std.proofs.lemmas.Result.{err_from_is_err_and}
-use Rattle.outside.specs.Files.{Holds}
+use Rattle.std.proofs.Common.{sym, subst, arith}
+use Rattle.outside.proofs.PassedLaws.{err_at}
 use Rattle.sync_survey.specs.Looks.{Shows}
-use Rattle.sync_survey.proofs.FoldersLaws.{refusal_later}
+use Rattle.sync_survey.proofs.FoldersLaws.{none_read, read_more, still_held, refusal_after}
 use Rattle.sync_survey.proofs.FrontLaws.{passed_none, passed_more, passed_all, passed_end, blocks_none, blocks_more}
 use Rattle.sync_survey.proofs.fronts.pass_front.Goals as goal
 
@@ -12,40 +11,34 @@ loop-at-init g c = record {
   passed = λ bytes holds. passed_none bytes c.args.pieces.now.items c.requires.none;
   laid = blocks_none c.args.pieces.now.items c.requires.none;
   within = omega arith;
-  fed = c.requires.fed;
-  files = refl;
-  counts = refl;
+  read = none_read c.requires.fed;
 }
 
 pub returns-in_err-left-clause-refused : goal.returns-in_err-left-clause-refused
 returns-in_err-left-clause-refused g c =
-    let p = err_from_is_err_and c.from_residual.result c.from_residual.ensures.1 in
-    rw (p.1, p.2) (λ allowed. refusal_later c.args.name.now (g.D.Folder.files c.args.folder.now) (g.D.Folder.files c.loop-at.folder) allowed (g.D.Folder.counts c.args.folder.now) (g.D.Folder.counts c.loop-at.folder)
-    (g.D.Folder.counts c.look.new.folder) c.in_err-left.field-0.0 c.loop-at.invariant.files c.loop-at.invariant.counts (c.in_err-left.ensures.refused allowed))
+    err_at _ _ c.from_residual.ensures.1 (λ allowed. refusal_after c.loop-at.invariant.read (c.in_err-left.ensures.refused allowed))
 
 pub returns-in_default-clause-front_end : goal.returns-in_default-clause-front_end
 returns-in_default-clause-front_end g c = λ bytes holds.
-    let shows = c.in_ok-left.ensures.shows bytes (subst (λ f. Holds f c.args.name.now bytes) (sym c.loop-at.invariant.files) holds) in
+    let shows = c.in_ok-left.ensures.shows bytes (still_held c.loop-at.invariant.read bytes holds) in
     (passed_all bytes c.loop-at.pieces.items c.loop-at.at (c.loop-at.invariant.passed bytes holds)
     (c.in_default.ensures.step bytes c.loop-at.at (subst (λ front. Shows bytes c.loop-at.at front c.in_ok-left.left) (sym c.bytes.ensures) shows))).end
 
 pub returns-in_default-clause-blocks : goal.returns-in_default-clause-blocks
 returns-in_default-clause-blocks g c = λ bytes holds.
-    let shows = c.in_ok-left.ensures.shows bytes (subst (λ f. Holds f c.args.name.now bytes) (sym c.loop-at.invariant.files) holds) in
+    let shows = c.in_ok-left.ensures.shows bytes (still_held c.loop-at.invariant.read bytes holds) in
     (passed_all bytes c.loop-at.pieces.items c.loop-at.at (c.loop-at.invariant.passed bytes holds)
     (c.in_default.ensures.step bytes c.loop-at.at (subst (λ front. Shows bytes c.loop-at.at front c.in_ok-left.left) (sym c.bytes.ensures) shows))).pieces
 
 pub loop-at-preserved : goal.loop-at-preserved
 loop-at-preserved g c = record {
   passed = λ bytes holds.
-      let shows = c.in_ok-left.ensures.shows bytes (subst (λ f. Holds f c.args.name.now bytes) (sym c.loop-at.invariant.files) holds) in
+      let shows = c.in_ok-left.ensures.shows bytes (still_held c.loop-at.invariant.read bytes holds) in
       passed_more bytes c.loop-at.pieces.items c.keep_block.new.pieces.items c.loop-at.at c.in-Some.step.size c.in-Some.step.item (c.loop-at.invariant.passed bytes holds)
       (c.in-Some.ensures.step bytes c.loop-at.at (subst (λ front. Shows bytes c.loop-at.at front c.in_ok-left.left) (sym c.bytes.ensures) shows)) c.in_ok-keep_block.ensures;
   laid = blocks_more c.loop-at.pieces.items c.keep_block.new.pieces.items c.loop-at.at c.in-Some.step.size c.in-Some.step.item c.loop-at.invariant.laid c.in-Some.ensures.passes.least c.in_ok-keep_block.ensures;
   within = omega (arith, c.in-Some.ensures.passes.within, c.in_ok-left.ensures.left, c.loop-at.invariant.within);
-  fed = c.in_ok-left.ensures.reads.fed;
-  files = c.in_ok-left.ensures.reads.files ∙ c.loop-at.invariant.files;
-  counts = c.in_ok-left.ensures.reads.done ∙ c.loop-at.invariant.counts;
+  read = read_more c.loop-at.invariant.read c.in_ok-left.ensures.reads;
 }
 
 pub returns-clause-front_end : goal.returns-clause-front_end

@@ -1,8 +1,8 @@
 -- What was passed so far.
-use Rattle.std.proofs.Common.{◌≡◌, ℕ, ◌-◌, ◌≤◌, List}
+use Rattle.std.proofs.Common.{ℕ, ◌-◌, ◌≤◌, List}
 use Rattle.outside.specs.Files.{Holds}
-use Rattle.outside.specs.Feed.{IsFedFrom}
 use Rattle.sync_survey.specs.Survey.{BlocksAreLaid}
+use Rattle.sync_survey.proofs.FoldersLaws.{HasRead}
 use Rattle.sync_survey.proofs.FrontLaws.{IsPassedTo}
 use Rattle.sync_survey.proofs.fronts.pass_front.Given as goal
 
@@ -11,9 +11,7 @@ invariant-loop-at g l = record {
   passed : (bytes : List ℕ) → Holds (g.D.Folder.files l.initial.folder) l.name bytes → IsPassedTo bytes l.pieces.items l.at;
   laid : BlocksAreLaid 0 l.pieces.items l.at;
   within : l.at ≤ l.size;
-  fed : IsFedFrom l.feed (g.D.Folder.files l.folder) l.name;
-  files : g.D.Folder.files l.folder ≡ g.D.Folder.files l.initial.folder;
-  counts : g.D.Folder.counts l.folder ≡ g.D.Folder.counts l.initial.folder;
+  read : HasRead l.feed l.name (g.D.Folder.files l.initial.folder) (g.D.Folder.files l.folder) (g.D.Folder.counts l.initial.folder) (g.D.Folder.counts l.folder);
 }
 
 abbrev pub decreases-loop-at : goal.decreases-loop-at

@@ -1,6 +1,6 @@
 -- What is asked for is within the file.
 use Rattle.std.proofs.Common.{◌-◌, refl, sym, arith}
-use Rattle.std.proofs.lemmas.Result.{err_from_is_err_and}
+use Rattle.outside.proofs.PassedLaws.{err_at}
 use Rattle.sync_survey.proofs.FoldersLaws.{read_refusal, shown}
 use Rattle.sync_survey.proofs.looks.look.Goals as goal
 
@@ -9,8 +9,7 @@ fill_exact-requires-clause-found g c = λ bytes holds. sym (c.requires.known.lon
 
 pub returns-in_err-fill_exact-clause-refused : goal.returns-in_err-fill_exact-clause-refused
 returns-in_err-fill_exact-clause-refused g c =
-    let p = err_from_is_err_and c.from_residual.result c.from_residual.ensures.1 in
-    rw (p.1, p.2) (λ allowed. read_refusal c.args.name.now (g.D.Folder.files c.args.folder.now) allowed (g.D.Folder.counts c.args.folder.now) _ c.args.size c.in_err-fill_exact.field-0.0 c.in_err-fill_exact.ensures.cause)
+    err_at _ _ c.from_residual.ensures.1 (λ allowed. read_refusal c.args.name.now (g.D.Folder.files c.args.folder.now) allowed (g.D.Folder.counts c.args.folder.now) _ c.args.size c.in_err-fill_exact.field-0.0 c.in_err-fill_exact.ensures.cause)
 
 pub returns-clause-shows : goal.returns-clause-shows
 returns-clause-shows g c = λ bytes holds.

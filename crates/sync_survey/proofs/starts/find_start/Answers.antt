@@ -1,12 +1,12 @@
 -- The start is by the item at which the front ends.
 use Rattle.std.proofs.Common.{◌≡◌, ℕ, List, refl, sym, ◌∙◌, ap, subst}
-use Rattle.std.proofs.lemmas.Result.{err_from_is_err_and}
 use Rattle.outside.specs.Files.{Holds}
+use Rattle.outside.proofs.PassedLaws.{err_at}
 use Rattle.sync_survey.specs.Items.{item_front}
 use Rattle.sync_survey.specs.Start.{start_behind, start_at, front_end_of, start_of}
 use Rattle.sync_survey.specs.Looks.{Shows}
 use Rattle.sync_survey.proofs.LooksLaws.{item_at-shown}
-use Rattle.sync_survey.proofs.FoldersLaws.{refusal_later, start_ok, start_err, start_refusal}
+use Rattle.sync_survey.proofs.FoldersLaws.{none_read, read_more, refusal_after, start_ok, start_err, start_refusal}
 use Rattle.sync_survey.proofs.StartLaws.{start_is}
 use Rattle.sync_survey.proofs.starts.find_start.Given as given
 use Rattle.sync_survey.proofs.starts.find_start.Goals as goal
@@ -38,9 +38,7 @@ returns-in-Some-clause-refused g c =
 
 pub returns-in_err-first-clause-refused : goal.returns-in_err-first-clause-refused
 returns-in_err-first-clause-refused g c =
-    let p = err_from_is_err_and c.from_residual-in_err-first.result c.from_residual-in_err-first.ensures.1 in
-    rw (p.1, p.2) (λ allowed. refusal_later c.args.name.now (g.D.Folder.files c.args.folder.now) (g.D.Folder.files c.look.new.folder) allowed (g.D.Folder.counts c.args.folder.now) (g.D.Folder.counts c.look.new.folder)
-    (g.D.Folder.counts c.first_anchored.new.folder) c.in_err-first.field-0.0 c.in_ok-left.ensures.reads.files c.in_ok-left.ensures.reads.done (c.in_err-first.ensures.refused allowed))
+    err_at _ _ c.from_residual-in_err-first.ensures.1 (λ allowed. refusal_after (read_more (none_read c.requires.fed) c.in_ok-left.ensures.reads) (c.in_err-first.ensures.refused allowed))
 
 pub returns-in-Some-2-clause-start : goal.returns-in-Some-2-clause-start
 returns-in-Some-2-clause-start g c = λ bytes holds.

@@ -1,22 +1,19 @@
 -- The first offset at which there is an anchored frame.
 use Rattle.std.proofs.Common.{sym, subst, arith}
-use Rattle.std.proofs.lemmas.Result.{err_from_is_err_and}
-use Rattle.outside.specs.Files.{Holds}
+use Rattle.outside.proofs.PassedLaws.{err_at}
 use Rattle.sync_survey.specs.Start.{longest_junk}
 use Rattle.sync_survey.specs.Looks.{Shows}
-use Rattle.sync_survey.proofs.FoldersLaws.{refusal_later}
+use Rattle.sync_survey.proofs.FoldersLaws.{still_held, refusal_after}
 use Rattle.sync_survey.proofs.StartLaws.{first_anchored-some, none_anchored}
 use Rattle.sync_survey.proofs.starts.first_anchored.Goals as goal
 
 pub returns-in_err-left-clause-refused : goal.returns-in_err-left-clause-refused
 returns-in_err-left-clause-refused g c =
-    let p = err_from_is_err_and c.from_residual.result c.from_residual.ensures.1 in
-    rw (p.1, p.2) (λ allowed. refusal_later c.args.name.now (g.D.Folder.files c.args.folder.now) (g.D.Folder.files c.loop-at.folder) allowed (g.D.Folder.counts c.args.folder.now) (g.D.Folder.counts c.loop-at.folder)
-    (g.D.Folder.counts c.look.new.folder) c.in_err-left.field-0.0 c.loop-at.invariant.files c.loop-at.invariant.counts (c.in_err-left.ensures.refused allowed))
+    err_at _ _ c.from_residual.ensures.1 (λ allowed. refusal_after c.loop-at.invariant.read (c.in_err-left.ensures.refused allowed))
 
 pub returns-in-Some-clause-first : goal.returns-in-Some-clause-first
 returns-in-Some-clause-first g c = λ bytes holds.
-    let shows = c.in_ok-left.ensures.shows bytes (subst (λ f. Holds f c.args.name.now bytes) (sym c.loop-at.invariant.files) holds) in
+    let shows = c.in_ok-left.ensures.shows bytes (still_held c.loop-at.invariant.read bytes holds) in
     sym (first_anchored-some longest_junk bytes c.args.from c.loop-at.at c.in-Some.first c.loop-at.auto.at (omega (arith, c.loop-at-test.true, c.min-at-end.ensures))
     (sym (c.in-Some.ensures.frame bytes (subst (λ front. Shows bytes c.loop-at.at front c.in_ok-left.left) (sym c.bytes.ensures) shows))) (c.loop-at.invariant.none bytes holds))
 

@@ -1,14 +1,12 @@
 -- No anchored frame is at an offset before.
 use Rattle.std.proofs.Common.{◌≡◌, ℕ, ◌<◌, ◌≤◌, List, None}
 use Rattle.outside.specs.Files.{Holds}
-use Rattle.outside.specs.Feed.{IsFedFrom}
 use Rattle.sync_survey.specs.Start.{anchored_frame}
+use Rattle.sync_survey.proofs.FoldersLaws.{HasRead}
 use Rattle.sync_survey.proofs.starts.first_anchored.Given as goal
 
 abbrev pub invariant-loop-at : goal.invariant-loop-at
 invariant-loop-at g l = record {
   none : (bytes : List ℕ) → Holds (g.D.Folder.files l.initial.folder) l.name bytes → (earlier : ℕ) → l.from ≤ earlier → earlier < l.at → anchored_frame bytes earlier ≡ None;
-  fed : IsFedFrom l.feed (g.D.Folder.files l.folder) l.name;
-  files : g.D.Folder.files l.folder ≡ g.D.Folder.files l.initial.folder;
-  counts : g.D.Folder.counts l.folder ≡ g.D.Folder.counts l.initial.folder;
+  read : HasRead l.feed l.name (g.D.Folder.files l.initial.folder) (g.D.Folder.files l.folder) (g.D.Folder.counts l.initial.folder) (g.D.Folder.counts l.folder);
 }
