@@ -1,5 +1,6 @@
 -- Bytes that are items, one after the other: where they are in a file, the items follow end to end.
-use Rattle.std.proofs.Common.{◌≡◌, ℕ, ◌+◌, ◌-◌, ◌<◌, ◌≤◌, true, List, [], ◌∷◌, ◌++◌, length, drop, map, None, refl, sym, ◌∙◌, ap, ap₂, arith, append_assoc, length-append, length-drop}
+use Rattle.std.proofs.Common.{◌≡◌, ℕ, ◌+◌, ◌-◌, ◌<◌, ◌≤◌, true, List, [], ◌∷◌, ◌++◌, length, drop, map, Option, Some, None, refl, sym, ◌∙◌, ap, ap₂, arith, append_assoc, length-append, length-drop}
+use Rattle.std.specs.Prelude.{option_map, filter_map}
 use Rattle.std.specs.List.{cons_option}
 use Rattle.std.proofs.lemmas.List.{drop-drop, drop_at}
 use Rattle.sync_survey.specs.declared.items.Item.{Item}
@@ -112,21 +113,29 @@ items-run part old file gap from at ps to bytes behind ends there are within is 
 
 -- ---- frames and blocks among them
 
-frame_more : (to : ℕ → ℕ) (at : ℕ) (item : Item) (xs ys : List PlacedFrame) → xs ≡ map (frame_by to) ys → cons_option (frame_as (to at) item) xs ≡ map (frame_by to) (cons_option (frame_as at item) ys)
-frame_more to at (Frame h) xs ys same = ap (λ l. record { offset = to at; header = h } ∷ l) same
-frame_more to at _ xs ys same = same
+-- what is taken of the items is moved with them
+module _ {A : Type 0} (part_of : ℕ → Item → Option A) (by : A → A) (to : ℕ → ℕ) (moved : (at : ℕ) (item : Item) → part_of (to at) item ≡ option_map by (part_of at item)) where
+  taken_more : (o : Option A) (xs : List A) → cons_option (option_map by o) (map by xs) ≡ map by (cons_option o xs)
+  taken_more None xs = refl
+  taken_more (Some x) xs = refl
+
+  taken : (ps : List Placed) → filter_map (λ p. part_of p.offset p.item) (map (placed_by to) ps) ≡ map by (filter_map (λ p. part_of p.offset p.item) ps)
+  taken [] = refl
+  taken (p ∷ ps) = ap₂ cons_option (moved p.offset p.item) (taken ps) ∙ taken_more (part_of p.offset p.item) (filter_map (λ p. part_of p.offset p.item) ps)
+
+moved_frame : (to : ℕ → ℕ) (at : ℕ) (item : Item) → frame_as (to at) item ≡ option_map (frame_by to) (frame_as at item)
+moved_frame to at (Frame h) = refl
+moved_frame to at _ = refl
+
+moved_block : (to : ℕ → ℕ) (at : ℕ) (item : Item) → block_as (to at) item ≡ option_map (piece_by to) (block_as at item)
+moved_block to at (Block b) = refl
+moved_block to at _ = refl
 
 pub frames-by : (to : ℕ → ℕ) (ps : List Placed) → frames_of (map (placed_by to) ps) ≡ map (frame_by to) (frames_of ps)
-frames-by to [] = refl
-frames-by to (p ∷ ps) = frame_more to p.offset p.item (frames_of (map (placed_by to) ps)) (frames_of ps) (frames-by to ps)
-
-block_more : (to : ℕ → ℕ) (at : ℕ) (item : Item) (xs ys : List Piece) → xs ≡ map (piece_by to) ys → cons_option (block_as (to at) item) xs ≡ map (piece_by to) (cons_option (block_as at item) ys)
-block_more to at (Block b) xs ys same = ap (λ l. record { offset = to at; block = b } ∷ l) same
-block_more to at _ xs ys same = same
+frames-by to ps = taken frame_as (frame_by to) to (moved_frame to) ps
 
 pub blocks-by : (to : ℕ → ℕ) (ps : List Placed) → blocks_of (map (placed_by to) ps) ≡ map (piece_by to) (blocks_of ps)
-blocks-by to [] = refl
-blocks-by to (p ∷ ps) = block_more to p.offset p.item (blocks_of (map (placed_by to) ps)) (blocks_of ps) (blocks-by to ps)
+blocks-by to ps = taken block_as (piece_by to) to (moved_block to) ps
 
 abbrev pub nearer_frame : ℕ → PlacedFrame → PlacedFrame
 nearer_frame gap p = frame_by (λ at. at - gap) p
