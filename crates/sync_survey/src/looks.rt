@@ -1,12 +1,11 @@
 //! Looks at a file of a folder.
 ghost use Rattle.std.specs.Prelude.{◌≡◌, ℕ, List, ◌-◌, ◌≤◌, min, length, IfOk, IfErr, OnOk};
-ghost use Rattle.bit_fields.specs.Bits.{AreBytes};
 ghost use Rattle.outside.specs.Files.{Holds};
 ghost use Rattle.outside.specs.Counts.{OnlyReads};
 ghost use Rattle.outside.specs.Feed.{IsFedFrom};
 ghost use Rattle.sync_survey.specs.Looks.{look_size, Shows};
 ghost use Rattle.sync_survey.specs.Kinds.{IsFromOutside};
-ghost use Rattle.sync_survey.specs.Survey.{HasLength, ReadsBy, IsEarlyRefusal, IsOfLength};
+ghost use Rattle.sync_survey.specs.Survey.{HasLength, HoldsOctets, ReadsBy, IsEarlyRefusal, IsOfLength};
 
 use crate::survey_fault::SurveyFault;
 use outside::{Feed, FindFault, Folder};
@@ -24,8 +23,7 @@ const LOOK_SIZE: u64 = 4096;
 /// failed.
 pub fn find_length<D: Folder>(folder: &mut D, name: &str) -> Result<u64, SurveyFault>
     ensures found { IfOk result (HasLength (D.files folder.old) name.now) }
-    ensures octets { IfOk result (λ _. (bytes : List ℕ) → Holds (D.files folder.old) name.now bytes
-        → AreBytes bytes) }
+    ensures octets { OnOk result (HoldsOctets name.now (D.files folder.old)) }
     ensures done { OnOk result (D.counts folder.new ≡ D.counts folder.old) }
     ensures refused { IfErr result (IsEarlyRefusal name.now (D.files folder.old)
         (D.counts folder.old) (D.counts folder.new)) }
