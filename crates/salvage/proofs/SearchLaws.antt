@@ -59,10 +59,6 @@ header_same bytes h g read is =
     let header : header_front bytes ≡ Ok g = subst (Stands bytes) is (stands bytes) in
     cc
 
--- one header alone is here
-pub headers_same : (bytes : List ℕ) (h g : HeaderFields) → header_front bytes ≡ Ok h → header_front bytes ≡ Ok g → h ≡ g
-headers_same bytes h g read is = cc
-
 pub header_of : (bytes : List ℕ) (g : HeaderFields) → item_front bytes ≡ Frame g → header_front bytes ≡ Ok g
 header_of bytes g is = subst (Stands bytes) is (stands bytes)
 

@@ -1,10 +1,8 @@
 //! What was found so far.
 ghost use Rattle.std.specs.Prelude.{◌≡◌, ◌⊎◌, ◌^◌, ◌≤◌, ◌+◌, false, length, MatchResult, OnOk};
 ghost use Rattle.frame_header.specs.Fields.{HeaderFields};
-ghost use Rattle.frame_header.specs.Tables.{class_of};
-ghost use Rattle.side_info.specs.Side.{SideFits};
 ghost use Rattle.sync_survey.specs.Faults.{longest_file};
-ghost use Rattle.sync_survey.specs.Looks.{ReachArea, row_read};
+ghost use Rattle.sync_survey.specs.Looks.{ReachArea};
 ghost use Rattle.salvage.specs.Damaged.{most_frames};
 ghost use Rattle.salvage.specs.Judged.{judged_by, before_next, AddsItem, AddsGap, IsPastMost};
 

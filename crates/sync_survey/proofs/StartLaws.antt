@@ -161,9 +161,6 @@ behind_cases file front_end (Some p) s is e =
     let same : record { front_end = front_end; first = p } ≡ s = cc in
     subst (IsFirstFrame file) same (record { frame = first_anchored-frame longest_junk file (front_end + 1) p is; least = inr (first_anchored-least longest_junk file (front_end + 1) (Some p) is) })
 
-pub start_behind-first : (file : List ℕ) (front_end : ℕ) (s : Start) → start_behind front_end (first_anchored longest_junk file (front_end + 1)) ≡ Ok s → IsFirstFrame file s
-start_behind-first file front_end s e = behind_cases file front_end _ s refl e
-
 start_cases : (file : List ℕ) (at : ℕ) (item : Item) (s : Start) → item_at file at ≡ item → start_at file at item ≡ Ok s → IsFirstFrame file s
 start_cases file at (Frame h) s is e = fits_cases file at h _ _ s is refl e
 start_cases file at Free s is e = absurd cc
