@@ -51,11 +51,15 @@ of_read (ShrunkRead first second) = Shrunk first second
 abbrev pub IsSurveyOf : List ℕ → SurveyFields → Type 0
 IsSurveyOf file s = (allowed : ℕ) × (survey_of file allowed ≡ Ok s)
 
--- the name is there, a file of which this is the survey is laid out as every such file is, and the block is the one of its tag
-pub record HasTagBlock (name : List ℕ) (files : Files) (s : SurveyFields) (b : Piece) : Type 0 where
+-- the name is there, and this is its survey, by which it is laid out as every such file is
+pub record IsSurveyed (name : List ℕ) (files : Files) (s : SurveyFields) : Type 0 where
   pub there : IsThere files name
   pub laid : IsLaidOut s
   pub surveyed : (bytes : List ℕ) → Holds files name bytes → IsSurveyOf bytes s
+
+-- and the block is the one of its tag
+pub record HasTagBlock (name : List ℕ) (files : Files) (s : SurveyFields) (b : Piece) : Type 0 where
+  pub known : IsSurveyed name files s
   pub tag : tag_block s ≡ Some b
 
 -- where the bytes of the file are told, its tag is refused with this fault

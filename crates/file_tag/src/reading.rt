@@ -1,13 +1,12 @@
 //! The tag of a file, read.
 ghost use Rattle.std.specs.Prelude.{◌≡◌, ℕ, ◌+◌, ◌^◌, ◌≤◌, ◌<◌, List, length, take, drop, Some, None, Ok, Err, IfOk, IfErr, OnOk};
-ghost use Rattle.outside.specs.Files.{Holds, IsThere};
+ghost use Rattle.outside.specs.Files.{Holds};
 ghost use Rattle.outside.specs.Counts.{OnlyReads};
 ghost use Rattle.sync_survey.specs.Faults.{tells};
-ghost use Rattle.sync_survey.specs.Survey.{IsLaidOut};
 ghost use Rattle.tag_blocks.specs.declared.block.Kind.TheVariants.{Ape};
 ghost use Rattle.tag_blocks.specs.Blocks.{block_front};
 ghost use Rattle.file_tag.specs.Places.{tag_block, tag_length};
-ghost use Rattle.file_tag.specs.Reading.{empty_tag, longest_tag, tag_of_block, file_tag, IsSurveyOf, HasTagBlock, IsTagCause, IsBlockCause};
+ghost use Rattle.file_tag.specs.Reading.{empty_tag, longest_tag, tag_of_block, file_tag, IsSurveyed, HasTagBlock, IsTagCause, IsBlockCause};
 
 use crate::fault::FileTagFault;
 use crate::places::first_tag;
@@ -124,10 +123,7 @@ pub fn read_tag<D: Folder>(
     name: &str,
     survey: &Survey,
 ) -> Result<Tag, FileTagFault>
-    requires there { IsThere (D.files folder.old) name.now }
-    requires laid { IsLaidOut (tells survey.now) }
-    requires surveyed { (bytes : List ℕ) → Holds (D.files folder.old) name.now bytes
-        → IsSurveyOf bytes (tells survey.now) }
+    requires { IsSurveyed name.now (D.files folder.old) (tells survey.now) }
     ensures exact { IfOk result (λ tag. (bytes : List ℕ) → Holds (D.files folder.old) name.now bytes
         → file_tag bytes (tells survey.now) ≡ Ok tag) }
     // Whether the files are told or not.

@@ -1,6 +1,6 @@
 -- The block is within the file.
 use Rattle.std.proofs.Common.{◌∙◌, sym, arith}
-use Rattle.std.proofs.lemmas.Result.{err_from_is_err_and}
+use Rattle.outside.proofs.PassedLaws.{err_at}
 use Rattle.sync_survey.specs.Faults.{tells}
 use Rattle.file_tag.proofs.FoundTag.{tag-within}
 use Rattle.file_tag.proofs.ReadingLaws.{told-length, read-cause}
@@ -8,17 +8,17 @@ use Rattle.file_tag.proofs.reading.read_block.Goals as goal
 
 pub read_exact-requires-clause-found : goal.read_exact-requires-clause-found
 read_exact-requires-clause-found g c = λ bytes holds.
-    told-length c.args.name.now (g.D.Folder.files c.args.folder.now) (tells c.args.survey.now) c.requires.found.surveyed c.args.piece.now c.requires.found.tag bytes holds ∙ sym c.length.ensures
+    told-length c.args.name.now (g.D.Folder.files c.args.folder.now) (tells c.args.survey.now) c.requires.found.known.surveyed c.args.piece.now c.requires.found.tag bytes holds ∙ sym c.length.ensures
 
 pub read_exact-requires-clause-within : goal.read_exact-requires-clause-within
 read_exact-requires-clause-within g c =
-    omega (arith, tag-within (tells c.args.survey.now) c.args.piece.now c.requires.found.laid c.requires.found.tag, c.length.ensures, c.deref_mut.ensures.len, c.in_ok-block.ensures.len)
+    omega (arith, tag-within (tells c.args.survey.now) c.args.piece.now c.requires.found.known.laid c.requires.found.tag, c.length.ensures, c.deref_mut.ensures.len, c.in_ok-block.ensures.len)
 
 pub read_exact-requires-clause-few : goal.read_exact-requires-clause-few
-read_exact-requires-clause-few g c = omega (arith, c.requires.found.laid.few, c.length.ensures)
+read_exact-requires-clause-few g c = omega (arith, c.requires.found.known.laid.few, c.length.ensures)
 
 pub returns-in_err-read_exact-clause-cause : goal.returns-in_err-read_exact-clause-cause
 returns-in_err-read_exact-clause-cause g c =
-    let p = err_from_is_err_and c.from_residual-in_err-read_exact.result c.from_residual-in_err-read_exact.ensures.1 in
-    rw (p.1, p.2) (read-cause c.args.name.now (g.D.Folder.files c.args.folder.now) (tells c.args.survey.now) c.requires.found.surveyed c.args.piece.now c.requires.found.tag (g.D.Folder.counts c.args.folder.now) (g.D.Folder.counts c.read_exact.new.folder) c.length.result c.length.ensures c.in_err-read_exact.field-0.0
+    err_at _ _ c.from_residual-in_err-read_exact.ensures.1
+    (read-cause c.args.name.now (g.D.Folder.files c.args.folder.now) (tells c.args.survey.now) c.requires.found.known.surveyed c.args.piece.now c.requires.found.tag (g.D.Folder.counts c.args.folder.now) (g.D.Folder.counts c.read_exact.new.folder) c.length.result c.length.ensures c.in_err-read_exact.field-0.0
     c.in_err-read_exact.ensures.cause)
