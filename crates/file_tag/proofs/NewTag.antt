@@ -35,38 +35,35 @@ module _ (file : List ℕ) (allowed : ℕ) (start : Start) (read : IsRead file a
   abbrev s : SurveyFields
   s = told_from file start
 
-  abbrev n : ℕ
-  n = length block
-
   abbrev new : List ℕ
   new = with_tag block s file
 
   abbrev piece : Piece
-  piece = record { offset = tag_at s; block = record { kind = Ape; length = n } }
+  piece = record { offset = tag_at s; block = record { kind = Ape; length = length block } }
 
   within : tag_at s + tag_length s ≤ length file
   within = room file allowed start read no_junk block (inr is)
 
-  one_block : new_blocks n s ≡ piece ∷ []
-  one_block = let some : (n == 0) ≡ false = ne_eqb n 0 (λ e. omega (arith, e, block_front-least block _ is)) in rw some refl
+  one_block : new_blocks (length block) s ≡ piece ∷ []
+  one_block = let some : (length block == 0) ≡ false = ne_eqb (length block) 0 (λ e. omega (arith, e, block_front-least block _ is)) in rw some refl
 
   -- no tag is before it
   none_before : find is_tag (filter (stands_before s) s.blocks) ≡ None
   none_before = ap (find is_tag) (before_is file allowed start read no_junk block (inr is)) ∙ (split file allowed start read no_junk).none
 
-  pub new_tag : tag_block (retagged n s) ≡ Some piece
+  pub new_tag : tag_block (retagged (length block) s) ≡ Some piece
   unfolding retagged
   new_tag =
-      find-append is_tag (filter (stands_before s) s.blocks) (new_blocks n s ++ map (moved_piece n s) (filter (stands_behind s) s.blocks))
-      ∙ ap₂ (λ (o : Option Piece) (l : List Piece). option_or o (find is_tag (l ++ map (moved_piece n s) (filter (stands_behind s) s.blocks)))) none_before one_block
+      find-append is_tag (filter (stands_before s) s.blocks) (new_blocks (length block) s ++ map (moved_piece (length block) s) (filter (stands_behind s) s.blocks))
+      ∙ ap₂ (λ (o : Option Piece) (l : List Piece). option_or o (find is_tag (l ++ map (moved_piece (length block) s) (filter (stands_behind s) s.blocks)))) none_before one_block
 
-  place : (tag_at (retagged n s) ≡ tag_at s) × (tag_length (retagged n s) ≡ n)
-  place = place-some (retagged n s) piece new_tag
+  place : (tag_at (retagged (length block) s) ≡ tag_at s) × (tag_length (retagged (length block) s) ≡ length block)
+  place = place-some (retagged (length block) s) piece new_tag
 
-  again : (other : List ℕ) → with_tag other (retagged n s) new ≡ with_tag other s file
+  again : (other : List ℕ) → with_tag other (retagged (length block) s) new ≡ with_tag other s file
   unfolding with_tag
   again other =
-      let next : tag_at (retagged n s) + tag_length (retagged n s) ≡ tag_at s + n = ap₂ (λ a b. a + b) place.0 place.1 in
+      let next : tag_at (retagged (length block) s) + tag_length (retagged (length block) s) ≡ tag_at s + length block = ap₂ (λ a b. a + b) place.0 place.1 in
       ap₂ (λ (a b : List ℕ). a ++ (other ++ b))
       (ap (λ m. take m new) place.0 ∙ new-front block file s within)
       (ap (λ m. drop m new) next ∙ new-later block file s within)
@@ -74,7 +71,7 @@ module _ (file : List ℕ) (allowed : ℕ) (start : Start) (read : IsRead file a
   pub has-new : HasNewTag file block s
   has-new = record {
     again = again;
-    tag = file_tag-some new (retagged n s) piece new_tag ∙ ap (tag_of_block (tag_at s)) (new-own block file s within);
+    tag = file_tag-some new (retagged (length block) s) piece new_tag ∙ ap (tag_of_block (tag_at s)) (new-own block file s within);
     place = place.0;
     size = place.1;
   }
