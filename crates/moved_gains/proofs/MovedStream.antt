@@ -100,11 +100,11 @@ module _ (steps : ℕ → Steps) (file : List ℕ) (allowed : ℕ) (start : Star
   abbrev new : List ℕ
   new = new_file steps file allowed start all read
 
-  abbrev gap : ℕ
-  gap = gap_of start
-
   abbrev head : Option Head
   head = head_of file start.first
+
+  abbrev new_head : Option Head
+  new_head = option_map (moved_head (gap_of start)) head
 
   abbrev lost : ℕ → Bool
   lost = lost_from file start
@@ -115,28 +115,28 @@ module _ (steps : ℕ → Steps) (file : List ℕ) (allowed : ℕ) (start : Star
   rows_told : (told_from file start).frames ≡ rows
   rows_told = marked-by file head start.first.offset (frames_from file start) (walk_rising file start head)
 
-  head_same : head_bytes new (option_map (moved_head gap) head) ≡ head_bytes file head
+  head_same : head_bytes new new_head ≡ head_bytes file head
   head_same =
       let h = start.first.header in
       let frame = first_frame steps file allowed start all read in
       let room : overhead_of (class_of h) h.protected ≤ length_of (class_of h) h.slot = omega (arith, (whole_room h (frame_bytes file start.first) frame).0, frame.size) in
-      head_bytes-nearer file new gap start.first
-      (area-frame new (nearer_frame gap start.first) room ∙ new-area steps file allowed start all read ∙ sym (area-frame file start.first room))
+      head_bytes-nearer file new (gap_of start) start.first
+      (area-frame new (nearer_frame (gap_of start) start.first) room ∙ new-area steps file allowed start all read ∙ sym (area-frame file start.first room))
 
   -- no byte of the main data changes
-  main_same : main_bytes new (option_map (moved_head gap) head) (map (moved_row steps gap) rows) ≡ main_bytes file head rows
+  main_same : main_bytes new new_head (map (moved_row steps (gap_of start)) rows) ≡ main_bytes file head rows
   unfolding main_bytes
-  main_same = ap₂ (λ (a b : List ℕ). a ++ b) head_same (areas-moved steps lost file new gap (frames_from file start) (frames-moved steps file allowed start all read))
+  main_same = ap₂ (λ (a b : List ℕ). a ++ b) head_same (areas-moved steps lost file new (gap_of start) (frames_from file start) (frames-moved steps file allowed start all read))
 
   abbrev IsMovedBy : List Row → Type 0
   IsMovedBy rs =
-      stream_frames (main_bytes new (option_map (moved_head gap) head) (map (moved_row steps gap) rs)) (option_map (moved_head gap) head) (map (moved_row steps gap) rs)
+      stream_frames (main_bytes new new_head (map (moved_row steps (gap_of start)) rs)) new_head (map (moved_row steps (gap_of start)) rs)
       ≡ map (λ (p : ℕ × Row). moved_stream_frame (steps p.1.offset) (stream_frame (main_bytes file head rs) head rs p.0 p.1)) (enumerate_from 0 rs)
 
   rows_moved : IsMovedBy rows
   rows_moved =
-      ap (λ main. stream_frames main (option_map (moved_head gap) head) (map (moved_row steps gap) rows)) main_same
-      ∙ all_moved steps gap (main_bytes file head rows) head rows (by_shaped lost file (frames_from file start))
+      ap (λ main. stream_frames main new_head (map (moved_row steps (gap_of start)) rows)) main_same
+      ∙ all_moved steps (gap_of start) (main_bytes file head rows) head rows (by_shaped lost file (frames_from file start))
 
   stream-from : stream_of_survey new (moved_survey steps (told_from file start)) ≡ moved_stream_of steps file (told_from file start)
   unfolding stream_of_survey moved_survey moved_stream_of

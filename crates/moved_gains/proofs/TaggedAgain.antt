@@ -143,15 +143,12 @@ module _ (one : ℕ → Steps) (file : List ℕ) (allowed : ℕ) (s : SurveyFiel
   abbrev m : SurveyFields
   m = moved_survey one s
 
-  abbrev moved : List ℕ
-  moved = edited one file s
-
   abbrev size : ℕ
   size = length block
 
   -- the file with moved gains and this tag, and its survey
   abbrev pub new : List ℕ
-  new = with_tag block m moved
+  new = with_tag block m (edited one file s)
 
   abbrev pub new_survey : SurveyFields
   new_survey = retagged size m
@@ -169,7 +166,7 @@ module _ (one : ℕ → Steps) (file : List ℕ) (allowed : ℕ) (s : SurveyFiel
   abbrev pub to : ℕ → ℕ
   to x = moved_at size m (x - gap)
 
-  moved_of : surveyed moved allowed ≡ Ok m
+  moved_of : surveyed (edited one file s) allowed ≡ Ok m
   moved_of = surveyed-edited one file allowed s are is
 
   clean : m.junk ≡ m.first
@@ -177,10 +174,10 @@ module _ (one : ℕ → Steps) (file : List ℕ) (allowed : ℕ) (s : SurveyFiel
   clean = refl
 
   pub new_is : surveyed new allowed ≡ Ok new_survey
-  new_is = surveyed-retagged moved block allowed m moved_of clean (inr front)
+  new_is = surveyed-retagged (edited one file s) block allowed m moved_of clean (inr front)
 
-  pub has_block : HasNewTag moved block m
-  has_block = tagged-again moved block allowed m moved_of clean front
+  pub has_block : HasNewTag (edited one file s) block m
+  has_block = tagged-again (edited one file s) block allowed m moved_of clean front
 
   some : 10 ≤ size
   some = block_front-least block _ front

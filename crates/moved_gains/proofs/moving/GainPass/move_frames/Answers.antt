@@ -39,15 +39,14 @@ left_up_to : (steps : ℕ → Steps) (tag : Option NewTag) (file : List ℕ) (at
 left_up_to steps tag file at to rows i row is offset = left_at steps tag file at rows i row is ∙ ap (λ n. copied tag file at n ++ left steps tag rows i row file) (sym offset)
 
 pub loop-frame-init : goal.loop-frame-init
-loop-frame-init g c =
-    let self = c.args.self.now in
-    record {
-      laid = c.requires.laid;
-      told = c.requires.told;
-      up_to = up_to_begun self.pass (λ file. written_from (steps_over self.course.now c.args.rows.now) self.tag file c.args.from c.args.rows.now) c.args.buffers.now.waiting (g.D.Folder.files c.args.folder.now) c.requires.ready.target;
-      ready = c.requires.ready;
-      counts = refl;
-    }
+loop-frame-init g c = record {
+  laid = c.requires.laid;
+  told = c.requires.told;
+  up_to = up_to_begun c.args.self.now.pass (λ file. written_from (steps_over c.args.self.now.course.now c.args.rows.now) c.args.self.now.tag file c.args.from c.args.rows.now) c.args.buffers.now.waiting
+      (g.D.Folder.files c.args.folder.now) c.requires.ready.target;
+  ready = c.requires.ready;
+  counts = refl;
+}
 
 -- the frame that is next, and those after it
 module _ (g : given.Over) (c : After-from g) where
