@@ -272,8 +272,3 @@ pub stream-retagged : (file bytes : List ℕ) (allowed : ℕ) (s : SurveyFields)
 stream-retagged file bytes allowed s e clean are =
     let parts = surveyed-parts file allowed s e in
     subst (λ t. stream_of_survey (with_tag bytes t file) (retagged (length bytes) t) ≡ stream_of_survey file t) parts.2 (stream-from file allowed parts.0 parts.1 (no_junk-start s file parts.0 parts.2 clean) bytes are)
-
--- There is no junk in it either.
-pub retagged-clean : (n : ℕ) (s : SurveyFields) → s.junk ≡ s.first → (retagged n s).junk ≡ (retagged n s).first
-unfolding retagged
-retagged-clean n s clean = ap (moved_at n s) clean

@@ -171,16 +171,12 @@ module _ (steps : ℕ → Steps) (file : List ℕ) (allowed : ℕ) (start : Star
   pub new-stands : drop front_end new_file ≡ own ++ after
   new-stands = ap (drop front_end) new-is ∙ drop_at before (own ++ after) front_end before_long
 
-  pub new-before : take front_end new_file ≡ before
-  new-before = ap (take front_end) new-is ∙ take_at before (own ++ after) front_end before_long
-
   pub new-length : length new_file ≡ length file - gap
   new-length =
       omega (
         arith,
         ap length new-is,
-        length-append before (own ++ after),
-        length-append own after,
+        length-append {A = ℕ},
         before_long,
         (own_by head).size,
         items-length Stream file (first + size) later.items later.stop after later_ends after_are,

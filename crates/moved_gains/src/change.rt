@@ -1,5 +1,4 @@
 //! What a command changes in a file.
-ghost use Rattle.std.specs.Prelude.{◌≡◌};
 
 use crate::course::Course;
 

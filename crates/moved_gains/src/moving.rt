@@ -1,7 +1,6 @@
 //! The second pass over an input: it is read from its beginning to its end, and written with the gains of
 //! its frames moved, except those of lost ones, and with another tag if that changes.
-ghost use Rattle.std.specs.Prelude.{◌≡◌, ◌≢◌, ◌+◌, ◌<◌, ◌≤◌, ◌^◌, ◌++◌, List, ℕ, [], length, take, drop, IfOk, IfErr, OnOk, Ok};
-ghost use Rattle.frame_header.specs.Fields.{HeaderFields};
+ghost use Rattle.std.specs.Prelude.{◌≡◌, ◌≢◌, ◌+◌, ◌<◌, ◌≤◌, ◌^◌, List, ℕ, length, IfOk, IfErr, OnOk, Ok};
 ghost use Rattle.frame_header.specs.Tables.{class_of, length_of, overhead_of};
 ghost use Rattle.side_info.specs.Frame.{side_in};
 ghost use Rattle.outside.specs.Files.{Holds, IsThere};
@@ -12,7 +11,7 @@ ghost use Rattle.moved_gains.specs.Buffers.{AreFresh};
 ghost use Rattle.sync_survey.specs.Limits.{most_frames};
 ghost use Rattle.moved_gains.specs.Change.{changed, change_in};
 ghost use Rattle.moved_gains.specs.Course.{steps_over, AreNumbered};
-ghost use Rattle.moved_gains.specs.Moving.{row_length, row_end, row_overhead, row_bytes, IsRowOf, AreRowsOf, moved_bytes, moved_row_bytes, bytes_around, copied, written_from, IsNewTag};
+ghost use Rattle.moved_gains.specs.Moving.{row_end, row_overhead, row_bytes, IsRowOf, AreRowsOf, moved_bytes, moved_row_bytes, bytes_around, copied, written_from, IsNewTag};
 
 use crate::buffers::Buffers;
 use crate::change::Change;
