@@ -7,7 +7,9 @@ use Rattle.frame_writer.specs.declared.frames.Kept.{Kept}
 use Rattle.frame_writer.specs.Frames.{front_of, area_in}
 use Rattle.frame_writer.proofs.FrameLaws.{front-alone}
 use Rattle.frame_writer.proofs.WritingLaws.{ok-map, err-map, prefix-piece, passed-two, prefix-two}
+use Rattle.frame_writer.proofs.frames.add_frame.Given as given
 use Rattle.frame_writer.proofs.frames.add_frame.Goals as goal
+use Rattle.frame_writer.proofs.frames.add_frame.Goals.{In_ok-push}
 use Rattle.side_info.proofs.FrameLaws.{overhead-few}
 
 -- what is before the area is the front of the frame
@@ -36,16 +38,21 @@ returns-in_err-push-clause-prefix g c =
 pub add_first-requires-clause-there : goal.add_first-requires-clause-there
 add_first-requires-clause-there g c = passed_there c.in_ok-push.ensures.passed
 
+-- that and the area are the bytes of the frame
+both_are : (g : given.Over) (c : In_ok-push g)
+    → take (c.length.result - c.area-area.result) c.put_front.new.frame ++ take c.area-area.result c.args.areas.now.bytes ≡ front_of c.args.kept.now.header c.args.kept.now.side ++ take (area_in c.args.kept.now) c.args.areas.now.bytes
+both_are g c =
+    let front = front_is c.args.kept.now (c.length.result - c.area-area.result) c.put_front.new.frame _ (omega (arith, c.area-area.ensures.whole, c.length.ensures.length)) c.put_front.ensures c.put_front.auto.frame (overhead-few (class_of c.args.kept.now.header) c.args.kept.now.header.protected) in
+    ap₂ (λ (xs : List ℕ) m. xs ++ take m c.args.areas.now.bytes) front c.area-area.ensures.area
+
 pub returns-clause-passed : goal.returns-clause-passed
 returns-clause-passed g c =
-    let front = front_is c.args.kept.now (c.length.result - c.area-area.result) c.put_front.new.frame _ (omega (arith, c.area-area.ensures.whole, c.length.ensures.length)) c.put_front.ensures c.put_front.auto.frame (overhead-few (class_of c.args.kept.now.header) c.args.kept.now.header.protected) in
     ok-map c.add_first.result
-    (passed-two c.args.unsent.now (take (c.length.result - c.area-area.result) c.put_front.new.frame) (take c.area-area.result c.args.areas.now.bytes) _ (ap₂ (λ (xs : List ℕ) m. xs ++ take m c.args.areas.now.bytes) front c.area-area.ensures.area) c.in_ok-push.ensures.passed)
+    (passed-two c.args.unsent.now (take (c.length.result - c.area-area.result) c.put_front.new.frame) (take c.area-area.result c.args.areas.now.bytes) _ (both_are g (goal.at.returns-clause-passed g c).In_ok-push) c.in_ok-push.ensures.passed)
     c.add_first.ensures.passed
 
 pub returns-clause-prefix : goal.returns-clause-prefix
 returns-clause-prefix g c =
-    let front = front_is c.args.kept.now (c.length.result - c.area-area.result) c.put_front.new.frame _ (omega (arith, c.area-area.ensures.whole, c.length.ensures.length)) c.put_front.ensures c.put_front.auto.frame (overhead-few (class_of c.args.kept.now.header) c.args.kept.now.header.protected) in
     err-map c.add_first.result
-    (prefix-two c.args.unsent.now (take (c.length.result - c.area-area.result) c.put_front.new.frame) (take c.area-area.result c.args.areas.now.bytes) _ (ap₂ (λ (xs : List ℕ) m. xs ++ take m c.args.areas.now.bytes) front c.area-area.ensures.area) c.in_ok-push.ensures.passed)
+    (prefix-two c.args.unsent.now (take (c.length.result - c.area-area.result) c.put_front.new.frame) (take c.area-area.result c.args.areas.now.bytes) _ (both_are g (goal.at.returns-clause-prefix g c).In_ok-push) c.in_ok-push.ensures.passed)
     c.add_first.ensures.prefix
