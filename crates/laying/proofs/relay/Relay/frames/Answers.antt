@@ -177,12 +177,11 @@ returns-clause-lays g c =
     let self = c.args.self.now in
     let s = tells self.survey.now in
     let placed = c.args.placed.now in
-    let i = c.loop-place.i in
     let k = c.loop-place.place-index in
-    let inv = c.loop-place.invariant in
     let none : drop k placed ≡ [] = drop_all k placed (omega (arith, c.loop-place-test.false)) in
-    lays-all self.pass.input.now self.pass.output.now _ _ (writing_in c.args.buffers.now) (writing_in c.loop-place.buffers) _ _ inv.lays
-    (λ file holds. ap (relaid (slice_range (all_frames file s) i c.args.to)) none ∙ relaid-end (slice_range (all_frames file s) i c.args.to))
+    lays-all self.pass.input.now self.pass.output.now _ _ (writing_in c.args.buffers.now) (writing_in c.loop-place.buffers) _ _ c.loop-place.invariant.lays (λ file holds.
+    let frames = slice_range (all_frames file s) c.loop-place.i c.args.to in
+    ap (relaid frames) none ∙ relaid-end frames)
 
 pub returns-clause-reach : goal.returns-clause-reach
 returns-clause-reach g c =
