@@ -1,5 +1,5 @@
 //! Frames as they are written.
-ghost use Rattle.std.specs.Prelude.{◌≡◌, ℕ, ◌+◌, ◌-◌, ◌<◌, ◌≤◌, List, ◌++◌, length, drop, OnOk, OnErr};
+ghost use Rattle.std.specs.Prelude.{◌≡◌, ◌+◌, ◌-◌, ◌<◌, ◌≤◌, ◌++◌, length, drop, OnOk, OnErr};
 ghost use Rattle.frame_header.specs.Tables.{class_of, overhead_of};
 ghost use Rattle.side_info.specs.Side.{SideFits};
 ghost use Rattle.outside.specs.Files.{IsThere};

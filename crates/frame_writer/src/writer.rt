@@ -1,12 +1,12 @@
 //! Frames written to one file of a folder.
 ghost use Rattle.std.specs.Prelude.{◌≡◌, ℕ, ◌+◌, ◌-◌, ◌<◌, ◌≤◌, ◌↔◌, List, [], ◌∷◌, ◌++◌, length, drop, min, IsTrue, IfOk, OnOk, OnErr};
-ghost use Rattle.frame_header.specs.Tables.{class_of, window_of};
+ghost use Rattle.frame_header.specs.Tables.{class_of};
 ghost use Rattle.side_info.specs.Side.{SideFits};
 ghost use Rattle.outside.specs.Files.{IsThere};
 ghost use Rattle.outside.specs.Passed.{PassedOn, AppendedPrefix};
 ghost use Rattle.outside.specs.Counts.{OnlyWrites};
 ghost use Rattle.frame_writer.specs.Frames.{held_bytes, first_area, area_in, areas_with, Frame, EndsInArea, IsNextSettled, reach_of, reach_with, AreWritten};
-ghost use Rattle.frame_writer.specs.Writing.{Writing, writing, waiting_bytes, bytes_with, IsNew, HandedOn, HandedPart, WritesOn, WritesPart, GoesOn, WriteFailed};
+ghost use Rattle.frame_writer.specs.Writing.{writing, bytes_with, IsNew, HandedOn, HandedPart, WritesOn, WritesPart, GoesOn, WriteFailed};
 
 use crate::areas::Areas;
 use crate::frames::{Frame, Kept, add_frame};

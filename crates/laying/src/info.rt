@@ -1,12 +1,12 @@
 //! The fields of the Info frame before the frames of a plan.
-ghost use Rattle.std.specs.Prelude.{◌≡◌, ◌+◌, ◌≤◌, List, ℕ, length, take, drop, map, replicate, None, Some, Ok, IfOk, IfErr, OnOk, IsErrOf};
+ghost use Rattle.std.specs.Prelude.{◌≡◌, ◌≤◌, List, ℕ, length, drop, map, replicate, None, Some, Ok, IfOk, IfErr, OnOk, IsErrOf};
 ghost use Rattle.frame_header.specs.Limits.{most_placed};
 ghost use Rattle.outside.specs.Files.{Holds, IsThere};
 ghost use Rattle.outside.specs.Counts.{OnlyReads};
 ghost use Rattle.outside.specs.Pass.{HasInputCause};
 ghost use Rattle.info_header.specs.Info.{info_in};
 ghost use Rattle.frame_writer.specs.Frames.{Frame};
-ghost use Rattle.sync_survey.specs.Faults.{tells, longest_file};
+ghost use Rattle.sync_survey.specs.Faults.{tells};
 ghost use Rattle.sync_survey.specs.Survey.{IsLaidOut};
 ghost use Rattle.slot_plan.specs.declared.needs.Placed.{Placed as PlacedFields};
 ghost use Rattle.laid_files.specs.LaidFiles.{HasInfoSizes};

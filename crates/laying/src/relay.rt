@@ -1,6 +1,6 @@
 //! The frames of a surveyed input, read once from its beginning to its end and given to the writer of an
 //! output.
-ghost use Rattle.std.specs.Prelude.{◌≡◌, ◌⊎◌, false, if◌then◌else◌, ◌+◌, ◌-◌, ◌^◌, ◌<◌, ◌≤◌, ◌++◌, min, List, ℕ, [], ◌∷◌, length, take, map, slice_range, slice_get, Some, IfOk, IfErr, OnOk, OnErr};
+ghost use Rattle.std.specs.Prelude.{◌≡◌, ◌⊎◌, false, if◌then◌else◌, ◌+◌, ◌-◌, ◌^◌, ◌<◌, ◌≤◌, ◌++◌, min, List, ℕ, [], length, take, slice_get, Some, IfOk, IfErr, OnOk, OnErr};
 ghost use Rattle.frame_header.specs.Tables.{class_of, area_of, overhead_of, window_of};
 ghost use Rattle.outside.specs.Files.{IsThere};
 ghost use Rattle.outside.specs.Passed.{PassedOn, AppendedPrefix};
