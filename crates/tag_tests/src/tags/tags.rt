@@ -91,6 +91,13 @@ fn read(rt: &impl Abort, alloc: Global, words: &'static str) -> Result<Tag, Fail
     Ok(tag_of(rt, alloc, &block)?)
 }
 
+/// The same without its undo item.
+fn read_and_drop(rt: &impl Abort, alloc: Global, words: &'static str) -> Result<Tag, Fail> {
+    let mut tag = read(rt, alloc, words)?;
+    tag.drop_undo();
+    Ok(tag)
+}
+
 fn is_written(alloc: Global, tag: &Tag, bytes: &[u8]) -> bool {
     match tag.write(alloc) {
         Ok(written) => written.as_slice() == bytes,
@@ -153,8 +160,7 @@ fn an_undo_item_amid_others(rt: HostRuntime) -> Result<(), Fail> {
 
 #[test]
 fn an_undo_item_dropped(rt: HostRuntime) -> Result<(), Fail> {
-    let mut tag = read(&rt, rt.alloc(), AMID)?;
-    tag.drop_undo();
+    let mut tag = read_and_drop(&rt, rt.alloc(), AMID)?;
     expect_tag(&rt, rt.alloc(), &tag, UndoItem::Missing, AMID_DROPPED)?;
     tag.set_undo(&ONE_LOWER)?;
     expect_tag(&rt, rt.alloc(), &tag, UndoItem::Found(ONE_LOWER), AMID_NEW)
@@ -162,8 +168,7 @@ fn an_undo_item_dropped(rt: HostRuntime) -> Result<(), Fail> {
 
 #[test]
 fn the_only_item_dropped(rt: HostRuntime) -> Result<(), Fail> {
-    let mut tag = read(&rt, rt.alloc(), ALONE)?;
-    tag.drop_undo();
+    let tag = read_and_drop(&rt, rt.alloc(), ALONE)?;
     assert!(rt; is_bare(&tag));
     Ok(())
 }
