@@ -9,7 +9,6 @@ mod slow;
 
 use in_memory::MemSink;
 use outside::{Failed, send_all};
-use std::alloc::AllocError;
 use std::process::Abort;
 use std::test::Fail;
 
@@ -52,7 +51,7 @@ fn is_sent(sink: &mut MemSink, sent: &Sent) -> bool {
     send_all(sink, sent.bytes) == sent.answer && has_sent(sink, sent.sent)
 }
 
-fn expect_sendings(rt: &impl Abort, sink: &mut MemSink) -> Result<(), AllocError> {
+fn expect_sendings(rt: &impl Abort, sink: &mut MemSink) -> Result<(), Fail> {
     sink.reserve(4)?;
     sink.fail(2)?;
     for (number, sent) in SENDINGS.iter().enumerate() {
@@ -64,6 +63,5 @@ fn expect_sendings(rt: &impl Abort, sink: &mut MemSink) -> Result<(), AllocError
 #[test]
 fn sink_in_memory(rt: HostRuntime) -> Result<(), Fail> {
     let mut sink = MemSink::new(rt.alloc());
-    expect_sendings(&rt, &mut sink)?;
-    Ok(())
+    expect_sendings(&rt, &mut sink)
 }
