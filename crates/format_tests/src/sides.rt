@@ -18,6 +18,25 @@ const AFTER: [u8; 32] = *b"\
     \x00\x00\x00\x08\x00\x32\x80\x00\x00\x00\x01\x00\x06\x60\x00\x00\
     \x00\x00\x20\x00\x00\x00\x00\x00\x00\x04\x00\x16\xc0\x00\x00\x00";
 
+// A granule by its fields, in the order in which they are in the side information.
+macro_rules! granule {
+    ($length:literal, $big_values:literal, $gain:literal, $compress:literal, $switching:literal, $detail:literal, $preflag:literal, $scale:literal, $table:literal) => {
+        Granule {
+            part2_3_length: $length, big_values: $big_values, global_gain: $gain, scalefac_compress: $compress, window_switching: $switching,
+            detail: $detail, preflag: $preflag, scalefac_scale: $scale, count1table_select: $table,
+        }
+    };
+}
+
+// Granules whose fields all differ; the first two with preflag 1 and 0, as MPEG-1 has it.
+const FIRST: Granule = granule!(2741, 288, 210, 13, true, 0x2a_aaaa, true, false, true);
+
+const SECOND: Granule = granule!(1365, 17, 97, 6, false, 0x15_5555, false, true, false);
+
+const FULL: Granule = granule!(4095, 511, 255, 15, true, 0x3f_ffff, true, true, true);
+
+const SMALL: Granule = granule!(1, 2, 3, 4, false, 5, false, false, true);
+
 // A granule of 8 bits of main data with this gain.
 fn granule(global_gain: u8) -> Granule {
     Granule {
@@ -41,53 +60,6 @@ fn side_of(begin: u16, private_bits: u8, scfsi: [u8; 2], granules: [[Granule; 2]
         granules,
     }
 }
-
-// Granules whose fields all differ; the first two with preflag 1 and 0, as MPEG-1 has it.
-const FIRST: Granule = Granule {
-    detail: 0x2a_aaaa,
-    part2_3_length: 2741,
-    big_values: 288,
-    scalefac_compress: 13,
-    global_gain: 210,
-    window_switching: true,
-    preflag: true,
-    scalefac_scale: false,
-    count1table_select: true,
-};
-
-const SECOND: Granule = Granule {
-    detail: 0x15_5555,
-    part2_3_length: 1365,
-    big_values: 17,
-    scalefac_compress: 6,
-    global_gain: 97,
-    window_switching: false,
-    preflag: false,
-    scalefac_scale: true,
-    count1table_select: false,
-};
-
-const FULL: Granule = Granule {
-    detail: 0x3f_ffff,
-    part2_3_length: 4095,
-    big_values: 511,
-    scalefac_compress: 15,
-    global_gain: 255,
-    window_switching: true,
-    preflag: true,
-    scalefac_scale: true,
-    count1table_select: true,
-};
-
-const SMALL: Granule = Granule {
-    detail: 5,
-    part2_3_length: 1,
-    big_values: 2,
-    scalefac_compress: 4,
-    global_gain: 3,
-    count1table_select: true,
-    ..NONE
-};
 
 // Whether the side information is written as these bytes.
 fn is_written(class: Class, side: &Side, bytes: &[u8]) -> bool {
