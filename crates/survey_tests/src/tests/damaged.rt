@@ -111,18 +111,12 @@ static BLOCK_IN_GAP: Case = Case {
     head: None,
 };
 
+/// With a wrong check word.
+const WRONG_G: Frame = frame! { word: Some(0x11a3), ..PROTECTED_G };
+
 /// A protected frame whose check word is wrong.
 static WRONG_WORD: Case = Case {
-    file: &[Frames(&[
-        PROTECTED_Z,
-        PROTECTED_G,
-        Frame {
-            word: Some(0x11a3),
-            ..PROTECTED_G
-        },
-        PROTECTED_G,
-        PROTECTED_Z,
-    ])],
+    file: &[Frames(&[PROTECTED_Z, PROTECTED_G, WRONG_G, PROTECTED_G, PROTECTED_Z])],
     frames: &[(0, false), (417, false), (1251, false), (1668, false)],
     gaps: &[Gap {
         offset: 834,
@@ -211,16 +205,11 @@ const SLOW: Frame =
 const SLOW_PROTECTED: Frame =
     frame! { header: [0xff, 0xe2, 0x18, 0xc0], word: Some(0x11d2), ..SLOW };
 
+/// With a wrong one.
+const SLOW_WRONG: Frame = frame! { word: Some(0x11d3), ..SLOW_PROTECTED };
+
 static MPEG_2_5: Case = Case {
-    file: &[Frames(&[
-        SLOW,
-        SLOW_PROTECTED,
-        Frame {
-            word: Some(0x11d3),
-            ..SLOW_PROTECTED
-        },
-        SLOW,
-    ])],
+    file: &[Frames(&[SLOW, SLOW_PROTECTED, SLOW_WRONG, SLOW])],
     frames: &[(0, false), (72, false), (216, false)],
     gaps: &[Gap {
         offset: 144,

@@ -168,40 +168,37 @@ fn calls_that_fail(rt: HostRuntime) -> Result<(), Fail> {
     Ok(())
 }
 
-/// A file of zero bytes that is found with one length and ends at another, and the fault.
+/// The length with which a file is found, its bytes, the fault, and how many reads there are: of 65,536 bytes at most, up to one that
+/// gives none.
 struct Ending {
     found: u64,
-    length: usize,
+    file: &'static [Stretch],
     fault: SurveyFault,
+    reads: u64,
 }
 
-static ENDINGS: [Ending; 4] = table! {
-    Ending { found, length, fault }
-    (839, 834, SurveyFault::Shrunk(839, 834))
-    (1, 0, SurveyFault::Shrunk(1, 0))
-    (200_000, 150_000, SurveyFault::Shrunk(200_000, 150_000))
-    (4, 5, SurveyFault::NoFrame(4))
+static ENDINGS: [Ending; 5] = table! {
+    Ending { found, file, fault, reads }
+    (839, &[Fill(0, 834)], SurveyFault::Shrunk(839, 834), 2)
+    (1, &[], SurveyFault::Shrunk(1, 0), 1)
+    (200_000, &[Fill(0, 150_000)], SurveyFault::Shrunk(200_000, 150_000), 4)
+    (4, &[Fill(0, 5)], SurveyFault::NoFrame(4), 1)
+    // It is too long.
+    (1_073_741_825, &[], SurveyFault::TooLong(1_073_741_825), 0)
 };
 
-/// Whether the survey finds its fault.
+/// Whether the survey finds its fault with so many reads.
 fn ends_early(alloc: Global, ending: &Ending) -> Result<bool, AllocError> {
-    let file = bytes_of(alloc, &[Fill(0, ending.length)])?;
+    let file = bytes_of(alloc, ending.file)?;
     let mut folder = Untold::new(ending.found, &file, &file);
-    Ok(fault_of(alloc, &mut folder, "a", 2) == Some(ending.fault))
+    let fault = fault_of(alloc, &mut folder, "a", 2);
+    Ok(fault == Some(ending.fault) && folder.reads() == ending.reads)
 }
 
 #[test]
-fn a_file_that_ends_early(rt: HostRuntime) -> Result<(), Fail> {
+fn files_that_end_early_or_are_too_long(rt: HostRuntime) -> Result<(), Fail> {
     for ending in &ENDINGS {
-        assert!(rt; ends_early(rt.alloc(), ending)?, "{} bytes", ending.length);
+        assert!(rt; ends_early(rt.alloc(), ending)?, "{} bytes", ending.found);
     }
     Ok(())
-}
-
-#[test]
-fn a_file_that_is_too_long(rt: HostRuntime) {
-    let mut folder = Untold::new(1_073_741_825, b"", b"");
-    let fault = fault_of(rt.alloc(), &mut folder, "a", 2);
-    assert!(rt; fault == Some(SurveyFault::TooLong(1_073_741_825)));
-    assert!(rt; folder.reads() == 0);
 }

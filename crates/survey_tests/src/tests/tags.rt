@@ -4,7 +4,7 @@ use super::untold::Untold;
 use file_tag::*;
 use in_memory::{Call, MemFolder};
 use outside::Folder;
-use std::alloc::{AllocError, Global};
+use std::alloc::{AllocError, AllocGlobal, Global};
 use std::process::Abort;
 use std::test::Fail;
 use sync_survey::{SurveyFault, survey};
@@ -51,7 +51,7 @@ struct Found {
 }
 
 /// Why a file has no tag that is read.
-#[derive(Clone, Copy)]
+#[derive(Clone, Copy, PartialEq, Eq)]
 enum NoTag {
     Survey(SurveyFault),
     Tag(FileTagFault),
@@ -85,57 +85,88 @@ fn no_tag_of<D: Folder>(alloc: Global, folder: &mut D) -> Option<NoTag> {
     }
 }
 
-/// A file whose tag is read: where it is, and its bytes.
+/// APEv2 without items by its header, of the longest size that may be, and of one byte more: 1,048,544 and 1,048,545 bytes
+/// after the header's 32.
+const LONGEST_HEADER: Stretch = Bytes(
+    b"APETAGEX\xd0\x07\0\0\xe0\xff\x0f\0\0\0\0\0\0\0\0\xa0\0\0\0\0\0\0\0\0",
+);
+
+const TOO_LONG_HEADER: Stretch = Bytes(
+    b"APETAGEX\xd0\x07\0\0\xe1\xff\x0f\0\0\0\0\0\0\0\0\xa0\0\0\0\0\0\0\0\0",
+);
+
+/// Where the tag of a file is, its length, and its bytes.
+type Tagged = (u64, u64, &'static [u8]);
+
+/// A file, and its tag, or why that isn't read.
 struct Case {
     name: &'static str,
     parts: &'static [Stretch],
-    offset: u64,
-    length: u64,
-    tag: &'static [u8],
+    answer: Result<Tagged, FileTagFault>,
 }
 
-static CASES: [Case; 8] = table! {
-    Case { name, parts, offset, length, tag }
-    ("in front", &[APE, FRAME, FRAME], 0, 79, TITLE)
-    ("behind another block and a zero byte", &[ID3V2, ZERO, APE, FRAME], 11, 79, TITLE)
-    ("between frames", &[FRAME, APE, FRAME], 24, 79, TITLE)
-    ("at the end", &[FRAME, FRAME, APE], 48, 79, TITLE)
-    ("the first of two", &[FRAME, EMPTY_BLOCK, ID3V2, APE], 24, 64, EMPTY)
-    ("none", &[FRAME, FRAME], 48, 0, EMPTY)
-    ("none, a zero byte and another block at the end", &[FRAME, FRAME, ZERO, ID3V2], 48, 0, EMPTY)
-    ("none, another block in front", &[ID3V2, FRAME], 34, 0, EMPTY)
+static CASES: [Case; 12] = table! {
+    Case { name, parts, answer }
+    ("in front", &[APE, FRAME, FRAME], Ok((0, 79, TITLE)))
+    ("behind another block and a zero byte", &[ID3V2, ZERO, APE, FRAME], Ok((11, 79, TITLE)))
+    ("between frames", &[FRAME, APE, FRAME], Ok((24, 79, TITLE)))
+    ("at the end", &[FRAME, FRAME, APE], Ok((48, 79, TITLE)))
+    ("the first of two", &[FRAME, EMPTY_BLOCK, ID3V2, APE], Ok((24, 64, EMPTY)))
+    ("none", &[FRAME, FRAME], Ok((48, 0, EMPTY)))
+    ("none, a zero byte and another block at the end", &[FRAME, FRAME, ZERO, ID3V2], Ok((48, 0, EMPTY)))
+    ("none, another block in front", &[ID3V2, FRAME], Ok((34, 0, EMPTY)))
+    ("a reserved byte that isn't 0", &[FRAME, NOT_RESERVED, FRAME], Err(FileTagFault::Bad(48)))
+    ("an item more by the header", &[FRAME, TWO_ITEMS], Err(FileTagFault::Bad(71)))
+    ("the longest block", &[FRAME, LONGEST_HEADER, Fill(0, 1_048_544)], Err(FileTagFault::Bad(56)))
+    ("one byte more", &[FRAME, TOO_LONG_HEADER, Fill(0, 1_048_545)], Err(FileTagFault::TooLarge(1_048_577)))
 };
 
 fn put_parts(alloc: Global, folder: &mut MemFolder, parts: &[Stretch]) -> Result<(), AllocError> {
     folder.put("a", &bytes_of(alloc, parts)?)
 }
 
-fn is_found(found: &Found, case: &Case) -> bool {
-    found.place.offset == case.offset
-        && found.place.length == case.length
-        && found.bytes.as_slice() == case.tag
+fn is_found(found: &Found, tagged: Tagged) -> bool {
+    let (offset, length, bytes) = tagged;
+    found.place.offset == offset && found.place.length == length && found.bytes.as_slice() == bytes
 }
 
-fn has_tag_in(alloc: Global, folder: &mut MemFolder, case: &Case) -> Result<bool, AllocError> {
-    put_parts(alloc, folder, case.parts)?;
-    match tag_of(alloc, folder) {
-        Ok(found) => Ok(is_found(&found, case)),
-        Err(_) => Ok(false),
+/// Whether the file `a` has this tag, or its tag isn't read for this reason.
+fn is_answer<D: Folder>(
+    alloc: Global,
+    folder: &mut D,
+    answer: Result<Tagged, FileTagFault>,
+) -> bool {
+    match (tag_of(alloc, folder), answer) {
+        (Ok(found), Ok(tagged)) => is_found(&found, tagged),
+        (Err(reason), Err(fault)) => reason == NoTag::Tag(fault),
+        _ => false,
     }
 }
 
-/// Whether the case's tag is read.
-fn has_tag(alloc: Global, case: &Case) -> Result<bool, AllocError> {
-    let mut folder = MemFolder::new(alloc);
-    has_tag_in(alloc, &mut folder, case)
+/// The name of the first case that is answered otherwise.
+fn first_wrong(alloc: Global, folder: &mut MemFolder) -> Result<&'static str, AllocError> {
+    for case in &CASES {
+        put_parts(alloc, folder, case.parts)?;
+        if !is_answer(alloc, folder, case.answer) {
+            return Ok(case.name);
+        }
+    }
+    Ok("")
+}
+
+fn expect_none_wrong<R: Abort + AllocGlobal>(
+    rt: &R,
+    folder: &mut MemFolder,
+) -> Result<(), AllocError> {
+    let wrong = first_wrong(rt.alloc(), folder)?;
+    assert!(rt; wrong.is_empty(), "{wrong}");
+    Ok(())
 }
 
 #[test]
 fn tags(rt: HostRuntime) -> Result<(), Fail> {
-    for case in &CASES {
-        assert!(rt; has_tag(rt.alloc(), case)?, "{}", case.name);
-    }
-    Ok(())
+    let mut folder = MemFolder::new(rt.alloc());
+    Ok(expect_none_wrong(&rt, &mut folder)?)
 }
 
 /// The offset of the first tag of the file `a`, where there is one.
@@ -163,108 +194,38 @@ fn first_tags(rt: HostRuntime) -> Result<(), Fail> {
     Ok(())
 }
 
-/// A file whose tag isn't read, and why.
-struct Refused {
-    name: &'static str,
-    parts: &'static [Stretch],
-    fault: FileTagFault,
-}
-
-/// APEv2 without items by its header, of the longest size that may be, and of one byte more: 1,048,544 and 1,048,545 bytes
-/// after the header's 32.
-const LONGEST_HEADER: Stretch = Bytes(
-    b"APETAGEX\xd0\x07\0\0\xe0\xff\x0f\0\0\0\0\0\0\0\0\xa0\0\0\0\0\0\0\0\0",
-);
-
-const TOO_LONG_HEADER: Stretch = Bytes(
-    b"APETAGEX\xd0\x07\0\0\xe1\xff\x0f\0\0\0\0\0\0\0\0\xa0\0\0\0\0\0\0\0\0",
-);
-
-static REFUSED: [Refused; 4] = table! {
-    Refused { name, parts, fault }
-    ("a reserved byte that isn't 0", &[FRAME, NOT_RESERVED, FRAME], FileTagFault::Bad(48))
-    ("an item more by the header", &[FRAME, TWO_ITEMS], FileTagFault::Bad(71))
-    ("the longest block", &[FRAME, LONGEST_HEADER, Fill(0, 1_048_544)], FileTagFault::Bad(56))
-    ("one byte more", &[FRAME, TOO_LONG_HEADER, Fill(0, 1_048_545)],
-        FileTagFault::TooLarge(1_048_577))
-};
-
-/// Whether a tag isn't read for this reason.
-fn is_for(reason: Option<NoTag>, wanted: FileTagFault) -> bool {
-    match reason {
-        Some(NoTag::Tag(fault)) => fault == wanted,
-        _ => false,
-    }
-}
-
-fn is_refused_in(
-    alloc: Global,
-    folder: &mut MemFolder,
-    refused: &Refused,
-) -> Result<bool, AllocError> {
-    put_parts(alloc, folder, refused.parts)?;
-    Ok(is_for(no_tag_of(alloc, folder), refused.fault))
-}
-
-/// Whether the case's tag isn't read for its reason.
-fn is_refused(alloc: Global, refused: &Refused) -> Result<bool, AllocError> {
-    let mut folder = MemFolder::new(alloc);
-    is_refused_in(alloc, &mut folder, refused)
-}
-
-#[test]
-fn tags_at_fault(rt: HostRuntime) -> Result<(), Fail> {
-    for refused in &REFUSED {
-        assert!(rt; is_refused(rt.alloc(), refused)?, "{}", refused.name);
-    }
-    Ok(())
-}
-
 fn reason_in(
     alloc: Global,
     folder: &mut MemFolder,
-    file: &[u8],
     number: u64,
 ) -> Result<Option<NoTag>, AllocError> {
-    folder.put("a", file)?;
+    put_parts(alloc, folder, &[FRAME, APE])?;
     folder.fail(Call::Read, number)?;
     Ok(no_tag_of(alloc, folder))
 }
 
-/// Why no tag is read where this read fails.
-fn reason_where_it_fails(
-    alloc: Global,
-    file: &[u8],
-    number: u64,
-) -> Result<Option<NoTag>, AllocError> {
+/// Why the tag of a file isn't read where this read fails.
+fn reason_where_it_fails(alloc: Global, number: u64) -> Result<Option<NoTag>, AllocError> {
     let mut folder = MemFolder::new(alloc);
-    reason_in(alloc, &mut folder, file, number)
+    reason_in(alloc, &mut folder, number)
 }
 
-/// Whether a read that fails is told: those of the survey, then the one of the tag, and then there are no more.
-fn are_told(alloc: Global, file: &[u8]) -> Result<bool, AllocError> {
-    let mut is_refused = false;
-    for number in 1..10 {
-        let is_told = match reason_where_it_fails(alloc, file, number)? {
-            Some(NoTag::Tag(fault)) => {
-                is_refused = true;
-                fault == FileTagFault::Read
-            }
-            Some(NoTag::Survey(fault)) => fault == SurveyFault::Read,
-            None => is_refused,
-        };
-        if !is_told {
-            return Ok(false);
-        }
+/// The survey makes the first read, the tag is read by the second, and there are no more.
+fn reason_of(number: u64) -> Option<NoTag> {
+    match number {
+        1 => Some(NoTag::Survey(SurveyFault::Read)),
+        2 => Some(NoTag::Tag(FileTagFault::Read)),
+        _ => None,
     }
-    Ok(is_refused)
 }
 
 /// Lets each read fail in turn.
 #[test]
 fn reads_that_fail(rt: HostRuntime) -> Result<(), Fail> {
-    let file = bytes_of(rt.alloc(), &[FRAME, APE])?;
-    assert!(rt; are_told(rt.alloc(), &file)?);
+    for number in 1..10 {
+        let reason = reason_where_it_fails(rt.alloc(), number)?;
+        assert!(rt; reason == reason_of(number), "read {number}");
+    }
     Ok(())
 }
 
@@ -286,7 +247,7 @@ static CHANGED: [Changed; 4] = table! {
 fn is_seen(alloc: Global, first: &[u8], changed: &Changed) -> Result<bool, AllocError> {
     let later = bytes_of(alloc, changed.later)?;
     let mut folder = Untold::new(first.len() as u64, first, &later);
-    Ok(is_for(no_tag_of(alloc, &mut folder), changed.fault))
+    Ok(is_answer(alloc, &mut folder, Err(changed.fault)))
 }
 
 #[test]
