@@ -58,19 +58,19 @@ fn plan_between<R: Abort + AllocGlobal>(
 /// A frame of a plan: whether it is a lead-in, its bit rate index, and its main_data_begin in bytes.
 struct Planned(bool, u8, u16);
 
+/// The frames from one up to the end, and their plan.
 struct Case {
     from: usize,
-    to: usize,
     placed: &'static [Planned],
 }
 
 static CASES: [Case; 3] = table! {
-    Case { from, to, placed }
+    Case { from, placed }
     // The lost frame has no main data, so those of the next one begin in its area, and so on.
-    (0, 3, &[Planned(false, OWN, 0), Planned(false, OWN, 381), Planned(false, OWN, 461)])
-    (1, 3, &[Planned(false, OWN, 0), Planned(false, OWN, 80)])
+    (0, &[Planned(false, OWN, 0), Planned(false, OWN, 381), Planned(false, OWN, 461)])
+    (1, &[Planned(false, OWN, 0), Planned(false, OWN, 80)])
     // 19 bytes are missing: a lead-in with an area of 68.
-    (2, 3, &[Planned(true, LEAST, 0), Planned(false, OWN, 68)])
+    (2, &[Planned(true, LEAST, 0), Planned(false, OWN, 68)])
 };
 
 fn is_planned(frame: &Placed, wanted: &Planned) -> bool {
@@ -96,8 +96,9 @@ fn expect_case<R: Abort + AllocGlobal>(
 ) -> Result<(), AllocError>
     requires { IsLaidOut (tells survey.now) }
 {
-    assert!(rt; case.from < case.to && case.to <= survey.frames().len());
-    let plan = plan_between(rt, survey, case.from, case.to)?;
+    let to = survey.frames().len();
+    assert!(rt; to == 3 && case.from < to);
+    let plan = plan_between(rt, survey, case.from, to)?;
     assert!(rt;
         are_planned(plan.placed(), case.placed),
         "from {}",

@@ -1,38 +1,81 @@
-//! A part worked out by hand: frames of MPEG-1, 44,100 Hz and 128 kbit/s in two channels have 417 bytes and an area of 381
-//! (ISO/IEC 11172-3, 2.4.3.1), a lead-in at 32 kbit/s 104 and an area of 68.
-use super::outputs::{is_output, put_input};
+//! Parts of one frame worked out by hand: frames of MPEG-1, 44,100 Hz and 128 kbit/s in two channels have 417 bytes and an area of
+//! 381 (ISO/IEC 11172-3, 2.4.3.1), a lead-in at 32 kbit/s 104 and an area of 68.
+ghost use Rattle.std.specs.Prelude.{◌<◌};
+
 use in_memory::MemFolder;
 use laying::{Buffers, Relay, Section, asked_plans, plans_fit};
 use outside::{Folder, Pass, PassFault};
 use part_needs::{Parts, one_part_fits};
 use slot_plan::Keep;
-use std::alloc::{AllocError, AllocGlobal};
+use std::alloc::{AllocError, AllocGlobal, Global};
 use std::process::Abort;
 use std::test::Fail;
 use sync_survey::survey;
-use test_files::end_to_end;
-use test_files::files::Stretch::{Fill, Filled};
-use test_files::files::{OF_300, OF_400, Stretch};
+use test_files::files::Stretch::{Bytes, Fill, Filled};
+use test_files::files::{ID3V1, OF_300, OF_400, Stretch, bytes_of};
+use test_files::{end_to_end, table};
+
+/// The header of an ID3v2 block of 7,010 bytes: its size is 54 * 128 + 88 (ID3v2.3.0, 3.1).
+const LONG_BLOCK: Stretch = Bytes(b"ID3\x03\x00\x00\x00\x00\x36\x58");
+
+/// An ID3v2 block of 14 bytes.
+const SHORT_BLOCK: Stretch = Bytes(b"ID3\x03\x00\x00\x00\x00\x00\x04abcd");
+
+/// The rest of an ID3v1 block after its first 3 bytes.
+const LAST_REST: Stretch = Fill(0x66, 125);
+
+/// A block before two frames, and two after them.
+const BLOCKS: &[Stretch] = &end_to_end! {
+    LONG_BLOCK, Fill(0x44, 3000), Fill(0x55, 4000), OF_300, Fill(0x11, 300), Fill(0x22, 81),
+    OF_300, Fill(0x11, 300), Fill(0x22, 81),
+    SHORT_BLOCK, ID3V1, LAST_REST
+};
+
+/// The same blocks, around four bytes in place of an Info frame and the first frame, whose area has zeros after its main data.
+const FIRST: &[Stretch] = &end_to_end! {
+    LONG_BLOCK, Fill(0x44, 3000), Fill(0x55, 4000), Bytes(b"info"), OF_300, Fill(0x11, 300), Fill(0, 81),
+    SHORT_BLOCK, ID3V1, LAST_REST
+};
 
 /// Main data of 300 bytes, and of 400 that begin right after them, 81 bytes before the second area. Of the side information
 /// main_data_begin is the first 9 bits, and how many bits the first channel's main data have is in the 21st to the 32nd.
-static INPUT: [Stretch; 6] = end_to_end! {
+const TWO: &[Stretch] = &end_to_end! {
     OF_300, Fill(0x11, 300), Fill(0x22, 81),
     OF_400, Fill(0x22, 319), Fill(0x33, 62)
 };
 
 /// The second frame alone: 68 of its bytes are in the lead-in's area, and the other 332 in its own.
-static OUTPUT: [Stretch; 5] = end_to_end! {
+const SECOND: &[Stretch] = &end_to_end! {
     Filled(&[0xff, 0xfb, 0x10, 0x00], 0, 32), Fill(0x22, 68),
     Filled(&[0xff, 0xfb, 0x90, 0x00, 0x22, 0x00, 0x0c, 0x80], 0, 28), Fill(0x22, 332), Fill(0, 49)
 };
 
-/// Lays the second of two frames, in its own slot.
+/// A file of two frames, which of them is laid, the bytes in place of an Info frame, and the output with its length.
+struct Case {
+    name: &'static str,
+    input: &'static [Stretch],
+    frame: usize,
+    info: &'static [u8],
+    output: &'static [Stretch],
+    length: u64,
+}
+
+static CASES: [Case; 2] = table! {
+    Case { name, input, frame, info, output, length }
+    ("the first frame between blocks", BLOCKS, 0, b"info", FIRST, 7573)
+    ("the second frame alone", TWO, 1, b"", SECOND, 521)
+};
+
+/// Lays one of two frames, in its own slot.
 #[tactic(auto, using(outside::proofs::FilesLaws::emptied_there))]
-fn lay_second<R: Abort + AllocGlobal, D: Folder>(
+fn lay_frame<R: Abort + AllocGlobal, D: Folder>(
     rt: &R,
     folder: &mut D,
-) -> Result<Result<(), PassFault>, AllocError> {
+    frame: usize,
+    info: &[u8],
+) -> Result<Result<(), PassFault>, AllocError>
+    requires one { frame < 2 }
+{
     let Ok(()) = folder.create("b") else {
         panic!(rt; "no output");
     };
@@ -42,7 +85,7 @@ fn lay_second<R: Abort + AllocGlobal, D: Folder>(
     let rows = survey.frames();
     assert!(rt; rows.len() == 2);
     let mut parts = Parts::new(rt.alloc());
-    parts.push(&rows[1..2])?;
+    parts.push(&rows[frame..frame + 1])?;
     one_part_fits();
     asked_plans();
     plans_fit();
@@ -58,23 +101,54 @@ fn lay_second<R: Abort + AllocGlobal, D: Folder>(
         survey: &survey,
     };
     let section = Section {
-        from: 1,
-        to: 2,
+        from: frame,
+        to: frame + 1,
         placed: plan.placed(),
-        info: &[],
+        info,
     };
     Ok(relay.write(folder, &section, &mut buffers))
 }
 
-fn expect_second<R: Abort + AllocGlobal>(rt: &R, folder: &mut MemFolder) -> Result<(), Fail> {
-    put_input(rt.alloc(), folder, &INPUT, 521)?;
-    assert!(rt; lay_second(rt, folder)?.is_ok());
-    assert!(rt; is_output(rt.alloc(), folder, &OUTPUT)?);
+/// Puts the input as `a`, and room for the output `b`.
+fn put_files(alloc: Global, folder: &mut MemFolder, case: &Case) -> Result<(), AllocError> {
+    folder.put("a", &bytes_of(alloc, case.input)?)?;
+    folder.put("b", &[])?;
+    folder.reserve("b", case.length)
+}
+
+/// Whether `b` is the output.
+fn is_output(alloc: Global, folder: &MemFolder, case: &Case) -> Result<bool, AllocError> {
+    let wanted = bytes_of(alloc, case.output)?;
+    Ok(folder.get("b") == Some(wanted.as_slice()))
+}
+
+fn expect_output<R: Abort + AllocGlobal>(
+    rt: &R,
+    folder: &mut MemFolder,
+    case: &Case,
+) -> Result<(), AllocError> {
+    put_files(rt.alloc(), folder, case)?;
+    assert!(rt; case.frame < 2);
+    assert!(rt;
+        lay_frame(rt, folder, case.frame, case.info)?.is_ok(),
+        "{}",
+        case.name
+    );
+    assert!(rt; is_output(rt.alloc(), folder, case)?, "{}", case.name);
     Ok(())
 }
 
-#[test]
-fn second_frame_alone(rt: HostRuntime) -> Result<(), Fail> {
+/// It owns the folder and ends in one place, and all else borrows it: at each end of the owner the folder is let go, which costs the
+/// check much.
+fn expect_case<R: Abort + AllocGlobal>(rt: &R, case: &Case) -> Result<(), AllocError> {
     let mut folder = MemFolder::new(rt.alloc());
-    expect_second(&rt, &mut folder)
+    expect_output(rt, &mut folder, case)
+}
+
+#[test]
+fn one_of_two_frames(rt: HostRuntime) -> Result<(), Fail> {
+    for case in &CASES {
+        expect_case(&rt, case)?;
+    }
+    Ok(())
 }

@@ -1,5 +1,5 @@
 -- The frame is one part of the survey's.
-use Rattle.std.proofs.Common.{◌≡◌, ℕ, get_or, List, [], ◌∷◌, length, map, sym, ap, ◌∙◌, subst, arith, append-nil}
+use Rattle.std.proofs.Common.{◌≡◌, ℕ, ◌+◌, get_or, List, [], ◌∷◌, length, map, sym, ap, ◌∙◌, subst, arith, append-nil}
 use Rattle.std.specs.Prelude.{slice_range}
 use Rattle.frame_header.specs.Tables.{window_of}
 use Rattle.outside.specs.Files.{IsThere, Holds}
@@ -14,7 +14,7 @@ use Rattle.part_needs.specs.Fit.{CanBePlanned}
 use Rattle.laying.specs.Fits.{FitsFrom}
 use Rattle.laying.specs.Surveys.{HasSurvey}
 use Rattle.laying.proofs.ChosenFrames.{survey-had}
-use Rattle.laying_tests.proofs.tests.relays.lay_second.Goals as goal
+use Rattle.laying_tests.proofs.tests.relays.lay_frame.Goals as goal
 
 one_part : (rows : List Row) → needs_of (rows ∷ []) ≡ map need_of rows
 unfolding needs_of
@@ -23,8 +23,8 @@ one_part rows = append-nil (map need_of rows)
 pub plan-requires-clause-planned : goal.plan-requires-clause-planned
 plan-requires-clause-planned g c =
     let s = tells c.in-Ok-survey.survey in
-    let fit = c.one_part_fits.ensures s 1 2 c.in-Ok-survey.ensures.laid.placed (omega arith) (omega (arith, ap length c.frames-rows.ensures, c.if-assert.false)) in
-    let same : c.push.new.self ≡ asked_of (slice_range s.frames 1 2 ∷ []) = c.in_ok-push.ensures.added [] c.new-parts.ensures.parts ∙ ap (λ (l : List Row). asked_of (slice_range l 1 2 ∷ [])) c.frames-rows.ensures in
+    let fit = c.one_part_fits.ensures s c.args.frame (c.args.frame + 1) c.in-Ok-survey.ensures.laid.placed (omega arith) (omega (arith, c.requires.one, ap length c.frames-rows.ensures, c.if-assert.false)) in
+    let same : c.push.new.self ≡ asked_of (slice_range s.frames c.args.frame (c.args.frame + 1) ∷ []) = c.in_ok-push.ensures.added [] c.new-parts.ensures.parts ∙ ap (λ (l : List Row). asked_of (slice_range l c.args.frame (c.args.frame + 1) ∷ [])) c.frames-rows.ensures in
     subst CanBePlanned (sym same) fit.planned
 
 pub write-requires-clause-ready : goal.write-requires-clause-ready
@@ -49,15 +49,15 @@ write-requires-clause-ready g c =
 pub write-requires-clause-section : goal.write-requires-clause-section
 write-requires-clause-section g c =
     let s = tells c.in-Ok-survey.survey in
-    let fit = c.one_part_fits.ensures s 1 2 c.in-Ok-survey.ensures.laid.placed (omega arith) (omega (arith, ap length c.frames-rows.ensures, c.if-assert.false)) in
-    let same : c.push.new.self ≡ asked_of (slice_range s.frames 1 2 ∷ []) = c.in_ok-push.ensures.added [] c.new-parts.ensures.parts ∙ ap (λ (l : List Row). asked_of (slice_range l 1 2 ∷ [])) c.frames-rows.ensures in
-    let rows = slice_range s.frames 1 2 in
+    let fit = c.one_part_fits.ensures s c.args.frame (c.args.frame + 1) c.in-Ok-survey.ensures.laid.placed (omega arith) (omega (arith, c.requires.one, ap length c.frames-rows.ensures, c.if-assert.false)) in
+    let same : c.push.new.self ≡ asked_of (slice_range s.frames c.args.frame (c.args.frame + 1) ∷ []) = c.in_ok-push.ensures.added [] c.new-parts.ensures.parts ∙ ap (λ (l : List Row). asked_of (slice_range l c.args.frame (c.args.frame + 1) ∷ [])) c.frames-rows.ensures in
+    let rows = slice_range s.frames c.args.frame (c.args.frame + 1) in
     let window = window_of s.class.version in
     let plan = subst (λ (a : Asked). IsPlan (window_in a.needs) (λ h. h.slot ∷ []) (parts_of a.needs a.places) c.placed.result.now) same (subst (IsPlan _ _ _) (sym c.placed.ensures) c.in_ok-plan.ensures) in
     let count : 2 ≡ length s.frames = sym c.if-assert.false ∙ ap length c.frames-rows.ensures in
     record {
       ordered = omega arith;
-      within = omega (arith, count);
+      within = omega (arith, c.requires.one, count);
       fits = subst (λ (l : List Need). FitsFrom window 0 l c.placed.result.now) (one_part rows)
           (c.plans_fit.ensures window (λ h. h.slot ∷ []) (rows ∷ []) c.placed.result.now (c.asked_plans.ensures s.class (λ h. h.slot ∷ []) (rows ∷ []) c.placed.result.now fit plan));
     }
