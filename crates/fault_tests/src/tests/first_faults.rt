@@ -8,7 +8,7 @@ use std::alloc::{AllocError, AllocGlobal, Global};
 use std::process::Abort;
 use std::test::Fail;
 use sync_survey::SurveyFault;
-use test_files::files::Stretch::{Bytes, Fill};
+use test_files::files::Stretch::{Bytes, Fill, Filled};
 use test_files::files::{Stretch, bytes_of};
 use test_files::{end_to_end, table};
 
@@ -24,18 +24,18 @@ struct Case {
 const MANY: u32 = 100;
 
 /// The front of a frame with four times 600 bits.
-const FRONT_0: Stretch = Bytes(&[
-    0xff, 0xfb, 0x90, 0x00, 0x00, 0x00, 0x02, 0x58, 0x00, 0x32, 0x00, 0x00, 0x00, 0x00, 0x4b, 0x00,
-    0x06, 0x40, 0x00, 0x00, 0x00, 0x09, 0x60, 0x00, 0xc8, 0x00, 0x00, 0x00, 0x01, 0x2c, 0x00, 0x19,
-    0x00, 0x00, 0x00, 0x00,
-]);
+const FRONT_0: Stretch = Filled(
+    b"\xff\xfb\x90\0\0\0\x02\x58\0\x32\0\0\0\0\x4b\0\x06\x40\0\0\0\x09\x60\0\xc8\0\0\0\x01\x2c\0\x19",
+    0,
+    4,
+);
 
 /// The front of a frame with main_data_begin 81 and four times 800 bits.
-const FRONT_1: Stretch = Bytes(&[
-    0xff, 0xfb, 0x90, 0x00, 0x28, 0x80, 0x03, 0x20, 0x00, 0x32, 0x00, 0x00, 0x00, 0x00, 0x64, 0x00,
-    0x06, 0x40, 0x00, 0x00, 0x00, 0x0c, 0x80, 0x00, 0xc8, 0x00, 0x00, 0x00, 0x01, 0x90, 0x00, 0x19,
-    0x00, 0x00, 0x00, 0x00,
-]);
+const FRONT_1: Stretch = Filled(
+    b"\xff\xfb\x90\0\x28\x80\x03\x20\0\x32\0\0\0\0\x64\0\x06\x40\0\0\0\x0c\x80\0\xc8\0\0\0\x01\x90\0\x19",
+    0,
+    4,
+);
 
 /// Two frames with 300 and 400 bytes of main data, one after the other, each byte 55 (hex).
 const TWO_FRAMES: &[Stretch] = &end_to_end! {
@@ -44,82 +44,52 @@ const TWO_FRAMES: &[Stretch] = &end_to_end! {
 };
 
 /// The front of a frame with 762, 762, 762 and 763 bits.
-const FRONT_OF_3049: Stretch = Bytes(&[
-    0xff, 0xfb, 0x90, 0x00, 0x00, 0x00, 0x02, 0xfa, 0x00, 0x32, 0x00, 0x00, 0x00, 0x00, 0x5f, 0x40,
-    0x06, 0x40, 0x00, 0x00, 0x00, 0x0b, 0xe8, 0x00, 0xc8, 0x00, 0x00, 0x00, 0x01, 0x7d, 0x80, 0x19,
-    0x00, 0x00, 0x00, 0x00,
-]);
+const FRONT_OF_3049: Stretch = Filled(
+    b"\xff\xfb\x90\0\0\0\x02\xfa\0\x32\0\0\0\0\x5f\x40\x06\x40\0\0\0\x0b\xe8\0\xc8\0\0\0\x01\x7d\x80\x19",
+    0,
+    4,
+);
 
 /// As `SHORT` with main_data_begin 12 and 352 bits, more than 23 bytes.
-const SHORT_TOO_LONG: Stretch = Bytes(&[
-    0xff, 0xf3, 0x14, 0xc0, 0x0c, 0x0b, 0, 0, 0, 0, 0, 0, 0, 0, 0, 0, 0, 0, 0, 0, 0, 0, 0, 0,
-]);
+const SHORT_TOO_LONG: Stretch = Filled(b"\xff\xf3\x14\xc0\x0c\x0b", 0, 18);
 
 /// As `SHORT` with a check word, so an area of 9 bytes, and with 8 bits of gain 100. The right words here were
 /// worked out apart, by long division.
-const PROTECTED: Stretch = Bytes(&[
-    0xff, 0xf2, 0x14, 0xc0, 0xe9, 0x52, 0x00, 0x00, 0x40, 0x01, 0x90, 0, 0, 0, 0, 0, 0, 0, 0, 0, 0,
-    0, 0, 0,
-]);
+const PROTECTED: Stretch = Filled(b"\xff\xf2\x14\xc0\xe9\x52\0\0\x40\x01\x90", 0, 13);
 
 /// As `SHORT` with a check word.
-const PROTECTED_SILENT: Stretch = Bytes(&[
-    0xff, 0xf2, 0x14, 0xc0, 0xee, 0xd2, 0, 0, 0, 0, 0, 0, 0, 0, 0, 0, 0, 0, 0, 0, 0, 0, 0, 0,
-]);
+const PROTECTED_SILENT: Stretch = Filled(b"\xff\xf2\x14\xc0\xee\xd2", 0, 18);
 
 /// As `PROTECTED` with a wrong word.
-const WRONG: Stretch = Bytes(&[
-    0xff, 0xf2, 0x14, 0xc0, 0xe9, 0x53, 0x00, 0x00, 0x40, 0x01, 0x90, 0, 0, 0, 0, 0, 0, 0, 0, 0, 0,
-    0, 0, 0,
-]);
+const WRONG: Stretch = Filled(b"\xff\xf2\x14\xc0\xe9\x53\0\0\x40\x01\x90", 0, 13);
 
 /// As `PROTECTED` with main_data_begin 1, for which its word is wrong.
-const WRONG_AND_BACK: Stretch = Bytes(&[
-    0xff, 0xf2, 0x14, 0xc0, 0xe9, 0x52, 0x01, 0x00, 0x40, 0x01, 0x90, 0, 0, 0, 0, 0, 0, 0, 0, 0, 0,
-    0, 0, 0,
-]);
+const WRONG_AND_BACK: Stretch = Filled(b"\xff\xf2\x14\xc0\xe9\x52\x01\0\x40\x01\x90", 0, 13);
 
 /// As `PROTECTED` with 73 bits.
-const PROTECTED_OF_73: Stretch = Bytes(&[
-    0xff, 0xf2, 0x14, 0xc0, 0x41, 0xdd, 0x00, 0x02, 0x48, 0x01, 0x90, 0, 0, 0, 0, 0, 0, 0, 0, 0, 0,
-    0, 0, 0,
-]);
+const PROTECTED_OF_73: Stretch = Filled(b"\xff\xf2\x14\xc0\x41\xdd\0\x02\x48\x01\x90", 0, 13);
 
 /// As `PROTECTED` with main_data_begin 9 and 144 bits, which fill two areas.
-const PROTECTED_OF_144: Stretch = Bytes(&[
-    0xff, 0xf2, 0x14, 0xc0, 0x50, 0x2a, 0x09, 0x04, 0x80, 0x01, 0x90, 0, 0, 0, 0, 0, 0, 0, 0, 0, 0,
-    0, 0, 0,
-]);
+const PROTECTED_OF_144: Stretch = Filled(b"\xff\xf2\x14\xc0\x50\x2a\x09\x04\x80\x01\x90", 0, 13);
 
 /// As `PROTECTED` with main_data_begin 10 and 80 bits.
-const PROTECTED_AND_10_BACK: Stretch = Bytes(&[
-    0xff, 0xf2, 0x14, 0xc0, 0x3a, 0x9e, 0x0a, 0x02, 0x80, 0x01, 0x90, 0, 0, 0, 0, 0, 0, 0, 0, 0, 0,
-    0, 0, 0,
-]);
+const PROTECTED_AND_10_BACK: Stretch = Filled(
+    b"\xff\xf2\x14\xc0\x3a\x9e\x0a\x02\x80\x01\x90",
+    0,
+    13,
+);
 
 /// The fronts of frames of MPEG-1, 48,000 Hz, 32 kbit/s, one channel: 96 bytes, with an area of 75. The
 /// granules have 300 and 300 bits, and 300 and 301.
-const MONO_OF_600: Stretch = Bytes(&[
-    0xff, 0xfb, 0x14, 0xc0, 0x00, 0x00, 0x04, 0xb0, 0x00, 0x00, 0x00, 0x00, 0x00, 0x00, 0x96, 0x00,
-    0x00, 0x00, 0x00, 0x00, 0x00,
-]);
+const MONO_OF_600: Stretch = Filled(b"\xff\xfb\x14\xc0\0\0\x04\xb0\0\0\0\0\0\0\x96", 0, 6);
 
-const MONO_OF_601: Stretch = Bytes(&[
-    0xff, 0xfb, 0x14, 0xc0, 0x00, 0x00, 0x04, 0xb0, 0x00, 0x00, 0x00, 0x00, 0x00, 0x00, 0x96, 0x80,
-    0x00, 0x00, 0x00, 0x00, 0x00,
-]);
+const MONO_OF_601: Stretch = Filled(b"\xff\xfb\x14\xc0\0\0\x04\xb0\0\0\0\0\0\0\x96\x80", 0, 5);
 
 /// Frames of MPEG-2, 24,000 Hz, 8 kbit/s, stereo: 24 bytes, with an area of 3. The channels have 8 and 16
 /// bits, and 8 and 17.
-const LOWER_OF_24: Stretch = Bytes(&[
-    0xff, 0xf3, 0x14, 0x00, 0x00, 0x00, 0x20, 0x00, 0x00, 0x00, 0x00, 0x00, 0x00, 0x00, 0x80, 0x00,
-    0x00, 0x00, 0x00, 0x00, 0x00, 0, 0, 0,
-]);
+const LOWER_OF_24: Stretch = Filled(b"\xff\xf3\x14\0\0\0\x20\0\0\0\0\0\0\0\x80", 0, 9);
 
-const LOWER_OF_25: Stretch = Bytes(&[
-    0xff, 0xf3, 0x14, 0x00, 0x00, 0x00, 0x20, 0x00, 0x00, 0x00, 0x00, 0x00, 0x00, 0x00, 0x88, 0x00,
-    0x00, 0x00, 0x00, 0x00, 0x00, 0, 0, 0,
-]);
+const LOWER_OF_25: Stretch = Filled(b"\xff\xf3\x14\0\0\0\x20\0\0\0\0\0\0\0\x88", 0, 9);
 
 /// Frames of MPEG-2.5, 12,000 Hz, 8 kbit/s, one channel: 48 bytes, with an area of 35. The first has 280 bits.
 const SLOW_OF_280: Stretch = Bytes(&[0xff, 0xe3, 0x14, 0xc0, 0x00, 0x08, 0xc0]);
@@ -273,23 +243,16 @@ fn expect_all<R: Abort + AllocGlobal>(rt: &R, cases: &[Case]) -> Result<(), Fail
 }
 
 #[test]
-fn where_main_data_begin(rt: HostRuntime) -> Result<(), Fail> {
-    expect_all(&rt, &BEGINS)
-}
-
-#[test]
-fn where_main_data_end(rt: HostRuntime) -> Result<(), Fail> {
-    expect_all(&rt, &ENDS)
-}
-
-#[test]
-fn kinds_and_numbers_of_frames(rt: HostRuntime) -> Result<(), Fail> {
-    expect_all(&rt, &FRAMES)
-}
-
-#[test]
-fn the_first_of_several_faults(rt: HostRuntime) -> Result<(), Fail> {
-    expect_all(&rt, &ORDERS)
+fn faults_of_files(rt: HostRuntime) -> Result<(), Fail> {
+    for cases in [
+        BEGINS.as_slice(),
+        ENDS.as_slice(),
+        FRAMES.as_slice(),
+        ORDERS.as_slice(),
+    ] {
+        expect_all(&rt, cases)?;
+    }
+    Ok(())
 }
 
 #[test]
@@ -299,98 +262,95 @@ fn faults_of_walks(rt: HostRuntime) -> Result<(), Fail> {
     Ok(())
 }
 
-/// The first `length` bytes of the two frames, and their fault.
-struct Cut {
-    length: usize,
+/// What is done to the two frames: they are cut to their first bytes, or a byte gets another value.
+#[derive(Clone, Copy)]
+enum Edit {
+    Cut(usize),
+    Byte(usize, u8),
+}
+
+/// An edit, and the fault of the file.
+struct Edited {
+    edit: Edit,
     answer: Option<SurveyFault>,
 }
 
-static CUTS: [Cut; 11] = table! {
-    Cut { length, answer }
-    (0, Some(SurveyFault::NoFrame(0)))
-    (3, Some(SurveyFault::NoFrame(0)))
-    (4, Some(SurveyFault::Truncated(0)))
-    (416, Some(SurveyFault::Truncated(0)))
-    (417, None)
-    (418, Some(SurveyFault::LostSync(417)))
-    (420, Some(SurveyFault::LostSync(417)))
-    (421, Some(SurveyFault::Truncated(417)))
-    (500, Some(SurveyFault::Truncated(417)))
-    (833, Some(SurveyFault::Truncated(417)))
-    (834, None)
+static CUTS: [Edited; 11] = table! {
+    Edited { edit, answer }
+    (Edit::Cut(0), Some(SurveyFault::NoFrame(0)))
+    (Edit::Cut(3), Some(SurveyFault::NoFrame(0)))
+    (Edit::Cut(4), Some(SurveyFault::Truncated(0)))
+    (Edit::Cut(416), Some(SurveyFault::Truncated(0)))
+    (Edit::Cut(417), None)
+    (Edit::Cut(418), Some(SurveyFault::LostSync(417)))
+    (Edit::Cut(420), Some(SurveyFault::LostSync(417)))
+    (Edit::Cut(421), Some(SurveyFault::Truncated(417)))
+    (Edit::Cut(500), Some(SurveyFault::Truncated(417)))
+    (Edit::Cut(833), Some(SurveyFault::Truncated(417)))
+    (Edit::Cut(834), None)
 };
 
-/// The length of the first cut file whose fault is another.
-fn wrong_cut(alloc: Global) -> Result<Option<usize>, AllocError> {
-    for cut in &CUTS {
-        let mut file = bytes_of(alloc, TWO_FRAMES)?;
-        file.truncate(cut.length);
-        if !both_find(alloc, &file, 2, cut.answer)? {
-            return Ok(Some(cut.length));
-        }
-    }
-    Ok(None)
-}
-
-#[test]
-fn files_cut_short(rt: HostRuntime) -> Result<(), Fail> {
-    let wrong = wrong_cut(rt.alloc())?.unwrap_or(1000);
-    assert!(rt; wrong == 1000, "{wrong} bytes");
-    Ok(())
-}
-
-/// The two frames with another value of this byte, which is in the second header, and their fault.
-struct Change {
-    at: usize,
-    value: u8,
-    answer: Option<SurveyFault>,
-}
-
-static CHANGES: [Change; 23] = table! {
-    Change { at, value, answer }
-    (417, 0x00, Some(SurveyFault::LostSync(418)))
-    (417, 0xfe, Some(SurveyFault::LostSync(417)))
-    (418, 0xfa, Some(SurveyFault::CheckWord(417, 0x2880, 0x2ede)))
-    (418, 0xf2, Some(SurveyFault::Mixed(417)))
-    (418, 0xf3, Some(SurveyFault::Mixed(417)))
+/// Other values of a byte of the second header, in their order.
+static CHANGES: [Edited; 23] = table! {
+    Edited { edit, answer }
+    (Edit::Byte(417, 0x00), Some(SurveyFault::LostSync(418)))
+    (Edit::Byte(417, 0xfe), Some(SurveyFault::LostSync(417)))
     // MPEG-2.5, in which the frame would have 522 bytes.
-    (418, 0xe2, Some(SurveyFault::Truncated(417)))
-    (418, 0xe3, Some(SurveyFault::Truncated(417)))
-    (418, 0xfd, Some(SurveyFault::LostSync(417)))
-    (419, 0xf0, Some(SurveyFault::LostSync(417)))
-    (419, 0x9c, Some(SurveyFault::LostSync(417)))
-    (419, 0x00, Some(SurveyFault::FreeFormat(417)))
-    (419, 0x08, Some(SurveyFault::FreeFormat(417)))
-    (419, 0x92, Some(SurveyFault::Truncated(417)))
-    (419, 0xa4, Some(SurveyFault::Truncated(417)))
-    (419, 0x94, Some(SurveyFault::Mixed(417)))
-    (419, 0x18, Some(SurveyFault::Mixed(417)))
-    (419, 0x10, Some(SurveyFault::Overrun(417, 3200, 1192)))
-    (419, 0x72, Some(SurveyFault::Overrun(417, 3200, 2872)))
-    (419, 0x80, None)
-    (419, 0x91, None)
-    (420, 0xc0, Some(SurveyFault::Mixed(417)))
-    (420, 0xff, Some(SurveyFault::Mixed(417)))
-    (420, 0xbf, None)
+    (Edit::Byte(418, 0xe2), Some(SurveyFault::Truncated(417)))
+    (Edit::Byte(418, 0xe3), Some(SurveyFault::Truncated(417)))
+    (Edit::Byte(418, 0xf2), Some(SurveyFault::Mixed(417)))
+    (Edit::Byte(418, 0xf3), Some(SurveyFault::Mixed(417)))
+    (Edit::Byte(418, 0xfa), Some(SurveyFault::CheckWord(417, 0x2880, 0x2ede)))
+    (Edit::Byte(418, 0xfd), Some(SurveyFault::LostSync(417)))
+    (Edit::Byte(419, 0x00), Some(SurveyFault::FreeFormat(417)))
+    (Edit::Byte(419, 0x08), Some(SurveyFault::FreeFormat(417)))
+    (Edit::Byte(419, 0x10), Some(SurveyFault::Overrun(417, 3200, 1192)))
+    (Edit::Byte(419, 0x18), Some(SurveyFault::Mixed(417)))
+    (Edit::Byte(419, 0x72), Some(SurveyFault::Overrun(417, 3200, 2872)))
+    (Edit::Byte(419, 0x80), None)
+    (Edit::Byte(419, 0x91), None)
+    (Edit::Byte(419, 0x92), Some(SurveyFault::Truncated(417)))
+    (Edit::Byte(419, 0x94), Some(SurveyFault::Mixed(417)))
+    (Edit::Byte(419, 0x9c), Some(SurveyFault::LostSync(417)))
+    (Edit::Byte(419, 0xa4), Some(SurveyFault::Truncated(417)))
+    (Edit::Byte(419, 0xf0), Some(SurveyFault::LostSync(417)))
+    (Edit::Byte(420, 0xbf), None)
+    (Edit::Byte(420, 0xc0), Some(SurveyFault::Mixed(417)))
+    (Edit::Byte(420, 0xff), Some(SurveyFault::Mixed(417)))
 };
 
-/// The first change whose fault is another.
-fn wrong_change(alloc: Global) -> Result<Option<(usize, u8)>, AllocError> {
-    for change in &CHANGES {
-        let mut file = bytes_of(alloc, TWO_FRAMES)?;
-        if let Some(byte) = file.get_mut(change.at) {
-            *byte = change.value;
-        }
-        if !both_find(alloc, &file, 2, change.answer)? {
-            return Ok(Some((change.at, change.value)));
+fn edited(alloc: Global, edit: Edit) -> Result<Vec<u8>, AllocError> {
+    let mut file = bytes_of(alloc, TWO_FRAMES)?;
+    match edit {
+        Edit::Cut(length) => file.truncate(length),
+        Edit::Byte(at, value) => {
+            if let Some(byte) = file.get_mut(at) {
+                *byte = value;
+            }
         }
     }
-    Ok(None)
+    Ok(file)
+}
+
+/// How many rows hold, up to the first that doesn't.
+fn count_right(alloc: Global, rows: &[Edited]) -> Result<usize, AllocError> {
+    for (number, row) in rows.iter().enumerate() {
+        let file = edited(alloc, row.edit)?;
+        if !both_find(alloc, &file, 2, row.answer)? {
+            return Ok(number);
+        }
+    }
+    Ok(rows.len())
+}
+
+fn expect_edits<R: Abort + AllocGlobal>(rt: &R, rows: &[Edited]) -> Result<(), Fail> {
+    let count = count_right(rt.alloc(), rows)?;
+    assert!(rt; count == rows.len(), "row {count}");
+    Ok(())
 }
 
 #[test]
-fn changed_headers(rt: HostRuntime) -> Result<(), Fail> {
-    let (at, value) = wrong_change(rt.alloc())?.unwrap_or((0, 0));
-    assert!(rt; at == 0, "byte {at} as {value}");
-    Ok(())
+fn files_cut_short_and_changed_headers(rt: HostRuntime) -> Result<(), Fail> {
+    expect_edits(&rt, &CUTS)?;
+    expect_edits(&rt, &CHANGES)
 }

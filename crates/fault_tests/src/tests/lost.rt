@@ -2,29 +2,23 @@
 //! frame of 417 bytes adds 381 bytes to the main data, one of `SHORT` 11.
 
 use super::shapes::surveyed;
-use super::stretches::{HEAD, SHORT, SHORT_LOUD, SHORT_OF_FOUR, Z};
+use super::stretches::{Case, HEAD, SHORT, SHORT_LOUD, SHORT_OF_FOUR, Z};
 use std::alloc::{AllocError, Global};
 use std::process::Abort;
 use std::test::Fail;
 use sync_survey::Survey;
-use test_files::files::Stretch::Bytes;
+use test_files::files::Stretch::Filled;
 use test_files::files::{Stretch, bytes_of};
 use test_files::table;
 
 /// As `SHORT` with main_data_begin 12.
-const SHORT_SILENT_BACK: Stretch = Bytes(&[
-    0xff, 0xf3, 0x14, 0xc0, 0x0c, 0, 0, 0, 0, 0, 0, 0, 0, 0, 0, 0, 0, 0, 0, 0, 0, 0, 0, 0,
-]);
+const SHORT_SILENT_BACK: Stretch = Filled(b"\xff\xf3\x14\xc0\x0c", 0, 19);
 
 /// A file without fault, and whether each of its frames is lost.
-struct Case {
-    name: &'static str,
-    file: &'static [Stretch],
-    lost: &'static [bool],
-}
+type Lost = Case<&'static [bool]>;
 
-static CASES: [Case; 11] = table! {
-    Case { name, file, lost }
+static CASES: [Lost; 11] = table! {
+    Case { name, file, answer }
     ("a frame that begins the file", &[Stretch::Frame(81, 3200)], &[true])
     ("a silent one", &[Stretch::Frame(10, 0)], &[true])
     ("more bits than there is room for", &[Stretch::Frame(1, 4000)], &[true])
@@ -48,10 +42,10 @@ fn are_marked(survey: &Survey, lost: &[bool]) -> bool {
 }
 
 /// Whether the survey of the file marks them.
-fn are_lost(alloc: Global, case: &Case) -> Result<bool, AllocError> {
+fn are_lost(alloc: Global, case: &Lost) -> Result<bool, AllocError> {
     let file = bytes_of(alloc, case.file)?;
     match surveyed(alloc, &file, 100)? {
-        Ok(survey) => Ok(are_marked(&survey, case.lost)),
+        Ok(survey) => Ok(are_marked(&survey, case.answer)),
         Err(_) => Ok(false),
     }
 }

@@ -178,13 +178,11 @@ fn found_at(file: &[u8], at: usize) -> Found {
     if let Some(found) = header_at(at, bytes) {
         return found;
     }
-    if let Some(length) = block_length(bytes) {
-        return Found::Block(length);
-    }
-    match bytes.first() {
-        Some(0) => Found::ZeroByte,
-        Some(_) => Found::Nothing,
-        None => Found::End,
+    match (block_length(bytes), bytes.first()) {
+        (Some(length), _) => Found::Block(length),
+        (None, Some(0)) => Found::ZeroByte,
+        (None, Some(_)) => Found::Nothing,
+        (None, None) => Found::End,
     }
 }
 

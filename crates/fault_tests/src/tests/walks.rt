@@ -2,7 +2,7 @@
 
 use super::plain::first_fault;
 use super::shapes::{Shape, is_surveyed, survey_fault};
-use super::stretches::{HEAD, HEADER, OTHER_CLASS, SILENCE, Z};
+use super::stretches::{Case, HEAD, HEADER, OTHER_CLASS, SILENCE, Z};
 use std::alloc::{AllocError, Global};
 use std::process::Abort;
 use std::test::Fail;
@@ -12,17 +12,13 @@ use test_files::files::Stretch::{Bytes, Fill};
 use test_files::files::{APE, ID3V1, ID3V1_REST, ID3V2, ID3V2_REST, Stretch, bytes_of};
 use test_files::table;
 
-/// A file, and the answer.
-pub struct Case {
-    pub name: &'static str,
-    pub file: &'static [Stretch],
-    pub answer: Result<Shape, SurveyFault>,
-}
+/// A file, and what its survey finds.
+pub type Walk = Case<Result<Shape, SurveyFault>>;
 
 /// Two silent frames.
 const TWO_FRAMES: &[Stretch] = &[Z, Z];
 
-pub static CASES: [Case; 20] = table! {
+pub static CASES: [Walk; 20] = table! {
     Case { name, file, answer }
     ("an empty file", &[], Err(SurveyFault::NoFrame(0)))
     ("zero bytes alone", &[Fill(0, 3)], Err(SurveyFault::NoFrame(3)))
@@ -65,7 +61,7 @@ pub static CASES: [Case; 20] = table! {
 };
 
 /// The name of the first case whose survey is another than its answer.
-pub fn first_wrong(alloc: Global, cases: &[Case]) -> Result<Option<&'static str>, AllocError> {
+pub fn first_wrong(alloc: Global, cases: &[Walk]) -> Result<Option<&'static str>, AllocError> {
     for case in cases {
         let file = bytes_of(alloc, case.file)?;
         if !is_surveyed(alloc, &file, &case.answer)? {
