@@ -41,17 +41,16 @@ fn are_searched<R: Abort + AllocGlobal>(
 /// Searches where the frames can be laid in their own slots after a whole window; answers whether they can.
 fn searched<R: Abort + AllocGlobal>(
     rt: &R,
-    frames: &[Asked],
+    needs: &[Need],
     number: usize,
 ) -> Result<bool, AllocError> {
-    let needs = needs_of(rt.alloc(), frames)?;
     assert!(rt; !needs.is_empty());
     let class = needs[0].header.class();
-    if !fit(class.window(), needs.as_slice()) {
+    if !fit(class.window(), needs) {
         return Ok(false);
     }
-    let are_so = are_searched(rt, needs.as_slice(), class.slots().as_slice())?;
-    assert!(rt; are_so, "{} frames, number {number}", frames.len());
+    let are_so = are_searched(rt, needs, class.slots().as_slice())?;
+    assert!(rt; are_so, "{} frames, number {number}", needs.len());
     Ok(true)
 }
 
@@ -81,33 +80,32 @@ fn count_searched<R: Abort + AllocGlobal>(
             FRAMES[number / 9 % 9],
             FRAMES[number / 81 % 9],
         ];
-        if searched(rt, &frames[..length.min(3)], number)? {
+        let needs = needs_of(rt.alloc(), &frames[..length.min(3)])?;
+        if searched(rt, needs.as_slice(), number)? {
             count = count.saturating_add(1);
         }
     }
     Ok(count)
 }
 
-#[test]
-fn all_single_frames(rt: HostRuntime) -> Result<(), Fail> {
-    assert!(rt; count_searched(&rt, 1, 9)? == 9, "each fits in its slot");
-    Ok(())
-}
-
-#[test]
-fn all_lists_of_two(rt: HostRuntime) -> Result<(), Fail> {
+/// How many of so many lists fit in their slots.
+fn expect_count<R: Abort + AllocGlobal>(
+    rt: &R,
+    length: usize,
+    lists: usize,
+    count: u32,
+) -> Result<(), Fail> {
     assert!(rt;
-        count_searched(&rt, 2, 81)? == 61,
-        "so many fit in their slots"
+        count_searched(rt, length, lists)? == count,
+        "lists of {length}"
     );
     Ok(())
 }
 
+/// All single frames, of which each fits in its slot, all lists of two, and all of three.
 #[test]
-fn all_lists_of_three(rt: HostRuntime) -> Result<(), Fail> {
-    assert!(rt;
-        count_searched(&rt, 3, 729)? == 416,
-        "so many fit in their slots"
-    );
-    Ok(())
+fn all_lists(rt: HostRuntime) -> Result<(), Fail> {
+    expect_count(&rt, 1, 9, 9)?;
+    expect_count(&rt, 2, 81, 61)?;
+    expect_count(&rt, 3, 729, 416)
 }

@@ -67,17 +67,11 @@ fn expect_plans<R: Abort + AllocGlobal>(rt: &R, case: &Case) -> Result<(), Fail>
 }
 
 #[test]
-fn frames_alone(rt: HostRuntime) -> Result<(), Fail> {
-    for case in &ALONE {
-        expect_plans(&rt, case)?;
-    }
-    Ok(())
-}
-
-#[test]
-fn parts_joined(rt: HostRuntime) -> Result<(), Fail> {
-    for case in &JOINED {
-        expect_plans(&rt, case)?;
+fn frames_alone_and_parts_joined(rt: HostRuntime) -> Result<(), Fail> {
+    for cases in [ALONE.as_slice(), JOINED.as_slice()] {
+        for case in cases {
+            expect_plans(&rt, case)?;
+        }
     }
     Ok(())
 }
