@@ -4,7 +4,7 @@ ghost use Rattle.outside.specs.Feed.{IsFedFrom};
 
 use super::slow::{Slow, pattern, stand_at};
 use outside::{Failed, Feed, WriteBuffer};
-use std::alloc::{AllocError, Global};
+use std::alloc::Global;
 use std::process::Abort;
 use std::test::Fail;
 
@@ -63,7 +63,7 @@ fn expect_fed(
     folder: &mut Slow,
     cases: &[Case],
     cleared: &[Case],
-) -> Result<(), AllocError> {
+) -> Result<(), Fail> {
     let mut feed = Feed::new(alloc)?;
     expect_none(rt, &feed);
     expect_each(rt, &mut feed, folder, "a", cases);
@@ -89,8 +89,7 @@ static BY_SHORT_READS: [Case; 8] = cases! {
 #[test]
 fn a_feed_over_short_reads(rt: HostRuntime) -> Result<(), Fail> {
     let mut folder = Slow::new(rt.alloc(), 70_000, 1000, 11)?;
-    expect_fed(&rt, rt.alloc(), &mut folder, &BY_SHORT_READS, &[])?;
-    Ok(())
+    expect_fed(&rt, rt.alloc(), &mut folder, &BY_SHORT_READS, &[])
 }
 
 // Reads as long as they are asked for: one for the first 65,536 bytes, and one for those after.
@@ -110,8 +109,7 @@ static CLEARED: [Case; 2] = cases! {
 #[test]
 fn a_feed_over_long_reads(rt: HostRuntime) -> Result<(), Fail> {
     let mut folder = Slow::new(rt.alloc(), 200_000, 200_000, 0)?;
-    expect_fed(&rt, rt.alloc(), &mut folder, &BY_LONG_READS, &CLEARED)?;
-    Ok(())
+    expect_fed(&rt, rt.alloc(), &mut folder, &BY_LONG_READS, &CLEARED)
 }
 
 // Some bytes of a pattern that are pushed, and how many writes there were by then.
@@ -193,11 +191,7 @@ fn expect_failed(rt: &impl Abort, buffer: &mut WriteBuffer, folder: &mut Slow, s
     finish(rt, buffer, folder, source, Ok(()));
 }
 
-fn expect_short_writes(
-    rt: &impl Abort,
-    alloc: Global,
-    folder: &mut Slow,
-) -> Result<(), AllocError> {
+fn expect_short_writes(rt: &impl Abort, alloc: Global, folder: &mut Slow) -> Result<(), Fail> {
     let source = pattern(alloc, 200_000)?;
     let mut buffer = WriteBuffer::new(alloc)?;
     expect_written(rt, &mut buffer, folder, &source);
@@ -208,6 +202,5 @@ fn expect_short_writes(
 #[test]
 fn a_buffer_over_short_writes(rt: HostRuntime) -> Result<(), Fail> {
     let mut folder = Slow::new(rt.alloc(), 0, 40_000, 8)?;
-    expect_short_writes(&rt, rt.alloc(), &mut folder)?;
-    Ok(())
+    expect_short_writes(&rt, rt.alloc(), &mut folder)
 }
