@@ -1,9 +1,9 @@
 //! Words that no form takes, and the place of the first bad one, counted from 1.
 
-use crate::tests::reading::{bad_word, first_unlike, join_words, split_words};
+use crate::tests::reading::{bad_word, join_words, split_words};
 use std::test::Fail;
 
-static ROWS: &str = "
+pub static ROWS: &str = "
 # No number of steps.
 gain -s s -g 300 a b => bad word 5
 gain -s s -g 256 a b => bad word 5
@@ -101,12 +101,6 @@ cut --least --least a 0 1 b => bad word 3
 pack --least a b => bad word 2
 pack a => bad word 3
 ";
-
-#[test]
-fn bad_words(rt: HostRuntime) -> Result<(), Fail> {
-    assert_eq!(rt; first_unlike(rt.alloc(), ROWS)?, None);
-    Ok(())
-}
 
 /// A split has at most 100 positions, and a join at most 64 inputs.
 #[test]

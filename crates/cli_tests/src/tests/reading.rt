@@ -1,7 +1,9 @@
 //! Lists of words, and how they are read.
 
+use super::{bad_words, words_read};
 use mp3_cli::job;
 use std::alloc::{AllocError, Global};
+use std::test::Fail;
 
 pub fn owned(alloc: Global, words: &[&str]) -> Result<Vec<String>, AllocError> {
     let mut owned = Vec::new(alloc);
@@ -74,7 +76,7 @@ fn unlike_in(alloc: Global, line: &str) -> Result<Option<String>, AllocError> {
 
 /// The first words that are read otherwise than a line says, and how they are read. Each line has words and `=> `, and then what they
 /// ask for, or which word is bad.
-pub fn first_unlike(alloc: Global, rows: &str) -> Result<Option<String>, AllocError> {
+fn first_unlike(alloc: Global, rows: &str) -> Result<Option<String>, AllocError> {
     for line in rows.lines() {
         let unlike = unlike_in(alloc, line)?;
         if unlike.is_some() {
@@ -82,4 +84,12 @@ pub fn first_unlike(alloc: Global, rows: &str) -> Result<Option<String>, AllocEr
         }
     }
     Ok(None)
+}
+
+/// The words that have a form, and those that none takes.
+#[test]
+fn words(rt: HostRuntime) -> Result<(), Fail> {
+    assert_eq!(rt; first_unlike(rt.alloc(), words_read::ROWS)?, None);
+    assert_eq!(rt; first_unlike(rt.alloc(), bad_words::ROWS)?, None);
+    Ok(())
 }

@@ -1,12 +1,12 @@
 //! Words that have a form, and what they ask for.
 
-use crate::tests::reading::{first_unlike, join_words, split_words};
+use crate::tests::reading::{join_words, split_words};
 use arrayvec::ArrayVec;
 use cue_sheet::Place;
 use mp3_cli::{Job, job};
 use std::test::Fail;
 
-static ROWS: &str = "
+pub static ROWS: &str = "
 # Steps.
 gain -s s -g 3 a ./-b => Gain { shift: Shift { channels: Both, steps: 3, wrap: false }, tags: false, input: \"a\", output: \"./-b\" }
 gain -s s -g +007 a ./-b => Gain { shift: Shift { channels: Both, steps: 7, wrap: false }, tags: false, input: \"a\", output: \"./-b\" }
@@ -56,12 +56,6 @@ cut --least a 0.0 1.02.5 b => Cut { from: Time(0, 100), to: Time(6205, 100), lea
 split a p -c s => SplitBy { input: \"a\", prefix: \"p\", sheet: \"s\" }
 split a p 0.0 7 EOF => SplitAt { input: \"a\", prefix: \"p\", places: [Time(0, 100), Frame(7), End] }
 ";
-
-#[test]
-fn words_of_each_form(rt: HostRuntime) -> Result<(), Fail> {
-    assert_eq!(rt; first_unlike(rt.alloc(), ROWS)?, None);
-    Ok(())
-}
 
 #[test]
 fn the_most_places(rt: HostRuntime) -> Result<(), Fail> {
