@@ -1,53 +1,41 @@
--- How far words follow kinds, one word after another, and what they say.
-use Rattle.std.proofs.Common.{◌≡◌, ℕ, zero, suc, ◌+◌, ◌<◌, ◌≤◌, ◌⊎◌, List, [], ◌∷◌, ◌++◌, length, get_or, drop, map, replicate, Option, Some, None, refl, ap, sym, ◌∙◌, inl, inr, arith, append_assoc, append-nil}
-use Rattle.std.proofs.lemmas.List.{get_or-map, length-map}
-use Rattle.job_words.specs.Kinds.{Kind, Said, said, said_first, values_of}
+-- How many kinds there are, how far words follow them, and what they say.
+use Rattle.std.proofs.Common.{◌≡◌, ℕ, zero, suc, ◌+◌, ◌-◌, ◌<◌, ◌≤◌, is_some, cond, List, [], ◌∷◌, ◌++◌, length, get_or, drop, map, min, replicate, Option, Some, None, refl, ap, sym, ◌∙◌, arith, length-append, append-nil}
+use Rattle.std.specs.List.{common_prefix_len}
+use Rattle.std.proofs.lemmas.List.{drop_more, drop_all, get_or-map, length-map, length-replicate}
+use Rattle.job_words.specs.Kinds.{Kind, Said, said, said_first, values_of, fits_kind}
+use Rattle.job_words.specs.Forms.{Form, kinds_behind}
 
-from_there : (kinds : List Kind) (words : List (List ℕ)) (i : ℕ) (c : Kind) → i < length kinds → i < length words → (o : Option Said) → said (get_or kinds i c) (get_or words i []) ≡ o
-    → values_of (drop i kinds) (drop i words) ≡ said_first o (values_of (drop (suc i) kinds) (drop (suc i) words))
-from_there [] words i c in_kinds in_words o is = absurd (omega (arith, in_kinds))
-from_there (kind ∷ kinds) [] i c in_kinds in_words o is = absurd (omega (arith, in_words))
-from_there (kind ∷ kinds) (word ∷ words) zero c in_kinds in_words o is = rw is refl
-from_there (kind ∷ kinds) (word ∷ words) (suc i) c in_kinds in_words o is = from_there kinds words i c (omega (arith, in_kinds)) (omega (arith, in_words)) o is
-
-none_left : (kinds : List Kind) (words : List (List ℕ)) (i : ℕ) → (length kinds ≤ i) ⊎ (length words ≤ i) → values_of (drop i kinds) (drop i words) ≡ []
-none_left [] words zero end = refl
-none_left [] words (suc i) end = refl
-none_left (kind ∷ kinds) [] zero end = refl
-none_left (kind ∷ kinds) [] (suc i) end = no_words (drop i kinds)
-  where
-    no_words : (kinds : List Kind) → values_of kinds [] ≡ []
-    no_words [] = refl
-    no_words (kind ∷ kinds) = refl
-none_left (kind ∷ kinds) (word ∷ words) zero end = absurd (omega (arith, end))
-none_left (kind ∷ kinds) (word ∷ words) (suc i) end =
-    none_left kinds words i (elim end as (λ _. (length kinds ≤ i) ⊎ (length words ≤ i)) [ inl le ↦ inl (omega (arith, le)) | inr le ↦ inr (omega (arith, le)) ])
-
--- what the code has read so far, and what is left
-module _ {K W : Type 0} (kind_of : K → Kind) (word_of : W → List ℕ) (kinds : List K) (words : List W) (so_far : List Said) (i : ℕ)
-    (before : so_far ++ values_of (drop i (map kind_of kinds)) (drop i (map word_of words)) ≡ values_of (map kind_of kinds) (map word_of words)) where
-  module _ (c : K) (d : W) (word : List ℕ) (in_kinds : i < length kinds) (in_words : i < length words) (word-is : word ≡ word_of (get_or words i d)) where
-    there : (o : Option Said) → said (kind_of (get_or kinds i c)) word ≡ o
-        → values_of (drop i (map kind_of kinds)) (drop i (map word_of words)) ≡ said_first o (values_of (drop (i + 1) (map kind_of kinds)) (drop (i + 1) (map word_of words)))
-    there o is =
-        let next : i + 1 ≡ suc i = omega arith in
-        rw next
-        (from_there (map kind_of kinds) (map word_of words) i (kind_of c) (rw length-map in_kinds) (rw length-map in_words) o
-        (rw (get_or-map kind_of kinds i c (kind_of c) in_kinds, get_or-map word_of words i d [] in_words, ← word-is) is))
-
-    pub goes_on : (value : Said) → said (kind_of (get_or kinds i c)) word ≡ Some value
-        → (so_far ++ value ∷ []) ++ values_of (drop (i + 1) (map kind_of kinds)) (drop (i + 1) (map word_of words)) ≡ values_of (map kind_of kinds) (map word_of words)
-    goes_on value is = append_assoc so_far (value ∷ []) _ ∙ ap (λ (rest : List Said). so_far ++ rest) (sym (there (Some value) is)) ∙ before
-
-    pub stops : said (kind_of (get_or kinds i c)) word ≡ None → so_far ≡ values_of (map kind_of kinds) (map word_of words)
-    stops is = sym (append-nil so_far) ∙ ap (λ (rest : List Said). so_far ++ rest) (sym (there None is)) ∙ before
-
-  pub ends : (length kinds ≤ i) ⊎ (length words ≤ i) → so_far ≡ values_of (map kind_of kinds) (map word_of words)
-  ends end =
-      let end_there : (length (map kind_of kinds) ≤ i) ⊎ (length (map word_of words) ≤ i) =
-      elim end as (λ _. (length (map kind_of kinds) ≤ i) ⊎ (length (map word_of words) ≤ i)) [ inl le ↦ inl (rw length-map le) | inr le ↦ inr (rw length-map le) ] in
-      sym (append-nil so_far) ∙ ap (λ (rest : List Said). so_far ++ rest) (sym (none_left (map kind_of kinds) (map word_of words) i end_there)) ∙ before
+pub length-kinds_behind : (form : Form) (count : ℕ) → length (kinds_behind form count) ≡ length form.kinds + min form.more (count - length form.kinds)
+length-kinds_behind form count = rw (length-append, length-replicate) refl
 
 pub map-replicate : {X Y : Type 0} (f : X → Y) (n : ℕ) (x : X) → map f (replicate n x) ≡ replicate n (f x)
 map-replicate f zero x = refl
 map-replicate {Y = Y} f (suc n) x = ap (λ (list : List Y). f x ∷ list) (map-replicate f n x)
+
+-- as many values as words follow the kinds
+pub length-values_of : (kinds : List Kind) (words : List (List ℕ)) → length (values_of kinds words) ≡ common_prefix_len fits_kind kinds words
+length-values_of [] words = refl
+length-values_of (kind ∷ kinds) [] = refl
+length-values_of (kind ∷ kinds) (word ∷ words) =
+    elim (said kind word) as (λ o. length (said_first o (values_of kinds words)) ≡ cond (is_some o) (1 + common_prefix_len fits_kind kinds words) 0) [
+      | Some value ↦ omega (arith, length-values_of kinds words)
+      | None ↦ refl
+    ]
+
+no_words : (kinds : List Kind) → values_of kinds [] ≡ []
+no_words [] = refl
+no_words (kind ∷ kinds) = refl
+
+-- what the code has read so far, and what is left
+module _ {K W : Type 0} (kind_of : K → Kind) (word_of : W → List ℕ) (kinds : List K) (words : List W) (so_far : List Said) (i : ℕ)
+    (before : so_far ++ values_of (drop i (map kind_of kinds)) (drop i (map word_of words)) ≡ values_of (map kind_of kinds) (map word_of words)) where
+  pub goes_on : (c : K) (d : W) (word : List ℕ) (o : Option Said) → i < length kinds → i < length words → word ≡ word_of (get_or words i d) → said (kind_of (get_or kinds i c)) word ≡ o
+      → so_far ++ said_first o (values_of (drop (i + 1) (map kind_of kinds)) (drop (i + 1) (map word_of words))) ≡ values_of (map kind_of kinds) (map word_of words)
+  goes_on c d word o in_kinds in_words word-is is =
+      let says : said (get_or (map kind_of kinds) i (kind_of c)) (get_or (map word_of words) i []) ≡ o = rw (get_or-map kind_of kinds i c (kind_of c) in_kinds, get_or-map word_of words i d [] in_words, ← word-is) is in
+      rw (drop_more (map kind_of kinds) i (kind_of c) (rw length-map in_kinds), drop_more (map word_of words) i [] (rw length-map in_words), says) at before
+
+  pub ends : length words ≤ i → so_far ≡ values_of (map kind_of kinds) (map word_of words)
+  ends end =
+      let none : values_of (drop i (map kind_of kinds)) (drop i (map word_of words)) ≡ [] = rw (drop_all i (map word_of words) (rw length-map end)) (no_words (drop i (map kind_of kinds))) in
+      sym (append-nil so_far) ∙ ap (λ (rest : List Said). so_far ++ rest) (sym none) ∙ before

@@ -1,153 +1,120 @@
--- Searches, members and agreeing prefixes of lists.
-use Rattle.std.proofs.Common.{◌≡◌, ℕ, zero, suc, ◌+◌, ◌<◌, ◌≤◌, ◌⊎◌, ◌&&◌, Bool, true, false, cond, List, [], ◌∷◌, ◌++◌, length, get_or, take, drop, map, Some, None, refl, sym, subst, inl, inr, arith}
-use Rattle.std.specs.Prelude.{find, Contains}
-use Rattle.std.specs.List.{All, common_prefix_len, filter, flat_map}
+-- Searches, members, greatest numbers and agreeing lists.
+use Rattle.std.proofs.Common.{◌≡◌, ◌↔◌, ℕ, zero, suc, ◌+◌, ◌≤◌, ◌⊎◌, ◌&&◌, Bool, true, false, cond, List, [], ◌∷◌, ◌++◌, length, take, drop, map, replicate, max, min, Some, None, refl, sym, ap, ◌∙◌, subst, inl, inr, arith}
+use Rattle.std.specs.Prelude.{find, fold, Contains}
+use Rattle.std.specs.List.{All, AllZip, common_prefix_len, flat_map, position_or_len, slice_get}
 use Rattle.std.specs.Cmp.Lexicographic.{pointwise}
-use Rattle.std.proofs.lemmas.List.Elements.{All-nil, All-append, All-contains, All-contains_itself, All-filter, Contains-append_left, Contains-append_right}
+use Rattle.std.proofs.lemmas.Bool.{and_parts, cases_lt}
+use Rattle.std.proofs.lemmas.Grind.{common_steps}
+use Rattle.std.proofs.lemmas.List.{get_or-map, length-map}
+use Rattle.std.proofs.lemmas.List.Elements.{All-nil, All-cons, All-append, All-contains, Contains-append_left, Contains-append_right}
+use Rattle.std.proofs.lemmas.List.Folds.{find_at}
+use Rattle.std.proofs.lemmas.List.Sums.{passes_at_first, fails_before_first, fold-append}
+use Rattle.std.proofs.lemmas.Option.{slice_get_within, get_or_from_slice_get, gets}
 
 -- ---- searches
 
 -- what a search finds
 pub found : {X : Type 0} (p : X → Bool) (xs : List X) (x : X) → find p xs ≡ Some x → Contains xs x × (p x ≡ true)
-found p [] x e = absurd cc
-found p (y ∷ ys) x e =
-    elim (p y) as (λ b. p y ≡ b → cond b (Some y) (find p ys) ≡ Some x → Contains (y ∷ ys) x × (p x ≡ true)) [
-      | true ↦ λ here e'. let same : y ≡ x = cc in ((0, omega arith, same), subst (λ z. p z ≡ true) same here)
-      | false ↦ λ other e'. let rest = found p ys x e' in ((suc rest.0.0, omega (arith, rest.0.1), rest.0.2), rest.1)
-    ] refl e
-
-pub not_found : {X : Type 0} (p : X → Bool) (xs : List X) → find p xs ≡ None → (k : ℕ) (d : X) → k < length xs → p (get_or xs k d) ≡ false
-not_found p [] e k d lt = absurd (omega (arith, lt))
-not_found p (y ∷ ys) e k d lt =
-    elim (p y) as (λ b. p y ≡ b → cond b (Some y) (find p ys) ≡ None → p (get_or (y ∷ ys) k d) ≡ false) [
-      | true ↦ λ here e'. absurd cc
-      | false ↦ λ other e'. elim k as (λ i. i < length (y ∷ ys) → p (get_or (y ∷ ys) i d) ≡ false) [ zero ↦ λ lt'. other | suc i ↦ λ lt'. not_found p ys e' i d (omega (arith, lt')) ] lt
-    ] refl e
+found p xs x e =
+    let there : slice_get xs (position_or_len p xs) ≡ Some x = sym (find_at p xs) ∙ e in
+    let member : Contains xs x = (position_or_len p xs, slice_get_within xs (position_or_len p xs) x there, get_or_from_slice_get xs (position_or_len p xs) x x there) in
+    (member, grind (arith, common_steps, gets, find_at p xs, passes_at_first p xs))
 
 -- a member doesn't pass where the search finds nothing
 pub none_is : {X : Type 0} (p : X → Bool) (xs : List X) (x : X) → find p xs ≡ None → Contains xs x → p x ≡ false
-none_is p xs x none member = subst (λ y. p y ≡ false) member.2 (not_found p xs none member.0 x member.1)
+none_is p xs x none member = grind (arith, common_steps, gets, find_at p xs, fails_before_first p xs)
 
--- the search finds the first that passes
-pub found_at : {X : Type 0} (p : X → Bool) (xs : List X) (i : ℕ) (d : X) → i < length xs → find p (take i xs) ≡ None → p (get_or xs i d) ≡ true → find p xs ≡ Some (get_or xs i d)
-found_at p [] i d lt none here = absurd (omega (arith, lt))
-found_at p (x ∷ xs) zero d lt none here = rw here refl
-found_at p (x ∷ xs) (suc i) d lt none here =
-    elim (p x) as (λ b. cond b (Some x) (find p (take i xs)) ≡ None → cond b (Some x) (find p xs) ≡ Some (get_or xs i d)) [
-      | true ↦ λ none'. absurd cc
-      | false ↦ λ none'. found_at p xs i d (omega (arith, lt)) none' here
-    ] none
-
-none_after : {X : Type 0} (p : X → Bool) (xs : List X) (i : ℕ) (d : X) → i < length xs → find p (take i xs) ≡ None → p (get_or xs i d) ≡ false → find p (take (suc i) xs) ≡ None
-none_after p [] i d lt none other = absurd (omega (arith, lt))
-none_after p (x ∷ xs) zero d lt none other = rw other refl
-none_after p (x ∷ xs) (suc i) d lt none other =
-    elim (p x) as (λ b. cond b (Some x) (find p (take i xs)) ≡ None → cond b (Some x) (find p (take (suc i) xs)) ≡ None) [
-      | true ↦ λ none'. absurd cc
-      | false ↦ λ none'. none_after p xs i d (omega (arith, lt)) none' other
-    ] none
-
-pub none_more : {X : Type 0} (p : X → Bool) (xs : List X) (i : ℕ) (d : X) → i < length xs → find p (take i xs) ≡ None → p (get_or xs i d) ≡ false → find p (take (i + 1) xs) ≡ None
-none_more p xs i d lt none other =
-    let next : i + 1 ≡ suc i = omega arith in
-    rw next (none_after p xs i d lt none other)
+-- the search finds the one member that may pass, if it does
+pub only_one : {X : Type 0} (p : X → Bool) (xs : List X) (best : X) → Contains xs best → All (λ x. p x ≡ true → x ≡ best) xs → find p xs ≡ cond (p best) (Some best) None
+only_one p xs best member only =
+    elim (find p xs) as (λ o. find p xs ≡ o → o ≡ cond (p best) (Some best) None) [
+      | None ↦ λ none. rw (none_is p xs best none member) refl
+      | Some x ↦ λ is.
+          let first = found p xs x is in
+          let same : x ≡ best = All-contains (λ x. p x ≡ true → x ≡ best) xs x only first.0 first.1 in
+          rw (← same, first.1) refl
+    ] refl
 
 -- ---- members
 
-pub contains_first : {X : Type 0} (x : X) (xs : List X) → Contains (x ∷ xs) x
-contains_first x xs = (0, omega arith, refl)
-
-pub contains_later : {X : Type 0} (y : X) (xs : List X) (x : X) → Contains xs x → Contains (y ∷ xs) x
-contains_later y xs x member = (suc member.0, omega (arith, member.1), member.2)
-
-pub contains_cases : {X : Type 0} (y : X) (ys : List X) (x : X) → Contains (y ∷ ys) x → (y ≡ x) ⊎ Contains ys x
-contains_cases y ys x member =
-    elim member.0 as (λ k. k < length (y ∷ ys) → get_or (y ∷ ys) k x ≡ x → (y ≡ x) ⊎ Contains ys x) [
-      | zero ↦ λ lt is. inl is
-      | suc k ↦ λ lt is. inr (k, omega (arith, lt), is)
-    ] member.1 member.2
-
 pub contains_map : {X Y : Type 0} (f : X → Y) (xs : List X) (x : X) → Contains xs x → Contains (map f xs) (f x)
-contains_map f [] x member = absurd (omega (arith, member.1))
-contains_map f (y ∷ ys) x member =
-    elim (contains_cases y ys x member) [
-      | inl same ↦ subst (λ z. Contains (f y ∷ map f ys) (f z)) same (contains_first (f y) (map f ys))
-      | inr later ↦ contains_later (f y) (map f ys) (f x) (contains_map f ys x later)
-    ]
+contains_map f xs x member = (member.0, rw length-map member.1, get_or-map f xs member.0 x (f x) member.1 ∙ ap f member.2)
 
 pub contains_flat_map : {X Y : Type 0} (f : X → List Y) (xs : List X) (x : X) (y : Y) → Contains xs x → Contains (f x) y → Contains (flat_map f xs) y
 contains_flat_map f [] x y member inner = absurd (omega (arith, member.1))
-contains_flat_map f (z ∷ zs) x y member inner =
-    elim (contains_cases z zs x member) [
-      | inl same ↦ Contains-append_left (f z) (flat_map f zs) y (subst (λ w. Contains (f w) y) (sym same) inner)
-      | inr later ↦ Contains-append_right (f z) (flat_map f zs) y (contains_flat_map f zs x y later inner)
-    ]
+contains_flat_map f (z ∷ zs) x y (zero, within, at) inner = Contains-append_left (f z) (flat_map f zs) y (subst (λ w. Contains (f w) y) (sym at) inner)
+contains_flat_map f (z ∷ zs) x y (suc k, within, at) inner = Contains-append_right (f z) (flat_map f zs) y (contains_flat_map f zs x y (k, omega (arith, within), at) inner)
 
 pub all_flat_map : {X Y : Type 0} (P : Y → Type 0) (f : X → List Y) (xs : List X) → ((x : X) → Contains xs x → All P (f x)) → All P (flat_map f xs)
 all_flat_map P f [] each = All-nil P
 all_flat_map P f (x ∷ xs) each =
-    All-append P (f x) (flat_map f xs) (each x (contains_first x xs)) (all_flat_map P f xs (λ y member. each y (contains_later x xs y member)))
+    All-append P (f x) (flat_map f xs) (each x (0, omega arith, refl)) (all_flat_map P f xs (λ y member. each y (Contains-append_right (x ∷ []) xs y member)))
 
-pub contains_filter : {X : Type 0} (p : X → Bool) (xs : List X) (x : X) → Contains (filter p xs) x → Contains xs x
-contains_filter p xs x member = All-contains (Contains xs) (filter p xs) x (All-filter p (Contains xs) xs (All-contains_itself xs)) member
+-- ---- the greatest of numbers: it is at least the first and each other, and is one of them
 
--- ---- how far two lists agree
+module _ {X : Type 0} (f : X → ℕ) where
+  pub bounds : (a : ℕ) (xs : List X) → (a ≤ fold max a (map f xs)) × All (λ x. f x ≤ fold max a (map f xs)) xs
+  bounds a [] = (omega arith, All-nil _)
+  bounds a (x ∷ xs) = let rest = bounds (max a (f x)) xs in (omega (arith, rest.0), All-cons (λ y. f y ≤ fold max (max a (f x)) (map f xs)) x xs (omega (arith, rest.0)) rest.1)
 
--- of two lists after the same prefix, the one that agrees further does so with the prefix too
-pub further : {X Y : Type 0} (e : X → Y → Bool) (front xs ys : List X) (zs : List Y) → common_prefix_len e xs (drop (length front) zs) ≤ common_prefix_len e ys (drop (length front) zs)
-    → common_prefix_len e (front ++ xs) zs ≤ common_prefix_len e (front ++ ys) zs
-further e [] xs ys zs le = le
-further e (x ∷ front) xs ys [] le = omega arith
-further e (x ∷ front) xs ys (z ∷ zs) le =
-    elim (e x z) as (λ b. cond b (1 + common_prefix_len e (front ++ xs) zs) 0 ≤ cond b (1 + common_prefix_len e (front ++ ys) zs) 0) [
-      | true ↦ omega (arith, further e front xs ys zs le)
-      | false ↦ omega arith
-    ]
+  pub reached : (a : ℕ) (xs : List X) → (fold max a (map f xs) ≡ a) ⊎ ((x : X) × Contains xs x × (f x ≡ fold max a (map f xs)))
+  reached a [] = inl refl
+  reached a (x ∷ xs) =
+      elim (reached (max a (f x)) xs) [
+        | inl same ↦ elim (cases_lt a (f x)) [ inl lt ↦ inr (x, (0, omega arith, refl), omega (arith, same)) | inr le ↦ inl (omega (arith, same)) ]
+        | inr at ↦ inr (at.0, Contains-append_right (x ∷ []) xs at.0 at.1, at.2)
+      ]
 
--- where a whole list agrees, so does the rest after a prefix
-pub rest_agrees : {X Y : Type 0} (e : X → Y → Bool) (front xs : List X) (zs : List Y) → pointwise e (front ++ xs) zs ≡ true → pointwise e xs (drop (length front) zs) ≡ true
-rest_agrees e [] xs zs all = all
-rest_agrees e (x ∷ front) xs [] all = absurd cc
-rest_agrees e (x ∷ front) xs (z ∷ zs) all =
-    elim (e x z) as (λ b. (b && pointwise e (front ++ xs) zs) ≡ true → pointwise e xs (drop (length front) zs) ≡ true) [
-      | true ↦ λ all'. rest_agrees e front xs zs all'
-      | false ↦ λ all'. absurd cc
-    ] all
+  pub greatest_is : (xs : List X) (x : X) → Contains xs x → All (λ y. f y ≤ f x) xs → fold max 0 (map f xs) ≡ f x
+  greatest_is xs x member all =
+      let least : f x ≤ fold max 0 (map f xs) = All-contains (λ y. f y ≤ fold max 0 (map f xs)) xs x (bounds 0 xs).1 member in
+      elim (reached 0 xs) [ inl nought ↦ omega (arith, nought, least) | inr at ↦ omega (arith, at.2, least, All-contains (λ y. f y ≤ f x) xs at.0 all at.1) ]
 
--- lists that agree as far as both reach agree
-pub all_of_both : {X Y : Type 0} (e : X → Y → Bool) (xs : List X) (ys : List Y) → common_prefix_len e xs ys ≡ length ys → common_prefix_len e xs ys ≡ length xs → pointwise e xs ys ≡ true
-all_of_both e [] [] p q = refl
-all_of_both e [] (y ∷ ys) p q = absurd (omega (arith, p))
-all_of_both e (x ∷ xs) [] p q = absurd (omega (arith, q))
-all_of_both e (x ∷ xs) (y ∷ ys) p q =
-    elim (e x y) as (λ b. cond b (1 + common_prefix_len e xs ys) 0 ≡ suc (length ys) → cond b (1 + common_prefix_len e xs ys) 0 ≡ suc (length xs) → (b && pointwise e xs ys) ≡ true) [
-      | true ↦ λ p' q'. all_of_both e xs ys (omega (arith, p')) (omega (arith, q'))
-      | false ↦ λ p' q'. absurd (omega (arith, p'))
-    ] p q
+pub greatest_append : (a : ℕ) (xs ys : List ℕ) → fold max a (xs ++ ys) ≡ max (fold max a xs) (fold max 0 ys)
+greatest_append a xs ys = fold-append max a xs ys ∙ from_there (fold max a xs) ys
+  where
+    from_there : (a : ℕ) (ys : List ℕ) → fold max a ys ≡ max a (fold max 0 ys)
+    from_there a [] = omega arith
+    from_there a (y ∷ ys) = omega (arith, from_there (max a y) ys, from_there (max 0 y) ys)
 
-pub both_of_all : {X Y : Type 0} (e : X → Y → Bool) (xs : List X) (ys : List Y) → pointwise e xs ys ≡ true → (common_prefix_len e xs ys ≡ length ys) × (common_prefix_len e xs ys ≡ length xs)
-both_of_all e [] [] p = (refl, refl)
-both_of_all e [] (y ∷ ys) p = absurd cc
-both_of_all e (x ∷ xs) [] p = absurd cc
-both_of_all e (x ∷ xs) (y ∷ ys) p =
-    elim (e x y) as (λ b. (b && pointwise e xs ys) ≡ true → (cond b (1 + common_prefix_len e xs ys) 0 ≡ suc (length ys)) × (cond b (1 + common_prefix_len e xs ys) 0 ≡ suc (length xs))) [
-      | true ↦ λ p'. let h = both_of_all e xs ys p' in (omega (arith, h.0), omega (arith, h.1))
-      | false ↦ λ p'. absurd cc
-    ] p
+-- ---- lists that agree, one for one
 
-pub no_front : {X Y : Type 0} (e : X → Y → Bool) (xs : List X) → common_prefix_len e xs [] ≡ 0
-no_front e [] = refl
-no_front e (x ∷ xs) = refl
+module _ {X Y : Type 0} (e : X → Y → Bool) where
+  -- they do exactly where they agree as far as both reach
+  pub whole : (xs : List X) (ys : List Y) → (pointwise e xs ys ≡ true) ↔ ((common_prefix_len e xs ys ≡ length xs) × (common_prefix_len e xs ys ≡ length ys))
+  whole [] [] = ((λ all. (refl, refl)), (λ both. refl))
+  whole [] (y ∷ ys) = ((λ all. absurd cc), (λ both. absurd (omega (arith, both.1))))
+  whole (x ∷ xs) [] = ((λ all. absurd cc), (λ both. absurd (omega (arith, both.0))))
+  whole (x ∷ xs) (y ∷ ys) =
+      let rest = whole xs ys in
+      elim (e x y) as (λ b. ((b && pointwise e xs ys) ≡ true) ↔ ((cond b (1 + common_prefix_len e xs ys) 0 ≡ suc (length xs)) × (cond b (1 + common_prefix_len e xs ys) 0 ≡ suc (length ys)))) [
+        | true ↦ ((λ all. let both = rest.0 all in (omega (arith, both.0), omega (arith, both.1))), (λ both. rest.1 (omega (arith, both.0), omega (arith, both.1))))
+        | false ↦ ((λ all. absurd cc), (λ both. absurd (omega (arith, both.0))))
+      ]
 
-pub every : {X : Type 0} (P : X → Type 0) → ((x : X) → P x) → (xs : List X) → All P xs
-every P f xs = λ k d lt. f (get_or xs k d)
+  pub common_prefix_len-take : (n : ℕ) (xs : List X) (ys : List Y) → common_prefix_len e (take n xs) (take n ys) ≡ min n (common_prefix_len e xs ys)
+  common_prefix_len-take zero xs ys = omega arith
+  common_prefix_len-take (suc n) [] ys = omega arith
+  common_prefix_len-take (suc n) (x ∷ xs) [] = omega arith
+  common_prefix_len-take (suc n) (x ∷ xs) (y ∷ ys) =
+      elim (e x y) as (λ b. cond b (1 + common_prefix_len e (take n xs) (take n ys)) 0 ≡ min (suc n) (cond b (1 + common_prefix_len e xs ys) 0)) [ true ↦ omega (arith, common_prefix_len-take n xs ys) | false ↦ omega arith ]
 
--- ---- both of two tests
+  pub zipped : (xs : List X) (ys : List Y) → pointwise e xs ys ≡ true → AllZip (λ x y. e x y ≡ true) xs ys
+  zipped [] [] all = tt
+  zipped [] (y ∷ ys) all = absurd cc
+  zipped (x ∷ xs) [] all = absurd cc
+  zipped (x ∷ xs) (y ∷ ys) all = let both = and_parts (e x y) (pointwise e xs ys) all in (both.0, zipped xs ys both.1)
 
-pub and_first : (x d : Bool) → (x && d) ≡ true → x ≡ true
-and_first true d h = refl
-and_first false d h = absurd cc
+module _ {X Y : Type 0} (R : X → Y → Type 0) where
+  pub zip_drop : (n : ℕ) (xs : List X) (ys : List Y) → AllZip R xs ys → AllZip R (drop n xs) (drop n ys)
+  zip_drop zero xs ys all = all
+  zip_drop (suc n) [] [] all = tt
+  zip_drop (suc n) [] (y ∷ ys) all = absurd all
+  zip_drop (suc n) (x ∷ xs) [] all = absurd all
+  zip_drop (suc n) (x ∷ xs) (y ∷ ys) all = zip_drop n xs ys all.1
 
-pub and_last : (x d : Bool) → (x && d) ≡ true → d ≡ true
-and_last true d h = h
-and_last false d h = absurd cc
+  pub zip_replicate : (n : ℕ) (x : X) (ys : List Y) → AllZip R (replicate n x) ys → All (R x) ys
+  zip_replicate zero x [] all = All-nil (R x)
+  zip_replicate zero x (y ∷ ys) all = absurd all
+  zip_replicate (suc n) x [] all = absurd all
+  zip_replicate (suc n) x (y ∷ ys) all = All-cons (R x) y ys all.0 (zip_replicate n x ys all.1)

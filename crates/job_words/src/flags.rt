@@ -1,6 +1,6 @@
 //! The flags of a form: words before its other words that may be left out, each at most once and in any order.
-ghost use Rattle.std.specs.Prelude.{◌≡◌, ◌≤◌, ◌+◌, length, map, drop, string_bytes, find};
-ghost use Rattle.job_words.specs.Flags.{flag_words, given_kinds, begins_flag, is_given as is_given_lem, without as without_lem, next_flag as next_flag_lem, given_in as given_in_lem};
+ghost use Rattle.std.specs.Prelude.{◌≡◌, ◌≤◌, length, map, drop, string_bytes, find};
+ghost use Rattle.job_words.specs.Flags.{flag_words, begins_flag, is_given as is_given_lem, without as without_lem, next_flag as next_flag_lem, given_in as given_in_lem};
 
 use arrayvec::ArrayVec;
 
@@ -63,18 +63,6 @@ pub(crate) fn is_given(given: &[Flag], flag: Flag) -> bool
         }
     }
     false
-}
-
-/// How many words a command's word and these flags have.
-pub(crate) fn front_count(given: &[Flag]) -> usize
-    requires { length given.now ≤ 4 }
-    ensures { result ≡ 1 + length (given_kinds given.now) }
-{
-    let mut count = 1;
-    for flag in given {
-        count += flag.words().len();
-    }
-    count
 }
 
 // Those that aren't this flag.

@@ -2,11 +2,11 @@
 ghost use Rattle.std.specs.Prelude.{◌≡◌, ◌≤◌, ◌+◌, ◌++◌, length, map, replicate, string_bytes, IfErr};
 ghost use Rattle.job_words.specs.Kinds.{said_at, name_at as name_at_lem, place_said, values_of};
 ghost use Rattle.job_words.specs.Flags.{flag_kinds};
-ghost use Rattle.job_words.specs.Forms.{shape_with, shapes_of, last_kind, kinds_behind, kinds_for, front_kinds as front_kinds_lem, gain_asked, pack_asked, reads_of, IsReadable};
+ghost use Rattle.job_words.specs.Forms.{shapes_of, last_kind, kinds_behind, front_kinds as front_kinds_lem, gain_asked, pack_asked, reads_of, IsReadable};
 ghost use Rattle.job_words.specs.Words.{reading};
 ghost use Rattle.job_words.specs.Code.{word_kind, value_said, form_given, asked, answer};
 
-use crate::flags::{Flag, behind, front_count, given_in, is_given};
+use crate::flags::{Flag, behind, given_in, is_given};
 use crate::jobs::Job;
 use crate::kinds::{Value, WordKind};
 use arrayvec::ArrayVec;
@@ -298,19 +298,6 @@ impl Form {
         repeat(kinds, last_of(self.kinds), more);
     }
 
-    // The kinds of `count` words, with these flags.
-    fn kinds_for(&self, given: &[Flag], count: usize) -> Kinds
-        requires few { length given.now ≤ 4 }
-        requires readable { IsReadable (form_given self.now) }
-        ensures { map word_kind result.items ≡ kinds_for
-            (shape_with (form_given self.now) given.now) count }
-    {
-        let mut kinds = front_kinds(self.command, given);
-        let front = kinds.len();
-        self.append_behind(&mut kinds, count.saturating_sub(front));
-        kinds
-    }
-
     /// What the words ask for by this form, or the place of the first word, counted from 1, that it doesn't take.
     pub(crate) fn read<'a>(&self, words: &'a [String]) -> Result<Job<'a>, usize>
         requires { IsReadable (form_given self.now) }
@@ -318,20 +305,20 @@ impl Form {
             (map string_bytes words.now) }
         ensures few { IfErr result (λ place. place ≤ 113) }
     {
-        let given = given_in(self.flags, words);
-        let kinds = self.kinds_for(given.as_slice(), words.len());
-        let values = follow(words, kinds.as_slice());
+        let flags = given_in(self.flags, words);
+        let given = flags.as_slice();
+        let mut kinds = front_kinds(self.command, given);
+        let front = kinds.len();
+        self.append_behind(&mut kinds, words.len().saturating_sub(front));
+        let read = follow(words, kinds.as_slice());
+        let values = read.as_slice();
         let count = values.len();
         if count < words.len() || count < kinds.len() {
             return Err(count + 1);
         }
-        let front = front_count(given.as_slice());
         Ok(
-            self.asks.job(
-                given.as_slice(),
-                behind(values.as_slice(), front),
-                behind(words, front),
-            ),
+            self.asks
+                .job(given, behind(values, front), behind(words, front)),
         )
     }
 }
