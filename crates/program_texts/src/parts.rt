@@ -1,5 +1,5 @@
 //! Lines as lists of parts, and how they are sent.
-ghost use Rattle.std.specs.Prelude.{◌≡◌, ◌≤◌, ◌<◌, ◌+◌, ◌%◌, ◌++◌, ◌∷◌, [], OnOk, OnErr, codes, length, map, flat_map};
+ghost use Rattle.std.specs.Prelude.{◌≡◌, ◌≤◌, ◌<◌, ◌+◌, ◌%◌, ◌++◌, ◌∷◌, [], OnOk, OnErr, length, map, flat_map};
 ghost use Rattle.splitting.specs.Split.{piece_name as piece_name_lem};
 ghost use Rattle.program_texts.specs.Lines.{hex_digit as hex_digit_lem, hex_word, Text, Number, Name, spelled_part, spelled, part_of};
 ghost use Rattle.program_texts.specs.Texts.{GotWhole, GotFront, GotLine};
@@ -52,23 +52,23 @@ pub(crate) fn text_line(text: &str) -> Line<'_>
     line(&[Part::Text(text)])
 }
 
-/// A line of a text and a number.
-pub(crate) fn number_line(text: &str, number: u64) -> Line<'_>
-    ensures { map part_of result.items ≡ Text text.now ∷ Number number ∷ Text (codes "\n") ∷ [] }
+/// A line of a number between two texts.
+pub(crate) fn number_line<'a>(text: &'a str, number: u64, end: &'a str) -> Line<'a>
+    ensures { map part_of result.items ≡ Text text.now ∷ Number number ∷ Text end.now ∷ [] }
 {
-    line(&[Part::Text(text), Part::Number(number), Part::Text("\n")])
+    line(&[Part::Text(text), Part::Number(number), Part::Text(end)])
 }
 
-/// A line of a name, a text and a number.
-pub(crate) fn named_line<'a>(name: &'a str, text: &'a str, number: u64) -> Line<'a>
+/// A line of a name, and a number between two texts.
+pub(crate) fn named_line<'a>(name: &'a str, text: &'a str, number: u64, end: &'a str) -> Line<'a>
     ensures { map part_of result.items
-        ≡ Name name.now ∷ Text text.now ∷ Number number ∷ Text (codes "\n") ∷ [] }
+        ≡ Name name.now ∷ Text text.now ∷ Number number ∷ Text end.now ∷ [] }
 {
     line(&[
         Part::Name(name),
         Part::Text(text),
         Part::Number(number),
-        Part::Text("\n"),
+        Part::Text(end),
     ])
 }
 

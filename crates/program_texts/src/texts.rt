@@ -95,6 +95,7 @@ fn say<T: Sink>(out: &mut T, pieces: &[&str]) -> Result<(), EditFault>
 ///
 /// # Errors
 /// `Sent` where a write failed; then a prefix of the text was sent.
+#[tactic(auto, unfolding(crate::specs::Texts::help_text))]
 pub fn say_help<T: Sink>(out: &mut T) -> Result<(), EditFault>
     ensures says { (files : Files) → Says (said_command help_text) files
         (heard (T.sent out.old) (T.faults out.old)) (heard (T.sent out.new) (T.faults out.new))
@@ -108,6 +109,7 @@ pub fn say_help<T: Sink>(out: &mut T) -> Result<(), EditFault>
 ///
 /// # Errors
 /// `Sent` where a write failed; then a prefix of the text was sent.
+#[tactic(auto, unfolding(crate::specs::Texts::version_text))]
 pub fn say_version<T: Sink>(out: &mut T) -> Result<(), EditFault>
     ensures says { (files : Files) → Says (said_command version_text) files
         (heard (T.sent out.old) (T.faults out.old)) (heard (T.sent out.new) (T.faults out.new))
@@ -123,17 +125,12 @@ fn input_parts<'a>(name: &'a str, fault: &SurveyFault) -> Line<'a>
 {
     match *fault {
         SurveyFault::Absent => line(&[Part::Name(name), Part::Text(": absent\n")]),
-        SurveyFault::TooLong(size) => line(&[
-            Part::Name(name),
-            Part::Text(": too long, "),
-            Part::Number(size),
-            Part::Text(" bytes\n"),
-        ]),
-        SurveyFault::NoFrame(at) => named_line(name, ": no frame at ", at),
-        SurveyFault::LostSync(at) => named_line(name, ": lost synchronisation at ", at),
-        SurveyFault::Truncated(at) => named_line(name, ": truncated at ", at),
-        SurveyFault::FreeFormat(at) => named_line(name, ": free format at ", at),
-        SurveyFault::Mixed(at) => named_line(name, ": mixed class at ", at),
+        SurveyFault::TooLong(size) => named_line(name, ": too long, ", size, " bytes\n"),
+        SurveyFault::NoFrame(at) => named_line(name, ": no frame at ", at, "\n"),
+        SurveyFault::LostSync(at) => named_line(name, ": lost synchronisation at ", at, "\n"),
+        SurveyFault::Truncated(at) => named_line(name, ": truncated at ", at, "\n"),
+        SurveyFault::FreeFormat(at) => named_line(name, ": free format at ", at, "\n"),
+        SurveyFault::Mixed(at) => named_line(name, ": mixed class at ", at, "\n"),
         SurveyFault::CheckWord(at, said, right) => line(&[
             Part::Name(name),
             Part::Text(": check word at "),
@@ -154,7 +151,7 @@ fn input_parts<'a>(name: &'a str, fault: &SurveyFault) -> Line<'a>
             Part::Number(present),
             Part::Text("\n"),
         ]),
-        SurveyFault::Overlap(at) => named_line(name, ": overlap at ", at),
+        SurveyFault::Overlap(at) => named_line(name, ": overlap at ", at, "\n"),
         SurveyFault::Overrun(at, bits, room) => line(&[
             Part::Name(name),
             Part::Text(": overrun at "),
@@ -165,7 +162,7 @@ fn input_parts<'a>(name: &'a str, fault: &SurveyFault) -> Line<'a>
             Part::Number(u64::from(room)),
             Part::Text("\n"),
         ]),
-        SurveyFault::TooManyFrames(at) => named_line(name, ": too many frames at ", at),
+        SurveyFault::TooManyFrames(at) => named_line(name, ": too many frames at ", at, "\n"),
         SurveyFault::Shrunk(first, second) => line(&[
             Part::Name(name),
             Part::Text(": shrunk from "),
@@ -184,8 +181,13 @@ fn sheet_parts<'a>(name: &'a str, fault: &CueFault) -> Line<'a>
     ensures { map part_of result.items ≡ Name name.now ∷ sheet_parts_lem fault.now }
 {
     match *fault {
-        CueFault::Line(number) => named_line(name, ": bad line ", u64::from(number)),
-        CueFault::NotRising(number) => named_line(name, ": not rising at line ", u64::from(number)),
+        CueFault::Line(number) => named_line(name, ": bad line ", u64::from(number), "\n"),
+        CueFault::NotRising(number) => named_line(
+            name,
+            ": not rising at line ",
+            u64::from(number),
+            "\n",
+        ),
         CueFault::NoTracks => line(&[Part::Name(name), Part::Text(": no tracks\n")]),
         CueFault::Memory => line(&[Part::Name(name)]),
     }
@@ -196,7 +198,7 @@ fn curve_parts<'a>(name: &'a str, fault: &EnvelopeFault) -> Line<'a>
     ensures { map part_of result.items ≡ Name name.now ∷ curve_parts_lem fault.now }
 {
     match *fault {
-        EnvelopeFault::Line(number) => named_line(name, ": bad line ", u64::from(number)),
+        EnvelopeFault::Line(number) => named_line(name, ": bad line ", u64::from(number), "\n"),
         EnvelopeFault::NoPoints => line(&[Part::Name(name), Part::Text(": no points\n")]),
         EnvelopeFault::Memory => line(&[Part::Name(name)]),
     }
@@ -230,21 +232,17 @@ fn refusal_parts<'a>(refusal: &Refusal, inputs: &[&'a str]) -> Line<'a>
             Part::Text("\n"),
         ]),
         Refusal::Mono => text_line("one channel only\n"),
-        Refusal::Joint(offset) => number_line("joint stereo at ", offset),
-        Refusal::TagTooLarge(length) => number_line("tag too large, ", length),
-        Refusal::BadTag(offset) => number_line("bad tag at ", offset),
+        Refusal::Joint(offset) => number_line("joint stereo at ", offset, "\n"),
+        Refusal::TagTooLarge(length) => number_line("tag too large, ", length, "\n"),
+        Refusal::BadTag(offset) => number_line("bad tag at ", offset, "\n"),
         Refusal::NoUndo => text_line("no undo item\n"),
-        Refusal::BadUndo(offset) => number_line("bad undo item at ", offset),
+        Refusal::BadUndo(offset) => number_line("bad undo item at ", offset, "\n"),
         Refusal::UndoRange(sum) => line(&[
             Part::Text("undo sum "),
             Part::Signed(sum),
             Part::Text(" is out of range\n"),
         ]),
-        Refusal::OutputTooLong(length) => line(&[
-            Part::Text("output too long, "),
-            Part::Number(length),
-            Part::Text(" bytes\n"),
-        ]),
+        Refusal::OutputTooLong(length) => number_line("output too long, ", length, " bytes\n"),
         Refusal::Range(from, to, frames) => line(&[
             Part::Text("range "),
             Part::Number(from),
@@ -254,28 +252,25 @@ fn refusal_parts<'a>(refusal: &Refusal, inputs: &[&'a str]) -> Line<'a>
             Part::Number(frames),
             Part::Text(" frames\n"),
         ]),
-        Refusal::NoRate(rate) => number_line("no rate ", u64::from(rate)),
-        Refusal::Unfit(frame) => line(&[
-            Part::Text("frame "),
-            Part::Number(u64::from(frame)),
-            Part::Text(" does not fit\n"),
-        ]),
+        Refusal::NoRate(rate) => number_line("no rate ", u64::from(rate), "\n"),
+        Refusal::Unfit(frame) => number_line("frame ", u64::from(frame), " does not fit\n"),
         Refusal::Differ(place) => line(&[
             Part::Name(name_in(inputs, place)),
             Part::Text(": other class than the first input\n"),
         ]),
-        Refusal::SheetTooLarge(size) => line(&[
-            Part::Name(name_in(inputs, SHEET)),
-            Part::Text(": sheet too large, "),
-            Part::Number(size),
-            Part::Text(" bytes\n"),
-        ]),
+        Refusal::SheetTooLarge(size) => named_line(
+            name_in(inputs, SHEET),
+            ": sheet too large, ",
+            size,
+            " bytes\n",
+        ),
         Refusal::Sheet(fault) => sheet_parts(name_in(inputs, SHEET), &fault),
         Refusal::Curve(fault) => curve_parts(name_in(inputs, SHEET), &fault),
         Refusal::CurveNotRising(number) => named_line(
             name_in(inputs, SHEET),
             ": not rising at line ",
             u64::from(number),
+            "\n",
         ),
     }
 }
@@ -361,10 +356,6 @@ pub fn send_bad_word<E: Sink>(err: &mut E, word: u32)
 {
     send_line(
         err,
-        &[
-            Part::Text("bad word "),
-            Part::Number(u64::from(word)),
-            Part::Text("\n"),
-        ],
+        number_line("bad word ", u64::from(word), "\n").as_slice(),
     );
 }

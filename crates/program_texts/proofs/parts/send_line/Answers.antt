@@ -1,8 +1,6 @@
 -- The line was sent, or a prefix of it.
-use Rattle.program_texts.proofs.Lines.{got_either, line_is, spelled_parts}
+use Rattle.program_texts.proofs.Lines.{got_either, spelled_parts}
 use Rattle.program_texts.proofs.parts.send_line.Goals as goal
 
 pub returns : goal.returns
-returns g c =
-    line_is _ _ _ _ _ _ (spelled_parts c.args.parts.now)
-    (got_either c.send_parts.result _ _ _ _ _ c.send_parts.ensures.later c.send_parts.ensures.whole c.send_parts.ensures.front)
+returns g c = rw (← spelled_parts c.args.parts.now) (got_either c.send_parts.result c.send_parts.ensures.later c.send_parts.ensures.whole c.send_parts.ensures.front)

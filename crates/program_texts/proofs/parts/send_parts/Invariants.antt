@@ -1,12 +1,8 @@
 -- The parts so far were sent.
-use Rattle.std.proofs.Common.{◌≡◌, ◌≤◌, take, flat_map}
-use Rattle.outside.specs.Files.{sent_more}
+use Rattle.std.proofs.Common.{take, flat_map}
 use Rattle.program_texts.specs.Lines.{spelled_part, part_of}
+use Rattle.program_texts.specs.Texts.{GotWhole}
 use Rattle.program_texts.proofs.parts.send_parts.Given as goal
 
 abbrev pub invariant-loop-part : goal.invariant-loop-part
-invariant-loop-part g l = record {
-  later : g.T.Sink.faults l.initial.sink ≤ g.T.Sink.faults l.sink;
-  done : g.T.Sink.faults l.sink ≡ g.T.Sink.faults l.initial.sink;
-  sent : g.T.Sink.sent l.sink ≡ sent_more (g.T.Sink.sent l.initial.sink) (flat_map (λ part. spelled_part (part_of part)) (take l.part-index l.parts));
-}
+invariant-loop-part g l = GotWhole (g.T.Sink.sent l.initial.sink) (g.T.Sink.sent l.sink) (g.T.Sink.faults l.initial.sink) (g.T.Sink.faults l.sink) (flat_map (λ part. spelled_part (part_of part)) (take l.part-index l.parts))
