@@ -1,7 +1,7 @@
 //! The statuses that the program ends with, and the texts and lines that it writes.
 ghost use Rattle.std.specs.Prelude.{◌≡◌, ◌∷◌, IfErr, map, flat_map};
 ghost use Rattle.program_texts.specs.Lines.{Name, part_of};
-ghost use Rattle.program_texts.specs.Texts.{status_of, input_parts as input_parts_lem, sheet_parts as sheet_parts_lem, curve_parts as curve_parts_lem, refusal_parts as refusal_parts_lem, fault_parts as fault_parts_lem, fault_line, bad_word_line, help_text, version_text, said_command, GotLine};
+ghost use Rattle.program_texts.specs.Texts.{status_of, input_parts as input_parts_lem, refusal_parts as refusal_parts_lem, fault_parts as fault_parts_lem, fault_line, bad_word_line, help_text, version_text, said_command, GotLine};
 ghost use Rattle.program_texts.specs.Names.{name_in as name_in_lem, names_in};
 ghost use Rattle.outside.specs.Files.{Files};
 ghost use Rattle.commands.specs.Said.{heard, Says, fault_of};
@@ -176,34 +176,6 @@ fn input_parts<'a>(name: &'a str, fault: &SurveyFault) -> Line<'a>
     }
 }
 
-// The parts of the line of a fault of the cue sheet with this name.
-fn sheet_parts<'a>(name: &'a str, fault: &CueFault) -> Line<'a>
-    ensures { map part_of result.items ≡ Name name.now ∷ sheet_parts_lem fault.now }
-{
-    match *fault {
-        CueFault::Line(number) => named_line(name, ": bad line ", u64::from(number), "\n"),
-        CueFault::NotRising(number) => named_line(
-            name,
-            ": not rising at line ",
-            u64::from(number),
-            "\n",
-        ),
-        CueFault::NoTracks => line(&[Part::Name(name), Part::Text(": no tracks\n")]),
-        CueFault::Memory => line(&[Part::Name(name)]),
-    }
-}
-
-// The parts of the line of a fault of the sheet of a fade with this name.
-fn curve_parts<'a>(name: &'a str, fault: &EnvelopeFault) -> Line<'a>
-    ensures { map part_of result.items ≡ Name name.now ∷ curve_parts_lem fault.now }
-{
-    match *fault {
-        EnvelopeFault::Line(number) => named_line(name, ": bad line ", u64::from(number), "\n"),
-        EnvelopeFault::NoPoints => line(&[Part::Name(name), Part::Text(": no points\n")]),
-        EnvelopeFault::Memory => line(&[Part::Name(name)]),
-    }
-}
-
 // The name at a place of the list, counted from 0; an empty one where there is none.
 fn name_in<'a>(names: &[&'a str], place: u32) -> &'a str
     ensures { result.now ≡ name_in_lem (map (λ name. name.now) names.now) place }
@@ -214,11 +186,12 @@ fn name_in<'a>(names: &[&'a str], place: u32) -> &'a str
 /// The place of a sheet among the inputs.
 const SHEET: u32 = 1;
 
-// The parts of the line of a refusal, by the names of the inputs.
+// The parts of the line of a refusal, by the names of the inputs. Want of memory for a sheet isn't a refusal and never comes here.
 fn refusal_parts<'a>(refusal: &Refusal, inputs: &[&'a str]) -> Line<'a>
     ensures { map part_of result.items ≡ refusal_parts_lem refusal.now
         (map (λ name. name.now) inputs.now) }
 {
+    let sheet = name_in(inputs, SHEET);
     match *refusal {
         Refusal::GainRange(offset, granule, channel, gain) => line(&[
             Part::Text("gain "),
@@ -258,20 +231,22 @@ fn refusal_parts<'a>(refusal: &Refusal, inputs: &[&'a str]) -> Line<'a>
             Part::Name(name_in(inputs, place)),
             Part::Text(": other class than the first input\n"),
         ]),
-        Refusal::SheetTooLarge(size) => named_line(
-            name_in(inputs, SHEET),
-            ": sheet too large, ",
-            size,
-            " bytes\n",
-        ),
-        Refusal::Sheet(fault) => sheet_parts(name_in(inputs, SHEET), &fault),
-        Refusal::Curve(fault) => curve_parts(name_in(inputs, SHEET), &fault),
-        Refusal::CurveNotRising(number) => named_line(
-            name_in(inputs, SHEET),
-            ": not rising at line ",
-            u64::from(number),
-            "\n",
-        ),
+        Refusal::SheetTooLarge(size) => named_line(sheet, ": sheet too large, ", size, " bytes\n"),
+        Refusal::Sheet(CueFault::Line(number)) | Refusal::Curve(EnvelopeFault::Line(number)) => {
+            named_line(sheet, ": bad line ", u64::from(number), "\n")
+        }
+        Refusal::Sheet(CueFault::NotRising(number)) | Refusal::CurveNotRising(number) => {
+            named_line(sheet, ": not rising at line ", u64::from(number), "\n")
+        }
+        Refusal::Sheet(CueFault::NoTracks) => {
+            line(&[Part::Name(sheet), Part::Text(": no tracks\n")])
+        }
+        Refusal::Curve(EnvelopeFault::NoPoints) => {
+            line(&[Part::Name(sheet), Part::Text(": no points\n")])
+        }
+        Refusal::Sheet(CueFault::Memory) | Refusal::Curve(EnvelopeFault::Memory) => {
+            line(&[Part::Name(sheet)])
+        }
     }
 }
 
