@@ -1,6 +1,7 @@
 -- What `run` promises, from the answer of a command.
-use Rattle.std.proofs.Common.{◌≡◌, ◌≢◌, ◌↔◌, ◌⊎◌, ℕ, ◌≤◌, List, [], ◌∷◌, length, Option, Some, None, Result, Ok, Err, true, false, refl, sym, ◌∙◌, ap, subst, inl, inr, arith}
+use Rattle.std.proofs.Common.{◌≡◌, ◌≢◌, ◌↔◌, ◌⊎◌, ℕ, ◌≤◌, List, [], ◌∷◌, Option, Some, None, Result, Ok, Err, true, false, refl, sym, ◌∙◌, ap, subst, inl, inr, arith}
 use Rattle.std.proofs.Math.Seq.{take-nil}
+use Rattle.std.proofs.lemmas.Option.{same_Some}
 use Rattle.std.specs.Prelude.{IfSome, IfErr, IsErrOf, OnOk}
 use Rattle.outside.specs.Files.{Contents, Files, Sent, sent_more, Told, Untold, IfTold, is_told, OnlyTouches}
 use Rattle.outside.specs.Counts.{Rose}
@@ -8,18 +9,13 @@ use Rattle.outside.proofs.FilesLaws.{sent_nothing, touches_none}
 use Rattle.commands.specs.declared.fault.EditFault.{EditFault}
 use Rattle.commands.specs.declared.fault.EditFault.TheVariants.{EqualNames, Input, Sent as NotSent, Memory}
 use Rattle.commands.specs.Kinds.{InputKind, IsAbsent, kind_of, by_kind}
-use Rattle.commands.specs.One.{Task, most_frames, made_result, made_of, one_command}
-use Rattle.commands.specs.Command.{Made, Command, clash_from, clash_of, written, Gives}
-use Rattle.commands.specs.Refusing.{then_made}
-use Rattle.frame_edits.specs.Chosen.{Chosen}
-use Rattle.cue_sheet.specs.declared.place.Place.{Place}
-use Rattle.sync_survey.specs.declared.survey_fault.SurveyFault.{SurveyFault}
-use Rattle.sync_survey.specs.Faults.{SurveyFields}
-use Rattle.sync_survey.specs.Survey.{survey_of}
-use Rattle.splitting.specs.Split.{piece_names, chosen_at, made_of as split_made, made_at, made_by, made_where, unless_equal, made_result as made_result_split, Placing, split_command}
+use Rattle.commands.specs.One.{Task, made_result, made_of, one_command}
+use Rattle.commands.specs.Command.{Made, Command, clash_of, written, Gives}
+use Rattle.splitting.specs.Split.{Placing, split_command}
+use Rattle.legality.proofs.SplitLaws.{split-parts}
 use Rattle.drill.specs.Drilled.{IsDrillFault}
-use Rattle.commands.specs.Said.{Heard, IsText, SaysAll, Says, fault_of}
-use Rattle.commands.specs.Left.{Why, Rejected, Missing, Unread, Shorter, Unwritten, Unsent, NoMemory, why_of, Seen, IsDone, IsRefused, TakesMemory, LeavesBy, Leaves, HasNumbers}
+use Rattle.commands.specs.Said.{Heard, IsText, Says, fault_of}
+use Rattle.commands.specs.Left.{Why, Rejected, Missing, Unread, Shorter, Unwritten, Unsent, NoMemory, why_of, Seen, IsDone, IsRefused, LeavesBy, Leaves, HasNumbers}
 use Rattle.commands.proofs.TouchLaws.{left_touched}
 use Rattle.job_words.specs.Asked.{Asked}
 use Rattle.job_words.specs.Words.{job_of}
@@ -77,12 +73,6 @@ module _ (command : Command) (old new : Seen) (out_old out_new err_old err_new :
       at None e is left = Done is e
       at (Some fault) e is left = Failed fault (why_of fault) e is refl left
 
-  -- a refusal and want of memory leave all as it was
-  stays_by : (fault : EditFault) (why : Why) → status ≡ status_by why → status ≢ 3 → LeavesBy command old new fault why → new ≡ old
-  stays_by fault Rejected is other left = left.stays
-  stays_by fault NoMemory is other left = left.stays
-  stays_by fault _ is other left = absurd (other is)
-
   -- no name but those of its outputs was touched
   pub touched : OnlyTouches command.outputs old.files new.files
   touched = at case_of
@@ -91,12 +81,18 @@ module _ (command : Command) (old new : Seen) (out_old out_new err_old err_new :
       at (Done is e) = (all.done e).touches
       at (Failed fault why e is w left) = left_touched command old new fault (subst (LeavesBy command old new fault) (sym w) left)
 
-  pub quiet : status ≡ 0 → err_new.sent ≡ err_old.sent
-  quiet zero_is = at case_of
+  done_at : status ≡ 0 → all.fault ≡ None
+  done_at zero_is = at case_of
     where
-      at : Case → err_new.sent ≡ err_old.sent
-      at (Done is e) = got_nothing err_old err_new (subst (λ o. GetsLine err_old err_new (line_of command o)) e all.line)
+      at : Case → all.fault ≡ None
+      at (Done is e) = e
       at (Failed fault why e is w left) = absurd (omega (arith, is, zero_is, (by_status why).0))
+
+  line_here : (o : Option EditFault) → all.fault ≡ o → GetsLine err_old err_new (line_of command o)
+  line_here o e = subst (λ o. GetsLine err_old err_new (line_of command o)) e all.line
+
+  pub quiet : status ≡ 0 → err_new.sent ≡ err_old.sent
+  quiet zero_is = got_nothing err_old err_new (line_here None (done_at zero_is))
 
   -- what standard output got
   says_here : (o : Option EditFault) → all.fault ≡ o → Says command old.files out_old out_new o
@@ -112,9 +108,6 @@ module _ (command : Command) (old new : Seen) (out_old out_new err_old err_new :
 
     made_here : all.fault ≡ None → (made : Made) × (command.makes f ≡ Ok made) × (new.files ≡ Told (written made.outputs f))
     made_here e = subst (λ files. IfTold files (λ g. (made : Made) × (command.makes g ≡ Ok made) × (new.files ≡ Told (written made.outputs g)))) told (all.done e).made
-
-    line_here : (o : Option EditFault) → all.fault ≡ o → GetsLine err_old err_new (line_of command o)
-    line_here o e = subst (λ o. GetsLine err_old err_new (line_of command o)) e all.line
 
     abbrev IsAsDefinedBy : Result Made EditFault → Type 0
     IsAsDefinedBy r = IsOutcome (made_outcome command f r) (world old out_old err_old) (world new out_new err_new) status
@@ -164,18 +157,10 @@ module _ (command : Command) (old new : Seen) (out_old out_new err_old err_new :
 
     -- where it is done the files are those before with all that it makes
     pub files_where_done : status ≡ 0 → (made : Made) × (command.makes f ≡ Ok made) × (new.files ≡ Told (written made.outputs f))
-    files_where_done zero_is = at case_of
-      where
-        at : Case → (made : Made) × (command.makes f ≡ Ok made) × (new.files ≡ Told (written made.outputs f))
-        at (Done is e) = made_here e
-        at (Failed fault why e is w left) = absurd (omega (arith, is, zero_is, (by_status why).0))
+    files_where_done zero_is = made_here (done_at zero_is)
 
     pub made_where_done : status ≡ 0 → (made : Made) × (command.makes f ≡ Ok made)
-    made_where_done zero_is = at case_of
-      where
-        at : Case → (made : Made) × (command.makes f ≡ Ok made)
-        at (Done is e) = let made = made_here e in (made.0, made.1)
-        at (Failed fault why e is w left) = absurd (omega (arith, is, zero_is, (by_status why).0))
+    made_where_done zero_is = let made = files_where_done zero_is in (made.0, made.1)
 
     pub done_where_made : (Rose old.counts.read_faults.times new.counts.read_faults.times → ⊥) → (Rose old.counts.write_faults.times new.counts.write_faults.times → ⊥) → (Rose out_old.faults out_new.faults → ⊥) → status ≢ 4 → (made : Made) × (command.makes f ≡ Ok made) → status ≡ 0
     done_where_made reads writes sends found made = at case_of
@@ -186,30 +171,29 @@ module _ (command : Command) (old new : Seen) (out_old out_new err_old err_new :
 
 -- ---- of words
 
+-- where the files are told
+pub if_told : (files : Files) {P : Contents → Type 0} → ((f : Contents) → files ≡ Told f → P f) → IfTold files P
+if_told (Untold names) each = tt
+if_told (Told f) each = each f refl
+
 outcome-words : (words : List (List ℕ)) (f : Contents) (r : Result Asked ℕ) → job_of words ≡ r → outcome words f ≡ job_outcome f r
 unfolding outcome
 outcome-words words f r is = ap (job_outcome f) is
 
 pub bad_word_defined : (words : List (List ℕ)) (old : Seen) (place : ℕ) (out err_old err_new : Heard) → job_of words ≡ Err place → GetsLine err_old err_new (bad_word_line place)
     → IfTold old.files (λ f. IsOutcome (outcome words f) (world old out err_old) (world old out err_new) 2)
-bad_word_defined words old place out err_old err_new is line = at old.files refl
-  where
-    at : (files : Files) → old.files ≡ files → IfTold files (λ f. IsOutcome (outcome words f) (world old out err_old) (world old out err_new) 2)
-    at (Untold touched) told = tt
-    at (Told f) told =
-        subst (λ o. IsOutcome o (world old out err_old) (world old out err_new) 2) (sym (outcome-words words f (Err place) is))
-        (record { status_is = refl; files_are = told; text_is = sym (sent_nothing out.sent); line_is = line })
+bad_word_defined words old place out err_old err_new is line =
+    if_told old.files (λ f told.
+    subst (λ o. IsOutcome o (world old out err_old) (world old out err_new) 2) (sym (outcome-words words f (Err place) is))
+    (record { status_is = refl; files_are = told; text_is = sym (sent_nothing out.sent); line_is = line }))
 
 module _ (words : List (List ℕ)) (asked : Asked) (is : job_of words ≡ Ok asked) (old new : Seen) (out_old out_new err_old err_new : Heard) (status : ℕ)
     (all : Answers (command_of asked) (world old out_old err_old) (world new out_new err_new) status) where
   pub is_defined : status ≤ 2 → IfTold old.files (λ f. IsOutcome (outcome words f) (world old out_old err_old) (world new out_new err_new) status)
-  is_defined low = at old.files refl
-    where
-      at : (files : Files) → old.files ≡ files → IfTold files (λ f. IsOutcome (outcome words f) (world old out_old err_old) (world new out_new err_new) status)
-      at (Untold touched) told = tt
-      at (Told f) told =
-          subst (λ o. IsOutcome o (world old out_old err_old) (world new out_new err_new) status) (sym (outcome-words words f (Ok asked) is))
-          (as_defined (command_of asked) old new out_old out_new err_old err_new status all f told low)
+  is_defined low =
+      if_told old.files (λ f told.
+      subst (λ o. IsOutcome o (world old out_old err_old) (world new out_new err_new) status) (sym (outcome-words words f (Ok asked) is))
+      (as_defined (command_of asked) old new out_old out_new err_old err_new status all f told low))
 
   pub is_accepted : (f : Contents) → old.files ≡ Told f → (Rose old.counts.read_faults.times new.counts.read_faults.times → ⊥) → (Rose old.counts.write_faults.times new.counts.write_faults.times → ⊥) → (Rose out_old.faults out_new.faults → ⊥)
       → status ≢ 4 → (status ≡ 0) ↔ IsLegal words f
@@ -221,13 +205,6 @@ module _ (words : List (List ℕ)) (asked : Asked) (is : job_of words ≡ Ok ask
 
 -- ---- a command without a text
 
-abbrev text_in : Result Made EditFault → List ℕ
-text_in (Ok made) = made.text
-text_in (Err fault) = []
-
-some_is : {A : Type 0} (a b : A) → Some a ≡ Some b → a ≡ b
-some_is a b e = cc
-
 -- a command that has no text, whatever the files are
 pub record IsSilent (command : Command) : Type 0 where
   pub always : command.always ≡ Some []
@@ -235,26 +212,16 @@ pub record IsSilent (command : Command) : Type 0 where
 
 module _ (command : Command) (no_text : IsSilent command) (files : Files) (out : Heard) where
   text_is : (text : List ℕ) → IsText command files text → text ≡ []
-  text_is text (inl always) = some_is text [] (sym always ∙ no_text.always)
+  text_is text (inl always) = same_Some text [] (sym always ∙ no_text.always)
   text_is text (inr told) = sym told.4 ∙ no_text.silent told.0 told.1 told.3
 
-  says_nothing : SaysAll command files out out
-  says_nothing = record { text = λ text is. sym (ap (sent_more out.sent) (text_is text is) ∙ sent_nothing out.sent); faults = refl }
+  -- such a command sends nothing, also with any fault that it has
+  says_nothing : {T : Type 0} (r : Result T EditFault) → IfErr r (HasNumbers command) → Says command files out out (fault_of r)
+  says_nothing (Ok x) numbers = record { text = λ text is. sym (ap (sent_more out.sent) (text_is text is) ∙ sent_nothing out.sent); faults = refl }
+  says_nothing (Err NotSent) numbers = absurd (numbers no_text.always)
+  says_nothing (Err _) numbers = refl
 
-  -- such a command sends nothing with any fault that it has
-  says_fault : (fault : EditFault) → HasNumbers command fault → Says command files out out (Some fault)
-  says_fault NotSent numbers = absurd (numbers no_text.always)
-  says_fault _ numbers = refl
-
--- how such a command ends, from what it promises
-pub silent_ends : {T : Type 0} (command : Command) → IsSilent command → (r : Result T EditFault) (old new : Seen) (out : Heard) → OnOk r (IsDone command old new) → IfErr r (Leaves command old new) → IfErr r (HasNumbers command)
-    → ((place : ℕ) → IsErrOf r (EqualNames place) ↔ (clash_of command ≡ Some place)) → Ends command old new out out (fault_of r)
-silent_ends command no_text (Ok x) old new out done left numbers names =
-    record { says = says_nothing command no_text old.files out; done = λ e. done; left = tt; numbers = tt; names = λ place clash. ap fault_of ((names place).1 clash) }
-silent_ends command no_text (Err fault) old new out done left numbers names =
-    record { says = says_fault command no_text old.files out fault numbers; done = λ e. absurd cc; left = left; numbers = numbers; names = λ place clash. ap fault_of ((names place).1 clash) }
-
--- how a command with a text ends
+-- how a command ends, from what it promises
 pub told_ends : {T : Type 0} (command : Command) (r : Result T EditFault) (old new : Seen) (out_old out_new : Heard) → OnOk r (IsDone command old new) → IfErr r (Leaves command old new) → Says command old.files out_old out_new (fault_of r)
     → IfErr r (HasNumbers command) → ((place : ℕ) → IsErrOf r (EqualNames place) ↔ (clash_of command ≡ Some place)) → Ends command old new out_old out_new (fault_of r)
 told_ends command (Ok x) old new out_old out_new done left says numbers names =
@@ -262,65 +229,34 @@ told_ends command (Ok x) old new out_old out_new done left says numbers names =
 told_ends command (Err fault) old new out_old out_new done left says numbers names =
     record { says = says; done = λ e. absurd cc; left = left; numbers = numbers; names = λ place clash. ap fault_of ((names place).1 clash) }
 
+-- and how one without a text does
+pub silent_ends : {T : Type 0} (command : Command) → IsSilent command → (r : Result T EditFault) (old new : Seen) (out : Heard) → OnOk r (IsDone command old new) → IfErr r (Leaves command old new) → IfErr r (HasNumbers command)
+    → ((place : ℕ) → IsErrOf r (EqualNames place) ↔ (clash_of command ≡ Some place)) → Ends command old new out out (fault_of r)
+silent_ends command no_text r old new out done left numbers names = told_ends command r old new out out done left (says_nothing command no_text old.files out r numbers) numbers names
+
 -- ---- a command that makes one file
 
-silent_made : (output : List ℕ) (r : Result (List ℕ) EditFault) (made : Made) → made_of output r ≡ Ok made → made.text ≡ []
-silent_made output (Ok bytes) made is = sym (ap text_in is)
-silent_made output (Err fault) made is = absurd cc
+pub one_made : (output : List ℕ) (r : Result (List ℕ) EditFault) (made : Made) → made_of output r ≡ Ok made → (bytes : List ℕ) × (record { outputs = record { name = output; bytes = bytes } ∷ []; text = [] } ≡ made)
+one_made output (Ok bytes) made is = (bytes, cc)
+one_made output (Err fault) made is = absurd cc
 
 pub one_silent : (task : Task) (output : List ℕ) → IsSilent (one_command task output)
-one_silent task output = record { always = refl; silent = λ f made is. silent_made output (made_result task output f) made is }
+one_silent task output = record { always = refl; silent = λ f made is. sym (ap (λ (made : Made). made.text) (one_made output (made_result task output f) made is).1) }
 
--- ---- a command that cuts a file, and one that joins files
+-- ---- a command that splits a file
 
-module _ (prefix : List ℕ) where
-  cut_silent : (file : List ℕ) (s : SurveyFields) (r : Result (List Chosen) EditFault) (made : Made) → then_made r (split_made prefix file s) ≡ Ok made → made.text ≡ []
-  cut_silent file s (Ok chosen) made is = sym (ap text_in is)
-  cut_silent file s (Err fault) made is = absurd cc
-
-  placed_silent : (file : List ℕ) (s : SurveyFields) (r : Result (List Place) EditFault) (made : Made) → then_made r (made_at prefix file s) ≡ Ok made → made.text ≡ []
-  placed_silent file s (Ok places) made is = cut_silent file s (chosen_at s.class (length s.frames) places) made is
-  placed_silent file s (Err fault) made is = absurd cc
-
-  surveyed_silent : (places : Result (List Place) EditFault) (file : List ℕ) (r : Result SurveyFields SurveyFault) (made : Made) → made_by prefix places file r ≡ Ok made → made.text ≡ []
-  surveyed_silent places file (Ok s) made is = placed_silent file s places made is
-  surveyed_silent places file (Err fault) made is = absurd cc
-
-  there_silent : (places : Result (List Place) EditFault) (o : Option (List ℕ)) (made : Made) → made_where prefix places o ≡ Ok made → made.text ≡ []
-  there_silent places None made is = absurd cc
-  there_silent places (Some file) made is = surveyed_silent places file (survey_of file most_frames) made is
-
-  named_silent : (clash : Option ℕ) (places : Result (List Place) EditFault) (o : Option (List ℕ)) (made : Made) → unless_equal clash (made_where prefix places o) ≡ Ok made → made.text ≡ []
-  named_silent (Some place) places o made is = absurd cc
-  named_silent None places o made is = there_silent places o made is
-
-  pub split_silent : (placing : Placing) (more : List (List ℕ)) (input : List ℕ) → IsSilent (split_command placing more input prefix)
-  unfolding made_result_split
-  split_silent placing more input = record {
-    always = refl;
-    silent = λ f made is. named_silent (clash_from (piece_names prefix) 0 (input ∷ more)) (placing.places f) (f input) made is;
-  }
+pub split_silent : (prefix : List ℕ) (placing : Placing) (more : List (List ℕ)) (input : List ℕ) → IsSilent (split_command placing more input prefix)
+split_silent prefix placing more input = record { always = refl; silent = λ f made is. sym (ap (λ (made : Made). made.text) (split-parts f prefix input placing more made is).1.1) }
 
 -- ---- a text that is said
 
 module _ (text : List ℕ) (some : Some text ≢ Some []) (now : Seen) where
   text_made : IfTold now.files (λ f. (made : Made) × ((said_command text).makes f ≡ Ok made) × (now.files ≡ Told (written made.outputs f)))
-  text_made = at now.files
-    where
-      at : (files : Files) → IfTold files (λ f. (made : Made) × ((said_command text).makes f ≡ Ok made) × (files ≡ Told (written made.outputs f)))
-      at (Untold touched) = tt
-      at (Told f) = (record { outputs = []; text = text }, refl, refl)
-
-  none_early : IfTold now.files (λ f. TakesMemory ((said_command text).makes f))
-  none_early = at now.files
-    where
-      at : (files : Files) → IfTold files (λ f. TakesMemory ((said_command text).makes f))
-      at (Untold touched) = tt
-      at (Told f) = tt
+  text_made = if_told now.files (λ f told. (record { outputs = []; text = text }, refl, told))
 
   said_left : (fault : EditFault) → IsDrillFault fault → Leaves (said_command text) now now fault × HasNumbers (said_command text) fault
   said_left NotSent is = (record { made = text_made; touches = touches_none [] now.files; counts = refl }, some)
-  said_left Memory is = (record { names = refl; takes = none_early; stays = refl }, tt)
+  said_left Memory is = (record { names = refl; takes = if_told now.files (λ f told. tt); stays = refl }, tt)
   said_left _ is = absurd is
 
   pub said_ends : {T : Type 0} (r : Result T EditFault) (out_old out_new : Heard) → Says (said_command text) now.files out_old out_new (fault_of r) → IfErr r IsDrillFault → Ends (said_command text) now now out_old out_new (fault_of r)

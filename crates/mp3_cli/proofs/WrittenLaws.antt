@@ -4,7 +4,7 @@ use Rattle.std.specs.Prelude.{IfOk}
 use Rattle.std.specs.List.{range_with_len}
 use Rattle.std.proofs.Math.Seq.{drop-append_seam}
 use Rattle.std.proofs.lemmas.List.{length-map}
-use Rattle.outside.specs.Files.{Contents, Files, with_file, Told, Untold, IfTold}
+use Rattle.outside.specs.Files.{Contents, Files, with_file, IfTold}
 use Rattle.outside.proofs.FilesLaws.{with_file_here, with_file_other}
 use Rattle.frame_header.specs.Fields.{ClassFields}
 use Rattle.cue_sheet.specs.declared.place.Place.{Place}
@@ -15,8 +15,8 @@ use Rattle.cue_sheet.proofs.StartsLaws.{starts-few}
 use Rattle.sync_survey.specs.MainData.{StreamFrame}
 use Rattle.sync_survey.specs.Faults.{SurveyFields}
 use Rattle.commands.specs.declared.fault.EditFault.{EditFault}
-use Rattle.commands.specs.Command.{Output, Made, written, AreStreams, MakesStreams, HoldsStreams}
-use Rattle.commands.specs.One.{Task, made_result, made_of, one_command}
+use Rattle.commands.specs.Command.{Output, Made, Command, written, AreStreams, MakesStreams, HoldsStreams}
+use Rattle.commands.specs.One.{Task, made_result, one_command}
 use Rattle.commands.specs.Telling.{with_text}
 use Rattle.salvaging.specs.Salvaged.{text_where, salvage_task}
 use Rattle.commands.proofs.RefusingLaws.{then_ok}
@@ -30,7 +30,7 @@ use Rattle.commands.specs.Left.{Seen}
 use Rattle.commands.specs.Said.{Heard}
 use Rattle.splitting.specs.Split.{piece_name, piece_names, frames_between, with_first, chosen_from, chosen_at, pieces_from, places_where, Placing, split_command, given, told_by}
 use Rattle.legality.proofs.SplitLaws.{split-parts, cue-parts}
-use Rattle.mp3_cli.proofs.RunLaws.{files_where_done}
+use Rattle.mp3_cli.proofs.RunLaws.{files_where_done, if_told, one_made}
 use Rattle.mp3_cli.specs.Run.{command_of, world, Answers, AreThere, HoldsWritten, HoldsAllStreams}
 
 -- ---- several outputs
@@ -115,12 +115,8 @@ module _ (placing : Placing) (more : List (List ℕ)) (input prefix : List ℕ) 
 
 -- ---- the other commands
 
-named-one : (output : List ℕ) (r : Result (List ℕ) EditFault) (made : Made) → made_of output r ≡ Ok made → AreNamed (output ∷ []) made.outputs
-named-one output (Ok bytes) made e = let same : record { outputs = record { name = output; bytes = bytes } ∷ []; text = [] } ≡ made = cc in subst (λ (m : Made). AreNamed (output ∷ []) m.outputs) same (refl, tt, tt)
-named-one output (Err fault) made e = absurd cc
-
 one-named : (task : Task) (output : List ℕ) (f : Contents) (made : Made) → (one_command task output).makes f ≡ Ok made → AreNamed (output ∷ []) made.outputs
-one-named task output f made e = named-one output (made_result task output f) made e
+one-named task output f made e = subst (λ (m : Made). AreNamed (output ∷ []) m.outputs) (one_made output (made_result task output f) made e).1 (refl, tt, tt)
 
 named-told : (text : List ℕ) (names : List (List ℕ)) (r : Result Made EditFault) (made : Made) → ((m : Made) → r ≡ Ok m → AreNamed names m.outputs) → with_text text r ≡ Ok made → AreNamed names made.outputs
 named-told text names (Ok m) made named e = let same : record m { text = text } ≡ made = cc in subst (λ (n : Made). AreNamed names n.outputs) same (named m refl)
@@ -128,21 +124,11 @@ named-told text names (Err fault) made named e = absurd cc
 
 -- ---- whatever is asked for
 
-split-there : (placing : Placing) (more : List (List ℕ)) (input prefix : List ℕ) (f : Contents) (made : Made) → ((places : List Place) → placing.places f ≡ Ok places → length places ≤ 100)
-    → (split_command placing more input prefix).makes f ≡ Ok made → MakesStreams (split_command placing more input prefix) f made → HoldsWritten (split_command placing more input prefix) f (written made.outputs f)
-split-there placing more input prefix f made few e holds = record {
-  sources = holds.sources;
-  outputs = are-there (piece_names prefix) made.outputs ((split_command placing more input prefix).streams f) f (split-named placing more input prefix f few made e) holds.streams;
-}
+written-there : (command : Command) (f : Contents) (made : Made) → AreNamed command.outputs made.outputs → MakesStreams command f made → HoldsWritten command f (written made.outputs f)
+written-there command f made named holds = record { sources = holds.sources; outputs = are-there command.outputs made.outputs (command.streams f) f named holds.streams }
 
 one-there : (task : Task) (output : List ℕ) (f : Contents) (made : Made) → (one_command task output).makes f ≡ Ok made → MakesStreams (one_command task output) f made → HoldsWritten (one_command task output) f (written made.outputs f)
-one-there task output f made e holds = record { sources = holds.sources; outputs = are-there (output ∷ []) made.outputs (task.stream f ∷ []) f (one-named task output f made e) holds.streams }
-
-abbrev places_at : List Place → Result (List Place) EditFault
-places_at places = Ok places
-
-given-few : (places found : List Place) → length places ≤ 100 → places_at places ≡ places_at found → length found ≤ 100
-given-few places found few e = let same : places ≡ found = cc in subst (λ (l : List Place). length l ≤ 100) same few
+one-there task output f made e holds = written-there (one_command task output) f made (one-named task output f made e) holds
 
 -- a cue sheet has at most 99 starts
 cue-few : (bytes : List ℕ) (starts : List Place) → cue_of bytes ≡ Ok starts → length starts ≤ 99
@@ -163,23 +149,18 @@ there (Gain shift tags input output) f made sound e holds = one-there _ output f
 there (Undo input output) f made sound e holds = one-there _ output f made e holds
 there (Cut from to least input output) f made sound e holds = one-there _ output f made e holds
 there (Pack mode input output) f made sound e holds = one-there (pack_task mode input) output f made e holds
-there (SplitAt input prefix places) f made sound e holds = split-there (given places) [] input prefix f made (λ found is. given-few places found sound.2.few is) e holds
-there (SplitBy input prefix sheet) f made sound e holds = split-there (told_by sheet) (sheet ∷ []) input prefix f made (λ found is. told-few (f sheet) found is) e holds
+there (SplitAt input prefix places) f made sound e holds = written-there _ f made (split-named (given places) [] input prefix f (λ found is. let same : places ≡ found = cc in subst (λ (l : List Place). length l ≤ 100) same sound.2.few) made e) holds
+there (SplitBy input prefix sheet) f made sound e holds = written-there _ f made (split-named (told_by sheet) (sheet ∷ []) input prefix f (told-few (f sheet)) made e) holds
 there (Join output inputs) f made sound e holds = one-there (join_task inputs) output f made e holds
 there (Fade back input output sheet) f made sound e holds = one-there (fade_task sheet back input) output f made e holds
-there (Salvage input output) f made sound e holds = record {
-  sources = holds.sources;
-  outputs = are-there (output ∷ []) made.outputs ((salvage_task input).stream f ∷ []) f
-      (named-told (text_where (f input)) (output ∷ []) ((one_command (salvage_task input) output).makes f) made (one-named (salvage_task input) output f) e) holds.streams;
-}
+there (Salvage input output) f made sound e holds =
+    written-there _ f made (named-told (text_where (f input)) (output ∷ []) ((one_command (salvage_task input) output).makes f) made (one-named (salvage_task input) output f) e) holds
 
 pub written-streams : (words : List (List ℕ)) (asked : Asked) (is : job_of words ≡ Ok asked) (sound : IsSound asked) (old new : Seen) (out_old out_new err_old err_new : Heard) (status : ℕ)
     (all : Answers (command_of asked) (world old out_old err_old) (world new out_new err_new) status) → (status ≡ 0 → HoldsStreams (command_of asked) old.files) → status ≡ 0 → HoldsAllStreams words old.files new.files
 written-streams words asked is sound old new out_old out_new err_old err_new status all holds zero_is =
-    subst (λ (r : Result Asked ℕ). IfOk r (λ a. IfTold old.files (λ f. IfTold new.files (λ g. HoldsWritten (command_of a) f g)))) (sym is) (at old.files refl (holds zero_is))
-  where
-    at : (files : Files) → old.files ≡ files → HoldsStreams (command_of asked) files → IfTold files (λ f. IfTold new.files (λ g. HoldsWritten (command_of asked) f g))
-    at (Untold touched) told held = tt
-    at (Told f) told held =
-        let done = files_where_done (command_of asked) old new out_old out_new err_old err_new status all f told zero_is in
-        subst (λ (files : Files). IfTold files (λ g. HoldsWritten (command_of asked) f g)) (sym done.2) (there asked f done.0 sound done.1 (held done.0 done.1))
+    subst (λ (r : Result Asked ℕ). IfOk r (λ a. IfTold old.files (λ f. IfTold new.files (λ g. HoldsWritten (command_of a) f g)))) (sym is)
+    (if_told old.files (λ f told.
+    let done = files_where_done (command_of asked) old new out_old out_new err_old err_new status all f told zero_is in
+    let held = subst (HoldsStreams (command_of asked)) told (holds zero_is) in
+    subst (λ (files : Files). IfTold files (λ g. HoldsWritten (command_of asked) f g)) (sym done.2) (there asked f done.0 sound done.1 (held done.0 done.1))))
