@@ -41,6 +41,14 @@ pub made-survey : (make : Making) (bytes : List ℕ) (s : SurveyFields) → surv
 unfolding made_file
 made-survey make bytes s is = ap (made_by make bytes) is
 
+pub made_parts : (make : Making) (file new : List ℕ) → made_file make file ≡ Ok new → (s : SurveyFields) × (survey_of file most_frames ≡ Ok s) × (make file s ≡ Ok new)
+unfolding made_file
+made_parts make file new e = at (survey_of file most_frames) refl e
+  where
+    at : (r : Result SurveyFields SurveyFault) → survey_of file most_frames ≡ r → made_by make file r ≡ Ok new → (s : SurveyFields) × (survey_of file most_frames ≡ Ok s) × (make file s ≡ Ok new)
+    at (Err fault) is e = absurd cc
+    at (Ok s) is e = (s, is, e)
+
 -- and so one of the only input, whatever the command makes of it
 module _ (make : Making) (name : List ℕ) (old new : Seen) (fault : EditFault) where
   fault_is_input_by : (why : Why) → IsFileFaultBy 0 most_frames name old new fault why → IsInputFaultBy make name old new fault why
@@ -64,14 +72,10 @@ pub refusal_numbers : (refuses : Refusal → Bool) (fault : EditFault) → IsRef
 refusal_numbers refuses (Refused refusal) is = is
 refusal_numbers refuses _ is = absurd is
 
--- it is a variant of the enum
-pub refusal-of : (refuses : Refusal → Bool) (fault : EditFault) → IsRefusal refuses fault → (refusal : Refusal) × (fault ≡ Refused refusal) × (refuses refusal ≡ true)
-refusal-of refuses (Refused refusal) is = (refusal, refl, is)
-refusal-of refuses _ is = absurd is
-
-pub refusal_is_input : (make : Making) (name : List ℕ) (old new : Seen) (s : SurveyFields) (refusal : Refusal) → IsThere old.files name → ((bytes : List ℕ) → Holds old.files name bytes → survey_of bytes most_frames ≡ Ok s)
-    → ((bytes : List ℕ) → Holds old.files name bytes → make bytes s ≡ Err (Refused refusal)) → new ≡ old → IsInputFault make name old new (Refused refusal)
-refusal_is_input make name old new s refusal there is refused stays = record { there = there; bytes = λ bytes holds. made-survey make bytes s (is bytes holds) ∙ refused bytes holds; stays = stays }
+pub refused_is_input : (make : Making) (name : List ℕ) (old new : Seen) (s : SurveyFields) (refuses : Refusal → Bool) (fault : EditFault) → IsRefusal refuses fault → IsThere old.files name
+    → ((bytes : List ℕ) → Holds old.files name bytes → survey_of bytes most_frames ≡ Ok s) → ((bytes : List ℕ) → Holds old.files name bytes → make bytes s ≡ Err fault) → new ≡ old → IsInputFault make name old new fault
+refused_is_input make name old new s refuses (Refused refusal) is there surveyed refused stays = record { there = there; bytes = λ bytes holds. made-survey make bytes s (surveyed bytes holds) ∙ refused bytes holds; stays = stays }
+refused_is_input make name old new s refuses _ is there surveyed refused stays = absurd is
 
 -- want of memory, once the input was surveyed
 pub memory_is_input : (make : Making) (name : List ℕ) (old new : Seen) (s : SurveyFields) → IsThere old.files name → ((bytes : List ℕ) → Holds old.files name bytes → survey_of bytes most_frames ≡ Ok s)
@@ -144,17 +148,9 @@ module _ (make : Making) (stream : List ℕ → List StreamFrame) (proper : IsPr
   file_late : (o : Option (List ℕ)) (bytes : List ℕ) → o ≡ Some bytes → length bytes ≤ longest_file → IfErr (made_where make o) IsLate
   file_late o bytes held few = subst (λ o. IfErr (made_where make o) IsLate) (sym held) (short_late bytes few)
 
-  made_parts : (file new : List ℕ) → made_file make file ≡ Ok new → (s : SurveyFields) × (survey_of file most_frames ≡ Ok s) × (make file s ≡ Ok new)
-  unfolding made_file
-  made_parts file new e = at (survey_of file most_frames) refl e
-    where
-      at : (r : Result SurveyFields SurveyFault) → survey_of file most_frames ≡ r → made_by make file r ≡ Ok new → (s : SurveyFields) × (survey_of file most_frames ≡ Ok s) × (make file s ≡ Ok new)
-      at (Err fault) is e = absurd cc
-      at (Ok s) is e = (s, is, e)
-
   file_streams : (f : Contents) (input bytes new : List ℕ) → f input ≡ Some bytes → AreBytes bytes → made_where make (f input) ≡ Ok new → AreSound f (input ∷ []) × HoldsStream new (stream (unwrap_or (f input) []))
   file_streams f input bytes new held octets is =
-      let parts = made_parts bytes new (ap (made_where make) (sym held) ∙ is) in
+      let parts = made_parts make bytes new (ap (made_where make) (sym held) ∙ is) in
       (((bytes, held, survey_of-sound bytes most_frames parts.0 parts.1), tt), subst (λ o. HoldsStream new (stream (unwrap_or o []))) (sym held) (proper.streams bytes parts.0 new octets parts.1 parts.2))
 
   pub file_proper : (refuses : Refusal → Bool) (input : List ℕ) → IsProper (file_task make stream refuses input)

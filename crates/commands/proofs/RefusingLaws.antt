@@ -1,14 +1,16 @@
 -- What comes before what is made: what its refusals are, and when it isn't refused.
-use Rattle.std.proofs.Common.{◌≡◌, Option, Some, None, Result, Ok, Err, refl, sym, subst, arith}
+use Rattle.std.proofs.Common.{◌≡◌, ℕ, suc, ◌+◌, ◌<◌, ◌≤◌, List, [], ◌∷◌, length, get_or, drop, Option, Some, None, Result, Ok, Err, refl, sym, ◌∙◌, ap, subst, arith}
 use Rattle.std.specs.Prelude.{IfErr, IfSome}
 use Rattle.std.specs.Result.{IsErrAnd}
+use Rattle.std.proofs.lemmas.List.{drop_all}
+use Rattle.std.proofs.Math.Seq.{drop-cons}
 use Rattle.outside.specs.Files.{Contents, Files, Told, Untold, IfTold}
 use Rattle.sync_survey.specs.declared.survey_fault.SurveyFault.TheVariants.{Read}
 use Rattle.commands.specs.declared.fault.EditFault.{EditFault}
 use Rattle.commands.specs.declared.fault.EditFault.TheVariants.{Input, Refused}
 use Rattle.commands.specs.declared.fault.Refusal.{Refusal}
 use Rattle.commands.specs.declared.fault.Refusal.TheVariants.{Differ}
-use Rattle.commands.specs.Refusing.{unless, then_made}
+use Rattle.commands.specs.Refusing.{or_else, first_refusal, unless, then_made}
 use Rattle.commands.specs.Left.{IsLate, IsNotBefore}
 
 -- ---- what holds of every fault
@@ -62,3 +64,33 @@ unless_ok None a b e = (refl, cc)
 pub then_ok : {A B : Type 0} (r : Result A EditFault) (make : A → Result B EditFault) (b : B) → then_made r make ≡ Ok b → (a : A) × (r ≡ Ok a) × (make a ≡ Ok b)
 then_ok (Ok a) make b e = (a, refl, e)
 then_ok (Err fault) make b e = absurd cc
+
+-- ---- the first refusal
+
+pub none_first : (o later : Option Refusal) → or_else o later ≡ None → (o ≡ None) × (later ≡ None)
+none_first None later e = (refl, e)
+none_first (Some fault) later e = absurd cc
+
+pub none_both : (o later : Option Refusal) → o ≡ None → later ≡ None → or_else o later ≡ None
+none_both o later e rest = ap (λ p. or_else p later) e ∙ rest
+
+module _ {A : Type 0} (refuse : A → Option Refusal) where
+  pub first-nil : first_refusal refuse [] ≡ None
+  unfolding first_refusal
+  first-nil = refl
+
+  pub first-cons : (a : A) (list : List A) → first_refusal refuse (a ∷ list) ≡ or_else (refuse a) (first_refusal refuse list)
+  unfolding first_refusal
+  first-cons a list = refl
+
+  -- of those from one on
+  pub first-from : (list : List A) (i : ℕ) (a : A) (here : Option Refusal) → i < length list → a ≡ get_or list i a → refuse a ≡ here → first_refusal refuse (drop i list) ≡ or_else here (first_refusal refuse (drop (i + 1) list))
+  first-from list i a here lt is refused =
+      let next : suc i ≡ i + 1 = omega arith in
+      ap (first_refusal refuse) (drop-cons list i a lt ∙ ap (λ n. get_or list i a ∷ drop n list) next)
+      ∙ ap (λ (b : A). first_refusal refuse (b ∷ drop (i + 1) list)) (sym is)
+      ∙ first-cons a (drop (i + 1) list)
+      ∙ ap (λ o. or_else o (first_refusal refuse (drop (i + 1) list))) refused
+
+  pub first-behind : (list : List A) (i : ℕ) → length list ≤ i → first_refusal refuse (drop i list) ≡ None
+  first-behind list i end = ap (first_refusal refuse) (drop_all i list end) ∙ first-nil

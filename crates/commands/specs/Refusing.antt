@@ -1,5 +1,5 @@
 -- The first of several refusals, and what is made where there is none.
-use Rattle.std.specs.Prelude.{Option, Some, None, Result, Ok, Err}
+use Rattle.std.specs.Prelude.{List, [], ◌∷◌, Option, Some, None, Result, Ok, Err}
 use Rattle.commands.specs.declared.fault.EditFault.{EditFault}
 use Rattle.commands.specs.declared.fault.EditFault.TheVariants.{Refused}
 use Rattle.commands.specs.declared.fault.Refusal.{Refusal}
@@ -7,6 +7,11 @@ use Rattle.commands.specs.declared.fault.Refusal.{Refusal}
 abbrev pub or_else : Option Refusal → Option Refusal → Option Refusal
 or_else (Some refusal) later = Some refusal
 or_else None later = later
+
+-- that of the first of these that is refused
+unfoldable pub first_refusal : {A : Type 0} → (A → Option Refusal) → List A → Option Refusal
+first_refusal refuse [] = None
+first_refusal refuse (a ∷ list) = or_else (refuse a) (first_refusal refuse list)
 
 abbrev pub unless : {A : Type 0} → Option Refusal → A → Result A EditFault
 unless (Some refusal) a = Err (Refused refusal)

@@ -31,6 +31,7 @@ use Rattle.moved_gains.specs.declared.shift.Steps.{Steps}
 use Rattle.moved_gains.specs.Course.{steps_over}
 use Rattle.gain_edits.specs.GainRange.{range_fault}
 use Rattle.gain_edits.proofs.Refusals.{range_may}
+use Rattle.gain_edits.proofs.Proper.{changed_all}
 use Rattle.gain_edits.specs.Change.{changed_with, changing}
 use Rattle.fading.specs.Fade.{points_read, points_in, curve_read, curve_on, curve_by, faded_by, faded, fade_in, fade_of, fade_change, faded_stream, choice_refuses, fade_refuses, fade_task}
 use Rattle.fading.specs.Steps.{IsChangeFaultBy, IsChangeFault, IsOfChange}
@@ -89,10 +90,6 @@ in_before bytes back s =
 fade_of-before : (sheet : Option (List ℕ)) (back : Bool) (s : SurveyFields) → IfErr (fade_of sheet back s) (IsNotBefore (Input 1 Read))
 fade_of-before sheet back s =
     then_all (IsNotBefore (Input 1 Read)) (sheet_in sheet) (λ bytes. fade_in bytes back s) (sheet-all (IsNotBefore (Input 1 Read)) (omega arith) (λ size. tt) sheet) (λ bytes. in_before bytes back s)
-
-changed_all : (P : EditFault → Type 0) (file : List ℕ) (s : SurveyFields) (r : Result Change EditFault) → IfErr r P → IfErr (changed_with file s r) P
-changed_all P file s (Err fault) is = is
-changed_all P file s (Ok change) is = tt
 
 -- ---- as faults of the command
 

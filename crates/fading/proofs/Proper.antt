@@ -9,6 +9,7 @@ use Rattle.fade_plan.specs.Sheets.{EnvelopePoint, envelope_of}
 use Rattle.fade_plan.specs.Curves.{CurvePoint, curve_of}
 use Rattle.sync_survey.specs.declared.places.Head.{Head}
 use Rattle.sync_survey.specs.declared.rows.Row.{Row}
+use Rattle.sync_survey.specs.declared.survey_fault.SurveyFault.{SurveyFault}
 use Rattle.sync_survey.specs.MainData.{StreamFrame, main_bytes, stream_frame, stream_frames}
 use Rattle.sync_survey.specs.Faults.{SurveyFields, surveyed, stream_of_survey, stream_of, HoldsStream}
 use Rattle.sync_survey.specs.Survey.{survey_of}
@@ -31,9 +32,7 @@ use Rattle.moved_gains.specs.Streams.{moved_stream_frame, moved_stream_of}
 use Rattle.moved_gains.proofs.CourseLaws.{survey_numbered}
 use Rattle.gain_edits.specs.GainRange.{range_fault}
 use Rattle.gain_edits.specs.Change.{changing}
-use Rattle.gain_edits.proofs.ChangedStream.{change_cases, changed-stream, holds_moved, stream_of-survey}
-use Rattle.gain_edits.proofs.Proper.{with_late}
-use Rattle.gain_edits.proofs.UndoneGains.{same_survey}
+use Rattle.gain_edits.proofs.Proper.{made_cases, changed-stream, holds_moved, stream_of-survey, changed_all}
 use Rattle.fading.specs.Fade.{points_read, points_in, curve_read, curve_on, curve_by, faded, fade_in, fade_of, fade_change, moved_frames, stream_along, stream_by, faded_stream, fade_refuses, fade_task}
 
 -- ---- memory was taken before
@@ -89,28 +88,31 @@ unfolding moved_stream_of stream_of_survey stream_frames
 by_curve course file s numbered =
     by_number (steps_over course s.frames) (steps_in course) (main_bytes file s.head s.frames) s.head s.frames 0 s.frames (λ i row is. ap (steps_in course) (numbered i row is ∙ sym (zero-add i)))
 
+same_survey : (s t : SurveyFields) (r : Result SurveyFields SurveyFault) → r ≡ Ok s → r ≡ Ok t → s ≡ t
+same_survey s t r e f = cc
+
 module _ (sheet : Option (List ℕ)) (back : Bool) where
   fade_stream : (file : List ℕ) (s : SurveyFields) (new : List ℕ) → AreBytes file → survey_of file most_frames ≡ Ok s → changing (fade_change sheet back) file s ≡ Ok new → HoldsStream new (faded_stream sheet back file)
   fade_stream file s new all is e =
-      let c = change_cases (fade_change sheet back) file new s (fade_of sheet back s) is refl e in
-      let parts = faded-parts sheet back c.survey c.change c.made in
+      let c = made_cases (fade_change sheet back) file new s (fade_of sheet back s) refl e in
+      let parts = faded-parts sheet back s c.change c.made in
       let course = Along parts.curve back in
       let none : IfSome c.change.tag IsTagBytes = subst (λ (d : Change). IfSome d.tag IsTagBytes) parts.made tt in
-      let moved = changed-stream (fade_change sheet back) file new c all none in
-      let full = surveyed-allowed file most_frames (length file + 1) c.survey (omega arith) (survey_of-parts file most_frames c.survey c.is).1 in
-      let same : moved.before.0 ≡ c.survey = same_survey moved.before.0 c.survey (surveyed file (length file + 1)) moved.before.1 full in
-      let steps : c.change.steps ≡ steps_over course c.survey.frames = ap (λ (d : Change). d.steps) (sym parts.made) in
-      let numbers = survey_numbered file most_frames c.survey (survey_of-parts file most_frames c.survey c.is).1 in
+      let moved = changed-stream (fade_change sheet back) file new s c all is none in
+      let full = surveyed-allowed file most_frames (length file + 1) s (omega arith) (survey_of-parts file most_frames s is).1 in
+      let same : moved.before.0 ≡ s = same_survey moved.before.0 s (surveyed file (length file + 1)) moved.before.1 full in
+      let steps : c.change.steps ≡ steps_over course s.frames = ap (λ (d : Change). d.steps) (sym parts.made) in
+      let numbers = survey_numbered file most_frames s (survey_of-parts file most_frames s is).1 in
       let stream : moved_stream_of c.change.steps file moved.before.0 ≡ moved_frames (steps_in course) (stream_of file) =
       ap₂ (λ (g : ℕ → Steps) (t : SurveyFields). moved_stream_of g file t) steps same
-      ∙ by_curve course file c.survey numbers
-      ∙ ap (moved_frames (steps_in course)) (sym (stream_of-survey file c.survey full)) in
+      ∙ by_curve course file s numbers
+      ∙ ap (moved_frames (steps_in course)) (sym (stream_of-survey file s full)) in
       let along : faded_stream sheet back file ≡ moved_frames (steps_in course) (stream_of file) =
-      ap (stream_by sheet back (stream_of file)) c.is ∙ ap (stream_along back (stream_of file)) parts.is in
+      ap (stream_by sheet back (stream_of file)) is ∙ ap (stream_along back (stream_of file)) parts.is in
       subst (HoldsStream new) (stream ∙ sym along) (holds_moved c.change.steps file new moved)
 
   pub fade_making : IsProperMaking (changing (fade_change sheet back)) (faded_stream sheet back)
-  fade_making = record { late = λ file s. with_late file s (fade_of sheet back s) (fade_of-late sheet back s); streams = fade_stream }
+  fade_making = record { late = λ file s. changed_all IsLate file s (fade_of sheet back s) (fade_of-late sheet back s); streams = fade_stream }
 
 pub fade_proper : (sheet : List ℕ) (back : Bool) (input : List ℕ) → IsProper (fade_task sheet back input)
 fade_proper sheet back input = record {

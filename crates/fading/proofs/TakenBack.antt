@@ -21,6 +21,7 @@ use Rattle.commands.specs.Refusing.{unless, then_made}
 use Rattle.commands.specs.Sheet.{sheet_in}
 use Rattle.commands.specs.Command.{Made, written}
 use Rattle.commands.specs.One.{most_frames, made_where, made_result, made_of, unless_clash}
+use Rattle.commands.proofs.InputLaws.{made_parts}
 use Rattle.commands.proofs.RefusingLaws.{then_ok}
 use Rattle.commands.proofs.MakeLaws.{made-same}
 use Rattle.moved_gains.specs.declared.course.Course.TheVariants.{Along}
@@ -34,11 +35,9 @@ use Rattle.moved_gains.proofs.MovedSurvey.{surveyed-edited}
 use Rattle.moved_gains.proofs.MovedAgain.{stood, AllTogether}
 use Rattle.gain_edits.specs.GainRange.{range_fault}
 use Rattle.gain_edits.specs.Change.{changing, changed_file}
-use Rattle.gain_edits.proofs.ChangedStream.{changed-parts, changed-ok}
-use Rattle.gain_edits.proofs.NoStep.{edited_still, still_holds}
-use Rattle.gain_edits.proofs.OppositeSteps.{still, plain-changed, frames, new_survey, bytes_again}
-use Rattle.gain_edits.proofs.RangeAgain.{AreOpposite, AllOpposite, range_back}
-use Rattle.gain_edits.proofs.UndoneGains.{made_by}
+use Rattle.gain_edits.proofs.Proper.{made_of as made_change, changed-ok}
+use Rattle.gain_edits.proofs.OppositeSteps.{edited_still, still_holds, plain-changed, frames, new_survey, bytes_again}
+use Rattle.gain_edits.proofs.RangeAgain.{still, AreOpposite, AllOpposite, range_back}
 use Rattle.fading.specs.Fade.{points_in, curve_read, curve_by, faded, fade_in, fade_of, fade_change, fade_task, fade_command}
 use Rattle.fading.specs.TakenBack.{FadeGivesBack, FadeIsTakenBack}
 use Rattle.fading.proofs.Proper.{faded-parts}
@@ -134,7 +133,7 @@ module _ (curve : List CurvePoint) (back : Bool) (file : List ℕ) (s : SurveyFi
 pub back_again : FadeGivesBack
 back_again sheet back file new s are short e =
     let is = (survey_of-parts file most_frames s short).1 in
-    let made = made_by (fade_change sheet back) file new s short e in
+    let made = made_change (fade_change sheet back) file new s short e in
     let parts = faded-parts sheet back s made.change made.made in
     let steps : ℕ → Steps = steps_over (Along parts.curve back) s.frames in
     let there : edited steps file s ≡ new = sym (plain-changed steps file s) ∙ ap (λ (c : Change). changed c file s) parts.made ∙ made.bytes in
@@ -177,8 +176,8 @@ pub command_back : FadeIsTakenBack
 command_back sheet input output last back files file made held are e first second =
     let done = done_apart sheet input output back files made e in
     let of_file : changed_file (fade_change (files sheet) back) file ≡ Ok done.bytes = sym (ap (made_where (changing (fade_change (files sheet) back))) held) ∙ done.makes in
-    let parts = changed-parts (fade_change (files sheet) back) file done.bytes of_file in
-    let again = back_again (files sheet) back file done.bytes parts.survey are parts.is of_file in
+    let parts = made_parts (changing (fade_change (files sheet) back)) file done.bytes of_file in
+    let again = back_again (files sheet) back file done.bytes parts.0 are parts.1 of_file in
     let new = with_file files output done.bytes in
     let new_is : new ≡ written made.outputs files = ap (λ (m : Made). written m.outputs files) done.is in
     let apart : sheet ≢ output = λ same. false≢true (sym done.other ∙ (bytes_eq-Decides sheet output).1 same) in
@@ -187,8 +186,8 @@ command_back sheet input output last back files file made held are e first secon
     ∙ makes_apart sheet output last (not back) new first second
     ∙ ap₂ (λ (o p : Option (List ℕ)). made_of last (made_where (changing (fade_change o (not back))) p)) (with_file_other files output done.bytes sheet apart) (with_file_here files output done.bytes) in
     record {
-      survey = parts.survey;
-      well_formed = parts.is;
+      survey = parts.0;
+      well_formed = parts.1;
       made = makes ∙ ap (made_of last) again.made;
       same = λ clean. makes ∙ ap (made_of last) (again.same clean);
       stream = again.stream;

@@ -4,6 +4,7 @@ ghost use Rattle.fading.specs.Fade.{fade_task};
 use crate::fade_change::fade_change;
 use commands::{Edit, EditFault, Inputs, MOST_FRAMES, survey_at};
 use gain_edits::Work;
+use moved_gains::Buffers;
 use outside::Folder;
 use std::alloc::Global;
 
@@ -32,7 +33,11 @@ impl<'a> Edit for FadeEdit<'a> {
     fn prepare<D: Folder>(&self, alloc: Global, folder: &mut D) -> Result<Work, EditFault> {
         let survey = survey_at(alloc, folder, self.input, 0, MOST_FRAMES)?;
         let change = fade_change(alloc, folder, self.sheet, self.back, &survey)?;
-        let work = Work::new(alloc, survey, change)?;
-        Ok(work)
+        let buffers = Buffers::new(alloc)?;
+        Ok(Work {
+            survey,
+            change,
+            buffers,
+        })
     }
 }

@@ -1,40 +1,163 @@
--- Gain and undo are commands that change one file: their refusals, their steps, and their new tags.
-use Rattle.std.proofs.Common.{◌≡◌, ℕ, ◌==◌, Bool, true, false, cond, List, [], length, map, Some, None, Result, Ok, Err, refl, sym, ◌∙◌, ap, subst, inl, inr}
-use Rattle.std.specs.Prelude.{IfSome, IfErr}
+-- What a command makes of a file: it is well-formed, its stream is that of the file with each gain moved, and the one body has what it asks of the command.
+use Rattle.std.proofs.Common.{◌≡◌, ℕ, List, Option, Some, None, Result, Ok, refl, sym, ◌∙◌, subst, arith, ◌+◌, [], ◌∷◌, length, map, Err, ap, ◌==◌, true, false, cond, inl, inr}
 use Rattle.bit_fields.specs.Bits.{AreBytes}
-use Rattle.tag_blocks.specs.declared.undo.Undo.{Undo}
 use Rattle.tag_blocks.specs.Tags.{TagFields, IsTag, tag_bytes}
+use Rattle.file_tag.specs.declared.fault.FileTagFault.{FileTagFault}
+use Rattle.file_tag.specs.Places.{tag_block, IsTagBytes, retagged, tag_at}
+use Rattle.file_tag.specs.Reading.{empty_tag, file_tag}
+use Rattle.file_tag.proofs.NewTag.{own-tag}
+use Rattle.file_tag.proofs.ReadingLaws.{file_tag-none}
+use Rattle.sync_survey.specs.declared.places.Piece.{Piece}
+use Rattle.sync_survey.specs.Faults.{SurveyFields, surveyed, stream_of_survey, HoldsStream, stream_by, stream_of}
+use Rattle.std.specs.Prelude.{IfSome, IfErr}
+use Rattle.file_tag.proofs.Retagged.{surveyed-retagged, stream-retagged}
+use Rattle.std.specs.List.{enumerate_from}
+use Rattle.sync_survey.specs.declared.places.Head.{Head}
+use Rattle.sync_survey.specs.declared.rows.Row.{Row}
+use Rattle.sync_survey.specs.MainData.{StreamFrame, main_bytes, stream_frame, stream_frames}
+use Rattle.sync_survey.specs.Survey.{survey_of}
+use Rattle.sync_survey.proofs.SurveyParts.{surveyed-allowed}
+use Rattle.commands.specs.declared.fault.EditFault.{EditFault}
+use Rattle.moved_gains.specs.Course.{even}
+use Rattle.moved_gains.specs.declared.shift.Steps.{Steps}
+use Rattle.moved_gains.specs.Edited.{edited}
+use Rattle.commands.specs.One.{most_frames, made_by, made_file, IsMaking, IsProper}
+use Rattle.moved_gains.specs.Change.{Change, retag, changed}
+use Rattle.gain_edits.specs.Change.{Changing, changed_with, changing, changed_file, stream_moved_by}
+use Rattle.moved_gains.specs.Streams.{moved_stream_frame, moved_stream_of, moved_survey, IsStreamMoved}
+use Rattle.moved_gains.proofs.MovedSurvey.{surveyed-edited}
+use Rattle.moved_gains.proofs.MovedStream.{stream-edited}
+use Rattle.sync_survey.proofs.SurveyedFiles.{survey_of-parts}
+use Rattle.tag_blocks.specs.declared.undo.Undo.{Undo}
 use Rattle.tag_blocks.specs.UndoItems.{undo_from}
 use Rattle.tag_blocks.proofs.TagsLaws.{block_front-tag_bytes}
 use Rattle.tag_blocks.proofs.UndoItemsLaws.{IsTag-with_undo, IsTag-without_undo}
-use Rattle.file_tag.specs.declared.fault.FileTagFault.{FileTagFault}
-use Rattle.file_tag.specs.Places.{tag_at, IsTagBytes}
-use Rattle.file_tag.specs.Reading.{file_tag}
-use Rattle.sync_survey.specs.Faults.{SurveyFields}
-use Rattle.sync_survey.specs.Survey.{survey_of}
-use Rattle.commands.specs.declared.fault.EditFault.{EditFault}
-use Rattle.moved_gains.specs.Course.{even}
 use Rattle.moved_gains.specs.declared.shift.Shift.{Shift}
-use Rattle.moved_gains.specs.declared.shift.Steps.{Steps}
 use Rattle.gain_edits.specs.GainRange.{range_fault}
 use Rattle.moved_gains.specs.Gains.{steps_of}
 use Rattle.commands.specs.Refusing.{or_else, then_made}
 use Rattle.gain_edits.specs.Channels.{channel_fault}
 use Rattle.gain_edits.specs.UndoItem.{tag_read, noted_undo, found_undo, undo_steps, next_undo, undo_fault, tag_with, tag_without, bytes_unless_empty, size_fault, output_fault}
-use Rattle.commands.specs.One.{most_frames}
-use Rattle.moved_gains.specs.Change.{Change}
-use Rattle.gain_edits.specs.Change.{Changing, changed_with, changing, stream_moved_by}
-use Rattle.moved_gains.specs.Streams.{moved_stream_frame, stream_in, IsStreamMoved}
-use Rattle.sync_survey.specs.Faults.{HoldsStream}
 use Rattle.gain_edits.specs.Gain.{noted_change, tagged_change, gain_change}
-use Rattle.gain_edits.specs.Undo.{undone_change, undo_change, undo_in, steps_when, steps_by, steps_back}
-use Rattle.sync_survey.proofs.SurveyedFiles.{survey_of-parts}
-use Rattle.gain_edits.proofs.ChangedStream.{change_cases, changed-stream, moved_holds}
-use Rattle.gain_edits.proofs.FileTags.{file_tag-is}
+use Rattle.gain_edits.specs.Undo.{undone_change, undo_change, undo_in, steps_when, steps_by as steps_read}
 use Rattle.commands.specs.Left.{IsLate}
-use Rattle.commands.proofs.InputLaws.{IsProperMaking}
+use Rattle.commands.proofs.InputLaws.{IsProperMaking, file_makes, file_proper}
 use Rattle.commands.proofs.RefusingLaws.{unless_ok, then_ok}
-use Rattle.gain_edits.proofs.Refusals.{gain_late, undo_change_late}
+use Rattle.gain_edits.proofs.Refusals.{change_late}
+use Rattle.outside.specs.Files.{Files, Holds, IsThere}
+use Rattle.gain_edits.specs.declared.changes.Changes.{Changes}
+use Rattle.gain_edits.specs.declared.changes.Changes.TheVariants.{Move, Undo as UndoAll}
+use Rattle.gain_edits.specs.Changes.{changing_by, steps_by, refused_by, task_of}
+
+IsTag-empty : IsTag empty_tag
+IsTag-empty = record { items = refl; one = omega arith; others = omega arith; own = omega arith; header_bits = refl; footer_bits = refl; header_number = refl; footer_number = refl }
+
+abbrev ok_tag : TagFields → Result TagFields FileTagFault
+ok_tag tag = Ok tag
+
+pub same_tag : (a b : TagFields) → ok_tag a ≡ ok_tag b → a ≡ b
+same_tag a b e = cc
+
+pub file_tag-is : (file : List ℕ) (allowed : ℕ) (s : SurveyFields) (tag : TagFields) → AreBytes file → surveyed file allowed ≡ Ok s → file_tag file s ≡ Ok tag → IsTag tag
+file_tag-is file allowed s tag all is e = at (tag_block s) refl
+  where
+    at : (o : Option Piece) → tag_block s ≡ o → IsTag tag
+    at None none = subst IsTag (same_tag empty_tag tag (sym (file_tag-none file s none) ∙ e)) IsTag-empty
+    at (Some b) some = ((own-tag file allowed s is).tag tag b all some e).0
+
+-- ---- what is made of a file
+
+-- the change of a file with this survey, and the new file
+pub record IsMadeBy (of : Changing) (file new : List ℕ) (s : SurveyFields) : Type 0 where
+  pub change : Change
+  pub made : of file s ≡ Ok change
+  pub bytes : changed change file s ≡ new
+
+pub made_cases : (of : Changing) (file new : List ℕ) (s : SurveyFields) (r : Result Change EditFault) → of file s ≡ r → changed_with file s r ≡ Ok new → IsMadeBy of file new s
+made_cases of file new s (Err fault) made e = absurd cc
+made_cases of file new s (Ok change) made e = record { change = change; made = made; bytes = cc }
+
+pub made_of : (of : Changing) (file new : List ℕ) (s : SurveyFields) → survey_of file most_frames ≡ Ok s → changed_file of file ≡ Ok new → IsMadeBy of file new s
+unfolding made_file
+made_of of file new s is e = made_cases of file new s (of file s) refl (ap (made_by (changing of) file) (sym is) ∙ e)
+
+pub changed-ok : (of : Changing) (file : List ℕ) (s : SurveyFields) (change : Change) → survey_of file most_frames ≡ Ok s → of file s ≡ Ok change → changed_file of file ≡ Ok (changed change file s)
+unfolding made_file
+changed-ok of file s change is made = ap (made_by (changing of) file) is ∙ ap (changed_with file s) made
+
+-- ---- the stream
+
+-- the survey of the changed file
+abbrev pub survey_with : Option (List ℕ) → SurveyFields → SurveyFields
+survey_with None s = s
+survey_with (Some tag) s = retagged (length tag) s
+
+abbrev pub changed_survey : Change → SurveyFields → SurveyFields
+changed_survey change s = survey_with change.tag (moved_survey change.steps s)
+
+no_junk : (steps : ℕ → Steps) (s : SurveyFields) → (moved_survey steps s).junk ≡ (moved_survey steps s).first
+unfolding moved_survey
+no_junk steps s = refl
+
+module _ (file : List ℕ) (allowed : ℕ) (s : SurveyFields) (all : AreBytes file) (is : surveyed file allowed ≡ Ok s) where
+  edited_is : (steps : ℕ → Steps) → surveyed (edited steps file s) allowed ≡ Ok (moved_survey steps s)
+  edited_is steps = surveyed-edited steps file allowed s all is
+
+  tagged_is : (steps : ℕ → Steps) (o : Option (List ℕ)) → IfSome o IsTagBytes → surveyed (retag o (moved_survey steps s) (edited steps file s)) allowed ≡ Ok (survey_with o (moved_survey steps s))
+  tagged_is steps None tags = edited_is steps
+  tagged_is steps (Some tag) tags = surveyed-retagged (edited steps file s) tag allowed (moved_survey steps s) (edited_is steps) (no_junk steps s) tags
+
+  pub surveyed-changed : (change : Change) → IfSome change.tag IsTagBytes → surveyed (changed change file s) allowed ≡ Ok (changed_survey change s)
+  unfolding changed
+  surveyed-changed change tags = tagged_is change.steps change.tag tags
+
+  stream_is : (steps : ℕ → Steps) (o : Option (List ℕ)) → IfSome o IsTagBytes
+      → stream_of_survey (retag o (moved_survey steps s) (edited steps file s)) (survey_with o (moved_survey steps s)) ≡ moved_stream_of steps file s
+  stream_is steps None tags = stream-edited steps file allowed s all is
+  stream_is steps (Some tag) tags = stream-retagged (edited steps file s) tag allowed (moved_survey steps s) (edited_is steps) (no_junk steps s) tags ∙ stream-edited steps file allowed s all is
+
+  pub stream-changed : (change : Change) → IfSome change.tag IsTagBytes
+      → stream_of_survey (changed change file s) (changed_survey change s) ≡ moved_stream_of change.steps file s
+  unfolding changed
+  stream-changed change tags = stream_is change.steps change.tag tags
+
+  changed-moved : (change : Change) → IfSome change.tag IsTagBytes → IsStreamMoved change.steps file (changed change file s)
+  changed-moved change tags =
+      let new = changed change file s in
+      record {
+        before = (s, surveyed-allowed file allowed (length file + 1) s (omega arith) is);
+        after = (changed_survey change s, surveyed-allowed new allowed (length new + 1) (changed_survey change s) (omega arith) (surveyed-changed change tags));
+        stream = stream-changed change tags;
+      }
+
+-- what a command makes of a file is well-formed as the file is, and its stream is that of the file with each gain moved
+pub changed-stream : (of : Changing) (file new : List ℕ) (s : SurveyFields) (c : IsMadeBy of file new s) → AreBytes file → survey_of file most_frames ≡ Ok s → IfSome c.change.tag IsTagBytes → IsStreamMoved c.change.steps file new
+changed-stream of file new s c all is tags = subst (IsStreamMoved c.change.steps file) c.bytes (changed-moved file most_frames s all (survey_of-parts file most_frames s is).1 c.change tags)
+
+pub stream_of-survey : (file : List ℕ) (s : SurveyFields) → surveyed file (length file + 1) ≡ Ok s → stream_of file ≡ stream_of_survey file s
+unfolding stream_of
+stream_of-survey file s is = ap (stream_by file) is
+
+each_even : (steps : Steps) (main : List ℕ) (o : Option Head) (rows : List Row) (more : List (ℕ × Row))
+    → map (λ (p : ℕ × Row). moved_stream_frame steps (stream_frame main o rows p.0 p.1)) more ≡ map (moved_stream_frame steps) (map (λ (p : ℕ × Row). stream_frame main o rows p.0 p.1) more)
+each_even steps main o rows [] = refl
+each_even steps main o rows (p ∷ more) = ap (λ (l : List StreamFrame). moved_stream_frame steps (stream_frame main o rows p.0 p.1) ∷ l) (each_even steps main o rows more)
+
+-- where all frames have the same steps
+pub even_stream : (steps : Steps) (file : List ℕ) (s : SurveyFields) → moved_stream_of (even steps) file s ≡ map (moved_stream_frame steps) (stream_of_survey file s)
+unfolding moved_stream_of stream_of_survey stream_frames
+even_stream steps file s = each_even steps (main_bytes file s.head s.frames) s.head s.frames (enumerate_from 0 s.frames)
+
+-- as a stream that it holds
+pub holds_moved : (steps : ℕ → Steps) (file new : List ℕ) (h : IsStreamMoved steps file new) → HoldsStream new (moved_stream_of steps file h.before.0)
+holds_moved steps file new h = record {
+  well_formed = h.after;
+  stream_is = stream_of-survey new h.after.0 h.after.1 ∙ h.stream;
+}
+
+pub moved_holds : (steps : Steps) (file new : List ℕ) → IsStreamMoved (even steps) file new → HoldsStream new (map (moved_stream_frame steps) (stream_of file))
+moved_holds steps file new h =
+    subst (HoldsStream new) (even_stream steps file h.before.0 ∙ ap (map (moved_stream_frame steps)) (sym (stream_of-survey file h.before.0 h.before.1))) (holds_moved (even steps) file new h)
 
 -- ---- what is made
 
@@ -70,83 +193,58 @@ undone-parts file s change e =
     let three = unless_ok (range_fault (even (undo_steps two.0)) s.frames) _ change two.2 in
     record { tag = one.0; undo = two.0; read = one.1; item = two.1; free = three.0; is = three.1 }
 
-gain_steps : (shift : Shift) (tags : Bool) (file : List ℕ) (s : SurveyFields) (change : Change) → gain_change shift tags file s ≡ Ok change → change.steps ≡ even (steps_of shift)
-unfolding gain_change
-gain_steps shift true file s change e = let parts = tagged-parts shift file s change e in ap (λ (c : Change). c.steps) (sym parts.is)
-gain_steps shift false file s change e =
-    let parts = unless_ok (or_else (channel_fault shift s) (range_fault (even (steps_of shift)) s.frames)) _ change e in
-    ap (λ (c : Change). c.steps) (sym parts.1)
-
-back_steps : (file : List ℕ) (s : SurveyFields) (change : Change) → survey_of file most_frames ≡ Ok s → undo_change file s ≡ Ok change → change.steps ≡ even (steps_back file)
-back_steps file s change is made =
-    let parts = undone-parts file s change made in
-    let undo : undo_in file s ≡ Ok parts.undo = ap (λ (r : Result TagFields EditFault). then_made r (λ tag. found_undo (tag_at s) (undo_from 32 tag.items))) parts.read ∙ parts.item in
-    ap (λ (c : Change). c.steps) (sym parts.is) ∙ ap even (sym (ap (steps_by file) is ∙ ap steps_when undo))
-
 -- ---- the new tag
 
-abbrev ok_tag : TagFields → Result TagFields FileTagFault
-ok_tag tag = Ok tag
-
-abbrev edit_tag : TagFields → Result TagFields EditFault
-edit_tag tag = Ok tag
-
 pub read_ok : (r : Result TagFields FileTagFault) (tag : TagFields) → tag_read r ≡ Ok tag → r ≡ Ok tag
-read_ok (Ok found) tag e = ap ok_tag (same found tag e)
-  where
-    same : (f g : TagFields) → edit_tag f ≡ edit_tag g → f ≡ g
-    same f g e = cc
+read_ok (Ok found) tag e = cc
 read_ok (Err fault) tag e = absurd cc
 
 -- the tag of a file is a tag
 pub read-tag : (file : List ℕ) (s : SurveyFields) (tag : TagFields) → AreBytes file → survey_of file most_frames ≡ Ok s → tag_read (file_tag file s) ≡ Ok tag → IsTag tag
 read-tag file s tag all is e = file_tag-is file most_frames s tag all (survey_of-parts file most_frames s is).1 (read_ok (file_tag file s) tag e)
 
-tag_bytes-are : (tag : TagFields) → IsTag tag → IsTagBytes (tag_bytes tag)
-tag_bytes-are tag is = inr (block_front-tag_bytes tag is)
+pub unless_empty-are : (tag : TagFields) → IsTag tag → IsTagBytes (bytes_unless_empty tag)
+unless_empty-are tag is = elim (length tag.items == 0) as (λ b. IsTagBytes (cond b [] (tag_bytes tag))) [ true ↦ inl refl | false ↦ inr (block_front-tag_bytes tag is) ]
 
-unless_empty-are : (tag : TagFields) → IsTag tag → IsTagBytes (bytes_unless_empty tag)
-unless_empty-are tag is = elim (length tag.items == 0) as (λ b. IsTagBytes (cond b [] (tag_bytes tag))) [ true ↦ inl refl | false ↦ tag_bytes-are tag is ]
+-- the steps are those of the command, and there is no new tag or the bytes of one
+abbrev IsChangeOf : Changes → List ℕ → Change → Type 0
+IsChangeOf changes file change = (change.steps ≡ even (steps_by changes file)) × IfSome change.tag IsTagBytes
 
-gain_tags : (shift : Shift) (tags : Bool) (file : List ℕ) (s : SurveyFields) (change : Change) → AreBytes file → survey_of file most_frames ≡ Ok s → gain_change shift tags file s ≡ Ok change → IfSome change.tag IsTagBytes
+change_is : (changes : Changes) (file : List ℕ) (s : SurveyFields) (change : Change) → AreBytes file → survey_of file most_frames ≡ Ok s → changing_by changes file s ≡ Ok change → IsChangeOf changes file change
 unfolding gain_change
-gain_tags shift true file s change all is e =
-    let parts = tagged-parts shift file s change e in
-    let next = next_undo shift parts.undo in
-    subst (λ (c : Change). IfSome c.tag IsTagBytes) parts.is
-    (tag_bytes-are (tag_with next parts.tag) (IsTag-with_undo next parts.tag (read-tag file s parts.tag all is parts.read)))
-gain_tags shift false file s change all is e =
-    let parts = unless_ok (or_else (channel_fault shift s) (range_fault (even (steps_of shift)) s.frames)) _ change e in
-    subst (λ (c : Change). IfSome c.tag IsTagBytes) parts.1 tt
-
-undo_tags : (file : List ℕ) (s : SurveyFields) (change : Change) → AreBytes file → survey_of file most_frames ≡ Ok s → undo_change file s ≡ Ok change → IfSome change.tag IsTagBytes
-undo_tags file s change all is e =
+change_is (Move shift true) file s change all is e =
+    let parts = tagged-parts shift.now file s change e in
+    let next = next_undo shift.now parts.undo in
+    subst (IsChangeOf (Move shift true) file) parts.is (refl, inr (block_front-tag_bytes (tag_with next parts.tag) (IsTag-with_undo next parts.tag (read-tag file s parts.tag all is parts.read))))
+change_is (Move shift false) file s change all is e =
+    let parts = unless_ok (or_else (channel_fault shift.now s) (range_fault (even (steps_of shift.now)) s.frames)) _ change e in
+    subst (IsChangeOf (Move shift false) file) parts.1 (refl, tt)
+change_is UndoAll file s change all is e =
     let parts = undone-parts file s change e in
-    subst (λ (c : Change). IfSome c.tag IsTagBytes) parts.is
-    (unless_empty-are (tag_without parts.tag) (IsTag-without_undo parts.tag (read-tag file s parts.tag all is parts.read)))
+    let undo : undo_in file s ≡ Ok parts.undo = ap (λ (r : Result TagFields EditFault). then_made r (λ tag. found_undo (tag_at s) (undo_from 32 tag.items))) parts.read ∙ parts.item in
+    subst (IsChangeOf UndoAll file) parts.is
+    (ap even (sym (ap (steps_read file) is ∙ ap steps_when undo)), unless_empty-are (tag_without parts.tag) (IsTag-without_undo parts.tag (read-tag file s parts.tag all is parts.read)))
 
 -- ---- as commands
 
-pub with_late : (file : List ℕ) (s : SurveyFields) (r : Result Change EditFault) → IfErr r IsLate → IfErr (changed_with file s r) IsLate
-with_late file s (Err fault) late = late
-with_late file s (Ok change) late = tt
+pub changed_all : (P : EditFault → Type 0) (file : List ℕ) (s : SurveyFields) (r : Result Change EditFault) → IfErr r P → IfErr (changed_with file s r) P
+changed_all P file s (Err fault) is = is
+changed_all P file s (Ok change) is = tt
 
-module _ (of : Changing) (steps_in : List ℕ → Steps)
-    (late : (file : List ℕ) (s : SurveyFields) → IfErr (of file s) IsLate)
-    (steps : (file : List ℕ) (s : SurveyFields) (change : Change) → survey_of file most_frames ≡ Ok s → of file s ≡ Ok change → change.steps ≡ even (steps_in file))
-    (tags : (file : List ℕ) (s : SurveyFields) (change : Change) → AreBytes file → survey_of file most_frames ≡ Ok s → of file s ≡ Ok change → IfSome change.tag IsTagBytes) where
-  moved_stream : (file : List ℕ) (s : SurveyFields) (new : List ℕ) → AreBytes file → survey_of file most_frames ≡ Ok s → changing of file s ≡ Ok new → HoldsStream new (map (moved_stream_frame (steps_in file)) (stream_in file))
-  moved_stream file s new all is e =
-      let c = change_cases of file new s (of file s) is refl e in
-      let moved = changed-stream of file new c all (tags file c.survey c.change all c.is c.made) in
-      moved_holds (steps_in file) file new (subst (λ (t : ℕ → Steps). IsStreamMoved t file new) (steps file c.survey c.change c.is c.made) moved)
+moved_stream : (changes : Changes) (file : List ℕ) (s : SurveyFields) (new : List ℕ) → AreBytes file → survey_of file most_frames ≡ Ok s → changing (changing_by changes) file s ≡ Ok new → HoldsStream new (stream_moved_by (steps_by changes) file)
+moved_stream changes file s new all is e =
+    let c = made_cases (changing_by changes) file new s (changing_by changes file s) refl e in
+    let parts = change_is changes file s c.change all is c.made in
+    let moved = changed-stream (changing_by changes) file new s c all is parts.1 in
+    moved_holds (steps_by changes file) file new (subst (λ (t : ℕ → Steps). IsStreamMoved t file new) parts.0 moved)
 
-  change_proper : IsProperMaking (changing of) (stream_moved_by steps_in)
-  change_proper = record { late = λ file s. with_late file s (of file s) (late file s); streams = moved_stream }
+proper : (changes : Changes) → IsProperMaking (changing (changing_by changes)) (stream_moved_by (steps_by changes))
+proper changes = record { late = λ file s. changed_all IsLate file s (changing_by changes file s) (change_late changes file s); streams = moved_stream changes }
 
-pub gain_proper : (shift : Shift) (tags : Bool) → IsProperMaking (changing (gain_change shift tags)) (stream_moved_by (λ file. steps_of shift))
-gain_proper shift tags =
-    change_proper (gain_change shift tags) (λ file. steps_of shift) (gain_late shift tags) (λ file s change is made. gain_steps shift tags file s change made) (gain_tags shift tags)
+pub edit_makes : (changes : Changes) (input : List ℕ) (s : SurveyFields) (change : Change) (files : Files) → IsThere files input → ((bytes : List ℕ) → Holds files input bytes → survey_of bytes most_frames ≡ Ok s) → ((bytes : List ℕ) → Holds files input bytes → AreBytes bytes)
+    → ((bytes : List ℕ) → Holds files input bytes → changing_by changes bytes s ≡ Ok change) → IsMaking (task_of changes input) (λ file. changed change file s) files
+edit_makes changes input s change files there surveyed octets changed_by =
+    file_makes (changing (changing_by changes)) (stream_moved_by (steps_by changes)) (refused_by changes) input files _ s there surveyed octets (λ bytes holds. ap (changed_with bytes s) (changed_by bytes holds))
 
-pub undo_proper : IsProperMaking (changing undo_change) (stream_moved_by steps_back)
-undo_proper = change_proper undo_change steps_back undo_change_late back_steps undo_tags
+pub edit_proper : (changes : Changes) (input : List ℕ) → IsProper (task_of changes input)
+edit_proper changes input = file_proper (changing (changing_by changes)) (stream_moved_by (steps_by changes)) (proper changes) (refused_by changes) input

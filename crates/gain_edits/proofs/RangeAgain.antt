@@ -9,16 +9,15 @@ use Rattle.side_info.proofs.FrameLaws.{fits-side_in}
 use Rattle.side_info.proofs.SideLaws.{IsShaped, side_with, each_shaped}
 use Rattle.sync_survey.specs.declared.rows.Row.{Row}
 use Rattle.frame_header.specs.Tables.{class_of}
-use Rattle.commands.specs.declared.fault.Refusal.{Refusal}
 use Rattle.moved_gains.specs.Course.{even}
 use Rattle.moved_gains.specs.declared.gains.Stuck.{Stuck}
 use Rattle.moved_gains.specs.declared.shift.Steps.{Steps}
 use Rattle.moved_gains.specs.Gains.{is_silent_granule, is_outside, moved_gain, moved, moved_side, moved_unless, stuck_at, stuck_in}
 use Rattle.moved_gains.specs.Edited.{stuck_of}
-use Rattle.gain_edits.specs.GainRange.{stuck_fault, range_fault}
+use Rattle.gain_edits.specs.GainRange.{stuck_fault, range_at, range_fault}
 use Rattle.moved_gains.proofs.MovedGains.{rem, within, gain_as_is, moved-loud, is_stuck, GainsFit, IsNoStep, none_of, none_then, AreFree, free-parts, wrapped-free, side_then}
 use Rattle.moved_gains.proofs.MovedFrame.{whole_class, gains_fit}
-use Rattle.gain_edits.proofs.RangeLaws.{range-cons, range-nil}
+use Rattle.commands.proofs.RefusingLaws.{none_first, none_both, first-nil, first-cons}
 use Rattle.moved_gains.proofs.FramesThere.{frame_of, IsFrameOf, AreFramesOf, row_shaped}
 use Rattle.moved_gains.proofs.MovedAgain.{AreTogether, stood}
 
@@ -30,8 +29,8 @@ gain_both a b gain inside then =
     let to : pos (moved_gain a gain) ≡ pos gain +ℤ a = ap (λ z. pos (rem z)) sum.is ∙ ap pos (gain_as_is sum.gain sum.small) ∙ sym sum.is in
     sym (ap (λ z. is_outside (z +ℤ b)) to ∙ ap is_outside (+ℤ_assoc (pos gain) a b)) ∙ then
 
-granule_both : (a b : ℤ) (g : Granule) → is_stuck a g ≡ false → is_stuck b (moved a g) ≡ false → is_stuck (a +ℤ b) g ≡ false
-granule_both a b g first second = by_silence (is_silent_granule g) refl
+granule_both : (a b all : ℤ) → all ≡ a +ℤ b → (g : Granule) → is_stuck a g ≡ false → is_stuck b (moved a g) ≡ false → is_stuck all g ≡ false
+granule_both a b all sum g first second = ap (λ z. is_stuck z g) sum ∙ by_silence (is_silent_granule g) refl
   where
     by_silence : (silent : Bool) → is_silent_granule g ≡ silent → is_stuck (a +ℤ b) g ≡ false
     by_silence true silent = ap (λ s. not s && is_outside (pos g.global_gain +ℤ (a +ℤ b))) silent
@@ -62,12 +61,8 @@ both-with one two all strict_one strict_two strict_all sum m p a b g h k l first
     let w =
     free-parts two m p a b (moved one.left g) (moved one.right h) (moved one.left k) (moved one.right l) strict_two
     (sym (ap (stuck_in two) (moved_with one m p a b g h k l)) ∙ second) in
-    let on_left : (x : Granule) → is_stuck one.left x ≡ false → is_stuck two.left (moved one.left x) ≡ false → is_stuck all.left x ≡ false =
-    λ x e d. ap (λ z. is_stuck z x) sum.left ∙ granule_both one.left two.left x e d in
-    let on_right : (x : Granule) → is_stuck one.right x ≡ false → is_stuck two.right (moved one.right x) ≡ false → is_stuck all.right x ≡ false =
-    λ x e d. ap (λ z. is_stuck z x) sum.right ∙ granule_both one.right two.right x e d in
     free-all all m p a b g h k l
-    (record { first = on_left g f.first w.first; second = on_right h f.second w.second; third = on_left k f.third w.third; fourth = on_right l f.fourth w.fourth })
+    (record { first = granule_both one.left two.left all.left sum.left g f.first w.first; second = granule_both one.right two.right all.right sum.right h f.second w.second; third = granule_both one.left two.left all.left sum.left k f.third w.third; fourth = granule_both one.right two.right all.right sum.right l f.fourth w.fourth })
     strict_all
 
 pub side_both : (one two all : Steps) (s : Side) → IsShaped s → all.wrap ≡ one.wrap || two.wrap → AreTogether one two all → stuck_in one s ≡ None → stuck_in two (moved_side one s) ≡ None → stuck_in all s ≡ None
@@ -81,19 +76,22 @@ side_both one two all s shaped wraps sum first second = by_wrap one.wrap two.wra
 
 -- ---- no step
 
-still_granule : (g : Granule) → g.global_gain < 256 → is_stuck (pos 0) g ≡ false
-still_granule g small =
+abbrev pub still : Steps
+still = record { left = pos 0; right = pos 0; wrap = false }
+
+still_granule : (z : ℤ) → z ≡ pos 0 → (g : Granule) → g.global_gain < 256 → is_stuck z g ≡ false
+still_granule z none g small =
     let inside : is_outside (pos g.global_gain +ℤ pos 0) ≡ false = ap is_outside (+ℤ_idr (pos g.global_gain)) ∙ le-ltb 255 g.global_gain (omega (arith, small)) in
-    elim (is_silent_granule g) as (λ b. (not b && is_outside (pos g.global_gain +ℤ pos 0)) ≡ false) [ true ↦ refl | false ↦ inside ]
+    ap (λ z. is_stuck z g) none ∙ (elim (is_silent_granule g) as (λ b. (not b && is_outside (pos g.global_gain +ℤ pos 0)) ≡ false) [ true ↦ refl | false ↦ inside ])
 
 abbrev StillGoal : Steps → Side → Type 0
 StillGoal steps s = GainsFit s → stuck_in steps s ≡ None
 
 still-with : (steps : Steps) → IsNoStep steps → steps.wrap ≡ false → (m p a b : ℕ) (g h k l : Granule) → StillGoal steps (side_with m p a b g h k l)
 still-with steps none strict m p a b g h k l fits =
-    let left : (x : Granule) → x.global_gain < 256 → is_stuck steps.left x ≡ false = λ x small. ap (λ z. is_stuck z x) none.0 ∙ still_granule x small in
-    let right : (x : Granule) → x.global_gain < 256 → is_stuck steps.right x ≡ false = λ x small. ap (λ z. is_stuck z x) none.1 ∙ still_granule x small in
-    free-all steps m p a b g h k l (record { first = left g fits.first; second = right h fits.second; third = left k fits.third; fourth = right l fits.fourth }) strict
+    free-all steps m p a b g h k l
+    (record { first = still_granule steps.left none.0 g fits.first; second = still_granule steps.right none.1 h fits.second; third = still_granule steps.left none.0 k fits.third; fourth = still_granule steps.right none.1 l fits.fourth })
+    strict
 
 pub side_still : (steps : Steps) → IsNoStep steps → steps.wrap ≡ false → (s : Side) → IsShaped s → GainsFit s → stuck_in steps s ≡ None
 side_still steps none strict s shaped = each_shaped (StillGoal steps) (still-with steps none strict) s shaped
@@ -104,12 +102,18 @@ row_fits file row here =
 
 -- ---- all frames
 
-pub stuck_none : (at : ℕ) (s : Option Stuck) (later : Option Refusal) → stuck_fault at s later ≡ None → (s ≡ None) × (later ≡ None)
-stuck_none at (Some s) later e = absurd cc
-stuck_none at None later e = (refl, e)
+stuck_none : (at : ℕ) (s : Option Stuck) → stuck_fault at s ≡ None → s ≡ None
+stuck_none at (Some s) e = absurd cc
+stuck_none at None e = refl
 
-none_stuck : (at : ℕ) (s : Option Stuck) (later : Option Refusal) → s ≡ None → later ≡ None → stuck_fault at s later ≡ None
-none_stuck at s later e rest = ap (λ x. stuck_fault at x later) e ∙ rest
+-- no gain of the first frame leaves its range, and none of the others
+pub frame-none : (steps : ℕ → Steps) (row : Row) (rows : List Row) → range_fault steps (row ∷ rows) ≡ None → (stuck_of (steps row.offset) row ≡ None) × (range_fault steps rows ≡ None)
+frame-none steps row rows none =
+    let parts = none_first (range_at steps row) (range_fault steps rows) (sym (first-cons (range_at steps) row rows) ∙ none) in
+    (stuck_none row.offset (stuck_of (steps row.offset) row) parts.0, parts.1)
+
+pub none-frame : (steps : ℕ → Steps) (row : Row) (rows : List Row) → stuck_of (steps row.offset) row ≡ None → range_fault steps rows ≡ None → range_fault steps (row ∷ rows) ≡ None
+none-frame steps row rows here rest = first-cons (range_at steps) row rows ∙ none_both (range_at steps row) (range_fault steps rows) (ap (stuck_fault row.offset) here) rest
 
 -- what follows for a frame of which no gain leaves the range follows also for a lost one, whose gains are never looked at
 unless_both : (lost : Bool) (a b c : Option Stuck) → (a ≡ None → b ≡ None → c ≡ None) → cond lost None a ≡ None → cond lost None b ≡ None → cond lost None c ≡ None
@@ -123,13 +127,11 @@ moved_or_lost false two one s = refl
 -- where no gain leaves its range by the first change, and then none by the second, none does by both together
 pub range_both : (one two all : Steps) → all.wrap ≡ one.wrap || two.wrap → AreTogether one two all → (file : List ℕ) (to : ℕ → ℕ) (rows : List Row) → AreFramesOf file rows
     → range_fault (even one) rows ≡ None → range_fault (even two) (map (stood to (even one)) rows) ≡ None → range_fault (even all) rows ≡ None
-range_both one two all wraps sum file to [] frames first second = range-nil (even all)
+range_both one two all wraps sum file to [] frames first second = first-nil (range_at (even all))
 range_both one two all wraps sum file to (row ∷ rows) frames first second =
-    let there = map (stood to (even one)) rows in
-    let f = stuck_none row.offset (stuck_of one row) (range_fault (even one) rows) (sym (range-cons (even one) row rows) ∙ first) in
-    let t = stuck_none (to row.offset) (stuck_of two (stood to (even one) row)) (range_fault (even two) there) (sym (range-cons (even two) (stood to (even one) row) there) ∙ second) in
-    range-cons (even all) row rows
-    ∙ none_stuck row.offset (stuck_of all row) (range_fault (even all) rows)
+    let f = frame-none (even one) row rows first in
+    let t = frame-none (even two) (stood to (even one) row) (map (stood to (even one)) rows) second in
+    none-frame (even all) row rows
     (unless_both row.lost (stuck_in one row.side) (stuck_in two (moved_side one row.side)) (stuck_in all row.side) (side_both one two all row.side (row_shaped file row frames.0) wraps sum)
     f.0 (sym (moved_or_lost row.lost two one row.side) ∙ t.0))
     (range_both one two all wraps sum file to rows frames.1 f.1 t.1)
@@ -151,16 +153,14 @@ even_opposite one two opposite to (row ∷ rows) = (opposite, even_opposite one 
 -- where both together are no step, no gain that the first moved leaves its range by the second
 pub range_back : (one two : ℕ → Steps) (file : List ℕ) (to : ℕ → ℕ) (rows : List Row) → AllOpposite one two to rows → AreFramesOf file rows
     → range_fault one rows ≡ None → range_fault two (map (stood to one) rows) ≡ None
-range_back one two file to [] opposite frames free = range-nil two
+range_back one two file to [] opposite frames free = first-nil (range_at two)
 range_back one two file to (row ∷ rows) opposite frames free =
-    let still : Steps = record { left = pos 0; right = pos 0; wrap = false } in
     let or_none : (b : Bool) → b ≡ b || false = λ b. elim b as (λ c. c ≡ c || false) [ true ↦ refl | false ↦ refl ] in
     let a = one row.offset in
     let b = two (to row.offset) in
-    let f = stuck_none row.offset (stuck_of a row) (range_fault one rows) (sym (range-cons one row rows) ∙ free) in
+    let f = frame-none one row rows free in
     let shaped = row_shaped file row frames.0 in
-    range-cons two (stood to one row) (map (stood to one) rows)
-    ∙ none_stuck (to row.offset) (stuck_of b (stood to one row)) (range_fault two (map (stood to one) rows))
+    none-frame two (stood to one row) (map (stood to one) rows)
     (moved_or_lost row.lost b a row.side
     ∙ unless_both row.lost (stuck_in a row.side) (stuck_in a row.side) (stuck_in b (moved_side a row.side))
     (λ first again. side_then a b still row.side shaped (opposite.0.wraps ∙ or_none a.wrap) (sym opposite.0.left) (sym opposite.0.right) first (side_still still (refl, refl) refl row.side shaped (row_fits file row frames.0)))

@@ -1,56 +1,138 @@
 -- What a file is after noted changes of gains, one after the other; and that undo takes them back.
-use Rattle.std.proofs.Common.{◌≡◌, ℕ, ◌+◌, ◌-◌, ◌≤◌, ◌==◌, ◌||◌, Bool, true, false, cond, List, [], ◌∷◌, ◌++◌, length, take, drop, map, Option, Some, None, Result, Ok, pos, ◌+ℤ◌, refl, sym, ◌∙◌, ap, subst, arith, inl, inr, take-append-drop}
-use Rattle.std.proofs.lemmas.Bool.{ne_eqb}
-use Rattle.bit_fields.specs.Bits.{AreBytes}
-use Rattle.tag_blocks.specs.declared.block.Kind.TheVariants.{Ape}
+use Rattle.std.proofs.Common.{◌≡◌, ℕ, ◌+◌, ◌≤◌, ltb, Bool, true, false, cond, List, [], ◌∷◌, length, Option, Some, None, Result, Ok, ℤ, pos, ◌+ℤ◌, refl, sym, ◌∙◌, ap, ◌-◌, ◌==◌, ◌||◌, ◌++◌, take, drop, map, subst, arith, inl, inr, take-append-drop}
+use Rattle.std.specs.Prelude.{unsigned_abs, ◌-ℤ◌}
+use Rattle.std.proofs.lemmas.Bool.{ltb-false, le-ltb, ne_eqb}
+use Rattle.std.proofs.Math.IntN.{+ℤ_assoc, +ℤ_comm, -ℤ-+ℤ_cancel}
 use Rattle.tag_blocks.specs.declared.undo.Undo.{Undo}
+use Rattle.tag_blocks.specs.declared.undo.UndoItem.{UndoItem}
 use Rattle.tag_blocks.specs.declared.undo.UndoItem.TheVariants.{Missing, Found}
-use Rattle.tag_blocks.specs.Blocks.{block_front}
+use Rattle.tag_blocks.specs.UndoText.{undo_of, FitsText}
+use Rattle.tag_blocks.specs.Items.{TagItem, is_undo, item_length}
 use Rattle.tag_blocks.specs.Tags.{TagFields, IsTag, tag_bytes}
-use Rattle.tag_blocks.specs.UndoItems.{undo_from}
-use Rattle.tag_blocks.proofs.TagsLaws.{block_front-tag_bytes}
-use Rattle.tag_blocks.proofs.UndoItemsLaws.{IsTag-with_undo}
-use Rattle.file_tag.specs.Places.{tag_block, tag_at, tag_length, IsTagBytes, with_tag}
-use Rattle.file_tag.specs.Laws.{own_bytes}
-use Rattle.file_tag.specs.Reading.{longest_tag, empty_tag, file_tag}
-use Rattle.file_tag.proofs.FoundTag.{surveyed-length}
-use Rattle.file_tag.proofs.NewTag.{own-tag}
-use Rattle.sync_survey.specs.declared.survey_fault.SurveyFault.{SurveyFault}
-use Rattle.sync_survey.specs.declared.places.Piece.{Piece}
-use Rattle.sync_survey.specs.Faults.{SurveyFields, surveyed, stream_of, HoldsStream, longest_file}
-use Rattle.sync_survey.specs.Survey.{survey_of}
-use Rattle.sync_survey.proofs.FoldersLaws.{survey_of-short}
+use Rattle.tag_blocks.specs.UndoItems.{undo_at, undo_from, without_undo}
+use Rattle.tag_blocks.proofs.TagsLaws.{tag_of-tag_bytes, block_front-tag_bytes}
+use Rattle.tag_blocks.proofs.UndoTextLaws.{undo_of-undo_text}
+use Rattle.tag_blocks.proofs.UndoItemsLaws.{undo_from-with_undo, without_undo-with_undo, IsTag-with_undo}
+use Rattle.file_tag.specs.Places.{tag_at, tag_block, tag_length, with_tag}
+use Rattle.file_tag.specs.Reading.{longest_tag, tag_of_block, file_tag, empty_tag}
+use Rattle.sync_survey.specs.Faults.{SurveyFields, longest_file, surveyed, stream_of, HoldsStream}
 use Rattle.commands.specs.declared.fault.EditFault.{EditFault}
 use Rattle.commands.specs.declared.fault.Refusal.{Refusal}
+use Rattle.commands.specs.declared.fault.Refusal.TheVariants.{UndoRange}
 use Rattle.moved_gains.specs.Course.{even}
 use Rattle.moved_gains.specs.declared.shift.Shift.{Shift}
-use Rattle.moved_gains.specs.declared.shift.Steps.{Steps}
-use Rattle.commands.specs.Refusing.{unless, then_made}
-use Rattle.moved_gains.specs.Edited.{edited}
-use Rattle.file_tag.proofs.ReadingLaws.{file_tag-none}
 use Rattle.gain_edits.specs.GainRange.{range_fault}
 use Rattle.moved_gains.specs.Gains.{steps_of}
-use Rattle.gain_edits.specs.UndoItem.{tag_read, no_undo, noted_undo, found_undo, undo_steps, next_undo, tag_with, tag_without, bytes_unless_empty}
+use Rattle.commands.specs.Refusing.{or_else, unless, then_made}
+use Rattle.gain_edits.specs.Channels.{channel_fault}
+use Rattle.gain_edits.specs.UndoItem.{tag_read, noted_undo, next_undo, number_fault, undo_fault, tag_with, tag_without, output_length, size_fault, output_fault, no_undo, found_undo, undo_steps, bytes_unless_empty}
+use Rattle.moved_gains.specs.Change.{Change, changed}
+use Rattle.gain_edits.specs.Gain.{noted_change, noted_in, gain_change}
+use Rattle.commands.proofs.RefusingLaws.{none_first, unless_ok, then_ok}
+use Rattle.gain_edits.proofs.Refusals.{not_there}
+use Rattle.bit_fields.specs.Bits.{AreBytes}
+use Rattle.tag_blocks.specs.declared.block.Kind.TheVariants.{Ape}
+use Rattle.tag_blocks.specs.Blocks.{block_front}
+use Rattle.file_tag.specs.Laws.{own_bytes}
+use Rattle.file_tag.proofs.FoundTag.{surveyed-length}
+use Rattle.file_tag.proofs.NewTag.{own-tag}
+use Rattle.sync_survey.specs.declared.places.Piece.{Piece}
+use Rattle.sync_survey.specs.Survey.{survey_of}
+use Rattle.sync_survey.proofs.FoldersLaws.{survey_of-short}
+use Rattle.moved_gains.specs.declared.shift.Steps.{Steps}
+use Rattle.moved_gains.specs.Edited.{edited}
+use Rattle.file_tag.proofs.ReadingLaws.{file_tag-none}
 use Rattle.moved_gains.specs.Streams.{junk_length, moved_survey, without_junk}
 use Rattle.commands.specs.One.{most_frames}
-use Rattle.moved_gains.specs.Change.{Change, changed}
-use Rattle.gain_edits.specs.Change.{Changing, changed_file}
-use Rattle.gain_edits.specs.Gain.{gain_change}
-use Rattle.gain_edits.specs.Undo.{undone_change, undo_change}
+use Rattle.gain_edits.specs.Change.{changed_file}
+use Rattle.gain_edits.specs.Undo.{undone_change, undone_in, undo_change}
 use Rattle.gain_edits.specs.GivenBack.{gained_by_all, tidied, HasNoEmptyTag, IsGivenBack, UndoGivesBack}
-use Rattle.moved_gains.proofs.MovedGains.{sum_of, IsNoStep}
+use Rattle.moved_gains.proofs.MovedGains.{sum_of}
 use Rattle.moved_gains.proofs.TagPlaces.{tag_none}
 use Rattle.moved_gains.proofs.WrittenTag.{length_moved}
 use Rattle.sync_survey.proofs.SurveyedFiles.{survey_of-parts}
-use Rattle.gain_edits.proofs.ChangedStream.{changed-parts, changed-ok}
-use Rattle.commands.proofs.RefusingLaws.{then_ok}
-use Rattle.gain_edits.proofs.FileTags.{file_tag-is, same_tag}
+use Rattle.gain_edits.proofs.Proper.{made_of, changed-ok, file_tag-is, same_tag, unless_empty-are}
 use Rattle.moved_gains.proofs.FramesThere.{AreFramesOf, frames_there}
 use Rattle.moved_gains.proofs.MovedAgain.{even_together, AreTogether, stood}
-use Rattle.gain_edits.proofs.RangeAgain.{even_opposite, range_both, range_back}
+use Rattle.gain_edits.proofs.RangeAgain.{still, even_opposite, range_both, range_back}
 use Rattle.moved_gains.proofs.TaggedAgain.{new, new_survey, to, new_is, has_block, new_frames, new_long, clean_survey, changed_again}
-use Rattle.gain_edits.proofs.NoStep.{edited_still, own_again, still_holds}
-use Rattle.gain_edits.proofs.NotedAgain.{sum_again, sum_first, tag_without_none, tag_without_with, found_with, block_read, gain_noted}
+use Rattle.gain_edits.proofs.OppositeSteps.{edited_still, own_again, still_holds}
+
+-- ---- the steps
+
+-- a further change by some steps, and as many less to be taken back
+pub sum_again : (sum step undo : ℤ) → (sum +ℤ step) +ℤ (undo -ℤ step) ≡ sum +ℤ undo
+sum_again sum step undo = +ℤ_assoc sum step (undo -ℤ step) ∙ ap (λ z. sum +ℤ z) (+ℤ_comm step (undo -ℤ step) ∙ -ℤ-+ℤ_cancel undo step)
+
+pub sum_first : (step : ℤ) → step +ℤ (pos 0 -ℤ step) ≡ pos 0
+sum_first step = +ℤ_comm step (pos 0 -ℤ step) ∙ -ℤ-+ℤ_cancel (pos 0) step
+
+-- ---- the undo item
+
+missing_cases : (b : Bool) (place : ℕ) (o : Option Undo) (later : UndoItem) (item : TagItem) (items left : List TagItem) → cond b (undo_at place o) later ≡ Missing → (later ≡ Missing → left ≡ items) → cond b items (item ∷ left) ≡ item ∷ items
+missing_cases true place None later item items left e rest = absurd cc
+missing_cases true place (Some undo) later item items left e rest = absurd cc
+missing_cases false place o later item items left e rest = ap (λ (l : List TagItem). item ∷ l) (rest e)
+
+-- items without an undo item stay
+without_none : (place : ℕ) (items : List TagItem) → undo_from place items ≡ Missing → without_undo items ≡ items
+without_none place [] e = refl
+without_none place (item ∷ items) e =
+    missing_cases (is_undo item) place (undo_of item.value) (undo_from (place + item_length item) items) item items (without_undo items) e (λ none. without_none (place + item_length item) items none)
+
+pub tag_without_none : (tag : TagFields) → undo_from 32 tag.items ≡ Missing → tag_without tag ≡ tag
+tag_without_none tag e = ap (λ (l : List TagItem). record tag { items = l }) (without_none 32 tag.items e)
+
+pub tag_without_with : (undo : Undo) (tag : TagFields) → tag_without (tag_with undo tag) ≡ tag_without tag
+tag_without_with undo tag = ap (λ (l : List TagItem). record tag { items = l }) (without_undo-with_undo undo tag.items)
+
+pub found_with : (undo : Undo) (tag : TagFields) → FitsText undo → undo_from 32 (tag_with undo tag).items ≡ Found undo
+found_with undo tag fits = undo_from-with_undo undo tag.items 32 (undo_of-undo_text undo fits)
+
+-- ---- the tag of a block
+
+pub block_read : (at : ℕ) (tag : TagFields) → IsTag tag → length (tag_bytes tag) ≤ longest_tag → tag_of_block at (tag_bytes tag) ≡ Ok tag
+block_read at tag are small = simp (le-ltb longest_tag (length (tag_bytes tag)) small, tag_of-tag_bytes tag are)
+
+-- ---- what was accepted
+
+small_number : (number : ℤ) → number_fault number ≡ None → unsigned_abs number ≤ 999
+small_number number e = ltb-false 999 (unsigned_abs number) (not_there (ltb 999 (unsigned_abs number)) (UndoRange number) e)
+
+fits_text : (undo : Undo) → undo_fault undo ≡ None → FitsText undo
+fits_text undo e = let both = none_first (number_fault undo.left) (number_fault undo.right) e in record { left = small_number undo.left both.0; right = small_number undo.right both.1 }
+
+pub record AreNoted (shift : Shift) (s : SurveyFields) (tag : TagFields) (undo : Undo) (change : Change) : Type 0 where
+  pub fits : FitsText (next_undo shift undo)
+  pub small : length (tag_bytes (tag_with (next_undo shift undo) tag)) ≤ longest_tag
+  pub few : output_length s (tag_bytes (tag_with (next_undo shift undo) tag)) ≤ longest_file
+  pub free : range_fault (even (steps_of shift)) s.frames ≡ None
+  pub is : record { steps = even (steps_of shift); tag = Some (tag_bytes (tag_with (next_undo shift undo) tag)) } ≡ change
+
+noted_parts : (shift : Shift) (s : SurveyFields) (tag : TagFields) (undo : Undo) (change : Change) → noted_change shift s tag undo ≡ Ok change → AreNoted shift s tag undo change
+noted_parts shift s tag undo change e =
+    let next = next_undo shift undo in
+    let bytes = tag_bytes (tag_with next tag) in
+    let all = unless_ok _ _ change e in
+    let apart = none_first (channel_fault shift s) (or_else (undo_fault next) (or_else (size_fault bytes) (or_else (output_fault s bytes) (range_fault (even (steps_of shift)) s.frames)))) all.0 in
+    let number = none_first (undo_fault next) (or_else (size_fault bytes) (or_else (output_fault s bytes) (range_fault (even (steps_of shift)) s.frames))) apart.1 in
+    let size = none_first (size_fault bytes) (or_else (output_fault s bytes) (range_fault (even (steps_of shift)) s.frames)) number.1 in
+    let output = none_first (output_fault s bytes) (range_fault (even (steps_of shift)) s.frames) size.1 in
+    record {
+      fits = fits_text next number.0;
+      small = ltb-false longest_tag (length bytes) (not_there (ltb longest_tag (length bytes)) _ size.0);
+      few = ltb-false longest_file (output_length s bytes) (not_there (ltb longest_file (output_length s bytes)) _ output.0);
+      free = output.1;
+      is = all.1;
+    }
+
+-- of a file whose tag is read and says this undo
+pub gain_noted : (shift : Shift) (file : List ℕ) (s : SurveyFields) (tag : TagFields) (undo : Undo) (change : Change) → tag_read (file_tag file s) ≡ Ok tag → noted_undo (tag_at s) (undo_from 32 tag.items) ≡ Ok undo
+    → gain_change shift true file s ≡ Ok change → AreNoted shift s tag undo change
+unfolding gain_change
+gain_noted shift file s tag undo change read item e =
+    noted_parts shift s tag undo change
+    (sym (ap (λ (r : Result TagFields EditFault). then_made r (noted_in shift s)) read ∙ ap (λ (r : Result Undo EditFault). then_made r (noted_change shift s tag)) item) ∙ e)
 
 -- ---- what is known of it
 
@@ -75,28 +157,11 @@ changed-with : (steps : Steps) (bytes file : List ℕ) (s : SurveyFields) → ch
 unfolding changed
 changed-with steps bytes file s = refl
 
-pub same_survey : (s t : SurveyFields) (r : Result SurveyFields SurveyFault) → r ≡ Ok s → r ≡ Ok t → s ≡ t
-same_survey s t r e f = cc
-
--- what a gain made, where the survey is known
-pub record IsMadeBy (of : Changing) (file new : List ℕ) (s : SurveyFields) : Type 0 where
-  pub change : Change
-  pub made : of file s ≡ Ok change
-  pub bytes : changed change file s ≡ new
-
-pub made_by : (of : Changing) (file new : List ℕ) (s : SurveyFields) → survey_of file most_frames ≡ Ok s → changed_file of file ≡ Ok new → IsMadeBy of file new s
-made_by of file new s is e =
-    let parts = changed-parts of file new e in
-    subst (IsMadeBy of file new) (same_survey parts.survey s (survey_of file most_frames) parts.is is) (record { change = parts.change; made = parts.made; bytes = parts.bytes })
-
-abbrev still : Steps
-still = undo_steps no_undo
-
 undo_made : (file : List ℕ) (s : SurveyFields) (tag : TagFields) (undo : Undo) → tag_read (file_tag file s) ≡ Ok tag → found_undo (tag_at s) (undo_from 32 tag.items) ≡ Ok undo → range_fault (even (undo_steps undo)) s.frames ≡ None
     → undo_change file s ≡ Ok (record { steps = even (undo_steps undo); tag = Some (bytes_unless_empty (tag_without tag)) })
 unfolding undo_change
 undo_made file s tag undo read item free =
-    ap (λ (r : Result TagFields EditFault). then_made r (λ (t : TagFields). then_made (found_undo (tag_at s) (undo_from 32 t.items)) (undone_change s t))) read
+    ap (λ (r : Result TagFields EditFault). then_made r (undone_in s)) read
     ∙ ap (λ (r : Result Undo EditFault). then_made r (undone_change s tag)) item
     ∙ ap (λ (o : Option Refusal). unless o (record { steps = even (undo_steps undo); tag = Some (bytes_unless_empty (tag_without tag)) })) free
 
@@ -118,7 +183,7 @@ module _ (file : List ℕ) (s : SurveyFields) (tag : TagFields) (are : AreBytes 
   module _ (short : survey_of file most_frames ≡ Ok s) (own : IsTag tag) (read : file_tag file s ≡ Ok tag) (none : undo_from 32 tag.items ≡ Missing) where
     pub first_gain : (shift : Shift) (last : List ℕ) → changed_file (gain_change shift true) file ≡ Ok last → IsGained file s tag last
     first_gain shift last e =
-        let made = made_by (gain_change shift true) file last s short e in
+        let made = made_of (gain_change shift true) file last s short e in
         let noted = gain_noted shift file s tag no_undo made.change (ap tag_read read) (ap (noted_undo (tag_at s)) none) made.made in
         let next = next_undo shift no_undo in
         let steps = steps_of shift in
@@ -157,11 +222,8 @@ module _ (file : List ℕ) (s : SurveyFields) (tag : TagFields) (are : AreBytes 
     abbrev n : SurveyFields
     n = new_survey (even g.steps) file most_frames s are is block front
 
-    here_few : length here ≤ longest_file
-    here_few = omega (arith, g.few, ap length g.is)
-
     here_survey : survey_of here most_frames ≡ Ok n
-    here_survey = survey_of-short here most_frames here_few ∙ new_is (even g.steps) file most_frames s are is block front
+    here_survey = survey_of-short here most_frames (omega (arith, g.few, ap length g.is)) ∙ new_is (even g.steps) file most_frames s are is block front
 
     here_read : tag_read (file_tag here n) ≡ Ok g.noted
     here_read =
@@ -175,7 +237,7 @@ module _ (file : List ℕ) (s : SurveyFields) (tag : TagFields) (are : AreBytes 
 
     pub further_gain : (shift : Shift) (more : List ℕ) → changed_file (gain_change shift true) last ≡ Ok more → IsGained file s tag more
     further_gain shift more e =
-        let made = made_by (gain_change shift true) here more n here_survey (ap (changed_file (gain_change shift true)) (sym g.is) ∙ e) in
+        let made = made_of (gain_change shift true) here more n here_survey (ap (changed_file (gain_change shift true)) (sym g.is) ∙ e) in
         let noted = gain_noted shift here n g.noted g.undo made.change here_read (ap (noted_undo (tag_at n)) g.item) made.made in
         let next = next_undo shift g.undo in
         let step = steps_of shift in
@@ -242,18 +304,12 @@ module _ (file : List ℕ) (s : SurveyFields) (tag : TagFields) (are : AreBytes 
   abbrev bytes : List ℕ
   bytes = bytes_unless_empty tag
 
-  no_step : IsNoStep still
-  no_step = (refl, refl)
-
   edited_is : edited (even still) file s ≡ without_junk s file
-  edited_is = edited_still still no_step file most_frames s are is
-
-  tidied-is : tidied tag s file ≡ with_tag bytes (moved_survey (even still) s) (without_junk s file)
-  unfolding tidied
-  tidied-is = refl
+  edited_is = edited_still still (refl, refl) file most_frames s are is
 
   undone_tidied : with_tag bytes (moved_survey (even still) s) (edited (even still) file s) ≡ tidied tag s file
-  undone_tidied = ap (with_tag bytes (moved_survey (even still) s)) edited_is ∙ sym tidied-is
+  unfolding tidied
+  undone_tidied = ap (with_tag bytes (moved_survey (even still) s)) edited_is
 
   -- the bytes of its tag, written again, are those that are in the file
   own_cases : (read : file_tag file s ≡ Ok tag) (o : Option Piece) → tag_block s ≡ o → HasNoEmptyTag tag s → bytes ≡ own_bytes file s
@@ -261,10 +317,7 @@ module _ (file : List ℕ) (s : SurveyFields) (tag : TagFields) (are : AreBytes 
       let nothing : empty_tag ≡ tag = same_tag empty_tag tag (sym (file_tag-none file s none) ∙ read) in
       let size : tag_length s ≡ 0 = (tag_none s none).1 in
       ap bytes_unless_empty (sym nothing) ∙ sym (ap (λ k. take k (drop (tag_at s) file)) size)
-  own_cases read (Some b) some (inl none) = absurd (some_none (sym none ∙ some))
-    where
-      some_none : None ≡ Some b → ⊥
-      some_none e = absurd cc
+  own_cases read (Some b) some (inl none) = let both : None ≡ Some b = sym none ∙ some in absurd cc
   own_cases read (Some b) some (inr items) =
       let full : (length tag.items == 0) ≡ false = ne_eqb (length tag.items) 0 (λ e. omega (arith, e, items)) in
       ap (λ (c : Bool). cond c [] (tag_bytes tag)) full ∙ ((own-tag file most_frames s is).tag tag b are some read).1
@@ -276,16 +329,10 @@ module _ (file : List ℕ) (s : SurveyFields) (tag : TagFields) (are : AreBytes 
       ∙ own_again (even still) file most_frames s is
       ∙ edited_is
 
-  no_junk : s.junk ≡ s.first → without_junk s file ≡ file
-  no_junk none = ap (λ n. take s.junk file ++ drop n file) (sym none) ∙ take-append-drop s.junk file
-
-  bytes-are : IsTag tag → IsTagBytes bytes
-  bytes-are own = elim (length tag.items == 0) as (λ b. IsTagBytes (cond b [] (tag_bytes tag))) [ true ↦ inl refl | false ↦ inr (block_front-tag_bytes tag own) ]
-
   tidied_stream : IsTag tag → HoldsStream (tidied tag s file) (stream_of file)
   tidied_stream own =
       let made : changed (record { steps = even still; tag = Some bytes }) file s ≡ tidied tag s file = changed-with still bytes file s ∙ undone_tidied in
-      subst (λ (l : List ℕ). HoldsStream l (stream_of file)) made (still_holds still no_step (Some bytes) (bytes-are own) file most_frames s are is)
+      subst (λ (l : List ℕ). HoldsStream l (stream_of file)) made (still_holds still (refl, refl) (Some bytes) (unless_empty-are tag own) file most_frames s are is)
 
   given_back : IsTag tag → file_tag file s ≡ Ok tag → undo_from 32 tag.items ≡ Missing → (last : List ℕ) → IsGained file s tag last → IsGivenBack file last s tag
   given_back own read none last g =
@@ -295,7 +342,7 @@ module _ (file : List ℕ) (s : SurveyFields) (tag : TagFields) (are : AreBytes 
       record {
         back = back;
         kept = λ has. back ∙ ap Ok (tidied_kept read has);
-        same = λ has clean. back ∙ ap Ok (tidied_kept read has ∙ no_junk clean);
+        same = λ has clean. back ∙ ap Ok (tidied_kept read has ∙ ap (λ n. take s.junk file ++ drop n file) (sym clean) ∙ take-append-drop s.junk file);
         stream = tidied_stream own;
       }
 

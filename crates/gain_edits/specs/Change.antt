@@ -1,17 +1,23 @@
 -- What a command changes in a file, and the file that it writes.
-use Rattle.std.specs.Prelude.{ℕ, Bool, List, map, Result, Ok, Err}
+use Rattle.std.specs.Prelude.{◌≡◌, ◌⊎◌, ℕ, Bool, List, map, Result, Ok, Err, MatchResult}
 use Rattle.sync_survey.specs.Faults.{SurveyFields}
 use Rattle.sync_survey.specs.MainData.{StreamFrame}
 use Rattle.moved_gains.specs.declared.shift.Steps.{Steps}
-use Rattle.moved_gains.specs.Change.{Change, changed}
+use Rattle.moved_gains.specs.declared.change.Change.{Change as CodeChange}
+use Rattle.moved_gains.specs.Change.{Change, changed, change_in}
 use Rattle.moved_gains.specs.Streams.{moved_stream_frame, stream_in}
 use Rattle.commands.specs.declared.fault.EditFault.{EditFault}
+use Rattle.commands.specs.declared.fault.EditFault.TheVariants.{Memory}
 use Rattle.commands.specs.declared.fault.Refusal.{Refusal}
 use Rattle.commands.specs.One.{Making, made_file, Task, file_task}
 
 -- What a command changes in a file with this survey, or why it refuses it.
 abbrev pub Changing : Type 0
 Changing = List ℕ → SurveyFields → Result Change EditFault
+
+-- the code answers what the definition says of a file with this survey, or had no memory
+abbrev pub IsDecided : SurveyFields → Result Change EditFault → Result CodeChange EditFault → Type 0
+IsDecided s made r = MatchResult r (λ change. made ≡ Ok (change_in change s)) (λ fault. (fault ≡ Memory) ⊎ (made ≡ Err fault))
 
 abbrev pub changed_with : List ℕ → SurveyFields → Result Change EditFault → Result (List ℕ) EditFault
 changed_with file s (Err fault) = Err fault

@@ -1,5 +1,5 @@
 -- Why one channel of a file can't change alone.
-use Rattle.std.specs.Prelude.{◌==◌, if◌then◌else◌, Bool, true, false, List, [], ◌∷◌, Option, Some, None}
+use Rattle.std.specs.Prelude.{◌==◌, if◌then◌else◌, Bool, true, false, List, Option, Some, None}
 use Rattle.sync_survey.specs.declared.rows.Row.{Row}
 use Rattle.sync_survey.specs.Faults.{SurveyFields}
 use Rattle.commands.specs.declared.fault.Refusal.{Refusal}
@@ -7,7 +7,7 @@ use Rattle.commands.specs.declared.fault.Refusal.TheVariants.{Mono, Joint}
 use Rattle.moved_gains.specs.declared.shift.Channels.{Channels}
 use Rattle.moved_gains.specs.declared.shift.Channels.TheVariants.{Both}
 use Rattle.moved_gains.specs.declared.shift.Shift.{Shift}
-use Rattle.commands.specs.Refusing.{or_else}
+use Rattle.commands.specs.Refusing.{first_refusal}
 
 abbrev pub are_both : Channels → Bool
 are_both Both = true
@@ -21,9 +21,8 @@ abbrev pub joint_at : Row → Option Refusal
 joint_at row = if is_joint row then Some (Joint row.offset) else None
 
 -- the first such frame
-unfoldable pub joint_fault : List Row → Option Refusal
-joint_fault [] = None
-joint_fault (row ∷ rows) = or_else (joint_at row) (joint_fault rows)
+abbrev pub joint_fault : List Row → Option Refusal
+joint_fault rows = first_refusal joint_at rows
 
 -- why one channel alone can't change: there is only one, or the two of a frame are coded jointly
 abbrev pub apart_fault : SurveyFields → Option Refusal

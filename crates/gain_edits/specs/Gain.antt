@@ -34,9 +34,13 @@ noted_change shift s tag undo =
     unless (or_else (channel_fault shift s) (or_else (undo_fault next) (or_else (size_fault bytes) (or_else (output_fault s bytes) (range_fault (even (steps_of shift)) s.frames)))))
     (record { steps = even (steps_of shift); tag = Some bytes })
 
+-- the change is noted in this tag of the file, unless its undo item is at fault
+abbrev pub noted_in : Shift → SurveyFields → TagFields → Result Change EditFault
+noted_in shift s tag = then_made (noted_undo (tag_at s) (undo_from 32 tag.items)) (noted_change shift s tag)
+
 -- the change is noted in the file's tag; it is refused where the tag is at fault, or else its undo item
 abbrev pub tagged_change : Shift → List ℕ → SurveyFields → Result Change EditFault
-tagged_change shift file s = then_made (tag_read (file_tag file s)) (λ tag. then_made (noted_undo (tag_at s) (undo_from 32 tag.items)) (noted_change shift s tag))
+tagged_change shift file s = then_made (tag_read (file_tag file s)) (noted_in shift s)
 
 unfoldable pub gain_change : Shift → Bool → Changing
 gain_change shift tags file s = if tags then tagged_change shift file s else plain_change shift s

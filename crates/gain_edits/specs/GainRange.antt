@@ -1,18 +1,22 @@
 -- The first gain of a file that would leave the range.
-use Rattle.std.specs.Prelude.{ℕ, List, [], ◌∷◌, Option, Some, None}
+use Rattle.std.specs.Prelude.{ℕ, List, Option, Some, None}
 use Rattle.sync_survey.specs.declared.rows.Row.{Row}
 use Rattle.commands.specs.declared.fault.Refusal.{Refusal}
 use Rattle.commands.specs.declared.fault.Refusal.TheVariants.{GainRange}
+use Rattle.commands.specs.Refusing.{first_refusal}
 use Rattle.moved_gains.specs.declared.gains.Stuck.{Stuck}
 use Rattle.moved_gains.specs.declared.shift.Steps.{Steps}
 use Rattle.moved_gains.specs.Edited.{stuck_of}
 
--- the gain that would leave the range, in the frame at this offset; where there is none, what comes later
-abbrev pub stuck_fault : ℕ → Option Stuck → Option Refusal → Option Refusal
-stuck_fault offset (Some stuck) later = Some (GainRange offset stuck.granule stuck.channel stuck.gain)
-stuck_fault offset None later = later
+-- the gain that would leave the range, in the frame at this offset
+abbrev pub stuck_fault : ℕ → Option Stuck → Option Refusal
+stuck_fault offset (Some stuck) = Some (GainRange offset stuck.granule stuck.channel stuck.gain)
+stuck_fault offset None = None
+
+-- that of a frame which is moved by the steps at its offset
+abbrev pub range_at : (ℕ → Steps) → Row → Option Refusal
+range_at steps row = stuck_fault row.offset (stuck_of (steps row.offset) row)
 
 -- the first gain of these frames, each moved by the steps at its offset, that would leave the range
-unfoldable pub range_fault : (ℕ → Steps) → List Row → Option Refusal
-range_fault steps [] = None
-range_fault steps (row ∷ rows) = stuck_fault row.offset (stuck_of (steps row.offset) row) (range_fault steps rows)
+abbrev pub range_fault : (ℕ → Steps) → List Row → Option Refusal
+range_fault steps rows = first_refusal (range_at steps) rows

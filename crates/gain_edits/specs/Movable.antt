@@ -1,20 +1,12 @@
 -- What is made ready for a change of gains, and the file that is written.
 use Rattle.std.specs.Prelude.{◌≡◌, ℕ, List, Ok}
 use Rattle.outside.specs.Files.{Files, Holds, IsThere}
-use Rattle.sync_survey.specs.declared.surveys.Survey.{Survey}
 use Rattle.sync_survey.specs.Faults.{tells}
 use Rattle.sync_survey.specs.Survey.{survey_of, IsLaidOut}
 use Rattle.commands.specs.One.{most_frames}
-use Rattle.moved_gains.specs.declared.change.Change.{Change}
 use Rattle.moved_gains.specs.Buffers.{AreFresh}
 use Rattle.moved_gains.specs.Change.{changed, change_in}
 use Rattle.gain_edits.specs.declared.work.Work.{Work}
-
--- the work is that of this survey and this change, with new buffers
-pub record IsWorkOf (survey : Survey) (change : Change) (work : Work) : Type 0 where
-  pub survey_is : work.survey ≡ survey
-  pub change_is : work.change ≡ change
-  pub fresh : (others : Files) (name : List ℕ) → AreFresh work.buffers others name
 
 -- The input is there and was surveyed, and the buffers are new.
 pub record IsMovable (input : List ℕ) (work : Work) (files : Files) : Type 0 where

@@ -27,9 +27,13 @@ use Rattle.commands.specs.Command.{Command}
 abbrev pub undone_change : SurveyFields → TagFields → Undo → Result Change EditFault
 undone_change s tag undo = unless (range_fault (even (undo_steps undo)) s.frames) (record { steps = even (undo_steps undo); tag = Some (bytes_unless_empty (tag_without tag)) })
 
--- it is refused where the tag is at fault, or else where there is no undo item, or else where its value isn't of the form; or else as above
+-- by this tag of the file; it is refused where it has no undo item, or else where its value isn't of the form, or else as above
+abbrev pub undone_in : SurveyFields → TagFields → Result Change EditFault
+undone_in s tag = then_made (found_undo (tag_at s) (undo_from 32 tag.items)) (undone_change s tag)
+
+-- it is refused where the tag is at fault, or else as above
 unfoldable pub undo_change : Changing
-undo_change file s = then_made (tag_read (file_tag file s)) (λ tag. then_made (found_undo (tag_at s) (undo_from 32 tag.items)) (undone_change s tag))
+undo_change file s = then_made (tag_read (file_tag file s)) (undone_in s)
 
 -- ---- the steps that it takes
 

@@ -41,17 +41,19 @@ tag_read (Err fault) = Err (of_tag fault)
 abbrev pub no_undo : Undo
 no_undo = record { left = pos 0; right = pos 0; wrap = false }
 
--- what the undo item of a tag at this offset says; nothing where there is none
-abbrev pub noted_undo : ℕ → UndoItem → Result Undo EditFault
-noted_undo at Missing = Ok no_undo
-noted_undo at (Bad place) = Err (Refused (BadUndo (at + place)))
-noted_undo at (Found undo) = Ok undo
+-- what the undo item of a tag at this offset says, and this where there is none
+abbrev pub undo_or : Result Undo EditFault → ℕ → UndoItem → Result Undo EditFault
+undo_or missing at Missing = missing
+undo_or missing at (Bad place) = Err (Refused (BadUndo (at + place)))
+undo_or missing at (Found undo) = Ok undo
 
--- the same where there has to be one
+-- nothing is to be undone where there is none
+abbrev pub noted_undo : ℕ → UndoItem → Result Undo EditFault
+noted_undo at item = undo_or (Ok no_undo) at item
+
+-- there has to be one
 abbrev pub found_undo : ℕ → UndoItem → Result Undo EditFault
-found_undo at Missing = Err (Refused NoUndo)
-found_undo at (Bad place) = Err (Refused (BadUndo (at + place)))
-found_undo at (Found undo) = Ok undo
+found_undo at item = undo_or (Err (Refused NoUndo)) at item
 
 -- the steps that the item lists: those that undo the changes
 abbrev pub undo_steps : Undo → Steps

@@ -1,22 +1,23 @@
 //! What the commands of this crate change in a file.
-ghost use Rattle.std.specs.Prelude.{◌≡◌, List, ℕ, Ok, IfOk, IfErr, OnOk};
+ghost use Rattle.std.specs.Prelude.{◌≡◌, List, ℕ, Ok};
 ghost use Rattle.outside.specs.Files.{Holds, IsThere};
-ghost use Rattle.outside.specs.Counts.{OnlyReads};
 ghost use Rattle.sync_survey.specs.Faults.{tells};
 ghost use Rattle.sync_survey.specs.Survey.{survey_of, IsLaidOut};
-ghost use Rattle.commands.specs.Left.{seen, IsOfInput};
-ghost use Rattle.commands.specs.One.{most_frames, IsInputFault};
-ghost use Rattle.moved_gains.specs.Change.{change_in};
-ghost use Rattle.gain_edits.specs.Change.{changing};
-ghost use Rattle.gain_edits.specs.Changes.{changing_by, refused_by};
+ghost use Rattle.commands.specs.Left.{seen};
+ghost use Rattle.commands.specs.One.{most_frames};
+ghost use Rattle.gain_edits.specs.Change.{IsDecided};
+ghost use Rattle.gain_edits.specs.Changes.{are_noted, decided_by, IsDecision};
 
-use crate::gain_change::gain_change;
-use crate::undo_change::undo_change;
-use commands::EditFault;
+use crate::gain_change::{noted_in, plain_change};
+use crate::undo_change::undone_in;
+use crate::undo_item::of_tag;
+use commands::{EditFault, Refusal};
+use file_tag::read_tag;
 use moved_gains::{Change, Shift};
 use outside::Folder;
 use std::alloc::Global;
 use sync_survey::Survey;
+use tag_blocks::Tag;
 
 /// What changes in the gains of a file.
 #[derive(Clone, Copy)]
@@ -28,6 +29,29 @@ pub enum Changes<'a> {
 }
 
 impl<'a> Changes<'a> {
+    /// Whether they are noted in the file's tag, or were.
+    fn are_noted(&self) -> bool
+        ensures { result ≡ are_noted self.now }
+    {
+        match *self {
+            Changes::Move(_, tags) => tags,
+            Changes::Undo => true,
+        }
+    }
+
+    /// What changes in a surveyed file that has this tag, or of which no tag was read.
+    fn decide(&self, alloc: Global, survey: &Survey, tag: Option<Tag>) -> Result<Change, EditFault>
+        requires { IsLaidOut (tells survey.now) }
+        ensures { IsDecided (tells survey.now) (decided_by self.now (tells survey.now) tag) result }
+    {
+        match (*self, tag) {
+            (Changes::Move(shift, _), None) => plain_change(survey, shift),
+            (Changes::Move(shift, _), Some(tag)) => noted_in(alloc, survey, shift, tag),
+            (Changes::Undo, None) => Err(Refusal::NoUndo.into()),
+            (Changes::Undo, Some(tag)) => undone_in(alloc, survey, tag),
+        }
+    }
+
     /// By how many steps the gains of a surveyed file move, and its new tag.
     ///
     /// # Errors
@@ -43,20 +67,16 @@ impl<'a> Changes<'a> {
         requires laid { IsLaidOut (tells survey.now) }
         requires surveyed { (bytes : List ℕ) → Holds (D.files folder.old) name.now bytes
             → survey_of bytes most_frames ≡ Ok (tells survey.now) }
-        ensures change { IfOk result (λ change. (bytes : List ℕ)
-            → Holds (D.files folder.old) name.now bytes
-            → changing_by self.now bytes (tells survey.now) ≡ Ok (change_in change (tells survey.now))) }
-        ensures refused { IfErr result (IsInputFault (changing (changing_by self.now)) name.now
-            (seen (D.files folder.old) (D.counts folder.old))
-            (seen (D.files folder.new) (D.counts folder.new))) }
-        ensures numbers { IfErr result (IsOfInput (refused_by self.now)) }
-        ensures done { OnOk result (D.counts folder.new ≡ D.counts folder.old) }
-        ensures files { D.files folder.new ≡ D.files folder.old }
-        ensures counts { OnlyReads (D.counts folder.old) (D.counts folder.new) }
+        ensures { IsDecision self.now name.now (seen (D.files folder.old) (D.counts folder.old))
+            (seen (D.files folder.new) (D.counts folder.new)) (tells survey.now) result }
     {
-        match *self {
-            Changes::Move(shift, tags) => gain_change(alloc, folder, name, survey, shift, tags),
-            Changes::Undo => undo_change(alloc, folder, name, survey),
+        let noted = self.are_noted();
+        if !noted {
+            return self.decide(alloc, survey, None);
+        }
+        match read_tag(alloc, folder, name, survey) {
+            Ok(tag) => self.decide(alloc, survey, Some(tag)),
+            Err(fault) => Err(of_tag(fault)),
         }
     }
 }

@@ -4,6 +4,7 @@ ghost use Rattle.gain_edits.specs.Changes.{task_of};
 use crate::changes::Changes;
 use crate::work::Work;
 use commands::{Edit, EditFault, Inputs, MOST_FRAMES, survey_at};
+use moved_gains::Buffers;
 use outside::Folder;
 use std::alloc::Global;
 
@@ -28,7 +29,11 @@ impl<'a> Edit for GainEdit<'a> {
     fn prepare<D: Folder>(&self, alloc: Global, folder: &mut D) -> Result<Work, EditFault> {
         let survey = survey_at(alloc, folder, self.input, 0, MOST_FRAMES)?;
         let change = self.changes.find(alloc, folder, self.input, &survey)?;
-        let work = Work::new(alloc, survey, change)?;
-        Ok(work)
+        let buffers = Buffers::new(alloc)?;
+        Ok(Work {
+            survey,
+            change,
+            buffers,
+        })
     }
 }

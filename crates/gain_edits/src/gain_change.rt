@@ -1,34 +1,25 @@
 //! What a move of gains changes in a file.
-ghost use Rattle.std.specs.Prelude.{◌≡◌, ◌≤◌, ◌+◌, ◌-◌, ◌⊎◌, List, ℕ, Ok, Err, MatchResult, IfOk, IfErr, OnOk};
-ghost use Rattle.outside.specs.Files.{Holds, IsThere};
-ghost use Rattle.outside.specs.Counts.{OnlyReads};
+ghost use Rattle.std.specs.Prelude.{◌≡◌, ◌≤◌, ◌+◌, ◌-◌};
 ghost use Rattle.sync_survey.specs.Faults.{tells};
-ghost use Rattle.sync_survey.specs.Survey.{survey_of, IsLaidOut};
-ghost use Rattle.commands.specs.declared.fault.EditFault.TheVariants.{Memory};
+ghost use Rattle.sync_survey.specs.Survey.{IsLaidOut};
 ghost use Rattle.file_tag.specs.Places.{tag_length};
-ghost use Rattle.moved_gains.specs.Change.{change_in};
-ghost use Rattle.gain_edits.specs.Change.{changing};
-ghost use Rattle.commands.specs.One.{most_frames, IsInputFault};
-ghost use Rattle.gain_edits.specs.Gain.{plain_change as plain_change_lem, noted_change as noted_change_lem, gain_change as gain_change_lem, gain_refuses};
-ghost use Rattle.commands.specs.Left.{seen, IsOfInput};
+ghost use Rattle.gain_edits.specs.Change.{IsDecided};
+ghost use Rattle.gain_edits.specs.Gain.{plain_change as plain_change_lem, noted_change as noted_change_lem, noted_in as noted_in_lem};
 
 use crate::channels::channel_fault;
 use crate::gain_range::even_fault;
-use crate::undo_item::{next_undo, noted_undo, of_tag};
+use crate::undo_item::{next_undo, noted_undo};
 use commands::{EditFault, LONGEST_FILE, LONGEST_TAG, Refusal};
-use file_tag::{read_tag, tag_place};
+use file_tag::tag_place;
 use moved_gains::{Change, Course, Shift};
-use outside::Folder;
 use std::alloc::Global;
 use sync_survey::Survey;
 use tag_blocks::{Tag, Undo};
 
 /// A change without a note in the tag.
-fn plain_change(survey: &Survey, shift: &Shift) -> Result<Change, EditFault>
-    requires laid { IsLaidOut (tells survey.now) }
-    ensures change { MatchResult result
-        (λ change. plain_change_lem shift.now (tells survey.now) ≡ Ok (change_in change (tells survey.now)))
-        (λ fault. plain_change_lem shift.now (tells survey.now) ≡ Err fault) }
+pub(crate) fn plain_change(survey: &Survey, shift: &Shift) -> Result<Change, EditFault>
+    requires { IsLaidOut (tells survey.now) }
+    ensures { IsDecided (tells survey.now) (plain_change_lem shift.now (tells survey.now)) result }
 {
     let steps = shift.each();
     match channel_fault(shift, survey).or(even_fault(steps, survey)) {
@@ -62,11 +53,8 @@ fn noted_change(
     undo: &Undo,
 ) -> Result<Change, EditFault>
     requires { IsLaidOut (tells survey.now) }
-    ensures change { MatchResult result
-        (λ change. noted_change_lem shift.now (tells survey.now) tag undo.now
-        ≡ Ok (change_in change (tells survey.now)))
-        (λ fault. (fault ≡ Memory)
-        ⊎ (noted_change_lem shift.now (tells survey.now) tag undo.now ≡ Err fault)) }
+    ensures { IsDecided (tells survey.now)
+        (noted_change_lem shift.now (tells survey.now) tag undo.now) result }
 {
     let mut tag = tag;
     if let Some(refusal) = channel_fault(shift, survey) {
@@ -93,41 +81,16 @@ fn noted_change(
     })
 }
 
-/// What the command changes in the file.
-///
-/// # Errors
-/// What `gain` refuses once the input was surveyed; `Input(0, ..)` with `Read` and `Shrunk`; `Memory`.
-pub(crate) fn gain_change<D: Folder>(
+/// The change, noted in this tag of the file. Refused by `BadUndo`, and else as above; or `Memory`.
+pub(crate) fn noted_in(
     alloc: Global,
-    folder: &mut D,
-    name: &str,
     survey: &Survey,
     shift: &Shift,
-    tags: bool,
+    tag: Tag,
 ) -> Result<Change, EditFault>
-    requires there { IsThere (D.files folder.old) name.now }
-    requires laid { IsLaidOut (tells survey.now) }
-    requires surveyed { (bytes : List ℕ) → Holds (D.files folder.old) name.now bytes
-        → survey_of bytes most_frames ≡ Ok (tells survey.now) }
-    ensures change { IfOk result (λ change. (bytes : List ℕ)
-        → Holds (D.files folder.old) name.now bytes
-        → gain_change_lem shift.now tags bytes (tells survey.now) ≡ Ok (change_in change (tells survey.now))) }
-    ensures refused { IfErr result (IsInputFault
-        (changing (gain_change_lem shift.now tags)) name.now
-        (seen (D.files folder.old) (D.counts folder.old))
-        (seen (D.files folder.new) (D.counts folder.new))) }
-    ensures numbers { IfErr result (IsOfInput (gain_refuses tags)) }
-    ensures done { OnOk result (D.counts folder.new ≡ D.counts folder.old) }
-    ensures files { D.files folder.new ≡ D.files folder.old }
-    ensures counts { OnlyReads (D.counts folder.old) (D.counts folder.new) }
+    requires { IsLaidOut (tells survey.now) }
+    ensures { IsDecided (tells survey.now) (noted_in_lem shift.now (tells survey.now) tag) result }
 {
-    if !tags {
-        return plain_change(survey, shift);
-    }
-    let tag = match read_tag(alloc, folder, name, survey) {
-        Ok(tag) => tag,
-        Err(fault) => return Err(of_tag(fault)),
-    };
-    let undo = noted_undo(tag_place(survey).offset, &tag)?;
+    let undo = noted_undo(survey, &tag)?;
     noted_change(alloc, survey, shift, tag, &undo)
 }

@@ -12,7 +12,7 @@ use sync_survey::{Row, Survey};
 
 /// A gain that would leave the range, as a fault of the file, with the offset in bytes of its frame.
 fn fault_at(offset: u32, stuck: Option<Stuck>) -> Option<Refusal>
-    ensures { result ≡ stuck_fault offset stuck None }
+    ensures { result ≡ stuck_fault offset stuck }
 {
     let stuck = stuck?;
     Some(Refusal::GainRange(u64::from(offset), stuck.granule, stuck.channel, stuck.gain))

@@ -2,13 +2,15 @@
 ghost use Rattle.std.specs.Prelude.{◌≡◌, ◌≤◌, ◌-ℤ◌, None, Some, unsigned_abs, MatchResult, IfOk, IfErr};
 ghost use Rattle.tag_blocks.specs.UndoText.{FitsText};
 ghost use Rattle.tag_blocks.specs.UndoItems.{undo_from};
-ghost use Rattle.sync_survey.specs.Faults.{longest_file};
-ghost use Rattle.gain_edits.specs.UndoItem.{of_tag as of_tag_lem, noted_undo as noted_undo_lem, found_undo as found_undo_lem, undo_steps as undo_steps_lem, next_undo as next_undo_lem, number_fault, undo_fault};
+ghost use Rattle.file_tag.specs.Places.{tag_at};
+ghost use Rattle.sync_survey.specs.Faults.{tells};
+ghost use Rattle.sync_survey.specs.Survey.{IsLaidOut};
+ghost use Rattle.gain_edits.specs.UndoItem.{of_tag as of_tag_lem, undo_or as undo_or_lem, noted_undo as noted_undo_lem, found_undo as found_undo_lem, undo_steps as undo_steps_lem, next_undo as next_undo_lem, number_fault, undo_fault};
 
 use commands::{EditFault, Refusal};
-use file_tag::FileTagFault;
+use file_tag::{FileTagFault, tag_place};
 use moved_gains::{Shift, Steps};
-use sync_survey::SurveyFault;
+use sync_survey::{Survey, SurveyFault};
 use tag_blocks::{Tag, Undo, UndoItem};
 
 /// The undo item holds numbers of at most three digits.
@@ -29,37 +31,42 @@ pub(crate) fn of_tag(fault: FileTagFault) -> EditFault
     }
 }
 
-/// What the undo item of a tag at this offset in bytes says; 0 steps where there is none. `BadUndo` with the offset of the
-/// item where its value isn't of the form.
-pub(crate) fn noted_undo(at: u64, tag: &Tag) -> Result<Undo, EditFault>
-    requires { at ≤ longest_file }
-    ensures { result ≡ noted_undo_lem at (undo_from 32 tag.now.items) }
+/// What the undo item of the file's tag says, and this where there is none. `BadUndo` with the offset in bytes of the item
+/// where its value isn't of the form.
+fn undo_or(survey: &Survey, tag: &Tag, missing: Result<Undo, EditFault>) -> Result<Undo, EditFault>
+    requires { IsLaidOut (tells survey.now) }
+    ensures { result ≡ undo_or_lem missing (tag_at (tells survey.now))
+        (undo_from 32 tag.now.items) }
 {
+    let at = tag_place(survey).offset;
     // Called for its contract: the item is within the tag, so the sum below can't overflow.
     let _ = tag.length();
     match tag.undo() {
-        UndoItem::Missing => Ok(Undo {
-            left: 0,
-            right: 0,
-            wrap: false,
-        }),
+        UndoItem::Missing => missing,
         UndoItem::Bad(place) => Err(Refusal::BadUndo(at + place).into()),
         UndoItem::Found(undo) => Ok(undo),
     }
 }
 
-/// The same where there has to be one: `NoUndo` where there is none.
-pub(crate) fn found_undo(at: u64, tag: &Tag) -> Result<Undo, EditFault>
-    requires { at ≤ longest_file }
-    ensures { result ≡ found_undo_lem at (undo_from 32 tag.now.items) }
+/// What the undo item says; 0 steps where there is none.
+pub(crate) fn noted_undo(survey: &Survey, tag: &Tag) -> Result<Undo, EditFault>
+    requires { IsLaidOut (tells survey.now) }
+    ensures { result ≡ noted_undo_lem (tag_at (tells survey.now)) (undo_from 32 tag.now.items) }
 {
-    // As in `noted_undo`.
-    let _ = tag.length();
-    match tag.undo() {
-        UndoItem::Missing => Err(Refusal::NoUndo.into()),
-        UndoItem::Bad(place) => Err(Refusal::BadUndo(at + place).into()),
-        UndoItem::Found(undo) => Ok(undo),
-    }
+    let none = Undo {
+        left: 0,
+        right: 0,
+        wrap: false,
+    };
+    undo_or(survey, tag, Ok(none))
+}
+
+/// The same where there has to be one: `NoUndo` where there is none.
+pub(crate) fn found_undo(survey: &Survey, tag: &Tag) -> Result<Undo, EditFault>
+    requires { IsLaidOut (tells survey.now) }
+    ensures { result ≡ found_undo_lem (tag_at (tells survey.now)) (undo_from 32 tag.now.items) }
+{
+    undo_or(survey, tag, Err(Refusal::NoUndo.into()))
 }
 
 /// The steps that the item lists: those that undo the changes.

@@ -1,5 +1,5 @@
 -- Gains that can move: what refuses a change of gains, and what doesn't.
-use Rattle.std.proofs.Common.{◌≡◌, ◌≢◌, ◌⊎◌, ℕ, zero, suc, ◌<◌, ◌≤◌, ◌==◌, ◌&&◌, not, Bool, true, false, cond, List, [], ◌∷◌, length, Option, Some, None, Result, Ok, Err, refl, sym, ◌∙◌, ap, ap₂, subst, inl, inr, arith, rules, ℤ, pos, ◌+ℤ◌}
+use Rattle.std.proofs.Common.{◌≡◌, ◌≢◌, ◌⊎◌, ℕ, zero, suc, ◌<◌, ◌≤◌, ◌==◌, ◌&&◌, not, Bool, true, false, cond, List, [], ◌∷◌, length, Option, Some, None, Result, Ok, Err, refl, sym, ◌∙◌, ap, subst, inl, inr, arith, rules, ℤ, pos, ◌+ℤ◌}
 use Rattle.std.specs.Prelude.{nat_lt, unsigned_abs}
 use Rattle.std.specs.Option.{option_or}
 use Rattle.std.proofs.lemmas.Bool.{ltb-false, le-ltb, ne_eqb}
@@ -19,7 +19,7 @@ use Rattle.commands.specs.declared.fault.EditFault.{EditFault}
 use Rattle.commands.specs.declared.fault.Refusal.{Refusal}
 use Rattle.commands.specs.declared.fault.Refusal.TheVariants.{Mono, Joint}
 use Rattle.commands.specs.Refusing.{or_else, unless, then_made}
-use Rattle.commands.proofs.RefusingLaws.{unless_ok}
+use Rattle.commands.proofs.RefusingLaws.{none_first, none_both, first-nil, first-cons, unless_ok}
 use Rattle.moved_gains.specs.declared.gains.Stuck.{Stuck}
 use Rattle.moved_gains.specs.declared.shift.Channels.{Channels}
 use Rattle.moved_gains.specs.declared.shift.Channels.TheVariants.{Both, Left, Right}
@@ -31,17 +31,14 @@ use Rattle.moved_gains.specs.Gains.{is_silent_granule, is_outside, stuck_at, stu
 use Rattle.moved_gains.specs.Edited.{stuck_of}
 use Rattle.moved_gains.proofs.MovedGains.{within}
 use Rattle.gain_edits.specs.Channels.{are_both, is_joint, joint_at, joint_fault, apart_fault, channel_fault}
-use Rattle.gain_edits.specs.GainRange.{stuck_fault, range_fault}
+use Rattle.gain_edits.specs.GainRange.{range_at, range_fault}
 use Rattle.gain_edits.specs.UndoItem.{tag_read, no_undo, noted_undo, found_undo, next_undo, number_fault, undo_fault, undo_steps, tag_with, tag_without, bytes_unless_empty, size_fault, output_length, output_fault}
 use Rattle.gain_edits.specs.Change.{changed_with}
 use Rattle.gain_edits.specs.Gain.{noted_change, tagged_change, gain_change}
 use Rattle.gain_edits.specs.Undo.{undone_change, undo_change}
-use Rattle.gain_edits.proofs.RangeLaws.{range-cons, range-nil}
-use Rattle.gain_edits.proofs.JointLaws.{joint-cons, joint-nil}
 use Rattle.gain_edits.proofs.Proper.{tagged-parts, undone-parts, read_ok}
-use Rattle.gain_edits.proofs.RangeAgain.{stuck_none}
-use Rattle.gain_edits.proofs.NotedAgain.{none_first, not_there}
-use Rattle.gain_edits.proofs.OppositeSteps.{none_both}
+use Rattle.gain_edits.proofs.RangeAgain.{frame-none, none-frame}
+use Rattle.gain_edits.proofs.Refusals.{not_there}
 use Rattle.legality.specs.Inputs.{Each, Input}
 use Rattle.legality.proofs.InputLaws.{each-cons}
 use Rattle.legality.specs.Choices.{StaysGain, steps_on, CanMove, AreSeparate, CanChange, IsLegalGain, IsLegalUndo}
@@ -155,15 +152,14 @@ Agree at_offset at_number rows = Each rows (λ i row. at_offset row.offset ≡ a
 pub free-moves : (f g : ℕ → Steps) (rows : List Row) → Agree f g rows → range_fault f rows ≡ None → Each rows (λ i row. CanMove (g i) row)
 free-moves f g [] agree none = λ i row is. absurd cc
 free-moves f g (q ∷ rows) agree none =
-    let parts = stuck_none q.offset (stuck_of (f q.offset) q) (range_fault f rows) (sym (range-cons f q rows) ∙ none) in
+    let parts = frame-none f q rows none in
     each-cons (λ i row. CanMove (g i) row) q rows (subst (λ (x : Steps). CanMove x q) (agree 0 q refl) (row-moves (f q.offset) q parts.0))
     (free-moves f (λ n. g (suc n)) rows (λ n r here. agree (suc n) r here) parts.1)
 
 pub moves-free : (f g : ℕ → Steps) (rows : List Row) → Agree f g rows → Each rows (λ i row. CanMove (g i) row) → range_fault f rows ≡ None
-moves-free f g [] agree moves = range-nil f
+moves-free f g [] agree moves = first-nil (range_at f)
 moves-free f g (q ∷ rows) agree moves =
-    range-cons f q rows
-    ∙ ap₂ (λ (o : Option Stuck) (later : Option Refusal). stuck_fault q.offset o later)
+    none-frame f q rows
     (moves-row (f q.offset) q (subst (λ (x : Steps). CanMove x q) (sym (agree 0 q refl)) (moves 0 q refl)))
     (moves-free f (λ n. g (suc n)) rows (λ n r here. agree (suc n) r here) (λ n r here. moves (suc n) r here))
 
@@ -181,13 +177,13 @@ differ m n e same = let both : true ≡ false = sym (search rules) ∙ e in absu
 each-apart : (rows : List Row) → joint_fault rows ≡ None → Each rows (λ i row. row.header.mode ≢ 1)
 each-apart [] none = λ i row is. absurd cc
 each-apart (q ∷ rows) none =
-    let parts = none_first (joint_at q) (joint_fault rows) (sym (joint-cons q rows) ∙ none) in
+    let parts = none_first (joint_at q) (joint_fault rows) (sym (first-cons joint_at q rows) ∙ none) in
     each-cons (λ i row. row.header.mode ≢ 1) q rows (differ q.header.mode 1 (not_there (is_joint q) (Joint q.offset) parts.0)) (each-apart rows parts.1)
 
 apart-each : (rows : List Row) → Each rows (λ i row. row.header.mode ≢ 1) → joint_fault rows ≡ None
-apart-each [] apart = joint-nil
+apart-each [] apart = first-nil joint_at
 apart-each (q ∷ rows) apart =
-    joint-cons q rows ∙ none_both (joint_at q) (joint_fault rows) (test-no (is_joint q) (Joint q.offset) (ne_eqb q.header.mode 1 (apart 0 q refl))) (apart-each rows (λ i row is. apart (suc i) row is))
+    first-cons joint_at q rows ∙ none_both (joint_at q) (joint_fault rows) (test-no (is_joint q) (Joint q.offset) (ne_eqb q.header.mode 1 (apart 0 q refl))) (apart-each rows (λ i row is. apart (suc i) row is))
 
 separate : (s : SurveyFields) → apart_fault s ≡ None → AreSeparate s
 separate s none = at (s.class.channels == 1) refl none

@@ -17,12 +17,12 @@ use Rattle.sync_survey.proofs.PlacedRows.{surveyed-placed}
 use Rattle.sync_survey.proofs.SurveyedFiles.{survey_of-parts}
 use Rattle.commands.specs.declared.fault.EditFault.{EditFault}
 use Rattle.commands.specs.declared.fault.Refusal.{Refusal}
-use Rattle.commands.specs.declared.fault.EditFault.TheVariants.{EqualNames, Input, Refused, Write, Sent, Memory}
+use Rattle.commands.specs.declared.fault.EditFault.TheVariants.{Refused, Memory}
 use Rattle.commands.specs.Left.{Seen, IsLate, IsOfInput}
 use Rattle.commands.specs.Refusing.{then_made}
 use Rattle.commands.specs.One.{Making, most_frames, IsInputFault, IsMaking, IsProper}
 use Rattle.commands.proofs.RefusingLaws.{then_late, then_ok}
-use Rattle.commands.proofs.InputLaws.{IsProperMaking, file_makes, file_proper, refusal_is_input, memory_is_input}
+use Rattle.commands.proofs.InputLaws.{IsProperMaking, file_makes, file_proper, refused_is_input, memory_is_input}
 use Rattle.frame_edits.specs.declared.chosen.Slots.TheVariants.{Least}
 use Rattle.frame_edits.specs.Laid.{Laid, file_laid, stream_laid}
 use Rattle.frame_edits.specs.Chosen.{Chosen, all_choice, laid_by}
@@ -95,20 +95,14 @@ module _ (plan : Planning) (refuses : Refusal → Bool) (name : List ℕ) (old n
       ∙ ap (λ r. then_made (then_made r (λ placed. Ok (laid_by chosen placed))) (λ laid. Ok (file_laid laid file s))) none
 
   pub plan_is_input : (fault : EditFault) → IsPlanFault plan refuses s.class (needs_of chosen s) fault → IsInputFault (packing plan) name old new fault
-  plan_is_input (EqualNames place) is = absurd is
-  plan_is_input (Input place fault) is = absurd is
-  plan_is_input (Refused refusal) is = refusal_is_input (packing plan) name old new s refusal there surveyed (λ bytes holds. unplanned bytes (Refused refusal) (chose bytes holds) is.0) stays
-  plan_is_input (Write place) is = absurd is
-  plan_is_input Sent is = absurd is
+  plan_is_input (Refused refusal) is = refused_is_input (packing plan) name old new s refuses (Refused refusal) is.1 there surveyed (λ bytes holds. unplanned bytes (Refused refusal) (chose bytes holds) is.0) stays
   plan_is_input Memory is = memory_is_input (packing plan) name old new s there surveyed stays
+  plan_is_input _ is = absurd is
 
 pub plan_numbers : (plan : Planning) (refuses : Refusal → Bool) (class : ClassFields) (needs : List Need) (fault : EditFault) → IsPlanFault plan refuses class needs fault → IsOfInput refuses fault
-plan_numbers plan refuses class needs (EqualNames place) is = absurd is
-plan_numbers plan refuses class needs (Input place fault) is = absurd is
 plan_numbers plan refuses class needs (Refused refusal) is = is.1
-plan_numbers plan refuses class needs (Write place) is = absurd is
-plan_numbers plan refuses class needs Sent is = absurd is
 plan_numbers plan refuses class needs Memory is = tt
+plan_numbers plan refuses class needs _ is = absurd is
 
 -- the frames that were chosen have their plan
 pub planned_is : (plan : Planning) (file : List ℕ) (s : SurveyFields) (chosen : Chosen) (placed : List Placed) → all_choice Least file s ≡ Ok chosen → plan s.class (needs_of chosen s) ≡ Ok placed

@@ -5,10 +5,9 @@ use Rattle.sync_survey.specs.Faults.{tells}
 use Rattle.commands.specs.declared.fault.EditFault.TheVariants.{Memory}
 use Rattle.commands.specs.Left.{seen}
 use Rattle.moved_gains.specs.Change.{change_in}
-use Rattle.gain_edits.proofs.EditLaws.{work_makes, work_movable}
 use Rattle.commands.proofs.InputLaws.{fault_is_input, of_survey_input}
 use Rattle.commands.proofs.RefusingLaws.{err_with}
-use Rattle.fading.specs.Fade.{fade_refuses, fade_task}
+use Rattle.fading.specs.Fade.{fade_refuses}
 use Rattle.fading.proofs.FadeLaws.{making_in, input_early, input_numbers, change_early, change_early_behind, change_numbers, fade_makes}
 use Rattle.fading.proofs.edit.FadeEditEdit.prepare.Goals as goal
 
@@ -35,24 +34,18 @@ returns-in_err-change-clause-numbers g c =
     let edit = c.args.self.now in
     err_with _ _ c.from_residual-in_err-change.ensures.1 (change_numbers edit.sheet.now edit.back edit.input.now _ c.in_err-change.ensures.numbers)
 
-pub returns-in_err-work-clause-refused : goal.returns-in_err-work-clause-refused
-returns-in_err-work-clause-refused g c =
+pub returns-in_err-buffers-clause-refused : goal.returns-in_err-buffers-clause-refused
+returns-in_err-buffers-clause-refused g c =
     let edit = c.args.self.now in
-    err_with _ _ c.from_residual-in_err-work.ensures.1
+    err_with _ _ c.from_residual-in_err-buffers.ensures.1
     (change_early edit.sheet.now edit.back edit.input.now (tells c.in_ok-survey.survey) (seen (g.D.Folder.files c.args.folder.now) (g.D.Folder.counts c.args.folder.now)) _ c.in_ok-survey.ensures.there c.in_ok-survey.ensures.surveyed Memory
     (ap₂ seen (c.fade_change.ensures.files ∙ c.survey_at.ensures.files) (c.in_ok-change.ensures.done ∙ c.in_ok-survey.ensures.done)))
-
-pub returns-clause-ready : goal.returns-clause-ready
-returns-clause-ready g c =
-    work_movable c.in_ok-survey.survey c.in_ok-change.change c.in_ok-work.work c.in_ok-work.ensures c.args.self.now.input.now (g.D.Folder.files c.args.folder.now) c.in_ok-survey.ensures.there c.in_ok-survey.ensures.laid c.in_ok-survey.ensures.surveyed
 
 pub returns-clause-making : goal.returns-clause-making
 returns-clause-making g c =
     let edit = c.args.self.now in
-    let files = g.D.Folder.files c.args.folder.now in
     let s = tells c.in_ok-survey.survey in
     let same = c.survey_at.ensures.files in
-    work_makes c.in_ok-survey.survey c.in_ok-change.change c.in_ok-work.work c.in_ok-work.ensures (fade_task edit.sheet.now edit.back edit.input.now) files
-    (fade_makes edit.sheet.now edit.back edit.input.now s files (change_in c.in_ok-change.change s) c.in_ok-survey.ensures.there c.in_ok-survey.ensures.surveyed c.in_ok-survey.ensures.octets
+    fade_makes edit.sheet.now edit.back edit.input.now s (g.D.Folder.files c.args.folder.now) (change_in c.in_ok-change.change s) c.in_ok-survey.ensures.there c.in_ok-survey.ensures.surveyed c.in_ok-survey.ensures.octets
     (subst (λ f. IsThere f edit.sheet.now) same c.in_ok-change.ensures.there)
-    (λ bytes holds. c.in_ok-change.ensures.change bytes (subst (λ f. Holds f edit.sheet.now bytes) (sym same) holds)))
+    (λ bytes holds. c.in_ok-change.ensures.change bytes (subst (λ f. Holds f edit.sheet.now bytes) (sym same) holds))

@@ -8,8 +8,8 @@ use Rattle.commands.proofs.RefusingLaws.{err_with}
 use Rattle.commands.proofs.InputLaws.{fault_is_input, of_survey_input, input_is_early, input_numbers, memory_is_input}
 use Rattle.moved_gains.specs.Change.{change_in}
 use Rattle.gain_edits.specs.Change.{changing, stream_moved_by}
-use Rattle.gain_edits.specs.Changes.{changing_by, steps_by, refused_by, task_of}
-use Rattle.gain_edits.proofs.EditLaws.{edit_makes, work_makes, work_movable}
+use Rattle.gain_edits.specs.Changes.{changing_by, steps_by, refused_by}
+use Rattle.gain_edits.proofs.Proper.{edit_makes}
 use Rattle.gain_edits.proofs.edit.GainEditEdit.prepare.Goals as goal
 
 pub returns-in_err-survey-clause-refused : goal.returns-in_err-survey-clause-refused
@@ -22,23 +22,17 @@ returns-in_err-survey-clause-numbers g c =
     let edit = c.args.self.now in
     err_with _ _ c.from_residual.ensures.1 (input_numbers (changing (changing_by edit.changes)) (stream_moved_by (steps_by edit.changes)) (refused_by edit.changes) edit.input.now _ (of_survey_input (refused_by edit.changes) _ c.in_err-survey.ensures.numbers))
 
-pub returns-in_err-work-clause-refused : goal.returns-in_err-work-clause-refused
-returns-in_err-work-clause-refused g c =
+pub returns-in_err-buffers-clause-refused : goal.returns-in_err-buffers-clause-refused
+returns-in_err-buffers-clause-refused g c =
     let edit = c.args.self.now in
-    err_with _ _ c.from_residual-in_err-work.ensures.1
+    err_with _ _ c.from_residual-in_err-buffers.ensures.1
     (input_is_early (changing (changing_by edit.changes)) (stream_moved_by (steps_by edit.changes)) (refused_by edit.changes) edit.input.now (seen (g.D.Folder.files c.args.folder.now) (g.D.Folder.counts c.args.folder.now)) _ Memory
     (memory_is_input (changing (changing_by edit.changes)) edit.input.now (seen (g.D.Folder.files c.args.folder.now) (g.D.Folder.counts c.args.folder.now)) _ (tells c.in_ok-survey.survey) c.in_ok-survey.ensures.there c.in_ok-survey.ensures.surveyed
     (ap₂ seen (c.find.ensures.files ∙ c.survey_at.ensures.files) (c.in_ok-change.ensures.done ∙ c.in_ok-survey.ensures.done))))
 
-pub returns-clause-ready : goal.returns-clause-ready
-returns-clause-ready g c =
-    work_movable c.in_ok-survey.survey c.in_ok-change.change c.in_ok-work.work c.in_ok-work.ensures c.args.self.now.input.now (g.D.Folder.files c.args.folder.now) c.in_ok-survey.ensures.there c.in_ok-survey.ensures.laid c.in_ok-survey.ensures.surveyed
-
 pub returns-clause-making : goal.returns-clause-making
 returns-clause-making g c =
     let edit = c.args.self.now in
-    let files = g.D.Folder.files c.args.folder.now in
     let s = tells c.in_ok-survey.survey in
-    work_makes c.in_ok-survey.survey c.in_ok-change.change c.in_ok-work.work c.in_ok-work.ensures (task_of edit.changes edit.input.now) files
-    (edit_makes edit.changes edit.input.now s (change_in c.in_ok-change.change s) files c.in_ok-survey.ensures.there c.in_ok-survey.ensures.surveyed c.in_ok-survey.ensures.octets
-    (λ bytes holds. c.in_ok-change.ensures.change bytes (subst (λ f. Holds f edit.input.now bytes) (sym c.survey_at.ensures.files) holds)))
+    edit_makes edit.changes edit.input.now s (change_in c.in_ok-change.change s) (g.D.Folder.files c.args.folder.now) c.in_ok-survey.ensures.there c.in_ok-survey.ensures.surveyed c.in_ok-survey.ensures.octets
+    (λ bytes holds. c.in_ok-change.ensures.change bytes (subst (λ f. Holds f edit.input.now bytes) (sym c.survey_at.ensures.files) holds))
