@@ -1,18 +1,14 @@
 -- Frames that a command chooses from a surveyed file: they have a plan, and the file of them holds the stream that the command says.
-use Rattle.std.proofs.Common.{◌≡◌, ℕ, ◌+◌, ◌&&◌, Bool, true, false, cond, List, [], ◌∷◌, ◌++◌, length, get_or, map, drop, take, Option, Some, None, Result, Ok, Err, refl, sym, ◌∙◌, ap, subst, arith, rules, append-nil, length-append}
-use Rattle.std.specs.Prelude.{◌↔◌, ◌<◌, ◌≤◌, nat_lt, nat_le, IfErr, Contains, All, replicate}
-use Rattle.std.proofs.lemmas.Option.{slice_get-get_or}
+use Rattle.std.proofs.Common.{◌≡◌, ℕ, ◌+◌, ◌&&◌, Bool, true, false, cond, List, [], ◌∷◌, ◌++◌, length, map, drop, take, Option, Some, None, Result, Ok, Err, refl, sym, ◌∙◌, ap, subst, arith, rules, append-nil, length-append}
+use Rattle.std.specs.Prelude.{◌↔◌, ◌<◌, ◌≤◌, nat_lt, nat_le, IfErr, All, replicate}
 use Rattle.std.proofs.lemmas.List.{length-take}
 use Rattle.frame_header.specs.Fields.{SlotFields, HeaderFields, ClassFields, IsSlot}
 use Rattle.frame_header.specs.Tables.{class_of, length_of, window_of}
-use Rattle.frame_header.specs.Slots.{slot_of, all_slots}
-use Rattle.frame_header.proofs.SlotLaws.{length-all_slots, IsSlot-nth_slot}
 use Rattle.cue_sheet.specs.declared.place.Place.{Place}
 use Rattle.cue_sheet.specs.Places.{frame_at}
 use Rattle.info_header.specs.Info.{info_in, flags_in, field_place}
 use Rattle.slot_plan.specs.declared.needs.Need.{Need}
 use Rattle.slot_plan.specs.declared.needs.Placed.{Placed}
-use Rattle.slot_plan.specs.ThePlan.{the_plan}
 use Rattle.slot_plan.specs.Parts.{parts_of, window_in, ArePartsFeasible, AreOfClass}
 use Rattle.slot_plan.specs.Plans.{IsPlan}
 use Rattle.slot_plan.specs.Laws.{ChooseInOrder}
@@ -28,6 +24,7 @@ use Rattle.laying.specs.Fits.{FitsFrom, IsFitting}
 use Rattle.laying.specs.Written.{slot_in, head_info}
 use Rattle.laying.proofs.ChosenFrames.{survey-had}
 use Rattle.laying.proofs.FitLaws.{plans-fit}
+use Rattle.laying.proofs.PlannedFrames.{slot_among}
 use Rattle.frame_edits.proofs.LaidLaws.{laid-slots, laid-holds, plan-slots}
 use Rattle.sync_survey.specs.declared.rows.Row.{Row}
 use Rattle.sync_survey.specs.declared.places.Head.{Head}
@@ -39,18 +36,18 @@ use Rattle.commands.specs.declared.fault.Refusal.{Refusal}
 use Rattle.commands.specs.declared.fault.Refusal.TheVariants.{Range}
 use Rattle.frame_edits.specs.declared.chosen.Slots.{Slots}
 use Rattle.frame_edits.specs.declared.chosen.Slots.TheVariants.{Own, Least}
-use Rattle.frame_edits.specs.Chosen.{Chosen, laid_of, outside_fault, choices_by, chosen_rows, plan_of, laid_frames, chosen_file, chosen_stream, Choosing, laid_with, choosing, stream_with, stream_chosen_by, stream_chosen, chosen_with, cut_choice, all_choice}
-use Rattle.laying.proofs.PlacesLaws.{plan-length}
-use Rattle.commands.specs.One.{most_frames}
+use Rattle.frame_edits.specs.Chosen.{Chosen, laid_of, outside_fault, choices_by, IsPlanOf, chosen_rows, plan_of, laid_frames, chosen_file, chosen_stream, Choosing, laid_with, choosing, stream_with, stream_chosen_by, stream_chosen, chosen_with, cut_choice, all_choice, laid_by}
+use Rattle.commands.specs.One.{most_frames, IsMaking, IsProper}
 use Rattle.commands.specs.Left.{IsLate}
-use Rattle.commands.proofs.InputLaws.{IsProperMaking}
-use Rattle.commands.proofs.RefusingLaws.{unless_ok}
-use Rattle.commands.proofs.RefusingLaws.{unless_late}
-
--- ---- how many places a plan of them has
-
-pub plan-few : (window : ℕ) (choices : HeaderFields → List SlotFields) (part : List Need) → length (the_plan window choices (part ∷ [])) ≤ length part + 1
-plan-few window choices part = omega (arith, plan-length window choices (part ∷ []), length-append part [])
+use Rattle.commands.proofs.InputLaws.{IsProperMaking, file_makes, file_proper}
+use Rattle.commands.proofs.RefusingLaws.{unless_ok, unless_late}
+use Rattle.bit_fields.specs.Bits.{AreBytes}
+use Rattle.outside.specs.Files.{Files, Holds, IsThere}
+use Rattle.frame_edits.specs.declared.choice.Choice.{Choice}
+use Rattle.frame_edits.specs.declared.choice.Choice.TheVariants.{Between, All as AllFrames}
+use Rattle.frame_edits.specs.Choices.{choosing_by, refused_by, task_of}
+use Rattle.frame_edits.specs.Laid.{file_laid}
+use Rattle.frame_edits.proofs.LaidPass.{file-is}
 
 -- ---- the choice
 
@@ -60,12 +57,8 @@ pub record IsRight (chosen : Chosen) (s : SurveyFields) : Type 0 where
   pub within : chosen.to ≤ length s.frames
   pub extension : length chosen.extension ≡ 36
 
-other_default : {X : Type 0} (xs : List X) (i : ℕ) (d e : X) → i < length xs → get_or xs i d ≡ get_or xs i e
-other_default xs i d e lt = let both : Some (get_or xs i d) ≡ Some (get_or xs i e) = sym (slice_get-get_or xs i d lt) ∙ slice_get-get_or xs i e lt in cc
-
 choice_slots : (slots : Slots) → AreSlots (choices_by slots)
-choice_slots Least h slot is has =
-    subst IsSlot (other_default all_slots has.0 (slot_of 1 false) slot has.1 ∙ has.2) (IsSlot-nth_slot has.0 (omega (arith, has.1, length-all_slots)))
+choice_slots Least h slot is has = slot_among slot has
 choice_slots Own h slot is has = subst IsSlot (only_one h.slot slot has) is.slot
 
 chosen_kind : (slots : Slots) (c : ClassFields) (rows : List Row) → AreFit c (asked_of (rows ∷ [])) → ChooseInOrder (choices_by slots) (parts_of (asked_of (rows ∷ [])).needs (asked_of (rows ∷ [])).places)
@@ -96,26 +89,24 @@ module _ (chosen : Chosen) (s : SurveyFields) (placed : IsPlaced s) (some : chos
   pub the-plan : IsPlan (window_of s.class.version) (choices_by chosen.slots) (map need_of part_rows ∷ []) (plan_of chosen s)
   the-plan = (one_plan (plan_of chosen s)).1 refl
 
-  -- what the planner answers
-  of_part : (ps : List Placed) → IsPlan (window_in asked.needs) (choices_by chosen.slots) (parts_of asked.needs asked.places) ps → IsPlan (window_of s.class.version) (choices_by chosen.slots) (map need_of part_rows ∷ []) ps
-  of_part ps plan =
+  -- what the planner answers where it is given these frames alone
+  of_part : (given : Asked) (choices : HeaderFields → List SlotFields) (ps : List Placed) → given ≡ asked → choices ≡ choices_by chosen.slots → IsPlan (window_in given.needs) choices (parts_of given.needs given.places) ps
+      → IsPlan (window_of s.class.version) (choices_by chosen.slots) (map need_of part_rows ∷ []) ps
+  of_part given choices ps same by plan =
       subst (λ (n : ℕ). IsPlan n (choices_by chosen.slots) (map need_of part_rows ∷ []) ps) rows-fit.window
-      (subst (λ (parts : List (List Need)). IsPlan (window_in asked.needs) (choices_by chosen.slots) parts ps) part_is plan)
+      (subst (λ (parts : List (List Need)). IsPlan (window_in asked.needs) (choices_by chosen.slots) parts ps) part_is (rw (same, by) at plan))
 
-  pub plan_same : (ps : List Placed) → IsPlan (window_in asked.needs) (choices_by chosen.slots) (parts_of asked.needs asked.places) ps → ps ≡ plan_of chosen s
-  plan_same ps plan = (one_plan ps).0 (of_part ps plan)
-
-  pub plan_fits : (ps : List Placed) → IsPlan (window_in asked.needs) (choices_by chosen.slots) (parts_of asked.needs asked.places) ps → FitsFrom (window_of s.class.version) 0 (map need_of part_rows) ps
+  fits_by : (ps : List Placed) → IsPlan (window_of s.class.version) (choices_by chosen.slots) (map need_of part_rows ∷ []) ps → FitsFrom (window_of s.class.version) 0 (map need_of part_rows) ps
   unfolding needs_of
-  plan_fits ps plan =
-      subst (λ (needs : List Need). FitsFrom (window_of s.class.version) 0 needs ps) (append-nil (map need_of part_rows))
-      (plans-fit (window_of s.class.version) (choices_by chosen.slots) (part_rows ∷ []) ps (of_part ps plan))
+  fits_by ps plan = subst (λ (needs : List Need). FitsFrom (window_of s.class.version) 0 needs ps) (append-nil (map need_of part_rows)) (plans-fit (window_of s.class.version) (choices_by chosen.slots) (part_rows ∷ []) ps plan)
+
+  pub plan_is : (given : Asked) (choices : HeaderFields → List SlotFields) (ps : List Placed) → given ≡ asked → choices ≡ choices_by chosen.slots → IsPlan (window_in given.needs) choices (parts_of given.needs given.places) ps → IsPlanOf chosen s ps
+  plan_is given choices ps same by answer = let plan = of_part given choices ps same by answer in record { plan = (one_plan ps).0 plan; fits = fits_by ps plan }
 
   -- and it can be laid
   pub plan-fitting : IsFitting (window_of s.class.version) (map need_of part_rows) (plan_of chosen s)
-  unfolding needs_of
   plan-fitting = record {
-    fits = subst (λ (needs : List Need). FitsFrom (window_of s.class.version) 0 needs (plan_of chosen s)) (append-nil (map need_of part_rows)) (plans-fit (window_of s.class.version) (choices_by chosen.slots) (part_rows ∷ []) (plan_of chosen s) the-plan);
+    fits = fits_by (plan_of chosen s) the-plan;
     slots = plan-slots (window_of s.class.version) (choices_by chosen.slots) part_rows (plan_of chosen s) (choice_slots chosen.slots) (part-known s chosen.from chosen.to placed) the-plan;
   }
 
@@ -168,16 +159,11 @@ with_right quality extension from to slots s chosen size e =
     let there = outside-none from to (length s.frames) (nat_lt from to && nat_le to (length s.frames)) refl ok.0 in
     subst (λ (c : Chosen). IsRight c s) ok.1 (record { some = there.0; within = there.1; extension = size })
 
-cut_late : (from to : Place) (slots : Slots) (file : List ℕ) (s : SurveyFields) → IfErr (cut_choice from to slots file s) IsLate
-unfolding cut_choice
-cut_late from to slots file s = unless_late _ _
-
-cut_right : (from to : Place) (slots : Slots) (file : List ℕ) (s : SurveyFields) (chosen : Chosen) → cut_choice from to slots file s ≡ Ok chosen → IsRight chosen s
-unfolding cut_choice
-cut_right from to slots file s chosen e = with_right None (replicate 36 0) (frame_at s.class (length s.frames) from) (frame_at s.class (length s.frames) to) slots s chosen refl e
-
 pub cut_proper : (from to : Place) (slots : Slots) → IsProperMaking (choosing (cut_choice from to slots)) (stream_chosen (cut_choice from to slots))
-cut_proper from to slots = choosing_proper (cut_choice from to slots) (cut_late from to slots) (cut_right from to slots)
+unfolding cut_choice
+cut_proper from to slots =
+    choosing_proper (cut_choice from to slots) (λ file s. unless_late _ _)
+    (λ file s chosen e. with_right None (replicate 36 0) (frame_at s.class (length s.frames) from) (frame_at s.class (length s.frames) to) slots s chosen refl e)
 
 info-extension : (bytes : List ℕ) → length (info_in bytes).extension ≡ 36
 unfolding info_in
@@ -200,3 +186,18 @@ all_right slots file s chosen e = with_right (head_info file s.head).quality (he
 
 pub all_proper : (slots : Slots) → IsProperMaking (choosing (all_choice slots)) (stream_chosen (all_choice slots))
 all_proper slots = choosing_proper (all_choice slots) (all_late slots) (all_right slots)
+
+-- ---- the commands
+
+proper : (choice : Choice) → IsProperMaking (choosing (choosing_by choice)) (stream_chosen (choosing_by choice))
+proper (Between from to slots) = cut_proper from.now to.now slots
+proper (AllFrames slots) = all_proper slots
+
+pub edit_makes : (choice : Choice) (input : List ℕ) (s : SurveyFields) (chosen : Chosen) (placed : List Placed) (files : Files) → IsThere files input → ((bytes : List ℕ) → Holds files input bytes → survey_of bytes most_frames ≡ Ok s) → ((bytes : List ℕ) → Holds files input bytes → AreBytes bytes)
+    → ((bytes : List ℕ) → Holds files input bytes → choosing_by choice bytes s ≡ Ok chosen) → placed ≡ plan_of chosen s → IsMaking (task_of choice input) (λ file. file_laid (laid_by chosen placed) file s) files
+edit_makes choice input s chosen placed files there surveyed octets chose plan =
+    file_makes (choosing (choosing_by choice)) (stream_chosen (choosing_by choice)) (refused_by choice) input files _ s there surveyed octets
+    (λ bytes holds. ap (laid_with bytes s) (chose bytes holds) ∙ ap Ok (sym (file-is chosen placed bytes s plan)))
+
+pub edit_proper : (choice : Choice) (input : List ℕ) → IsProper (task_of choice input)
+edit_proper choice input = file_proper (choosing (choosing_by choice)) (stream_chosen (choosing_by choice)) (proper choice) (refused_by choice) input

@@ -1,8 +1,7 @@
 -- Frames in the slots of any plan by which they can be laid: the file of them holds their stream.
-use Rattle.std.proofs.Common.{◌≡◌, ℕ, ◌+◌, List, [], ◌∷◌, length, get_or, map, Option, Some, None, refl, sym, ◌∙◌, subst, inl, inr, arith, append-nil}
-use Rattle.std.specs.Prelude.{◌⊎◌, ◌<◌, ◌≤◌, slice_get, slice_range}
+use Rattle.std.proofs.Common.{◌≡◌, ℕ, zero, suc, ◌+◌, List, [], ◌∷◌, length, map, Option, Some, None, refl, sym, ◌∙◌, subst, arith, append-nil}
+use Rattle.std.specs.Prelude.{◌<◌, ◌≤◌, slice_get, slice_range}
 use Rattle.std.specs.List.{range_with_len}
-use Rattle.std.proofs.lemmas.Option.{slice_get_cases}
 use Rattle.std.proofs.lemmas.List.{length-map}
 use Rattle.std.proofs.lemmas.List.FromFn.{length-range_with_len}
 use Rattle.frame_header.specs.Fields.{SlotFields, HeaderFields, IsSlot, IsHeader}
@@ -63,6 +62,11 @@ plan-slots window choices rows placed slots known plan = at plan.lead_ins plan.a
 
 -- ---- the file
 
+pub first-there : (rows : List Row) (i : ℕ) → i < length rows → (first : Row) × (slice_get rows i ≡ Some first)
+first-there [] i within = absurd (omega arith)
+first-there (row ∷ rows) zero within = (row, refl)
+first-there (row ∷ rows) (suc i) within = first-there rows i (omega arith)
+
 module _ (laid : Laid) (file : List ℕ) (s : SurveyFields) (is : HasSurvey file s) (some : laid.from < laid.to) (within : laid.to ≤ length s.frames)
     (fitting : IsFitting (window_of s.class.version) (needs_laid laid s) laid.placed) where
   pub part_is : IsPart s.class (part_laid laid file s)
@@ -96,9 +100,6 @@ module _ (laid : Laid) (file : List ℕ) (s : SurveyFields) (is : HasSurvey file
 
   -- it is well-formed, and that is its stream
   pub laid-holds : length laid.extension ≡ 36 → HoldsStream (file_laid laid file s) (stream_laid laid file s)
-  laid-holds extension = at (slice_get_cases s.frames laid.from).1
-    where
-      at : ((x : Row) × (laid.from < length s.frames) × (slice_get s.frames laid.from ≡ Some x) × (get_or s.frames laid.from x ≡ x)) ⊎ ((length s.frames ≤ laid.from) × (slice_get s.frames laid.from ≡ None))
-          → HoldsStream (file_from (slice_get s.frames laid.from) laid file s) (stream_laid laid file s)
-      at (inl found) = subst (λ (o : Option Row). HoldsStream (file_from o laid file s) (stream_laid laid file s)) (sym found.2) (first-holds found.0 found.2 extension)
-      at (inr past) = absurd (omega (arith, past.0, some, within))
+  laid-holds extension =
+      let found = first-there s.frames laid.from (omega (arith, some, within)) in
+      subst (λ (o : Option Row). HoldsStream (file_from o laid file s) (stream_laid laid file s)) (sym found.1) (first-holds found.0 found.1 extension)

@@ -1,8 +1,7 @@
--- The second pass, which lays chosen frames anew.
-use Rattle.std.proofs.Common.{◌≡◌, ◌≢◌, ℕ, List, ◌++◌, take, Some, None, refl, sym, subst, ◌∙◌, ap, inl, inr, arith, get_or, length}
-use Rattle.std.specs.Prelude.{◌⊎◌, ◌<◌, ◌≤◌, slice_get, slice_range}
+-- The second pass, which lays chosen frames anew, and the work that is ready for it.
+use Rattle.std.proofs.Common.{ap₂, ◌≡◌, ◌≢◌, ℕ, List, ◌++◌, take, refl, sym, subst, ◌∙◌, ap, arith, length}
+use Rattle.std.specs.Prelude.{◌<◌, slice_range}
 use Rattle.std.specs.List.{concat}
-use Rattle.std.proofs.lemmas.Option.{slice_get_cases}
 use Rattle.outside.specs.Files.{Files, Holds, IsThere, emptied}
 use Rattle.outside.specs.Feed.{Fed, IsFedFrom}
 use Rattle.outside.specs.Pass.{Appends, AppendsPrefix}
@@ -16,13 +15,17 @@ use Rattle.laying.specs.Relaid.{all_frames, relaid}
 use Rattle.laying.specs.Written.{front_blocks, back_blocks}
 use Rattle.laying.specs.Surveys.{HasSurvey}
 use Rattle.laying.specs.Passing.{IsReady}
-use Rattle.sync_survey.specs.declared.rows.Row.{Row}
 use Rattle.sync_survey.specs.Faults.{SurveyFields, tells}
 use Rattle.sync_survey.specs.Survey.{IsLaidOut}
-use Rattle.frame_edits.specs.Laid.{Laid, file_from, file_laid, IsLaidInfo}
+use Rattle.frame_edits.proofs.LaidLaws.{first-there}
+use Rattle.frame_edits.specs.Laid.{Laid, file_laid, IsLaidInfo}
 use Rattle.frame_edits.specs.declared.plans.Selection.{Selection}
 use Rattle.frame_edits.specs.Chosen.{Chosen, chosen_in, plan_of, laid_by, chosen_file}
-use Rattle.frame_edits.specs.Selected.{IsWritable, IsSelected}
+use Rattle.frame_edits.specs.Selected.{IsWritable, IsSelected, laid_in}
+use Rattle.sync_survey.specs.declared.surveys.Survey.{Survey}
+use Rattle.commands.specs.One.{Task, IsMaking}
+use Rattle.frame_edits.specs.declared.work.Work.{Work}
+use Rattle.frame_edits.specs.Layable.{IsLayable, IsWorkOf, work_file}
 
 -- the same by another function that gives the same bytes of the input
 pub appends-as : {input output : List ℕ} (made other : List ℕ → List ℕ) {old new : Files} → ((file : List ℕ) → Holds old input file → made file ≡ other file) → Appends input output made old new → Appends input output other old new
@@ -62,12 +65,7 @@ relay-ready relay old mid fed apart there laid has long created fed_from =
 pub written-is : (laid : Laid) (file : List ℕ) (s : SurveyFields) (info : List ℕ) (placed : List Placed) → laid.from < length s.frames → placed ≡ laid.placed → IsLaidInfo laid file s info
     → concat (front_blocks file s) ++ (info ++ (frame_bytes (relaid (slice_range (all_frames file s) laid.from laid.to) placed) ++ concat (back_blocks file s))) ≡ file_laid laid file s
 unfolding laid_file
-written-is laid file s info placed within plan is = at (slice_get_cases s.frames laid.from).1
-  where
-    at : ((x : Row) × (laid.from < length s.frames) × (slice_get s.frames laid.from ≡ Some x) × (get_or s.frames laid.from x ≡ x)) ⊎ ((length s.frames ≤ laid.from) × (slice_get s.frames laid.from ≡ None))
-        → concat (front_blocks file s) ++ (info ++ (frame_bytes (relaid (slice_range (all_frames file s) laid.from laid.to) placed) ++ concat (back_blocks file s))) ≡ file_from (slice_get s.frames laid.from) laid file s
-    at (inl found) = rw (is found.0 found.2, plan, found.2) refl
-    at (inr past) = absurd (omega (arith, past.0, within))
+written-is laid file s info placed within plan is = let found = first-there s.frames laid.from within in rw (is found.0 found.1, plan, found.1) refl
 
 -- where the plan is that of the chosen frames, it is their file
 pub file-is : (chosen : Chosen) (placed : List Placed) (file : List ℕ) (s : SurveyFields) → placed ≡ plan_of chosen s → file_laid (laid_by chosen placed) file s ≡ chosen_file chosen file s
@@ -82,3 +80,23 @@ selected-writable s selection selected = record {
   fits = selected.fits;
   info = λ file is. subst (λ placed. IsLaidInfo (laid_by (chosen_in selection.chosen) placed) file s selection.planned.info.items) (sym selected.plan) (selected.info file is);
 }
+
+-- ---- the work
+
+module _ (survey : Survey) (selection : Selection) (work : Work) (of : IsWorkOf survey selection work) where
+  -- it is ready for the pass over the file that was read
+  pub work_layable : (input : List ℕ) (files : Files) → IsThere files input → IsLaidOut (tells survey) → ((bytes : List ℕ) → Holds files input bytes → HasSurvey bytes (tells survey)) → IsWritable (tells survey) selection → IsLayable input work files
+  work_layable input files there laid has writable = record {
+    there = there;
+    laid = subst (λ s. IsLaidOut (tells s)) (sym of.survey_is) laid;
+    has = subst (λ s. (bytes : List ℕ) → Holds files input bytes → HasSurvey bytes (tells s)) (sym of.survey_is) has;
+    writable = subst (λ s. IsWritable (tells s) work.selection) (sym of.survey_is) (subst (IsWritable (tells survey)) (sym of.selection_is) writable);
+    fed = of.fed;
+    unsent = of.unsent;
+  }
+
+  -- and makes the file of the chosen frames
+  pub work_makes : (task : Task) (files : Files) → IsMaking task (λ file. file_laid (laid_in selection) file (tells survey)) files → IsMaking task (work_file work) files
+  work_makes task files making =
+      let made_by : Survey → Selection → List ℕ → List ℕ = λ s l file. file_laid (laid_in l) file (tells s) in
+      subst (λ made. IsMaking task made files) (ap₂ made_by (sym of.survey_is) (sym of.selection_is)) making

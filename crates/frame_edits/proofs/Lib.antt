@@ -1,5 +1,4 @@
 -- The lemmas of this crate.
 pub mod LaidLaws
-pub mod ChosenLaws
 pub mod LaidPass
-pub mod EditLaws
+pub mod ChosenLaws

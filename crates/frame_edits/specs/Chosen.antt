@@ -1,5 +1,5 @@
 -- A file of frames chosen from another, laid anew in slots: what is cut out, and what is packed.
-use Rattle.std.specs.Prelude.{ℕ, nat_lt, nat_le, ◌&&◌, if◌then◌else◌, Bool, true, false, List, [], ◌∷◌, length, map, slice_range, replicate, Option, Some, None, Result, Ok, Err}
+use Rattle.std.specs.Prelude.{◌≡◌, ◌<◌, ◌≤◌, ℕ, nat_lt, nat_le, ◌&&◌, if◌then◌else◌, Bool, true, false, List, [], ◌∷◌, length, map, slice_range, replicate, Option, Some, None, Result, Ok, Err}
 use Rattle.frame_header.specs.Fields.{SlotFields, HeaderFields}
 use Rattle.frame_header.specs.Tables.{window_of}
 use Rattle.cue_sheet.specs.declared.place.Place.{Place}
@@ -10,13 +10,14 @@ use Rattle.part_needs.specs.Needs.{need_of}
 use Rattle.part_needs.specs.Fit.{own_choice, any_choice}
 use Rattle.frame_writer.specs.Frames.{Frame}
 use Rattle.info_header.specs.declared.fields.Info.{Info}
+use Rattle.laying.specs.Fits.{FitsFrom}
 use Rattle.laying.specs.Relaid.{Part}
 use Rattle.laying.specs.Written.{head_info}
 use Rattle.sync_survey.specs.declared.rows.Row.{Row}
 use Rattle.sync_survey.specs.declared.survey_fault.SurveyFault.{SurveyFault}
 use Rattle.sync_survey.specs.MainData.{StreamFrame}
 use Rattle.sync_survey.specs.Faults.{SurveyFields}
-use Rattle.sync_survey.specs.Survey.{survey_of}
+use Rattle.sync_survey.specs.Survey.{survey_of, IsLaidOut}
 use Rattle.frame_edits.specs.Laid.{Laid, part_laid, frames_laid, info_laid, file_from, file_laid, stream_laid, IsLaidInfo}
 use Rattle.frame_edits.specs.declared.chosen.Chosen.{Chosen as CodeChosen}
 use Rattle.frame_edits.specs.declared.chosen.Slots.{Slots}
@@ -37,6 +38,13 @@ pub record Chosen : Type 0 where
   pub slots : Slots
   pub quality : Option ℕ
   pub extension : List ℕ
+
+-- there is a frame between them, and all are there, of a survey with at most so many frames
+pub record AreThere (most : ℕ) (chosen : Chosen) (s : SurveyFields) : Type 0 where
+  pub laid : IsLaidOut s
+  pub few : length s.frames ≤ most
+  pub some : chosen.from < chosen.to
+  pub within : chosen.to ≤ length s.frames
 
 -- that of the code
 abbrev pub chosen_in : CodeChosen → Chosen
@@ -59,6 +67,11 @@ chosen_rows chosen s = slice_range s.frames chosen.from chosen.to
 -- the slots of their plan, with a lead-in where their main data need one
 abbrev pub plan_of : Chosen → SurveyFields → List Placed
 plan_of chosen s = the_plan (window_of s.class.version) (choices_by chosen.slots) (map need_of (chosen_rows chosen s) ∷ [])
+
+-- these are the slots of their plan, which can be written frame by frame
+pub record IsPlanOf (chosen : Chosen) (s : SurveyFields) (placed : List Placed) : Type 0 where
+  pub plan : placed ≡ plan_of chosen s
+  pub fits : FitsFrom (window_of s.class.version) 0 (map need_of (chosen_rows chosen s)) placed
 
 -- the chosen frames in the slots of a plan
 abbrev pub laid_by : Chosen → List Placed → Laid

@@ -1,5 +1,5 @@
 //! The plan of chosen frames, and the Info frame before them.
-ghost use Rattle.std.specs.Prelude.{◌≡◌, ◌<◌, ◌≤◌, ℕ, List, [], ◌∷◌, length, map, slice_get, slice_range, Some, Ok, IfOk};
+ghost use Rattle.std.specs.Prelude.{◌≡◌, ◌<◌, ◌≤◌, ℕ, List, length, map, slice_get, slice_range, Some, Ok, IfOk};
 ghost use Rattle.frame_header.specs.Tables.{window_of};
 ghost use Rattle.frame_header.specs.Limits.{most_placed};
 ghost use Rattle.info_header.specs.InfoFrame.{info_frame};
@@ -7,16 +7,14 @@ ghost use Rattle.slot_plan.specs.declared.needs.Placed.{Placed as PlacedFields};
 ghost use Rattle.frame_writer.specs.Frames.{Frame};
 ghost use Rattle.laying.specs.Written.{slot_in, info_for};
 ghost use Rattle.sync_survey.specs.declared.rows.Row.{Row as RowFields};
-ghost use Rattle.part_needs.specs.Needs.{need_of, asked_of};
-ghost use Rattle.part_needs.specs.Fit.{CanBePlanned};
-ghost use Rattle.slot_plan.specs.Parts.{window_in, parts_of};
-ghost use Rattle.slot_plan.specs.Plans.{IsPlan, entries};
+ghost use Rattle.part_needs.specs.Needs.{need_of};
+ghost use Rattle.slot_plan.specs.Plans.{entries};
 ghost use Rattle.laying.specs.Surveys.{HasSurvey};
 ghost use Rattle.laying.specs.Fits.{FitsFrom};
 ghost use Rattle.sync_survey.specs.Faults.{tells};
 ghost use Rattle.sync_survey.specs.Survey.{IsLaidOut};
 ghost use Rattle.commands.specs.One.{most_frames};
-ghost use Rattle.frame_edits.specs.Chosen.{chosen_in, plan_of, IsChosenInfo};
+ghost use Rattle.frame_edits.specs.Chosen.{chosen_in, choices_by, plan_of, AreThere, IsChosenInfo, IsPlanOf};
 
 use crate::chosen::{Chosen, Slots};
 use arrayvec::ArrayVec;
@@ -25,7 +23,7 @@ use laying::info_of;
 use part_needs::Parts;
 use slot_plan::{Keep, Least, Placed, Plan, Policy};
 use std::alloc::{AllocError, Global};
-use sync_survey::{Row, Survey};
+use sync_survey::Survey;
 
 /// The slots of chosen frames and of their lead-in, and the bytes of the Info frame before them, at most 1,441.
 #[derive(Drop)]
@@ -41,35 +39,32 @@ pub struct Selection {
     pub planned: Planned,
 }
 
-/// The plan of one part by a policy.
-fn plan_part<P: Policy>(alloc: Global, rows: &[Row], policy: &P) -> Result<Plan, AllocError>
-    requires planned { CanBePlanned (asked_of (rows.now ∷ [])) }
-    requires few { length rows.now ≤ most_frames }
-    ensures { IfOk result (λ plan. IsPlan (window_in (asked_of (rows.now ∷ [])).needs)
-        (P.choices_of policy.now) (parts_of (asked_of (rows.now ∷ [])).needs
-        (asked_of (rows.now ∷ [])).places) (entries plan)) }
+/// The plan of chosen frames by the policy of their slots.
+fn plan_by<P: Policy>(
+    alloc: Global,
+    survey: &Survey,
+    chosen: &Chosen,
+    policy: &P,
+) -> Result<Plan, AllocError>
+    requires there { AreThere most_frames (chosen_in chosen.now) (tells survey.now) }
+    requires policy { P.choices_of policy.now ≡ choices_by chosen.now.slots }
+    ensures { IfOk result (λ plan. IsPlanOf (chosen_in chosen.now) (tells survey.now)
+        (entries plan)) }
 {
     let mut parts = Parts::new(alloc);
-    parts.push(rows)?;
+    parts.push(&survey.frames()[chosen.from..chosen.to])?;
     parts.plan(alloc, policy)
 }
 
 /// The plan of chosen frames.
 fn plan_chosen(alloc: Global, survey: &Survey, chosen: &Chosen) -> Result<Plan, AllocError>
-    requires laid { IsLaidOut (tells survey.now) }
-    requires few { length (tells survey.now).frames ≤ most_frames }
-    requires some { chosen.now.from < chosen.now.to }
-    requires within { chosen.now.to ≤ length (tells survey.now).frames }
-    ensures plan { IfOk result (λ plan. entries plan ≡ plan_of (chosen_in chosen.now)
-        (tells survey.now)) }
-    ensures fits { IfOk result (λ plan. FitsFrom (window_of (tells survey.now).class.version) 0
-        (map need_of (slice_range (tells survey.now).frames chosen.now.from chosen.now.to))
+    requires { AreThere most_frames (chosen_in chosen.now) (tells survey.now) }
+    ensures { IfOk result (λ plan. IsPlanOf (chosen_in chosen.now) (tells survey.now)
         (entries plan)) }
 {
-    let rows = &survey.frames()[chosen.from..chosen.to];
     match chosen.slots {
-        Slots::Own => plan_part(alloc, rows, &Keep),
-        Slots::Least => plan_part(alloc, rows, &Least),
+        Slots::Own => plan_by(alloc, survey, chosen, &Keep),
+        Slots::Least => plan_by(alloc, survey, chosen, &Least),
     }
 }
 

@@ -198,7 +198,7 @@ module _ (changes : Changes) (name : List ℕ) (old new : Seen) (s : SurveyField
       at (TooLarge size) h = refused (TooLarge size) refl h.0 h.3
       at (BadBlock place) h = refused (BadBlock place) refl h.0 h.3
       at Read h = record { is = refl; rose = h; files = same }
-      at (Shrunk first second) h = record { rose = h.3; counts = h.4; untold = h.0; files = same }
+      at (Shrunk first second) h = record { first = first; second = second; is = refl; rose = h.3; counts = h.4; untold = h.0; files = same }
       at NoRoom h = memory_is_input (changing (changing_by changes)) name old new s there is (ap₂ seen same h)
 
   -- after it the code answers what the definition says, or has no memory

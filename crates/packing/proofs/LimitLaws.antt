@@ -1,6 +1,6 @@
 -- A file of at most so many frames: its faults, and that it has none where more frames are allowed, if it has none here.
 use Rattle.std.proofs.Common.{◌≡◌, ℕ, ◌≤◌, ◌==◌, false, List, [], ◌∷◌, length, Option, Some, None, Result, Ok, Err, refl, sym, ◌∙◌, ap, subst, inl, inr, arith, rules}
-use Rattle.std.specs.Prelude.{Bool, IfErr, IfSome}
+use Rattle.std.specs.Prelude.{Bool, IfErr}
 use Rattle.std.proofs.lemmas.Option.{slice_get_within, slice_get_cases}
 use Rattle.std.proofs.lemmas.Bool.{ne_eqb}
 use Rattle.bit_fields.specs.Bits.{AreBytes}
@@ -20,7 +20,7 @@ use Rattle.sync_survey.proofs.SurveyedFiles.{survey_of-parts}
 use Rattle.sync_survey.proofs.BytesFaults.{surveyed_of_bytes}
 use Rattle.sync_survey.proofs.FoldersLaws.{survey_of-short}
 use Rattle.commands.specs.declared.fault.EditFault.{EditFault}
-use Rattle.commands.specs.declared.fault.EditFault.TheVariants.{EqualNames, Input, Refused, Write, Sent, Memory}
+use Rattle.commands.specs.declared.fault.EditFault.TheVariants.{Input, Refused, Memory}
 use Rattle.commands.specs.declared.fault.Refusal.{Refusal}
 use Rattle.commands.specs.Left.{Why, Rejected, Missing, Unread, Shorter, Unwritten, Unsent, NoMemory, why_of, Seen, IsLate, IsNotBefore}
 use Rattle.commands.specs.One.{Making, made_where, Task, file_task, Refuses, IsFileFaultBy, IsFileFault, IsEarlyFaultBy, IsEarlyFault, IsOfInputs, IsMaking, IsProper}
@@ -110,12 +110,10 @@ module _ (allowed : ℕ) (task : Task) where
     limited-early h = early-by (why_of fault) h
 
   pub limited-numbers : (fault : EditFault) → IsOfInputs task fault → IsOfInputs (limited (Some allowed) task) fault
-  limited-numbers (EqualNames place) h = absurd h
   limited-numbers (Input place fault) h = h
   limited-numbers (Refused refusal) h = h
-  limited-numbers (Write place) h = absurd h
-  limited-numbers Sent h = absurd h
   limited-numbers Memory h = tt
+  limited-numbers _ h = absurd h
 
   pub limited-making : (made : List ℕ → List ℕ) (files : Files) → IsFaultless files → IsMaking task made files → IsMaking (limited (Some allowed) task) made files
   limited-making made files sound is = record { there = is.there; makes = at files sound is.makes }

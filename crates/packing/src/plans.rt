@@ -1,5 +1,5 @@
 //! The plan of all frames of a file by a rule, and the Info frame before them.
-ghost use Rattle.std.specs.Prelude.{◌≡◌, ◌<◌, ◌≤◌, ℕ, List, [], ◌∷◌, length, map, Some, Ok, IfOk, IfErr, MatchResult};
+ghost use Rattle.std.specs.Prelude.{◌≡◌, ◌≤◌, ℕ, List, [], ◌∷◌, length, map, Some, Ok, IfOk, IfErr, MatchResult};
 ghost use Rattle.frame_header.specs.Tables.{window_of};
 ghost use Rattle.slot_plan.specs.Layouts.{IsFeasible};
 ghost use Rattle.slot_plan.specs.Parts.{AreOfClass, own_frame};
@@ -11,10 +11,9 @@ ghost use Rattle.best_plan.specs.BestOf.{best_plan_of};
 ghost use Rattle.rate_plan.specs.Menus.{AreAscending};
 ghost use Rattle.rate_plan.specs.MenuPlan.{menu_plan};
 ghost use Rattle.sync_survey.specs.Faults.{tells};
-ghost use Rattle.sync_survey.specs.Survey.{IsLaidOut};
 ghost use Rattle.frame_edits.specs.Laid.{IsLaidInfo};
 ghost use Rattle.commands.specs.One.{most_frames};
-ghost use Rattle.frame_edits.specs.Chosen.{chosen_in, laid_by};
+ghost use Rattle.frame_edits.specs.Chosen.{chosen_in, laid_by, AreThere};
 ghost use Rattle.laying.specs.Surveys.{HasSurvey};
 ghost use Rattle.laying.specs.Fits.{IsFitting};
 ghost use Rattle.packing.specs.Packing.{needs_of, IsPlanFault};
@@ -81,10 +80,7 @@ fn plan_rates(
     chosen: &Chosen,
     rates: Rates,
 ) -> Result<Plan, EditFault>
-    requires laid { IsLaidOut (tells survey.now) }
-    requires few { length (tells survey.now).frames ≤ most_frames }
-    requires some { chosen.now.from < chosen.now.to }
-    requires within { chosen.now.to ≤ length (tells survey.now).frames }
+    requires { AreThere most_frames (chosen_in chosen.now) (tells survey.now) }
     ensures { MatchResult result
         (λ plan. rates_plan_lem rates (tells survey.now).class
         (needs_of (chosen_in chosen.now) (tells survey.now)) ≡ Ok (entries plan))
@@ -123,10 +119,7 @@ fn plan_best(alloc: Global, class: Class, rows: &[Row]) -> Result<Plan, AllocErr
 
 /// The plan of chosen frames by a rule.
 fn plan_by(alloc: Global, survey: &Survey, chosen: &Chosen, rule: Rule) -> Result<Plan, EditFault>
-    requires laid { IsLaidOut (tells survey.now) }
-    requires few { length (tells survey.now).frames ≤ allowed_by rule }
-    requires some { chosen.now.from < chosen.now.to }
-    requires within { chosen.now.to ≤ length (tells survey.now).frames }
+    requires { AreThere (allowed_by rule) (chosen_in chosen.now) (tells survey.now) }
     ensures { MatchResult result
         (λ plan. plan_by_lem rule (tells survey.now).class
         (needs_of (chosen_in chosen.now) (tells survey.now)) ≡ Ok (entries plan))
@@ -155,10 +148,7 @@ pub(crate) fn plan_packed(
     chosen: &Chosen,
     rule: Rule,
 ) -> Result<Planned, EditFault>
-    requires laid { IsLaidOut (tells survey.now) }
-    requires few { length (tells survey.now).frames ≤ allowed_by rule }
-    requires some { chosen.now.from < chosen.now.to }
-    requires within { chosen.now.to ≤ length (tells survey.now).frames }
+    requires { AreThere (allowed_by rule) (chosen_in chosen.now) (tells survey.now) }
     ensures plan { IfOk result (λ p. plan_by_lem rule (tells survey.now).class
         (needs_of (chosen_in chosen.now) (tells survey.now)) ≡ Ok (entries p.plan)) }
     ensures fits { IfOk result (λ p. IsFitting (window_of (tells survey.now).class.version)

@@ -35,8 +35,7 @@ use Rattle.frame_edits.specs.declared.plans.Selection.{Selection}
 use Rattle.frame_edits.specs.Chosen.{Chosen, chosen_in, chosen_file, plan_of}
 use Rattle.frame_edits.specs.Layable.{IsWorkOf, work_file}
 use Rattle.frame_edits.specs.Selected.{IsSelected}
-use Rattle.frame_edits.proofs.EditLaws.{work_layable}
-use Rattle.frame_edits.proofs.LaidPass.{file-is, selected-writable}
+use Rattle.frame_edits.proofs.LaidPass.{work_layable, file-is, selected-writable}
 use Rattle.laying.specs.Surveys.{HasSurvey}
 use Rattle.slot_plan.specs.Plans.{entries}
 use Rattle.salvage.specs.declared.mended.Mended.{Mended}

@@ -1,7 +1,7 @@
 -- What the one body asks of the command.
 use Rattle.frame_edits.specs.declared.chosen.Slots.TheVariants.{Least}
 use Rattle.frame_edits.specs.declared.choice.Choice.TheVariants.{All}
-use Rattle.frame_edits.proofs.EditLaws.{edit_proper}
+use Rattle.frame_edits.proofs.ChosenLaws.{edit_proper}
 use Rattle.frame_edits.proofs.calls.pack.Goals as goal
 
 pub make_one-requires-clause-proper : goal.make_one-requires-clause-proper

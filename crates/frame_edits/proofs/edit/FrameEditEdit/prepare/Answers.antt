@@ -12,8 +12,8 @@ use Rattle.commands.proofs.RefusingLaws.{err_with}
 use Rattle.frame_edits.specs.declared.plans.Selection.{Selection}
 use Rattle.frame_edits.specs.Chosen.{chosen_in, choosing, stream_chosen}
 use Rattle.frame_edits.specs.Choices.{choosing_by, refused_by, task_of}
-use Rattle.frame_edits.proofs.EditLaws.{edit_makes, work_layable, work_makes}
-use Rattle.frame_edits.proofs.LaidPass.{selected-writable}
+use Rattle.frame_edits.proofs.ChosenLaws.{edit_makes}
+use Rattle.frame_edits.proofs.LaidPass.{selected-writable, work_layable, work_makes}
 use Rattle.frame_edits.proofs.edit.FrameEditEdit.prepare.Given as given
 use Rattle.frame_edits.proofs.edit.FrameEditEdit.prepare.Goals as goal
 use Rattle.frame_edits.proofs.edit.FrameEditEdit.prepare.Goals.{In_ok-chosen}

@@ -10,7 +10,7 @@ use Rattle.commands.proofs.InputLaws.{memory_is_input}
 use Rattle.commands.specs.One.{most_frames}
 use Rattle.frame_edits.specs.declared.plans.Selection.{Selection}
 use Rattle.frame_edits.specs.Chosen.{chosen_in, laid_by}
-use Rattle.frame_edits.proofs.EditLaws.{work_layable, work_makes}
+use Rattle.frame_edits.proofs.LaidPass.{work_layable, work_makes}
 use Rattle.commands.proofs.RefusingLaws.{err_with}
 use Rattle.packing.specs.Packing.{needs_of, packing}
 use Rattle.packing.specs.Rules.{plan_by, refuses_by, rule_task}
@@ -60,10 +60,9 @@ returns-in_err-work-clause-refused g c =
 
 pub returns-clause-ready : goal.returns-clause-ready
 returns-clause-ready g c =
-    let s = tells c.in_ok-survey.survey in
     let selection : Selection = record { chosen = c.in_ok-chosen.chosen; planned = c.in_ok-planned.planned } in
     work_layable c.in_ok-survey.survey selection c.in_ok-work.work c.in_ok-work.ensures c.args.self.now.input.now (g.D.Folder.files c.args.folder.now) c.in_ok-survey.ensures.there c.in_ok-survey.ensures.laid
-    (λ bytes holds. survey-had bytes most_frames s (c.in_ok-survey.ensures.surveyed bytes holds))
+    (λ bytes holds. survey-had bytes most_frames _ (c.in_ok-survey.ensures.surveyed bytes holds))
     (record { some = c.in_ok-chosen.ensures.some; within = c.in_ok-chosen.ensures.within; fits = c.in_ok-planned.ensures.fits.fits; info = c.in_ok-planned.ensures.info })
 
 pub returns-clause-making : goal.returns-clause-making
