@@ -1,14 +1,14 @@
 -- The output is created and then written by a pass over the input.
-use Rattle.std.proofs.Common.{◌≡◌, ◌≢◌, ℕ, List, [], ◌∷◌, ◌++◌, length, Option, true, refl, sym, ◌∙◌, ap, subst, unwrap_or, inl, inr}
+use Rattle.std.proofs.Common.{◌≡◌, ◌≢◌, ℕ, List, [], ◌∷◌, ◌++◌, length, slice_index_or, Option, true, refl, sym, ◌∙◌, ap, subst, unwrap_or, inl, inr}
 use Rattle.outside.specs.Files.{Files, Told, Untold, is_told, is_some_byte, emptied, appended, with_file, FailsToCreate, Holds, OnlyTouches}
 use Rattle.outside.specs.Counts.{Counts, HappenedTo, EndedAt, NothingFailed}
 use Rattle.outside.proofs.FilesLaws.{with_file_here, with_file_twice, touch_twice, fails_told, emptied_told, emptied_holds_other, touches_then, emptied_touches, appended_touches}
 use Rattle.outside.specs.declared.pass.PassFault.{PassFault}
 use Rattle.outside.specs.declared.pass.PassFault.TheVariants.{Read, Shrunk, Write}
-use Rattle.commands.specs.One.{holding, IsBegun, IsLeftShort, IsPassFault}
+use Rattle.commands.specs.One.{holding, first_input, IsBegun, IsLeftShort, IsPassFault}
 use Rattle.commands.specs.Left.{seen}
 use Rattle.outside.specs.Pass.{Appends, AppendsPrefix, route, HasPassCause}
-use Rattle.commands.specs.PassFaults.{of_pass}
+use Rattle.commands.specs.PassFaults.{of_pass_over, of_pass}
 
 -- emptied and then appended to, the output holds these bytes
 appended-emptied : (files : Files) (name bytes : List ℕ) → appended (emptied files name) name bytes ≡ holding files name bytes
@@ -38,7 +38,7 @@ module _ (made : List ℕ → List ℕ) (input output : List ℕ) (apart : input
   output_prefix part file holds = inr (length part.bytes, holding_new part.bytes part.files ∙ ap (holding old output) (part.prefix file (held_mid file holds)))
 
   -- where a write failed, not all of it
-  pub output_short : AppendsPrefix input output made mid new Write → IsLeftShort made input output old new
+  output_short : AppendsPrefix input output made mid new Write → IsLeftShort made input output old new
   output_short part file holds =
       let held = held_mid file holds in
       inr (length part.bytes, part.short refl file held, holding_new part.bytes part.files ∙ ap (holding old output) (part.prefix file held))
@@ -54,12 +54,21 @@ module _ (made : List ℕ → List ℕ) (input output : List ℕ) (apart : input
   pub touches_prefix : {fault : PassFault} → AppendsPrefix input output made mid new fault → OnlyTouches (output ∷ []) old new
   touches_prefix part = touches_new part.bytes part.files
 
-  pub pass_fault : (fault : PassFault) (size : ℕ) (before between after : Counts) → between ≡ before → AppendsPrefix input output made mid new fault → HasPassCause (route input output size) mid between after fault
-      → IsPassFault made (input ∷ []) output (seen old before) (seen new after) (of_pass fault)
-  pass_fault Read size before between after same part h = record { rose = subst (λ c. HappenedTo input c.read_faults after.read_faults) same h.0; files = output_prefix part }
-  pass_fault (Shrunk first second) size before between after same part h = record {
-    rose = subst (λ c. EndedAt input second c.ends after.ends) same h.3;
+  -- an input could not be read again, or the output not be written
+  pub pass_fault_over : (inputs : List (List ℕ)) → first_input inputs ≡ input → (place : ℕ) (fault : PassFault) (size : ℕ) (before between after : Counts) → between ≡ before → AppendsPrefix input output made mid new fault
+      → HasPassCause (route (slice_index_or inputs place []) output size) mid between after fault → IsPassFault made inputs output (seen old before) (seen new after) (of_pass_over place fault)
+  pass_fault_over inputs first place Read size before between after same part h = record {
+    rose = subst (λ c. HappenedTo (slice_index_or inputs place []) c.read_faults after.read_faults) same h.0;
+    files = subst (λ n. IsBegun made n output old new) (sym first) (output_prefix part);
+  }
+  pass_fault_over inputs first place (Shrunk from to) size before between after same part h = record {
+    rose = subst (λ c. EndedAt (slice_index_or inputs place []) to c.ends after.ends) same h.3;
     counts = subst (λ c. NothingFailed c after) same h.4;
     untold = sym (ap is_told created ∙ emptied_told old output) ∙ h.0;
   }
-  pass_fault Write size before between after same part h = (refl, record { rose = subst (λ c. HappenedTo output c.write_faults after.write_faults) same h.0; files = output_short part })
+  pass_fault_over inputs first place Write size before between after same part h =
+      (refl, record { rose = subst (λ c. HappenedTo output c.write_faults after.write_faults) same h.0; files = subst (λ n. IsLeftShort made n output old new) (sym first) (output_short part) })
+
+  pub pass_fault : (fault : PassFault) (size : ℕ) (before between after : Counts) → between ≡ before → AppendsPrefix input output made mid new fault → HasPassCause (route input output size) mid between after fault
+      → IsPassFault made (input ∷ []) output (seen old before) (seen new after) (of_pass fault)
+  pass_fault fault = pass_fault_over (input ∷ []) refl 0 fault

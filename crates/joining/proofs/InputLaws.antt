@@ -1,6 +1,7 @@
 -- The surveys of the inputs, one after the other, and what is made of the inputs by them.
-use Rattle.std.proofs.Common.{◌≡◌, ℕ, zero, suc, take, drop, ◌+◌, ◌-◌, ◌<◌, ◌≤◌, ◌==◌, Bool, true, false, cond, List, [], ◌∷◌, ◌++◌, length, slice_index_or, Option, Some, None, Result, Ok, Err, refl, sym, ◌∙◌, ap, ap₂, subst, arith, append-nil}
-use Rattle.std.specs.Prelude.{IfSome, IfErr, unwrap_or}
+use Rattle.std.proofs.Common.{◌≡◌, ℕ, take, drop, ◌+◌, ◌-◌, ◌≤◌, Bool, true, false, cond, List, [], ◌∷◌, ◌++◌, length, slice_index_or, Option, Some, None, Result, Ok, Err, refl, sym, ◌∙◌, ap, arith}
+use Rattle.std.specs.Prelude.{IfErr, unwrap_or}
+use Rattle.std.proofs.Math.Seq.{take-add}
 use Rattle.std.proofs.lemmas.List.{get_or_at}
 use Rattle.outside.specs.Files.{Contents, Files, Told, Untold, IfTold}
 use Rattle.outside.proofs.FilesLaws.{there_holds}
@@ -13,18 +14,18 @@ use Rattle.sync_survey.specs.Faults.{longest_file, SurveyFields, surveyed}
 use Rattle.sync_survey.specs.Survey.{survey_of}
 use Rattle.sync_survey.proofs.BytesFaults.{surveyed_of_bytes}
 use Rattle.sync_survey.proofs.FoldersLaws.{survey_of-short}
+use Rattle.sync_survey.proofs.SurveyedFiles.{survey_of-parts}
 use Rattle.commands.specs.declared.fault.EditFault.{EditFault}
 use Rattle.commands.specs.declared.fault.EditFault.TheVariants.{Input, Refused}
 use Rattle.commands.specs.declared.fault.Refusal.TheVariants.{Differ}
 use Rattle.commands.specs.Refusing.{then_made}
 use Rattle.commands.specs.One.{most_frames, NeedsMemory, Refuses, IsEarlyFaultBy, IsEarlyFault, first_input}
 use Rattle.commands.specs.Left.{Why, Rejected, Missing, Unread, Shorter, Unwritten, Unsent, NoMemory, why_of, Seen, IsLate, IsNotBefore}
-use Rattle.sync_survey.proofs.SurveyedFiles.{survey_of-parts}
 use Rattle.commands.proofs.InputLaws.{of_bytes_behind}
 use Rattle.commands.proofs.NamedLaws.{missed_name, unread_name, lost_name}
-use Rattle.commands.proofs.RefusingLaws.{then_all, then_late}
+use Rattle.commands.proofs.RefusingLaws.{then_all}
 use Rattle.joining.specs.Join.{whole_part, may_follow, part_by, part_of, parts_from, parts_of, joined_file, join_task}
-use Rattle.joining.specs.Inputs.{IsInput, IsPartFaultBy, IsPartFault, Follows, AreInputs, class_in, frames_of, parts_in}
+use Rattle.joining.specs.Inputs.{IsInput, IsPartFaultBy, IsPartFault, Follows, AreInputs, AreAlike, CanBeJoined, class_in, frames_of, parts_in}
 
 -- ---- one more
 
@@ -38,12 +39,11 @@ pub inputs-more : (first : Option ClassFields) (allowed : ℕ) (files : Files) (
 unfolding frames_of
 inputs-more first allowed files [] [] name s are is follows =
     let all : allowed - 0 ≡ allowed = omega arith in
-    (subst (λ n. IsInput n files name s) all is, follows, tt)
-inputs-more first allowed files [] (t ∷ ss) name s are is follows = absurd are
-inputs-more first allowed files (n ∷ names) [] name s are is follows = absurd are
+    (rw all at is, follows, tt)
 inputs-more first allowed files (n ∷ names) (t ∷ ss) name s are is follows =
     let left : allowed - (length t.frames + frames_of ss) ≡ (allowed - length t.frames) - frames_of ss = omega arith in
-    (are.0, are.1, inputs-more (Some (unwrap_or first t.class)) (allowed - length t.frames) files names ss name s are.2 (subst (λ m. IsInput m files name s) left is) follows)
+    (are.0, are.1, inputs-more (Some (unwrap_or first t.class)) (allowed - length t.frames) files names ss name s are.2 (rw left at is) follows)
+inputs-more first allowed files _ _ name s are is follows = absurd are
 
 after-some : (class : ClassFields) (ss : List SurveyFields) → class_after (Some class) ss ≡ Some class
 after-some class [] = refl
@@ -53,238 +53,154 @@ pub after-none : (ss : List SurveyFields) → class_after None ss ≡ class_in s
 after-none [] = refl
 after-none (s ∷ ss) = after-some s.class ss
 
-pub inputs-length : (first : Option ClassFields) (allowed : ℕ) (files : Files) (names : List (List ℕ)) (ss : List SurveyFields) → AreInputs first allowed files names ss → length ss ≡ length names
-inputs-length first allowed files [] [] are = refl
-inputs-length first allowed files [] (s ∷ ss) are = absurd are
-inputs-length first allowed files (n ∷ names) [] are = absurd are
-inputs-length first allowed files (n ∷ names) (s ∷ ss) are = omega (arith, inputs-length (Some (unwrap_or first s.class)) (allowed - length s.frames) files names ss are.2)
+pub take-next : {X : Type 0} (xs : List X) (i : ℕ) (x : X) (rest : List X) → drop i xs ≡ x ∷ rest → take (i + 1) xs ≡ take i xs ++ x ∷ []
+take-next xs i x rest is = take-add i 1 xs ∙ ap (λ l. take i xs ++ take 1 l) is
 
-pub inputs-few : (first : Option ClassFields) (allowed : ℕ) (files : Files) (names : List (List ℕ)) (ss : List SurveyFields) → AreInputs first allowed files names ss → frames_of ss ≤ allowed
+pub frames-more : (ss : List SurveyFields) (s : SurveyFields) → frames_of (ss ++ s ∷ []) ≡ frames_of ss + length s.frames
 unfolding frames_of
-inputs-few first allowed files [] [] are = omega arith
-inputs-few first allowed files [] (s ∷ ss) are = absurd are
-inputs-few first allowed files (n ∷ names) [] are = absurd are
-inputs-few first allowed files (n ∷ names) (s ∷ ss) are = omega (arith, are.0.few, inputs-few (Some (unwrap_or first s.class)) (allowed - length s.frames) files names ss are.2)
+frames-more [] s = omega arith
+frames-more (t ∷ ss) s = omega (arith, frames-more ss s)
+
+-- ---- all of them
+
+alike-inputs : (class : ClassFields) (allowed : ℕ) (files : Files) (names : List (List ℕ)) (ss : List SurveyFields) → AreInputs (Some class) allowed files names ss → AreAlike class ss × (length ss ≡ length names) × (frames_of ss ≤ allowed)
+unfolding frames_of
+alike-inputs class allowed files [] [] are = (tt, refl, omega arith)
+alike-inputs class allowed files (name ∷ names) (s ∷ ss) are =
+    let rest = alike-inputs class (allowed - length s.frames) files names ss are.2 in
+    ((are.0.some, are.0.laid, are.1, rest.0), omega (arith, rest.1), omega (arith, are.0.few, rest.2))
+alike-inputs class allowed files _ _ are = absurd are
+
+pub inputs-join : (files : Files) (names : List (List ℕ)) (ss : List SurveyFields) → AreInputs None most_frames files names ss → 1 ≤ length names → length names ≤ 64 → CanBeJoined ss
+unfolding frames_of
+inputs-join files [] ss are some few = absurd (omega (arith, some))
+inputs-join files (name ∷ names) [] are some few = absurd are
+inputs-join files (name ∷ names) (s ∷ ss) are some few =
+    let rest = alike-inputs s.class (most_frames - length s.frames) files names ss are.2 in
+    record { class = s.class; first = refl; alike = (are.0.some, are.0.laid, refl, rest.0); few = omega (arith, few, rest.1); frames = omega (arith, are.0.few, rest.2) }
 
 -- ---- what the told inputs give
-
-by_follows : (b : Bool) (p : Part) (fault : EditFault) → b ≡ true → cond b (Ok p) (Err fault) ≡ Ok p
-by_follows true p fault is = refl
-by_follows false p fault is = absurd cc
 
 pub follows-may : (first : Option ClassFields) (class : ClassFields) → Follows first class → may_follow first class ≡ true
 follows-may None class follows = refl
 follows-may (Some first) class follows = ap (λ c. same_class c first) follows ∙ same-class first
 
-part-survey : (place : ℕ) (first : Option ClassFields) (file : List ℕ) (allowed : ℕ) (s : SurveyFields) → survey_of file allowed ≡ Ok s → Follows first s.class → part_of place first allowed (Some file) ≡ Ok (whole_part file s)
-part-survey place first file allowed s is follows = ap (part_by place first file) is ∙ by_follows (may_follow first s.class) (whole_part file s) (Refused (Differ place)) (follows-may first s.class follows)
-
 part-ok : (place : ℕ) (first : Option ClassFields) (allowed : ℕ) (f : Contents) (name : List ℕ) (s : SurveyFields) → IsInput allowed (Told f) name s → Follows first s.class
     → part_of place first allowed (f name) ≡ Ok (whole_part (unwrap_or (f name) []) s)
-part-ok place first allowed f name s is follows =
-    let held = there_holds f name is.there in
-    let survey = part-survey place first held.0 allowed s (is.exact held.0 held.1) follows in
-    ap (part_of place first allowed) held.1 ∙ survey ∙ ap (λ (o : Option (List ℕ)). Ok (whole_part (unwrap_or o []) s)) (sym held.1)
+part-ok place first allowed f name s is follows = let held = there_holds f name is.there in rw (held.1, is.exact held.0 held.1, follows-may first s.class follows) refl
 
-abbrev pub ok_parts : List Part → Result (List Part) EditFault
-ok_parts parts = Ok parts
+pub parts-all : (place : ℕ) (first : Option ClassFields) (allowed : ℕ) (f : Contents) (names : List (List ℕ)) (ss : List SurveyFields) → AreInputs first allowed (Told f) names ss → parts_from place first allowed f names ≡ Ok (parts_in f names ss)
+unfolding parts_from parts_in
+parts-all place first allowed f [] [] are = refl
+parts-all place first allowed f (name ∷ names) (s ∷ ss) are =
+    rw (part-ok place first allowed f name s are.0 are.1, parts-all (place + 1) (Some (unwrap_or first s.class)) (allowed - length s.frames) f names ss are.2) refl
+parts-all place first allowed f _ _ are = absurd are
 
-then-ok : (r : Result (List Part) EditFault) → then_made r ok_parts ≡ r
-then-ok (Ok parts) = refl
-then-ok (Err fault) = refl
+-- what holds of the parts from an input on holds of all, where those before it have their surveys
+module _ (Q : Result (List Part) EditFault → Type 0) (more : (p : Part) (r : Result (List Part) EditFault) → Q r → Q (then_made r (λ parts. Ok (p ∷ parts)))) (f : Contents) (after : List (List ℕ)) where
+  parts-behind : (place : ℕ) (first : Option ClassFields) (allowed : ℕ) (before : List (List ℕ)) (ss : List SurveyFields) → AreInputs first allowed (Told f) before ss
+      → Q (parts_from (place + length before) (class_after first ss) (allowed - frames_of ss) f after) → Q (parts_from place first allowed f (before ++ after))
+  unfolding parts_from frames_of
+  parts-behind place first allowed [] [] are q =
+      let here : place + 0 ≡ place = omega arith in
+      let all : allowed - 0 ≡ allowed = omega arith in
+      rw (here, all) at q
+  parts-behind place first allowed (name ∷ before) (s ∷ ss) are q =
+      let next : place + length (name ∷ before) ≡ place + 1 + length before = omega arith in
+      let left : allowed - (length s.frames + frames_of ss) ≡ (allowed - length s.frames) - frames_of ss = omega arith in
+      rw (part-ok place first allowed f name s are.0 are.1) (more _ _ (parts-behind (place + 1) (Some (unwrap_or first s.class)) (allowed - length s.frames) before ss are.2 (rw (next, left) at q)))
+  parts-behind place first allowed _ _ are q = absurd are
 
-then-then : (r : Result (List Part) EditFault) (g h : List Part → List Part) → then_made (then_made r (λ parts. ok_parts (g parts))) (λ parts. ok_parts (h parts)) ≡ then_made r (λ parts. ok_parts (h (g parts)))
-then-then (Ok parts) g h = refl
-then-then (Err fault) g h = refl
+-- ---- what holds of every refusal
 
--- the parts of inputs, some of which have their surveys, are those and then the parts of the others
-pub parts-behind : (place : ℕ) (first : Option ClassFields) (allowed : ℕ) (f : Contents) (before after : List (List ℕ)) (ss : List SurveyFields) → AreInputs first allowed (Told f) before ss
-    → parts_from place first allowed f (before ++ after) ≡ then_made (parts_from (place + length before) (class_after first ss) (allowed - frames_of ss) f after) (λ parts. ok_parts (parts_in f before ss ++ parts))
-unfolding parts_from parts_in frames_of
-parts-behind place first allowed f [] after [] are =
-    let here : place + 0 ≡ place = omega arith in
-    let all : allowed - 0 ≡ allowed = omega arith in
-    sym (ap₂ (λ m n. then_made (parts_from m first n f after) ok_parts) here all ∙ then-ok (parts_from place first allowed f after))
-parts-behind place first allowed f [] after (s ∷ ss) are = absurd are
-parts-behind place first allowed f (name ∷ before) after [] are = absurd are
-parts-behind place first allowed f (name ∷ before) after (s ∷ ss) are =
-    let part : Part = whole_part (unwrap_or (f name) []) s in
-    let class : Option ClassFields = Some (unwrap_or first s.class) in
-    let next : place + 1 + length before ≡ place + length (name ∷ before) = omega arith in
-    let left : (allowed - length s.frames) - frames_of ss ≡ allowed - (length s.frames + frames_of ss) = omega arith in
-    ap
-    (λ (r : Result Part EditFault). then_made r
-    (λ p. then_made (parts_from (place + 1) (Some (unwrap_or first p.survey.class)) (allowed - length p.survey.frames) f (before ++ after)) (λ parts. ok_parts (p ∷ parts))))
-    (part-ok place first allowed f name s are.0 are.1)
-    ∙ ap (λ (r : Result (List Part) EditFault). then_made r (λ parts. ok_parts (part ∷ parts))) (parts-behind (place + 1) class (allowed - length s.frames) f before after ss are.2)
-    ∙ then-then (parts_from (place + 1 + length before) (class_after class ss) ((allowed - length s.frames) - frames_of ss) f after) (λ parts. parts_in f before ss ++ parts) (λ parts. part ∷ parts)
-    ∙ ap₂ (λ m n. then_made (parts_from m (class_after class ss) n f after) (λ parts. ok_parts (part ∷ (parts_in f before ss ++ parts)))) next left
+module _ (P : EditFault → Type 0) where
+  by-all : (place : ℕ) (first : Option ClassFields) (file : List ℕ) (r : Result SurveyFields SurveyFault) → ((fault : SurveyFault) → r ≡ Err fault → P (Input place fault)) → P (Refused (Differ place)) → IfErr (part_by place first file r) P
+  by-all place first file (Err fault) faults differ = faults fault refl
+  by-all place first file (Ok s) faults differ = at (may_follow first s.class)
+    where
+      at : (b : Bool) → IfErr (cond b (Ok (whole_part file s)) (Err (Refused (Differ place)))) P
+      at true = tt
+      at false = differ
 
-parts_none : (place : ℕ) (first : Option ClassFields) (allowed : ℕ) (f : Contents) → parts_from place first allowed f [] ≡ ok_parts []
-unfolding parts_from
-parts_none place first allowed f = refl
+  -- of the inputs from one on
+  module _ (from : ℕ) (faults : (at : ℕ) (fault : SurveyFault) → from ≤ at → P (Input at fault)) (differ : (at : ℕ) → from ≤ at → P (Refused (Differ at))) where
+    part-all : (at : ℕ) (first : Option ClassFields) (allowed : ℕ) (o : Option (List ℕ)) → from ≤ at → IfErr (part_of at first allowed o) P
+    part-all at first allowed None behind = faults at Absent behind
+    part-all at first allowed (Some file) behind = by-all at first file (survey_of file allowed) (λ fault is. faults at fault behind) (differ at behind)
 
-parts_next : (place : ℕ) (first : Option ClassFields) (allowed : ℕ) (f : Contents) (name : List ℕ) (names : List (List ℕ)) (fault : EditFault) → part_of place first allowed (f name) ≡ Err fault
-    → parts_from place first allowed f (name ∷ names) ≡ Err fault
-unfolding parts_from
-parts_next place first allowed f name names fault is =
-    ap
-    (λ (r : Result Part EditFault). then_made r
-    (λ p. then_made (parts_from (place + 1) (Some (unwrap_or first p.survey.class)) (allowed - length p.survey.frames) f names) (λ parts. ok_parts (p ∷ parts))))
-    is
-
--- all inputs have their surveys
-pub parts-all : (f : Contents) (names : List (List ℕ)) (ss : List SurveyFields) → AreInputs None most_frames (Told f) names ss → parts_of f names ≡ Ok (parts_in f names ss)
-parts-all f names ss are =
-    ap (parts_of f) (sym (append-nil names))
-    ∙ parts-behind 0 None most_frames f names [] ss are
-    ∙ ap (λ (r : Result (List Part) EditFault). then_made r (λ parts. ok_parts (parts_in f names ss ++ parts))) (parts_none (0 + length names) (class_after None ss) (most_frames - frames_of ss) f)
-    ∙ ap (λ (parts : List Part). ok_parts parts) (append-nil (parts_in f names ss))
-
--- the first refusal
-pub parts-fault : (f : Contents) (before : List (List ℕ)) (name : List ℕ) (after : List (List ℕ)) (ss : List SurveyFields) (fault : EditFault) → AreInputs None most_frames (Told f) before ss
-    → part_of (length before) (class_after None ss) (most_frames - frames_of ss) (f name) ≡ Err fault → parts_of f (before ++ name ∷ after) ≡ Err fault
-parts-fault f before name after ss fault are is =
-    let place : 0 + length before ≡ length before = omega arith in
-    parts-behind 0 None most_frames f before (name ∷ after) ss are
-    ∙ ap (λ n. then_made (parts_from n (class_after None ss) (most_frames - frames_of ss) f (name ∷ after)) (λ parts. ok_parts (parts_in f before ss ++ parts))) place
-    ∙ ap (λ (r : Result (List Part) EditFault). then_made r (λ parts. ok_parts (parts_in f before ss ++ parts))) (parts_next (length before) (class_after None ss) (most_frames - frames_of ss) f name after fault is)
+    from-all : (at : ℕ) (first : Option ClassFields) (allowed : ℕ) (f : Contents) (names : List (List ℕ)) → from ≤ at → IfErr (parts_from at first allowed f names) P
+    unfolding parts_from
+    from-all at first allowed f [] behind = tt
+    from-all at first allowed f (name ∷ names) behind =
+        then_all P (part_of at first allowed (f name)) _ (part-all at first allowed (f name) behind)
+        (λ p. then_all P (parts_from (at + 1) _ _ f names) (λ parts. Ok (p ∷ parts)) (from-all (at + 1) _ _ f names (omega (arith, behind))) (λ parts. tt))
 
 -- ---- memory
 
 -- a refusal of an input after the first is found after memory was taken
-input-late : (place : ℕ) (fault : SurveyFault) → (place == 0) ≡ false → IsLate (Input place fault)
-input-late place Absent behind = behind
-input-late place (TooLong size) behind = behind
-input-late place _ behind = refl
-
-class-late : (b : Bool) (place : ℕ) (p : Part) → IfErr (cond b (Ok p) (Err (Refused (Differ place)))) IsLate
-class-late true place p = tt
-class-late false place p = refl
-
-by-late : (place : ℕ) (first : Option ClassFields) (file : List ℕ) (r : Result SurveyFields SurveyFault) → ((fault : SurveyFault) → r ≡ Err fault → IsLate (Input place fault)) → IfErr (part_by place first file r) IsLate
-by-late place first file (Err fault) late = late fault refl
-by-late place first file (Ok s) late = class-late (may_follow first s.class) place (whole_part file s)
-
-part-late : (place : ℕ) (first : Option ClassFields) (allowed : ℕ) (o : Option (List ℕ)) → (place == 0) ≡ false → IfErr (part_of place first allowed o) IsLate
-part-late place first allowed None behind = behind
-part-late place first allowed (Some file) behind = by-late place first file (survey_of file allowed) (λ fault is. input-late place fault behind)
-
-not_first : (place : ℕ) → (place + 1 == 0) ≡ false
-not_first place = grind arith
-
-parts-late : (place : ℕ) (first : Option ClassFields) (allowed : ℕ) (f : Contents) (names : List (List ℕ)) → (place == 0) ≡ false → IfErr (parts_from place first allowed f names) IsLate
-unfolding parts_from
-parts-late place first allowed f [] behind = tt
-parts-late place first allowed f (name ∷ names) behind =
-    then_late (part_of place first allowed (f name)) _ (part-late place first allowed (f name) behind)
-    (λ p. then_late (parts_from (place + 1) (Some (unwrap_or first p.survey.class)) (allowed - length p.survey.frames) f names) (λ parts. ok_parts (p ∷ parts))
-    (parts-late (place + 1) (Some (unwrap_or first p.survey.class)) (allowed - length p.survey.frames) f names (not_first place)) (λ parts. tt))
-
-first-late : (f : Contents) (name : List ℕ) (rest : List (List ℕ)) (file : List ℕ) → f name ≡ Some file → length file ≤ longest_file → IfErr (parts_of f (name ∷ rest)) IsLate
-unfolding parts_from
-first-late f name rest file holds few =
-    then_late (part_of 0 None most_frames (f name)) _
-    (subst (λ (o : Option (List ℕ)). IfErr (part_of 0 None most_frames o) IsLate) (sym holds)
-    (subst (λ (r : Result SurveyFields SurveyFault). IfErr (part_by 0 None file r) IsLate) (sym (survey_of-short file most_frames few))
-    (by-late 0 None file (surveyed file most_frames) (λ fault is. of_bytes_behind fault (surveyed_of_bytes file most_frames fault is)))))
-    (λ p. then_late (parts_from (0 + 1) (Some (unwrap_or None p.survey.class)) (most_frames - length p.survey.frames) f rest) (λ parts. ok_parts (p ∷ parts))
-    (parts-late (0 + 1) (Some (unwrap_or None p.survey.class)) (most_frames - length p.survey.frames) f rest (not_first 0)) (λ parts. tt))
+later-late : (at : ℕ) (fault : SurveyFault) → 1 ≤ at → IsLate (Input at fault)
+later-late at Absent behind = grind (arith, behind)
+later-late at (TooLong size) behind = grind (arith, behind)
+later-late at _ behind = refl
 
 -- where the first input is no longer than allowed, every refusal comes once memory was taken
 pub join-late : (names : List (List ℕ)) (f : Contents) (bytes : List ℕ) → f (first_input names) ≡ Some bytes → length bytes ≤ longest_file → IfErr ((join_task names).makes f) IsLate
 unfolding parts_from
 join-late [] f bytes held few = tt
-join-late (name ∷ rest) f bytes held few = then_late (parts_of f (name ∷ rest)) (λ parts. Ok (joined_file parts)) (first-late f name rest bytes held few) (λ parts. tt)
+join-late (name ∷ rest) f bytes held few =
+    rw (held, survey_of-short bytes most_frames few)
+    (then_all IsLate _ (λ parts. Ok (joined_file parts))
+    (then_all IsLate (part_by 0 None bytes (surveyed bytes most_frames)) _
+    (by-all IsLate 0 None bytes (surveyed bytes most_frames) (λ fault is. of_bytes_behind fault (surveyed_of_bytes bytes most_frames fault is)) refl)
+    (λ p. then_all IsLate (parts_from (0 + 1) _ _ f rest) (λ parts. Ok (p ∷ parts)) (from-all IsLate 1 later-late (λ at behind. refl) (0 + 1) _ _ f rest (omega arith)) (λ parts. tt)))
+    (λ parts. tt))
 
 -- the first input is there with a length that it may have
-pub found-input : (allowed : ℕ) (before after : List (List ℕ)) (ss : List SurveyFields) (old new : Seen) → AreInputs None allowed old.files before ss → 0 < length before → new ≡ old → NeedsMemory (first_input (before ++ after)) old new
+pub found-input : (allowed : ℕ) (before after : List (List ℕ)) (ss : List SurveyFields) (old new : Seen) → AreInputs None allowed old.files before ss → 1 ≤ length before → new ≡ old → NeedsMemory (first_input (before ++ after)) old new
 found-input allowed [] after ss old new are some stays = absurd (omega (arith, some))
 found-input allowed (name ∷ before) after [] old new are some stays = absurd are
 found-input allowed (name ∷ before) after (s ∷ ss) old new are some stays = record { there = are.0.there; few = λ bytes holds. (survey_of-parts bytes allowed s (are.0.exact bytes holds)).0; stays = stays }
 
-found-next : (before : List (List ℕ)) (name : List ℕ) (after : List (List ℕ)) (ss : List SurveyFields) (old new : Seen) → AreInputs None most_frames old.files before ss → NeedsMemory name old new → NeedsMemory (first_input (before ++ name ∷ after)) old new
-found-next [] name after ss old new are needs = needs
-found-next (n ∷ before) name after ss old new are needs = found-input most_frames (n ∷ before) (name ∷ after) ss old new are (omega arith) needs.stays
-
--- ---- an input that could not be read, after those before it
-
-class-before : (b : Bool) (place at : ℕ) (p : Part) → place ≤ at → IfErr (cond b (Ok p) (Err (Refused (Differ at)))) (IsNotBefore (Input place Read))
-class-before true place at p behind = tt
-class-before false place at p behind = behind
-
--- the answers of this input and of those after it
-part-before : (place at : ℕ) (first : Option ClassFields) (allowed : ℕ) (o : Option (List ℕ)) → place ≤ at → IfErr (part_of at first allowed o) (IsNotBefore (Input place Read))
-part-before place at first allowed None behind = behind
-part-before place at first allowed (Some file) behind = by (survey_of file allowed)
-  where
-    by : (r : Result SurveyFields SurveyFault) → IfErr (part_by at first file r) (IsNotBefore (Input place Read))
-    by (Err fault) = behind
-    by (Ok s) = class-before (may_follow first s.class) place at (whole_part file s) behind
-
-parts-before : (place at : ℕ) (first : Option ClassFields) (allowed : ℕ) (f : Contents) (names : List (List ℕ)) → place ≤ at → IfErr (parts_from at first allowed f names) (IsNotBefore (Input place Read))
-unfolding parts_from
-parts-before place at first allowed f [] behind = tt
-parts-before place at first allowed f (name ∷ names) behind =
-    then_all (IsNotBefore (Input place Read)) (part_of at first allowed (f name)) _ (part-before place at first allowed (f name) behind)
-    (λ p. then_all (IsNotBefore (Input place Read)) (parts_from (at + 1) (Some (unwrap_or first p.survey.class)) (allowed - length p.survey.frames) f names) (λ parts. ok_parts (p ∷ parts))
-    (parts-before place (at + 1) (Some (unwrap_or first p.survey.class)) (allowed - length p.survey.frames) f names (omega (arith, behind))) (λ parts. tt))
-
--- those before have their surveys
-behind-before : (f : Contents) (before after : List (List ℕ)) (ss : List SurveyFields) → AreInputs None most_frames (Told f) before ss → IfErr (parts_of f (before ++ after)) (IsNotBefore (Input (length before) Read))
-behind-before f before after ss are =
-    subst (λ (r : Result (List Part) EditFault). IfErr r (IsNotBefore (Input (length before) Read))) (sym (parts-behind 0 None most_frames f before after ss are))
-    (then_all (IsNotBefore (Input (length before) Read)) (parts_from (0 + length before) (class_after None ss) (most_frames - frames_of ss) f after) (λ parts. ok_parts (parts_in f before ss ++ parts))
-    (parts-before (length before) (0 + length before) (class_after None ss) (most_frames - frames_of ss) f after (omega arith)) (λ parts. tt))
-
 -- ---- a fault of an input, after those before it
 
-name-at : (before : List (List ℕ)) (name : List ℕ) (after : List (List ℕ)) → name ≡ slice_index_or (before ++ name ∷ after) (length before) []
-name-at before name after = sym (get_or_at before name after [] (length before) refl)
-
 module _ (before : List (List ℕ)) (name : List ℕ) (after : List (List ℕ)) (ss : List SurveyFields) where
-  refuses-by : (files : Files) (fault : EditFault) → AreInputs None most_frames files before ss → IfTold files (λ f. part_of (length before) (class_after None ss) (most_frames - frames_of ss) (f name) ≡ Err fault) → Refuses (join_task (before ++ name ∷ after)) files fault
-  refuses-by (Untold touched) fault are is = tt
-  refuses-by (Told f) fault are is = ap (λ (r : Result (List Part) EditFault). then_made r (λ parts. Ok (joined_file parts))) (parts-fault f before name after ss fault are is)
+  named : name ≡ slice_index_or (before ++ name ∷ after) (length before) []
+  named = sym (get_or_at before name after [] (length before) refl)
 
-  unread-by : (files : Files) (fault : EditFault) → AreInputs None most_frames files before ss → fault ≡ Input (length before) Read → IfTold files (λ f. IfErr ((join_task (before ++ name ∷ after)).makes f) (IsNotBefore fault))
-  unread-by (Untold touched) fault are is = tt
-  unread-by (Told f) fault are is =
-      subst (λ e. IfErr ((join_task (before ++ name ∷ after)).makes f) (IsNotBefore e)) (sym is)
-      (then_all (IsNotBefore (Input (length before) Read)) (parts_of f (before ++ name ∷ after)) (λ parts. Ok (joined_file parts)) (behind-before f before (name ∷ after) ss are) (λ parts. tt))
+  refuses-by : (files : Files) (fault : EditFault) → AreInputs None most_frames files before ss → IfTold files (λ f. part_of (length before) (class_after None ss) (most_frames - frames_of ss) (f name) ≡ Err fault) → Refuses (join_task (before ++ name ∷ after)) files fault
+  unfolding parts_from
+  refuses-by (Untold touched) fault are is = tt
+  refuses-by (Told f) fault are is =
+      let here : 0 + length before ≡ length before = omega arith in
+      ap (λ (r : Result (List Part) EditFault). then_made r (λ parts. Ok (joined_file parts)))
+      (parts-behind (λ r. r ≡ Err fault) (λ p r e. ap (λ (q : Result (List Part) EditFault). then_made q (λ parts. Ok (p ∷ parts))) e) f (name ∷ after) 0 None most_frames before ss are (rw (here, is) refl))
+
+  unread-by : (files : Files) → AreInputs None most_frames files before ss → IfTold files (λ f. IfErr ((join_task (before ++ name ∷ after)).makes f) (IsNotBefore (Input (length before) Read)))
+  unread-by (Untold touched) are = tt
+  unread-by (Told f) are =
+      let P = IsNotBefore (Input (length before) Read) in
+      then_all P (parts_of f (before ++ name ∷ after)) (λ parts. Ok (joined_file parts))
+      (parts-behind (λ r. IfErr r P) (λ p r h. then_all P r (λ parts. Ok (p ∷ parts)) h (λ parts. tt)) f (name ∷ after) 0 None most_frames before ss are
+      (from-all P (length before) (λ at fault behind. behind) (λ at behind. behind) (0 + length before) (class_after None ss) (most_frames - frames_of ss) f (name ∷ after) (omega arith)))
+      (λ parts. tt)
 
   module _ (old new : Seen) (fault : EditFault) (are : AreInputs None most_frames old.files before ss) where
     early-by : (why : Why) → IsPartFaultBy (length before) (class_after None ss) (most_frames - frames_of ss) name old new fault why → IsEarlyFaultBy (join_task (before ++ name ∷ after)) old new fault why
     early-by Rejected h = record { defined = refuses-by old.files fault are h.0; stays = h.1 }
-    early-by Missing h = record { defined = refuses-by old.files fault are h.0; rose = missed_name (before ++ name ∷ after) (length before) (name-at before name after) h.1; files = h.1.files }
-    early-by Unread h = record { before = unread-by old.files fault are h.is; rose = unread_name (before ++ name ∷ after) (length before) (name-at before name after) h; files = h.files }
-    early-by Shorter h = record { ended = lost_name (before ++ name ∷ after) (length before) (name-at before name after) h; files = h.files }
+    early-by Missing h = record { defined = refuses-by old.files fault are h.0; rose = missed_name (before ++ name ∷ after) (length before) named h.1; files = h.1.files }
+    early-by Unread h = record { before = rw h.is (unread-by old.files are); rose = unread_name (before ++ name ∷ after) (length before) named h; files = h.files }
+    early-by Shorter h = record { ended = lost_name (before ++ name ∷ after) (length before) named h; files = h.files }
     early-by (Unwritten k) h = absurd h
     early-by Unsent h = absurd h
-    early-by NoMemory h = found-next before name after ss old new are h
+    early-by NoMemory h = first before ss are
+      where
+        first : (bs : List (List ℕ)) (ts : List SurveyFields) → AreInputs None most_frames old.files bs ts → NeedsMemory (first_input (bs ++ name ∷ after)) old new
+        first [] ts are = h
+        first (b ∷ bs) ts are = found-input most_frames (b ∷ bs) (name ∷ after) ts old new are (omega arith) h.stays
 
 -- the same by the numbers of the code
 pub part-early : (names before : List (List ℕ)) (name : List ℕ) (after : List (List ℕ)) (ss : List SurveyFields) (place allowed : ℕ) (first : Option ClassFields) (old mid new : Seen) (fault : EditFault) → before ++ name ∷ after ≡ names → length before ≡ place → first ≡ class_in ss
     → allowed + frames_of ss ≡ most_frames → mid ≡ old → AreInputs None most_frames old.files before ss → IsPartFault place first allowed name mid new fault → IsEarlyFault (join_task names) old new fault
 part-early names before name after ss place allowed first old mid new fault is long class many stays are h =
     let left : allowed ≡ most_frames - frames_of ss = omega (arith, many) in
-    let by_place = subst (λ n. IsPartFault n first allowed name mid new fault) (sym long) h in
-    let by_class = subst (λ (o : Option ClassFields). IsPartFault (length before) o allowed name mid new fault) (class ∙ sym (after-none ss)) by_place in
-    let by_left = subst (λ n. IsPartFault (length before) (class_after None ss) n name mid new fault) left by_class in
-    let by_seen = subst (λ (m : Seen). IsPartFault (length before) (class_after None ss) (most_frames - frames_of ss) name m new fault) stays by_left in
-    subst (λ (l : List (List ℕ)). IsEarlyFault (join_task l) old new fault) is (early-by before name after ss old new fault are (why_of fault) by_seen)
-
--- ---- a survey more
-
-pub take-next : {X : Type 0} (xs : List X) (i : ℕ) (x : X) (rest : List X) → drop i xs ≡ x ∷ rest → take (i + 1) xs ≡ take i xs ++ x ∷ []
-take-next [] zero x rest is = absurd cc
-take-next [] (suc i) x rest is = absurd cc
-take-next (y ∷ xs) zero x rest is = ap (λ z. z ∷ []) cc
-take-next (y ∷ xs) (suc i) x rest is =
-    let more : suc i + 1 ≡ suc (i + 1) = omega arith in
-    ap (λ n. take n (y ∷ xs)) more ∙ ap (λ l. y ∷ l) (take-next xs i x rest is)
-
-pub frames-more : (ss : List SurveyFields) (s : SurveyFields) → frames_of (ss ++ s ∷ []) ≡ frames_of ss + length s.frames
-unfolding frames_of
-frames-more [] s = omega arith
-frames-more (t ∷ ss) s = omega (arith, frames-more ss s)
+    rw (← is) (early-by before name after ss old new fault are (why_of fault) (rw (← long, class, ← after-none ss, left, stays) at h))

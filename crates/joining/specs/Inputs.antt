@@ -1,5 +1,5 @@
 -- The surveys of the inputs, as they are made one after the other.
-use Rattle.std.specs.Prelude.{◌≡◌, ◌≢◌, true, ℕ, ◌+◌, ◌-◌, ◌<◌, ◌≤◌, List, [], ◌∷◌, length, map, unwrap_or, IfSome, Option, Some, None, Ok, Err}
+use Rattle.std.specs.Prelude.{◌≡◌, ◌≢◌, true, ℕ, ◌+◌, ◌-◌, ◌<◌, ◌≤◌, List, [], ◌∷◌, length, map, unwrap_or, Option, Some, None, Ok, Err}
 use Rattle.outside.specs.Files.{Contents, Files, Holds, IsThere, IfTold, Told, Untold}
 use Rattle.frame_header.specs.Fields.{ClassFields}
 use Rattle.sync_survey.specs.declared.rows.Row.{Row}
@@ -60,10 +60,9 @@ Follows (Some first) class = class ≡ first
 -- each is there with its survey, is of the class of the first, and has no more frames than those before it leave
 abbrev pub AreInputs : Option ClassFields → ℕ → Files → List (List ℕ) → List SurveyFields → Type 0
 AreInputs first allowed files [] [] = Unit {0}
-AreInputs first allowed files [] (s ∷ ss) = ⊥
-AreInputs first allowed files (name ∷ names) [] = ⊥
 AreInputs first allowed files (name ∷ names) (s ∷ ss) =
     IsInput allowed files name s × Follows first s.class × AreInputs (Some (unwrap_or first s.class)) (allowed - length s.frames) files names ss
+AreInputs first allowed files _ _ = ⊥
 
 -- the class of the first of these
 abbrev pub class_in : List SurveyFields → Option ClassFields
@@ -87,17 +86,23 @@ AreAlike class [] = Unit {0}
 AreAlike class (s ∷ ss) = (0 < length s.frames) × IsLaidOut s × (s.class ≡ class) × AreAlike class ss
 
 -- there are some, of one class, with no more frames than may be planned at once
-abbrev pub CanBeJoined : List SurveyFields → Type 0
-CanBeJoined [] = ⊥
-CanBeJoined (first ∷ ss) = AreAlike first.class (first ∷ ss) × (length ss < 64) × (frames_of (first ∷ ss) ≤ most_frames)
+pub record CanBeJoined (ss : List SurveyFields) : Type 0 where
+  pub class : ClassFields
+  pub first : class_in ss ≡ Some class
+  pub alike : AreAlike class ss
+  pub few : length ss ≤ 64
+  pub frames : frames_of ss ≤ most_frames
 
 -- these files as parts, with their surveys
 unfoldable pub parts_in : Contents → List (List ℕ) → List SurveyFields → List Part
-parts_in files [] ss = []
-parts_in files (name ∷ names) [] = []
 parts_in files (name ∷ names) (s ∷ ss) = whole_part (unwrap_or (files name) []) s ∷ parts_in files names ss
+parts_in files _ _ = []
 
--- the same by what the folder tells; none where it doesn't tell its files
+-- what the folder tells of each name; nothing where it doesn't tell its files
+abbrev pub told_in : Files → Contents
+told_in (Told files) = files
+told_in (Untold touched) = λ name. None
+
+-- the same parts by what the folder tells
 abbrev pub told_parts : Files → List (List ℕ) → List SurveyFields → List Part
-told_parts (Untold touched) names ss = []
-told_parts (Told files) names ss = parts_in files names ss
+told_parts files names ss = parts_in (told_in files) names ss

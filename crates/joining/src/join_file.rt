@@ -1,14 +1,14 @@
 //! The join command over a folder.
-ghost use Rattle.std.specs.Prelude.{◌≡◌, ◌↔◌, ◌≤◌, ℕ, [], ◌∷◌, length, map, string_bytes, Some, IfErr, OnOk, IsErrOf};
-ghost use Rattle.outside.specs.Counts.{NoneFell};
-ghost use Rattle.commands.specs.Command.{HoldsStreams, clash_of, clash_from};
-ghost use Rattle.commands.specs.Left.{seen, IsDone, Leaves, HasNumbers};
+ghost use Rattle.std.specs.Prelude.{◌≡◌, ◌≤◌, [], ◌∷◌, length, map, string_bytes};
+ghost use Rattle.commands.specs.Command.{clash_from};
+ghost use Rattle.commands.specs.Left.{seen};
+ghost use Rattle.commands.specs.Runs.{IsRunOf};
 ghost use Rattle.joining.specs.Join.{join_command};
 
 use crate::inputs::name_at;
-use crate::planned::plan_join;
+use crate::planned::prepare;
 use crate::surveys::survey_all;
-use crate::written::{new_buffers, write_joined};
+use crate::written::write_joined;
 use commands::EditFault;
 use outside::Folder;
 use std::alloc::Global;
@@ -50,27 +50,16 @@ pub fn join<D: Folder>(
 ) -> Result<(), EditFault>
     requires some { 1 ≤ length inputs.now }
     requires few { length inputs.now ≤ 64 }
-    ensures done { OnOk result (IsDone (join_command output.now (map string_bytes inputs.now))
-        (seen (D.files folder.old) (D.counts folder.old))
-        (seen (D.files folder.new) (D.counts folder.new))) }
-    ensures left { IfErr result (Leaves (join_command output.now (map string_bytes inputs.now))
-        (seen (D.files folder.old) (D.counts folder.old))
-        (seen (D.files folder.new) (D.counts folder.new))) }
-    // Over a folder that tells nothing too.
-    ensures numbers { IfErr result (HasNumbers
-        (join_command output.now (map string_bytes inputs.now))) }
-    ensures names { (place : ℕ) → IsErrOf result (EditFault.EqualNames place)
-        ↔ (clash_of (join_command output.now (map string_bytes inputs.now)) ≡ Some place) }
     // The inputs are well-formed, and the output holds the lead-ins and exactly the frames of their streams.
-    ensures streams { OnOk result (HoldsStreams
-        (join_command output.now (map string_bytes inputs.now)) (D.files folder.old)) }
-    ensures counts { NoneFell (D.counts folder.old) (D.counts folder.new) }
+    ensures { IsRunOf (join_command output.now (map string_bytes inputs.now))
+        (seen (D.files folder.old) (D.counts folder.old))
+        (seen (D.files folder.new) (D.counts folder.new)) result }
 {
     if let Some(place) = clash(output, inputs) {
         return Err(EditFault::EqualNames(place));
     }
     let surveys = survey_all(alloc, folder, inputs)?;
-    let planned = plan_join(alloc, &surveys)?;
-    let mut buffers = new_buffers(alloc, &surveys)?;
-    write_joined(folder, inputs, output, &surveys, &planned, &mut buffers)
+    let known = surveys.as_slice();
+    let mut work = prepare(alloc, known)?;
+    write_joined(folder, inputs, output, known, &mut work)
 }

@@ -1,5 +1,5 @@
 //! The frames of all inputs, read one input after the other and given to one writer.
-ghost use Rattle.std.specs.Prelude.{drop, ◌∷◌, ◌≡◌, ◌≢◌, ◌≤◌, length, map, string_bytes, IfErr, OnOk};
+ghost use Rattle.std.specs.Prelude.{◌≡◌, ◌≢◌, ◌≤◌, ◌∷◌, length, map, drop, string_bytes, IfErr, OnOk};
 ghost use Rattle.frame_header.specs.Tables.{window_of};
 ghost use Rattle.outside.specs.Files.{IsThere};
 ghost use Rattle.outside.specs.Pass.{Writes, WritesPrefix};
@@ -9,27 +9,14 @@ ghost use Rattle.frame_writer.specs.Writing.{IsNew};
 ghost use Rattle.sync_survey.specs.Faults.{tells};
 ghost use Rattle.laying.specs.Fits.{FitsFrom};
 ghost use Rattle.joining.specs.Inputs.{rows_of};
-ghost use Rattle.joining.specs.Laying.{all_laid, AreSources, of_pass as of_pass_lem, pass_of, HasJoinCause};
+ghost use Rattle.joining.specs.Laying.{all_laid, AreSources, HasJoinCause};
 
 use crate::inputs::{known_at, name_at};
-use commands::EditFault;
+use crate::stopped::Stopped;
 use laying::{Buffers, Relay};
-use outside::{Folder, Pass, PassFault};
+use outside::{Folder, Pass};
 use slot_plan::Placed;
-use sync_survey::{Survey, SurveyFault};
-
-/// The fault of the pass over an input, counted from 0.
-pub(crate) fn of_pass(place: u32, fault: PassFault) -> EditFault
-    ensures { result ≡ of_pass_lem place fault }
-{
-    match fault {
-        PassFault::Read => EditFault::Input(place, SurveyFault::Read),
-        PassFault::Shrunk(first, second) => {
-            EditFault::Input(place, SurveyFault::Shrunk(first, second))
-        }
-        PassFault::Write => EditFault::Write(0),
-    }
-}
+use sync_survey::Survey;
 
 /// Adds to what waits for the output the frames of all inputs as they were planned, one input after the other. The writer is
 /// new. The clauses about the output speak of folders that tell the bytes of the first input.
@@ -44,7 +31,7 @@ pub(crate) fn lay_all<'a, D: Folder>(
     surveys: &'a [Survey],
     placed: &[Placed],
     buffers: &mut Buffers,
-) -> Result<(), EditFault>
+) -> Result<(), Stopped>
     requires some { 1 ≤ length inputs.now }
     requires few { length inputs.now ≤ 64 }
     requires names { map string_bytes inputs.now
@@ -61,10 +48,10 @@ pub(crate) fn lay_all<'a, D: Folder>(
         (λ file. frame_bytes (all_laid (D.files folder.old) (map string_bytes inputs.now)
         (map tells surveys.now) placed.now file))
         buffers.old.waiting buffers.new.waiting (D.files folder.old) (D.files folder.new)) }
-    ensures prefix { IfErr result (λ fault. WritesPrefix first.now.pass
+    ensures prefix { IfErr result (λ stopped. WritesPrefix first.now.pass
         (λ file. frame_bytes (all_laid (D.files folder.old) (map string_bytes inputs.now)
         (map tells surveys.now) placed.now file))
-        buffers.old.waiting (D.files folder.old) (D.files folder.new) (pass_of fault)) }
+        buffers.old.waiting (D.files folder.old) (D.files folder.new) stopped.fault) }
     ensures done { OnOk result (D.counts folder.new ≡ D.counts folder.old) }
     ensures cause { IfErr result (HasJoinCause (map string_bytes inputs.now)
         first.now.pass.output.now (D.files folder.old)
@@ -82,11 +69,16 @@ pub(crate) fn lay_all<'a, D: Folder>(
         buffers.feed.clear();
         match relay.lay_whole(folder, &placed[at..], buffers) {
             Ok(count) => at += count,
-            Err(fault) => return Err(of_pass(i as u32, fault)),
+            Err(fault) => {
+                return Err(Stopped {
+                    place: i as u32,
+                    fault,
+                });
+            }
         }
     }
     match first.finish(folder, &mut buffers.writer, &mut buffers.waiting) {
         Ok(()) => Ok(()),
-        Err(fault) => Err(of_pass(0, fault)),
+        Err(fault) => Err(Stopped { place: 0, fault }),
     }
 }

@@ -5,6 +5,7 @@ mod inputs;
 mod join_file;
 mod laid;
 mod planned;
+mod stopped;
 mod surveys;
 mod written;
 

@@ -1,15 +1,16 @@
-//! The plan of all frames, and the Info frame before them.
+//! What a join makes ready before its output is created: the plan of all frames, the Info frame, and all memory.
 ghost use Rattle.std.specs.Prelude.{◌≡◌, ◌<◌, ◌≤◌, ℕ, List, [], ◌∷◌, length, map, IfOk};
 ghost use Rattle.part_needs.specs.Needs.{asked_of};
 ghost use Rattle.slot_plan.specs.Plans.{entries};
 ghost use Rattle.sync_survey.specs.Faults.{tells};
 ghost use Rattle.joining.specs.Inputs.{rows_of, CanBeJoined};
-ghost use Rattle.joining.specs.Laying.{the_plan_of, FitsAll, IsPlanned};
+ghost use Rattle.joining.specs.Laying.{IsPlanOf, IsReady};
 
+use crate::inputs::known_at;
 use arrayvec::ArrayVec;
 use frame_edits::Planned;
 use info_header::write_info;
-use laying::{Kept, info_of};
+use laying::{Buffers, Kept, info_of};
 use part_needs::Parts;
 use slot_plan::{Keep, Plan};
 use std::alloc::{AllocError, Global};
@@ -30,23 +31,34 @@ fn parts_of(alloc: Global, surveys: &[Survey]) -> Result<Parts, AllocError>
 /// The plan of all frames, each in its own slot.
 fn plan_all(alloc: Global, surveys: &[Survey]) -> Result<Plan, AllocError>
     requires { CanBeJoined (map tells surveys.now) }
-    ensures plan { IfOk result (λ plan. entries plan ≡ the_plan_of (map tells surveys.now)) }
-    ensures fits { IfOk result (λ plan. FitsAll (map tells surveys.now) (entries plan)) }
+    ensures { IfOk result (λ plan. IsPlanOf (map tells surveys.now) (entries plan)) }
 {
     let parts = parts_of(alloc, surveys)?;
     parts.plan(alloc, &Keep)
 }
 
-/// The plan of all frames, and the Info frame before them, whose header is that of the first frame.
-pub(crate) fn plan_join(alloc: Global, surveys: &[Survey]) -> Result<Planned, AllocError>
+/// The plan of all frames, with the Info frame before them, whose header is that of the first frame, and the memory of the
+/// second pass.
+#[derive(Drop)]
+pub(crate) struct Work {
+    pub planned: Planned,
+    pub buffers: Buffers,
+}
+
+/// All that is made ready before the output is created.
+pub(crate) fn prepare(alloc: Global, surveys: &[Survey]) -> Result<Work, AllocError>
     requires { CanBeJoined (map tells surveys.now) }
-    ensures { IfOk result (IsPlanned (map tells surveys.now)) }
+    ensures { IfOk result (IsReady (map tells surveys.now)) }
 {
     let plan = plan_all(alloc, surveys)?;
-    let first = &surveys[0];
+    let first = known_at(surveys, 0);
     let fields = info_of(first.class(), plan.placed(), &Kept::none());
     let header = &first.frames()[0].header;
     let mut info = ArrayVec::new();
     write_info(header, &fields, &mut info);
-    Ok(Planned { plan, info })
+    let buffers = Buffers::new(alloc, first.class())?;
+    Ok(Work {
+        planned: Planned { plan, info },
+        buffers,
+    })
 }

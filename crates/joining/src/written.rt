@@ -1,26 +1,26 @@
 //! The second pass of a join.
-ghost use Rattle.std.specs.Prelude.{◌≡◌, ◌≤◌, ◌++◌, List, ℕ, [], ◌∷◌, length, map, drop, string_bytes, None, IfOk, IfErr, IfSome, OnOk};
-ghost use Rattle.outside.specs.Files.{IsThere, Holds, is_told, OnlyTouches};
-ghost use Rattle.outside.specs.Counts.{NoneFell};
+ghost use Rattle.std.specs.Prelude.{◌≡◌, ◌≤◌, ◌++◌, List, ℕ, [], ◌∷◌, length, map, drop, string_bytes, None, IfErr, OnOk};
 ghost use Rattle.std.specs.List.{concat};
+ghost use Rattle.outside.specs.Files.{IsThere, Holds, OnlyTouches};
+ghost use Rattle.outside.specs.Counts.{NoneFell};
 ghost use Rattle.outside.specs.Pass.{Appends, AppendsPrefix, route_of, HasPassCause};
 ghost use Rattle.laying.specs.Written.{front_blocks};
-ghost use Rattle.laying.specs.Passing.{IsReady, IsFresh};
+ghost use Rattle.laying.specs.Passing.{IsReady as IsReadyToPass};
 ghost use Rattle.sync_survey.specs.Faults.{tells};
 ghost use Rattle.commands.specs.One.{most_frames, holding, IsPassFault, first_input};
 ghost use Rattle.commands.specs.Command.{clash_from};
 ghost use Rattle.commands.specs.Left.{seen};
 ghost use Rattle.joining.specs.Join.{joined_file};
-ghost use Rattle.joining.specs.Inputs.{IsOfJoin, AreInputs, CanBeJoined, class_in, told_parts};
-ghost use Rattle.joining.specs.Laying.{IsPlanned, AreSources, pass_of, HasJoinCause};
+ghost use Rattle.joining.specs.Inputs.{IsOfJoin, AreInputs, told_parts};
+ghost use Rattle.joining.specs.Laying.{IsReady, AreSources, HasJoinCause};
 
 use crate::inputs::{known_at, name_at};
-use crate::laid::{lay_all, of_pass};
+use crate::laid::lay_all;
+use crate::planned::Work;
+use crate::stopped::Stopped;
 use commands::EditFault;
-use frame_edits::Planned;
 use laying::{Buffers, Relay};
 use outside::{Folder, Pass, PassFault};
-use std::alloc::{AllocError, Global};
 use sync_survey::Survey;
 
 /// Appends to the output the ID3v2 blocks of an input before its first frame, and an Info frame of these bytes.
@@ -30,7 +30,7 @@ fn append_front<D: Folder>(
     info: &[u8],
     buffers: &mut Buffers,
 ) -> Result<(), PassFault>
-    requires ready { IsReady relay.now (D.files folder.old) buffers.old.feed }
+    requires ready { IsReadyToPass relay.now (D.files folder.old) buffers.old.feed }
     requires none { buffers.old.waiting ≡ [] }
     ensures written { OnOk result (Appends relay.now.pass.input.now relay.now.pass.output.now
         (λ file. concat (front_blocks file (tells relay.now.survey.now)) ++ info.now)
@@ -58,37 +58,36 @@ fn append_joined<'a, D: Folder>(
     folder: &mut D,
     inputs: &'a [String],
     surveys: &'a [Survey],
-    planned: &Planned,
-    buffers: &mut Buffers,
-) -> Result<(), EditFault>
+    work: &mut Work,
+) -> Result<(), Stopped>
     requires few { length inputs.now ≤ 64 }
     requires names { map string_bytes inputs.now
         ≡ first.now.pass.input.now ∷ drop 1 (map string_bytes inputs.now) }
     requires known { map tells surveys.now
         ≡ tells first.now.survey.now ∷ drop 1 (map tells surveys.now) }
     requires length { first.now.pass.length ≡ (tells first.now.survey.now).length }
-    requires planned { IsPlanned (map tells surveys.now) planned.now }
+    requires ready { IsReady (map tells surveys.now) work.old }
     requires sources { AreSources (tells first.now.survey.now).class first.now.pass.output.now
         (D.files folder.old) (map string_bytes inputs.now) (map tells surveys.now) }
     requires target { IsThere (D.files folder.old) first.now.pass.output.now }
-    requires fresh { IsFresh (tells first.now.survey.now).class buffers.old }
     ensures written { OnOk result (Appends first.now.pass.input.now first.now.pass.output.now
         (λ _. joined_file (told_parts (D.files folder.old) (map string_bytes inputs.now)
         (map tells surveys.now)))
         (D.files folder.old) (D.files folder.new)) }
-    ensures prefix { IfErr result (λ fault. AppendsPrefix first.now.pass.input.now
+    ensures prefix { IfErr result (λ stopped. AppendsPrefix first.now.pass.input.now
         first.now.pass.output.now
         (λ _. joined_file (told_parts (D.files folder.old) (map string_bytes inputs.now)
         (map tells surveys.now)))
-        (D.files folder.old) (D.files folder.new) (pass_of fault)) }
+        (D.files folder.old) (D.files folder.new) stopped.fault) }
     ensures done { OnOk result (D.counts folder.new ≡ D.counts folder.old) }
     ensures cause { IfErr result (HasJoinCause (map string_bytes inputs.now)
         first.now.pass.output.now (D.files folder.old)
         (D.counts folder.old) (D.counts folder.new)) }
 {
+    let Work { planned, buffers } = work;
     let info = planned.info.as_slice();
     if let Err(fault) = append_front(first, folder, info, buffers) {
-        return Err(of_pass(0, fault));
+        return Err(Stopped { place: 0, fault });
     }
     lay_all(
         first,
@@ -100,17 +99,8 @@ fn append_joined<'a, D: Folder>(
     )?;
     match first.pass.finish(folder, &mut buffers.waiting) {
         Ok(()) => Ok(()),
-        Err(fault) => Err(of_pass(0, fault)),
+        Err(fault) => Err(Stopped { place: 0, fault }),
     }
-}
-
-/// The memory of the pass over all inputs.
-pub(crate) fn new_buffers(alloc: Global, surveys: &[Survey]) -> Result<Buffers, AllocError>
-    requires { CanBeJoined (map tells surveys.now) }
-    ensures { IfOk result (λ buffers. IfSome (class_in (map tells surveys.now))
-        (λ class. IsFresh class buffers)) }
-{
-    Buffers::new(alloc, known_at(surveys, 0).class())
 }
 
 /// Creates the output and writes it. It takes no memory.
@@ -123,17 +113,14 @@ pub(crate) fn write_joined<D: Folder>(
     inputs: &[String],
     output: &str,
     surveys: &[Survey],
-    planned: &Planned,
-    buffers: &mut Buffers,
+    work: &mut Work,
 ) -> Result<(), EditFault>
     requires some { 1 ≤ length inputs.now }
     requires few { length inputs.now ≤ 64 }
     requires inputs { AreInputs None most_frames (D.files folder.old) (map string_bytes inputs.now)
         (map tells surveys.now) }
     requires apart { clash_from (output.now ∷ []) 0 (map string_bytes inputs.now) ≡ None }
-    requires planned { IsPlanned (map tells surveys.now) planned.now }
-    requires fresh { IfSome (class_in (map tells surveys.now))
-        (λ class. IsFresh class buffers.old) }
+    requires ready { IsReady (map tells surveys.now) work.old }
     ensures written { OnOk result ((bytes : List ℕ)
         → Holds (D.files folder.old) (first_input (map string_bytes inputs.now)) bytes
         → D.files folder.new ≡ holding (D.files folder.old) output.now
@@ -159,5 +146,8 @@ pub(crate) fn write_joined<D: Folder>(
     let Ok(()) = folder.create(output) else {
         return Err(EditFault::Write(0));
     };
-    append_joined(&first, folder, inputs, surveys, planned, buffers)
+    match append_joined(&first, folder, inputs, surveys, work) {
+        Ok(()) => Ok(()),
+        Err(stopped) => Err(stopped.fault()),
+    }
 }

@@ -1,6 +1,6 @@
 -- The survey is the first of those from its place on.
 use Rattle.sync_survey.specs.Faults.{tells}
-use Rattle.joining.proofs.LayLaws.{map-next}
+use Rattle.joining.proofs.StepLaws.{map-next}
 use Rattle.joining.proofs.inputs.known_at.Goals as goal
 
 pub returns : goal.returns

@@ -1,6 +1,6 @@
 -- The name is the first of those from its place on.
 use Rattle.std.proofs.Common.{◌∷◌, ◌+◌, map, drop, string_bytes, sym, ◌∙◌, ap}
-use Rattle.joining.proofs.LayLaws.{map-next}
+use Rattle.joining.proofs.StepLaws.{map-next}
 use Rattle.joining.proofs.inputs.name_at.Goals as goal
 
 pub returns : goal.returns

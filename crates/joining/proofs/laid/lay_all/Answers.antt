@@ -1,37 +1,26 @@
 -- One input after another.
 use Rattle.std.proofs.Common.{◌+◌, ◌-◌, length, map, take, drop, string_bytes, refl, sym, ◌∙◌, ap, arith}
 use Rattle.std.proofs.lemmas.List.{length-map, length-drop, take_rest, drop-drop, drop_all}
-use Rattle.outside.proofs.PassLaws.{part_for, cause_later}
+use Rattle.std.proofs.lemmas.Slice.Zip.{AllZip-long}
+use Rattle.outside.proofs.PassLaws.{cause_later}
 use Rattle.sync_survey.specs.Faults.{tells}
 use Rattle.laying.specs.Passing.{Lays, writing_in}
 use Rattle.laying.proofs.EndLaws.{new-behind, lays-written, lays-prefix, part-prefix}
 use Rattle.joining.specs.Laying.{all_laid}
-use Rattle.joining.proofs.StreamLaws.{sources-length}
-use Rattle.joining.proofs.StepLaws.{source-ready, laid-none, laid-all, next-source, next-class, next-fits, next-laid, next-part}
-use Rattle.joining.proofs.OutLaws.{cause-named, of_one-fault}
+use Rattle.joining.proofs.StepLaws.{cause-named, source-ready, laid-none, laid-all, next-source, next-class, both-fit, next-laid, next-part}
 use Rattle.joining.proofs.laid.lay_all.Given as given
 use Rattle.joining.proofs.laid.lay_all.Goals as goal
 use Rattle.joining.proofs.laid.lay_all.Goals.{After-finish}
 
 pub loop-i-init : goal.loop-i-init
-loop-i-init g c =
-    let first = c.args.first.now in
-    record {
-      within = omega arith;
-      laid = laid-none (tells first.survey.now).class first.pass.input.now first.pass.output.now (writing_in c.args.buffers.now) (g.D.Folder.files c.args.folder.now) (map string_bytes c.args.inputs.now) (map tells c.args.surveys.now) c.args.placed.now
-          c.requires.sources c.requires.target c.requires.new c.requires.fits;
-      counts = refl;
-    }
+loop-i-init g c = record {
+  within = omega arith;
+  laid = laid-none c.args.first.now.pass.input.now (writing_in c.args.buffers.now) c.requires.sources c.requires.target c.requires.new c.requires.fits;
+  counts = refl;
+}
 
 pub known_at-survey-requires : goal.known_at-survey-requires
-known_at-survey-requires g c =
-    omega (
-      arith,
-      c.loop-i-test.true,
-      sources-length (tells c.args.first.now.survey.now).class c.args.first.now.pass.output.now (g.D.Folder.files c.args.folder.now) (map string_bytes c.args.inputs.now) (map tells c.args.surveys.now) c.requires.sources,
-      length-map c.args.inputs.now string_bytes,
-      length-map c.args.surveys.now tells,
-    )
+known_at-survey-requires g c = omega (arith, c.loop-i-test.true, AllZip-long _ _ _ c.requires.sources, length-map c.args.inputs.now string_bytes, length-map c.args.surveys.now tells)
 
 pub lay_whole-requires-clause-ready : goal.lay_whole-requires-clause-ready
 lay_whole-requires-clause-ready g c =
@@ -41,27 +30,22 @@ pub lay_whole-requires-clause-class : goal.lay_whole-requires-clause-class
 lay_whole-requires-clause-class g c = next-class c.name_at.ensures c.known_at-survey.ensures refl c.loop-i.invariant.laid
 
 pub lay_whole-requires-clause-fits : goal.lay_whole-requires-clause-fits
-lay_whole-requires-clause-fits g c = next-fits c.name_at.ensures c.known_at-survey.ensures (sym (take_rest c.args.placed.now c.loop-i.at)) c.loop-i.invariant.laid
+lay_whole-requires-clause-fits g c = (both-fit c.name_at.ensures c.known_at-survey.ensures (sym (take_rest c.args.placed.now c.loop-i.at)) c.loop-i.invariant.laid).0
 
 pub returns-in-Err-clause-prefix : goal.returns-in-Err-clause-prefix
 returns-in-Err-clause-prefix g c =
-    let first = c.args.first.now in
     let b = c.args.buffers.now in
     let files = g.D.Folder.files in
     let part = next-part c.name_at.ensures c.known_at-survey.ensures (sym (take_rest c.args.placed.now c.loop-i.at)) c.loop-i.invariant.laid c.requires.apart (files c.lay_whole.new.folder) c.in-Err.ensures.part in
-    part_for (of_one-fault c.loop-i.i c.in-Err.fault _ c.of_pass.ensures)
-    (part-prefix first.pass (all_laid (files c.args.folder.now) (map string_bytes c.args.inputs.now) (map tells c.args.surveys.now) c.args.placed.now) b.waiting (writing_in b) (files c.args.folder.now) (new-behind b.writer b.waiting c.requires.new) part.0 _ part.1)
+    part-prefix c.args.first.now.pass (all_laid (files c.args.folder.now) (map string_bytes c.args.inputs.now) (map tells c.args.surveys.now) c.args.placed.now) b.waiting (writing_in b) (files c.args.folder.now) (new-behind b.writer b.waiting c.requires.new) part.0 _ part.1
 
 pub returns-in-Err-clause-cause : goal.returns-in-Err-clause-cause
 returns-in-Err-clause-cause g c =
     let sofar = c.loop-i.invariant.laid.lays.lays in
     record {
-      place = c.loop-i.i;
-      size = c.length.result;
-      pass = c.in-Err.fault;
       within = omega (arith, c.loop-i-test.true, length-map c.args.inputs.now string_bytes);
-      is = c.of_pass.ensures;
-      cause = cause-named (map string_bytes c.args.inputs.now) c.loop-i.i _ _ _ _ _ _ _ _ c.name_at.ensures (cause_later _ _ _ c.args.first.now.pass.output.now sofar.passed _ _ _ c.in-Err.fault sofar.files c.loop-i.invariant.counts c.in-Err.ensures.cause);
+      size = _;
+      cause = cause-named _ c.loop-i.i _ _ _ _ _ _ _ _ c.name_at.ensures (cause_later _ _ _ c.args.first.now.pass.output.now sofar.passed _ _ _ c.in-Err.fault sofar.files c.loop-i.invariant.counts c.in-Err.ensures.cause);
     }
 
 pub loop-i-preserved : goal.loop-i-preserved
@@ -101,10 +85,7 @@ pub returns-in-Err-finish-clause-cause : goal.returns-in-Err-finish-clause-cause
 returns-in-Err-finish-clause-cause g c =
     let sofar = c.loop-i.invariant.laid.lays.lays in
     record {
-      place = 0;
-      size = c.args.first.now.pass.length;
-      pass = c.in-Err-finish.fault;
       within = omega (arith, c.requires.some, length-map c.args.inputs.now string_bytes);
-      is = c.of_pass-in-Err-finish.ensures;
-      cause = cause-named (map string_bytes c.args.inputs.now) 0 _ _ _ _ _ _ _ _ c.requires.names (cause_later _ _ _ c.args.first.now.pass.output.now sofar.passed _ _ _ c.in-Err-finish.fault sofar.files c.loop-i.invariant.counts c.in-Err-finish.ensures.cause);
+      size = _;
+      cause = cause-named _ 0 _ _ _ _ _ _ _ _ c.requires.names (cause_later _ _ _ c.args.first.now.pass.output.now sofar.passed _ _ _ c.in-Err-finish.fault sofar.files c.loop-i.invariant.counts c.in-Err-finish.ensures.cause);
     }

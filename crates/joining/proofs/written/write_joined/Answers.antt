@@ -1,82 +1,70 @@
 -- The output is created, and then written by a pass over the inputs, which stay.
-use Rattle.std.proofs.Common.{◌≡◌, List, ℕ, None, map, string_bytes, refl, sym, ◌∙◌, ap, subst, arith}
-use Rattle.outside.specs.Files.{Holds, IsThere}
-use Rattle.outside.proofs.FilesLaws.{emptied_there, fails_touches}
+use Rattle.std.proofs.Common.{◌≡◌, ◌≢◌, List, ℕ, None, map, string_bytes, refl, ◌∙◌, ap, arith}
+use Rattle.outside.specs.declared.pass.PassFault.{PassFault}
+use Rattle.outside.specs.declared.pass.PassFault.TheVariants.{Read}
+use Rattle.outside.proofs.FilesLaws.{emptied_there, emptied_touches, fails_touches}
 use Rattle.std.proofs.lemmas.List.{length-map}
-use Rattle.frame_writer.proofs.WritingLaws.{ok-map}
-use Rattle.std.specs.Prelude.{IfSome}
-use Rattle.sync_survey.specs.Faults.{SurveyFields, tells}
-use Rattle.laying.specs.Passing.{IsFresh}
+use Rattle.sync_survey.specs.Faults.{tells}
+use Rattle.laying.specs.Relaid.{Part}
 use Rattle.commands.specs.One.{most_frames, holding, IsPassFault, first_input}
-use Rattle.commands.specs.Left.{seen}
-use Rattle.commands.proofs.OutputLaws.{output_whole, touches_whole, touches_prefix, not_begun}
+use Rattle.commands.specs.PassFaults.{of_pass as of_one}
+use Rattle.commands.specs.Left.{Seen}
+use Rattle.frame_edits.proofs.LaidPass.{appends-as_prefix}
+use Rattle.commands.proofs.OutputLaws.{output_whole, touches_whole, touches_prefix, pass_fault_over, not_begun}
 use Rattle.joining.specs.Join.{joined_file}
-use Rattle.joining.specs.Inputs.{CanBeJoined, AreAlike, class_in, told_parts}
-use Rattle.joining.specs.Laying.{AreSources}
-use Rattle.joining.proofs.PlanLaws.{can-some}
-use Rattle.joining.proofs.StreamLaws.{sources-inputs, first-source}
-use Rattle.joining.proofs.OutLaws.{sources-emptied, told-emptied, join-fault, either, err-both}
+use Rattle.joining.specs.Inputs.{told_parts}
+use Rattle.joining.specs.Laying.{AreSources, of_pass}
+use Rattle.joining.proofs.PlanLaws.{alike-first, can-some}
+use Rattle.joining.proofs.SourceLaws.{sources-inputs, first-source, sources-beside}
 use Rattle.joining.proofs.written.write_joined.Given as given
 use Rattle.joining.proofs.written.write_joined.Goals as goal
 use Rattle.joining.proofs.written.write_joined.Goals.{In-Ok}
 
 pub known_at-survey-requires : goal.known_at-survey-requires
-known_at-survey-requires g c = omega (arith, can-some (map tells c.args.surveys.now) c.requires.planned.joined, length-map c.args.surveys.now tells)
+known_at-survey-requires g c = omega (arith, can-some _ c.requires.ready.joined, length-map c.args.surveys.now tells)
 
 -- the inputs, beside the output that was created
 sources : (g : given.Over) (c : In-Ok g) → AreSources (tells c.known_at-survey.result.now).class c.args.output.now (g.D.Folder.files c.args.folder.now) (map string_bytes c.args.inputs.now) (map tells c.args.surveys.now)
 sources g c =
-    let s = tells c.known_at-survey.result.now in
-    let ss = map tells c.args.surveys.now in
-    sources-inputs s.class c.args.output.now 0 None most_frames (g.D.Folder.files c.args.folder.now) (map string_bytes c.args.inputs.now) ss c.requires.apart
-    (subst (AreAlike s.class) (sym c.known_at-survey.ensures) (subst CanBeJoined c.known_at-survey.ensures c.requires.planned.joined).0) c.requires.inputs
+    sources-inputs _ c.args.output.now 0 None most_frames _ _ _ c.requires.apart (rw c.known_at-survey.ensures (alike-first _ _ (rw c.known_at-survey.ensures at c.requires.ready.joined))) c.requires.inputs
 
--- what is written is the file of the inputs as they were
-same : (g : given.Over) (c : In-Ok g) → joined_file (told_parts (g.D.Folder.files c.create.new.self) (map string_bytes c.args.inputs.now) (map tells c.args.surveys.now)) ≡ joined_file (told_parts (g.D.Folder.files c.args.folder.now) (map string_bytes c.args.inputs.now) (map tells c.args.surveys.now))
-same g c = ap joined_file (told-emptied (tells c.known_at-survey.result.now).class c.args.output.now _ _ (map string_bytes c.args.inputs.now) (map tells c.args.surveys.now) c.in-Ok.ensures.created (sources g c))
+beside : (g : given.Over) (c : In-Ok g) → AreSources (tells c.known_at-survey.result.now).class c.args.output.now (g.D.Folder.files c.create.new.self) (map string_bytes c.args.inputs.now) (map tells c.args.surveys.now)
+    × (told_parts (g.D.Folder.files c.create.new.self) (map string_bytes c.args.inputs.now) (map tells c.args.surveys.now) ≡ told_parts (g.D.Folder.files c.args.folder.now) (map string_bytes c.args.inputs.now) (map tells c.args.surveys.now))
+beside g c = sources-beside _ _ _ _ _ _ (rw c.in-Ok.ensures.created (emptied_touches _ _)) (sources g c)
+
+apart : (g : given.Over) (c : In-Ok g) → c.name_at.result.now ≢ c.args.output.now
+apart g c = (first-source _ c.name_at.ensures c.known_at-survey.ensures (sources g c)).apart
 
 pub append_joined-requires-clause-sources : goal.append_joined-requires-clause-sources
-append_joined-requires-clause-sources g c =
-    sources-emptied (tells c.known_at-survey.result.now).class c.args.output.now _ _ (map string_bytes c.args.inputs.now) (map tells c.args.surveys.now) c.in-Ok.ensures.created (sources g (goal.at.append_joined-requires-clause-sources g c).In-Ok)
+append_joined-requires-clause-sources g c = (beside g (goal.at.append_joined-requires-clause-sources g c).In-Ok).0
 
 pub append_joined-requires-clause-target : goal.append_joined-requires-clause-target
-append_joined-requires-clause-target g c =
-    subst (λ f. IsThere f c.args.output.now) (sym c.in-Ok.ensures.created) (emptied_there (g.D.Folder.files c.args.folder.now) c.args.output.now)
+append_joined-requires-clause-target g c = rw c.in-Ok.ensures.created (emptied_there (g.D.Folder.files c.args.folder.now) c.args.output.now)
 
-pub append_joined-requires-clause-fresh : goal.append_joined-requires-clause-fresh
-append_joined-requires-clause-fresh g c = subst (λ (l : List SurveyFields). IfSome (class_in l) (λ class. IsFresh class c.args.buffers.now)) c.known_at-survey.ensures c.requires.fresh
-
-pub returns-clause-written : goal.returns-clause-written
-returns-clause-written g c =
-    let at = (goal.at.returns-clause-written g c).In-Ok in
+pub returns-in-Ok-append_joined-clause-written : goal.returns-in-Ok-append_joined-clause-written
+returns-in-Ok-append_joined-clause-written g c =
+    let at = (goal.at.returns-in-Ok-append_joined-clause-written g c).In-Ok in
     let old = g.D.Folder.files c.args.folder.now in
-    let source = first-source _ c.name_at.ensures c.known_at-survey.ensures (sources g at) in
-    ok-map c.append_joined.result
-    (λ written bytes holds.
-    output_whole _ c.name_at.result.now c.args.output.now source.apart old _ _ c.in-Ok.ensures.created written bytes (subst (λ n. Holds old n bytes) (ap first_input c.name_at.ensures) holds)
-    ∙ ap (holding old c.args.output.now) (same g at))
-    c.append_joined.ensures.written
+    λ bytes holds.
+    output_whole _ c.name_at.result.now c.args.output.now (apart g at) old _ _ c.in-Ok.ensures.created c.in-Ok-append_joined.ensures.written bytes (rw c.name_at.ensures at holds)
+    ∙ ap (λ (ps : List Part). holding old c.args.output.now (joined_file ps)) (beside g at).1
 
-pub returns-clause-touches : goal.returns-clause-touches
-returns-clause-touches g c =
-    let source = first-source _ c.name_at.ensures c.known_at-survey.ensures (sources g (goal.at.returns-clause-touches g c).In-Ok) in
-    let old = g.D.Folder.files c.args.folder.now in
-    either c.append_joined.result c.append_joined.ensures.written c.append_joined.ensures.prefix
-    (touches_whole _ c.name_at.result.now c.args.output.now source.apart old _ _ c.in-Ok.ensures.created)
-    (λ fault. touches_prefix _ c.name_at.result.now c.args.output.now source.apart old _ _ c.in-Ok.ensures.created)
+pub returns-in-Ok-append_joined-clause-touches : goal.returns-in-Ok-append_joined-clause-touches
+returns-in-Ok-append_joined-clause-touches g c =
+    touches_whole _ c.name_at.result.now c.args.output.now (apart g (goal.at.returns-in-Ok-append_joined-clause-touches g c).In-Ok) _ _ _ c.in-Ok.ensures.created c.in-Ok-append_joined.ensures.written
 
-pub returns-clause-left : goal.returns-clause-left
-returns-clause-left g c =
-    let at = (goal.at.returns-clause-left g c).In-Ok in
-    let files = g.D.Folder.files in
-    let counts = g.D.Folder.counts in
-    let old = files c.args.folder.now in
-    let left = λ (bytes : List ℕ). IsPassFault (λ _. bytes) (map string_bytes c.args.inputs.now) c.args.output.now (seen old (counts c.args.folder.now)) (seen (files c.append_joined.new.folder) (counts c.append_joined.new.folder)) in
-    let source = first-source _ c.name_at.ensures c.known_at-survey.ensures (sources g at) in
-    err-both c.append_joined.result c.append_joined.ensures.prefix c.append_joined.ensures.cause
-    (λ fault prefix cause.
-    subst (λ bytes. left bytes fault) (same g at)
-    (join-fault _ c.name_at.result.now c.args.output.now source.apart old _ _ c.in-Ok.ensures.created (counts c.args.folder.now) _ _ c.in-Ok.ensures.done (map string_bytes c.args.inputs.now) (ap first_input c.name_at.ensures) fault prefix cause))
+pub returns-in-Err-clause-touches : goal.returns-in-Err-clause-touches
+returns-in-Err-clause-touches g c =
+    touches_prefix _ c.name_at.result.now c.args.output.now (apart g (goal.at.returns-in-Err-clause-touches g c).In-Ok) _ _ _ c.in-Ok.ensures.created c.in-Err.ensures.prefix
+
+pub returns-in-Err-clause-left : goal.returns-in-Err-clause-left
+returns-in-Err-clause-left g c =
+    let at = (goal.at.returns-in-Err-clause-left g c).In-Ok in
+    let cause = c.in-Err.ensures.cause in
+    let part = appends-as_prefix _ _ (λ file holds. ap joined_file (beside g at).1) c.in-Err.ensures.prefix in
+    rw c.fault.ensures
+    (pass_fault_over _ c.name_at.result.now c.args.output.now (apart g at) _ _ _ c.in-Ok.ensures.created (map string_bytes c.args.inputs.now) (ap first_input c.name_at.ensures) c.in-Err.stopped.place c.in-Err.stopped.fault cause.size
+    (g.D.Folder.counts c.args.folder.now) _ _ c.in-Ok.ensures.done part cause.cause)
 
 -- the output wasn't created
 pub returns-in_default-clause-touches : goal.returns-in_default-clause-touches
