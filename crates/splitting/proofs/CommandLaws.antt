@@ -1,8 +1,10 @@
 -- What the command leaves, by its steps.
-use Rattle.std.proofs.Common.{◌≡◌, ℕ, ◌+◌, ◌<◌, ◌≤◌, ◌≢◌, List, [], ◌∷◌, length, map, take, drop, Option, Some, None, Result, Ok, Err, refl, sym, ◌∙◌, ap, subst, inl, inr, is_some, Bool, true, false, cond, arith}
+use Rattle.std.proofs.Common.{◌≡◌, ℕ, ◌+◌, ◌<◌, ◌≤◌, ◌≢◌, List, [], ◌∷◌, length, map, take, Option, Some, None, Result, Ok, Err, refl, sym, ◌∙◌, ap, subst, inl, inr, Bool, true, false, cond, arith}
 use Rattle.std.specs.Prelude.{◌⊎◌, IfSome, IfErr}
+use Rattle.std.specs.Result.{IsErrAnd}
 use Rattle.bit_fields.specs.Bits.{AreBytes}
 use Rattle.outside.specs.Files.{Contents, Files, Holds, IsThere, Told, Untold, IfTold, OnlyTouches}
+use Rattle.outside.specs.Counts.{NoneFell}
 use Rattle.outside.proofs.FilesLaws.{there_holds, touches_none, touches_more}
 use Rattle.cue_sheet.specs.declared.cue_fault.CueFault.{CueFault}
 use Rattle.cue_sheet.specs.declared.place.Place.{Place}
@@ -17,7 +19,7 @@ use Rattle.sync_survey.specs.Survey.{survey_of}
 use Rattle.sync_survey.proofs.BytesFaults.{IsOfBytes, surveyed_of_bytes}
 use Rattle.sync_survey.proofs.FoldersLaws.{survey_of-short}
 use Rattle.commands.specs.declared.fault.EditFault.{EditFault}
-use Rattle.commands.specs.declared.fault.EditFault.TheVariants.{EqualNames, Input, Refused, Memory}
+use Rattle.commands.specs.declared.fault.EditFault.TheVariants.{EqualNames, Input, Refused, Write, Memory}
 use Rattle.commands.specs.declared.fault.Refusal.TheVariants.{Range, Sheet, SheetTooLarge}
 use Rattle.frame_edits.specs.declared.chosen.Slots.TheVariants.{Own}
 use Rattle.commands.proofs.RefusingLaws.{unless_all, then_all, before_first, then_ok}
@@ -25,20 +27,22 @@ use Rattle.commands.proofs.SheetLaws.{sheet-all}
 use Rattle.commands.proofs.InputLaws.{of_bytes_behind}
 use Rattle.commands.specs.Refusing.{then_made}
 use Rattle.commands.specs.Sheet.{sheet_in}
-use Rattle.frame_edits.specs.Chosen.{Chosen, cut_refuses, chosen_file, chosen_stream, stream_with, stream_chosen_by, cut_choice, laid_with}
-use Rattle.commands.specs.Command.{Output, Made, Command, clash_of, Gives, written, LacksBytes, written_to, AreStreams, HoldsStreams}
-use Rattle.commands.specs.Left.{Why, Rejected, Missing, Unread, Shorter, Unwritten, NoMemory, why_of, Seen, IsNotBefore, IsLate, IsDone, IsWrittenTo, IsUnfinished, TakesMemory, LeavesBy, Leaves, IsRefusal, input_of, ended_at}
+use Rattle.frame_edits.specs.Chosen.{Chosen, cut_refuses, chosen_file, chosen_stream, cut_choice, laid_with}
+use Rattle.commands.specs.Command.{Output, Made, Command, clash_of, Gives, written, AreStreams, HoldsStreams}
+use Rattle.commands.specs.Left.{Why, Rejected, Missing, Unread, Shorter, Unwritten, NoMemory, why_of, Seen, IsNotBefore, IsLate, IsDone, IsWrittenTo, IsUnfinished, TakesMemory, LeavesBy, Leaves, IsRefusal, HasNumbers, input_of, ended_at}
 use Rattle.commands.specs.One.{most_frames, IsFileFaultBy, IsFileFault}
+use Rattle.commands.specs.Runs.{IsRunOf}
 use Rattle.sync_survey.proofs.SurveyedFiles.{survey_of-sound}
 use Rattle.frame_edits.proofs.ChosenLaws.{cut_proper}
-use Rattle.splitting.specs.Split.{piece_names, frames_between, with_first, chosen_from, chosen_at, pieces_from, made_of, made_at, made_by, made_where, unless_equal, made_result, streams_of, streams_at, streams_by, streams_where, Placing, split_command_of, given, with_end, places_where, told_by, placing_of, more_of}
+use Rattle.splitting.specs.Split.{piece_names, frames_between, with_first, chosen_from, chosen_at, pieces_from, made_of, made_at, made_by, made_where, unless_equal, made_result, streams_of, streams_at, streams_by, streams_where, Placing, split_command_of, with_end, places_where, placing_of, more_of}
 use Rattle.splitting.specs.declared.piece.Piece.{Piece}
 use Rattle.splitting.specs.declared.split_file.Points.{Points}
 use Rattle.splitting.specs.declared.split_file.Points.TheVariants.{Places, Sheet as InSheet}
-use Rattle.splitting.specs.Steps.{Says, IsPlacesFaultBy, IsPlacesFault, ArePieces, chosen_of, outputs_of, names_of, with_outputs, with_part, IsWrittenPart, IsUnfinishedPart, IsPiecesFaultBy, IsPiecesFault, StopsShort}
-use Rattle.splitting.proofs.PiecesLaws.{outputs-are, names-first, names-all, name-here}
+use Rattle.splitting.specs.Steps.{Says, IsPlacesFaultBy, IsPlacesFault, ArePieces, chosen_of, outputs_of, names_of, with_outputs, with_part, IsWrittenPart, IsUnfinishedPart, IsPiecesFaultBy, IsPiecesFault, IsOfPieces, StopsShort}
+use Rattle.splitting.proofs.NamesLaws.{names-length}
 use Rattle.commands.proofs.NamedLaws.{first_at, missed_name, unread_name, lost_name}
 use Rattle.outside.specs.Counts.{HappenedTo, EndedAt}
+use Rattle.splitting.proofs.PiecesLaws.{outputs-are, names-first, names-all, name-here}
 
 -- ---- what holds of every refusal once the input was surveyed
 
@@ -89,18 +93,9 @@ short-late prefix file places late few =
     (by-late prefix file places (surveyed file most_frames) late (surveyed_of_bytes file most_frames))
 
 -- the faults of the positions come once memory was taken
-abbrev pub AreLate : Placing → Type 0
-AreLate placing = (f : Contents) → IfErr (placing.places f) IsLate
-
-given-late : (places : List Place) → AreLate (given places)
-given-late places f = tt
-
-told-late : (sheet : List ℕ) → AreLate (told_by sheet)
-told-late sheet f = where-all IsLate refl (λ size. refl) (λ fault. refl) (f sheet)
-
-points-late : (points : Points) → AreLate (placing_of points)
-points-late (Places places) = given-late places.now
-points-late (InSheet sheet) = told-late sheet.now
+points-late : (points : Points) (f : Contents) → IfErr ((placing_of points).places f) IsLate
+points-late (Places places) f = tt
+points-late (InSheet sheet) f = where-all IsLate refl (λ size. refl) (λ fault. refl) (f sheet.now)
 
 -- ---- none comes before the sheet is read
 
@@ -117,15 +112,10 @@ cut-is : (file : List ℕ) (s : SurveyFields) (from to : ℕ) → frames_between
 unfolding cut_choice frame_at
 cut-is file s from to = refl
 
-stream-is : (file : List ℕ) (s : SurveyFields) (from to : ℕ) (chosen : Chosen) (r : Result SurveyFields SurveyFault) → r ≡ Ok s → cut_choice (Frame from) (Frame to) Own file s ≡ Ok chosen
-    → stream_chosen_by (cut_choice (Frame from) (Frame to) Own) file r ≡ chosen_stream chosen file s
-stream-is file s from to chosen r surveyed is = ap (stream_chosen_by (cut_choice (Frame from) (Frame to) Own) file) surveyed ∙ ap (stream_with file s) is
-
 between-holds : (file : List ℕ) (s : SurveyFields) (from to : ℕ) (chosen : Chosen) → AreBytes file → survey_of file most_frames ≡ Ok s → frames_between (length s.frames) from to ≡ Ok chosen → HoldsStream (chosen_file chosen file s) (chosen_stream chosen file s)
 between-holds file s from to chosen octets surveyed is =
     let cut = sym (cut-is file s from to) ∙ is in
-    subst (HoldsStream (chosen_file chosen file s)) (stream-is file s from to chosen (survey_of file most_frames) surveyed cut)
-    ((cut_proper (Frame from) (Frame to) Own).streams file s (chosen_file chosen file s) octets surveyed (ap (laid_with file s) cut))
+    rw (surveyed, cut) at ((cut_proper (Frame from) (Frame to) Own).streams file s (chosen_file chosen file s) octets surveyed (ap (laid_with file s) cut))
 
 first-parts : (first : Chosen) (r : Result (List Chosen) EditFault) (cs : List Chosen) → with_first first r ≡ Ok cs → (more : List Chosen) × (r ≡ Ok more) × (first ∷ more ≡ cs)
 first-parts first (Ok more) cs e = (more, refl, cc)
@@ -146,7 +136,26 @@ module _ (prefix file : List ℕ) (s : SurveyFields) (octets : AreBytes file) (s
   at-hold [] cs e = let none : [] ≡ cs = cc in subst (Hold 1) none tt
   at-hold (place ∷ places) cs e = from-hold 1 (frame_at s.class (length s.frames) place) (map (frame_at s.class (length s.frames)) places) cs e
 
+-- ---- what a call says of a fault that it met before it wrote
+
+pub refused-run : (command : Command) (old new : Seen) (r : Result (Unit {0}) EditFault) (fault : EditFault) → clash_of command ≡ None → IsErrAnd r (λ y. y ≡ fault) → Leaves command old new fault → HasNumbers command fault → NoneFell old.counts new.counts → IsRunOf command old new r
+refused-run command old new (Ok x) fault none is left numbers fell = absurd is
+refused-run command old new (Err first) fault none is left numbers fell =
+    let right : HasNumbers command first = subst (HasNumbers command) (sym is) numbers in
+    record {
+      done = tt;
+      left = subst (Leaves command old new) (sym is) left;
+      numbers = right;
+      names = λ place. ((λ e. (let same : first ≡ EqualNames place = cc in subst (HasNumbers command) same right)), λ clash. absurd cc);
+      streams = tt;
+      counts = fell;
+    }
+
 -- ---- what the told files make of the command
+
+if-told : (files : Files) {P : Contents → Type 0} → ((f : Contents) → files ≡ Told f → P f) → IfTold files P
+if-told (Untold touched) at = tt
+if-told (Told f) at = at f refl
 
 none-equal : (o : Option ℕ) (r : Result Made EditFault) → o ≡ None → unless_equal o r ≡ r
 none-equal (Some place) r e = absurd cc
@@ -162,13 +171,10 @@ module _ (points : Points) (input prefix : List ℕ) where
   abbrev command : Command
   command = split_command_of points input prefix
 
-  equal-made : (f : Contents) (place : ℕ) → clash_of command ≡ Some place → command.makes f ≡ Err (EqualNames place)
-  unfolding made_result
-  equal-made f place e = ap (λ o. unless_equal o (made_where prefix (placing.places f) (f input))) e
-
   gives-equal : (files : Files) (place : ℕ) → clash_of command ≡ Some place → Gives command files (Err (EqualNames place))
+  unfolding made_result
   gives-equal (Untold touched) place e = tt
-  gives-equal (Told f) place e = equal-made f place e
+  gives-equal (Told f) place e = ap (λ o. unless_equal o (made_where prefix (placing.places f) (f input))) e
 
   -- a name of an input is one of the 99
   pub equal-left : (place : ℕ) (now : Seen) → clash_of command ≡ Some place → Leaves command now now (EqualNames place)
@@ -178,6 +184,9 @@ module _ (points : Points) (input prefix : List ℕ) where
     makes-where : (f : Contents) (o : Option (List ℕ)) → f input ≡ o → command.makes f ≡ made_where prefix (placing.places f) o
     unfolding made_result
     makes-where f o is = none-equal (clash_of command) (made_where prefix (placing.places f) (f input)) apart ∙ ap (made_where prefix (placing.places f)) is
+
+    stays-touched : (old new : Files) → new ≡ old → OnlyTouches (piece_names prefix) old new
+    stays-touched old new stays = rw stays (touches_none (piece_names prefix) old)
 
     -- ---- the survey of the input
 
@@ -195,19 +204,14 @@ module _ (points : Points) (input prefix : List ℕ) where
     input-takes (Untold touched) there few = tt
     input-takes (Told f) there few =
         let held = there_holds f input there in
-        subst TakesMemory (sym (makes-where f (Some held.0) held.1)) (takes (made_where prefix (placing.places f) (Some held.0)) (short-late prefix held.0 (placing.places f) (points-late points f) (few held.0 held.1)))
+        rw (makes-where f (Some held.0) held.1) (takes (made_where prefix (placing.places f) (Some held.0)) (short-late prefix held.0 (placing.places f) (points-late points f) (few held.0 held.1)))
 
     module _ (old new : Seen) (fault : EditFault) where
-      stays-touched : new.files ≡ old.files → OnlyTouches (piece_names prefix) old.files new.files
-      stays-touched stays = subst (λ files. OnlyTouches (piece_names prefix) old.files files) (sym stays) (touches_none (piece_names prefix) old.files)
-
       input-left-by : (why : Why) → IsFileFaultBy 0 most_frames input old new fault why → LeavesBy command old new fault why
-      input-left-by Rejected h =
-          record { defined = subst (λ e. Gives command old.files (Err e)) (sym h.1) (input-refused old.files h.0 h.2.there h.2.bytes); stays = h.2.stays }
-      input-left-by Missing h =
-          record { defined = subst (λ e. Gives command old.files (Err e)) (sym h.is) (input-missing old.files h.missing); rose = missed_name command.inputs 0 refl h; files = h.files }
+      input-left-by Rejected h = record { defined = rw h.1 (input-refused old.files h.0 h.2.there h.2.bytes); stays = h.2.stays }
+      input-left-by Missing h = record { defined = rw h.is (input-missing old.files h.missing); rose = missed_name command.inputs 0 refl h; files = h.files }
       input-left-by Unread h = record { names = apart; before = before_first old.files command.makes fault h.is; rose = unread_name command.inputs 0 refl h; files = inl h.files }
-      input-left-by Shorter h = record { ended = lost_name command.inputs 0 refl h; touches = stays-touched h.files }
+      input-left-by Shorter h = record { ended = lost_name command.inputs 0 refl h; touches = stays-touched old.files new.files h.files }
       input-left-by NoMemory h = record { names = apart; takes = input-takes old.files h.there h.few; stays = h.stays }
       input-left-by _ h = absurd h
 
@@ -216,194 +220,146 @@ module _ (points : Points) (input prefix : List ℕ) where
 
     -- ---- a surveyed input
 
-    module _ (s : SurveyFields) (files : Files) (there : IsThere files input) (surveyed : (bytes : List ℕ) → Holds files input bytes → survey_of bytes most_frames ≡ Ok s) where
-      makes-then : (f : Contents) (bytes : List ℕ) → files ≡ Told f → f input ≡ Some bytes → command.makes f ≡ then_made (placing.places f) (made_at prefix bytes s)
-      makes-then f bytes told holds =
-          makes-where f (Some bytes) holds ∙ ap (made_by prefix (placing.places f) bytes) (surveyed bytes (subst (λ fs. Holds fs input bytes) (sym told) holds))
+    module _ (s : SurveyFields) (old : Seen) (there : IsThere old.files input) (surveyed : (bytes : List ℕ) → Holds old.files input bytes → survey_of bytes most_frames ≡ Ok s) where
+      makes-then : (f : Contents) → old.files ≡ Told f → (bytes : List ℕ) × (f input ≡ Some bytes) × (survey_of bytes most_frames ≡ Ok s) × (command.makes f ≡ then_made (placing.places f) (made_at prefix bytes s))
+      makes-then f told =
+          let held = there_holds f input (rw told at there) in
+          let sound = surveyed held.0 (rw told held.1) in
+          (held.0, held.1, sound, makes-where f (Some held.0) held.1 ∙ ap (made_by prefix (placing.places f) held.0) sound)
 
-      held-of : (f : Contents) → files ≡ Told f → (bytes : List ℕ) × (f input ≡ Some bytes)
-      held-of f told = there_holds f input (subst (λ fs. IsThere fs input) told there)
-
-      pub behind-takes : IfTold files (λ f. TakesMemory (command.makes f))
-      behind-takes = at files refl
-        where
-          at : (fs : Files) → files ≡ fs → IfTold fs (λ f. TakesMemory (command.makes f))
-          at (Untold touched) told = tt
-          at (Told f) told =
-              let held = held-of f told in
-              subst TakesMemory (sym (makes-then f held.0 told held.1)) (takes (then_made (placing.places f) (made_at prefix held.0 s)) (made-late prefix held.0 s (placing.places f) (points-late points f)))
+      behind-takes : IfTold old.files (λ f. TakesMemory (command.makes f))
+      behind-takes = if-told old.files (λ f told. let made = makes-then f told in rw made.3 (takes _ (made-late prefix made.0 s (placing.places f) (points-late points f))))
 
       -- the sheet could not be read
-      behind-before : (fault : EditFault) → fault ≡ Input 1 Read → IfTold files (λ f. IfErr (command.makes f) (IsNotBefore fault))
-      behind-before fault is = at files refl
-        where
-          at : (fs : Files) → files ≡ fs → IfTold fs (λ f. IfErr (command.makes f) (IsNotBefore fault))
-          at (Untold touched) told = tt
-          at (Told f) told =
-              let held = held-of f told in
-              subst (λ e. IfErr (command.makes f) (IsNotBefore e)) (sym is)
-              (subst (λ r. IfErr r (IsNotBefore (Input 1 Read))) (sym (makes-then f held.0 told held.1)) (made-before prefix held.0 s (placing.places f) (points-before points f)))
+      behind-before : IfTold old.files (λ f. IfErr (command.makes f) (IsNotBefore (Input 1 Read)))
+      behind-before = if-told old.files (λ f told. let made = makes-then f told in rw made.3 (made-before prefix made.0 s (placing.places f) (points-before points f)))
 
       -- there are no positions
-      pub places-refused : (fault : EditFault) → IfTold files (λ f. placing.places f ≡ Err fault) → Gives command files (Err fault)
-      places-refused fault none = at files refl none
-        where
-          at : (fs : Files) → files ≡ fs → IfTold fs (λ f. placing.places f ≡ Err fault) → Gives command fs (Err fault)
-          at (Untold touched) told none = tt
-          at (Told f) told none =
-              let held = held-of f told in
-              makes-then f held.0 told held.1 ∙ ap (λ p. then_made p (made_at prefix held.0 s)) none
+      places-refused : (fault : EditFault) → Says placing old.files (Err fault) → Gives command old.files (Err fault)
+      places-refused fault none =
+          if-told old.files (λ f told.
+          let made = makes-then f told in
+          made.3 ∙ ap (λ p. then_made p (made_at prefix made.0 s)) (rw told at none))
+
+      module _ (new : Seen) (fault : EditFault) where
+        places-left-by : (why : Why) → IsPlacesFaultBy placing more old new fault why → LeavesBy command old new fault why
+        places-left-by Rejected h = record { defined = places-refused fault h.0; stays = h.1 }
+        places-left-by Missing h = record { defined = places-refused fault h.0; rose = missed_name (input ∷ more) 1 (first_at more) h.1; files = h.1.files }
+        places-left-by Unread h = record { names = apart; before = rw h.is behind-before; rose = unread_name (input ∷ more) 1 (first_at more) h; files = inl h.files }
+        places-left-by Shorter h = record { ended = lost_name (input ∷ more) 1 (first_at more) h; touches = stays-touched old.files new.files h.files }
+        places-left-by NoMemory h = record { names = apart; takes = behind-takes; stays = h }
+        places-left-by _ h = absurd h
 
       -- ---- these positions
 
-      module _ (places : List Place) (are : Says placing files (Ok places)) where
-        makes-at : (f : Contents) (bytes : List ℕ) → files ≡ Told f → f input ≡ Some bytes → command.makes f ≡ made_at prefix bytes s places
-        makes-at f bytes told holds =
-            let here : placing.places f ≡ Ok places = subst (λ fs. Says placing fs (Ok places)) told are in
-            makes-then f bytes told holds ∙ ap (λ p. then_made p (made_at prefix bytes s)) here
+      module _ (places : List Place) (are : Says placing old.files (Ok places)) where
+        makes-at : (f : Contents) → old.files ≡ Told f → (bytes : List ℕ) × (f input ≡ Some bytes) × (survey_of bytes most_frames ≡ Ok s) × (placing.places f ≡ Ok places) × (command.makes f ≡ made_at prefix bytes s places)
+        makes-at f told =
+            let made = makes-then f told in
+            let here : placing.places f ≡ Ok places = rw told at are in
+            (made.0, made.1, made.2, here, made.3 ∙ ap (λ p. then_made p (made_at prefix made.0 s)) here)
 
-        range-refused : (fault : EditFault) → chosen_at s.class (length s.frames) places ≡ Err fault → Gives command files (Err fault)
-        range-refused fault none = at files refl
-          where
-            at : (fs : Files) → files ≡ fs → Gives command fs (Err fault)
-            at (Untold touched) told = tt
-            at (Told f) told =
-                let held = held-of f told in
-                makes-at f held.0 told held.1 ∙ ap (λ r. then_made r (made_of prefix held.0 s)) none
+        range-refused : (fault : EditFault) → chosen_at s.class (length s.frames) places ≡ Err fault → Gives command old.files (Err fault)
+        range-refused fault none = if-told old.files (λ f told. let made = makes-at f told in made.4 ∙ ap (λ r. then_made r (made_of prefix made.0 s)) none)
+
+        pub split-streams : ((bytes : List ℕ) → Holds old.files input bytes → AreBytes bytes) → HoldsStreams command old.files
+        unfolding streams_where
+        split-streams octets =
+            if-told old.files (λ f told. λ whole is.
+            let made = makes-at f told in
+            let parts = then_ok (chosen_at s.class (length s.frames) places) (made_of prefix made.0 s) whole (sym made.4 ∙ is) in
+            let same : record { outputs = pieces_from prefix 1 made.0 s parts.0; text = [] } ≡ whole = cc in
+            let streams : command.streams f ≡ map (λ c. chosen_stream c made.0 s) parts.0 =
+            ap (streams_where (placing.places f)) made.1 ∙ ap (streams_by (placing.places f) made.0) made.2 ∙ ap (streams_at made.0 s) made.3 ∙ ap (streams_of made.0 s) parts.1 in
+            record {
+              sources = ((made.0, made.1, survey_of-sound made.0 most_frames s made.2), tt);
+              streams = subst (λ (m : Made). AreStreams m.outputs (command.streams f)) same
+                  (subst (AreStreams (pieces_from prefix 1 made.0 s parts.0)) (sym streams) (at-hold prefix made.0 s (octets made.0 (subst (λ fs. Holds fs input made.0) (sym told) made.1)) made.2 places parts.0 parts.1));
+            })
 
         -- the pieces, of which all or some were written
-        module _ (pieces : List Piece) (named : ArePieces prefix s 1 pieces) (chosen : chosen_at s.class (length s.frames) places ≡ Ok (map chosen_of pieces)) where
+        module _ (pieces : List Piece) (named : ArePieces prefix s 1 pieces) (chosen : chosen_at s.class (length s.frames) places ≡ Ok (map chosen_of pieces)) (few : length pieces ≤ 99) where
           abbrev made : List ℕ → Made
           made bytes = record { outputs = outputs_of s pieces bytes; text = [] }
 
-          makes-pieces : (f : Contents) (bytes : List ℕ) → files ≡ Told f → f input ≡ Some bytes → command.makes f ≡ Ok (made bytes)
-          makes-pieces f bytes told holds =
-              makes-at f bytes told holds
-              ∙ ap (λ r. then_made r (made_of prefix bytes s)) chosen
-              ∙ ap (λ (outputs : List Output). Ok (record { outputs = outputs; text = [] })) (sym (outputs-are prefix s 1 pieces bytes named))
+          makes-pieces : (f : Contents) → old.files ≡ Told f → (bytes : List ℕ) × (Holds old.files input bytes) × (command.makes f ≡ Ok (made bytes))
+          makes-pieces f told =
+              let at = makes-at f told in
+              (at.0, subst (λ fs. Holds fs input at.0) (sym told) at.1, at.4 ∙ ap (λ r. then_made r (made_of prefix at.0 s)) chosen ∙ ap (λ (outputs : List Output). Ok (record { outputs = outputs; text = [] })) (sym (outputs-are prefix s 1 pieces at.0 named)))
 
-          none-before : (P : EditFault → Type 0) → IfTold files (λ f. IfErr (command.makes f) P)
-          none-before P = at files refl
-            where
-              at : (fs : Files) → files ≡ fs → IfTold fs (λ f. IfErr (command.makes f) P)
-              at (Untold touched) told = tt
-              at (Told f) told = let held = held-of f told in subst (λ r. IfErr r P) (sym (makes-pieces f held.0 told held.1)) tt
+          none-before : (P : EditFault → Type 0) → IfTold old.files (λ f. IfErr (command.makes f) P)
+          none-before P = if-told old.files (λ f told. rw (makes-pieces f told).2 tt)
 
-          whole : (new : Files) → ((bytes : List ℕ) → Holds files input bytes → new ≡ with_outputs (outputs_of s pieces bytes) files) → IfTold files (λ f. (made : Made) × (command.makes f ≡ Ok made) × (new ≡ Told (written made.outputs f)))
+          whole : (new : Files) → ((bytes : List ℕ) → Holds old.files input bytes → new ≡ with_outputs (outputs_of s pieces bytes) old.files) → IfTold old.files (λ f. (made : Made) × (command.makes f ≡ Ok made) × (new ≡ Told (written made.outputs f)))
           unfolding with_outputs
-          whole new all = at files refl all
-            where
-              at : (fs : Files) → files ≡ fs → ((bytes : List ℕ) → Holds fs input bytes → new ≡ with_outputs (outputs_of s pieces bytes) fs) → IfTold fs (λ f. (made : Made) × (command.makes f ≡ Ok made) × (new ≡ Told (written made.outputs f)))
-              at (Untold touched) told all = tt
-              at (Told f) told all = let held = held-of f told in (made held.0, makes-pieces f held.0 told held.1, all held.0 held.1)
+          whole new all = if-told old.files (λ f told. let makes = makes-pieces f told in (made makes.0, makes.2, subst (λ fs. new ≡ with_outputs (outputs_of s pieces makes.0) fs) told (all makes.0 makes.1)))
 
-          first-touched : (k : ℕ) (new : Files) → length pieces ≤ 99 → OnlyTouches (take (k + 1) (names_of pieces)) files new → OnlyTouches (take (k + 1) (piece_names prefix)) files new
-          first-touched k new few touches = touches_more (take (k + 1) (names_of pieces)) (take (k + 1) (piece_names prefix)) files new (λ other. names-first prefix s pieces (λ name. other ≢ name) k few named) touches
+          names-touched : (before after : Files) → OnlyTouches (names_of pieces) before after → OnlyTouches (piece_names prefix) before after
+          names-touched before after only = touches_more (names_of pieces) (piece_names prefix) before after (λ other. names-all prefix s pieces (λ name. other ≢ name) few named) only
 
-          part : (k : ℕ) (new : Files) → length pieces ≤ 99 → IsWrittenPart (outputs_of s pieces) (names_of pieces) input k files new → IsWrittenTo command k files new
+          first-touched : (k : ℕ) (new : Files) → OnlyTouches (take (k + 1) (names_of pieces)) old.files new → OnlyTouches (take (k + 1) (piece_names prefix)) old.files new
+          first-touched k new touches = touches_more (take (k + 1) (names_of pieces)) (take (k + 1) (piece_names prefix)) old.files new (λ other. names-first prefix s pieces (λ name. other ≢ name) k few named) touches
+
+          part : (k : ℕ) (new : Files) → IsWrittenPart (outputs_of s pieces) (names_of pieces) input k old.files new → IsWrittenTo command k old.files new
           unfolding with_part
-          part k new few h = record { made = at files refl h.files; touches = first-touched k new few h.touches }
-            where
-              at : (fs : Files) → files ≡ fs → ((bytes : List ℕ) → Holds fs input bytes → (k < length (outputs_of s pieces bytes)) × (count : Option ℕ) × (new ≡ with_part k count (outputs_of s pieces bytes) fs))
-                  → IfTold fs (λ f. (made : Made) × (command.makes f ≡ Ok made) × (k < length made.outputs) × (count : Option ℕ) × (new ≡ Told (written_to k count made.outputs f)))
-              at (Untold touched) told some = tt
-              at (Told f) told some =
-                  let held = held-of f told in
-                  let part = some held.0 held.1 in
-                  (made held.0, makes-pieces f held.0 told held.1, part.0, part.1, part.2)
-
-          unfinished : (k : ℕ) (new : Files) → length pieces ≤ 99 → IsUnfinishedPart (outputs_of s pieces) (names_of pieces) input k files new → IsUnfinished command k files new
-          unfolding with_part
-          unfinished k new few h = record { made = at files refl h.files; touches = first-touched k new few h.touches }
-            where
-              at : (fs : Files) → files ≡ fs
-                  → ((bytes : List ℕ) → Holds fs input bytes → (k < length (outputs_of s pieces bytes)) × (count : Option ℕ) × LacksBytes count (drop k (outputs_of s pieces bytes)) × (new ≡ with_part k count (outputs_of s pieces bytes) fs))
-                  → IfTold fs (λ f. (made : Made) × (command.makes f ≡ Ok made) × (k < length made.outputs) × (count : Option ℕ) × LacksBytes count (drop k made.outputs) × (new ≡ Told (written_to k count made.outputs f)))
-              at (Untold touched) told some = tt
-              at (Told f) told some =
-                  let held = held-of f told in
-                  let part = some held.0 held.1 in
-                  (made held.0, makes-pieces f held.0 told held.1, part.0, part.1, part.2, part.3)
-
-    -- ---- what is left of a surveyed input, by a step after those that left all as it was
-
-    module _ (s : SurveyFields) (old mid new : Seen) (stays : mid ≡ old) (there : IsThere old.files input) (surveyed : (bytes : List ℕ) → Holds old.files input bytes → survey_of bytes most_frames ≡ Ok s) where
-      places-left-by : (fault : EditFault) (why : Why) → IsPlacesFaultBy placing more old new fault why → LeavesBy command old new fault why
-      places-left-by fault Rejected h = record { defined = places-refused s old.files there surveyed fault h.0; stays = h.1 }
-      places-left-by fault Missing h = record { defined = places-refused s old.files there surveyed fault h.0; rose = missed_name (input ∷ more) 1 (first_at more) h.1; files = h.1.files }
-      places-left-by fault Unread h = record { names = apart; before = behind-before s old.files there surveyed fault h.is; rose = unread_name (input ∷ more) 1 (first_at more) h; files = inl h.files }
-      places-left-by fault Shorter h = record { ended = lost_name (input ∷ more) 1 (first_at more) h; touches = stays-touched old new fault h.files }
-      places-left-by fault NoMemory h = record { names = apart; takes = behind-takes s old.files there surveyed; stays = h }
-      places-left-by fault _ h = absurd h
-
-      -- what is left where there are no positions
-      pub places-left : (fault : EditFault) → IsPlacesFault placing more mid new fault → Leaves command old new fault
-      places-left fault h = places-left-by fault (why_of fault) (subst (λ (m : Seen). IsPlacesFault placing more m new fault) stays h)
-
-      pub memory-left : new ≡ mid → Leaves command old new Memory
-      memory-left same = record { names = apart; takes = behind-takes s old.files there surveyed; stays = same ∙ stays }
-
-      module _ (places : List Place) (are : Says placing old.files (Ok places)) where
-        -- what is left where they aren't pieces
-        pub range-left : (fault : EditFault) → new ≡ mid → (fault ≡ Memory) ⊎ (IsRefusal cut_refuses fault × (chosen_at s.class (length s.frames) places ≡ Err fault)) → Leaves command old new fault
-        range-left fault same (inl is) = subst (Leaves command old new) (sym is) (memory-left same)
-        range-left (Refused refusal) same (inr h) = record { defined = range-refused s old.files there surveyed places are (Refused refusal) h.1; stays = same ∙ stays }
-        range-left _ same (inr h) = absurd h.0
-
-        module _ (pieces : List Piece) (named : ArePieces prefix s 1 pieces) (chosen : chosen_at s.class (length s.frames) places ≡ Ok (map chosen_of pieces)) where
-          names-touched : length pieces ≤ 99 → (before after : Files) → OnlyTouches (names_of pieces) before after → OnlyTouches (piece_names prefix) before after
-          names-touched few before after only = touches_more (names_of pieces) (piece_names prefix) before after (λ other. names-all prefix s pieces (λ name. other ≢ name) few named) only
-
-          pub split-done : ((bytes : List ℕ) → Holds mid.files input bytes → new.files ≡ with_outputs (outputs_of s pieces bytes) mid.files) → length pieces ≤ 99 → OnlyTouches (names_of pieces) mid.files new.files → new.counts ≡ mid.counts → IsDone command old new
-          split-done wrote few touches counts = record {
-            made = whole s old.files there surveyed places are pieces named chosen new.files (subst (λ (m : Seen). (bytes : List ℕ) → Holds m.files input bytes → new.files ≡ with_outputs (outputs_of s pieces bytes) m.files) stays wrote);
-            touches = subst (λ (m : Seen). OnlyTouches (piece_names prefix) m.files new.files) stays (names-touched few mid.files new.files touches);
-            counts = counts ∙ ap (λ (m : Seen). m.counts) stays;
+          part k new h = record {
+            made = if-told old.files (λ f told. let makes = makes-pieces f told in let part = h.files makes.0 makes.1 in (made makes.0, makes.2, part.0, part.1, subst (λ fs. new ≡ with_part k part.1 (outputs_of s pieces makes.0) fs) told part.2));
+            touches = first-touched k new h.touches;
           }
 
-          part-left : (k : ℕ) → length pieces ≤ 99 → IsWrittenPart (outputs_of s pieces) (names_of pieces) input k old.files new.files → IsWrittenTo command k old.files new.files
-          part-left k few h = part s old.files there surveyed places are pieces named chosen k new.files few h
+          unfinished : (k : ℕ) (new : Files) → IsUnfinishedPart (outputs_of s pieces) (names_of pieces) input k old.files new → IsUnfinished command k old.files new
+          unfolding with_part
+          unfinished k new h = record {
+            made = if-told old.files (λ f told. let makes = makes-pieces f told in let part = h.files makes.0 makes.1 in (made makes.0, makes.2, part.0, part.1, part.2, subst (λ fs. new ≡ with_part k part.1 (outputs_of s pieces makes.0) fs) told part.3));
+            touches = first-touched k new h.touches;
+          }
 
-          ended-name : (fault : EditFault) → StopsShort input old new fault → EndedAt (input_of (input ∷ more) fault) (ended_at fault) old.counts.ends new.counts.ends
-          ended-name fault h =
+          ended-name : (new : Seen) (fault : EditFault) → StopsShort input old new fault → EndedAt (input_of (input ∷ more) fault) (ended_at fault) old.counts.ends new.counts.ends
+          ended-name new fault h =
               subst (λ e. EndedAt (input_of (input ∷ more) e) (ended_at e) old.counts.ends new.counts.ends) (sym h.is)
               (subst (λ e. EndedAt (input_of (input ∷ []) e) (ended_at e) old.counts.ends new.counts.ends) h.is h.ended.rose)
 
-          split-left-by : (fault : EditFault) (why : Why) → length pieces ≤ 99 → OnlyTouches (names_of pieces) old.files new.files → IsPiecesFaultBy (outputs_of s pieces) (names_of pieces) input old new fault why → LeavesBy command old new fault why
-          split-left-by fault Unread few only h = record { names = apart; before = none-before s old.files there surveyed places are pieces named chosen (IsNotBefore fault); rose = subst (λ e. HappenedTo (input_of (input ∷ more) e) old.counts.read_faults new.counts.read_faults) (sym h.is) h.rose; files = inr (h.place, part-left h.place few h.files) }
-          split-left-by fault Shorter few only h = record {
-            ended = record { rose = ended-name fault h; counts = h.ended.counts; untold = h.ended.untold };
-            touches = names-touched few old.files new.files only;
+          split-left-by : (new : Seen) (fault : EditFault) (why : Why) → OnlyTouches (names_of pieces) old.files new.files → IsPiecesFaultBy (outputs_of s pieces) (names_of pieces) input old new fault why → LeavesBy command old new fault why
+          split-left-by new fault Unread only h = record { names = apart; before = none-before (IsNotBefore fault); rose = subst (λ e. HappenedTo (input_of (input ∷ more) e) old.counts.read_faults new.counts.read_faults) (sym h.is) h.rose; files = inr (h.place, part h.place new.files h.files) }
+          split-left-by new fault Shorter only h = record {
+            ended = record { rose = ended-name new fault h; counts = h.ended.counts; untold = h.ended.untold };
+            touches = names-touched old.files new.files only;
           }
-          split-left-by fault (Unwritten k) few only h = record { rose = subst (λ n. HappenedTo n old.counts.write_faults new.counts.write_faults) (name-here prefix s pieces k few h.within named) h.rose; files = unfinished s old.files there surveyed places are pieces named chosen k new.files few h.files }
-          split-left-by fault _ few only h = absurd h
+          split-left-by new fault (Unwritten k) only h = record { rose = subst (λ n. HappenedTo n old.counts.write_faults new.counts.write_faults) (name-here prefix s pieces k few h.within named) h.rose; files = unfinished k new.files h.files }
+          split-left-by new fault _ only h = absurd h
 
-          -- a fault of the second pass
-          pub split-left : (fault : EditFault) → length pieces ≤ 99 → OnlyTouches (names_of pieces) mid.files new.files → IsPiecesFault (outputs_of s pieces) (names_of pieces) input mid new fault → Leaves command old new fault
-          split-left fault few only h =
-              split-left-by fault (why_of fault) few (subst (λ (m : Seen). OnlyTouches (names_of pieces) m.files new.files) stays only) (subst (λ (m : Seen). IsPiecesFault (outputs_of s pieces) (names_of pieces) input m new fault) stays h)
+      -- ---- what is left by a step after those that left all as it was
 
-    -- ---- the streams
+      module _ (mid new : Seen) (stays : mid ≡ old) where
+        -- where there are no positions
+        pub places-left : (fault : EditFault) → IsPlacesFault placing more mid new fault → Leaves command old new fault
+        places-left fault h = places-left-by new fault (why_of fault) (rw stays at h)
 
-    streams-are : (f : Contents) (bytes : List ℕ) (s : SurveyFields) (places : List Place) (cs : List Chosen) → f input ≡ Some bytes → survey_of bytes most_frames ≡ Ok s → placing.places f ≡ Ok places → chosen_at s.class (length s.frames) places ≡ Ok cs
-        → command.streams f ≡ map (λ c. chosen_stream c bytes s) cs
-    unfolding streams_where
-    streams-are f bytes s places cs holds surveyed placed chosen =
-        ap (streams_where (placing.places f)) holds ∙ ap (streams_by (placing.places f) bytes) surveyed ∙ ap (streams_at bytes s) placed ∙ ap (streams_of bytes s) chosen
+        pub memory-left : new ≡ mid → Leaves command old new Memory
+        memory-left same = record { names = apart; takes = behind-takes; stays = same ∙ stays }
 
-    pub split-streams : (s : SurveyFields) (places : List Place) (files : Files) → IsThere files input → ((bytes : List ℕ) → Holds files input bytes → survey_of bytes most_frames ≡ Ok s)
-        → ((bytes : List ℕ) → Holds files input bytes → AreBytes bytes) → Says placing files (Ok places) → HoldsStreams command files
-    split-streams s places (Untold touched) there surveyed octets are = tt
-    split-streams s places (Told f) there surveyed octets are = λ whole is.
-        let held = there_holds f input there in
-        let bytes = held.0 in
-        let sound = surveyed bytes held.1 in
-        let parts = then_ok (chosen_at s.class (length s.frames) places) (made_of prefix bytes s) whole (sym (makes-at s (Told f) there surveyed places are f bytes refl held.1) ∙ is) in
-        let same : record { outputs = pieces_from prefix 1 bytes s parts.0; text = [] } ≡ whole = cc in
-        record {
-          sources = ((bytes, held.1, survey_of-sound bytes most_frames s sound), tt);
-          streams =
-              subst (λ (m : Made). AreStreams m.outputs (command.streams f)) same
-              (subst (AreStreams (pieces_from prefix 1 bytes s parts.0)) (sym (streams-are f bytes s places parts.0 held.1 sound are parts.1))
-              (at-hold prefix bytes s (octets bytes held.1) sound places parts.0 parts.1));
-        }
+        module _ (places : List Place) (are : Says placing old.files (Ok places)) where
+          -- where they aren't pieces
+          pub range-left : (fault : EditFault) → new ≡ mid → (fault ≡ Memory) ⊎ (IsRefusal cut_refuses fault × (chosen_at s.class (length s.frames) places ≡ Err fault)) → Leaves command old new fault
+          range-left fault same (inl is) = rw is (memory-left same)
+          range-left (Refused refusal) same (inr h) = record { defined = range-refused places are (Refused refusal) h.1; stays = same ∙ stays }
+          range-left _ same (inr h) = absurd h.0
+
+          module _ (pieces : List Piece) (named : ArePieces prefix s 1 pieces) (chosen : chosen_at s.class (length s.frames) places ≡ Ok (map chosen_of pieces)) (few : length pieces ≤ 99) where
+            pub split-done : ((bytes : List ℕ) → Holds mid.files input bytes → new.files ≡ with_outputs (outputs_of s pieces bytes) mid.files) → OnlyTouches (names_of pieces) mid.files new.files → new.counts ≡ mid.counts → IsDone command old new
+            split-done wrote touches counts = record {
+              made = whole places are pieces named chosen few new.files (rw stays at wrote);
+              touches = names-touched places are pieces named chosen few old.files new.files (rw stays at touches);
+              counts = counts ∙ ap (λ (m : Seen). m.counts) stays;
+            }
+
+            -- a fault of the second pass
+            pub split-left : OnlyTouches (names_of pieces) mid.files new.files → (fault : EditFault) → IsPiecesFault (outputs_of s pieces) (names_of pieces) input mid new fault → Leaves command old new fault
+            split-left touches fault h = split-left-by places are pieces named chosen few new fault (why_of fault) (rw stays at touches) (rw stays at h)
+
+-- ---- the numbers of a fault of the second pass, whatever is told of the files
+
+pub pieces-numbers : (points : Points) (input prefix : List ℕ) (count : ℕ) (fault : EditFault) → count < 100 → IsOfPieces count fault → HasNumbers (split_command_of points input prefix) fault
+pieces-numbers points input prefix count (Input place fault) most is = (omega (arith, is.0), is.1, is.2, inl is.0)
+pieces-numbers points input prefix count (Write place) most is = omega (arith, names-length prefix, most, is)
+pieces-numbers points input prefix count _ most is = absurd is

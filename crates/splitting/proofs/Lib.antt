@@ -3,5 +3,4 @@ pub mod NamesLaws
 pub mod OutputsLaws
 pub mod PiecesLaws
 pub mod CommandLaws
-pub mod NumbersLaws
 pub mod SheetLaws

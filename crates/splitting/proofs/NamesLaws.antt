@@ -1,12 +1,9 @@
 -- The names of pieces, byte for byte.
-use Rattle.std.proofs.Common.{◌≡◌, ℕ, ◌+◌, ◌-◌, ◌/◌, ◌%◌, ◌||◌, codes, append_assoc, Bool, true, false, List, [], ◌∷◌, ◌++◌, length, take, drop, map, sym, ◌∙◌, ap, ap₂, bytes_eq, arith}
-use Rattle.std.specs.Prelude.{◌≤◌}
+use Rattle.std.proofs.Common.{◌≡◌, ℕ, ◌+◌, ◌<◌, Bool, true, false, List, ◌++◌, length, take, drop, get_or, sym, ◌∙◌, ap, ap₂, bytes_eq, arith}
 use Rattle.std.specs.Bool.{one_answer}
-use Rattle.std.specs.List.{list_any, range_with_len}
 use Rattle.std.proofs.Math.Seq.{take-append_seam, drop-append_seam}
 use Rattle.std.proofs.lemmas.List.{take-append-drop}
-use Rattle.std.proofs.lemmas.List.Folds.{list_any-append, list_any_at}
-use Rattle.std.proofs.lemmas.List.FromFn.{length-map-range_with_len, get_or-map-range_with_len, map-range_with_len_more}
+use Rattle.std.proofs.lemmas.List.FromFn.{length-map-range_with_len, get_or-map-range_with_len}
 use Rattle.std.proofs.lemmas.Slice.Eq.{bytes_eq-Decides}
 use Rattle.splitting.specs.Split.{piece_name, piece_names}
 
@@ -28,38 +25,10 @@ back-decides front back name prefix tail r front_is back_is same is =
 
 -- ---- all names
 
--- the names of the numbers from 1 on and before this one
-abbrev pub names_before : List ℕ → ℕ → List (List ℕ)
-names_before prefix number = map (piece_name prefix) (range_with_len 1 (number - 1))
-
-pub none_more : (p : List ℕ → Bool) (prefix : List ℕ) (number : ℕ) → 1 ≤ number → list_any p (names_before prefix number) ≡ false → p (piece_name prefix number) ≡ false → list_any p (names_before prefix (number + 1)) ≡ false
-none_more p prefix number from none this =
-    ap (λ n. list_any p (map (piece_name prefix) (range_with_len 1 n))) (let e : number + 1 - 1 ≡ number - 1 + 1 = omega arith in e)
-    ∙ ap (list_any p) (map-range_with_len_more (piece_name prefix) 1 (number - 1) number (omega arith))
-    ∙ list_any-append p (names_before prefix number) (piece_name prefix number ∷ [])
-    ∙ ap₂ (λ a b. a || (b || false)) none this
-
-pub one_is_there : (p : List ℕ → Bool) (prefix : List ℕ) (number : ℕ) → 1 ≤ number → number ≤ 99 → p (piece_name prefix number) ≡ true → true ≡ list_any p (piece_names prefix)
+pub names-length : (prefix : List ℕ) → length (piece_names prefix) ≡ 99
 unfolding piece_names
-one_is_there p prefix number from to this =
-    sym (
-    list_any_at p (map (piece_name prefix) (range_with_len 1 99)) (number - 1) [] (omega (arith, length-map-range_with_len (piece_name prefix) 1 99))
-    (ap p (get_or-map-range_with_len (piece_name prefix) 1 99 (number - 1) number [] (omega arith) (omega arith)) ∙ this)
-    )
+names-length prefix = length-map-range_with_len (piece_name prefix) 1 99
 
-pub none_there : (p : List ℕ → Bool) (prefix : List ℕ) (number : ℕ) → number ≡ 100 → list_any p (names_before prefix number) ≡ false → false ≡ list_any p (piece_names prefix)
+pub name-at : (prefix : List ℕ) (k : ℕ) (d : List ℕ) → k < 99 → get_or (piece_names prefix) k d ≡ piece_name prefix (k + 1)
 unfolding piece_names
-none_there p prefix number end none = sym none ∙ ap (λ n. list_any p (map (piece_name prefix) (range_with_len 1 n))) (let e : number - 1 ≡ 99 = omega arith in e)
-
--- ---- a name as it is built
-
-pub name-is : (built with_ones with_tens begun prefix tens ones : List ℕ) (t o k : ℕ) → begun ≡ prefix → with_tens ≡ begun ++ tens → with_ones ≡ with_tens ++ ones → built ≡ with_ones ++ codes ".mp3"
-    → tens ≡ t ∷ [] → ones ≡ o ∷ [] → t ≡ 48 + k / 10 → o ≡ 48 + k % 10 → built ≡ piece_name prefix k
-unfolding piece_name
-name-is built with_ones with_tens begun prefix tens ones t o k e0 e1 e2 e3 tens_is ones_is t_is o_is =
-    let T = (48 + k / 10) ∷ [] in
-    let O = (48 + k % 10) ∷ [] in
-    e3
-    ∙ ap (λ s. s ++ codes ".mp3") (e2 ∙ ap₂ (λ s d. s ++ d) (e1 ∙ ap₂ (λ s d. s ++ d) e0 (tens_is ∙ ap (λ n. n ∷ []) t_is)) (ones_is ∙ ap (λ n. n ∷ []) o_is))
-    ∙ append_assoc (prefix ++ T) O (codes ".mp3")
-    ∙ append_assoc prefix T (O ++ codes ".mp3")
+name-at prefix k d within = get_or-map-range_with_len (piece_name prefix) 1 99 k (k + 1) d (omega (arith, within)) (omega arith)

@@ -1,19 +1,20 @@
 -- Pieces one more at a time, from the positions and for the outputs.
-use Rattle.std.proofs.Common.{◌≡◌, ◌≢◌, ℕ, ◌+◌, ◌-◌, ◌<◌, ◌≤◌, true, false, List, [], ◌∷◌, ◌++◌, length, map, take, drop, get_or, slice_index_or, Result, Ok, Err, refl, sym, ◌∙◌, ap, ap₂, subst, zero, suc, bytes_eq, string_bytes, arith, append_assoc}
+use Rattle.std.proofs.lemmas.List.{get_or-take, length-map}
+use Rattle.std.proofs.Common.{◌≡◌, ◌≢◌, ℕ, ◌+◌, ◌-◌, ◌<◌, ◌≤◌, true, false, List, [], ◌∷◌, ◌++◌, length, map, take, drop, get_or, Result, Ok, Err, refl, sym, ◌∙◌, ap, ap₂, subst, zero, suc, bytes_eq, string_bytes, arith, append_assoc, slice_index_or}
 use Rattle.std.specs.List.{All, list_any, range_with_len}
-use Rattle.std.proofs.lemmas.List.{drop_more, get_or-take, length-map}
+use Rattle.std.proofs.lemmas.List.{drop_more}
 use Rattle.std.proofs.lemmas.List.Elements.{All-nil, All-cons, All-head, All-tail, All-take}
 use Rattle.std.proofs.lemmas.List.Folds.{list_any_at}
-use Rattle.std.proofs.lemmas.List.FromFn.{length-map-range_with_len, get_or-map-range_with_len, take-map-range_with_len}
+use Rattle.std.proofs.lemmas.List.FromFn.{take-map-range_with_len}
 use Rattle.outside.proofs.FilesLaws.{bytes_eq_same}
 use Rattle.frame_header.specs.Fields.{ClassFields}
 use Rattle.cue_sheet.specs.declared.place.Place.{Place}
 use Rattle.cue_sheet.specs.Places.{frame_at}
 use Rattle.sync_survey.specs.Faults.{SurveyFields}
 use Rattle.commands.specs.declared.fault.EditFault.{EditFault}
-use Rattle.commands.specs.Refusing.{then_made}
 use Rattle.frame_edits.specs.Chosen.{Chosen, chosen_in, chosen_file}
 use Rattle.splitting.specs.declared.piece.Piece.{Piece}
+use Rattle.splitting.proofs.NamesLaws.{names-length, name-at}
 use Rattle.splitting.specs.Split.{piece_name, piece_names, frames_between, with_first, chosen_from, pieces_from}
 use Rattle.splitting.specs.Steps.{IsReady, ArePieces, CanBeWritten, chosen_of, outputs_of, names_of}
 
@@ -28,20 +29,12 @@ before-first : (done : List Chosen) (first : Chosen) (r : Result (List Chosen) E
 before-first done first (Ok more) = ap Ok (sym (append_assoc done (first ∷ []) more))
 before-first done first (Err fault) = refl
 
-pub one-chosen : (frames from to : ℕ) (more : List ℕ) (done : List Chosen) (first : Chosen) → frames_between frames from to ≡ Ok first
-    → chosen_before done (chosen_from frames from (to ∷ more)) ≡ chosen_before (done ++ first ∷ []) (chosen_from frames to more)
-one-chosen frames from to more done first is =
-    ap (λ r. chosen_before done (then_made r (λ c. with_first c (chosen_from frames to more)))) is
-    ∙ before-first done first (chosen_from frames to more)
-
 -- the choice up to a position, and then after it
 pub place-chosen : (class : ClassFields) (frames index from : ℕ) (rest : List Place) (d : Place) (done : List Chosen) (first : Chosen) (whole : Result (List Chosen) EditFault) → index < length rest
     → frames_between frames from (frame_at class frames (get_or rest index d)) ≡ Ok first → chosen_before done (chosen_from frames from (map (frame_at class frames) (drop index rest))) ≡ whole
     → chosen_before (done ++ first ∷ []) (chosen_from frames (frame_at class frames (get_or rest index d)) (map (frame_at class frames) (drop (index + 1) rest))) ≡ whole
 place-chosen class frames index from rest d done first whole less is before =
-    sym (one-chosen frames from (frame_at class frames (get_or rest index d)) (map (frame_at class frames) (drop (index + 1) rest)) done first is)
-    ∙ ap (λ l. chosen_before done (chosen_from frames from (map (frame_at class frames) l))) (sym (drop_more rest index d less))
-    ∙ before
+    sym (before-first done first (chosen_from frames (frame_at class frames (get_or rest index d)) (map (frame_at class frames) (drop (index + 1) rest)))) ∙ rw (drop_more rest index d less, is) at before
 
 -- ---- the names
 
@@ -58,17 +51,16 @@ outputs-are prefix s k (piece ∷ pieces) bytes are =
 
 -- an input that has the name of no piece
 other-name : (prefix input : List ℕ) (k : ℕ) → list_any (bytes_eq input) (piece_names prefix) ≡ false → 1 ≤ k → k ≤ 99 → input ≢ piece_name prefix k
-unfolding piece_names
 other-name prefix input k none from to same =
-    let name_is = get_or-map-range_with_len (piece_name prefix) 1 99 (k - 1) k [] (omega arith) (omega arith) in
-    let found = list_any_at (bytes_eq input) (map (piece_name prefix) (range_with_len 1 99)) (k - 1) [] (omega (arith, length-map-range_with_len (piece_name prefix) 1 99)) (ap (bytes_eq input) (name_is ∙ sym same) ∙ bytes_eq_same input) in
+    let before : k - 1 + 1 ≡ k = omega arith in
+    let found = list_any_at (bytes_eq input) (piece_names prefix) (k - 1) [] (omega (arith, names-length prefix)) (ap (bytes_eq input) (name-at prefix (k - 1) [] (omega arith) ∙ ap (piece_name prefix) before ∙ sym same) ∙ bytes_eq_same input) in
     let both : true ≡ false = sym found ∙ none in
     absurd cc
 
 pub can-be-written : (prefix input : List ℕ) (s : SurveyFields) (k : ℕ) (pieces : List Piece) → list_any (bytes_eq input) (piece_names prefix) ≡ false → 1 ≤ k → k + length pieces ≤ 100 → ArePieces prefix s k pieces → CanBeWritten input s pieces
-can-be-written prefix input s k [] none from to are = tt
+can-be-written prefix input s k [] none from to are = All-nil (λ piece. (input ≢ string_bytes piece.name) × IsReady s piece)
 can-be-written prefix input s k (piece ∷ pieces) none from to are =
-    ((λ same. other-name prefix input k none from (omega (arith, to)) (same ∙ are.0)), are.1, can-be-written prefix input s (k + 1) pieces none (omega arith) (omega (arith, to)) are.2)
+    All-cons (λ p. (input ≢ string_bytes p.name) × IsReady s p) piece pieces ((λ same. other-name prefix input k none from (omega (arith, to)) (same ∙ are.0)), are.1) (can-be-written prefix input s (k + 1) pieces none (omega arith) (omega (arith, to)) are.2)
 
 -- ---- their names are the first of the 99
 

@@ -1,5 +1,6 @@
 -- The steps of a command that cuts a file.
 use Rattle.std.specs.Prelude.{◌≡◌, ◌≢◌, ℕ, ◌+◌, ◌<◌, true, List, [], ◌∷◌, length, map, take, drop, slice_index_or, string_bytes, Option, Some, Result, Err}
+use Rattle.std.specs.List.{All}
 use Rattle.outside.specs.Files.{Files, Holds, IsThere, IfTold, Told, Untold, OnlyTouches}
 use Rattle.outside.specs.Counts.{HappenedTo}
 use Rattle.sync_survey.specs.declared.survey_fault.SurveyFault.TheVariants.{Read, Shrunk, Memory as NoRoom}
@@ -80,8 +81,7 @@ ArePieces prefix s k (piece ∷ pieces) = (string_bytes piece.name ≡ piece_nam
 
 -- they are ready to be written beside this input
 abbrev pub CanBeWritten : List ℕ → SurveyFields → List Piece → Type 0
-CanBeWritten input s [] = Unit {0}
-CanBeWritten input s (piece ∷ pieces) = (input ≢ string_bytes piece.name) × IsReady s piece × CanBeWritten input s pieces
+CanBeWritten input s pieces = All (λ piece. (input ≢ string_bytes piece.name) × IsReady s piece) pieces
 
 abbrev pub chosen_of : Piece → Chosen
 chosen_of piece = chosen_in piece.selection.chosen
@@ -159,9 +159,3 @@ abbrev pub IsOfPieces : ℕ → EditFault → Type 0
 IsOfPieces count (Input place fault) = (place ≡ 0) × (fault ≢ NoRoom) × HasRightNumbers fault
 IsOfPieces count (Unwritable place) = place < count
 IsOfPieces count _ = ⊥
-
--- the numbers of the fault of a pass are in range
-abbrev pub IsOfCopy : PassFault → Type 0
-IsOfCopy CopyRead = Unit {0}
-IsOfCopy (CopyShrunk first second) = second < first
-IsOfCopy CopyWrite = Unit {0}

@@ -65,8 +65,8 @@ fn is_name_of(prefix: &str, number: u8, name: &str) -> bool
 pub(crate) fn is_piece_name(prefix: &str, name: &str) -> bool
     ensures { result ≡ list_any (bytes_eq name.now) (piece_names prefix.now) }
 {
-    for number in 1..=MOST_PIECES {
-        if is_name_of(prefix, number, name) {
+    for before in 0..MOST_PIECES {
+        if is_name_of(prefix, before + 1, name) {
             return true;
         }
     }

@@ -1,10 +1,11 @@
 //! The split commands over a folder.
-ghost use Rattle.std.specs.Prelude.{◌≡◌, ◌↔◌, ◌≤◌, ℕ, length, Ok, Some, IfOk, IfErr, OnOk, IsErrOf};
+ghost use Rattle.std.specs.Prelude.{◌≡◌, ◌≤◌, length, Ok, IfOk, IfErr, OnOk};
 ghost use Rattle.std.specs.List.{All};
-ghost use Rattle.outside.specs.Counts.{NoneFell, OnlyReads};
+ghost use Rattle.outside.specs.Counts.{OnlyReads};
 ghost use Rattle.cue_sheet.specs.Places.{IsPlace};
-ghost use Rattle.commands.specs.Command.{HoldsStreams, clash_of};
-ghost use Rattle.commands.specs.Left.{seen, IsDone, Leaves, HasNumbers};
+ghost use Rattle.commands.specs.Command.{clash_of};
+ghost use Rattle.commands.specs.Left.{seen};
+ghost use Rattle.commands.specs.Runs.{IsRunOf};
 ghost use Rattle.splitting.specs.Split.{placing_of, more_of, split_command_of, ArePoints};
 ghost use Rattle.splitting.specs.Steps.{Says, IsPlacesFault, IsOfPlaces};
 
@@ -102,20 +103,10 @@ pub fn split<D: Folder>(
     prefix: &str,
 ) -> Result<(), EditFault>
     requires { ArePoints points.now }
-    ensures done { OnOk result (IsDone (split_command_of points.now input.now prefix.now)
-        (seen (D.files folder.old) (D.counts folder.old))
-        (seen (D.files folder.new) (D.counts folder.new))) }
-    ensures left { IfErr result (Leaves (split_command_of points.now input.now prefix.now)
-        (seen (D.files folder.old) (D.counts folder.old))
-        (seen (D.files folder.new) (D.counts folder.new))) }
-    // Over a folder that tells nothing too.
-    ensures numbers { IfErr result (HasNumbers (split_command_of points.now input.now prefix.now)) }
-    ensures names { (place : ℕ) → IsErrOf result (EditFault.EqualNames place)
-        ↔ (clash_of (split_command_of points.now input.now prefix.now) ≡ Some place) }
     // The input is well-formed, and each piece holds at most one lead-in and then exactly its frames of the input's stream.
-    ensures streams { OnOk result (HoldsStreams (split_command_of points.now input.now prefix.now)
-        (D.files folder.old)) }
-    ensures counts { NoneFell (D.counts folder.old) (D.counts folder.new) }
+    ensures { IsRunOf (split_command_of points.now input.now prefix.now)
+        (seen (D.files folder.old) (D.counts folder.old))
+        (seen (D.files folder.new) (D.counts folder.new)) result }
 {
     if let Some(place) = clash(input, points, prefix) {
         return Err(EditFault::EqualNames(place));
@@ -124,5 +115,5 @@ pub fn split<D: Folder>(
     let places = places_of(alloc, folder, points)?;
     let pieces = make_pieces(alloc, &survey, places.as_slice(), prefix)?;
     let mut buffers = Buffers::new(alloc, survey.class())?;
-    write_pieces(folder, input, &survey, pieces, &mut buffers)
+    write_pieces(folder, input, &survey, pieces.as_slice(), &mut buffers)
 }

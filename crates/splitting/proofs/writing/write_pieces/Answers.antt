@@ -1,66 +1,100 @@
 -- A piece more that is whole, or begun.
-use Rattle.std.proofs.Common.{◌≡◌, ◌∷◌, [], ◌++◌, length, refl, sym, ◌∙◌, ap, subst, append_assoc, length-append, arith}
-use Rattle.std.specs.Vec.Iter.{into_iter_items}
+use Rattle.std.proofs.Common.{◌≡◌, ◌≢◌, ◌+◌, ◌∷◌, length, take, drop, refl, ◌∙◌, sym, subst, string_bytes, arith}
+use Rattle.std.proofs.lemmas.List.{length-take, take_all}
+use Rattle.outside.specs.declared.pass.PassFault.TheVariants.{Write}
+use Rattle.outside.proofs.FilesLaws.{emptied_held_other, fails_touches}
+use Rattle.laying.proofs.ChosenFrames.{survey-had}
+use Rattle.laying.proofs.RelayLaws.{item-next}
 use Rattle.sync_survey.specs.Faults.{tells}
-use Rattle.commands.specs.Left.{seen}
-use Rattle.splitting.specs.Steps.{CanBeWritten, outputs_of, names_of, IsPiecesFault}
-use Rattle.splitting.proofs.OutputsLaws.{none-wrote, more-wrote, pieces-fault, all-touched}
+use Rattle.commands.specs.One.{most_frames}
+use Rattle.commands.proofs.OutputLaws.{output_whole, touches_whole, touches_prefix, pass_fault, not_begun}
+use Rattle.frame_edits.specs.Selected.{selected_file}
+use Rattle.frame_edits.proofs.LaidPass.{relay-ready}
+use Rattle.splitting.specs.declared.piece.Piece.{Piece}
+use Rattle.splitting.specs.Steps.{IsReady}
+use Rattle.splitting.proofs.OutputsLaws.{Wrote, none-wrote, more-wrote, all-touched, pieces-fault}
 use Rattle.splitting.proofs.writing.write_pieces.Given as given
 use Rattle.splitting.proofs.writing.write_pieces.Goals as goal
-use Rattle.splitting.proofs.writing.write_pieces.Goals.{After-write_piece}
+use Rattle.splitting.proofs.writing.write_pieces.Goals.{After-create, After-loop-piece}
 
 pub loop-piece-init : goal.loop-piece-init
-loop-piece-init g c =
-    let gives = c.into_iter-piece-iterator.ensures.into_iter_gives in (
-      gives.0,
-      omega (arith, gives.1, c.args.pieces.ok.0, ap length gives.0),
-      subst (CanBeWritten c.args.input.now (tells c.args.survey.now)) (sym gives.0) c.requires.ready,
-      refl,
-      none-wrote (tells c.args.survey.now) c.args.input.now (g.D.Folder.files c.args.folder.now) c.requires.there,
-      c.requires.fed,
-      c.requires.unsent,
-      refl,
-    )
+loop-piece-init g c = record { wrote = none-wrote (tells c.args.survey.now) c.args.input.now (g.D.Folder.files c.args.folder.now) c.requires.there; place = refl; fed = c.requires.fed; unsent = c.requires.unsent; counts = refl }
 
--- the piece that was written, and those after it
-module _ (g : given.Over) (c : After-write_piece g) where
-  steps : into_iter_items c.loop-piece.piece-iterator ≡ c.in-Some.piece ∷ into_iter_items c.next.new.self
-  steps = c.in-Some.ensures.steps.0
+-- the next piece
+module _ (g : given.Over) (c : After-create g) where
+  abbrev piece : Piece
+  piece = c.piece-item.result
 
-  split : c.loop-piece.yielded ++ c.in-Some.piece ∷ into_iter_items c.next.new.self ≡ c.args.pieces.items
-  split = ap (λ l. c.loop-piece.yielded ++ l) (sym steps) ∙ c.loop-piece.invariant.0
+  ready : (c.args.input.now ≢ string_bytes piece.name) × IsReady (tells c.args.survey.now) piece
+  ready = subst (λ (p : Piece). (c.args.input.now ≢ string_bytes p.name) × IsReady (tells c.args.survey.now) p) (sym c.piece-item.is) (c.requires.ready c.loop-piece.piece-index piece (omega (arith, c.loop-piece-test.true)))
+
+  next : drop c.loop-piece.piece-index c.args.pieces.now ≡ piece ∷ drop (c.loop-piece.piece-index + 1) c.args.pieces.now
+  next = item-next c.args.pieces.now c.loop-piece.piece-index piece (omega (arith, c.loop-piece-test.true)) c.piece-item.is
+
+  place-is : c.loop-piece.place ≡ length (take c.loop-piece.piece-index c.args.pieces.now)
+  place-is = omega (arith, c.loop-piece.invariant.place, length-take c.loop-piece.piece-index c.args.pieces.now, c.loop-piece-test.true)
+
+  apart : c.args.input.now ≢ c.as_str.result.now
+  apart same = ready.0 (same ∙ c.as_str.ensures.value)
+
+pub write_selection-requires-clause-ready : goal.write_selection-requires-clause-ready
+write_selection-requires-clause-ready g c =
+    let away = apart g (goal.at.write_selection-requires-clause-ready g c).After-create in
+    let stands = c.loop-piece.invariant.wrote.stands in
+    relay-ready _ (g.D.Folder.files c.loop-piece.folder) (g.D.Folder.files c.create.new.self) _ away stands.there c.requires.laid
+    (λ file holds. survey-had file most_frames (tells c.args.survey.now) (c.requires.surveyed file (stands.before file holds))) c.length.ensures c.in-Ok.ensures.created
+    (record { same = λ bytes holds. c.loop-piece.invariant.fed.same bytes (emptied_held_other _ _ c.args.input.now bytes away (rw c.in-Ok.ensures.created at holds)) })
+
+pub write_selection-requires-clause-selected : goal.write_selection-requires-clause-selected
+write_selection-requires-clause-selected g c = (ready g (goal.at.write_selection-requires-clause-selected g c).After-create).1
+
+pub returns-in_default-clause-left : goal.returns-in_default-clause-left
+returns-in_default-clause-left g c =
+    let at = (goal.at.returns-in_default-clause-left g c).After-create in
+    let kept = rw c.as_str.ensures.value at c.in_default.ensures.kept in
+    pieces-fault (tells c.args.survey.now) c.args.input.now c.args.pieces.now c.loop-piece.piece-index (piece g at) _ _ _ (next g at) c.loop-piece.invariant.wrote (fails_touches _ _ _ kept) Write c.loop-piece.place _ _ _ (place-is g at) c.loop-piece.invariant.counts
+    (refl, record { rose = rw c.as_str.ensures.value at c.in_default.ensures.failed; files = not_begun _ _ _ _ _ kept })
+
+pub returns-in_default-clause-touches : goal.returns-in_default-clause-touches
+returns-in_default-clause-touches g c =
+    let at = (goal.at.returns-in_default-clause-touches g c).After-create in
+    all-touched (tells c.args.survey.now) c.args.input.now c.args.pieces.now c.loop-piece.piece-index (piece g at) _ _ _ (next g at) c.loop-piece.invariant.wrote (fails_touches _ _ _ (rw c.as_str.ensures.value at c.in_default.ensures.kept))
 
 pub returns-in-Err-clause-left : goal.returns-in-Err-clause-left
 returns-in-Err-clause-left g c =
-    let s = tells c.args.survey.now in
-    let files = g.D.Folder.files in
-    let counts = g.D.Folder.counts in
-    let at = c.loop-piece in
-    subst (IsPiecesFault (outputs_of s c.args.pieces.items) (names_of c.args.pieces.items) c.args.input.now (seen (files c.args.folder.now) (counts c.args.folder.now)) (seen (files c.write_piece.new.folder) (counts c.write_piece.new.folder))) (sym c.of_piece.ensures)
-    (pieces-fault s c.args.input.now at.yielded c.in-Some.piece (into_iter_items c.next.new.self) c.args.pieces.items (files c.args.folder.now) (files at.folder) (files c.write_piece.new.folder) (split g (goal.at.returns-in-Err-clause-left g c).After-write_piece)
-    at.invariant.4 c.write_piece.ensures.touches c.in-Err.fault at.place (counts c.args.folder.now) (counts at.folder) (counts c.write_piece.new.folder) at.invariant.3 at.invariant.7 c.in-Err.ensures.left)
+    let at = (goal.at.returns-in-Err-clause-left g c).After-create in
+    let made = selected_file (tells c.args.survey.now) (piece g at).selection in
+    let touches = touches_prefix made _ _ (apart g at) _ _ _ c.in-Ok.ensures.created c.in-Err.ensures.prefix in
+    let fault = pass_fault made _ _ (apart g at) _ _ _ c.in-Ok.ensures.created c.in-Err.fault _ (g.D.Folder.counts c.loop-piece.folder) _ _ c.in-Ok.ensures.done c.in-Err.ensures.prefix c.in-Err.ensures.cause in
+    rw c.of_piece.ensures
+    (pieces-fault (tells c.args.survey.now) c.args.input.now c.args.pieces.now c.loop-piece.piece-index (piece g at) _ _ _ (next g at) c.loop-piece.invariant.wrote (rw c.as_str.ensures.value at touches) c.in-Err.fault c.loop-piece.place _ _ _ (place-is g at) c.loop-piece.invariant.counts
+    (rw c.as_str.ensures.value at fault))
 
 pub returns-in-Err-clause-touches : goal.returns-in-Err-clause-touches
 returns-in-Err-clause-touches g c =
-    let files = g.D.Folder.files in
-    let at = c.loop-piece in
-    all-touched (tells c.args.survey.now) c.args.input.now at.yielded c.in-Some.piece (into_iter_items c.next.new.self) c.args.pieces.items (files c.args.folder.now) (files at.folder) (files c.write_piece.new.folder)
-    (split g (goal.at.returns-in-Err-clause-touches g c).After-write_piece) at.invariant.4 c.write_piece.ensures.touches
+    let at = (goal.at.returns-in-Err-clause-touches g c).After-create in
+    let touches = touches_prefix _ _ _ (apart g at) _ _ _ c.in-Ok.ensures.created c.in-Err.ensures.prefix in
+    all-touched (tells c.args.survey.now) c.args.input.now c.args.pieces.now c.loop-piece.piece-index (piece g at) _ _ _ (next g at) c.loop-piece.invariant.wrote (rw c.as_str.ensures.value at touches)
 
 pub loop-piece-preserved : goal.loop-piece-preserved
 loop-piece-preserved g c =
-    let written = (goal.at.loop-piece-preserved g c).After-write_piece in
-    let s = tells c.args.survey.now in
-    let files = g.D.Folder.files in
-    let at = c.loop-piece in
-    let piece = c.in-Some.piece in
-    let ready = subst (CanBeWritten c.args.input.now s) (steps g written) at.invariant.2 in (
-      append_assoc at.yielded (piece ∷ []) (into_iter_items c.next.new.self) ∙ split g written,
-      omega (arith, at.invariant.1, c.in-Some.ensures.steps.1, ap length (steps g written)),
-      ready.2,
-      omega (arith, at.invariant.3, length-append at.yielded (piece ∷ [])),
-      more-wrote s c.args.input.now at.yielded piece (files c.args.folder.now) (files at.folder) (files c.write_piece.new.folder) ready.0 at.invariant.4 c.in_default.ensures.written c.write_piece.ensures.touches,
-      c.in_default.ensures.fed,
-      c.in_default.ensures.unsent,
-      c.in_default.ensures.done ∙ at.invariant.7,
-    )
+    let at = (goal.at.loop-piece-preserved g c).After-create in
+    let touches = touches_whole _ _ _ (apart g at) _ _ _ c.in-Ok.ensures.created c.in_default-write_selection.ensures.written in
+    let whole = output_whole (selected_file (tells c.args.survey.now) (piece g at).selection) _ _ (apart g at) _ _ _ c.in-Ok.ensures.created c.in_default-write_selection.ensures.written in
+    record {
+      wrote = more-wrote (tells c.args.survey.now) c.args.input.now c.args.pieces.now c.loop-piece.piece-index (piece g at) _ _ _ (next g at) c.loop-piece.invariant.wrote (rw c.as_str.ensures.value at touches) (ready g at).0 (rw c.as_str.ensures.value at whole);
+      place = omega (arith, c.loop-piece.invariant.place);
+      fed = c.in_default-write_selection.ensures.ready.pass.fed_from;
+      unsent = c.in_default-write_selection.ensures.unsent;
+      counts = c.in_default-write_selection.ensures.done ∙ c.in-Ok.ensures.done ∙ c.loop-piece.invariant.counts;
+    }
+
+-- all of them
+all-wrote : (g : given.Over) (c : After-loop-piece g) → Wrote (tells c.args.survey.now) c.args.input.now c.args.pieces.now (g.D.Folder.files c.args.folder.now) (g.D.Folder.files c.loop-piece.folder)
+all-wrote g c = rw (take_all c.loop-piece.piece-index c.args.pieces.now (omega (arith, c.loop-piece-test.false))) at c.loop-piece.invariant.wrote
+
+pub returns-clause-written : goal.returns-clause-written
+returns-clause-written g c = (all-wrote g c).files
+
+pub returns-clause-touches : goal.returns-clause-touches
+returns-clause-touches g c = (all-wrote g c).touches
