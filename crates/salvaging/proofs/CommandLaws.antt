@@ -1,6 +1,7 @@
 -- What the command leaves, by its steps.
 use Rattle.std.proofs.Common.{◌≡◌, ℕ, ◌≤◌, List, [], ◌∷◌, length, ltb, cond, Bool, true, false, Option, Some, None, Result, Ok, Err, refl, sym, ◌∙◌, ap, ap₂, subst, inl, arith}
 use Rattle.std.specs.Prelude.{IfSome, IfErr, is_some, slice_get}
+use Rattle.std.specs.Result.{IsErrAnd}
 use Rattle.std.proofs.lemmas.Bool.{le-ltb, ltb-false}
 use Rattle.std.proofs.lemmas.List.{length-map}
 use Rattle.bit_fields.specs.Bits.{AreBytes}
@@ -42,7 +43,7 @@ use Rattle.salvage.specs.declared.mended.Mended.{Mended}
 use Rattle.salvaging.specs.declared.work.Work.{Work}
 use Rattle.salvaging.specs.Salvaged.{all_of, salvaged_file, left_stream, made_by, made_where, stream_by, stream_where, text_by, text_where, salvage_task, salvage_command}
 use Rattle.salvaging.specs.Ordered.{IsInOrder, text_of}
-use Rattle.salvaging.specs.Ready.{IsMended, IsReady, Reports}
+use Rattle.salvaging.specs.Ready.{IsMended, IsReady, Reports, ReadsInput}
 use Rattle.salvaging.proofs.OrderLaws.{reports-order, report-text}
 use Rattle.salvaging.proofs.HadLaws.{damaged-had}
 use Rattle.salvaging.proofs.StreamLaws.{salvaged-holds}
@@ -129,6 +130,29 @@ module _ (input : List ℕ) where
   -- want of memory, once the input was read
   pub early-memory : (old new : Seen) (d : DamagedFields) → IsThere old.files input → IsReadOf input old.files d → new ≡ old → NeedsMemory input old new
   early-memory old new d there read stays = record { there = there; few = λ bytes holds. ltb-false longest_file (length bytes) (damaged_of-is bytes d (read bytes holds)).0; stays = stays }
+
+  -- a fault of the reading is one of the whole call
+  pub fault-on : {T U : Type 0} {old new : Seen} {fault : EditFault} (r : Result U EditFault) → IsErrAnd r (λ y. y ≡ fault) → ReadsInput {T = T} input (Err fault) old new → ReadsInput input r old new
+  fault-on (Ok x) is reads = absurd is
+  fault-on {old = old} {new = new} (Err e) is reads = record {
+    refused = subst (IsEarlyFault (salvage_task input) old new) (sym is) reads.refused;
+    numbers = subst (IsOfInputs (salvage_task input)) (sym is) reads.numbers;
+    done = tt;
+    files = reads.files;
+    counts = reads.counts;
+  }
+
+  -- and so is want of memory once it was read
+  pub memory-on : {T U : Type 0} {x : T} {old new : Seen} (r : Result U EditFault) → IsErrAnd r (λ y. y ≡ Memory) → (m : Mended) → IsThere old.files input → IsMended input old.files m → new ≡ old → ReadsInput input (Ok x) old new
+      → ReadsInput input r old new
+  memory-on {U = U} {old = old} {new = new} r is m there mended stays reads =
+      fault-on {T = U} r is (record {
+        refused = early-memory old new mended.of there mended.read stays;
+        numbers = tt;
+        done = tt;
+        files = reads.files;
+        counts = reads.counts;
+      })
 
   -- ---- what was made ready
 

@@ -1,6 +1,7 @@
 -- What was read of the input, and what is made ready before the output is created.
-use Rattle.std.specs.Prelude.{◌≡◌, ℕ, List, []}
+use Rattle.std.specs.Prelude.{◌≡◌, ℕ, List, [], Result, OnOk, IfErr}
 use Rattle.outside.specs.Files.{Files}
+use Rattle.outside.specs.Counts.{OnlyReads}
 use Rattle.slot_plan.specs.Plans.{entries}
 use Rattle.sync_survey.specs.Faults.{tells}
 use Rattle.sync_survey.specs.Survey.{HoldsOctets}
@@ -8,11 +9,23 @@ use Rattle.salvage.specs.declared.mended.Mended.{Mended}
 use Rattle.salvage.specs.Damaged.{DamagedFields, IsReadOf}
 use Rattle.salvage.specs.Progress.{IsLaidOut}
 use Rattle.salvage.specs.Mended.{mended, emptied_from}
+use Rattle.commands.specs.declared.fault.EditFault.{EditFault}
+use Rattle.commands.specs.Left.{Seen}
+use Rattle.commands.specs.One.{IsEarlyFault, IsOfInputs}
 use Rattle.frame_edits.specs.Chosen.{chosen_in, plan_of}
 use Rattle.frame_edits.specs.Layable.{IsLayable}
 use Rattle.salvaging.specs.declared.report.Report.{Report}
 use Rattle.salvaging.specs.declared.work.Work.{Work}
-use Rattle.salvaging.specs.Salvaged.{all_of}
+use Rattle.salvaging.specs.Salvaged.{all_of, salvage_task}
+
+-- What a call leaves that reads the input before the output is created: the files stay, and only reads are counted, and nothing where it
+-- succeeds; a fault is one of the input, or want of memory.
+pub record ReadsInput {T : Type 0} (input : List ℕ) (result : Result T EditFault) (old new : Seen) : Type 0 where
+  pub refused : IfErr result (IsEarlyFault (salvage_task input) old new)
+  pub numbers : IfErr result (IsOfInputs (salvage_task input))
+  pub done : OnOk result (new.counts ≡ old.counts)
+  pub files : new.files ≡ old.files
+  pub counts : OnlyReads old.counts new.counts
 
 -- the report has the gaps and the emptied frames of what was read
 pub record Reports (d : DamagedFields) (r : Report) : Type 0 where

@@ -1,14 +1,13 @@
 //! The first pass: what can be read of the input, and its plan.
-ghost use Rattle.std.specs.Prelude.{◌≡◌, ◌≤◌, length, IfOk, IfErr, OnOk};
-ghost use Rattle.outside.specs.Files.{IsThere};
-ghost use Rattle.outside.specs.Counts.{OnlyReads};
+ghost use Rattle.std.specs.Prelude.{◌≡◌, ◌≤◌, List, ℕ, length, IfOk, OnOk};
+ghost use Rattle.outside.specs.Files.{Files, IsThere};
 ghost use Rattle.sync_survey.specs.Faults.{tells};
 ghost use Rattle.sync_survey.specs.Survey.{HoldsOctets, IsLaidOut as IsLaidSurvey};
 ghost use Rattle.commands.specs.Left.{seen};
-ghost use Rattle.commands.specs.One.{most_frames, IsEarlyFault, IsOfInputs};
+ghost use Rattle.commands.specs.One.{most_frames};
 ghost use Rattle.frame_edits.specs.Chosen.{chosen_in};
-ghost use Rattle.salvaging.specs.Salvaged.{all_of, salvage_task};
-ghost use Rattle.salvaging.specs.Ready.{IsMended, IsReady};
+ghost use Rattle.salvaging.specs.Salvaged.{all_of};
+ghost use Rattle.salvaging.specs.Ready.{IsMended, IsReady, ReadsInput};
 
 use crate::report::Report;
 use crate::work::Work;
@@ -17,7 +16,7 @@ use frame_edits::{Chosen, Selection, Slots, Work as LaidWork, plan_file};
 use laying::Kept;
 use outside::{Folder, SendBuffer};
 use salvage::{Mended, read_damaged};
-use std::alloc::Global;
+use std::alloc::{AllocError, Global};
 use sync_survey::Survey;
 
 /// What can be read of the input, with each frame whose main data can't be used as one without main data.
@@ -30,13 +29,9 @@ fn read_input<D: Folder>(alloc: Global, folder: &mut D, input: &str) -> Result<M
     ensures few { IfOk result (λ m. length (tells m.survey).frames ≤ most_frames) }
     ensures there { OnOk result (IsThere (D.files folder.old) input.now) }
     ensures octets { OnOk result (HoldsOctets input.now (D.files folder.old)) }
-    ensures refused { IfErr result (IsEarlyFault (salvage_task input.now)
+    ensures reads { ReadsInput input.now result
         (seen (D.files folder.old) (D.counts folder.old))
-        (seen (D.files folder.new) (D.counts folder.new))) }
-    ensures numbers { IfErr result (IsOfInputs (salvage_task input.now)) }
-    ensures done { OnOk result (D.counts folder.new ≡ D.counts folder.old) }
-    ensures files { D.files folder.new ≡ D.files folder.old }
-    ensures counts { OnlyReads (D.counts folder.old) (D.counts folder.new) }
+        (seen (D.files folder.new) (D.counts folder.new)) }
 {
     let damaged = match read_damaged(alloc, folder, input) {
         Ok(damaged) => damaged,
@@ -60,25 +55,16 @@ fn all_frames(survey: &Survey) -> Chosen
     }
 }
 
-/// Reads what can be read of the input, plans its frames, and takes all memory.
+/// The plan of all frames of what was read, and all memory of the pass.
 ///
 /// # Errors
-/// `Input` with the fault of the reading; `Memory`. The files stay.
-pub(crate) fn prepare<D: Folder>(
-    alloc: Global,
-    folder: &mut D,
-    input: &str,
-) -> Result<Work, EditFault>
-    ensures ready { IfOk result (IsReady input.now (D.files folder.old)) }
-    ensures refused { IfErr result (IsEarlyFault (salvage_task input.now)
-        (seen (D.files folder.old) (D.counts folder.old))
-        (seen (D.files folder.new) (D.counts folder.new))) }
-    ensures numbers { IfErr result (IsOfInputs (salvage_task input.now)) }
-    ensures done { OnOk result (D.counts folder.new ≡ D.counts folder.old) }
-    ensures files { D.files folder.new ≡ D.files folder.old }
-    ensures counts { OnlyReads (D.counts folder.old) (D.counts folder.new) }
+/// Where there is no memory.
+fn make_ready(alloc: Global, mended: Mended) -> Result<Work, AllocError>
+    requires laid { IsLaidSurvey (tells mended.survey) }
+    requires few { length (tells mended.survey).frames ≤ most_frames }
+    ensures { IfOk result (λ work. (input : List ℕ) (files : Files) → IsMended input files mended
+        → IsThere files input → HoldsOctets input files → IsReady input files work) }
 {
-    let mended = read_input(alloc, folder, input)?;
     let Mended {
         survey,
         emptied,
@@ -93,4 +79,23 @@ pub(crate) fn prepare<D: Folder>(
         report: Report { gaps, emptied },
         sending,
     })
+}
+
+/// Reads what can be read of the input, plans its frames, and takes all memory.
+///
+/// # Errors
+/// `Input` with the fault of the reading; `Memory`. The files stay.
+pub(crate) fn prepare<D: Folder>(
+    alloc: Global,
+    folder: &mut D,
+    input: &str,
+) -> Result<Work, EditFault>
+    ensures ready { IfOk result (IsReady input.now (D.files folder.old)) }
+    ensures reads { ReadsInput input.now result
+        (seen (D.files folder.old) (D.counts folder.old))
+        (seen (D.files folder.new) (D.counts folder.new)) }
+{
+    let mended = read_input(alloc, folder, input)?;
+    let work = make_ready(alloc, mended)?;
+    Ok(work)
 }

@@ -15,17 +15,17 @@ returns-in-Some-clause-left g c = left-clash c.args.input.now c.args.output.now 
 
 pub returns-in_err-work-clause-left : goal.returns-in_err-work-clause-left
 returns-in_err-work-clause-left g c =
-    err_with _ _ c.from_residual.ensures.1 (left-early c.args.input.now c.args.output.now (sym c.clash.ensures ∙ c.in_default.is) _ _ _ c.in_err-work.ensures.refused)
+    err_with _ _ c.from_residual.ensures.1 (left-early c.args.input.now c.args.output.now (sym c.clash.ensures ∙ c.in_default.is) _ _ _ c.in_err-work.ensures.reads.refused)
 
 pub returns-in_err-work-clause-numbers : goal.returns-in_err-work-clause-numbers
 returns-in_err-work-clause-numbers g c =
-    err_with _ _ c.from_residual.ensures.1 (numbers-early c.args.input.now c.args.output.now _ c.in_err-work.ensures.numbers)
+    err_with _ _ c.from_residual.ensures.1 (numbers-early c.args.input.now c.args.output.now _ c.in_err-work.ensures.reads.numbers)
 
 pub write_output-requires-clause-apart : goal.write_output-requires-clause-apart
 write_output-requires-clause-apart g c = source_apart (c.args.input.now ∷ []) c.args.input.now c.args.output.now (omega arith) refl (sym c.clash.ensures ∙ c.in_default.is)
 
 pub write_output-requires-clause-ready : goal.write_output-requires-clause-ready
-write_output-requires-clause-ready g c = subst (λ f. IsLayable c.args.input.now c.in_ok-work.work.laid f) (sym c.prepare.ensures.files) c.in_ok-work.ensures.ready.layable
+write_output-requires-clause-ready g c = subst (λ f. IsLayable c.args.input.now c.in_ok-work.work.laid f) (sym c.prepare.ensures.reads.files) c.in_ok-work.ensures.ready.layable
 
 pub send_report-requires-clause-order : goal.send_report-requires-clause-order
 send_report-requires-clause-order g c = ready-order c.args.input.now (g.D.Folder.files c.args.folder.now) c.in_ok-work.work c.in_ok-work.ensures.ready
@@ -36,7 +36,7 @@ returns-in_err-write_output-clause-left g c =
     let counts = g.D.Folder.counts in
     err_with _ _ c.from_residual-in_err-write_output.ensures.1
     (left-part c.args.input.now c.args.output.now (sym c.clash.ensures ∙ c.in_default.is) (seen (files c.args.folder.now) (counts c.args.folder.now)) (seen (files c.prepare.new.folder) (counts c.prepare.new.folder)) (seen (files c.write_output.new.folder) (counts c.write_output.new.folder))
-    c.in_ok-work.work (ap₂ seen c.prepare.ensures.files c.in_ok-work.ensures.done) c.in_ok-work.ensures.ready c.write_output.ensures.touches _ c.in_err-write_output.ensures.numbers c.in_err-write_output.ensures.left)
+    c.in_ok-work.work (ap₂ seen c.prepare.ensures.reads.files c.in_ok-work.ensures.reads.done) c.in_ok-work.ensures.ready c.write_output.ensures.touches _ c.in_err-write_output.ensures.numbers c.in_err-write_output.ensures.left)
 
 pub returns-in_err-write_output-clause-numbers : goal.returns-in_err-write_output-clause-numbers
 returns-in_err-write_output-clause-numbers g c =
@@ -47,7 +47,7 @@ returns-in-Ok-clause-done g c =
     let files = g.D.Folder.files in
     let counts = g.D.Folder.counts in
     left-done c.args.input.now c.args.output.now (sym c.clash.ensures ∙ c.in_default.is) (seen (files c.args.folder.now) (counts c.args.folder.now)) (seen (files c.prepare.new.folder) (counts c.prepare.new.folder)) (seen (files c.write_output.new.folder) (counts c.write_output.new.folder))
-    c.in_ok-work.work (ap₂ seen c.prepare.ensures.files c.in_ok-work.ensures.done) c.in_ok-work.ensures.ready c.write_output.ensures.touches c.in_ok-write_output.ensures.written c.in_ok-write_output.ensures.done
+    c.in_ok-work.work (ap₂ seen c.prepare.ensures.reads.files c.in_ok-work.ensures.reads.done) c.in_ok-work.ensures.ready c.write_output.ensures.touches c.in_ok-write_output.ensures.written c.in_ok-write_output.ensures.done
 
 pub returns-in-Ok-clause-streams : goal.returns-in-Ok-clause-streams
 returns-in-Ok-clause-streams g c = left-streams c.args.input.now c.args.output.now (sym c.clash.ensures ∙ c.in_default.is) (g.D.Folder.files c.args.folder.now) c.in_ok-work.work c.in_ok-work.ensures.ready
@@ -67,7 +67,7 @@ returns-clause-left g c =
     let files = g.D.Folder.files in
     let counts = g.D.Folder.counts in
     left-done c.args.input.now c.args.output.now (sym c.clash.ensures ∙ c.in_default.is) (seen (files c.args.folder.now) (counts c.args.folder.now)) (seen (files c.prepare.new.folder) (counts c.prepare.new.folder)) (seen (files c.write_output.new.folder) (counts c.write_output.new.folder))
-    c.in_ok-work.work (ap₂ seen c.prepare.ensures.files c.in_ok-work.ensures.done) c.in_ok-work.ensures.ready c.write_output.ensures.touches c.in_ok-write_output.ensures.written c.in_ok-write_output.ensures.done
+    c.in_ok-work.work (ap₂ seen c.prepare.ensures.reads.files c.in_ok-work.ensures.reads.done) c.in_ok-work.ensures.ready c.write_output.ensures.touches c.in_ok-write_output.ensures.written c.in_ok-write_output.ensures.done
 
 pub returns-clause-says : goal.returns-clause-says
 returns-clause-says g c = record {
