@@ -23,7 +23,7 @@ use Rattle.salvage.specs.Mended.{mended_row, emptied_from}
 use Rattle.salvage.specs.Text.{salvage_text}
 use Rattle.salvage.proofs.ReadFaults.{damaged_of-short}
 use Rattle.commands.specs.declared.fault.EditFault.{EditFault}
-use Rattle.commands.specs.declared.fault.EditFault.TheVariants.{EqualNames, Input, Refused, Write, Sent as NotSent, Memory}
+use Rattle.commands.specs.declared.fault.EditFault.TheVariants.{EqualNames, Input, Refused, Write, Memory}
 use Rattle.commands.specs.Command.{Command, AreSound, HoldsStreams}
 use Rattle.commands.specs.Said.{IsText}
 use Rattle.commands.proofs.TellingLaws.{telling-text, telling-done, telling-left, telling-streams}
@@ -273,17 +273,13 @@ module _ (input output : List ℕ) (free : clash_in (salvage_task input) output 
 
 module _ (input output : List ℕ) where
   pub numbers-early : (fault : EditFault) → IsOfInputs (salvage_task input) fault → HasNumbers (salvage_command input output) fault
-  numbers-early (EqualNames place) h = absurd h
   numbers-early (Input place fault) h = h
   numbers-early (Refused refusal) h = h
-  numbers-early (Write place) h = absurd h
-  numbers-early NotSent h = absurd h
   numbers-early Memory h = tt
+  numbers-early _ h = absurd h
 
   pub numbers-pass : (fault : EditFault) → IsOfPass fault → HasNumbers (salvage_command input output) fault
-  numbers-pass (EqualNames place) h = absurd h
   numbers-pass (Input place fault) h = (omega (arith, h.0), h.1, h.2, inl h.0)
-  numbers-pass (Refused refusal) h = absurd h
   numbers-pass (Write place) h = omega (arith, h)
-  numbers-pass NotSent h = absurd h
   numbers-pass Memory h = tt
+  numbers-pass _ h = absurd h
