@@ -65,6 +65,17 @@ impl Line {
         self.front = write_digits(number, &mut self.room, self.front);
     }
 
+    /// Puts a text before it, and the decimal digits of a number before that.
+    #[inline]
+    pub fn put_counted(&mut self, number: u64, text: &[u8])
+        requires { length self.old + length text.now + 20 ≤ 192 }
+        ensures number { self.new ≡ decimal number ++ (text.now ++ self.old) }
+        ensures few { length self.new ≤ length self.old + length text.now + 20 }
+    {
+        self.put(text);
+        self.put_number(number);
+    }
+
     /// The text.
     #[inline]
     pub fn bytes(&self) -> &[u8]

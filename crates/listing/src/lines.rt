@@ -1,5 +1,5 @@
 //! The lines of a listing.
-ghost use Rattle.std.specs.Prelude.{◌≡◌, ◌+◌, ◌^◌, ◌<◌, ◌≤◌, ◌++◌, length, codes};
+ghost use Rattle.std.specs.Prelude.{◌≡◌, ◌+◌, ◌<◌, ◌≤◌, ◌++◌, length, codes};
 ghost use Rattle.listing.specs.Listing.{kind_name as kind_name_lem, version_name as version_name_lem, extent as extent_lem, frame_line as frame_line_lem, line_of, time_text, two_digits as two_digits_lem, summary};
 
 use crate::line::Line;
@@ -15,10 +15,8 @@ fn set_extent(line: &mut Line, at: u64, size: u64)
     ensures few { length line.new ≤ 64 }
 {
     line.clear();
-    line.put(b" bytes\n");
-    line.put_number(size);
-    line.put(b": ");
-    line.put_number(at);
+    line.put_counted(size, b" bytes\n");
+    line.put_counted(at, b": ");
     line.put(b" at ");
 }
 
@@ -44,18 +42,14 @@ fn set_frame_line(line: &mut Line, number: u64, row: &Row)
         line.put(b", lost");
     }
     line.put_number(u64::from(row.side.bits()));
-    line.put(b", bits ");
-    line.put_number(u64::from(row.side.main_data_begin));
+    line.put_counted(u64::from(row.side.main_data_begin), b", bits ");
     line.put(b", begin ");
     if slot.padding {
         line.put(b" padded");
     }
-    line.put(b" kbit/s");
-    line.put_number(u64::from(row.header.class().rate(slot)));
-    line.put(b": ");
-    line.put_number(u64::from(row.offset));
-    line.put(b" at ");
-    line.put_number(number);
+    line.put_counted(u64::from(row.header.class().rate(slot)), b" kbit/s");
+    line.put_counted(u64::from(row.offset), b": ");
+    line.put_counted(number, b" at ");
     line.put(b"frame ");
 }
 
@@ -125,12 +119,9 @@ pub(crate) fn set_summary(line: &mut Line, class: Class, count: u64)
     let frequency = class.frequency();
     let samples = u128::from(count) * u128::from(class.samples());
     set_time(line, samples * 100 / u128::from(frequency));
-    line.put(b" channels, ");
-    line.put_number(u64::from(class.channels));
-    line.put(b" Hz, ");
-    line.put_number(u64::from(frequency));
+    line.put_counted(u64::from(class.channels), b" channels, ");
+    line.put_counted(u64::from(frequency), b" Hz, ");
     line.put(b", ");
     line.put(version_name(class.version));
-    line.put(b" frames, ");
-    line.put_number(count);
+    line.put_counted(count, b" frames, ");
 }

@@ -85,17 +85,13 @@ pub(crate) fn set_line(line: &mut Line, told: &Told)
     line.clear();
     match told {
         Told::Missing(gap) => {
-            line.put(b" bytes\n");
-            line.put_number(gap.length);
-            line.put(b": ");
-            line.put_number(gap.offset);
+            line.put_counted(gap.length, b" bytes\n");
+            line.put_counted(gap.offset, b": ");
             line.put(b"gap at ");
         }
         Told::Empty(emptied) => {
-            line.put(b"\n");
-            line.put_number(u64::from(emptied.offset));
-            line.put(b" at ");
-            line.put_number(u64::from(emptied.number));
+            line.put_counted(u64::from(emptied.offset), b"\n");
+            line.put_counted(u64::from(emptied.number), b" at ");
             line.put(b"empty frame ");
         }
     }
@@ -106,10 +102,7 @@ pub(crate) fn set_counts(line: &mut Line, frames: u64, gaps: u64, empty: u64)
     ensures { line.new ≡ count_text frames gaps empty }
 {
     line.clear();
-    line.put(b" empty\n");
-    line.put_number(empty);
-    line.put(b" gaps, ");
-    line.put_number(gaps);
-    line.put(b" frames, ");
-    line.put_number(frames);
+    line.put_counted(empty, b" empty\n");
+    line.put_counted(gaps, b" gaps, ");
+    line.put_counted(frames, b" frames, ");
 }
