@@ -1,5 +1,5 @@
 //! What is in a file, in order of the offsets.
-ghost use Rattle.std.specs.Prelude.{◌≡◌, drop, map, option_map, option_to_list};
+ghost use Rattle.std.specs.Prelude.{◌≡◌, drop, option_map, option_to_list};
 ghost use Rattle.sync_survey.specs.Faults.{tells};
 ghost use Rattle.sync_survey.specs.Survey.{IsLaidOut};
 ghost use Rattle.listing.specs.Things.{offset_of, things_of, in_order, junk_of as junk_of_lem, head_of as head_of_lem, left, stream_left};

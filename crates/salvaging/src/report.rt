@@ -1,5 +1,5 @@
 //! What is missing in a damaged file.
-ghost use Rattle.std.specs.Prelude.{◌≡◌, ◌<◌, ◌≤◌, [], OnOk, OnErr, length};
+ghost use Rattle.std.specs.Prelude.{◌≡◌, ◌<◌, [], OnOk, OnErr};
 ghost use Rattle.outside.specs.Files.{sent_more};
 ghost use Rattle.outside.specs.Passed.{SentPrefix};
 ghost use Rattle.outside.specs.Counts.{HasCause};
