@@ -1,5 +1,5 @@
 -- What the command leaves, by its steps.
-use Rattle.std.proofs.Common.{◌≡◌, ℕ, ◌+◌, ◌<◌, ◌≤◌, ◌≢◌, List, [], ◌∷◌, length, map, take, Option, Some, None, Result, Ok, Err, refl, sym, ◌∙◌, ap, subst, inl, inr, Bool, true, false, cond, arith}
+use Rattle.std.proofs.Common.{◌≡◌, ℕ, ◌+◌, ◌<◌, ◌≤◌, ◌≢◌, List, [], ◌∷◌, length, map, take, Option, Some, None, Result, Ok, Err, refl, sym, ◌∙◌, ap, subst, inl, inr, Bool, true, false, cond, arith, ◌||◌}
 use Rattle.std.specs.Prelude.{◌⊎◌, IfSome, IfErr}
 use Rattle.std.specs.Result.{IsErrAnd}
 use Rattle.bit_fields.specs.Bits.{AreBytes}
@@ -34,11 +34,11 @@ use Rattle.commands.specs.One.{most_frames, IsFileFaultBy, IsFileFault}
 use Rattle.commands.specs.Runs.{IsRunOf}
 use Rattle.sync_survey.proofs.SurveyedFiles.{survey_of-sound}
 use Rattle.frame_edits.proofs.ChosenLaws.{cut_proper}
-use Rattle.splitting.specs.Split.{piece_names, frames_between, with_first, chosen_from, chosen_at, pieces_from, made_of, made_at, made_by, made_where, unless_equal, made_result, streams_of, streams_at, streams_by, streams_where, Placing, split_command_of, with_end, places_where, placing_of, more_of}
+use Rattle.splitting.specs.Split.{piece_names, frames_between, with_first, chosen_from, chosen_at, pieces_from, made_of, made_at, made_by, made_where, unless_equal, made_result, streams_of, streams_at, streams_by, streams_where, Placing, split_command_of, with_end, places_where, placing_of, more_of, sheet_refuses}
 use Rattle.splitting.specs.declared.piece.Piece.{Piece}
 use Rattle.splitting.specs.declared.split_file.Points.{Points}
 use Rattle.splitting.specs.declared.split_file.Points.TheVariants.{Places, Sheet as InSheet}
-use Rattle.splitting.specs.Steps.{Says, IsPlacesFaultBy, IsPlacesFault, ArePieces, chosen_of, outputs_of, names_of, with_outputs, with_part, IsWrittenPart, IsUnfinishedPart, IsPiecesFaultBy, IsPiecesFault, IsOfPieces, StopsShort}
+use Rattle.splitting.specs.Steps.{Says, IsPlacesFaultBy, IsPlacesFault, ArePieces, chosen_of, outputs_of, names_of, with_outputs, with_part, IsWrittenPart, IsUnfinishedPart, IsPiecesFaultBy, IsPiecesFault, IsOfPieces, StopsShort, IsOfPlaces}
 use Rattle.splitting.proofs.NamesLaws.{names-length}
 use Rattle.commands.proofs.NamedLaws.{first_at, missed_name, unread_name, lost_name}
 use Rattle.outside.specs.Counts.{HappenedTo, EndedAt}
@@ -357,8 +357,21 @@ module _ (points : Points) (input prefix : List ℕ) where
             pub split-left : OnlyTouches (names_of pieces) mid.files new.files → (fault : EditFault) → IsPiecesFault (outputs_of s pieces) (names_of pieces) input mid new fault → Leaves command old new fault
             split-left touches fault h = split-left-by places are pieces named chosen few new fault (why_of fault) (rw stays at touches) (rw stays at h)
 
--- ---- the numbers of a fault of the second pass, whatever is told of the files
+-- ---- the numbers of a fault, whatever is told of the files
 
+or-later : (a b : Bool) → b ≡ true → (a || b) ≡ true
+or-later true b is = refl
+or-later false b is = is
+
+-- of one that was met while the positions were found
+pub places-numbers : (points : Points) (input prefix : List ℕ) (fault : EditFault) → IsOfPlaces points fault → HasNumbers (split_command_of points input prefix) fault
+places-numbers (Places places) input prefix fault is = subst (HasNumbers (split_command_of (Places places) input prefix)) (sym is) tt
+places-numbers (InSheet sheet) input prefix (Input place fault) is = (omega (arith, is.0), is.1, is.2, inr (inr is.3))
+places-numbers (InSheet sheet) input prefix (Refused refusal) is = or-later (cut_refuses refusal) (sheet_refuses refusal) is
+places-numbers (InSheet sheet) input prefix Memory is = tt
+places-numbers (InSheet sheet) input prefix _ is = absurd is
+
+-- of one of the second pass
 pub pieces-numbers : (points : Points) (input prefix : List ℕ) (count : ℕ) (fault : EditFault) → count < 100 → IsOfPieces count fault → HasNumbers (split_command_of points input prefix) fault
 pieces-numbers points input prefix count (Input place fault) most is = (omega (arith, is.0), is.1, is.2, inl is.0)
 pieces-numbers points input prefix count (Write place) most is = omega (arith, names-length prefix, most, is)

@@ -319,7 +319,7 @@ static CHANGES: [Edited; 23] = table! {
     (Edit::Byte(420, 0xff), Some(SurveyFault::Mixed(417)))
 };
 
-fn edited(alloc: Global, edit: Edit) -> Result<Vec<u8>, AllocError> {
+fn two_frames_edited(alloc: Global, edit: Edit) -> Result<Vec<u8>, AllocError> {
     let mut file = bytes_of(alloc, TWO_FRAMES)?;
     match edit {
         Edit::Cut(length) => file.truncate(length),
@@ -335,7 +335,7 @@ fn edited(alloc: Global, edit: Edit) -> Result<Vec<u8>, AllocError> {
 /// How many rows hold, up to the first that doesn't.
 fn count_right(alloc: Global, rows: &[Edited]) -> Result<usize, AllocError> {
     for (number, row) in rows.iter().enumerate() {
-        let file = edited(alloc, row.edit)?;
+        let file = two_frames_edited(alloc, row.edit)?;
         if !both_find(alloc, &file, 2, row.answer)? {
             return Ok(number);
         }

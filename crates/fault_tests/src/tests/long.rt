@@ -1,8 +1,8 @@
 //! Files that are longer than the buffer of 65,536 bytes.
 
 use super::shapes::{Shape, is_surveyed};
-use super::stretches::Z;
-use super::walks::{Case, first_wrong};
+use super::stretches::{Case, Z};
+use super::walks::{Walk, first_wrong};
 use std::alloc::{AllocError, Global};
 use std::process::Abort;
 use std::test::Fail;
@@ -31,7 +31,7 @@ const LONG_BLOCKS: &[Piece] = &[
     },
 ];
 
-static CASES: [Case; 2] = table! {
+static CASES: [Walk; 2] = table! {
     Case { name, file, answer }
     ("blocks longer than the buffer",
         &[Bytes(LONG_ID3V2), Fill(0x11, 100_000), Z, Bytes(LONG_ID3V2), Fill(0xff, 100_000), Z],

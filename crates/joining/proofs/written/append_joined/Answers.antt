@@ -71,7 +71,7 @@ returns-in-Err-clause-prefix g c =
     c.in-Err.ensures.prefix
 
 pub returns-in-Err-clause-cause : goal.returns-in-Err-clause-cause
-returns-in-Err-clause-cause g c = record { within = omega (arith, ap length c.requires.names, length-map c.args.inputs.now string_bytes); size = _; cause = c.in-Err.ensures.cause }
+returns-in-Err-clause-cause g c = record { within = omega (arith, ap length c.requires.names, length-map c.args.inputs.now string_bytes); size = _; cause = cause-named _ 0 _ _ _ _ _ _ _ _ c.requires.names c.in-Err.ensures.cause }
 
 pub lay_all-requires-clause-apart : goal.lay_all-requires-clause-apart
 lay_all-requires-clause-apart g c = (first-source _ c.requires.names c.requires.known c.requires.sources).apart
@@ -81,9 +81,6 @@ lay_all-requires-clause-sources g c = (sources-beside _ _ _ _ _ _ (rw c.in_defau
 
 pub lay_all-requires-clause-target : goal.lay_all-requires-clause-target
 lay_all-requires-clause-target g c = rw c.in_default.ensures.written.files (appended_there _ _ _)
-
-pub returns-in-Err-clause-cause : goal.returns-in-Err-clause-cause
-returns-in-Err-clause-cause g c = record { within = omega (arith, ap length c.requires.names); size = _; cause = cause-named _ 0 _ _ _ _ _ _ _ _ c.requires.names c.in-Err.ensures.cause }
 
 pub lay_all-requires-clause-new : goal.lay_all-requires-clause-new
 lay_all-requires-clause-new g c = rw c.append_front.ensures.writer (rw c.requires.known at c.requires.ready.fresh).new

@@ -7,7 +7,7 @@ use Rattle.commands.specs.Left.{Seen, seen}
 use Rattle.commands.proofs.MakeLaws.{no_clash}
 use Rattle.splitting.specs.Split.{placing_of}
 use Rattle.splitting.specs.Steps.{Says}
-use Rattle.splitting.proofs.CommandLaws.{refused-run, equal-left, input-left, places-left, memory-left, range-left, split-done, split-left, split-streams, pieces-numbers}
+use Rattle.splitting.proofs.CommandLaws.{refused-run, equal-left, input-left, places-left, memory-left, range-left, split-done, split-left, split-streams, places-numbers, pieces-numbers}
 use Rattle.splitting.proofs.PiecesLaws.{can-be-written}
 use Rattle.splitting.proofs.split_file.split.Given as given
 use Rattle.splitting.proofs.split_file.split.Goals as goal
@@ -30,7 +30,7 @@ returns-in_err-places g c =
     let mid = seen (g.D.Folder.files c.survey_at.new.folder) (g.D.Folder.counts c.survey_at.new.folder) in
     refused-run _ _ _ _ _ none c.from_residual-in_err-places.ensures.1
     (places-left c.args.points.now c.args.input.now c.args.prefix.now none (tells c.in_ok-survey.survey) old c.in_ok-survey.ensures.there c.in_ok-survey.ensures.surveyed mid _ (ap₂ seen c.survey_at.ensures.files c.in_ok-survey.ensures.done) _ c.in_err-places.ensures.refused)
-    (search rules) (search rules)
+    (places-numbers c.args.points.now c.args.input.now c.args.prefix.now _ c.in_err-places.ensures.numbers) (search rules)
 
 -- the positions are those that the files from before say, and nothing changed
 module _ (g : given.Over) (c : After-as_slice g) where
