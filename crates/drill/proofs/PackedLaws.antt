@@ -1,18 +1,16 @@
 -- A stream made from a seed, packed: the packing isn't refused, the packed file holds the frames that were drawn, and needs no lead-in.
 use Rattle.std.proofs.Common.{◌≡◌, ◌≢◌, ℕ, suc, ◌-◌, ◌<◌, ◌≤◌, ◌&&◌, Bool, true, false, List, [], ◌∷◌, ◌++◌, length, take, map, Option, Some, None, Result, Ok, Err, refl, sym, ◌∙◌, ap, subst, inl, inr, arith, rules}
 use Rattle.std.specs.Prelude.{All, slice_range, nat_lt, nat_le, decimal}
-use Rattle.std.specs.List.{enumerate_from}
-use Rattle.std.proofs.Math.Seq.{take-length}
 use Rattle.std.proofs.lemmas.List.{length-map}
-use Rattle.std.proofs.lemmas.List.FromFn.{length-enumerate_from, length-map-range_with_len}
+use Rattle.std.proofs.lemmas.List.FromFn.{length-map-range_with_len}
 use Rattle.frame_header.specs.Tables.{window_of}
 use Rattle.frame_header.proofs.SlotLaws.{Contains-all_slots}
-use Rattle.outside.specs.Files.{Contents, Files, Sent, sent_more, Holds, Told}
+use Rattle.outside.specs.Files.{Contents, Files, sent_more, Holds, Told}
 use Rattle.outside.specs.Passed.{SentPrefix}
 use Rattle.outside.specs.Counts.{Rose}
 use Rattle.outside.proofs.FilesLaws.{with_file_here}
 use Rattle.sync_survey.specs.declared.rows.Row.{Row}
-use Rattle.sync_survey.specs.MainData.{StreamFrame, main_bytes, stream_frame, stream_frames}
+use Rattle.sync_survey.specs.MainData.{StreamFrame}
 use Rattle.sync_survey.specs.Faults.{SurveyFields, surveyed, stream_of_survey, HoldsStream}
 use Rattle.sync_survey.specs.Survey.{survey_of, AreWellPlaced}
 use Rattle.sync_survey.proofs.PlacedRows.{surveyed-placed}

@@ -2,7 +2,7 @@
 use Rattle.std.proofs.Common.{◌≡◌, ℕ, zero, suc, ◌+◌, ◌-◌, ◌*◌, ◌/◌, ◌%◌, ◌^◌, ◌≤◌, ◌<◌, ◌⊎◌, inl, inr, false, ◌||◌, List, [], ◌∷◌, ◌++◌, length, take, drop, map, None, Ok, refl, sym, ◌∙◌, ap, ap₂, subst, arith, append_assoc, append-nil, length-append, lit<, lit≤}
 use Rattle.std.specs.Prelude.{codes, bytes_eq}
 use Rattle.std.specs.List.{All, range_with_len}
-use Rattle.std.proofs.lemmas.Bool.{ne_eqb, le-ltb, cases_lt}
+use Rattle.std.proofs.lemmas.Bool.{ne_eqb, cases_lt}
 use Rattle.std.proofs.Math.Seq.{take-append-add}
 use Rattle.std.proofs.lemmas.List.FromFn.{length-range_with_len}
 use Rattle.std.proofs.lemmas.List.{length-map, length-drop, drop_at, length-take-le, length-replicate}
@@ -16,8 +16,7 @@ use Rattle.side_info.specs.Side.{payload_bytes}
 use Rattle.info_header.specs.HeadText.{has_text, low_place, head_text_of}
 use Rattle.frame_writer.specs.Laid.{zeros, start_of, end_of, CanBeLaidFrom, laid, laid_from}
 use Rattle.frame_writer.specs.Frames.{front_of, area_in, Frame, piece_of, pieces, all_kept, areas_in, framed, frame_bytes}
-use Rattle.sync_survey.specs.Faults.{longest_file, surveyed, HoldsStream}
-use Rattle.sync_survey.specs.Survey.{survey_of}
+use Rattle.sync_survey.specs.Faults.{surveyed, HoldsStream}
 use Rattle.sync_survey.proofs.FoldersLaws.{survey_of-short}
 use Rattle.laid_files.specs.LaidFiles.{IsEntry, AreEntries, entry_of, rows_from}
 use Rattle.laid_files.proofs.LaidData.{length-laid}

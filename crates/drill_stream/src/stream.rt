@@ -27,7 +27,8 @@ pub fn write_stream<D: Folder>(
     ensures written { OnOk result (D.files folder.new ≡
         appended (emptied (D.files folder.old) name.now) name.now (drill_stream seed count)) }
     ensures part { IsErrOf result StreamFault.Write
-        → FailsToCreate name.now (D.files folder.old) (D.files folder.new) ⊎ AppendedPrefix name.now (drill_stream seed count)
+        → FailsToCreate name.now (D.files folder.old) (D.files folder.new)
+        ⊎ AppendedPrefix name.now (drill_stream seed count)
         (emptied (D.files folder.old) name.now) (D.files folder.new) }
     ensures failed { IsErrOf result StreamFault.Write →
         WriteFailed name.now (D.counts folder.old) (D.counts folder.new) }

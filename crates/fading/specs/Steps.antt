@@ -1,6 +1,6 @@
 -- The steps of the fade command.
 use Rattle.std.specs.Prelude.{◌≡◌, ◌≢◌, ℕ, Bool, true, List, Some, Err}
-use Rattle.outside.specs.Files.{Files, Holds, IsThere}
+use Rattle.outside.specs.Files.{Holds, IsThere}
 use Rattle.sync_survey.specs.declared.survey_fault.SurveyFault.TheVariants.{Memory as NoRoom}
 use Rattle.sync_survey.specs.Faults.{SurveyFields}
 use Rattle.commands.specs.declared.fault.EditFault.{EditFault}

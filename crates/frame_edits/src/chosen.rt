@@ -35,7 +35,8 @@ pub fn choose(
     kept: Kept,
 ) -> Result<Chosen, EditFault>
     ensures chosen { MatchResult result
-        (λ chosen. chosen_with kept.quality kept.extension from to slots frames ≡ Ok (chosen_in chosen))
+        (λ chosen. chosen_with kept.quality kept.extension from to slots frames
+        ≡ Ok (chosen_in chosen))
         (λ fault. chosen_with kept.quality kept.extension from to slots frames ≡ Err fault) }
     ensures some { IfOk result (λ chosen. chosen.from < chosen.to) }
     ensures within { IfOk result (λ chosen. chosen.to ≤ frames) }

@@ -152,7 +152,8 @@ impl Folder for MemFolder {
         ensures absent { IsErrOf result FindFault.Absent
             → HappenedTo name.now (counts_of self.old).misses (counts_of self.new).misses }
         ensures failed { IsErrOf result FindFault.Failed
-            → HappenedTo name.now (counts_of self.old).read_faults (counts_of self.new).read_faults }
+            → HappenedTo name.now (counts_of self.old).read_faults
+            (counts_of self.new).read_faults }
         ensures files { Told (contents_of self.new) ≡ Told (contents_of self.old) }
         ensures ends { (counts_of self.new).ends ≡ (counts_of self.old).ends }
         ensures done { OnOk result (counts_of self.new ≡ counts_of self.old) }
@@ -204,8 +205,8 @@ impl Folder for MemFolder {
         ensures called { Called self.old self.new Call.Read }
         ensures kept { OnErr result (into.new ≡ into.old) }
         ensures read_counts { IfOk result
-            (λ k. counts_of self.new ≡ (if k == 0 && nat_lt 0 (length into.old) then with_end name.now at
-            (counts_of self.old) else counts_of self.old)) }
+            (λ k. counts_of self.new ≡ (if k == 0 && nat_lt 0 (length into.old)
+            then with_end name.now at (counts_of self.old) else counts_of self.old)) }
         ensures failed_counts { OnErr result
             (counts_of self.new ≡ with_read_fault name.now (counts_of self.old)) }
     {

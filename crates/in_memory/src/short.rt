@@ -79,7 +79,8 @@ impl Folder for ShortFolder {
         ensures absent { IsErrOf result FindFault.Absent
             → HappenedTo name.now (short_counts self.old).misses (short_counts self.new).misses }
         ensures failed { IsErrOf result FindFault.Failed
-            → HappenedTo name.now (short_counts self.old).read_faults (short_counts self.new).read_faults }
+            → HappenedTo name.now (short_counts self.old).read_faults
+            (short_counts self.new).read_faults }
         ensures files { untold ≡ untold }
         ensures ends { (short_counts self.new).ends ≡ (short_counts self.old).ends }
         ensures done { OnOk result (short_counts self.new ≡ short_counts self.old) }

@@ -1,8 +1,8 @@
 -- One frame: its bytes are an item, and its side information and its check word are read back.
-use Rattle.std.proofs.Common.{◌≡◌, ℕ, ◌+◌, leb, cond, Bool, true, false, List, [], ◌++◌, length, take, Ok, Err, refl, sym, ◌∙◌, ap, ap₂, arith, append_assoc, length-append}
+use Rattle.std.proofs.Common.{◌≡◌, ℕ, ◌+◌, leb, cond, true, List, [], ◌++◌, length, take, Ok, Err, sym, ◌∙◌, ap, ap₂, arith, append_assoc, length-append}
 use Rattle.std.proofs.lemmas.Bool.{le-leb}
 use Rattle.std.proofs.lemmas.List.{take_at, drop_at}
-use Rattle.bit_fields.specs.Bits.{bits_of, bytes}
+use Rattle.bit_fields.specs.Bits.{bytes}
 use Rattle.bit_fields.proofs.BitsLaws.{bits-bytes, length-bytes}
 use Rattle.frame_header.specs.declared.header.NotHeader.TheVariants.{No}
 use Rattle.frame_header.specs.Fields.{HeaderFields, IsHeader}
@@ -14,9 +14,9 @@ use Rattle.frame_header.proofs.SlotLaws.{area-is}
 use Rattle.side_info.specs.declared.side.Side.{Side}
 use Rattle.side_info.specs.Side.{side_bits, SideFits}
 use Rattle.side_info.specs.CheckWord.{check_word_of}
-use Rattle.side_info.specs.Frame.{side_place, side_in, word_said, word_part, frame_with}
+use Rattle.side_info.specs.Frame.{side_in, word_said, word_part, frame_with}
 use Rattle.side_info.proofs.SideLaws.{IsShaped, length-side_bits}
-use Rattle.side_info.proofs.FrameLaws.{HasRoom, overhead-is, length-word, side_in-frame_with, word_said-frame_with, length-word_part}
+use Rattle.side_info.proofs.FrameLaws.{HasRoom, overhead-is, side_in-frame_with, word_said-frame_with, length-word_part}
 use Rattle.frame_writer.specs.Frames.{front_of}
 use Rattle.sync_survey.specs.declared.items.Item.TheVariants.{Frame as FrameItem}
 use Rattle.sync_survey.specs.Items.{header_front}

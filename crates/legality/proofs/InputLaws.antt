@@ -1,27 +1,21 @@
 -- Names that are apart, and the surveys of inputs.
-use Rattle.std.proofs.Common.{◌≡◌, ℕ, zero, suc, ◌+◌, ◌<◌, ◌≤◌, ◌==◌, true, false, cond, Contains, List, [], ◌∷◌, length, Option, Some, None, Ok, refl, sym, ◌∙◌, ap, subst, inl, inr, arith, rules, bytes_eq}
+use Rattle.std.proofs.Common.{◌≡◌, ℕ, zero, suc, ◌+◌, ◌<◌, ◌≤◌, ◌==◌, true, false, cond, Contains, List, [], ◌∷◌, length, Some, None, Ok, refl, sym, ◌∙◌, ap, subst, arith, bytes_eq}
 use Rattle.std.specs.List.{list_any}
-use Rattle.std.proofs.lemmas.Bool.{false_from_ne_true, ne_eqb}
+use Rattle.std.proofs.lemmas.Bool.{false_from_ne_true}
 use Rattle.std.proofs.lemmas.List.{length-map}
 use Rattle.std.proofs.lemmas.List.Elements.{All-cons}
 use Rattle.std.proofs.lemmas.List.Folds.{list_any_at}
 use Rattle.std.proofs.lemmas.Map.Views.{Contains-from_any}
-use Rattle.std.proofs.lemmas.Option.{slice_get_within, slice_get_cases}
 use Rattle.std.proofs.lemmas.Slice.Eq.{bytes_eq-Decides}
-use Rattle.frame_header.specs.Fields.{ClassFields}
 use Rattle.outside.specs.Files.{Contents}
 use Rattle.outside.proofs.FilesLaws.{bytes_eq_same}
-use Rattle.sync_survey.specs.declared.places.Head.{Head}
-use Rattle.sync_survey.specs.declared.rows.Row.{Row}
-use Rattle.sync_survey.specs.declared.survey_fault.SurveyFault.{SurveyFault}
-use Rattle.sync_survey.specs.declared.places.PlacedFrame.{PlacedFrame}
-use Rattle.sync_survey.specs.Walk.{head_of, end_fault}
+use Rattle.sync_survey.specs.Walk.{head_of}
 use Rattle.sync_survey.specs.MainData.{row_of, rows_of}
 use Rattle.sync_survey.specs.Faults.{SurveyFields, class_from, surveyed_freely, longest_file}
 use Rattle.sync_survey.specs.Survey.{survey_of}
 use Rattle.sync_survey.proofs.FaultsLaws.{marked-length}
 use Rattle.sync_survey.proofs.FoldersLaws.{survey_of-short}
-use Rattle.sync_survey.proofs.SurveyParts.{AreSound, frames_from, surveyed-parts, surveyed-told, surveyed-allowed, all_faults-none_sound, sound-no_all_faults, sound_allowed, some_frames}
+use Rattle.sync_survey.proofs.SurveyParts.{frames_from, surveyed-parts, surveyed-told, surveyed-allowed, all_faults-none_sound, sound-no_all_faults, sound_allowed, some_frames}
 use Rattle.sync_survey.proofs.SurveyedFiles.{survey_of-parts}
 use Rattle.commands.specs.Command.{clash_from}
 use Rattle.commands.proofs.MakeLaws.{no_clash}

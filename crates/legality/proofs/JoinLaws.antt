@@ -1,8 +1,7 @@
 -- The inputs of a join, one after the other.
 use Rattle.std.proofs.Common.{◌≡◌, ℕ, zero, suc, ◌+◌, ◌-◌, ◌≤◌, Bool, true, false, cond, List, [], ◌∷◌, length, Option, Some, None, Result, Ok, Err, refl, sym, ◌∙◌, ap, subst, arith}
 use Rattle.std.specs.Prelude.{slice_get, unwrap_or}
-use Rattle.frame_header.specs.Fields.{ClassFields, same_class}
-use Rattle.laid_files.proofs.LaidFrames.{same-class}
+use Rattle.frame_header.specs.Fields.{ClassFields}
 use Rattle.laying.specs.Relaid.{Part}
 use Rattle.outside.specs.Files.{Contents}
 use Rattle.sync_survey.specs.declared.survey_fault.SurveyFault.{SurveyFault}

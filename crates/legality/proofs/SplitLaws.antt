@@ -13,9 +13,8 @@ use Rattle.sync_survey.specs.declared.survey_fault.SurveyFault.{SurveyFault}
 use Rattle.sync_survey.specs.Faults.{SurveyFields}
 use Rattle.sync_survey.specs.Survey.{survey_of}
 use Rattle.commands.specs.declared.fault.EditFault.{EditFault}
-use Rattle.commands.specs.declared.fault.EditFault.TheVariants.{Refused}
 use Rattle.commands.specs.declared.fault.Refusal.{Refusal}
-use Rattle.commands.specs.declared.fault.Refusal.TheVariants.{Range, SheetTooLarge}
+use Rattle.commands.specs.declared.fault.Refusal.TheVariants.{Range}
 use Rattle.commands.specs.Command.{Made, clash_from}
 use Rattle.commands.specs.One.{most_frames}
 use Rattle.commands.specs.Refusing.{unless, then_made}

@@ -272,10 +272,12 @@ impl<'a> GainPass<'a> {
         requires told { (file : List ℕ) → Holds (D.files folder.old) self.now.pass.input.now file →
             AreRowsOf file rows.now }
         ensures written { OnOk result (Writes self.now.pass
-            (λ file. written_from (steps_over self.now.course.now rows.now) self.now.tag file from rows.now)
+            (λ file. written_from (steps_over self.now.course.now rows.now) self.now.tag file from
+            rows.now)
             buffers.old.waiting buffers.new.waiting (D.files folder.old) (D.files folder.new)) }
         ensures prefix { IfErr result (WritesPrefix self.now.pass
-            (λ file. written_from (steps_over self.now.course.now rows.now) self.now.tag file from rows.now)
+            (λ file. written_from (steps_over self.now.course.now rows.now) self.now.tag file from
+            rows.now)
             buffers.old.waiting (D.files folder.old) (D.files folder.new)) }
         ensures done { OnOk result (D.counts folder.new ≡ D.counts folder.old) }
         ensures cause { IfErr result (HasPassCause (route_of self.now.pass) (D.files folder.old)

@@ -289,7 +289,8 @@ impl<'a, R: Files> Folder for DiskFolder<'a, R> {
         ensures absent { IsErrOf result FindFault.Absent
             → HappenedTo name.now (disk_counts self.old).misses (disk_counts self.new).misses }
         ensures failed { IsErrOf result FindFault.Failed
-            → HappenedTo name.now (disk_counts self.old).read_faults (disk_counts self.new).read_faults }
+            → HappenedTo name.now (disk_counts self.old).read_faults
+            (disk_counts self.new).read_faults }
         ensures files { disk_files self.new ≡ disk_files self.old }
         ensures ends { (disk_counts self.new).ends ≡ (disk_counts self.old).ends }
         ensures done { OnOk result (disk_counts self.new ≡ disk_counts self.old) }
@@ -349,8 +350,8 @@ impl<'a, R: Files> Folder for DiskFolder<'a, R> {
             self.old name.now at into.new result }
         ensures created_stays { self.new.created ≡ self.old.created }
         ensures read_counts { IfOk result
-            (λ k. disk_counts self.new ≡ (if k == 0 && nat_lt 0 (length into.old) then with_end name.now at
-            (disk_counts self.old) else disk_counts self.old)) }
+            (λ k. disk_counts self.new ≡ (if k == 0 && nat_lt 0 (length into.old)
+            then with_end name.now at (disk_counts self.old) else disk_counts self.old)) }
         ensures failed_counts { OnErr result
             (disk_counts self.new ≡ with_read_fault name.now (disk_counts self.old)) }
     {

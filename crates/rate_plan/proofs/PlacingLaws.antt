@@ -9,7 +9,7 @@ use Rattle.slot_plan.specs.declared.needs.Need.{Need}
 use Rattle.slot_plan.specs.declared.needs.Placed.{Placed}
 use Rattle.slot_plan.specs.Lists.{Open}
 use Rattle.slot_plan.specs.Parts.{Item, open_of, item_of, lead_in_of, areas_with, AreOfClass}
-use Rattle.slot_plan.specs.Reserve.{greatest, needed, needed_behind, free_behind, opens_in, AllWithin, IsLeastSlot, ArePlaced, PlacesOn}
+use Rattle.slot_plan.specs.Reserve.{greatest, needed, needed_behind, free_behind, opens_in, IsLeastSlot, ArePlaced, PlacesOn}
 use Rattle.slot_plan.proofs.ReserveLaws.{needed-can, can-needed}
 use Rattle.slot_plan.proofs.PartLaws.{next_need, needed-cons, behind-cons, nothing_needed, nothing_behind}
 use Rattle.slot_plan.proofs.PlacedLaws.{plan-placed}

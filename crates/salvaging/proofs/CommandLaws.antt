@@ -1,11 +1,11 @@
 -- What the command leaves, by its steps.
 use Rattle.std.proofs.Common.{◌≡◌, ℕ, ◌≤◌, List, [], ◌∷◌, length, ltb, cond, Bool, true, false, Option, Some, None, Result, Ok, Err, refl, sym, ◌∙◌, ap, ap₂, subst, inl, arith}
-use Rattle.std.specs.Prelude.{IfSome, IfErr, is_some, slice_get}
+use Rattle.std.specs.Prelude.{IfErr, slice_get}
 use Rattle.std.specs.Result.{IsErrAnd}
-use Rattle.std.proofs.lemmas.Bool.{le-ltb, ltb-false}
+use Rattle.std.proofs.lemmas.Bool.{ltb-false}
 use Rattle.std.proofs.lemmas.List.{length-map}
 use Rattle.bit_fields.specs.Bits.{AreBytes}
-use Rattle.outside.specs.Files.{Contents, Files, Holds, IsThere, IsMissing, Told, Untold, IfTold, is_told, OnlyTouches}
+use Rattle.outside.specs.Files.{Contents, Files, Holds, IsThere, IsMissing, Told, Untold, IfTold, OnlyTouches}
 use Rattle.outside.specs.Counts.{Counts}
 use Rattle.outside.proofs.FilesLaws.{there_holds}
 use Rattle.sync_survey.specs.declared.places.PlacedFrame.{PlacedFrame}

@@ -1,5 +1,5 @@
 -- Gaps and emptied frames are each in order of their offsets, and their lines are those of the text.
-use Rattle.std.proofs.Common.{◌≡◌, ℕ, ◌+◌, ◌≤◌, true, false, cond, List, [], ◌∷◌, ◌++◌, length, map, Bool, Option, Some, None, sym, ◌∙◌, ap, ap₂, subst, arith, refl}
+use Rattle.std.proofs.Common.{◌≡◌, ℕ, ◌+◌, ◌≤◌, true, false, cond, List, [], ◌∷◌, ◌++◌, length, map, Bool, Some, None, sym, ◌∙◌, ap, ap₂, subst, arith, refl}
 use Rattle.std.specs.Prelude.{filter_map, flat_map}
 use Rattle.std.specs.List.{cons_option, enumerate_from}
 use Rattle.std.proofs.lemmas.List.{length-map}

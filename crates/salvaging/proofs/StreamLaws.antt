@@ -2,8 +2,6 @@
 use Rattle.std.proofs.Common.{◌≡◌, ℕ, ◌+◌, cond, Bool, true, false, List, [], ◌∷◌, length, map, Option, Ok, refl, sym, ◌∙◌, ap, ap₂, subst, arith, ◌++◌}
 use Rattle.std.specs.Prelude.{flat_map, slice_range}
 use Rattle.std.specs.List.{enumerate_from}
-use Rattle.std.proofs.lemmas.List.{length-map}
-use Rattle.std.proofs.lemmas.List.FromFn.{length-enumerate_from}
 use Rattle.side_info.specs.declared.side.Side.{Side}
 use Rattle.side_info.specs.Side.{no_side}
 use Rattle.sync_survey.specs.declared.places.Head.{Head}

@@ -1,5 +1,5 @@
 -- A name that wasn't there was created.
-use Rattle.std.proofs.Common.{◌≡◌, ◌∙◌, None, Some, sym, subst}
+use Rattle.std.proofs.Common.{◌≡◌, ◌∙◌, None, sym, subst}
 use Rattle.std.proofs.lemmas.Result.{on_ok_weaker}
 use Rattle.outside.specs.Files.{Told, IsThere}
 use Rattle.in_memory.specs.Memory.{contents_of}

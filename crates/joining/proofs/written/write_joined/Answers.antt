@@ -1,19 +1,15 @@
 -- The output is created, and then written by a pass over the inputs, which stay.
 use Rattle.std.proofs.Common.{◌≡◌, ◌≢◌, List, ℕ, None, map, string_bytes, refl, ◌∙◌, ap, arith}
-use Rattle.outside.specs.declared.pass.PassFault.{PassFault}
-use Rattle.outside.specs.declared.pass.PassFault.TheVariants.{Read}
 use Rattle.outside.proofs.FilesLaws.{emptied_there, emptied_touches, fails_touches}
 use Rattle.std.proofs.lemmas.List.{length-map}
 use Rattle.sync_survey.specs.Faults.{tells}
 use Rattle.laying.specs.Relaid.{Part}
-use Rattle.commands.specs.One.{most_frames, holding, IsPassFault, first_input}
-use Rattle.commands.specs.PassFaults.{of_pass as of_one}
-use Rattle.commands.specs.Left.{Seen}
+use Rattle.commands.specs.One.{most_frames, holding, first_input}
 use Rattle.frame_edits.proofs.LaidPass.{appends-as_prefix}
 use Rattle.commands.proofs.OutputLaws.{output_whole, touches_whole, touches_prefix, pass_fault_over, not_begun}
 use Rattle.joining.specs.Join.{joined_file}
 use Rattle.joining.specs.Inputs.{told_parts}
-use Rattle.joining.specs.Laying.{AreSources, of_pass}
+use Rattle.joining.specs.Laying.{AreSources}
 use Rattle.joining.proofs.PlanLaws.{alike-first, can-some}
 use Rattle.joining.proofs.SourceLaws.{sources-inputs, first-source, sources-beside}
 use Rattle.joining.proofs.written.write_joined.Given as given
