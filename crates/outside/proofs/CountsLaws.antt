@@ -1,6 +1,6 @@
 -- Laws of counts that rise and of calls that only read or only write.
-use Rattle.std.proofs.Common.{ℕ, ◌≤◌, List, refl, ◌∙◌, ap, arith}
-use Rattle.outside.specs.Counts.{Rose, Happened, Ended, HappenedTo, EndedAt, Counts, NoneFell, OnlyReads, OnlyWrites, NothingFailed}
+use Rattle.std.proofs.Common.{ℕ, ◌≤◌, refl, ◌∙◌, ap, arith}
+use Rattle.outside.specs.Counts.{Rose, Happened, Ended, Counts, NoneFell, OnlyReads, OnlyWrites, NothingFailed}
 
 -- a count that rose and then didn't fall has risen
 pub rose_later : (a b c : ℕ) → Rose a b → b ≤ c → Rose a c
@@ -9,13 +9,6 @@ rose_later a b c rose later = omega arith
 -- a count that didn't fall and then rose has risen
 pub later_rose : (a b c : ℕ) → a ≤ b → Rose b c → Rose a c
 later_rose a b c later rose = omega arith
-
--- the same of what happened to a file
-pub later_happened : (name : List ℕ) (a b c : Happened) → a.times ≤ b.times → HappenedTo name b c → HappenedTo name a c
-later_happened name a b c later h = (later_rose a.times b.times c.times later h.0, h.1)
-
-pub later_ended : (name : List ℕ) (place : ℕ) (a b c : Ended) → a.times ≤ b.times → EndedAt name place b c → EndedAt name place a c
-later_ended name place a b c later h = (later_rose a.times b.times c.times later h.0, h.1, h.2)
 
 pub none_fell_same : (a : Counts) → NoneFell a a
 none_fell_same a = record { misses = omega arith; ends = omega arith; read_faults = omega arith; write_faults = omega arith }

@@ -2,7 +2,6 @@
 ghost use Rattle.std.specs.Prelude.{◌≡◌, ◌≤◌, length};
 ghost use Rattle.outside.specs.Counts.{never, once_more, noted};
 
-use arrayvec::ArrayVec;
 use std::marker::Model;
 
 // How many bytes of a name are kept: no system takes a longer one.
@@ -12,15 +11,20 @@ const LONGEST: usize = 4096;
 #[derive(Drop)]
 pub(crate) struct Occurrences {
     times: u64,
-    name: ArrayVec<u8, LONGEST>,
+    // The name stands in the first `length` bytes.
+    name: [u8; LONGEST],
+    length: usize,
 }
 
 impl Model for Occurrences {
+    ghost use Rattle.std.specs.Prelude.{◌≤◌, take};
     ghost use Rattle.outside.specs.Counts.{Happened};
 
     ghost Value = { Happened };
 
-    ghost view = { λ o. record { times = o.times; name = o.name.items } };
+    ghost view = { λ o. record { times = o.times; name = take o.length o.name } };
+
+    ghost invariant = { λ o. o.length ≤ 4096 };
 }
 
 impl Occurrences {
@@ -29,7 +33,8 @@ impl Occurrences {
     {
         Occurrences {
             times: 0,
-            name: ArrayVec::new(),
+            name: [0; LONGEST],
+            length: 0,
         }
     }
 
@@ -39,9 +44,9 @@ impl Occurrences {
         ensures later { self.old.times ≤ self.new.times }
     {
         self.times = self.times.saturating_add(1);
-        self.name.clear();
-        // There is room for as many.
-        let _ = self.name.try_extend_from_slice(front_of(name));
+        let front = front_of(name);
+        self.length = front.len();
+        self.name[..front.len()].copy_from_slice(front);
     }
 }
 
