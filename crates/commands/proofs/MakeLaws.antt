@@ -123,10 +123,6 @@ module _ (task : Task) (output : List ℕ) (free : clash_in task output ≡ None
         let held = there_holds f task.source making.there in
         (held.0, held.1, makes_free f ∙ ap (made_of output) (making.makes held.0 held.1).1)
 
-    made_takes : (files : Files) → IsMaking task file files → IfTold files (λ f. TakesMemory ((one_command task output).makes f))
-    made_takes (Untold touched) making = tt
-    made_takes (Told f) making = subst TakesMemory (sym (gives_made f making).2) tt
-
     made_none : (files : Files) (P : EditFault → Type 0) → IsMaking task file files → IfTold files (λ f. IfErr ((one_command task output).makes f) P)
     made_none (Untold touched) P making = tt
     made_none (Told f) P making = subst (λ r. IfErr r P) (sym (gives_made f making).2) tt
@@ -178,7 +174,6 @@ module _ (task : Task) (output : List ℕ) (free : clash_in task output ≡ None
             rose = subst (λ n. HappenedTo (slice_index_or (output ∷ []) n []) old.counts.write_faults new.counts.write_faults) (sym h.0) h.1.rose;
             files = subst (λ n. IsUnfinished (one_command task output) n old.files new.files) (sym h.0) (unfinished_part old.files new.files making short touches);
           }
-      pass_left_by NoMemory h = record { names = free; takes = made_takes old.files making; stays = h }
       pass_left_by _ h = absurd h
 
     -- from where the files and counts were left as they had been

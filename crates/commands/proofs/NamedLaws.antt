@@ -3,7 +3,7 @@ use Rattle.std.proofs.Common.{◌≡◌, ℕ, List, [], ◌∷◌, slice_index_o
 use Rattle.outside.specs.Counts.{HappenedTo, EndedAt}
 use Rattle.commands.specs.declared.fault.EditFault.{EditFault}
 use Rattle.commands.specs.declared.fault.EditFault.TheVariants.{Input}
-use Rattle.commands.specs.Left.{Why, Unread, Shorter, Unwritten, NoMemory, why_of, Seen, input_of, ended_at, EndsEarly, IsOfPass}
+use Rattle.commands.specs.Left.{Why, Unread, Shorter, Unwritten, why_of, Seen, input_of, ended_at, EndsEarly, IsOfPass}
 use Rattle.commands.specs.One.{first_input, MissesAt, ReadsNothing, LosesInput, IsBegun, IsLeftShort, IsPassFaultBy, IsPassFault}
 
 module _ (inputs : List (List ℕ)) (place : ℕ) {name : List ℕ} (named : name ≡ slice_index_or inputs place []) {old new : Seen} {fault : EditFault} where
@@ -49,5 +49,4 @@ among_all made inputs source first output old new fault numbers h = at (why_of f
     }
     at Shorter h = record { rose = subst (λ (n : List ℕ). EndedAt n (ended_at fault) old.counts.ends new.counts.ends) named h.rose; counts = h.counts; untold = h.untold }
     at (Unwritten k) h = (h.0, record { rose = h.1.rose; files = subst (λ n. IsLeftShort made n output old.files new.files) (sym first) h.1.files })
-    at NoMemory h = h
     at _ h = absurd h

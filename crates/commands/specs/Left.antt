@@ -57,7 +57,7 @@ abbrev pub ended_at : EditFault → ℕ
 ended_at (Input place fault) = end_of fault
 ended_at _ = 0
 
--- of nothing is told, a read of the input that the fault is of gave no byte at the offset that the fault says, and no call failed
+-- nothing is told of the files; a read of the input that the fault is of gave no byte at the offset that the fault says; and no call failed
 pub record EndsEarly (inputs : List (List ℕ)) (old new : Seen) (fault : EditFault) : Type 0 where
   pub rose : EndedAt (input_of inputs fault) (ended_at fault) old.counts.ends new.counts.ends
   pub counts : NothingFailed old.counts new.counts
@@ -179,11 +179,10 @@ IsOfInput refuses (Refused refusal) = refuses refusal ≡ true
 IsOfInput refuses Memory = Unit {0}
 IsOfInput refuses _ = ⊥
 
--- the fault is one of the second pass over the only input, or want of memory
+-- the fault is one of the second pass over the only input, for which all memory was taken before
 abbrev pub IsOfPass : EditFault → Type 0
 IsOfPass (Input place fault) = (place ≡ 0) × (fault ≢ NoRoom) × HasRightNumbers fault
 IsOfPass (Write place) = place ≡ 0
-IsOfPass Memory = Unit {0}
 IsOfPass _ = ⊥
 
 -- the fault is a refusal that passes the test

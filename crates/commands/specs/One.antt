@@ -256,7 +256,6 @@ abbrev pub IsPassFaultBy : (List ℕ → List ℕ) → List (List ℕ) → List 
 IsPassFaultBy made inputs output old new fault Unread = StopsReading made inputs output old new fault
 IsPassFaultBy made inputs output old new fault Shorter = EndsEarly inputs old new fault
 IsPassFaultBy made inputs output old new fault (Unwritten k) = (k ≡ 0) × StopsWriting made (first_input inputs) output old new
-IsPassFaultBy made inputs output old new fault NoMemory = new ≡ old
 IsPassFaultBy made inputs output old new fault _ = ⊥
 
 -- what a fault leaves that was met while the output was written

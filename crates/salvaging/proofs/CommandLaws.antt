@@ -281,5 +281,4 @@ module _ (input output : List ℕ) where
   pub numbers-pass : (fault : EditFault) → IsOfPass fault → HasNumbers (salvage_command input output) fault
   numbers-pass (Input place fault) h = (omega (arith, h.0), h.1, h.2, inl h.0)
   numbers-pass (Write place) h = omega (arith, h)
-  numbers-pass Memory h = tt
   numbers-pass _ h = absurd h
