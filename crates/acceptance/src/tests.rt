@@ -6,6 +6,7 @@ mod laid;
 mod salvaged;
 mod shrinking;
 mod tags;
+mod wrong_rows;
 
 use command_runs::running::Program;
 use in_memory::MemSink;

@@ -3,7 +3,10 @@
 //! The status stays, and a prefix of the line was sent: nothing where the first write fails, and all of it where none of the number
 //! is made.
 
-use crate::scripts::{Stop, is_line, last_said, other_line, parted, prepare, said};
+use command_rows::before::prepare;
+use command_rows::ended::{is_line, other_line};
+use command_rows::lines::{last_said, parted, said};
+use command_rows::stop::Stop;
 use command_runs::differences::{Found, wants_memory};
 use command_runs::running::{Ended, Program, run_failing};
 use in_memory::MemFolder;

@@ -9,15 +9,17 @@
 //! names them, whole up to one, of which there is a prefix, with nothing after it. One where no call fails ends with status 0 and all
 //! outputs whole. The text counts as the last output.
 
-use crate::scripts::{
-    Stop, call_of, compare_kept, compare_outputs, fail_call, is_line, last_said, other_line,
-    parted, prepare, said,
-};
+use command_rows::before::{call_of, fail_call, prepare};
+use command_rows::ended::{is_line, other_line};
+use command_rows::files::{compare_kept, compare_outputs};
+use command_rows::lines::{last_said, parted, said};
+use command_rows::progress::{Progress, progress_of};
+use command_rows::stop::Stop;
 use command_runs::differences::{Found, wants_memory};
 use command_runs::running::{Ended, Program, run_failing};
 use in_memory::{Call, MemFolder};
 use std::alloc::Global;
-use test_files::texts::{Named, bytes_of_words, number_of};
+use test_files::texts::{Named, number_of};
 
 /// More calls of one kind than any of these commands makes.
 const MOST: usize = 60;
@@ -40,14 +42,6 @@ struct Failing<'a> {
     number: usize,
     line: &'static str,
     text: &'a [u8],
-}
-
-/// How far the outputs were written, where they are whole up to one, of which there is a prefix, with nothing after it.
-#[derive(Clone, Copy)]
-enum Progress {
-    Whole(usize),
-    Part(usize),
-    Neither,
 }
 
 /// How many bytes this word says, and what is after it.
@@ -86,59 +80,6 @@ fn line_of(lines: &'static str, number: usize) -> &'static str {
         }
     }
     told.unwrap_or("")
-}
-
-/// The progress with one output more.
-fn progressed(progress: Progress, found: &[u8], wanted: &[u8]) -> Progress {
-    match progress {
-        Progress::Whole(count) if found == wanted => {
-            Progress::Whole(count.saturating_add(found.len()))
-        }
-        Progress::Whole(count) if wanted.starts_with(found) => {
-            Progress::Part(count.saturating_add(found.len()))
-        }
-        Progress::Part(count) if found.is_empty() => Progress::Part(count),
-        _ => Progress::Neither,
-    }
-}
-
-fn progress_with(
-    alloc: Global,
-    folder: &MemFolder,
-    names: &[Named],
-    file: &'static str,
-    progress: Progress,
-) -> Result<Progress, Stop> {
-    let (name, words) = parted(file);
-    let wanted = bytes_of_words(alloc, names, words)?;
-    Ok(progressed(progress, folder.get(name).unwrap_or(&[]), &wanted))
-}
-
-fn progress_of_files(
-    alloc: Global,
-    folder: &MemFolder,
-    names: &[Named],
-    row: &'static str,
-) -> Result<Progress, Stop> {
-    let mut progress = Progress::Whole(0);
-    for line in row.lines() {
-        if let Some(file) = line.strip_prefix("> ") {
-            progress = progress_with(alloc, folder, names, file, progress)?;
-        }
-    }
-    Ok(progress)
-}
-
-fn progress_of(
-    alloc: Global,
-    folder: &MemFolder,
-    names: &[Named],
-    row: &'static str,
-    sent: &[u8],
-    text: &[u8],
-) -> Result<Progress, Stop> {
-    let files = progress_of_files(alloc, folder, names, row)?;
-    Ok(progressed(files, sent, text))
 }
 
 /// How many bytes were written when the call failed, where one did.

@@ -2,7 +2,6 @@
 mod first_faults;
 mod long;
 mod lost;
-mod plain;
 mod shapes;
 mod shrunk;
 mod stretches;

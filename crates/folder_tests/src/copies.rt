@@ -2,7 +2,6 @@
 //!
 //! A test owns its folder and ends in one place, and what it asserts is in small functions that borrow it: that costs the check least.
 mod real;
-mod shaky;
 
 use in_memory::{Call, MemFolder};
 use outside::{Failed, Folder, read_full, write_all};

@@ -1,9 +1,9 @@
 //! The first faults of small files: worked out by hand, by the plain reading, and by the survey.
 
-use super::plain::first_fault;
 use super::shapes::survey_fault;
 use super::stretches::{HEAD, OTHER_CLASS, SHORT, SHORT_LOUD, SHORT_OF_FOUR, Z};
 use super::walks;
+use plain_reading::first_fault;
 use std::alloc::{AllocError, AllocGlobal, Global};
 use std::process::Abort;
 use std::test::Fail;

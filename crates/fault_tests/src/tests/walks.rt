@@ -1,8 +1,8 @@
 //! Files whose walk was worked out by hand, from the lengths of the standard's tables and the layouts of the blocks.
 
-use super::plain::first_fault;
 use super::shapes::{Shape, is_surveyed, survey_fault};
 use super::stretches::{Case, HEAD, HEADER, OTHER_CLASS, SILENCE, Z};
+use plain_reading::first_fault;
 use std::alloc::{AllocError, Global};
 use std::process::Abort;
 use std::test::Fail;

@@ -1,8 +1,8 @@
 //! What the system does with real files and streams.
 use super::copied;
-use super::shaky::{Moves, Notes, Shaky};
 use on_disk::{DiskFolder, StdSink};
 use outside::{Failed, FindFault, Folder, Sink};
+use shaky_files::{Moves, Notes, Shaky};
 use std::fs;
 use std::io::Write;
 use std::os::unix::fs::symlink;

@@ -1,4 +1,6 @@
 //! Real files and a writer that a signal interrupts, that move few bytes, and that fail.
+#![tactic(auto)]
+
 ghost use Rattle.std.specs.Prelude.{◌≤◌, IfOk};
 
 use std::alloc::Allocator;
@@ -11,10 +13,12 @@ use std::rt::Files;
 /// and all others are as they should be.
 #[derive(Drop)]
 pub struct Moves {
+    /// How many there were.
     pub calls: u64,
 }
 
 impl Moves {
+    /// No call was made.
     pub fn new() -> Moves {
         Moves { calls: 0 }
     }
@@ -48,6 +52,7 @@ pub struct Shaky<'a, R: Files> {
     pub files: &'a R,
 }
 
+/// A file that was opened so.
 #[derive(Drop)]
 pub struct ShakyFile<F> {
     file: F,
