@@ -9,15 +9,14 @@ use Rattle.cue_sheet.specs.Places.{frame_at}
 use Rattle.info_header.specs.Info.{info_in, flags_in, field_place}
 use Rattle.slot_plan.specs.declared.needs.Need.{Need}
 use Rattle.slot_plan.specs.declared.needs.Placed.{Placed}
-use Rattle.slot_plan.specs.Parts.{parts_of, window_in, ArePartsFeasible, AreOfClass}
+use Rattle.slot_plan.specs.Parts.{parts_of, window_in}
 use Rattle.slot_plan.specs.Plans.{IsPlan}
 use Rattle.slot_plan.specs.Laws.{ChooseInOrder}
-use Rattle.slot_plan.proofs.ThePlan.{plan-the_plan}
 use Rattle.slot_plan.proofs.AreaLaws.{only_one}
 use Rattle.part_needs.specs.Needs.{Asked, need_of, needs_of, asked_of}
 use Rattle.part_needs.specs.Fit.{IsPlaced, AreFit}
 use Rattle.part_needs.proofs.FitLaws.{part-known}
-use Rattle.part_needs.proofs.PartsLaws.{one-part-fits, parts_are}
+use Rattle.part_needs.proofs.PartsLaws.{one-part-fits, parts-plan, parts_are}
 use Rattle.laying.specs.Surveys.{HasSurvey}
 use Rattle.laying.specs.Relaid.{AreSlots}
 use Rattle.laying.specs.Fits.{FitsFrom, IsFitting}
@@ -80,11 +79,7 @@ module _ (chosen : Chosen) (s : SurveyFields) (placed : IsPlaced s) (some : chos
   part_is = parts_are [] 0 (part_rows ∷ []) refl
 
   one_plan : (ps : List Placed) → IsPlan (window_of s.class.version) (choices_by chosen.slots) (map need_of part_rows ∷ []) ps ↔ (ps ≡ plan_of chosen s)
-  one_plan ps =
-      plan-the_plan s.class (choices_by chosen.slots) (map need_of part_rows ∷ []) ps
-      (subst (λ (parts : List (List Need)). All (λ p. AreOfClass s.class p) parts) part_is rows-fit.each)
-      (subst (ChooseInOrder (choices_by chosen.slots)) part_is (chosen_kind chosen.slots s.class part_rows rows-fit))
-      (subst (λ (n : ℕ). ArePartsFeasible n (map need_of part_rows ∷ [])) rows-fit.window (subst (ArePartsFeasible (window_in asked.needs)) part_is rows-fit.planned.feasible))
+  one_plan ps = parts-plan s.class (choices_by chosen.slots) (part_rows ∷ []) ps rows-fit (chosen_kind chosen.slots s.class part_rows rows-fit)
 
   pub the-plan : IsPlan (window_of s.class.version) (choices_by chosen.slots) (map need_of part_rows ∷ []) (plan_of chosen s)
   the-plan = (one_plan (plan_of chosen s)).1 refl

@@ -8,13 +8,11 @@ use Rattle.frame_header.specs.Limits.{most_placed}
 use Rattle.slot_plan.specs.declared.needs.Need.{Need}
 use Rattle.slot_plan.specs.declared.needs.Placed.{Placed}
 use Rattle.slot_plan.specs.ThePlan.{the_plan}
-use Rattle.slot_plan.specs.Parts.{parts_of, window_in, ArePartsFeasible, AreOfClass}
+use Rattle.slot_plan.specs.Parts.{parts_of, window_in}
 use Rattle.slot_plan.specs.Plans.{IsPlan}
-use Rattle.slot_plan.specs.Laws.{ChooseInOrder}
-use Rattle.slot_plan.proofs.ThePlan.{plan-the_plan}
 use Rattle.part_needs.specs.Needs.{Asked, need_of, needs_of, places_from, asked_of}
 use Rattle.part_needs.specs.Fit.{own_choice, IsPartOf, AreFit}
-use Rattle.part_needs.proofs.PartsLaws.{parts-fit, parts_are}
+use Rattle.part_needs.proofs.PartsLaws.{parts-fit, parts-plan}
 use Rattle.laying.proofs.FitLaws.{plans-fit, asked-plans}
 use Rattle.laying.proofs.PlacesLaws.{range-whole, plan-length}
 use Rattle.sync_survey.specs.declared.rows.Row.{Row}
@@ -87,11 +85,7 @@ module _ (ss : List SurveyFields) (can : CanBeJoined ss) where
   window-is = all-fit.window ∙ ap window_for (sym can.first)
 
   one-plan : (placed : List Placed) → IsPlan window own_choice parts placed ↔ (placed ≡ the_plan window own_choice parts)
-  one-plan placed =
-      let same : parts_of asked.needs asked.places ≡ parts = parts_are [] 0 (rows_of ss) refl in
-      rw can.first
-      (plan-the_plan can.class own_choice parts placed (subst (λ (ps : List (List Need)). All (λ p. AreOfClass can.class p) ps) same all-fit.each) (subst (ChooseInOrder own_choice) same all-fit.kept)
-      (subst (λ (n : ℕ). ArePartsFeasible n parts) all-fit.window (subst (ArePartsFeasible (window_in asked.needs)) same all-fit.planned.feasible)))
+  one-plan placed = rw can.first (parts-plan can.class own_choice (rows_of ss) placed all-fit all-fit.kept)
 
   pub the-plan : IsPlan window own_choice parts (the_plan window own_choice parts)
   the-plan = (one-plan _).1 refl

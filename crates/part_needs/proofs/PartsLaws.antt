@@ -1,6 +1,6 @@
 -- Parts one after the other: each begins where those before it end, and each alone has its layout.
 use Rattle.std.proofs.Common.{◌≡◌, ℕ, suc, ◌+◌, ◌-◌, ◌<◌, ◌≤◌, List, [], ◌∷◌, ◌++◌, length, length-append, append_assoc, append-nil, take, drop, map, All, AllPairs, refl, sym, ap, ap₂, ◌∙◌, subst, arith}
-use Rattle.std.specs.Prelude.{slice_range}
+use Rattle.std.specs.Prelude.{◌↔◌, slice_range}
 use Rattle.std.proofs.lemmas.List.{length-map, length-take-le, length-drop}
 use Rattle.std.proofs.lemmas.List.Concat.{flat_map-append}
 use Rattle.std.proofs.lemmas.List.Elements.{All-cons}
@@ -14,6 +14,10 @@ use Rattle.frame_header.specs.Slots.{all_slots}
 use Rattle.frame_header.proofs.HeaderLaws.{IsClass-class_of}
 use Rattle.frame_header.proofs.SlotLaws.{areas-ascend, Contains-all_slots}
 use Rattle.slot_plan.specs.Laws.{ChoosesInOrder, ChooseInOrder}
+use Rattle.slot_plan.specs.Plans.{IsPlan}
+use Rattle.slot_plan.specs.ThePlan.{the_plan}
+use Rattle.slot_plan.specs.declared.needs.Placed.{Placed}
+use Rattle.slot_plan.proofs.ThePlan.{plan-the_plan}
 use Rattle.slot_plan.proofs.AreaLaws.{class-ascend}
 use Rattle.slot_plan.specs.declared.needs.Need.{Need}
 use Rattle.slot_plan.specs.Layouts.{IsFeasible}
@@ -212,6 +216,17 @@ one-part-fits s from to placed some within =
     let part : IsPartOf s.class (slice_range s.frames from to) =
     record { survey = s; from = from; to = to; placed = placed; same = refl; some = some; within = within; are = refl } in
     planned s.class (slice_range s.frames from to ∷ []) (omega arith) (fits s.class (slice_range s.frames from to) part, tt)
+
+-- the plan of parts that can be planned is the first of all, by either policy
+pub parts-plan : (class : ClassFields) (choices : HeaderFields → List SlotFields) (parts : List (List Row)) (placed : List Placed) → AreFit class (asked_of parts)
+    → ChooseInOrder choices (parts_of (asked_of parts).needs (asked_of parts).places)
+    → IsPlan (window_of class.version) choices (map (map need_of) parts) placed ↔ (placed ≡ the_plan (window_of class.version) choices (map (map need_of) parts))
+parts-plan class choices parts placed fit in_order =
+    let are : parts_of (asked_of parts).needs (asked_of parts).places ≡ map (map need_of) parts = parts_are [] 0 parts refl in
+    plan-the_plan class choices (map (map need_of) parts) placed
+    (subst (All (AreOfClass class)) are fit.each)
+    (subst (ChooseInOrder choices) are in_order)
+    (subst (λ (n : ℕ). ArePartsFeasible n (map (map need_of) parts)) fit.window (subst (ArePartsFeasible (window_in (asked_of parts).needs)) are fit.planned.feasible))
 
 -- ---- one part more
 
