@@ -32,7 +32,8 @@ use Rattle.packing.specs.Packing.{packing}
 use Rattle.packing.specs.Rates.{rates_plan}
 use Rattle.packing.specs.Rules.{best_planning, most_best, unless_fault, limited_by}
 use Rattle.packing.specs.Modes.{pack_task, pack_mode_command}
-use Rattle.splitting.specs.Split.{piece_names, places_where, given, told_by, split_at_command, split_by_command}
+use Rattle.piece_names.specs.Names.{piece_names}
+use Rattle.splitting.specs.Split.{places_where, given, told_by, split_at_command, split_by_command}
 use Rattle.job_words.specs.Asked.{Help, Version, ListFile, Gain, Undo, Cut, Pack, SplitAt, SplitBy, Join, Drill, Fade}
 use Rattle.legality.specs.Inputs.{AreApart, Input, AreInputs, frames_of}
 use Rattle.legality.specs.Choices.{IsLegalGain, IsLegalUndo, IsLegalFade, IsRange, ArePieces, IsLegalSheet, IsLegalPack}

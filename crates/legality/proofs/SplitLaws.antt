@@ -23,7 +23,8 @@ use Rattle.commands.proofs.RefusingLaws.{then_ok, unless_ok}
 use Rattle.frame_edits.specs.declared.chosen.Slots.{Slots}
 use Rattle.frame_edits.specs.declared.chosen.Slots.TheVariants.{Own}
 use Rattle.frame_edits.specs.Chosen.{Chosen, outside_fault, chosen_with, laid_with, cut_choice}
-use Rattle.splitting.specs.Split.{piece_names, frames_between, with_first, chosen_from, chosen_at, pieces_from, made_of, made_at, made_by, made_where, unless_equal, made_result, Placing, split_command, with_end, places_where}
+use Rattle.piece_names.specs.Names.{piece_names}
+use Rattle.splitting.specs.Split.{frames_between, with_first, chosen_from, chosen_at, pieces_from, made_of, made_at, made_by, made_where, unless_equal, made_result, Placing, split_command, with_end, places_where}
 use Rattle.legality.specs.Inputs.{EachNext}
 use Rattle.legality.specs.Choices.{IsRange, ArePieces}
 use Rattle.legality.specs.Laws.{Makes}

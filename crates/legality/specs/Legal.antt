@@ -2,7 +2,7 @@
 use Rattle.std.specs.Prelude.{ℕ, ◌≤◌, List, [], ◌∷◌, ◌++◌}
 use Rattle.outside.specs.Files.{Contents}
 use Rattle.commands.specs.One.{most_frames}
-use Rattle.splitting.specs.Split.{piece_names}
+use Rattle.piece_names.specs.Names.{piece_names}
 use Rattle.packing.specs.Rules.{most_best}
 use Rattle.pack_mode.specs.declared.mode.PackMode.{PackMode}
 use Rattle.pack_mode.specs.declared.mode.PackMode.TheVariants.{Least, Best, Constant, Floor}

@@ -16,6 +16,7 @@ use Rattle.legality.proofs.SplitLaws.{split-parts}
 use Rattle.drill.specs.Drilled.{IsDrillFault}
 use Rattle.commands.specs.Said.{Heard, IsText, Says, fault_of}
 use Rattle.commands.specs.Left.{Why, Rejected, Missing, Unread, Shorter, Unwritten, Unsent, NoMemory, why_of, Seen, IsDone, IsRefused, LeavesBy, Leaves, HasNumbers}
+use Rattle.commands.specs.Runs.{IsRunOf}
 use Rattle.commands.proofs.TouchLaws.{left_touched}
 use Rattle.job_words.specs.Asked.{Asked}
 use Rattle.job_words.specs.Words.{job_of}
@@ -67,7 +68,7 @@ module _ (command : Command) (old new : Seen) (out_old out_new err_old err_new :
     Failed : (fault : EditFault) (why : Why) → all.fault ≡ Some fault → status ≡ status_by why → why_of fault ≡ why → LeavesBy command old new fault why → Case
 
   case_of : Case
-  case_of = at all.fault refl all.status_is all.left
+  case_of = at all.fault refl all.status_is all.ends.left
     where
       at : (o : Option EditFault) → all.fault ≡ o → status ≡ fault_status o → IfSome o (Leaves command old new) → Case
       at None e is left = Done is e
@@ -78,7 +79,7 @@ module _ (command : Command) (old new : Seen) (out_old out_new err_old err_new :
   touched = at case_of
     where
       at : Case → OnlyTouches command.outputs old.files new.files
-      at (Done is e) = (all.done e).touches
+      at (Done is e) = (all.ends.done e).touches
       at (Failed fault why e is w left) = left_touched command old new fault (subst (LeavesBy command old new fault) (sym w) left)
 
   done_at : status ≡ 0 → all.fault ≡ None
@@ -96,10 +97,60 @@ module _ (command : Command) (old new : Seen) (out_old out_new err_old err_new :
 
   -- what standard output got
   says_here : (o : Option EditFault) → all.fault ≡ o → Says command old.files out_old out_new o
-  says_here o e = subst (Says command old.files out_old out_new) e all.says
+  says_here o e = subst (Says command old.files out_old out_new) e all.ends.says
 
   nothing_by : (fault : EditFault) (why : Why) → all.fault ≡ Some fault → status ≡ status_by why → status ≢ 3 → why_of fault ≡ why → out_new ≡ out_old
   nothing_by fault why e is other w = sent_none command old.files out_old out_new fault (λ unsent. other (is ∙ ap status_by (sym w ∙ unsent))) (says_here (Some fault) e)
+
+  -- ---- by its status
+
+  pub at_most : status ≤ 4
+  at_most = at case_of
+    where
+      at : Case → status ≤ 4
+      at (Done is e) = omega (arith, is)
+      at (Failed fault why e is w left) = omega (arith, is, (by_status why).1)
+
+  pub not_two : status ≢ 2
+  not_two two = at case_of
+    where
+      at : Case → ⊥
+      at (Done is e) = absurd (omega (arith, is, two))
+      at (Failed fault why e is w left) = (by_status why).2 (sym is ∙ two)
+
+  -- what is refused, and want of memory, leave all as it was
+  stays_by : (fault : EditFault) (why : Why) → status ≡ status_by why → status ≢ 3 → LeavesBy command old new fault why → new ≡ old
+  stays_by fault Rejected is other left = left.stays
+  stays_by fault NoMemory is other left = left.stays
+  stays_by fault _ is other left = absurd (other is)
+
+  pub kept : status ≢ 0 → status ≢ 3 → new.files ≡ old.files
+  kept some other = at case_of
+    where
+      at : Case → new.files ≡ old.files
+      at (Done is e) = absurd (some is)
+      at (Failed fault why e is w left) = ap (λ (s : Seen). s.files) (stays_by fault why is other left)
+
+  pub counts_kept : status ≢ 3 → new.counts ≡ old.counts
+  counts_kept other = at case_of
+    where
+      at : Case → new.counts ≡ old.counts
+      at (Done is e) = (all.ends.done e).counts
+      at (Failed fault why e is w left) = ap (λ (s : Seen). s.counts) (stays_by fault why is other left)
+
+  pub silent : status ≢ 0 → status ≢ 3 → out_new.sent ≡ out_old.sent
+  silent some other = at case_of
+    where
+      at : Case → out_new.sent ≡ out_old.sent
+      at (Done is e) = absurd (some is)
+      at (Failed fault why e is w left) = ap (λ (h : Heard). h.sent) (nothing_by fault why e is other w)
+
+  pub says_always : status ≡ 0 → IfSome command.always (λ text. out_new.sent ≡ sent_more out_old.sent text)
+  says_always zero_is = at command.always refl
+    where
+      at : (o : Option (List ℕ)) → command.always ≡ o → IfSome o (λ text. out_new.sent ≡ sent_more out_old.sent text)
+      at None e = tt
+      at (Some text) e = (says_here None (done_at zero_is)).text text (inl e)
 
   -- ---- over files that are told
   module _ (f : Contents) (told : old.files ≡ Told f) where
@@ -107,7 +158,7 @@ module _ (command : Command) (old new : Seen) (out_old out_new err_old err_new :
     gives r h = subst (λ files. Gives command files r) told h
 
     made_here : all.fault ≡ None → (made : Made) × (command.makes f ≡ Ok made) × (new.files ≡ Told (written made.outputs f))
-    made_here e = subst (λ files. IfTold files (λ g. (made : Made) × (command.makes g ≡ Ok made) × (new.files ≡ Told (written made.outputs g)))) told (all.done e).made
+    made_here e = subst (λ files. IfTold files (λ g. (made : Made) × (command.makes g ≡ Ok made) × (new.files ≡ Told (written made.outputs g)))) told (all.ends.done e).made
 
     abbrev IsAsDefinedBy : Result Made EditFault → Type 0
     IsAsDefinedBy r = IsOutcome (made_outcome command f r) (world old out_old err_old) (world new out_new err_new) status
@@ -240,6 +291,10 @@ pub one_made : (output : List ℕ) (r : Result (List ℕ) EditFault) (made : Mad
 one_made output (Ok bytes) made is = (bytes, cc)
 one_made output (Err fault) made is = absurd cc
 
+-- what every call of a command that makes files says
+pub run_ends : (command : Command) → IsSilent command → (r : Result (Unit {0}) EditFault) (old new : Seen) (out : Heard) → IsRunOf command old new r → Ends command old new out out (fault_of r)
+run_ends command no_text r old new out run = silent_ends command no_text r old new out run.done run.left run.numbers run.names
+
 pub one_silent : (task : Task) (output : List ℕ) → IsSilent (one_command task output)
 one_silent task output = record { always = refl; silent = λ f made is. sym (ap (λ (made : Made). made.text) (one_made output (made_result task output f) made is).1) }
 
@@ -267,13 +322,6 @@ module _ (text : List ℕ) (some : Some text ≢ Some []) (now : Seen) where
 pub sent_alone : {T : Type 0} (r : Result T EditFault) → IfErr r (λ fault. fault ≡ NotSent) → IfErr r IsDrillFault
 sent_alone (Ok x) is = tt
 sent_alone (Err fault) is = subst IsDrillFault (sym is) tt
-
--- ---- how a command ended, with its status and its line
-
-pub ends_answers : (command : Command) (old new : Seen) (out_old out_new err_old err_new : Heard) (fault : Option EditFault) (status : ℕ) → Ends command old new out_old out_new fault → status ≡ fault_status fault
-    → GetsLine err_old err_new (line_of command fault) → Answers command (world old out_old err_old) (world new out_new err_new) status
-ends_answers command old new out_old out_new err_old err_new fault status ends status_is line =
-    record { fault = fault; status_is = status_is; line = line; says = ends.says; done = ends.done; left = ends.left; numbers = ends.numbers; names = ends.names }
 
 -- with status 0 it was done
 pub done_where_zero : {T P : Type 0} (r : Result T EditFault) → fault_status (fault_of r) ≡ 0 → OnOk r P → P

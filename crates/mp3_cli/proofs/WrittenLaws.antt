@@ -28,7 +28,8 @@ use Rattle.fading.specs.Fade.{fade_task}
 use Rattle.packing.specs.Modes.{pack_task}
 use Rattle.commands.specs.Left.{Seen}
 use Rattle.commands.specs.Said.{Heard}
-use Rattle.splitting.specs.Split.{piece_name, piece_names, frames_between, with_first, chosen_from, chosen_at, pieces_from, places_where, Placing, split_command, given, told_by}
+use Rattle.piece_names.specs.Names.{piece_name, piece_names}
+use Rattle.splitting.specs.Split.{frames_between, with_first, chosen_from, chosen_at, pieces_from, places_where, Placing, split_command, given, told_by}
 use Rattle.legality.proofs.SplitLaws.{split-parts, cue-parts}
 use Rattle.mp3_cli.proofs.RunLaws.{files_where_done, if_told, one_made}
 use Rattle.mp3_cli.specs.Run.{command_of, world, Answers, AreThere, HoldsWritten, HoldsAllStreams}

@@ -67,7 +67,7 @@ pub record World : Type 0 where
 abbrev pub world : Seen → Heard → Heard → World
 world folder out err = record { folder = folder; out = out; err = err }
 
--- How a command ended, with this fault or none: the text of the command was sent where it was done, and a fault has its cause and what it leaves. Equal
+-- How a command ended, with this fault or none: it was done, and its text was sent, or the fault has its cause, its numbers and what it leaves. Equal
 -- names are found whatever else is at fault.
 pub record Ends (command : Command) (old new : Seen) (out_old out_new : Heard) (fault : Option EditFault) : Type 0 where
   pub says : Says command old.files out_old out_new fault
@@ -76,17 +76,12 @@ pub record Ends (command : Command) (old new : Seen) (out_old out_new : Heard) (
   pub numbers : IfSome fault (HasNumbers command)
   pub names : (place : ℕ) → clash_of command ≡ Some place → fault ≡ Some (EqualNames place)
 
--- The command was done, or there is a fault with its status, its line, its cause and what it leaves. The line was sent whole, or a prefix of it where a
--- write failed; the text of the command was sent where it was done. Equal names are found whatever else is at fault.
+-- The command ended, with a fault or none, and that has its status and its line, which was sent whole, or a prefix of it where a write failed.
 pub record Answers (command : Command) (old new : World) (status : ℕ) : Type 0 where
   pub fault : Option EditFault
+  pub ends : Ends command old.folder new.folder old.out new.out fault
   pub status_is : status ≡ fault_status fault
   pub line : GetsLine old.err new.err (line_of command fault)
-  pub says : Says command old.folder.files old.out new.out fault
-  pub done : fault ≡ None → IsDone command old.folder new.folder
-  pub left : IfSome fault (Leaves command old.folder new.folder)
-  pub numbers : IfSome fault (HasNumbers command)
-  pub names : (place : ℕ) → clash_of command ≡ Some place → fault ≡ Some (EqualNames place)
 
 -- a bad word: its line is sent, and all else stays
 pub record AnswersBadWord (place : ℕ) (old new : World) (status : ℕ) : Type 0 where

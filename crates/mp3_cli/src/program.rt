@@ -12,11 +12,19 @@ ghost use Rattle.program_texts.specs.Texts.{GotLine};
 ghost use Rattle.mp3_cli.specs.Run.{command_of, always_of, fault_status, result_line, world, Ends, Answers, AnswersWords, outcome, IsOutcome, IsLegal, HoldsAllStreams, outputs_asked};
 
 use crate::job_names::{inputs_of, outputs_of};
+use commands::EditFault;
 use drill::drill;
-use edits::{EditFault, Points, cut, fade, gain, join, list, pack_with, salvage, split, undo};
+use fading::fade;
+use frame_edits::cut;
+use gain_edits::{gain, undo};
 use job_words::{Job, job};
+use joining::join;
+use listing::list;
 use outside::{Folder, Sink};
+use packing::pack_with;
 use program_texts::{Outputs, say_help, say_version, send_bad_word, send_fault, status};
+use salvaging::salvage;
+use splitting::{Points, split};
 use std::alloc::Global;
 
 /// Sends the line of a fault, if there is one, and answers the status.

@@ -1,6 +1,6 @@
 //! Lines as lists of parts, and how they are sent.
 ghost use Rattle.std.specs.Prelude.{◌≡◌, ◌≤◌, ◌<◌, ◌+◌, ◌%◌, ◌++◌, ◌∷◌, [], OnOk, OnErr, length, map, flat_map};
-ghost use Rattle.splitting.specs.Split.{piece_name as piece_name_lem};
+ghost use Rattle.piece_names.specs.Names.{piece_name as piece_name_lem};
 ghost use Rattle.program_texts.specs.Lines.{hex_digit as hex_digit_lem, hex_word, Text, Number, Name, spelled_part, spelled, part_of};
 ghost use Rattle.program_texts.specs.Texts.{GotWhole, GotFront, GotLine};
 

@@ -34,12 +34,13 @@ use Rattle.commands.specs.One.{most_frames, IsFileFaultBy, IsFileFault}
 use Rattle.commands.specs.Runs.{IsRunOf}
 use Rattle.sync_survey.proofs.SurveyedFiles.{survey_of-sound}
 use Rattle.frame_edits.proofs.ChosenLaws.{cut_proper}
-use Rattle.splitting.specs.Split.{piece_names, frames_between, with_first, chosen_from, chosen_at, pieces_from, made_of, made_at, made_by, made_where, unless_equal, made_result, streams_of, streams_at, streams_by, streams_where, Placing, split_command_of, with_end, places_where, placing_of, more_of, sheet_refuses}
+use Rattle.piece_names.specs.Names.{piece_names}
+use Rattle.splitting.specs.Split.{frames_between, with_first, chosen_from, chosen_at, pieces_from, made_of, made_at, made_by, made_where, unless_equal, made_result, streams_of, streams_at, streams_by, streams_where, Placing, split_command_of, with_end, places_where, placing_of, more_of, sheet_refuses}
 use Rattle.splitting.specs.declared.piece.Piece.{Piece}
 use Rattle.splitting.specs.declared.split_file.Points.{Points}
 use Rattle.splitting.specs.declared.split_file.Points.TheVariants.{Places, Sheet as InSheet}
 use Rattle.splitting.specs.Steps.{Says, IsPlacesFaultBy, IsPlacesFault, ArePieces, chosen_of, outputs_of, names_of, with_outputs, with_part, IsWrittenPart, IsUnfinishedPart, IsPiecesFaultBy, IsPiecesFault, IsOfPieces, StopsShort, IsOfPlaces}
-use Rattle.splitting.proofs.NamesLaws.{names-length}
+use Rattle.piece_names.proofs.NamesLaws.{names-length}
 use Rattle.commands.proofs.NamedLaws.{first_at, missed_name, unread_name, lost_name}
 use Rattle.outside.specs.Counts.{HappenedTo, EndedAt}
 use Rattle.splitting.proofs.PiecesLaws.{outputs-are, names-first, names-all, name-here}

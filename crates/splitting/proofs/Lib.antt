@@ -1,5 +1,4 @@
 -- The lemmas of this crate.
-pub mod NamesLaws
 pub mod OutputsLaws
 pub mod PiecesLaws
 pub mod CommandLaws

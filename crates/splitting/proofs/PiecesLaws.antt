@@ -14,8 +14,9 @@ use Rattle.sync_survey.specs.Faults.{SurveyFields}
 use Rattle.commands.specs.declared.fault.EditFault.{EditFault}
 use Rattle.frame_edits.specs.Chosen.{Chosen, chosen_in, chosen_file}
 use Rattle.splitting.specs.declared.piece.Piece.{Piece}
-use Rattle.splitting.proofs.NamesLaws.{names-length, name-at}
-use Rattle.splitting.specs.Split.{piece_name, piece_names, frames_between, with_first, chosen_from, pieces_from}
+use Rattle.piece_names.proofs.NamesLaws.{names-length, name-at}
+use Rattle.piece_names.specs.Names.{piece_name, piece_names}
+use Rattle.splitting.specs.Split.{frames_between, with_first, chosen_from, pieces_from}
 use Rattle.splitting.specs.Steps.{IsReady, ArePieces, CanBeWritten, chosen_of, outputs_of, names_of}
 
 -- ---- the choice

@@ -1,6 +1,6 @@
 -- One file cut at positions: the frames between two neighbouring positions are a piece, a file of its own.
-use Rattle.std.specs.Prelude.{ℕ, ◌≤◌, ◌+◌, ◌/◌, ◌%◌, ◌||◌, Bool, true, false, List, [], ◌∷◌, ◌++◌, length, map, replicate, codes, Option, Some, None, Result, Ok, Err}
-use Rattle.std.specs.List.{All, range_with_len}
+use Rattle.std.specs.Prelude.{ℕ, ◌≤◌, ◌+◌, ◌||◌, Bool, true, false, List, [], ◌∷◌, ◌++◌, length, map, replicate, Option, Some, None, Result, Ok, Err}
+use Rattle.std.specs.List.{All}
 use Rattle.frame_header.specs.Fields.{ClassFields}
 use Rattle.outside.specs.Files.{Contents}
 use Rattle.cue_sheet.specs.declared.cue_fault.CueFault.{CueFault}
@@ -23,19 +23,10 @@ use Rattle.commands.specs.Sheet.{sheet_read, sheet_in, sheet_refuses as read_ref
 use Rattle.commands.specs.Command.{Output, Made, Command, clash_from}
 use Rattle.commands.specs.One.{most_frames}
 use Rattle.frame_edits.specs.declared.chosen.Slots.TheVariants.{Own}
+use Rattle.piece_names.specs.Names.{piece_name, piece_names}
 use Rattle.splitting.specs.declared.split_file.Points.{Points}
 use Rattle.splitting.specs.declared.split_file.Points.TheVariants.{Places, Sheet as InSheet}
 use Rattle.frame_edits.specs.Chosen.{Chosen, cut_refuses, chosen_with, chosen_file, chosen_stream}
-
--- ---- names
-
--- that of a piece, counted from 1: the prefix, two decimal digits, and `.mp3`
-unfoldable pub piece_name : List ℕ → ℕ → List ℕ
-piece_name prefix k = prefix ++ (48 + k / 10) ∷ (48 + k % 10) ∷ codes ".mp3"
-
--- all 99 that the prefix can give
-unfoldable pub piece_names : List ℕ → List (List ℕ)
-piece_names prefix = map (piece_name prefix) (range_with_len 1 99)
 
 -- ---- pieces
 
@@ -178,7 +169,10 @@ more_of (InSheet sheet) = sheet.now ∷ []
 abbrev pub split_command_of : Points → List ℕ → List ℕ → Command
 split_command_of points input prefix = split_command (placing_of points) (more_of points) input prefix
 
--- given positions are 2 to 100, and each is sound: a time has 1 to 100 parts a second
+-- positions are 2 to 100, and each is sound: a time has 1 to 100 parts a second
+abbrev pub ArePositions : List Place → Type 0
+ArePositions places = All IsPlace places × (2 ≤ length places) × (length places ≤ 100)
+
 abbrev pub ArePoints : Points → Type 0
-ArePoints (Places places) = All IsPlace places.now × (2 ≤ length places.now) × (length places.now ≤ 100)
+ArePoints (Places places) = ArePositions places.now
 ArePoints (InSheet sheet) = Unit {0}

@@ -20,7 +20,8 @@ use Rattle.frame_edits.specs.Selected.{IsSelected}
 use Rattle.splitting.specs.declared.piece.Piece.{Piece}
 use Rattle.splitting.specs.declared.split_file.Points.{Points}
 use Rattle.splitting.specs.declared.split_file.Points.TheVariants.{Places, Sheet as InSheet}
-use Rattle.splitting.specs.Split.{piece_name, places_where, sheet_refuses, Placing}
+use Rattle.piece_names.specs.Names.{piece_name}
+use Rattle.splitting.specs.Split.{places_where, sheet_refuses, Placing}
 
 -- ---- the sheet
 

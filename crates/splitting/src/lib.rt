@@ -1,7 +1,6 @@
 //! The split commands: one MP3 file becomes several, cut at positions.
 #![tactic(auto)]
 
-mod names;
 mod piece;
 mod sheet;
 mod split_file;

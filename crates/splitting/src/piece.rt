@@ -1,20 +1,19 @@
 //! Pieces that are ready to be written.
 ghost use Rattle.std.specs.Prelude.{◌≡◌, ◌⊎◌, ◌+◌, ◌≤◌, length, map, Ok, Err, IfOk, MatchResult, string_bytes};
-ghost use Rattle.std.specs.List.{All};
-ghost use Rattle.cue_sheet.specs.Places.{IsPlace};
 ghost use Rattle.sync_survey.specs.Faults.{tells};
 ghost use Rattle.sync_survey.specs.Survey.{IsLaidOut};
 ghost use Rattle.commands.specs.One.{most_frames};
 ghost use Rattle.frame_edits.specs.Chosen.{chosen_in, cut_refuses};
 ghost use Rattle.commands.specs.Left.{IsRefusal};
-ghost use Rattle.splitting.specs.Split.{piece_name as piece_name_lem, frames_between, chosen_at};
+ghost use Rattle.piece_names.specs.Names.{piece_name as piece_name_lem};
+ghost use Rattle.splitting.specs.Split.{frames_between, chosen_at, ArePositions};
 ghost use Rattle.splitting.specs.Steps.{IsReady, ArePieces, chosen_of};
 
-use crate::names::piece_name;
 use commands::EditFault;
 use cue_sheet::Place;
 use frame_edits::{Selection, Slots, choose, plan_file};
 use laying::Kept;
+use piece_names::piece_name;
 use std::alloc::Global;
 use sync_survey::Survey;
 
@@ -63,9 +62,7 @@ pub(crate) fn make_pieces(
     places: &[Place],
     prefix: &str,
 ) -> Result<Vec<Piece>, EditFault>
-    requires places { All IsPlace places.now }
-    requires some { 1 ≤ length places.now }
-    requires most { length places.now ≤ 100 }
+    requires positions { ArePositions places.now }
     requires laid { IsLaidOut (tells survey.now) }
     requires few { length (tells survey.now).frames ≤ most_frames }
     ensures pieces { IfOk result (λ pieces. ArePieces prefix.now (tells survey.now) 1

@@ -1,11 +1,9 @@
 //! The positions at which a cue sheet cuts a file.
 ghost use Rattle.std.specs.Prelude.{◌≡◌, ◌⊎◌, ◌≤◌, List, ℕ, length, Ok, Err, Some, IfOk, IfErr, OnOk, MatchResult};
-ghost use Rattle.std.specs.List.{All};
 ghost use Rattle.outside.specs.Files.{Holds, IsThere};
 ghost use Rattle.outside.specs.Counts.{OnlyReads};
-ghost use Rattle.cue_sheet.specs.Places.{IsPlace};
 ghost use Rattle.commands.specs.Left.{seen};
-ghost use Rattle.splitting.specs.Split.{places_in as places_in_lem, places_where};
+ghost use Rattle.splitting.specs.Split.{places_in as places_in_lem, places_where, ArePositions};
 ghost use Rattle.splitting.specs.Steps.{IsSheetFault, IsOfSheet};
 ghost use Rattle.commands.specs.Sheet.{longest_sheet};
 
@@ -22,9 +20,7 @@ fn places_in(alloc: Global, bytes: &[u8]) -> Result<Vec<Place>, EditFault>
         (λ places. places_in_lem bytes.now ≡ Ok places.items)
         (λ fault. (fault ≡ EditFault.Memory) ⊎ (IsOfSheet fault
         × (places_in_lem bytes.now ≡ Err fault))) }
-    ensures sound { IfOk result (λ places. All IsPlace places.items) }
-    ensures some { IfOk result (λ places. 2 ≤ length places.items) }
-    ensures most { IfOk result (λ places. length places.items ≤ 100) }
+    ensures positions { IfOk result (λ places. ArePositions places.items) }
 {
     let cue = match Cue::read(alloc, bytes) {
         Ok(cue) => cue,
@@ -51,9 +47,7 @@ pub(crate) fn sheet_places<D: Folder>(
     ensures places { IfOk result (λ places. (bytes : List ℕ)
         → Holds (D.files folder.old) sheet.now bytes
         → places_where (Some bytes) ≡ Ok places.items) }
-    ensures sound { IfOk result (λ places. All IsPlace places.items) }
-    ensures some { IfOk result (λ places. 2 ≤ length places.items) }
-    ensures most { IfOk result (λ places. length places.items ≤ 100) }
+    ensures positions { IfOk result (λ places. ArePositions places.items) }
     ensures refused { IfErr result (IsSheetFault sheet.now
         (seen (D.files folder.old) (D.counts folder.old))
         (seen (D.files folder.new) (D.counts folder.new))) }

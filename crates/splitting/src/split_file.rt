@@ -1,15 +1,12 @@
 //! The split commands over a folder.
-ghost use Rattle.std.specs.Prelude.{◌≡◌, ◌≤◌, length, Ok, IfOk, IfErr, OnOk};
-ghost use Rattle.std.specs.List.{All};
+ghost use Rattle.std.specs.Prelude.{◌≡◌, Ok, IfOk, IfErr, OnOk};
 ghost use Rattle.outside.specs.Counts.{OnlyReads};
-ghost use Rattle.cue_sheet.specs.Places.{IsPlace};
 ghost use Rattle.commands.specs.Command.{clash_of};
 ghost use Rattle.commands.specs.Left.{seen};
 ghost use Rattle.commands.specs.Runs.{IsRunOf};
-ghost use Rattle.splitting.specs.Split.{placing_of, more_of, split_command_of, ArePoints};
+ghost use Rattle.splitting.specs.Split.{placing_of, more_of, split_command_of, ArePositions, ArePoints};
 ghost use Rattle.splitting.specs.Steps.{Says, IsPlacesFault, IsOfPlaces};
 
-use crate::names::is_piece_name;
 use crate::piece::make_pieces;
 use crate::sheet::sheet_places;
 use crate::writing::write_pieces;
@@ -17,6 +14,7 @@ use commands::{EditFault, MOST_FRAMES, survey_at};
 use cue_sheet::Place;
 use laying::Buffers;
 use outside::Folder;
+use piece_names::is_piece_name;
 use std::alloc::Global;
 
 /// Where a file is cut.
@@ -59,9 +57,7 @@ fn places_of<D: Folder>(
     requires { ArePoints points.now }
     ensures places { IfOk result (λ places. Says (placing_of points.now) (D.files folder.old)
         (Ok places.items)) }
-    ensures sound { IfOk result (λ places. All IsPlace places.items) }
-    ensures some { IfOk result (λ places. 2 ≤ length places.items) }
-    ensures most { IfOk result (λ places. length places.items ≤ 100) }
+    ensures positions { IfOk result (λ places. ArePositions places.items) }
     ensures refused { IfErr result (IsPlacesFault (placing_of points.now) (more_of points.now)
         (seen (D.files folder.old) (D.counts folder.old))
         (seen (D.files folder.new) (D.counts folder.new))) }

@@ -1,10 +1,10 @@
 -- Texts that are said, and commands without a text.
 use Rattle.std.proofs.Common.{◌≢◌, [], Some, rules}
-use Rattle.splitting.specs.Split.{split_at_command, given}
+use Rattle.splitting.specs.Split.{split_at_command}
 use Rattle.drill.specs.Drilled.{drill_text}
 use Rattle.drill.proofs.PackedLaws.{drill_text-some}
 use Rattle.program_texts.specs.Texts.{help_text, version_text}
-use Rattle.mp3_cli.proofs.RunLaws.{said_ends, sent_alone, silent_ends, told_ends, one_silent, split_silent}
+use Rattle.mp3_cli.proofs.RunLaws.{said_ends, sent_alone, run_ends, told_ends, one_silent, split_silent}
 use Rattle.mp3_cli.proofs.program.do_job.Goals as goal
 
 some_help : Some help_text ≢ Some []
@@ -29,36 +29,48 @@ returns-in-Drill-clause-ends g c =
     (said_ends (drill_text c.in-Drill.seed c.in-Drill.count) (drill_text-some c.in-Drill.seed c.in-Drill.count) _ c.drill.result _ _ (c.drill.ensures.says (g.D.Folder.files c.args.folder.now)) c.drill.ensures.fault)
 
 pub returns-in-Gain-clause-ends : goal.returns-in-Gain-clause-ends
-returns-in-Gain-clause-ends g c = rw c.in-Gain.is (search (rules, silent_ends, one_silent))
+returns-in-Gain-clause-ends g c = rw c.in-Gain.is (run_ends _ (one_silent _ _) c.gain.result _ _ _ c.gain.ensures)
 
 pub returns-in-Undo-clause-ends : goal.returns-in-Undo-clause-ends
-returns-in-Undo-clause-ends g c = rw c.in-Undo.is (search (rules, silent_ends, one_silent))
+returns-in-Undo-clause-ends g c = rw c.in-Undo.is (run_ends _ (one_silent _ _) c.undo.result _ _ _ c.undo.ensures)
 
 pub returns-in-Cut-clause-ends : goal.returns-in-Cut-clause-ends
-returns-in-Cut-clause-ends g c = rw c.in-Cut.is (search (rules, silent_ends, one_silent))
+returns-in-Cut-clause-ends g c = rw c.in-Cut.is (run_ends _ (one_silent _ _) c.cut.result _ _ _ c.cut.ensures)
 
 pub returns-in-Pack-clause-ends : goal.returns-in-Pack-clause-ends
-returns-in-Pack-clause-ends g c = rw c.in-Pack.is (search (rules, silent_ends, one_silent))
+returns-in-Pack-clause-ends g c = rw c.in-Pack.is (run_ends _ (one_silent _ _) c.pack_with.result _ _ _ c.pack_with.ensures)
 
 pub returns-in-SplitAt-clause-ends : goal.returns-in-SplitAt-clause-ends
 returns-in-SplitAt-clause-ends g c =
     rw (c.in-SplitAt.is, ← c.as_slice.ensures.value)
-    (silent_ends (split_at_command c.as_slice.result.now c.in-SplitAt.input.now c.in-SplitAt.prefix.now) (split_silent c.in-SplitAt.prefix.now (given c.as_slice.result.now) [] c.in-SplitAt.input.now) c.split.result _ _ _ c.split.ensures.done c.split.ensures.left c.split.ensures.numbers c.split.ensures.names)
+    (run_ends (split_at_command c.as_slice.result.now c.in-SplitAt.input.now c.in-SplitAt.prefix.now) (split_silent _ _ _ _) c.split.result _ _ _ c.split.ensures)
 
 pub returns-in-SplitBy-clause-ends : goal.returns-in-SplitBy-clause-ends
-returns-in-SplitBy-clause-ends g c = rw c.in-SplitBy.is (search (rules, silent_ends, split_silent))
+returns-in-SplitBy-clause-ends g c = rw c.in-SplitBy.is (run_ends _ (split_silent _ _ _ _) c.split-in-SplitBy.result _ _ _ c.split-in-SplitBy.ensures)
 
 pub returns-in-Join-clause-ends : goal.returns-in-Join-clause-ends
-returns-in-Join-clause-ends g c = rw c.in-Join.is (search (rules, silent_ends, one_silent))
+returns-in-Join-clause-ends g c = rw c.in-Join.is (run_ends _ (one_silent _ _) c.join.result _ _ _ c.join.ensures)
 
 pub returns-in-Fade-clause-ends : goal.returns-in-Fade-clause-ends
-returns-in-Fade-clause-ends g c = rw c.in-Fade.is (search (rules, silent_ends, one_silent))
+returns-in-Fade-clause-ends g c = rw c.in-Fade.is (run_ends _ (one_silent _ _) c.fade.result _ _ _ c.fade.ensures)
 
 pub returns-in-Salvage-clause-ends : goal.returns-in-Salvage-clause-ends
 returns-in-Salvage-clause-ends g c = rw c.in-Salvage.is (search (rules, told_ends))
 
 pub returns-in-Gain-clause-streams : goal.returns-in-Gain-clause-streams
 returns-in-Gain-clause-streams g c = rw c.in-Gain.is c.gain.ensures.streams
+
+pub returns-in-Undo-clause-streams : goal.returns-in-Undo-clause-streams
+returns-in-Undo-clause-streams g c = rw c.in-Undo.is c.undo.ensures.streams
+
+pub returns-in-Pack-clause-streams : goal.returns-in-Pack-clause-streams
+returns-in-Pack-clause-streams g c = rw c.in-Pack.is c.pack_with.ensures.streams
+
+pub returns-in-SplitBy-clause-streams : goal.returns-in-SplitBy-clause-streams
+returns-in-SplitBy-clause-streams g c = rw c.in-SplitBy.is c.split-in-SplitBy.ensures.streams
+
+pub returns-in-Fade-clause-streams : goal.returns-in-Fade-clause-streams
+returns-in-Fade-clause-streams g c = rw c.in-Fade.is c.fade.ensures.streams
 
 pub returns-in-Cut-clause-streams : goal.returns-in-Cut-clause-streams
 returns-in-Cut-clause-streams g c = rw c.in-Cut.is c.cut.ensures.streams

@@ -1,14 +1,14 @@
 -- A bad word is refused as it is defined, and each clause follows from the answer of the command.
 use Rattle.std.proofs.Common.{[], sym, ap, subst, ◌∙◌, map, string_bytes}
-use Rattle.std.specs.Prelude.{IfOk}
-use Rattle.outside.specs.Files.{OnlyTouches}
+use Rattle.std.specs.Prelude.{◌≡◌, ◌↔◌, IfOk, IfSome, IsErr}
+use Rattle.outside.specs.Files.{sent_more, OnlyTouches}
 use Rattle.outside.proofs.FilesLaws.{touches_none}
 use Rattle.job_words.specs.Code.{asked, answer}
 use Rattle.job_words.specs.Words.{IsSound}
 use Rattle.commands.specs.Left.{seen}
 use Rattle.commands.specs.Said.{heard}
-use Rattle.mp3_cli.proofs.RunLaws.{bad_word_defined, is_defined, is_accepted, touched, quiet}
-use Rattle.mp3_cli.specs.Run.{outputs_asked}
+use Rattle.mp3_cli.proofs.RunLaws.{bad_word_defined, is_defined, is_accepted, touched, quiet, at_most, not_two, kept, counts_kept, silent, says_always}
+use Rattle.mp3_cli.specs.Run.{always_of, outputs_asked}
 use Rattle.mp3_cli.proofs.WrittenLaws.{written-streams}
 use Rattle.mp3_cli.proofs.program.run.Goals as goal
 
@@ -24,6 +24,29 @@ returns-in-Ok-clause-defined g c =
 
 pub returns-in-Ok-clause-quiet : goal.returns-in-Ok-clause-quiet
 returns-in-Ok-clause-quiet g c = quiet _ _ _ _ _ _ _ _ c.run_job.ensures.answers
+
+pub returns-in-Ok-clause-statuses : goal.returns-in-Ok-clause-statuses
+returns-in-Ok-clause-statuses g c = at_most _ _ _ _ _ _ _ _ c.run_job.ensures.answers
+
+pub returns-in-Ok-clause-kept : goal.returns-in-Ok-clause-kept
+returns-in-Ok-clause-kept g c = kept _ _ _ _ _ _ _ _ c.run_job.ensures.answers
+
+pub returns-in-Ok-clause-failed : goal.returns-in-Ok-clause-failed
+returns-in-Ok-clause-failed g c = counts_kept _ _ _ _ _ _ _ _ c.run_job.ensures.answers
+
+pub returns-in-Ok-clause-silent : goal.returns-in-Ok-clause-silent
+returns-in-Ok-clause-silent g c = silent _ _ _ _ _ _ _ _ c.run_job.ensures.answers
+
+pub returns-in-Ok-clause-text : goal.returns-in-Ok-clause-text
+returns-in-Ok-clause-text g c zero_is =
+    subst (λ r. IfSome (always_of r) (λ text. g.T.Sink.sent c.run_job.new.out ≡ sent_more (g.T.Sink.sent c.args.out.now) text)) (ap answer (sym c.in-Ok.is) ∙ c.job.ensures.exact) (says_always _ _ _ _ _ _ _ _ c.run_job.ensures.answers zero_is)
+
+pub returns-in-Ok-clause-bad_word : goal.returns-in-Ok-clause-bad_word
+returns-in-Ok-clause-bad_word g c =
+    subst (λ r. (c.run_job.result ≡ 2) ↔ IsErr r) (ap answer (sym c.in-Ok.is) ∙ c.job.ensures.exact) ((λ two. absurd (not_two _ _ _ _ _ _ _ _ c.run_job.ensures.answers two)), (λ bad. absurd cc))
+
+pub returns-in-Ok-clause-answers : goal.returns-in-Ok-clause-answers
+returns-in-Ok-clause-answers g c = rw (← c.job.ensures.exact, c.in-Ok.is) c.run_job.ensures.answers
 
 pub returns-in-Ok-clause-accepted : goal.returns-in-Ok-clause-accepted
 returns-in-Ok-clause-accepted g c f told =

@@ -1,12 +1,18 @@
 -- The line names the files of the job, and the status is that of the fault.
 use Rattle.std.proofs.Common.{ℕ, List, map, Bor, sym, ap, ◌∙◌}
-use Rattle.mp3_cli.proofs.RunLaws.{ends_answers, done_where_zero}
+use Rattle.mp3_cli.proofs.RunLaws.{done_where_zero}
+use Rattle.commands.specs.Said.{fault_of}
 use Rattle.mp3_cli.proofs.program.run_job.Goals as goal
 
 pub returns-clause-answers : goal.returns-clause-answers
 returns-clause-answers g c =
     let inputs = ap (map (λ (name : Bor (List ℕ)). name.now)) c.as_slice.ensures.value ∙ c.inputs_of-inputs.ensures in
-    ends_answers _ _ _ _ _ _ _ _ _ c.do_job-done.ensures.ends c.report.ensures.status (rw (inputs, c.outputs_of-outputs.ensures) at c.report.ensures.line)
+    record {
+      fault = fault_of c.do_job-done.result;
+      ends = c.do_job-done.ensures.ends;
+      status_is = c.report.ensures.status;
+      line = rw (inputs, c.outputs_of-outputs.ensures) at c.report.ensures.line;
+    }
 
 pub returns-clause-streams : goal.returns-clause-streams
 returns-clause-streams g c zero_is = done_where_zero c.do_job-done.result (sym c.report.ensures.status ∙ zero_is) c.do_job-done.ensures.streams

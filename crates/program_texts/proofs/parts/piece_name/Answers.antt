@@ -1,7 +1,7 @@
 -- The parts are the name and what is after it.
 use Rattle.std.proofs.Common.{refl}
 use Rattle.std.proofs.lemmas.List.{append-nil}
-use Rattle.splitting.specs.Split.{piece_name}
+use Rattle.piece_names.specs.Names.{piece_name}
 use Rattle.program_texts.proofs.parts.piece_name.Goals as goal
 
 pub returns : goal.returns

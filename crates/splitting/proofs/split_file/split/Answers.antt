@@ -63,7 +63,7 @@ returns-in_err-buffers g c =
 
 -- no more than there are names
 few : (g : given.Over) (c : In_ok-pieces g) → length c.in_ok-pieces.pieces.items ≤ 99
-few g c = omega (arith, c.in_ok-pieces.ensures.count, c.in_ok-places.ensures.most, ap length c.as_slice.ensures.value)
+few g c = omega (arith, c.in_ok-pieces.ensures.count, c.in_ok-places.ensures.positions.2, ap length c.as_slice.ensures.value)
 
 pub write_pieces-requires-clause-few : goal.write_pieces-requires-clause-few
 write_pieces-requires-clause-few g c = omega (arith, few g (goal.at.write_pieces-requires-clause-few g c).In_ok-pieces, ap length c.as_slice-2.ensures.value)

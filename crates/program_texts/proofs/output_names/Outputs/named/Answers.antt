@@ -3,7 +3,8 @@ use Rattle.std.proofs.Common.{◌≤◌, [], length, ap, sym, arith}
 use Rattle.std.proofs.lemmas.List.{get_or_past}
 use Rattle.program_texts.specs.Lines.{Name}
 use Rattle.program_texts.specs.Names.{names_in}
-use Rattle.program_texts.proofs.Names.{piece_at, length-piece_names}
+use Rattle.piece_names.proofs.NamesLaws.{names-length}
+use Rattle.program_texts.proofs.Names.{piece_at}
 use Rattle.program_texts.proofs.output_names.Outputs.named.Goals as goal
 use Rattle.program_texts.proofs.output_names.Outputs.named.Goals.{in_default-via-in-One+else-place-eq0, in_default-via-in-Pieces+else-place-lt99, in_default-via-in_default}
 
@@ -15,7 +16,7 @@ returns-in_default c =
     let past : length (names_in c.args.self) ≤ c.args.place =
     elim c.in_default.branch [
       | in_default-via-in-One+else-place-eq0 w ↦ rw w.in-One.is (omega (arith, w.if-place-eq0.false))
-      | in_default-via-in-Pieces+else-place-lt99 w ↦ rw w.in-Pieces.is (omega (arith, w.if-place-lt99.false, length-piece_names w.in-Pieces.prefix.now))
+      | in_default-via-in-Pieces+else-place-lt99 w ↦ rw w.in-Pieces.is (omega (arith, w.if-place-lt99.false, names-length w.in-Pieces.prefix.now))
       | in_default-via-in_default w ↦ rw w.in_default.is (omega arith)
     ] in
     ap Name (sym (get_or_past (names_in c.args.self) c.args.place [] past))

@@ -2,9 +2,9 @@
 use Rattle.std.proofs.Common.{◌≡◌, ◌+◌, [], false, bytes_eq, sym, ◌∙◌, ap, arith}
 use Rattle.std.proofs.lemmas.List.Folds.{list_any_at, list_any_none}
 use borrow.Author.Count.{below_more}
-use Rattle.splitting.specs.Split.{piece_name, piece_names}
-use Rattle.splitting.proofs.NamesLaws.{names-length, name-at}
-use Rattle.splitting.proofs.names.is_piece_name.Goals as goal
+use Rattle.piece_names.specs.Names.{piece_name, piece_names}
+use Rattle.piece_names.proofs.NamesLaws.{names-length, name-at}
+use Rattle.piece_names.proofs.names.is_piece_name.Goals as goal
 
 pub returns-then-is_name_of : goal.returns-then-is_name_of
 returns-then-is_name_of c =

@@ -1,7 +1,7 @@
 -- By its prefix and what is after it.
 use Rattle.std.proofs.Common.{◌≡◌, true, false, bytes_eq, rules}
-use Rattle.splitting.proofs.NamesLaws.{front-is_other, back-decides}
-use Rattle.splitting.proofs.names.is_joined.Goals as goal
+use Rattle.piece_names.proofs.NamesLaws.{front-is_other, back-decides}
+use Rattle.piece_names.proofs.names.is_joined.Goals as goal
 
 pub returns-then-ne : goal.returns-then-ne
 returns-then-ne c =

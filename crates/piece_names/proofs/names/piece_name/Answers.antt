@@ -1,7 +1,7 @@
 -- Digit by digit.
 use Rattle.std.proofs.Common.{append_assoc, arith}
-use Rattle.splitting.specs.Split.{piece_name}
-use Rattle.splitting.proofs.names.piece_name.Goals as goal
+use Rattle.piece_names.specs.Names.{piece_name}
+use Rattle.piece_names.proofs.names.piece_name.Goals as goal
 
 pub returns : goal.returns
 unfolding piece_name

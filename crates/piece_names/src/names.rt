@@ -1,12 +1,12 @@
 //! The names of pieces.
 ghost use Rattle.std.specs.Prelude.{◌≡◌, ◌<◌, ◌≤◌, IfOk, ◌+◌, ◌/◌, ◌%◌, ◌++◌, string_bytes, bytes_eq};
 ghost use Rattle.std.specs.List.{list_any};
-ghost use Rattle.splitting.specs.Split.{piece_name as piece_name_lem, piece_names};
+ghost use Rattle.piece_names.specs.Names.{piece_name as piece_name_lem, piece_names};
 
 use std::alloc::{AllocError, Global};
 
 /// How many names a prefix can give: the number of a piece has two digits, from 01 on.
-pub(crate) const MOST_PIECES: u8 = 99;
+const MOST_PIECES: u8 = 99;
 
 /// The digit of the tens.
 fn tens(number: u8) -> u8
@@ -25,8 +25,8 @@ fn ones(number: u8) -> u8
     b'0' + number % 10
 }
 
-/// The name of the piece with this number.
-pub(crate) fn piece_name(alloc: Global, prefix: &str, number: u8) -> Result<String, AllocError>
+/// The name of the piece with this number, which is at most 99. An error where there is no memory.
+pub fn piece_name(alloc: Global, prefix: &str, number: u8) -> Result<String, AllocError>
     requires { number ≤ 99 }
     ensures { IfOk result (λ name. string_bytes name ≡ piece_name_lem prefix.now number) }
 {
@@ -52,7 +52,7 @@ fn is_joined(name: &[u8], prefix: &[u8], tail: &[u8]) -> bool
 }
 
 /// Whether this is the name of the piece with this number.
-#[tactic(auto, unfolding(crate::specs::Split::piece_name))]
+#[tactic(auto, unfolding(crate::specs::Names::piece_name))]
 fn is_name_of(prefix: &str, number: u8, name: &str) -> bool
     requires { number ≤ 99 }
     ensures { result ≡ bytes_eq name.now (piece_name_lem prefix.now number) }
@@ -62,7 +62,7 @@ fn is_name_of(prefix: &str, number: u8, name: &str) -> bool
 }
 
 /// Whether this is the name of a piece, however many there are. It takes no memory.
-pub(crate) fn is_piece_name(prefix: &str, name: &str) -> bool
+pub fn is_piece_name(prefix: &str, name: &str) -> bool
     ensures { result ≡ list_any (bytes_eq name.now) (piece_names prefix.now) }
 {
     for before in 0..MOST_PIECES {
