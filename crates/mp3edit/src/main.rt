@@ -93,7 +93,7 @@ fn keep_number<R: Files>(rt: &R) -> Option<R::File> {
 
 fn main(rt: HostRuntime) -> ExitCode {
     // One for each standard stream.
-    let _kept = [keep_number(&rt), keep_number(&rt), keep_number(&rt)];
+    let _kept = (keep_number(&rt), keep_number(&rt), keep_number(&rt));
     let words = words(&rt);
     let mut folder = DiskFolder::new(&rt, rt.alloc());
     let mut out = StdSink::new(rt.stdout());
