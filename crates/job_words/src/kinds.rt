@@ -78,11 +78,11 @@ fn read_size(digits: &[u8]) -> Option<i16>
 }
 
 // The same after `+` or `-`, or alone.
-#[tactic(auto, unfolding(cue_sheet::specs::Digits::number_in))]
 fn read_steps(word: &str) -> Option<i16>
     ensures { result ≡ steps_of word.now }
 {
     match word.as_bytes() {
+        [] => None,
         [b'+', digits @ ..] => read_size(digits),
         [b'-', digits @ ..] => read_size(digits).map(|size| -size),
         digits => read_size(digits),

@@ -1,5 +1,5 @@
 -- One frame: its bytes are an item, and its side information and its check word are read back.
-use Rattle.std.proofs.Common.{◌≡◌, ℕ, ◌+◌, leb, cond, true, List, [], ◌++◌, length, take, Ok, Err, sym, ◌∙◌, ap, ap₂, arith, append_assoc, length-append}
+use Rattle.std.proofs.Common.{◌≡◌, ℕ, ◌+◌, leb, cond, true, List, ◌++◌, length, take, Ok, Err, sym, ◌∙◌, ap, ap₂, arith, append_assoc, length-append}
 use Rattle.std.proofs.lemmas.Bool.{le-leb}
 use Rattle.std.proofs.lemmas.List.{take_at, drop_at}
 use Rattle.bit_fields.specs.Bits.{bytes}

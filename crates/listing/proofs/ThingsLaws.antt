@@ -1,5 +1,5 @@
 -- The things of a file are two lists that each are in order of their offsets.
-use Rattle.std.proofs.Common.{◌≡◌, ℕ, ◌+◌, ◌-◌, ◌≤◌, ◌<◌, true, false, cond, List, [], ◌∷◌, ◌++◌, map, Option, Some, None, ltb, arith}
+use Rattle.std.proofs.Common.{◌≡◌, ℕ, ◌+◌, ◌-◌, true, false, cond, List, [], ◌∷◌, ◌++◌, map, Option, Some, None, ltb, arith}
 use Rattle.frame_header.specs.Tables.{class_of, length_of}
 use Rattle.offset_order.specs.Order.{RisesBy, merged_by}
 use Rattle.offset_order.proofs.OrderLaws.{rises_from, ordered_both}

@@ -9,7 +9,8 @@ use Rattle.outside.specs.Exact.{HasReadCause}
 use Rattle.outside.specs.declared.exact.ReadFault.{ReadFault}
 use Rattle.outside.specs.declared.exact.ReadFault.TheVariants.{Failed, Shrunk as ShrunkRead}
 use Rattle.outside.specs.Files.{Files, Holds, IsThere, AreOctets}
-use Rattle.outside.specs.Counts.{Counts}
+use Rattle.outside.specs.Counts.{Counts, OnlyReads}
+use Rattle.outside.proofs.CountsLaws.{only_reads_same}
 use Rattle.outside.specs.Feed.{Fed, IsFedFrom}
 use Rattle.sync_survey.specs.declared.places.Start.{Start}
 use Rattle.sync_survey.specs.declared.survey_fault.SurveyFault.{SurveyFault}
@@ -96,6 +97,10 @@ refusal_later {name = name} {mid = mid} {allowed = allowed} {before = before} {a
 
 pub refusal_after : {feed : Fed} {name : List ℕ} {files mid : Files} {allowed : ℕ} {before between after : Counts} {fault : SurveyFault} → HasRead feed name files mid before between → IsRefusal name mid allowed between after fault → IsRefusal name files allowed before after fault
 refusal_after read is = refusal_later read.files read.counts is
+
+-- where no count changed, only reads were counted
+pub only_reads_equal : {before after : Counts} → after ≡ before → OnlyReads before after
+only_reads_equal {before = before} same = subst (OnlyReads before) (sym same) (only_reads_same before)
 
 -- ---- by the bytes
 

@@ -1,5 +1,5 @@
 -- The line about both.
-use Rattle.std.proofs.Common.{◌≡◌, List, ℕ, ap, ◌∙◌, subst}
+use Rattle.std.proofs.Common.{List, ℕ, ap, ◌∙◌, subst}
 use Rattle.outside.specs.Files.{sent_more}
 use Rattle.outside.specs.Passed.{SentPrefix}
 use Rattle.commands.specs.Said.{heard}

@@ -1,5 +1,5 @@
 -- The output is created, and then written by a pass over the inputs, which stay.
-use Rattle.std.proofs.Common.{◌≡◌, ◌≢◌, List, ℕ, None, map, string_bytes, refl, ◌∙◌, ap, arith}
+use Rattle.std.proofs.Common.{◌≡◌, ◌≢◌, List, None, map, string_bytes, refl, ◌∙◌, ap, arith}
 use Rattle.outside.proofs.FilesLaws.{emptied_there, emptied_touches, fails_touches}
 use Rattle.std.proofs.lemmas.List.{length-map}
 use Rattle.sync_survey.specs.Faults.{tells}

@@ -3,6 +3,7 @@ use Rattle.std.proofs.Common.{◌≡◌, ℕ, ◌+◌, ◌<◌, ◌≤◌, List,
 use Rattle.std.specs.Prelude.{vec_len, IfSome}
 use Rattle.std.proofs.lemmas.Bool.{true≢false, eq-eqb, eqb-true}
 use Rattle.frame_header.specs.Tables.{class_of, overhead_of}
+use Rattle.outside.specs.Counts.{OnlyReads}
 use Rattle.outside.proofs.PassedLaws.{err_at}
 use Rattle.sync_survey.specs.declared.items.Item.TheVariants.{Frame}
 use Rattle.sync_survey.specs.declared.places.Head.{Head}
@@ -14,12 +15,12 @@ use Rattle.sync_survey.specs.Walk.{fault_at, IsFrameOf}
 use Rattle.sync_survey.specs.MainData.{marked}
 use Rattle.sync_survey.specs.Faults.{class_from}
 use Rattle.sync_survey.specs.Looks.{Shows, Keeps, IsFrameFault}
-use Rattle.sync_survey.specs.Survey.{AreLaid, IsWholeHead}
+use Rattle.sync_survey.specs.Survey.{AreLaid, IsWholeHead, HasLength}
 use Rattle.sync_survey.proofs.FrontLaws.{pieces_later}
 use Rattle.sync_survey.proofs.FaultsLaws.{marked-length, marked-none}
 use Rattle.sync_survey.proofs.SurveyLaws.{told_by}
 use Rattle.sync_survey.proofs.LooksLaws.{item_at-shown}
-use Rattle.sync_survey.proofs.FoldersLaws.{none_read, read_more, still_held, refusal_after, bytes_refusal, survey_of-short}
+use Rattle.sync_survey.proofs.FoldersLaws.{none_read, read_more, still_held, refusal_after, only_reads_equal, bytes_refusal, survey_of-short}
 use Rattle.sync_survey.proofs.PlacedRows.{ArePlacedTo, placed_none}
 use Rattle.sync_survey.proofs.Progress.{IsSurveyedTo, surveyed_none, stopped_fault, no_frame, whole}
 use Rattle.sync_survey.proofs.StepLaws.{item_header, shown_room, few_by, kept, refused, laid_more, laid_later, few_more, keep_refusal}
@@ -58,6 +59,9 @@ loop-at-init g c = record {
   within = omega (arith, c.numbered_from-at.ensures.within, c.requires.walk.whole);
   read = none_read c.requires.fed;
 }
+
+pub look-requires-clause-known : goal.look-requires-clause-known
+look-requires-clause-known g c = subst (λ f. HasLength f c.args.name.now c.args.walk.size) (sym c.loop-at.invariant.read.files) c.requires.walk.known
 
 pub returns-in_err-left-clause-refused : goal.returns-in_err-left-clause-refused
 returns-in_err-left-clause-refused g c =
@@ -128,6 +132,25 @@ returns-then-is_empty-clause-refused g c =
     (record { start_is = (c.requires.walk.told bytes holds).start; head_is = (c.requires.walk.told bytes holds).head }) (omega (arith, c.loop-at-test.false, is_size))
     (nothing_in so_far.frames (omega (arith, eqb-true (vec_len now.rows) 0 (sym c.is_empty.ensures ∙ c.if-is_empty.true), now.rows.ok.0, frames_count c.args.walk.head now.rows.items so_far.frames so_far.marks)))
     ∙ ap (λ n. Err (NoFrame n)) (sym is_size))
+
+-- the files stay, and only reads are counted
+pub returns-in_err-left-clause-files : goal.returns-in_err-left-clause-files
+returns-in_err-left-clause-files g c = c.in_err-left.ensures.reads.files ∙ c.loop-at.invariant.read.files
+
+pub returns-in_err-left-clause-counts : goal.returns-in_err-left-clause-counts
+returns-in_err-left-clause-counts g c = subst (λ n. OnlyReads n (g.D.Folder.counts c.look.new.folder)) c.loop-at.invariant.read.counts c.in_err-left.ensures.reads.counts
+
+pub returns-in_default-clause-files : goal.returns-in_default-clause-files
+returns-in_default-clause-files g c = c.in_ok-left.ensures.reads.files ∙ c.loop-at.invariant.read.files
+
+pub returns-in_default-clause-counts : goal.returns-in_default-clause-counts
+returns-in_default-clause-counts g c = only_reads_equal (c.in_ok-left.ensures.reads.done ∙ c.loop-at.invariant.read.counts)
+
+pub returns-in_err-keep-clause-files : goal.returns-in_err-keep-clause-files
+returns-in_err-keep-clause-files g c = c.in_ok-left.ensures.reads.files ∙ c.loop-at.invariant.read.files
+
+pub returns-in_err-keep-clause-counts : goal.returns-in_err-keep-clause-counts
+returns-in_err-keep-clause-counts g c = only_reads_equal (c.in_ok-left.ensures.reads.done ∙ c.loop-at.invariant.read.counts)
 
 head_within : (start : Start) (size : ℕ) → start.first.offset + size_of (Frame start.first.header) ≤ size → (head : Option Head) → IfSome head (IsFrameOf start.first) → IfSome head (IsWholeHead start.first.offset (class_from start) size)
 head_within start size whole None same = tt

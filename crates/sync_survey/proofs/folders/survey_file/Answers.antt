@@ -1,6 +1,7 @@
 -- What a step refuses, the survey refuses, since the steps before left the files and all counts.
 use Rattle.std.proofs.Common.{◌≡◌, sym, ◌∙◌, subst, arith}
 use Rattle.outside.specs.Files.{Holds}
+use Rattle.outside.specs.Counts.{OnlyReads}
 use Rattle.outside.proofs.PassedLaws.{err_at}
 use Rattle.sync_survey.specs.Survey.{HasLength, BlocksAreLaid}
 use Rattle.sync_survey.proofs.FoldersLaws.{refusal_later}
@@ -23,6 +24,34 @@ returns-in_err-head-clause-refused g c =
     err_at _ _ c.from_residual-in_err-head.ensures.1
     (refusal_later (c.in_ok-start.ensures.reads.files ∙ c.in_ok-front_end.ensures.reads.files ∙ c.in_ok-size.ensures.files)
     (c.in_ok-start.ensures.reads.done ∙ c.in_ok-front_end.ensures.reads.done ∙ c.in_ok-size.ensures.done) (c.in_err-head.ensures.refused c.args.allowed))
+
+pub returns-in_err-front_end-clause-files : goal.returns-in_err-front_end-clause-files
+returns-in_err-front_end-clause-files g c = c.in_err-front_end.ensures.reads.files ∙ c.in_ok-size.ensures.files
+
+pub returns-in_err-start-clause-files : goal.returns-in_err-start-clause-files
+returns-in_err-start-clause-files g c = c.in_err-start.ensures.reads.files ∙ c.in_ok-front_end.ensures.reads.files ∙ c.in_ok-size.ensures.files
+
+pub returns-in_err-head-clause-files : goal.returns-in_err-head-clause-files
+returns-in_err-head-clause-files g c = c.in_err-head.ensures.reads.files ∙ c.in_ok-start.ensures.reads.files ∙ c.in_ok-front_end.ensures.reads.files ∙ c.in_ok-size.ensures.files
+
+pub returns-clause-files : goal.returns-clause-files
+returns-clause-files g c = c.judge_frames.ensures.files ∙ c.in_ok-head.ensures.reads.files ∙ c.in_ok-start.ensures.reads.files ∙ c.in_ok-front_end.ensures.reads.files ∙ c.in_ok-size.ensures.files
+
+pub returns-in_err-front_end-clause-counts : goal.returns-in_err-front_end-clause-counts
+returns-in_err-front_end-clause-counts g c = subst (λ n. OnlyReads n (g.D.Folder.counts c.pass_front.new.folder)) c.in_ok-size.ensures.done c.in_err-front_end.ensures.reads.counts
+
+pub returns-in_err-start-clause-counts : goal.returns-in_err-start-clause-counts
+returns-in_err-start-clause-counts g c =
+    subst (λ n. OnlyReads n (g.D.Folder.counts c.find_start.new.folder)) (c.in_ok-front_end.ensures.reads.done ∙ c.in_ok-size.ensures.done) c.in_err-start.ensures.reads.counts
+
+pub returns-in_err-head-clause-counts : goal.returns-in_err-head-clause-counts
+returns-in_err-head-clause-counts g c =
+    subst (λ n. OnlyReads n (g.D.Folder.counts c.find_head.new.folder)) (c.in_ok-start.ensures.reads.done ∙ c.in_ok-front_end.ensures.reads.done ∙ c.in_ok-size.ensures.done) c.in_err-head.ensures.reads.counts
+
+pub returns-clause-counts : goal.returns-clause-counts
+returns-clause-counts g c =
+    subst (λ n. OnlyReads n (g.D.Folder.counts c.judge_frames.new.folder)) (c.in_ok-head.ensures.reads.done ∙ c.in_ok-start.ensures.reads.done ∙ c.in_ok-front_end.ensures.reads.done ∙ c.in_ok-size.ensures.done)
+    c.judge_frames.ensures.counts
 
 -- what was found before the frames is what they are judged by
 pub judge_frames-requires-clause-walk : goal.judge_frames-requires-clause-walk

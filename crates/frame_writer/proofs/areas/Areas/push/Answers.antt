@@ -1,5 +1,5 @@
 -- The zeros up to the main data, and these, after what is in the queue.
-use Rattle.std.proofs.Common.{◌≡◌, ◌≤◌, ℕ, List, [], ◌∷◌, ◌+◌, ◌-◌, ◌++◌, append_assoc, length, refl, sym, subst, ap, ◌∙◌, arith}
+use Rattle.std.proofs.Common.{◌≡◌, ℕ, List, [], ◌∷◌, ◌+◌, ◌-◌, ◌++◌, append_assoc, length, refl, sym, subst, ap, ◌∙◌, arith}
 use Rattle.frame_writer.specs.Laid.{Waiting, zeros, put_at, AreLaid}
 use Rattle.frame_writer.proofs.LaidLaws.{waits, more-put, more-laid}
 use Rattle.frame_writer.proofs.areas.Areas.push.Goals as goal
