@@ -29,12 +29,12 @@ fn read_size(digits: &[u8]) -> Option<i16>
 }
 
 /// Such digits, after `+` or `-` or alone.
-#[tactic(auto, unfolding(cue_sheet::specs::Digits::number_in))]
 fn read_steps(word: &[u8]) -> Option<i16>
     ensures steps { result ≡ steps_in word.now }
     ensures most { IfSome result (λ steps. unsigned_abs steps ≤ 255) }
 {
     match word {
+        [] => None,
         [b'+', digits @ ..] => read_size(digits),
         [b'-', digits @ ..] => Some(opposite(read_size(digits)?)),
         _ => read_size(word),
