@@ -52,6 +52,13 @@ pub(crate) fn text_line(text: &str) -> Line<'_>
     line(&[Part::Text(text)])
 }
 
+/// A line of a name and a text.
+pub(crate) fn name_line<'a>(name: &'a str, text: &'a str) -> Line<'a>
+    ensures { map part_of result.items ≡ Name name.now ∷ Text text.now ∷ [] }
+{
+    line(&[Part::Name(name), Part::Text(text)])
+}
+
 /// A line of a number between two texts.
 pub(crate) fn number_line<'a>(text: &'a str, number: u64, end: &'a str) -> Line<'a>
     ensures { map part_of result.items ≡ Text text.now ∷ Number number ∷ Text end.now ∷ [] }

@@ -1,13 +1,15 @@
 //! The statuses that the program ends with, and the texts and lines that it writes.
-ghost use Rattle.std.specs.Prelude.{◌≡◌, ◌∷◌, IfErr, map, flat_map};
+ghost use Rattle.std.specs.Prelude.{◌≡◌, [], ◌∷◌, IfErr, map, flat_map};
 ghost use Rattle.program_texts.specs.Lines.{Name, part_of};
-ghost use Rattle.program_texts.specs.Texts.{status_of, input_parts as input_parts_lem, refusal_parts as refusal_parts_lem, fault_parts as fault_parts_lem, fault_line, bad_word_line, help_text, version_text, said_command, GotLine};
+ghost use Rattle.program_texts.specs.Texts.{status_of, input_parts as input_parts_lem, sheet_parts as sheet_parts_lem, curve_parts as curve_parts_lem, refusal_parts as refusal_parts_lem, fault_parts as fault_parts_lem, fault_line, bad_word_line, help_text, version_text, said_command, GotLine};
 ghost use Rattle.program_texts.specs.Names.{name_in as name_in_lem, names_in};
 ghost use Rattle.outside.specs.Files.{Files};
 ghost use Rattle.commands.specs.Said.{heard, Says, fault_of};
 
 use crate::output_names::Outputs;
-use crate::parts::{Line, Part, line, named_line, number_line, send_line, send_text, text_line};
+use crate::parts::{
+    Line, Part, line, name_line, named_line, number_line, send_line, send_text, text_line,
+};
 use commands::{EditFault, Refusal};
 use cue_sheet::CueFault;
 use fade_plan::EnvelopeFault;
@@ -119,59 +121,93 @@ pub fn say_version<T: Sink>(out: &mut T) -> Result<(), EditFault>
     say(out, &["mp3edit 0.1.0\n"])
 }
 
+// The line of a check word at an offset that isn't the right one.
+fn check_word_line(name: &str, at: u64, said: u16, right: u16) -> Line<'_>
+    ensures { map part_of result.items ≡ Name name.now
+        ∷ input_parts_lem (SurveyFault.CheckWord at said right) }
+{
+    line(&[
+        Part::Name(name),
+        Part::Text(": check word at "),
+        Part::Number(at),
+        Part::Text(" is "),
+        Part::Hexadecimal(said),
+        Part::Text(", right is "),
+        Part::Hexadecimal(right),
+        Part::Text("\n"),
+    ])
+}
+
+// The line of a main_data_begin that is more than the bytes of main data that are there.
+fn back_pointer_line(name: &str, at: u64, begin: u32, present: u64) -> Line<'_>
+    ensures { map part_of result.items ≡ Name name.now
+        ∷ input_parts_lem (SurveyFault.BackPointer at begin present) }
+{
+    line(&[
+        Part::Name(name),
+        Part::Text(": back pointer at "),
+        Part::Number(at),
+        Part::Text(" is "),
+        Part::Number(u64::from(begin)),
+        Part::Text(", present "),
+        Part::Number(present),
+        Part::Text("\n"),
+    ])
+}
+
+// The line of main data that have more bits than there is room for.
+fn overrun_line(name: &str, at: u64, bits: u32, room: u32) -> Line<'_>
+    ensures { map part_of result.items ≡ Name name.now
+        ∷ input_parts_lem (SurveyFault.Overrun at bits room) }
+{
+    line(&[
+        Part::Name(name),
+        Part::Text(": overrun at "),
+        Part::Number(at),
+        Part::Text(", bits "),
+        Part::Number(u64::from(bits)),
+        Part::Text(", room "),
+        Part::Number(u64::from(room)),
+        Part::Text("\n"),
+    ])
+}
+
+// The line of a file that became shorter.
+fn shrunk_line(name: &str, first: u64, second: u64) -> Line<'_>
+    ensures { map part_of result.items ≡ Name name.now
+        ∷ input_parts_lem (SurveyFault.Shrunk first second) }
+{
+    line(&[
+        Part::Name(name),
+        Part::Text(": shrunk from "),
+        Part::Number(first),
+        Part::Text(" to "),
+        Part::Number(second),
+        Part::Text("\n"),
+    ])
+}
+
 // The parts of the line of a fault of the input with this name. Want of memory isn't a fault of an input and never comes here.
 fn input_parts<'a>(name: &'a str, fault: &SurveyFault) -> Line<'a>
     ensures { map part_of result.items ≡ Name name.now ∷ input_parts_lem fault.now }
 {
     match *fault {
-        SurveyFault::Absent => line(&[Part::Name(name), Part::Text(": absent\n")]),
+        SurveyFault::Absent => name_line(name, ": absent\n"),
         SurveyFault::TooLong(size) => named_line(name, ": too long, ", size, " bytes\n"),
         SurveyFault::NoFrame(at) => named_line(name, ": no frame at ", at, "\n"),
         SurveyFault::LostSync(at) => named_line(name, ": lost synchronisation at ", at, "\n"),
         SurveyFault::Truncated(at) => named_line(name, ": truncated at ", at, "\n"),
         SurveyFault::FreeFormat(at) => named_line(name, ": free format at ", at, "\n"),
         SurveyFault::Mixed(at) => named_line(name, ": mixed class at ", at, "\n"),
-        SurveyFault::CheckWord(at, said, right) => line(&[
-            Part::Name(name),
-            Part::Text(": check word at "),
-            Part::Number(at),
-            Part::Text(" is "),
-            Part::Hexadecimal(said),
-            Part::Text(", right is "),
-            Part::Hexadecimal(right),
-            Part::Text("\n"),
-        ]),
-        SurveyFault::BackPointer(at, begin, present) => line(&[
-            Part::Name(name),
-            Part::Text(": back pointer at "),
-            Part::Number(at),
-            Part::Text(" is "),
-            Part::Number(u64::from(begin)),
-            Part::Text(", present "),
-            Part::Number(present),
-            Part::Text("\n"),
-        ]),
+        SurveyFault::CheckWord(at, said, right) => check_word_line(name, at, said, right),
+        SurveyFault::BackPointer(at, begin, present) => {
+            back_pointer_line(name, at, begin, present)
+        }
         SurveyFault::Overlap(at) => named_line(name, ": overlap at ", at, "\n"),
-        SurveyFault::Overrun(at, bits, room) => line(&[
-            Part::Name(name),
-            Part::Text(": overrun at "),
-            Part::Number(at),
-            Part::Text(", bits "),
-            Part::Number(u64::from(bits)),
-            Part::Text(", room "),
-            Part::Number(u64::from(room)),
-            Part::Text("\n"),
-        ]),
+        SurveyFault::Overrun(at, bits, room) => overrun_line(name, at, bits, room),
         SurveyFault::TooManyFrames(at) => named_line(name, ": too many frames at ", at, "\n"),
-        SurveyFault::Shrunk(first, second) => line(&[
-            Part::Name(name),
-            Part::Text(": shrunk from "),
-            Part::Number(first),
-            Part::Text(" to "),
-            Part::Number(second),
-            Part::Text("\n"),
-        ]),
-        SurveyFault::Read => line(&[Part::Name(name), Part::Text(": read fault\n")]),
+        SurveyFault::Shrunk(first, second) => shrunk_line(name, first, second),
+        SurveyFault::Read => name_line(name, ": read fault\n"),
         SurveyFault::Memory => line(&[Part::Name(name)]),
     }
 }
@@ -186,66 +222,107 @@ fn name_in<'a>(names: &[&'a str], place: u32) -> &'a str
 /// The place of a sheet among the inputs.
 const SHEET: u32 = 1;
 
-// The parts of the line of a refusal, by the names of the inputs. Want of memory for a sheet isn't a refusal and never comes here.
+// The line of a gain that would leave its range.
+fn gain_line<'a>(offset: u64, granule: u8, channel: u8, gain: u8) -> Line<'a>
+    ensures { map part_of result.items ≡ refusal_parts_lem
+        (Refusal.GainRange offset granule channel gain) [] }
+{
+    line(&[
+        Part::Text("gain "),
+        Part::Number(u64::from(gain)),
+        Part::Text(" out of range at "),
+        Part::Number(offset),
+        Part::Text(", granule "),
+        Part::Number(u64::from(granule)),
+        Part::Text(", channel "),
+        Part::Number(u64::from(channel)),
+        Part::Text("\n"),
+    ])
+}
+
+// The line of a sum of steps that an undo item can't have.
+fn undo_sum_line<'a>(sum: i32) -> Line<'a>
+    ensures { map part_of result.items ≡ refusal_parts_lem (Refusal.UndoRange sum) [] }
+{
+    line(&[
+        Part::Text("undo sum "),
+        Part::Signed(sum),
+        Part::Text(" is out of range\n"),
+    ])
+}
+
+// The line of two positions between which there is no frame, or of which one is after the end.
+fn range_line<'a>(from: u64, to: u64, frames: u64) -> Line<'a>
+    ensures { map part_of result.items ≡ refusal_parts_lem (Refusal.Range from to frames) [] }
+{
+    line(&[
+        Part::Text("range "),
+        Part::Number(from),
+        Part::Text(" to "),
+        Part::Number(to),
+        Part::Text(" of "),
+        Part::Number(frames),
+        Part::Text(" frames\n"),
+    ])
+}
+
+// The parts of the line of a fault of the cue sheet with this name. Want of memory isn't a fault of a sheet and never comes here.
+fn sheet_parts<'a>(name: &'a str, fault: &CueFault) -> Line<'a>
+    ensures { map part_of result.items ≡ Name name.now ∷ sheet_parts_lem fault.now }
+{
+    match *fault {
+        CueFault::Line(number) => named_line(name, ": bad line ", u64::from(number), "\n"),
+        CueFault::NotRising(number) => {
+            named_line(name, ": not rising at line ", u64::from(number), "\n")
+        }
+        CueFault::NoTracks => name_line(name, ": no tracks\n"),
+        CueFault::Memory => line(&[Part::Name(name)]),
+    }
+}
+
+// Those of a fault of the sheet of a fade.
+fn curve_parts<'a>(name: &'a str, fault: &EnvelopeFault) -> Line<'a>
+    ensures { map part_of result.items ≡ Name name.now ∷ curve_parts_lem fault.now }
+{
+    match *fault {
+        EnvelopeFault::Line(number) => named_line(name, ": bad line ", u64::from(number), "\n"),
+        EnvelopeFault::NoPoints => name_line(name, ": no points\n"),
+        EnvelopeFault::Memory => line(&[Part::Name(name)]),
+    }
+}
+
+// The parts of the line of a refusal, by the names of the inputs.
 fn refusal_parts<'a>(refusal: &Refusal, inputs: &[&'a str]) -> Line<'a>
     ensures { map part_of result.items ≡ refusal_parts_lem refusal.now
         (map (λ name. name.now) inputs.now) }
 {
     let sheet = name_in(inputs, SHEET);
     match *refusal {
-        Refusal::GainRange(offset, granule, channel, gain) => line(&[
-            Part::Text("gain "),
-            Part::Number(u64::from(gain)),
-            Part::Text(" out of range at "),
-            Part::Number(offset),
-            Part::Text(", granule "),
-            Part::Number(u64::from(granule)),
-            Part::Text(", channel "),
-            Part::Number(u64::from(channel)),
-            Part::Text("\n"),
-        ]),
+        Refusal::GainRange(offset, granule, channel, gain) => {
+            gain_line(offset, granule, channel, gain)
+        }
         Refusal::Mono => text_line("one channel only\n"),
         Refusal::Joint(offset) => number_line("joint stereo at ", offset, "\n"),
         Refusal::TagTooLarge(length) => number_line("tag too large, ", length, "\n"),
         Refusal::BadTag(offset) => number_line("bad tag at ", offset, "\n"),
         Refusal::NoUndo => text_line("no undo item\n"),
         Refusal::BadUndo(offset) => number_line("bad undo item at ", offset, "\n"),
-        Refusal::UndoRange(sum) => line(&[
-            Part::Text("undo sum "),
-            Part::Signed(sum),
-            Part::Text(" is out of range\n"),
-        ]),
+        Refusal::UndoRange(sum) => undo_sum_line(sum),
         Refusal::OutputTooLong(length) => number_line("output too long, ", length, " bytes\n"),
-        Refusal::Range(from, to, frames) => line(&[
-            Part::Text("range "),
-            Part::Number(from),
-            Part::Text(" to "),
-            Part::Number(to),
-            Part::Text(" of "),
-            Part::Number(frames),
-            Part::Text(" frames\n"),
-        ]),
+        Refusal::Range(from, to, frames) => range_line(from, to, frames),
         Refusal::NoRate(rate) => number_line("no rate ", u64::from(rate), "\n"),
         Refusal::Unfit(frame) => number_line("frame ", u64::from(frame), " does not fit\n"),
-        Refusal::Differ(place) => line(&[
-            Part::Name(name_in(inputs, place)),
-            Part::Text(": other class than the first input\n"),
-        ]),
+        Refusal::Differ(place) => {
+            name_line(
+                name_in(inputs, place),
+                ": other class than the first input\n",
+            )
+        }
         Refusal::SheetTooLarge(size) => named_line(sheet, ": sheet too large, ", size, " bytes\n"),
-        Refusal::Sheet(CueFault::Line(number)) | Refusal::Curve(EnvelopeFault::Line(number)) => {
-            named_line(sheet, ": bad line ", u64::from(number), "\n")
-        }
-        Refusal::Sheet(CueFault::NotRising(number)) | Refusal::CurveNotRising(number) => {
+        Refusal::Sheet(fault) => sheet_parts(sheet, &fault),
+        Refusal::Curve(fault) => curve_parts(sheet, &fault),
+        Refusal::CurveNotRising(number) => {
             named_line(sheet, ": not rising at line ", u64::from(number), "\n")
-        }
-        Refusal::Sheet(CueFault::NoTracks) => {
-            line(&[Part::Name(sheet), Part::Text(": no tracks\n")])
-        }
-        Refusal::Curve(EnvelopeFault::NoPoints) => {
-            line(&[Part::Name(sheet), Part::Text(": no points\n")])
-        }
-        Refusal::Sheet(CueFault::Memory) | Refusal::Curve(EnvelopeFault::Memory) => {
-            line(&[Part::Name(sheet)])
         }
     }
 }
@@ -256,10 +333,7 @@ fn fault_parts<'a>(fault: &EditFault, inputs: &[&'a str], outputs: Outputs<'a>) 
         (map (λ name. name.now) inputs.now) (names_in outputs.entry) }
 {
     match *fault {
-        EditFault::EqualNames(place) => line(&[
-            Part::Name(name_in(inputs, place)),
-            Part::Text(": input is an output\n"),
-        ]),
+        EditFault::EqualNames(place) => name_line(name_in(inputs, place), ": input is an output\n"),
         EditFault::Input(place, fault) => input_parts(name_in(inputs, place), &fault),
         EditFault::Refused(refusal) => refusal_parts(&refusal, inputs),
         EditFault::Write(place) => line(&[outputs.named(place), Part::Text(": write fault\n")]),
