@@ -39,9 +39,9 @@ impl Making {
     {
         Ok(Making {
             draws: Draws { state: seed },
+            unsent: WriteBuffer::new(alloc)?,
             window: Window::new(alloc)?,
             writer: Writer::new(alloc, drill_header().class())?,
-            unsent: WriteBuffer::new(alloc)?,
         })
     }
 
