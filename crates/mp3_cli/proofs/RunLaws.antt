@@ -62,32 +62,21 @@ got_nothing old new line = at line.got
 -- ---- of one answer
 
 module _ (command : Command) (old new : Seen) (out_old out_new err_old err_new : Heard) (status : ℕ) (all : Answers command (world old out_old err_old) (world new out_new err_new) status) where
-  -- it was done, or there is a fault of this kind
-  pub data Case : Type 0 where
-    Done : status ≡ 0 → all.fault ≡ None → Case
-    Failed : (fault : EditFault) (why : Why) → all.fault ≡ Some fault → status ≡ status_by why → why_of fault ≡ why → LeavesBy command old new fault why → Case
-
-  case_of : Case
-  case_of = at all.fault refl all.status_is all.ends.left
+  -- what follows where it was done, and where there is a fault of this kind
+  by_case : {P : Type 0} → (status ≡ 0 → all.fault ≡ None → P)
+      → ((fault : EditFault) (why : Why) → all.fault ≡ Some fault → status ≡ status_by why → why_of fault ≡ why → LeavesBy command old new fault why → P) → P
+  by_case {P = P} done failed = at all.fault refl all.status_is all.ends.left
     where
-      at : (o : Option EditFault) → all.fault ≡ o → status ≡ fault_status o → IfSome o (Leaves command old new) → Case
-      at None e is left = Done is e
-      at (Some fault) e is left = Failed fault (why_of fault) e is refl left
+      at : (o : Option EditFault) → all.fault ≡ o → status ≡ fault_status o → IfSome o (Leaves command old new) → P
+      at None e is left = done is e
+      at (Some fault) e is left = failed fault (why_of fault) e is refl left
 
   -- no name but those of its outputs was touched
   pub touched : OnlyTouches command.outputs old.files new.files
-  touched = at case_of
-    where
-      at : Case → OnlyTouches command.outputs old.files new.files
-      at (Done is e) = (all.ends.done e).touches
-      at (Failed fault why e is w left) = left_touched command old new fault (subst (LeavesBy command old new fault) (sym w) left)
+  touched = by_case (λ is e. (all.ends.done e).touches) (λ fault why e is w left. left_touched command old new fault (subst (LeavesBy command old new fault) (sym w) left))
 
   done_at : status ≡ 0 → all.fault ≡ None
-  done_at zero_is = at case_of
-    where
-      at : Case → all.fault ≡ None
-      at (Done is e) = e
-      at (Failed fault why e is w left) = absurd (omega (arith, is, zero_is, (by_status why).0))
+  done_at zero_is = by_case (λ is e. e) (λ fault why e is w left. absurd (omega (arith, is, zero_is, (by_status why).0)))
 
   line_here : (o : Option EditFault) → all.fault ≡ o → GetsLine err_old err_new (line_of command o)
   line_here o e = subst (λ o. GetsLine err_old err_new (line_of command o)) e all.line
@@ -105,18 +94,10 @@ module _ (command : Command) (old new : Seen) (out_old out_new err_old err_new :
   -- ---- by its status
 
   pub at_most : status ≤ 4
-  at_most = at case_of
-    where
-      at : Case → status ≤ 4
-      at (Done is e) = omega (arith, is)
-      at (Failed fault why e is w left) = omega (arith, is, (by_status why).1)
+  at_most = by_case (λ is e. omega (arith, is)) (λ fault why e is w left. omega (arith, is, (by_status why).1))
 
   pub not_two : status ≢ 2
-  not_two two = at case_of
-    where
-      at : Case → ⊥
-      at (Done is e) = absurd (omega (arith, is, two))
-      at (Failed fault why e is w left) = (by_status why).2 (sym is ∙ two)
+  not_two two = by_case (λ is e. absurd (omega (arith, is, two))) (λ fault why e is w left. (by_status why).2 (sym is ∙ two))
 
   -- what is refused, and want of memory, leave all as it was
   stays_by : (fault : EditFault) (why : Why) → status ≡ status_by why → status ≢ 3 → LeavesBy command old new fault why → new ≡ old
@@ -125,25 +106,13 @@ module _ (command : Command) (old new : Seen) (out_old out_new err_old err_new :
   stays_by fault _ is other left = absurd (other is)
 
   pub kept : status ≢ 0 → status ≢ 3 → new.files ≡ old.files
-  kept some other = at case_of
-    where
-      at : Case → new.files ≡ old.files
-      at (Done is e) = absurd (some is)
-      at (Failed fault why e is w left) = ap (λ (s : Seen). s.files) (stays_by fault why is other left)
+  kept some other = by_case (λ is e. absurd (some is)) (λ fault why e is w left. ap (λ (s : Seen). s.files) (stays_by fault why is other left))
 
   pub counts_kept : status ≢ 3 → new.counts ≡ old.counts
-  counts_kept other = at case_of
-    where
-      at : Case → new.counts ≡ old.counts
-      at (Done is e) = (all.ends.done e).counts
-      at (Failed fault why e is w left) = ap (λ (s : Seen). s.counts) (stays_by fault why is other left)
+  counts_kept other = by_case (λ is e. (all.ends.done e).counts) (λ fault why e is w left. ap (λ (s : Seen). s.counts) (stays_by fault why is other left))
 
   pub silent : status ≢ 0 → status ≢ 3 → out_new.sent ≡ out_old.sent
-  silent some other = at case_of
-    where
-      at : Case → out_new.sent ≡ out_old.sent
-      at (Done is e) = absurd (some is)
-      at (Failed fault why e is w left) = ap (λ (h : Heard). h.sent) (nothing_by fault why e is other w)
+  silent some other = by_case (λ is e. absurd (some is)) (λ fault why e is w left. ap (λ (h : Heard). h.sent) (nothing_by fault why e is other w))
 
   pub says_always : status ≡ 0 → IfSome command.always (λ text. out_new.sent ≡ sent_more out_old.sent text)
   says_always zero_is = at command.always refl
@@ -179,14 +148,13 @@ module _ (command : Command) (old new : Seen) (out_old out_new err_old err_new :
     failed_here fault _ e is low w left = absurd (omega (arith, is, low))
 
     pub as_defined : status ≤ 2 → IsOutcome (command_outcome command f) (world old out_old err_old) (world new out_new err_new) status
-    as_defined low = at case_of
-      where
-        at : Case → IsAsDefinedBy (command.makes f)
-        at (Done is e) =
-            let made = made_here e in
-            subst IsAsDefinedBy (sym made.1)
-            (record { status_is = is; files_are = made.2; text_is = (says_here None e).text made.0.text (inr (f, made.0, told, made.1, refl)); line_is = line_here None e })
-        at (Failed fault why e is w left) = failed_here fault why e is low w left
+    as_defined low =
+        by_case
+        (λ is e.
+        let made = made_here e in
+        subst IsAsDefinedBy (sym made.1)
+        (record { status_is = is; files_are = made.2; text_is = (says_here None e).text made.0.text (inr (f, made.0, told, made.1, refl)); line_is = line_here None e }))
+        (λ fault why e is w left. failed_here fault why e is low w left)
 
     -- where no call of the folder and no write to standard output failed, and memory was found, it is done exactly where it isn't refused
     not_made : (made : Made) (fault : EditFault) → command.makes f ≡ Ok made → command.makes f ≡ Err fault → ⊥
@@ -214,11 +182,7 @@ module _ (command : Command) (old new : Seen) (out_old out_new err_old err_new :
     made_where_done zero_is = let made = files_where_done zero_is in (made.0, made.1)
 
     pub done_where_made : (Rose old.counts.read_faults.times new.counts.read_faults.times → ⊥) → (Rose old.counts.write_faults.times new.counts.write_faults.times → ⊥) → (Rose out_old.faults out_new.faults → ⊥) → status ≢ 4 → (made : Made) × (command.makes f ≡ Ok made) → status ≡ 0
-    done_where_made reads writes sends found made = at case_of
-      where
-        at : Case → status ≡ 0
-        at (Done is e) = is
-        at (Failed fault why e is w left) = absurd (not_failed made.0 fault why made.1 reads writes sends found e w is left)
+    done_where_made reads writes sends found made = by_case (λ is e. is) (λ fault why e is w left. absurd (not_failed made.0 fault why made.1 reads writes sends found e w is left))
 
 -- ---- of words
 
