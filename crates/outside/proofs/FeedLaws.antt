@@ -1,12 +1,12 @@
 -- What a feed holds and gives, from what was read into its buffer.
-use Rattle.std.proofs.Common.{◌≡◌, ◌≢◌, ℕ, ◌+◌, ◌-◌, ◌<◌, ◌≤◌, ◌⊎◌, inl, inr, List, [], ◌++◌, length, take, drop, min, sym, subst, ◌∙◌, ap, arith, length-drop}
+use Rattle.std.proofs.Common.{◌≡◌, ◌≢◌, ℕ, ◌+◌, ◌-◌, ◌^◌, ◌<◌, ◌≤◌, ◌⊎◌, inl, inr, List, [], ◌++◌, length, take, drop, min, sym, subst, ◌∙◌, ap, arith, length-drop}
 use Rattle.std.proofs.lemmas.List.{length-take-le, take-take, drop-take, take_all}
 use Rattle.std.proofs.lemmas.List.Edits.{take-paste}
 use Rattle.std.proofs.Math.Seq.{take-append_seam}
 use Rattle.std.specs.List.{copy_within}
 use Rattle.std.proofs.lemmas.Bool.{cases_lt}
 use Rattle.outside.specs.Files.{Files, emptied, appended}
-use Rattle.outside.specs.Feed.{Fed, IsFedFrom}
+use Rattle.outside.specs.Feed.{Fed, IsFedFrom, IsWithin}
 use Rattle.outside.specs.Passed.{PassedOn}
 use Rattle.outside.proofs.FilesLaws.{emptied_held_other, appended_held_other}
 
@@ -47,6 +47,16 @@ moved_front before held xs within ordered =
 -- a list that fills the room of another
 pub fills : (n : ℕ) (xs rest : List ℕ) → length xs ≡ n → take n (xs ++ rest) ≡ xs
 fills n xs rest size = ap (λ k. take k (xs ++ rest)) (sym size) ∙ take-append_seam xs rest
+
+-- a buffer that was filled is one of a feed
+pub within_filled : (n place held to : ℕ) (xs rest : List ℕ) → length xs ≡ n → n ≡ 65536 → held ≤ 65536 → to ≤ held → place ≤ 2 ^ 32 → IsWithin (take n (xs ++ rest)) place held 0 to
+within_filled n place held to xs rest size whole few among early = record {
+  size = ap length (fills n xs rest size) ∙ size ∙ whole;
+  few = few;
+  among = among;
+  ordered = omega arith;
+  early = early;
+}
 
 -- what was read is held
 pub fed_by : (k at : ℕ) (room bytes : List ℕ) → k ≤ length room → take k room ≡ take k (drop at bytes) → take (length (take k room)) (drop at bytes) ≡ take k room

@@ -1,7 +1,7 @@
 -- A piece that is written or read in several calls, one after the other.
-use Rattle.std.proofs.Common.{◌≡◌, ℕ, ◌+◌, ◌-◌, ◌≤◌, List, ◌++◌, length, take, drop, sym, ◌∙◌, ap, arith, length-append, length-drop}
+use Rattle.std.proofs.Common.{◌≡◌, ℕ, ◌+◌, ◌-◌, ◌≤◌, List, ◌++◌, length, take, drop, sym, subst, ◌∙◌, ap, arith, length-append, length-drop}
 use Rattle.std.proofs.lemmas.List.{length-take-le, take-take, drop-take, drop-drop, take-append-drop, take_all, drop_all, append-nil}
-use Rattle.std.proofs.Math.Seq.{take-append-add, drop-append-add}
+use Rattle.std.proofs.Math.Seq.{take-append-add, drop-append-add, take-append_seam}
 use borrow.Rule.Slice.PartMut.{put_mid}
 use Rattle.outside.specs.Files.{Files, Sent, appended, sent_more}
 use Rattle.outside.proofs.FilesLaws.{appended_twice, sent_twice}
@@ -31,6 +31,11 @@ sent_then old before now bytes m n first then =
     ∙ ap (λ sent. sent_more sent (take n (drop m bytes))) first
     ∙ sent_twice old (take m bytes) (take n (drop m bytes))
     ∙ ap (sent_more old) (sym (take_then m n bytes))
+
+-- what is before the part that was put in
+pub front_kept : (m n : ℕ) (xs ys : List ℕ) → m ≤ length xs → take m (put_mid m n xs ys) ≡ take m xs
+front_kept m n xs ys in_range =
+    ap (λ k. take k (put_mid m n xs ys)) (sym (length-take-le m xs in_range)) ∙ take-append_seam (take m xs) (ys ++ drop n (drop m xs))
 
 -- a list with its end, from m on, filled again
 module _ (m n : ℕ) (xs ys : List ℕ) (in_range : m ≤ length xs) (as_many : length ys ≡ length xs - m) where
@@ -64,3 +69,8 @@ module _ (m n : ℕ) (xs ys : List ℕ) (in_range : m ≤ length xs) (as_many : 
   pub drop_refilled : (old : List ℕ) → drop m xs ≡ drop m old → drop n ys ≡ drop n (drop m xs) → drop (m + n) (put_mid m (length xs - m) xs ys) ≡ drop (m + n) old
   drop_refilled old here more =
       ap (drop (m + n)) refilled ∙ drop_front ∙ more ∙ ap (drop n) here ∙ drop-drop n m old
+
+  -- no more of them came
+  pub drop_unread : (old : List ℕ) → n ≡ 0 → drop m xs ≡ drop m old → drop n ys ≡ drop n (drop m xs) → drop m (put_mid m (length xs - m) xs ys) ≡ drop m old
+  drop_unread old none here more =
+      subst (λ k. drop k (put_mid m (length xs - m) xs ys) ≡ drop k old) (omega (arith, none)) (drop_refilled old here more)

@@ -1,6 +1,6 @@
 //! The counts of a folder.
-ghost use Rattle.std.specs.Prelude.{◌≡◌};
-ghost use Rattle.outside.specs.Counts.{none_counted, with_miss, with_end, with_read_fault, with_write_fault, OnlyReads, OnlyWrites};
+ghost use Rattle.std.specs.Prelude.{◌≡◌, ◌<◌, ◌⊎◌, if◌then◌else◌, ◌==◌, ◌&&◌, nat_lt};
+ghost use Rattle.outside.specs.Counts.{none_counted, with_miss, with_end, with_read_fault, with_write_fault, OnlyReads, OnlyWrites, NothingFailed, EndedAt};
 
 use crate::occurrences::Occurrences;
 use std::marker::Model;
@@ -53,6 +53,22 @@ impl Tally {
     {
         self.ends.add(name);
         self.end = at;
+    }
+
+    /// A read of this file at this offset gave `count` bytes, where there was room for `room`: it met an end where it
+    /// gave none though there was room.
+    #[inline]
+    pub fn count_read(&mut self, name: &str, at: u64, count: usize, room: usize)
+        ensures counted { self.new ≡ (if count == 0 && nat_lt 0 room then with_end name.now at self.old
+            else self.old) }
+        ensures ended { count ≡ 0 → 0 < room → EndedAt name.now at self.old.ends self.new.ends }
+        ensures got { (0 < count) ⊎ (room ≡ 0) → self.new ≡ self.old }
+        ensures done { NothingFailed self.old self.new }
+        ensures later { OnlyReads self.old self.new }
+    {
+        if count == 0 && room > 0 {
+            self.count_end(name, at);
+        }
     }
 
     /// A call failed that looks for this file or reads it.

@@ -1,5 +1,6 @@
 -- Where the files are told, all bytes come.
-use Rattle.std.proofs.Common.{◌<◌, length, refl, arith}
+use Rattle.std.proofs.Common.{◌<◌, length, take, drop, refl, sym, ◌∙◌, ap, arith}
+use Rattle.std.proofs.lemmas.List.{take_all}
 use Rattle.outside.proofs.FilesLaws.{nothing_told}
 use Rattle.outside.proofs.exact.read_exact.Goals as goal
 
@@ -14,3 +15,9 @@ returns-in-Ok-clause-cause g c =
       c.in-Ok.ensures.done,
       c.read_full.ensures.counts,
     )
+
+pub returns-in-Ok-2-clause-bytes : goal.returns-in-Ok-2-clause-bytes
+returns-in-Ok-2-clause-bytes g c = λ bytes holds.
+    sym (take_all c.in-Ok.got c.read_full.new.into c.if-got-into.false)
+    ∙ c.in-Ok.ensures.bytes bytes holds
+    ∙ ap (λ k. take k (drop c.args.at bytes)) (omega (arith, c.if-got-into.false, c.in-Ok.ensures.bound, c.read_full.auto.into))

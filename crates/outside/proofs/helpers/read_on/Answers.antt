@@ -1,7 +1,7 @@
 use Rattle.std.proofs.Common.{◌≡◌, ◌-◌, length, take, drop, sym, ◌∙◌, ap, subst, inl, arith, length-drop}
 use Rattle.std.proofs.lemmas.List.{drop-drop}
 use Rattle.outside.specs.Files.{Holds}
-use Rattle.outside.proofs.Pieces.{part_from, length_refilled, take_refilled, drop_refilled}
+use Rattle.outside.proofs.Pieces.{part_from, front_kept, length_refilled, take_refilled, drop_refilled, drop_unread}
 use Rattle.outside.proofs.helpers.read_on.Goals as goal
 
 pub loop-done-preserved : goal.loop-done-preserved
@@ -24,3 +24,15 @@ loop-done-preserved g c =
       files = c.in_ok-got.ensures.files ∙ invariant.files;
       counts = c.in_ok-got.ensures.got (inl (omega arith)) ∙ invariant.counts;
     }
+
+pub returns-then-got-eq0-clause-bytes : goal.returns-then-got-eq0-clause-bytes
+returns-then-got-eq0-clause-bytes g c = λ bytes holds before.
+    front_kept c.loop-done.done _ c.loop-done.into c.read.new.into c.loop-done.invariant.in_range ∙ c.loop-done.invariant.read bytes holds before
+
+pub returns-then-got-eq0-clause-rest : goal.returns-then-got-eq0-clause-rest
+returns-then-got-eq0-clause-rest g c =
+    let m = c.loop-done.done in
+    let xs = c.loop-done.into in
+    let invariant = c.loop-done.invariant in
+    let as_many : length c.read.new.into ≡ length xs - m = (rw part_from at c.read.auto.into) ∙ length-drop m xs in
+    drop_unread m c.in_ok-got.got xs c.read.new.into invariant.in_range as_many c.args.into.now c.if-got-eq0.true invariant.rest (rw part_from at c.in_ok-got.ensures.rest)

@@ -1,8 +1,15 @@
-use Rattle.std.proofs.Common.{◌≡◌, ◌+◌, ◌-◌, take, drop, length, sym, subst, ◌∙◌, ap, arith}
-use Rattle.std.proofs.lemmas.List.{drop-drop}
+use Rattle.std.proofs.Common.{◌≡◌, ◌+◌, ◌-◌, take, drop, length, sym, subst, ◌∙◌, ap, arith, length-drop}
+use Rattle.std.proofs.lemmas.List.{length-take-le, drop-drop}
 use Rattle.outside.specs.Feed.{Fed}
 use Rattle.outside.proofs.FeedLaws.{fed_front, parts_same}
 use Rattle.outside.proofs.feed.Feed.fill.Goals as goal
+
+pub returns-then-at-n-clause-given : goal.returns-then-at-n-clause-given
+returns-then-at-n-clause-given g c =
+    let before = c.args.at - c.self.inside.place in
+    let room = c.self.inside.room.items in
+    let count : before + c.args.n - before ≡ c.args.n = omega arith in
+    ap (λ k. length (take k (drop before room))) count ∙ length-take-le c.args.n (drop before room) (omega (arith, length-drop before room))
 
 pub returns-then-at-n-clause-bytes : goal.returns-then-at-n-clause-bytes
 returns-then-at-n-clause-bytes g c = λ bytes holds.

@@ -1,7 +1,8 @@
 use Rattle.std.proofs.Common.{◌≡◌, ℕ, ◌-◌, List, ◌++◌, take, drop, length, min, sym, subst, ◌∙◌, ap, arith, length-drop}
+use Rattle.std.proofs.lemmas.List.{length-take-le}
 use Rattle.outside.specs.Files.{Holds}
 use Rattle.outside.specs.Feed.{Fed}
-use Rattle.outside.proofs.FeedLaws.{fills, fed_by, fed_front, given_is}
+use Rattle.outside.proofs.FeedLaws.{fills, within_filled, fed_by, fed_front, given_is}
 use Rattle.outside.proofs.feed.Feed.refill.Given.{Over}
 use Rattle.outside.proofs.feed.Feed.refill.Goals as goal
 
@@ -14,6 +15,24 @@ read g c bytes holds =
     let held = subst (λ (fed : Fed). take (length fed.held) (drop fed.place bytes) ≡ fed.held) (sym c.self.view_is) (c.requires.fed.same bytes holds) in
     let front = fed_front c.self.inside.held c.self.inside.place c.self.inside.room.items bytes (omega arith) held in
     c.in_ok-self-inside.ensures.bytes bytes holds (c.keep_from-kept.ensures.kept bytes (front ∙ ap (take c.self.inside.held) (sym c.as_mut_slice-room.ensures.value)))
+
+pub invariant_of-self : goal.invariant_of-self
+invariant_of-self g c =
+    within_filled c.self.inside.room.len c.args.at 0 0 c.read_on.new.into _ (omega (arith, c.read_on.auto.into, c.keep_from-kept.auto.room, c.as_mut_slice-room.ensures.len))
+    (omega (arith, c.as_mut_slice-room.ensures.len, ap length c.as_mut_slice-room.ensures.value, c.self.invariant.size)) (omega arith) (omega arith) (omega (arith, c.requires.short))
+
+pub invariant_of-self-2 : goal.invariant_of-self-2
+invariant_of-self-2 g c =
+    let size : length c.keep_from-kept.new.room ≡ 65536 = omega (arith, c.keep_from-kept.auto.room, ap length c.as_mut_slice-room.ensures.value, c.self.invariant.size) in
+    within_filled c.self.inside.room.len c.args.at c.in_ok-self-inside.field-0 c.min-self-inside.result c.read_on.new.into _
+    (omega (arith, c.read_on.auto.into, c.keep_from-kept.auto.room, c.as_mut_slice-room.ensures.len)) (omega (arith, size, c.keep_from-kept.auto.room, c.as_mut_slice-room.ensures.len))
+    (omega (arith, size, c.in_ok-self-inside.ensures.bound)) (omega (arith, c.min-self-inside.ensures)) (omega (arith, c.requires.short))
+
+pub returns-clause-given : goal.returns-clause-given
+returns-clause-given g c =
+    ap (λ (room : List ℕ). length (take (c.min-self-inside.result - 0) room)) (room_is g c)
+    ∙ length-take-le _ c.read_on.new.into (omega (arith, c.min-self-inside.ensures, c.in_ok-self-inside.ensures.bound, c.read_on.auto.into))
+    ∙ omega arith
 
 pub returns-clause-bytes : goal.returns-clause-bytes
 returns-clause-bytes g c = λ bytes holds.

@@ -1,6 +1,10 @@
 -- A long piece is sent after what waited.
-use Rattle.outside.proofs.SentLaws.{sent_over, sent_over_prefix}
+use Rattle.outside.proofs.PassedLaws.{on_err}
+use Rattle.outside.proofs.SentLaws.{sent_prefix_of, sent_over, sent_over_prefix}
 use Rattle.outside.proofs.send_buffer.SendBuffer.push_over.Goals as goal
+
+pub returns-in_err-finish-clause-prefix : goal.returns-in_err-finish-clause-prefix
+returns-in_err-finish-clause-prefix g c = on_err c.from_residual.result (sent_prefix_of c.args.piece.now c.in_err-finish.ensures.prefix)
 
 pub returns-then-piece-gt-SIZE-clause-passed : goal.returns-then-piece-gt-SIZE-clause-passed
 returns-then-piece-gt-SIZE-clause-passed g c =
