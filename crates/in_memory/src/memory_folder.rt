@@ -216,9 +216,7 @@ impl Folder for MemFolder {
         }
         let content = self.slots.content(name).unwrap_or(&[]);
         let count = copy_from(content, at, into);
-        if count == 0 && !into.is_empty() {
-            self.tally.count_end(name, at);
-        }
+        self.tally.count_read(name, at, count, into.len());
         Ok(count)
     }
 

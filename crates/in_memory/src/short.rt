@@ -130,15 +130,11 @@ impl Folder for ShortFolder {
         ensures extra { self.new.extra ≡ self.old.extra }
     {
         if self.inner.get(name).is_none() {
-            if !into.is_empty() {
-                self.tally.count_end(name, at);
-            }
+            self.tally.count_read(name, at, 0, into.len());
             return Ok(0);
         }
         let count = self.inner.read(name, at, into)?;
-        if count == 0 && !into.is_empty() {
-            self.tally.count_end(name, at);
-        }
+        self.tally.count_read(name, at, count, into.len());
         Ok(count)
     }
 
