@@ -1,5 +1,5 @@
 -- Laws of the bytes that the library knows of a writer.
-use Rattle.std.proofs.Common.{◌≡◌, ℕ, List, ◌++◌, take, ◌∙◌, ap}
+use Rattle.std.proofs.Common.{◌≡◌, ℕ, List, [], ◌++◌, take, sym, ◌∙◌, ap}
 use Rattle.std.specs.Prelude.{Option, Some, None}
 use Rattle.std.specs.Io.KnownBytes.{Appends, Keeps}
 use Rattle.std.proofs.lemmas.List.{append-nil}
@@ -9,3 +9,9 @@ pub none_appended : (old new : Option (List ℕ)) (n : ℕ) (bytes : List ℕ) �
 none_appended None new n bytes zero grew = tt
 none_appended (Some xs) None n bytes zero grew = grew
 none_appended (Some xs) (Some ys) n bytes zero grew = grew ∙ ap (λ k. xs ++ take k bytes) zero ∙ append-nil xs
+
+-- to keep them is to append nothing
+pub kept_appends : (old new : Option (List ℕ)) → Keeps old new → Appends old new []
+kept_appends None new same = tt
+kept_appends (Some xs) None same = same
+kept_appends (Some xs) (Some ys) same = same ∙ sym (append-nil xs)

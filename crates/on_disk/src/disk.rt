@@ -185,13 +185,7 @@ impl<'a, R: Files> DiskFolder<'a, R> {
         ensures noted { self.new.noted ≡ self.old.noted }
     {
         let kept = String::from_str(self.alloc, name)?;
-        let file = appending(true).open(self.rt, name)?;
-        let metadata = file.metadata()?;
-        match opening_of(&self.noted, &FileId::of(&metadata), metadata.is_file()) {
-            Opening::Refused => return Err(Failed),
-            Opening::Emptied if metadata.len() > 0 => file.set_len(0)?,
-            Opening::Emptied | Opening::Kept => {}
-        }
+        let file = open_emptied(self.rt, &self.noted, name)?;
         self.created = Some(Opened { name: kept, file });
         Ok(())
     }
@@ -250,6 +244,18 @@ fn appending(creates: bool) -> OpenOptions
     let mut options = OpenOptions::new();
     options.append(true).create(creates);
     options
+}
+
+// Opens the file of this name to be written, and empties it if it is a regular file. One that was found is refused.
+fn open_emptied<R: Files>(rt: &R, noted: &Noted, name: &str) -> Result<R::File, Failed> {
+    let file = appending(true).open(rt, name)?;
+    let metadata = file.metadata()?;
+    match opening_of(noted, &FileId::of(&metadata), metadata.is_file()) {
+        Opening::Refused => return Err(Failed),
+        Opening::Emptied if metadata.len() > 0 => file.set_len(0)?,
+        Opening::Emptied | Opening::Kept => {}
+    }
+    Ok(file)
 }
 
 // Opens a regular file for reading. Anything else is looked at first, since to open a pipe may block.
@@ -359,9 +365,7 @@ impl<'a, R: Files> Folder for DiskFolder<'a, R> {
             self.tally.count_read_fault(name);
             return Err(Failed);
         };
-        if count == 0 && !into.is_empty() {
-            self.tally.count_end(name, at);
-        }
+        self.tally.count_read(name, at, count, into.len());
         Ok(count)
     }
 
