@@ -175,8 +175,7 @@ impl<'a, R: Files> DiskFolder<'a, R> {
     }
 
     // Opens the file of this name, empties it if it is a regular one, and keeps it open; fails if this
-    // folder found it. A file that is empty is left as it is: some file systems write a file that was cut
-    // off to the disk when it is closed.
+    // folder found it.
     fn make_empty(&mut self, name: &str) -> Result<(), Failed>
         ensures tally { disk_counts self.new ≡ disk_counts self.old }
         ensures touched { self.new.touched ≡ self.old.touched }
@@ -246,7 +245,8 @@ fn appending(creates: bool) -> OpenOptions
     options
 }
 
-// Opens the file of this name to be written, and empties it if it is a regular file. One that was found is refused.
+// Opens the file of this name to be written, and empties it if it is a regular one; fails if it was found. A file that is empty
+// is left as it is: some file systems write a file that was cut off to the disk when it is closed.
 fn open_emptied<R: Files>(rt: &R, noted: &Noted, name: &str) -> Result<R::File, Failed> {
     let file = appending(true).open(rt, name)?;
     let metadata = file.metadata()?;
