@@ -40,18 +40,17 @@ pub(crate) fn inputs_of<'a>(job: &Job<'a>) -> ArrayVec<&'a str, 64>
     ensures { map (λ name. name.now) result.items ≡ (command_of (asked job.now)).inputs }
 {
     match *job {
-        Job::Help => Names::new(),
-        Job::Version => Names::new(),
-        Job::Drill { .. } => Names::new(),
-        Job::List { input } => names(&[input]),
-        Job::Gain { input, .. } => names(&[input]),
-        Job::Undo { input, .. } => names(&[input]),
-        Job::Cut { input, .. } => names(&[input]),
+        Job::Help | Job::Version | Job::Drill { .. } => Names::new(),
+        Job::List { input }
+        | Job::Gain { input, .. }
+        | Job::Undo { input, .. }
+        | Job::Cut { input, .. }
+        | Job::SplitAt { input, .. }
+        | Job::Salvage { input, .. } => names(&[input]),
         Job::Pack { input, .. } => names(&[input]),
-        Job::SplitAt { input, .. } => names(&[input]),
-        Job::SplitBy { input, sheet, .. } => names(&[input, sheet]),
-        Job::Fade { input, sheet, .. } => names(&[input, sheet]),
-        Job::Salvage { input, .. } => names(&[input]),
+        Job::SplitBy { input, sheet, .. } | Job::Fade { input, sheet, .. } => {
+            names(&[input, sheet])
+        }
         Job::Join { inputs, .. } => names_of(inputs),
     }
 }
@@ -61,18 +60,14 @@ pub(crate) fn outputs_of<'a>(job: &Job<'a>) -> Outputs<'a>
     ensures { names_in result ≡ (command_of (asked job.now)).outputs }
 {
     match *job {
-        Job::Help => Outputs::None,
-        Job::Version => Outputs::None,
-        Job::Drill { .. } => Outputs::None,
-        Job::List { .. } => Outputs::None,
-        Job::Gain { output, .. } => Outputs::One(output),
-        Job::Undo { output, .. } => Outputs::One(output),
-        Job::Cut { output, .. } => Outputs::One(output),
-        Job::Pack { output, .. } => Outputs::One(output),
-        Job::Fade { output, .. } => Outputs::One(output),
-        Job::Join { output, .. } => Outputs::One(output),
-        Job::Salvage { output, .. } => Outputs::One(output),
-        Job::SplitAt { prefix, .. } => Outputs::Pieces(prefix),
-        Job::SplitBy { prefix, .. } => Outputs::Pieces(prefix),
+        Job::Help | Job::Version | Job::Drill { .. } | Job::List { .. } => Outputs::None,
+        Job::Gain { output, .. }
+        | Job::Undo { output, .. }
+        | Job::Cut { output, .. }
+        | Job::Pack { output, .. }
+        | Job::Fade { output, .. }
+        | Job::Join { output, .. }
+        | Job::Salvage { output, .. } => Outputs::One(output),
+        Job::SplitAt { prefix, .. } | Job::SplitBy { prefix, .. } => Outputs::Pieces(prefix),
     }
 }

@@ -14,6 +14,6 @@ packed_inputs _ input output = refl
 
 pub returns-in-Pack : goal.returns-in-Pack
 returns-in-Pack c =
-    ap (map (λ (name : Bor (List ℕ)). name.now)) c.names-in-Pack.ensures
+    ap (map (λ (name : Bor (List ℕ)). name.now)) c.names.ensures
     ∙ sym (packed_inputs c.in-Pack.mode c.in-Pack.input.now c.in-Pack.output.now)
     ∙ ap (λ (job : Job). (command_of (asked job)).inputs) (sym c.in-Pack.is)
