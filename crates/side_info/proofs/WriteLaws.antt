@@ -19,7 +19,7 @@ use Rattle.side_info.specs.declared.side.Side.{Side}
 use Rattle.side_info.specs.Granule.{compress_width, preflag_width, bit_of, granule_widths, no_granule, granule_size, granule_numbers, granule_bits, GranuleFits}
 use Rattle.side_info.specs.Parts.{class_with, front_size, second_bits}
 use Rattle.side_info.specs.Side.{front_widths_of, granules_in, side_bits}
-use Rattle.side_info.proofs.GranuleLaws.{Fits-granule}
+use Rattle.side_info.proofs.GranuleLaws.{bit_of-below, Fits-granule}
 
 -- a `bool` as a number
 pub bool_byte-is : (flag : Bool) → bool_byte flag ≡ bit_of flag
@@ -48,6 +48,26 @@ pub preflag_most : (version : Version) → preflag_width version ≤ 1
 preflag_most One = lit≤ tt
 preflag_most Two = lit≤ tt
 preflag_most TwoFive = lit≤ tt
+
+-- those before preflag
+abbrev upper_of : Version → Granule → ℕ
+upper_of version g =
+    (g.part2_3_length * 131072 + g.big_values * 256 + g.global_gain) * 2 ^ (compress_width version + 23)
+    + (g.scalefac_compress * 8388608 + bit_of g.window_switching * 4194304 + g.detail)
+
+upper_below : (version : Version) (g : Granule) → GranuleFits version g → upper_of version g < 2 ^ 64
+upper_below One g fits = omega (arith, fits.part2_3_length, fits.big_values, fits.global_gain, fits.scalefac_compress, fits.detail, bit_of-below g.window_switching)
+upper_below Two g fits = omega (arith, fits.part2_3_length, fits.big_values, fits.global_gain, fits.scalefac_compress, fits.detail, bit_of-below g.window_switching)
+upper_below TwoFive g fits = omega (arith, fits.part2_3_length, fits.big_values, fits.global_gain, fits.scalefac_compress, fits.detail, bit_of-below g.window_switching)
+
+pub upper_fits : (version : Version) (g : Granule) → GranuleFits version g → (compress first middle : ℕ) → compress ≡ compress_width version
+    → first ≡ g.part2_3_length * 131072 + g.big_values * 256 + g.global_gain → middle ≡ g.scalefac_compress * 8388608 + bit_of g.window_switching * 4194304 + g.detail
+    → first * (1 * 2 ^ (compress + 23) % 2 ^ 64) + middle < 2 ^ 64
+upper_fits version g fits compress first middle compress_is first_is middle_is =
+    let above : 1 * 2 ^ (compress + 23) % 2 ^ 64 ≡ 2 ^ (compress_width version + 23) =
+    one_shl (compress + 23) 64 (omega (arith, compress_is, compress_most version)) ∙ ap (λ n. 2 ^ (n + 23)) compress_is in
+    let upper_is : first * (1 * 2 ^ (compress + 23) % 2 ^ 64) + middle ≡ upper_of version g = λ i. first_is i * above i + middle_is i in
+    rw upper_is (upper_below version g fits)
 
 module _ (version : Version) (g : Granule) (fits : GranuleFits version g) (compress preflag first middle last : ℕ) (compress_is : compress ≡ compress_width version) (preflag_is : preflag ≡ preflag_width version) (first_is : first ≡ g.part2_3_length * 131072 + g.big_values * 256 + g.global_gain) (middle_is : middle ≡ g.scalefac_compress * 8388608 + bit_of g.window_switching * 4194304 + g.detail) (last_is : last ≡ bit_of g.preflag * 4 + bit_of g.scalefac_scale * 2 + bit_of g.count1table_select) where
   word-joined : (first * (1 * 2 ^ (compress + 23) % 2 ^ 64) + middle) * (1 * 2 ^ (preflag + 2) % 2 ^ 64) + last ≡ joined (granule_widths version) (granule_numbers g)

@@ -1,11 +1,12 @@
 //! The check word of a frame (ISO/IEC 11172-3 and 13818-3, 2.4.3.1).
-ghost use Rattle.std.specs.Prelude.{◌≡◌, ℕ, ◌*◌, ◌≤◌, ◌++◌, length, take, drop};
+ghost use Rattle.std.specs.Prelude.{◌≡◌, ℕ, ◌*◌, ◌<◌, ◌≤◌, [], ◌++◌, length, take, drop, slice_index_or};
 ghost use Rattle.bit_fields.specs.Bits.{bits, bits_of};
 ghost use Rattle.frame_header.specs.Fields.{HeaderFields};
 ghost use Rattle.frame_header.specs.Reading.{header_at};
 ghost use Rattle.frame_header.specs.Tables.{class_of, side_size_of};
 ghost use Rattle.side_info.specs.CheckWord.{remainder, start_word, check_word_of};
 ghost use Rattle.side_info.specs.Side.{side_at, SideFits};
+ghost use Rattle.side_info.specs.declared.division.TheConstants.{REMAINDERS as remainders};
 
 use crate::side::Side;
 use frame_header::Header;
@@ -36,20 +37,28 @@ static REMAINDERS: [[u16; 256]; 8] = [
 /// The word before the first bit: all ones.
 const START: u16 = 0xffff;
 
+/// What a byte leaves of the division this many bytes after it, from the word 0.
+#[inline]
+fn left_of(byte: u8, later: usize) -> u16
+    requires { later < 8 }
+    ensures { result ≡ slice_index_or (slice_index_or remainders later []) byte 0 }
+{
+    REMAINDERS[later][usize::from(byte)]
+}
+
 /// The word after eight more bits.
 fn byte_step(word: u16, byte: u8) -> u16
     ensures { result ≡ remainder word (bits_of 8 byte) }
 {
     let above = (word >> 8) as u8;
-    (word << 8) ^ REMAINDERS[0][usize::from(above ^ byte)]
+    (word << 8) ^ left_of(above ^ byte, 0)
 }
 
 /// The word after the bits of two more bytes.
 fn two_step(word: u16, a: u8, b: u8) -> u16
     ensures { result ≡ remainder (remainder word (bits_of 8 a)) (bits_of 8 b) }
 {
-    REMAINDERS[1][((word >> 8) as u8 ^ a) as usize]
-        ^ REMAINDERS[0][((word % 256) as u8 ^ b) as usize]
+    left_of((word >> 8) as u8 ^ a, 1) ^ left_of((word % 256) as u8 ^ b, 0)
 }
 
 /// The word after the bits of the first eight of these bytes. What each leaves of the division doesn't depend on the
@@ -58,14 +67,14 @@ fn eight_step(word: u16, bytes: &[u8]) -> u16
     requires { 8 ≤ length bytes.now }
     ensures { result ≡ remainder word (bits (take 8 bytes.now)) }
 {
-    REMAINDERS[7][((word >> 8) as u8 ^ bytes[0]) as usize]
-        ^ REMAINDERS[6][((word % 256) as u8 ^ bytes[1]) as usize]
-        ^ REMAINDERS[5][bytes[2] as usize]
-        ^ REMAINDERS[4][bytes[3] as usize]
-        ^ REMAINDERS[3][bytes[4] as usize]
-        ^ REMAINDERS[2][bytes[5] as usize]
-        ^ REMAINDERS[1][bytes[6] as usize]
-        ^ REMAINDERS[0][bytes[7] as usize]
+    left_of((word >> 8) as u8 ^ bytes[0], 7)
+        ^ left_of((word % 256) as u8 ^ bytes[1], 6)
+        ^ left_of(bytes[2], 5)
+        ^ left_of(bytes[3], 4)
+        ^ left_of(bytes[4], 3)
+        ^ left_of(bytes[5], 2)
+        ^ left_of(bytes[6], 1)
+        ^ left_of(bytes[7], 0)
 }
 
 /// The word after the bits of the first `8 * count` of these bytes.
