@@ -2,8 +2,8 @@
 use Rattle.std.proofs.Common.{◌≡◌, ℕ, zero, suc, ◌+◌, ◌-◌, ◌^◌, ◌<◌, ◌≤◌, Bool, true, false, cond, ◌&&◌, ◌||◌, List, [], ◌∷◌, ◌++◌, length, take, drop, get_or, Option, Some, None, refl, sym, ap, ◌∙◌, subst, arith, append_assoc, append-nil, length-append, length-take, length-drop, take-append-drop}
 use Rattle.std.specs.Prelude.{filter}
 use Rattle.std.specs.List.{list_all, list_any, prefix_len}
-use Rattle.std.proofs.lemmas.Bool.{true≢false, and_parts, and_from, leb-true, le-leb, lt-ltb, ltb-true, eqb-true}
-use Rattle.std.proofs.lemmas.List.{drop-drop, drop_more, length-take-le, take_at, drop_at, get_or-drop, get_or-take, get_or_at}
+use Rattle.std.proofs.lemmas.Bool.{true≢false, false_from_ne_true, and_parts, and_from, leb-true, le-leb, lt-ltb, ltb-true, eqb-true, eq-eqb}
+use Rattle.std.proofs.lemmas.List.{flat_map_more, take_more, drop-drop, drop_more, length-take-le, take_at, drop_at, get_or-drop, get_or-take, get_or_at}
 use Rattle.std.proofs.lemmas.List.Folds.{length-prefix_len}
 use Rattle.std.proofs.lemmas.List.Sums.{sum_by-cons, prefix_len_passes, list_all-from_AllPass}
 use Rattle.std.proofs.lemmas.Option.{cond_some}
@@ -22,6 +22,15 @@ length-item_bytes item = omega (arith, length-append item.key (0 ∷ item.value)
 
 pub items_length-cons : (item : TagItem) (items : List TagItem) → items_length (item ∷ items) ≡ item_length item + items_length items
 items_length-cons item items = sum_by-cons item_length item items
+
+-- the bytes of one item more
+pub items_more : (items : List TagItem) (i : ℕ) (d item : TagItem) (old before new : List ℕ) → item ≡ get_or items i d → i < length items
+    → before ≡ old ++ items_bytes (take i items) → new ≡ before ++ item_bytes item → new ≡ old ++ items_bytes (take (i + 1) items)
+items_more items i d item old before new is less so_far added =
+    added
+    ∙ ap (λ bs. bs ++ item_bytes item) so_far
+    ∙ flat_map_more item_bytes old (take i items) item
+    ∙ ap (λ xs. old ++ items_bytes xs) (ap (λ x. take i items ++ x ∷ []) is ∙ sym (take_more items i d less))
 
 pub length-items_bytes : (items : List TagItem) → length (items_bytes items) ≡ items_length items
 length-items_bytes [] = refl
@@ -62,6 +71,13 @@ stands-parts bytes is =
     let two = and_parts _ _ three.0 in
     let one = and_parts _ _ two.0 in
     record { least = leb-true _ _ one.0; most = leb-true _ _ one.1; within = leb-true _ _ two.1; zero_behind = eqb-true _ _ three.1 }
+
+pub stands-from : (bytes : List ℕ) → Stands bytes → true ≡ stands bytes
+unfolding stands
+stands-from bytes s = sym (and_from _ _ (and_from _ _ (and_from _ _ (le-leb _ _ s.least) (le-leb _ _ s.most)) (le-leb _ _ s.within)) (eq-eqb _ _ s.zero_behind))
+
+pub stands_not : (bytes : List ℕ) → (Stands bytes → ⊥) → false ≡ stands bytes
+stands_not bytes none = sym (false_from_ne_true (stands bytes) (λ is. none (stands-parts bytes is)))
 
 pub length-front : (bytes : List ℕ) → stands bytes ≡ true → item_length (item_front bytes) ≡ value_place bytes + ape_number 0 bytes
 unfolding item_front

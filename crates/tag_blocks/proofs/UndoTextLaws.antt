@@ -1,10 +1,12 @@
 -- The value of an undo item: what is written is read again.
-use Rattle.std.proofs.Common.{◌≡◌, ℕ, zero, suc, ◌+◌, ◌-◌, ◌*◌, ◌/◌, ◌%◌, ◌≤◌, Bool, true, false, ◌&&◌, ◌||◌, cond, ◌==◌, List, [], ◌∷◌, ◌++◌, length, take, drop, get_or, take-append-drop, length-drop, Option, Some, None, ℤ, pos, negsuc, neg_ℤ, unsigned_abs, refl, sym, ap, subst, ◌∙◌, arith}
+use Rattle.std.proofs.Common.{◌≡◌, ℕ, zero, suc, ◌+◌, ◌-◌, ◌*◌, ◌/◌, ◌%◌, ◌≤◌, Bool, true, false, ◌&&◌, ◌||◌, cond, ◌==◌, List, [], ◌∷◌, ◌++◌, length, take, drop, get_or, take-append-drop, length-drop, Option, Some, None, ℤ, pos, negsuc, neg_ℤ, unsigned_abs, to_z, of_z, refl, sym, ap, subst, ◌∙◌, arith}
 use Rattle.std.specs.Prelude.{int_lt}
 use Rattle.std.specs.Char.{is_ascii_digit}
 use Rattle.std.proofs.lemmas.Bool.{true≢false, le-leb, lt-leb, leb-true, and_parts, and_from, eqb-true}
 use Rattle.std.proofs.lemmas.List.{drop_more, drop-drop, length-take-le, nil_from_length}
+use Rattle.std.proofs.lemmas.Int.{to_z-of_z, fits_signed_from_abs}
 use Rattle.std.proofs.lemmas.Option.{cond_some}
+use mir.Syntax.{w16}
 use Rattle.tag_blocks.specs.declared.undo.Undo.{Undo}
 use Rattle.tag_blocks.specs.Laws.{is_minus_zero}
 use Rattle.tag_blocks.specs.UndoText.{steps_text, wrap_letter, undo_text, FitsText, is_steps, digits_number, steps_of, is_undo_text, undo_of}
@@ -42,6 +44,36 @@ pub undo_of-undo_text : (undo : Undo) → FitsText undo → undo_of (undo_text u
 unfolding undo_of is_undo_text
 undo_of-undo_text undo fits =
     rw (is_steps-steps_text undo.left fits.left, is_steps-steps_text undo.right fits.right, steps_of-steps_text undo.left fits.left, steps_of-steps_text undo.right fits.right) (of_wrap undo.left undo.right undo.wrap)
+
+-- ---- the parts of a value that is read
+
+pub record AreUndoParts (value : List ℕ) : Type 0 where
+  pub long : length value ≡ 11
+  pub left : is_steps (take 4 value) ≡ true
+  pub right : is_steps (take 4 (drop 5 value)) ≡ true
+
+pub undo_parts : (value : List ℕ) → is_undo_text value ≡ true → AreUndoParts value
+unfolding is_undo_text
+undo_parts value is =
+    let three = and_parts _ _ (and_parts _ _ (and_parts _ _ is).0).0 in
+    let one = and_parts _ _ (and_parts _ _ three.0).0 in
+    record { long = eqb-true (length value) 11 one.0; left = one.1; right = three.1 }
+
+pub no_undo : (value : List ℕ) → is_undo_text value ≡ false → undo_of value ≡ None
+unfolding undo_of
+no_undo value not = rw not refl
+
+-- steps stay what they are in 16 bits
+in_bits : (steps : ℤ) → unsigned_abs steps ≤ 999 → to_z w16 (of_z w16 steps) ≡ steps
+in_bits steps most = to_z-of_z w16 steps (fits_signed_from_abs w16 steps (omega (arith, most)))
+
+pub most_in_bits : (steps : ℤ) → unsigned_abs steps ≤ 999 → unsigned_abs (to_z w16 (of_z w16 steps)) ≤ 999
+most_in_bits steps most = rw (in_bits steps most) most
+
+pub undo_read : (value : List ℕ) (left right : ℤ) → is_undo_text value ≡ true → left ≡ steps_of (take 4 value) → unsigned_abs left ≤ 999 → right ≡ steps_of (take 4 (drop 5 value)) → unsigned_abs right ≤ 999
+    → Some (record { left = to_z w16 (of_z w16 left); right = to_z w16 (of_z w16 right); wrap = get_or value 10 0 == 87 }) ≡ undo_of value
+unfolding undo_of
+undo_read value left right is left_is left_most right_is right_most = rw (is, in_bits left left_most, in_bits right right_most, left_is, right_is) refl
 
 -- ---- what is read is written again
 
