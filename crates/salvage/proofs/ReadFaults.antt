@@ -48,6 +48,12 @@ pub look_refusal : {feed : Fed} {name : List ℕ} {files mid : Files} {before be
     → IsReadRefusal name files before after fault
 look_refusal {name = name} {files = files} {before = before} {after = after} {fault = fault} read is outside = outside_refusal name files before after fault (refusal_after read is) outside
 
+-- files and counts are the same before it
+pub refusal_same : {name : List ℕ} {files mid : Files} {before between after : Counts} {fault : SurveyFault} → mid ≡ files → between ≡ before → IsReadRefusal name mid between after fault
+    → IsReadRefusal name files before after fault
+refusal_same {name = name} {files = files} {between = between} {after = after} {fault = fault} same counts is =
+    subst (λ counted. IsReadRefusal name files counted after fault) counts (subst (λ held. IsReadRefusal name held between after fault) same is)
+
 -- ---- by the length
 
 long-too : (file : List ℕ) → longest_file < length file → damaged_of file ≡ Err (TooLong (length file))

@@ -13,3 +13,7 @@ if_err (Err e) P Q A is then = then e is
 pub if_ok : {T E : Type 0} (r : Result T E) (P A : T → Type 0) (B : Type 0) → IfOk r P → OnOk r B → ((x : T) → P x → B → A x) → IfOk r A
 if_ok (Ok x) P A B is other then = then x is other
 if_ok (Err e) P A B is other then = tt
+
+pub on_ok : {T E : Type 0} (r : Result T E) (A : Type 0) → A → OnOk r A
+on_ok (Ok x) A a = a
+on_ok (Err e) A a = tt

@@ -1,8 +1,10 @@
--- There is no first frame, or a call failed.
+-- Where the file begins, or why that isn't known: there is no first frame, or a call failed.
 use Rattle.std.proofs.Common.{refl, sym, ◌∙◌, subst, arith}
+use Rattle.std.specs.Prelude.{IfSome}
 use Rattle.outside.specs.Files.{Holds}
 use Rattle.outside.proofs.PassedLaws.{err_at}
 use Rattle.sync_survey.specs.declared.survey_fault.SurveyFault.TheVariants.{NoFrame}
+use Rattle.sync_survey.specs.Survey.{IsWholeFrom}
 use Rattle.sync_survey.proofs.FoldersLaws.{none_read, read_more}
 use Rattle.salvage.proofs.ReadFaults.{look_refusal, bytes_refusal}
 use Rattle.salvage.proofs.ProgressLaws.{no_first}
@@ -24,3 +26,22 @@ pub returns-in_err-head-clause-refused : goal.returns-in_err-head-clause-refused
 returns-in_err-head-clause-refused g c =
     err_at _ _ c.from_residual-in_err-head.ensures.1
     (look_refusal (read_more (read_more (none_read c.requires.fed) c.in_ok-front_end.ensures.reads) c.in_ok-first.ensures.reads) (c.in_err-head.ensures.refused 0) c.in_err-head.ensures.outside)
+
+pub returns-clause-begun : goal.returns-clause-begun
+returns-clause-begun g c =
+    let placed : IsWholeFrom c.in_ok-front_end.front_end c.args.size c.in-Some.first =
+    subst (λ o. IfSome o (IsWholeFrom c.in_ok-front_end.front_end c.args.size)) c.in-Some.is c.in_ok-first.ensures.placed in
+    record {
+      known = c.requires.known;
+      whole = placed.within;
+      junk = placed.behind;
+      same = c.in_ok-head.ensures.same;
+      told = λ bytes holds.
+          let passed = subst (λ f. Holds f c.args.name.now bytes) (sym c.in_ok-front_end.ensures.reads.files) holds in
+          let found = subst (λ f. Holds f c.args.name.now bytes) (sym c.in_ok-first.ensures.reads.files) passed in
+          record {
+            front = c.in_ok-front_end.ensures.front_end bytes holds;
+            first = sym (c.in_ok-first.ensures.first bytes passed) ∙ c.in-Some.is;
+            head = c.in_ok-head.ensures.head bytes found;
+          };
+    }
