@@ -6,7 +6,9 @@ use Rattle.tag_blocks.specs.Blocks.{ape_number}
 use Rattle.tag_blocks.specs.Items.{is_key_char, key_length}
 use Rattle.tag_blocks.proofs.ItemsLaws.{stands-from, stands_not}
 use Rattle.tag_blocks.proofs.item.layout_at.Goals as goal
-use Rattle.tag_blocks.proofs.item.layout_at.Goals.{After-ape_number, then-length-lt2-via-then-length-lt2, then-length-lt2-via-else-length-lt2+then-length-gt255, then-length-lt2-via-else-length-lt2+else-length-gt255+then-end-bytes, then-length-lt2-via-else-length-lt2+else-length-gt255+else-end-bytes+then-bytes-value_at-ne0}
+use Rattle.tag_blocks.proofs.item.layout_at.Goals.{After-ape_number, then-length-lt2-via-then-length-lt2, then-length-lt2-via-else-length-lt2+then-length-gt255}
+use Rattle.tag_blocks.proofs.item.layout_at.Goals.{then-length-lt2-via-else-length-lt2+else-length-gt255+then-end-bytes}
+use Rattle.tag_blocks.proofs.item.layout_at.Goals.{then-length-lt2-via-else-length-lt2+else-length-gt255+else-end-bytes+then-bytes-value_at-ne0}
 
 -- the key's length is that of the definition
 key : (c : After-ape_number) → c.key_length-length.result ≡ key_length c.args.bytes.now
