@@ -29,9 +29,9 @@ impl Buffers {
     {
         Ok(Buffers {
             feed: Feed::new(alloc)?,
+            waiting: WriteBuffer::new(alloc)?,
             window: Window::new(alloc)?,
             writer: Writer::new(alloc, class)?,
-            waiting: WriteBuffer::new(alloc)?,
         })
     }
 }

@@ -5,6 +5,7 @@ use Rattle.frame_header.specs.Tables.{class_of, area_of, window_of}
 use Rattle.side_info.specs.declared.side.Side.{Side}
 use Rattle.side_info.specs.Side.{SideFits}
 use Rattle.outside.specs.Files.{Holds}
+use Rattle.outside.specs.Pass.{route_of, HasPassCause}
 use Rattle.outside.proofs.PassedLaws.{err_at, err_by}
 use Rattle.frame_writer.specs.Frames.{reach_of}
 use Rattle.frame_writer.proofs.WritingLaws.{ok-map}
@@ -19,7 +20,7 @@ use Rattle.laying.proofs.ReadLaws.{over-next}
 use Rattle.laying.proofs.PassLaws.{ready-later, over-later, lays_one, part_one, part_none}
 use Rattle.laying.proofs.relay.Relay.frame.Given as given
 use Rattle.laying.proofs.relay.Relay.frame.Goals as goal
-use Rattle.laying.proofs.relay.Relay.frame.Goals.{After-with_begin, After-cut_payload-payload}
+use Rattle.laying.proofs.relay.Relay.frame.Goals.{After-with_begin, After-cut_payload-payload, After-write_frame}
 
 -- how far back main data may begin after a frame
 abbrev behind : ClassFields → HeaderFields → ℕ → ℕ → ℕ
@@ -48,6 +49,16 @@ told g c over_is side_is file holds =
     let header = c.with_slot.ensures in
     λ j. (record { kept = record { header = header j; side = side_is j }; payload = payload j }) ∷ []
 
+-- how far back main data may begin behind it
+writer-reach : (g : given.Over) (c : After-write_frame g) → c.with_begin.result ≡ record (side_of c.args.row.now) { main_data_begin = c.args.place.now.begin }
+    → reach_of c.write_frame.new.writer ≡ own_reach c.args.self.now c.args.row.now c.args.place.now
+writer-reach g c side_is =
+    let header = c.with_slot.ensures in
+    let size : length c.cut_payload-payload.result ≡ (need_of c.args.row.now).bytes = c.cut_payload-payload.ensures.size in
+    let begin : c.with_begin.result.main_data_begin ≡ c.args.place.now.begin = ap (λ (t : Side). t.main_data_begin) side_is in
+    let class = c.requires.class in
+    c.write_frame.ensures.reach ∙ (λ j. behind (class j) (header j) (begin j) (size j))
+
 pub returns-in_err-read_area-clause-part : goal.returns-in_err-read_area-clause-part
 returns-in_err-read_area-clause-part g c =
     let self = c.args.self.now in
@@ -67,6 +78,9 @@ write_frame-requires-clause-fits g c =
     let well = c.requires.ready.laid.placed c.args.i row c.requires.found in
     subst (SideFits class) (sym (side g (goal.at.write_frame-requires-clause-fits g c).After-with_begin))
     (begun_fits class (side_of row) c.args.place.now.begin (subst (λ d. SideFits d (side_of row)) (sym c.requires.class) (side_fits s.class row.lost row.side well.fits)) (omega (arith, c.requires.begin)))
+
+pub write_frame-requires-clause-class : goal.write_frame-requires-clause-class
+write_frame-requires-clause-class g c = ap class_of c.with_slot.ensures ∙ (c.requires.ready.laid.placed c.args.i c.args.row.now c.requires.found).class_is ∙ sym c.requires.class
 
 pub returns-clause-lays : goal.returns-clause-lays
 returns-clause-lays g c =
@@ -88,11 +102,7 @@ returns-clause-part g c =
     let made = moved_frame self c.args.i c.args.row.now c.args.place.now in
     let last = own_reach self c.args.row.now c.args.place.now in
     let files = g.D.Folder.files in
-    let header = c.with_slot.ensures in
-    let size : length c.cut_payload-payload.result ≡ (need_of c.args.row.now).bytes = c.cut_payload-payload.ensures.size in
-    let begin : c.with_begin.result.main_data_begin ≡ c.args.place.now.begin = ap (λ (t : Side). t.main_data_begin) (side g at.After-with_begin) in
-    let class = c.requires.class in
-    let reach : reach_of c.write_frame.new.writer ≡ own_reach self c.args.row.now c.args.place.now = c.write_frame.ensures.reach ∙ (λ j. behind (class j) (header j) (begin j) (size j)) in
+    let reach = writer-reach g (goal.at.returns-clause-part g c).After-write_frame (side g at.After-with_begin) in
     err_by c.write_frame.result
     (λ fault part. subst (λ f. GivesPart self made last c.args.buffers.now f (files c.write_frame.new.folder) fault) c.read_area.ensures.files
     (part_one self.pass.input.now self.pass.output.now made last _ (writing_in c.args.buffers.now) c.write_frame.new.writer (files c.read_area.new.folder) (files c.write_frame.new.folder) (told g at.After-cut_payload-payload (over g at.After-with_begin) (side g at.After-with_begin)) (omega (arith, reach)) part))
@@ -115,3 +125,17 @@ returns-clause-ready g c =
     ok-map c.write_frame.result
     (λ on. ready-later self _ _ c.read_area.new.feed on.passed on.files c.in_ok-read_area.ensures.ready)
     c.write_frame.ensures.written
+
+pub returns-clause-reach : goal.returns-clause-reach
+returns-clause-reach g c =
+    let at = goal.at.returns-clause-reach g c in
+    ok-map c.write_frame.result (λ on. writer-reach g at.After-write_frame (side g at.After-with_begin)) c.write_frame.ensures.written
+
+pub returns-clause-cause : goal.returns-clause-cause
+returns-clause-cause g c =
+    let way = route_of c.args.self.now.pass in
+    let end = g.D.Folder.counts c.write_frame.new.folder in
+    err_by c.write_frame.result
+    (λ fault cause. subst (λ f. HasPassCause way f (g.D.Folder.counts c.args.folder.now) end fault) c.read_area.ensures.files
+    (subst (λ n. HasPassCause way (g.D.Folder.files c.read_area.new.folder) n end fault) c.in_ok-read_area.ensures.done cause))
+    c.write_frame.ensures.cause

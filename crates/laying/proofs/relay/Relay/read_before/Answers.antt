@@ -1,5 +1,5 @@
 -- One area more is read, up to frame i; then the last 2,048 bytes are there, or all.
-use Rattle.std.proofs.Common.{◌≡◌, List, length, Option, sym, ◌∙◌, ap, subst, arith}
+use Rattle.std.proofs.Common.{◌≡◌, ◌<◌, ℕ, List, get_or, length, Option, sym, ◌∙◌, ap, subst, arith}
 use Rattle.std.specs.Prelude.{slice_get, Some}
 use Rattle.std.proofs.lemmas.Option.{slice_get-get_or}
 use Rattle.sync_survey.specs.declared.rows.Row.{Row}
@@ -11,6 +11,18 @@ use Rattle.laying.proofs.relay.Relay.read_before.Goals as goal
 abbrev some : Row → Option Row
 some r = Some r
 
+-- an element of a list that is another
+read-at : (rows frames : List Row) (at : ℕ) (row : Row) → at < length rows → rows ≡ frames → row ≡ get_or rows at row → slice_get frames at ≡ Some row
+read-at rows frames at row within same is = ap (λ (l : List Row). slice_get l at) (sym same) ∙ slice_get-get_or rows at row within ∙ ap some (sym is)
+
+pub read_area-requires-clause-found : goal.read_area-requires-clause-found
+read_area-requires-clause-found g c =
+    read-at c.frames-rows.result.now (tells c.args.self.now.survey.now).frames c.loop-at.at c.index-rows-at.result
+    (omega (arith, c.loop-at-test.true, c.requires.within, ap length c.frames-rows.ensures)) c.frames-rows.ensures c.index-rows-at.is
+
+pub overflow_add-at : goal.overflow_add-at
+overflow_add-at g c = omega (arith, c.loop-at-test.true, c.ranges.i.fits)
+
 pub loop-at-preserved : goal.loop-at-preserved
 loop-at-preserved g c =
     let self = c.args.self.now in
@@ -20,9 +32,7 @@ loop-at-preserved g c =
     let first = c.first_held-first.result in
     let row = c.index-rows-at.result in
     let found : slice_get s.frames at ≡ Some row =
-    ap (λ (l : List Row). slice_get l at) (sym c.frames-rows.ensures)
-    ∙ slice_get-get_or c.frames-rows.result.now at c.index-rows-at.result (omega (arith, c.loop-at-test.true, c.requires.within, ap length c.frames-rows.ensures))
-    ∙ ap some (sym c.index-rows-at.is) in
+    read-at c.frames-rows.result.now s.frames at row (omega (arith, c.loop-at-test.true, c.requires.within, ap length c.frames-rows.ensures)) c.frames-rows.ensures c.index-rows-at.is in
     record {
       early = omega (arith, c.loop-at-test.true);
       over = last-next c.loop-at.window c.read_area.new.window self.pass.input.now (files c.read_area.new.folder) s first at row found
