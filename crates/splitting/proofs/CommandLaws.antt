@@ -1,6 +1,6 @@
 -- What the command leaves, by its steps.
 use Rattle.std.proofs.Common.{◌≡◌, ℕ, ◌+◌, ◌<◌, ◌≤◌, ◌≢◌, List, [], ◌∷◌, length, map, take, Option, Some, None, Result, Ok, Err, refl, sym, ◌∙◌, ap, subst, inl, inr, Bool, true, false, cond, arith, ◌||◌}
-use Rattle.std.specs.Prelude.{◌⊎◌, IfSome, IfErr}
+use Rattle.std.specs.Prelude.{◌⊎◌, ◌↔◌, IfSome, IfErr, IsErrOf}
 use Rattle.std.specs.Result.{IsErrAnd}
 use Rattle.bit_fields.specs.Bits.{AreBytes}
 use Rattle.outside.specs.Files.{Contents, Files, Holds, IsThere, Told, Untold, IfTold, OnlyTouches}
@@ -29,7 +29,7 @@ use Rattle.commands.specs.Refusing.{then_made}
 use Rattle.commands.specs.Sheet.{sheet_in}
 use Rattle.frame_edits.specs.Chosen.{Chosen, cut_refuses, chosen_file, chosen_stream, cut_choice, laid_with}
 use Rattle.commands.specs.Command.{Output, Made, Command, clash_of, Gives, written, AreStreams, HoldsStreams}
-use Rattle.commands.specs.Left.{Why, Rejected, Missing, Unread, Shorter, Unwritten, NoMemory, why_of, Seen, IsNotBefore, IsLate, IsDone, IsWrittenTo, IsUnfinished, TakesMemory, LeavesBy, Leaves, IsRefusal, HasNumbers, input_of, ended_at}
+use Rattle.commands.specs.Left.{Why, Rejected, Missing, Unread, Shorter, Unwritten, NoMemory, why_of, Seen, IsNotBefore, IsLate, IsDone, IsWrittenTo, IsUnfinished, TakesMemory, LeavesBy, Leaves, IsRefusal, IsOfSurvey, HasNumbers, input_of, ended_at}
 use Rattle.commands.specs.One.{most_frames, IsFileFaultBy, IsFileFault}
 use Rattle.commands.specs.Runs.{IsRunOf}
 use Rattle.sync_survey.proofs.SurveyedFiles.{survey_of-sound}
@@ -139,6 +139,11 @@ module _ (prefix file : List ℕ) (s : SurveyFields) (octets : AreBytes file) (s
 
 -- ---- what a call says of a fault that it met before it wrote
 
+-- where no name clashes, no fault is that of equal names
+pub names-free : (command : Command) (r : Result (Unit {0}) EditFault) → clash_of command ≡ None → IfErr r (HasNumbers command) → (place : ℕ) → IsErrOf r (EqualNames place) ↔ (clash_of command ≡ Some place)
+names-free command (Ok x) none numbers place = ((λ e. absurd cc), λ clash. absurd cc)
+names-free command (Err first) none numbers place = ((λ e. (let same : first ≡ EqualNames place = cc in subst (HasNumbers command) same numbers)), λ clash. absurd cc)
+
 pub refused-run : (command : Command) (old new : Seen) (r : Result (Unit {0}) EditFault) (fault : EditFault) → clash_of command ≡ None → IsErrAnd r (λ y. y ≡ fault) → Leaves command old new fault → HasNumbers command fault → NoneFell old.counts new.counts → IsRunOf command old new r
 refused-run command old new (Ok x) fault none is left numbers fell = absurd is
 refused-run command old new (Err first) fault none is left numbers fell =
@@ -147,7 +152,7 @@ refused-run command old new (Err first) fault none is left numbers fell =
       done = tt;
       left = subst (Leaves command old new) (sym is) left;
       numbers = right;
-      names = λ place. ((λ e. (let same : first ≡ EqualNames place = cc in subst (HasNumbers command) same right)), λ clash. absurd cc);
+      names = names-free command (Err first) none right;
       streams = tt;
       counts = fell;
     }
@@ -371,6 +376,19 @@ places-numbers (InSheet sheet) input prefix (Input place fault) is = (omega (ari
 places-numbers (InSheet sheet) input prefix (Refused refusal) is = or-later (cut_refuses refusal) (sheet_refuses refusal) is
 places-numbers (InSheet sheet) input prefix Memory is = tt
 places-numbers (InSheet sheet) input prefix _ is = absurd is
+
+-- of one of the survey
+pub survey-numbers : (points : Points) (input prefix : List ℕ) (fault : EditFault) → IsOfSurvey 0 fault → HasNumbers (split_command_of points input prefix) fault
+survey-numbers points input prefix (Input place fault) is = (omega (arith, is.0), is.1, is.2, inl is.0)
+survey-numbers points input prefix Memory is = tt
+survey-numbers points input prefix _ is = absurd is
+
+-- of positions between which there is no frame
+pub range-numbers : (points : Points) (input prefix : List ℕ) {P : Type 0} (fault : EditFault) → (fault ≡ Memory) ⊎ (IsRefusal cut_refuses fault × P) → HasNumbers (split_command_of points input prefix) fault
+range-numbers points input prefix fault (inl none) = subst (HasNumbers (split_command_of points input prefix)) (sym none) tt
+range-numbers (Places places) input prefix (Refused refusal) (inr is) = is.0
+range-numbers (InSheet sheet) input prefix (Refused refusal) (inr is) = ap (λ b. b || sheet_refuses refusal) is.0
+range-numbers points input prefix _ (inr is) = absurd is.0
 
 -- of one of the second pass
 pub pieces-numbers : (points : Points) (input prefix : List ℕ) (count : ℕ) (fault : EditFault) → count < 100 → IsOfPieces count fault → HasNumbers (split_command_of points input prefix) fault

@@ -1,8 +1,10 @@
 -- Pieces one more at a time, from the positions and for the outputs.
 use Rattle.std.proofs.lemmas.List.{get_or-take, length-map}
-use Rattle.std.proofs.Common.{◌≡◌, ◌≢◌, ℕ, ◌+◌, ◌-◌, ◌<◌, ◌≤◌, true, false, List, [], ◌∷◌, ◌++◌, length, map, take, drop, get_or, Result, Ok, Err, refl, sym, ◌∙◌, ap, ap₂, subst, zero, suc, bytes_eq, string_bytes, arith, append_assoc, slice_index_or}
+use Rattle.std.proofs.Common.{◌≡◌, ◌≢◌, ℕ, ◌+◌, ◌-◌, ◌<◌, ◌≤◌, true, false, List, [], ◌∷◌, ◌++◌, length, map, take, drop, get_or, Result, Ok, Err, refl, sym, ◌∙◌, ap, ap₂, subst, inl, inr, zero, suc, bytes_eq, string_bytes, arith, append-nil, append_assoc, slice_index_or}
+use Rattle.std.specs.Prelude.{◌⊎◌, MatchResult}
+use Rattle.std.specs.Result.{IsErrAnd}
 use Rattle.std.specs.List.{All, list_any, range_with_len}
-use Rattle.std.proofs.lemmas.List.{drop_more}
+use Rattle.std.proofs.lemmas.List.{drop_more, drop_all, take_all}
 use Rattle.std.proofs.lemmas.List.Elements.{All-nil, All-cons, All-head, All-tail, All-take}
 use Rattle.std.proofs.lemmas.List.Folds.{list_any_at}
 use Rattle.std.proofs.lemmas.List.FromFn.{take-map-range_with_len}
@@ -12,11 +14,13 @@ use Rattle.cue_sheet.specs.declared.place.Place.{Place}
 use Rattle.cue_sheet.specs.Places.{frame_at}
 use Rattle.sync_survey.specs.Faults.{SurveyFields}
 use Rattle.commands.specs.declared.fault.EditFault.{EditFault}
-use Rattle.frame_edits.specs.Chosen.{Chosen, chosen_in, chosen_file}
+use Rattle.commands.specs.declared.fault.EditFault.TheVariants.{Memory}
+use Rattle.commands.specs.Left.{IsRefusal}
+use Rattle.frame_edits.specs.Chosen.{Chosen, chosen_in, chosen_file, cut_refuses}
 use Rattle.splitting.specs.declared.piece.Piece.{Piece}
 use Rattle.piece_names.proofs.NamesLaws.{names-length, name-at}
 use Rattle.piece_names.specs.Names.{piece_name, piece_names}
-use Rattle.splitting.specs.Split.{frames_between, with_first, chosen_from, pieces_from}
+use Rattle.splitting.specs.Split.{frames_between, with_first, chosen_from, chosen_at, pieces_from}
 use Rattle.splitting.specs.Steps.{IsReady, ArePieces, CanBeWritten, chosen_of, outputs_of, names_of}
 
 -- ---- the choice
@@ -36,6 +40,34 @@ pub place-chosen : (class : ClassFields) (frames index from : ℕ) (rest : List 
     → chosen_before (done ++ first ∷ []) (chosen_from frames (frame_at class frames (get_or rest index d)) (map (frame_at class frames) (drop (index + 1) rest))) ≡ whole
 place-chosen class frames index from rest d done first whole less is before =
     sym (before-first done first (chosen_from frames (frame_at class frames (get_or rest index d)) (map (frame_at class frames) (drop (index + 1) rest)))) ∙ rw (drop_more rest index d less, is) at before
+
+-- a pair of positions that is refused
+pub place-refused : (class : ClassFields) (frames index from : ℕ) (rest : List Place) (d : Place) (done : List Chosen) (whole : Result (List Chosen) EditFault) (fault : EditFault) → index < length rest
+    → chosen_before done (chosen_from frames from (map (frame_at class frames) (drop index rest))) ≡ whole → frames_between frames from (frame_at class frames (get_or rest index d)) ≡ Err fault → whole ≡ Err fault
+place-refused class frames index from rest d done whole fault less before is = sym (rw (drop_more rest index d less, is) at before)
+
+-- all positions
+pub places-chosen : (class : ClassFields) (frames index from : ℕ) (rest : List Place) (done : List Chosen) (whole : Result (List Chosen) EditFault) → length rest ≤ index
+    → chosen_before done (chosen_from frames from (map (frame_at class frames) (drop index rest))) ≡ whole → whole ≡ Ok done
+places-chosen class frames index from rest done whole all before = sym (rw (drop_all index rest all) at before) ∙ ap Ok (append-nil done)
+
+-- the choice is that from the first position on
+pub chosen-is : (class own : ClassFields) (frames count from : ℕ) (places : List Place) (d : Place) → 2 ≤ length places → own ≡ class → count ≡ frames → from ≡ frame_at own count (get_or places 0 d)
+    → chosen_at class frames places ≡ chosen_from count from (map (frame_at own count) (take (length places - 1) (drop 1 places)))
+chosen-is class own frames count from [] d some class_is count_is from_is = absurd (omega (arith, some))
+chosen-is class own frames count from (place ∷ places) d some class_is count_is from_is =
+    ap₂ (λ c n. chosen_at c n (place ∷ places)) (sym class_is) (sym count_is)
+    ∙ ap₂ (λ n (l : List Place). chosen_from count n (map (frame_at own count) l)) (sym from_is) (sym (take_all (length (place ∷ places) - 1) places (omega arith)))
+
+-- a fault of a pair of positions is one of them all
+pub fault-of-all : (between : Result Chosen EditFault) (whole : Result (List Chosen) EditFault) (fault : EditFault) → (between ≡ Err fault → whole ≡ Err fault)
+    → (fault ≡ Memory) ⊎ (IsRefusal cut_refuses fault × (between ≡ Err fault)) → (fault ≡ Memory) ⊎ (IsRefusal cut_refuses fault × (whole ≡ Err fault))
+fault-of-all between whole fault all (inl none) = inl none
+fault-of-all between whole fault all (inr is) = inr (is.0, all is.1)
+
+pub match_err : {T E : Type 0} (r : Result T E) (P : T → Type 0) (Q : E → Type 0) {e : E} → IsErrAnd r (λ y. y ≡ e) → Q e → MatchResult r P Q
+match_err (Ok x) P Q is q = absurd is
+match_err (Err y) P Q is q = subst Q (sym is) q
 
 -- ---- the names
 
