@@ -6,7 +6,7 @@ use Rattle.std.proofs.lemmas.Bool.{ltb-false}
 use Rattle.std.proofs.lemmas.List.{length-map}
 use Rattle.bit_fields.specs.Bits.{AreBytes}
 use Rattle.outside.specs.Files.{Contents, Files, Holds, IsThere, IsMissing, Told, Untold, IfTold, OnlyTouches}
-use Rattle.outside.specs.Counts.{Counts}
+use Rattle.outside.specs.Counts.{Counts, NoneFell}
 use Rattle.outside.proofs.FilesLaws.{there_holds}
 use Rattle.sync_survey.specs.declared.places.PlacedFrame.{PlacedFrame}
 use Rattle.sync_survey.specs.declared.rows.Row.{Row}
@@ -24,7 +24,8 @@ use Rattle.salvage.specs.Text.{salvage_text}
 use Rattle.salvage.proofs.ReadFaults.{damaged_of-short}
 use Rattle.commands.specs.declared.fault.EditFault.{EditFault}
 use Rattle.commands.specs.declared.fault.EditFault.TheVariants.{EqualNames, Input, Refused, Write, Memory}
-use Rattle.commands.specs.Command.{Command, AreSound, HoldsStreams}
+use Rattle.commands.specs.Command.{Command, clash_of, AreSound, HoldsStreams}
+use Rattle.commands.specs.Runs.{IsRunOf}
 use Rattle.commands.specs.Said.{IsText}
 use Rattle.commands.proofs.TellingLaws.{telling-text, telling-done, telling-left, telling-streams}
 use Rattle.commands.proofs.MakeLaws.{clash_left, early_left, one_done, one_left, one_streams}
@@ -282,3 +283,22 @@ module _ (input output : List ℕ) where
   numbers-pass (Input place fault) h = (omega (arith, h.0), h.1, h.2, inl h.0)
   numbers-pass (Write place) h = omega (arith, h)
   numbers-pass _ h = absurd h
+
+-- a fault that isn't of equal names, where no name clashes
+pub failed-run : (command : Command) (old new : Seen) (r : Result (Unit {0}) EditFault) (fault : EditFault) → clash_of command ≡ None → IsErrAnd r (λ y. y ≡ fault) → Leaves command old new fault → HasNumbers command fault
+    → NoneFell old.counts new.counts → IsRunOf command old new r
+failed-run command old new (Ok x) fault none is left numbers fell = absurd is
+failed-run command old new (Err first) fault none is left numbers fell =
+    let right : HasNumbers command first = subst (HasNumbers command) (sym is) numbers in
+    record {
+      done = tt;
+      left = subst (Leaves command old new) (sym is) left;
+      numbers = right;
+      names = λ place. ((λ e. (let same : first ≡ EqualNames place = cc in subst (HasNumbers command) same right)), λ clash. absurd cc);
+      streams = tt;
+      counts = fell;
+    }
+
+-- and where all was done
+pub done-run : (command : Command) (old new : Seen) → clash_of command ≡ None → IsDone command old new → HoldsStreams command old.files → NoneFell old.counts new.counts → IsRunOf command old new (Ok tt)
+done-run command old new none done streams fell = record { done = done; left = tt; numbers = tt; names = λ place. ((λ e. absurd cc), λ clash. absurd cc); streams = streams; counts = fell }

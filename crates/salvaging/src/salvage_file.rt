@@ -1,17 +1,51 @@
 //! The salvage command over a folder.
-ghost use Rattle.std.specs.Prelude.{◌≡◌, ◌↔◌, ℕ, Some, IfErr, OnOk, IsErrOf};
+ghost use Rattle.std.specs.Prelude.{◌≡◌, ◌↔◌, ℕ, None, Some, IfErr, OnOk, IsErrOf};
 ghost use Rattle.outside.specs.Counts.{NoneFell};
 ghost use Rattle.commands.specs.Command.{HoldsStreams, clash_of};
 ghost use Rattle.commands.specs.Left.{seen, IsDone, Leaves, HasNumbers};
+ghost use Rattle.commands.specs.Runs.{IsRunOf};
 ghost use Rattle.commands.specs.Said.{heard, Says, fault_of};
+ghost use Rattle.salvaging.specs.Ready.{IsReady};
 ghost use Rattle.salvaging.specs.Salvaged.{salvage_command};
 
 use crate::prepared::prepare;
-use crate::report::send_report;
+use crate::report::{Report, send_report};
 use crate::work::Work;
 use commands::{EditFault, Inputs, write_output};
-use outside::{Failed, Folder, Sink};
+use frame_edits::Work as LaidWork;
+use outside::{Failed, Folder, SendBuffer, Sink};
 use std::alloc::Global;
+
+/// Writes the output, and then sends to `out` what is missing. No name of the command clashes, and all is ready.
+///
+/// # Errors
+/// Those of `salvage` from the first byte on that is written.
+fn write_and_tell<D: Folder, T: Sink>(
+    folder: &mut D,
+    input: &str,
+    output: &str,
+    laid: &mut LaidWork,
+    report: &Report,
+    sending: SendBuffer,
+    out: &mut T,
+) -> Result<(), EditFault>
+    requires free { clash_of (salvage_command input.now output.now) ≡ None }
+    requires ready { IsReady input.now (D.files folder.old)
+        (record { laid = laid.old; report = report.now; sending = sending }) }
+    ensures run { IsRunOf (salvage_command input.now output.now)
+        (seen (D.files folder.old) (D.counts folder.old))
+        (seen (D.files folder.new) (D.counts folder.new)) result }
+    ensures says { Says (salvage_command input.now output.now) (D.files folder.old)
+        (heard (T.sent out.old) (T.faults out.old)) (heard (T.sent out.new) (T.faults out.new))
+        (fault_of result) }
+{
+    let count = laid.survey.frames().len() as u64;
+    write_output(folder, input, output, laid)?;
+    match send_report(report, count, sending, out) {
+        Ok(()) => Ok(()),
+        Err(Failed) => Err(EditFault::Sent),
+    }
+}
 
 /// Reads what can be read of a damaged file (`salvage::read_damaged`), writes what is left to the output, and then sends to
 /// `out` what is missing. The output is laid as a cut lays it: the ID3v2 blocks before the first frame, an Info frame whose
@@ -72,10 +106,5 @@ pub fn salvage<D: Folder, T: Sink>(
         report,
         sending,
     } = work;
-    let count = laid.survey.frames().len() as u64;
-    write_output(folder, input, output, &mut laid)?;
-    match send_report(&report, count, sending, out) {
-        Ok(()) => Ok(()),
-        Err(Failed) => Err(EditFault::Sent),
-    }
+    write_and_tell(folder, input, output, &mut laid, &report, sending, out)
 }

@@ -1,8 +1,11 @@
 -- A fault of the reading is one of the only input; what was read is mended.
-use Rattle.std.proofs.Common.{sym, subst, ap₂}
+use Rattle.std.proofs.Common.{length, sym, ap, subst, ap₂, arith}
+use Rattle.std.proofs.lemmas.List.{length-map}
+use Rattle.sync_survey.specs.Faults.{SurveyFields}
 use Rattle.commands.specs.Left.{seen}
 use Rattle.commands.specs.One.{IsEarlyFault, IsOfInputs}
 use Rattle.salvage.specs.Damaged.{tells_of}
+use Rattle.salvage.specs.Mended.{mended_row}
 use Rattle.salvaging.specs.Salvaged.{salvage_task}
 use Rattle.salvaging.proofs.CommandLaws.{early-fault, early-numbers, early-memory}
 use Rattle.salvaging.proofs.prepared.read_input.Goals as goal
@@ -29,3 +32,9 @@ returns-in-Err-mend-clause-reads g c = record {
   files = c.read_damaged.ensures.files;
   counts = c.read_damaged.ensures.counts;
 }
+
+-- a mended frame for each that was read
+pub returns-in-Ok-mend-clause-few : goal.returns-in-Ok-mend-clause-few
+returns-in-Ok-mend-clause-few g c =
+    let frames = (tells_of c.in-Ok.damaged).survey.frames in
+    omega (arith, ap (λ (s : SurveyFields). length s.frames) c.in-Ok-mend.ensures.survey, length-map frames mended_row, c.in-Ok.ensures.laid.few)
