@@ -9,7 +9,7 @@ use Rattle.sync_survey.specs.declared.survey_fault.SurveyFault.TheVariants.{Abse
 use Rattle.sync_survey.specs.MainData.{StreamFrame}
 use Rattle.sync_survey.specs.Faults.{longest_file, SurveyFields, surveyed, HoldsStream}
 use Rattle.sync_survey.specs.Survey.{survey_of, IsSurveyFault}
-use Rattle.commands.specs.Kinds.{of_survey}
+use Rattle.commands.specs.Kinds.{of_survey, HasRightNumbers}
 use Rattle.sync_survey.proofs.BytesFaults.{IsOfBytes, surveyed_of_bytes}
 use Rattle.sync_survey.proofs.FoldersLaws.{survey_of-short}
 use Rattle.commands.specs.declared.fault.EditFault.{EditFault}
@@ -32,6 +32,11 @@ file_fault place allowed name old new (Shrunk first second) same h =
     record { first = first; second = second; is = refl; rose = h.ended; counts = h.counts; untold = h.nothing_told; files = same }
 file_fault place allowed name old new NoRoom same h = record { there = h.there; few = h.few; stays = ap₂ seen same h.counts }
 file_fault place allowed name old new fault same h = (fault, refl, record { there = h.there; bytes = h.bytes; stays = ap₂ seen same h.counts })
+
+-- and says where and why
+pub survey_numbers : (place : ℕ) (fault : SurveyFault) → HasRightNumbers fault → IsOfSurvey place (of_survey place fault)
+survey_numbers place NoRoom right = tt
+survey_numbers place fault right = (refl, (λ same. absurd cc), right)
 
 made-fault : (make : Making) (bytes : List ℕ) (fault : SurveyFault) → survey_of bytes most_frames ≡ Err fault → made_file make bytes ≡ Err (Input 0 fault)
 unfolding made_file

@@ -7,14 +7,16 @@ use Rattle.outside.specs.Files.{Contents, Files, Holds, IsThere, Told, Untold, I
 use Rattle.outside.proofs.FilesLaws.{bytes_eq_same, there_holds, touches_none}
 use Rattle.sync_survey.specs.Faults.{longest_file, HoldsStream}
 use Rattle.commands.specs.declared.fault.EditFault.{EditFault}
-use Rattle.commands.specs.declared.fault.EditFault.TheVariants.{EqualNames}
+use Rattle.commands.specs.declared.fault.EditFault.TheVariants.{EqualNames, Input, Refused, Memory}
 use Rattle.commands.specs.declared.inputs.Inputs.{Inputs}
 use Rattle.commands.proofs.NamedLaws.{among_all}
-use Rattle.outside.specs.Counts.{HappenedTo}
+use Rattle.outside.specs.Counts.{HappenedTo, NoneFell}
+use Rattle.std.specs.Result.{IsErrAnd}
+use Rattle.commands.specs.Runs.{IsRunOf}
 use Rattle.commands.specs.Inputs.{names_of}
-use Rattle.commands.specs.One.{Task, first_input, clash_in, made_result, made_of, one_command, holding, Refuses, IsEarlyFaultBy, IsEarlyFault, IsMaking, HoldsPrefix, HoldsLess, IsBegun, IsLeftShort, IsPassFaultBy, IsPassFault}
+use Rattle.commands.specs.One.{Task, first_input, clash_in, made_result, made_of, one_command, holding, Refuses, IsEarlyFaultBy, IsEarlyFault, IsMaking, IsOfInputs, HoldsPrefix, HoldsLess, IsBegun, IsLeftShort, IsPassFaultBy, IsPassFault}
 use Rattle.commands.specs.Command.{Made, clash_from, Gives, written, LacksBytes, written_to, AreSound, MakesStreams, HoldsStreams}
-use Rattle.commands.specs.Left.{Why, Rejected, Missing, Unread, Shorter, Unwritten, NoMemory, why_of, Seen, IsLate, IsOfPass, IsDone, IsWrittenTo, IsUnfinished, IsNotBefore, TakesMemory, LeavesBy, Leaves}
+use Rattle.commands.specs.Left.{Why, Rejected, Missing, Unread, Shorter, Unwritten, NoMemory, why_of, Seen, IsLate, IsOfPass, IsDone, IsWrittenTo, IsUnfinished, IsNotBefore, TakesMemory, LeavesBy, Leaves, HasNumbers}
 
 abbrev pub ok_made : Made → Result Made EditFault
 ok_made made = Ok made
@@ -219,3 +221,26 @@ module _ (task : Task) (output : List ℕ) (free : clash_in task output ≡ None
     one_streams (Untold touched) making hold (Ok x) = tt
     one_streams (Told f) making hold (Ok x) = streams_at f making hold
     one_streams files making hold (Err fault) = tt
+
+-- ---- a fault that was met before there is an output
+
+-- it has the right numbers
+numbers_early : (task : Task) (output : List ℕ) (fault : EditFault) → IsOfInputs task fault → HasNumbers (one_command task output) fault
+numbers_early task output (Input place fault) h = h
+numbers_early task output (Refused refusal) h = h
+numbers_early task output Memory h = tt
+numbers_early task output _ h = absurd h
+
+pub early_run : (task : Task) (output : List ℕ) (old new : Seen) (r : Result (Unit {0}) EditFault) (fault : EditFault) → clash_in task output ≡ None → IsErrAnd r (λ y. y ≡ fault) → Leaves (one_command task output) old new fault
+    → IsOfInputs task fault → NoneFell old.counts new.counts → IsRunOf (one_command task output) old new r
+early_run task output old new (Ok x) fault free is left numbers fell = absurd is
+early_run task output old new (Err first) fault free is left numbers fell =
+    let right : HasNumbers (one_command task output) first = subst (HasNumbers (one_command task output)) (sym is) (numbers_early task output fault numbers) in
+    record {
+      done = tt;
+      left = subst (Leaves (one_command task output) old new) (sym is) left;
+      numbers = right;
+      names = λ place. ((λ e. (let same : first ≡ EqualNames place = cc in subst (HasNumbers (one_command task output)) same right)), λ clash. absurd cc);
+      streams = tt;
+      counts = fell;
+    }
