@@ -6,7 +6,7 @@ use Rattle.laying.proofs.ChosenFrames.{survey-had}
 use Rattle.sync_survey.specs.Faults.{tells}
 use Rattle.commands.specs.declared.fault.EditFault.TheVariants.{Memory}
 use Rattle.commands.specs.Left.{seen}
-use Rattle.commands.specs.One.{most_frames, IsEarlyFault}
+use Rattle.commands.specs.One.{most_frames, IsInputFault, IsEarlyFault}
 use Rattle.commands.proofs.InputLaws.{fault_is_input, of_survey_input, input_is_early, input_numbers, memory_is_input}
 use Rattle.commands.proofs.RefusingLaws.{err_with}
 use Rattle.frame_edits.specs.declared.plans.Selection.{Selection}
@@ -27,6 +27,14 @@ pub returns-in_err-survey-clause-numbers : goal.returns-in_err-survey-clause-num
 returns-in_err-survey-clause-numbers g c =
     let edit = c.args.self.now in
     err_with _ _ c.from_residual.ensures.1 (input_numbers (choosing (choosing_by edit.choice)) (stream_chosen (choosing_by edit.choice)) (refused_by edit.choice) edit.input.now _ (of_survey_input (refused_by edit.choice) _ c.in_err-survey.ensures.numbers))
+
+pub returns-in_err-chosen-clause-refused : goal.returns-in_err-chosen-clause-refused
+returns-in_err-chosen-clause-refused g c =
+    let edit = c.args.self.now in
+    let by = choosing (choosing_by edit.choice) in
+    let new = seen (g.D.Folder.files c.find.new.folder) (g.D.Folder.counts c.find.new.folder) in
+    err_with _ _ c.from_residual-in_err-chosen.ensures.1 (input_is_early by (stream_chosen (choosing_by edit.choice)) (refused_by edit.choice) edit.input.now _ _ _
+    (subst (λ old. IsInputFault by edit.input.now old new c.in_err-chosen.field-0.0) (ap₂ seen c.survey_at.ensures.files c.in_ok-survey.ensures.done) c.in_err-chosen.ensures.refused))
 
 -- want of memory, once the frames were chosen
 forgot : (g : given.Over) (c : In_ok-chosen g) → IsEarlyFault (task_of c.args.self.now.choice c.args.self.now.input.now)
