@@ -25,11 +25,11 @@ pub(crate) struct Report {
 pub(crate) fn send_report<T: Sink>(
     report: &Report,
     frames: u64,
-    mut buffer: SendBuffer,
+    buffer: &mut SendBuffer,
     out: &mut T,
 ) -> Result<(), Failed>
     requires order { IsInOrder report.now }
-    requires empty { buffer ≡ [] }
+    requires empty { buffer.old ≡ [] }
     ensures sent { OnOk result (T.sent out.new ≡ sent_more (T.sent out.old)
         (text_of frames report.now)) }
     ensures prefix { OnErr result (SentPrefix (text_of frames report.now) (T.sent out.old)

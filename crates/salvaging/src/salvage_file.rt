@@ -9,11 +9,10 @@ ghost use Rattle.salvaging.specs.Ready.{IsReady};
 ghost use Rattle.salvaging.specs.Salvaged.{salvage_command};
 
 use crate::prepared::prepare;
-use crate::report::{Report, send_report};
+use crate::report::send_report;
 use crate::work::Work;
 use commands::{EditFault, Inputs, write_output};
-use frame_edits::Work as LaidWork;
-use outside::{Failed, Folder, SendBuffer, Sink};
+use outside::{Failed, Folder, Sink};
 use std::alloc::Global;
 
 /// Writes the output, and then sends to `out` what is missing. No name of the command clashes, and all is ready.
@@ -24,14 +23,11 @@ fn write_and_tell<D: Folder, T: Sink>(
     folder: &mut D,
     input: &str,
     output: &str,
-    laid: &mut LaidWork,
-    report: &Report,
-    sending: SendBuffer,
+    work: &mut Work,
     out: &mut T,
 ) -> Result<(), EditFault>
     requires free { clash_of (salvage_command input.now output.now) ≡ None }
-    requires ready { IsReady input.now (D.files folder.old)
-        (record { laid = laid.old; report = report.now; sending = sending }) }
+    requires ready { IsReady input.now (D.files folder.old) work.old }
     ensures run { IsRunOf (salvage_command input.now output.now)
         (seen (D.files folder.old) (D.counts folder.old))
         (seen (D.files folder.new) (D.counts folder.new)) result }
@@ -39,9 +35,9 @@ fn write_and_tell<D: Folder, T: Sink>(
         (heard (T.sent out.old) (T.faults out.old)) (heard (T.sent out.new) (T.faults out.new))
         (fault_of result) }
 {
-    let count = laid.survey.frames().len() as u64;
-    write_output(folder, input, output, laid)?;
-    match send_report(report, count, sending, out) {
+    let count = work.laid.survey.frames().len() as u64;
+    write_output(folder, input, output, &mut work.laid)?;
+    match send_report(&work.report, count, &mut work.sending, out) {
         Ok(()) => Ok(()),
         Err(Failed) => Err(EditFault::Sent),
     }
@@ -100,11 +96,6 @@ pub fn salvage<D: Folder, T: Sink>(
     if let Some(place) = inputs.clash(output) {
         return Err(EditFault::EqualNames(place));
     }
-    let work = prepare(alloc, folder, input)?;
-    let Work {
-        mut laid,
-        report,
-        sending,
-    } = work;
-    write_and_tell(folder, input, output, &mut laid, &report, sending, out)
+    let mut work = prepare(alloc, folder, input)?;
+    write_and_tell(folder, input, output, &mut work, out)
 }

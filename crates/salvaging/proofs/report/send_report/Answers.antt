@@ -37,7 +37,7 @@ returns-in_err-push-2-clause-prefix g c =
     (subst (λ line. SentPrefix (c.loop-told.buffer ++ line) (g.T.Sink.sent c.loop-told.out) (g.T.Sink.sent c.push-2.new.sink)) (c.bytes-2.ensures ∙ c.set_counts.ensures ∙ rw (c.as_slice-gaps.ensures.value, c.as_slice-emptied.ensures.value) refl) c.in_err-push-2.ensures.prefix))
 
 -- all lines and the counts wait or were sent
-all-said : (g : Over) (c : goal.After-drop-buffer-inside-2 g) → SentOn (text_of c.args.frames c.args.report.now) c.push-2.new.self (g.T.Sink.sent c.args.out.now) (g.T.Sink.sent c.push-2.new.sink)
+all-said : (g : Over) (c : goal.After-finish g) → SentOn (text_of c.args.frames c.args.report.now) c.push-2.new.self (g.T.Sink.sent c.args.out.now) (g.T.Sink.sent c.push-2.new.sink)
 unfolding text_of
 all-said g c =
     last_more line_text (lines_of c.args.report.now) (count_text c.args.frames (length c.args.report.now.gaps.items) (length c.args.report.now.emptied.items)) (left c.loop-told.lines) c.loop-told.buffer c.push-2.new.self _ _ _ c.loop-told.invariant.said c.in_default.ensures.first

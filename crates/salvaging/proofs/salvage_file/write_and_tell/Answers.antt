@@ -5,16 +5,10 @@ use Rattle.commands.specs.Left.{seen}
 use Rattle.commands.specs.declared.fault.EditFault.TheVariants.{Sent}
 use Rattle.commands.proofs.MakeLaws.{source_apart}
 use Rattle.sync_survey.specs.declared.rows.Row.{Row}
-use Rattle.salvaging.specs.declared.work.Work.{Work}
 use Rattle.salvaging.specs.Salvaged.{salvage_command}
 use Rattle.salvaging.specs.Ordered.{text_of}
 use Rattle.salvaging.proofs.CommandLaws.{left-done, left-part, left-streams, numbers-pass, ready-text, ready-order, failed-run, done-run}
-use Rattle.salvaging.proofs.salvage_file.write_and_tell.Given as given
 use Rattle.salvaging.proofs.salvage_file.write_and_tell.Goals as goal
-use Rattle.salvaging.proofs.salvage_file.write_and_tell.Goals.{After-frames}
-
-abbrev work : (g : given.Over) → After-frames g → Work
-work g c = record { laid = c.args.laid.now; report = c.args.report.now; sending = c.args.sending }
 
 pub write_output-requires-clause-apart : goal.write_output-requires-clause-apart
 write_output-requires-clause-apart g c = source_apart (c.args.input.now ∷ []) c.args.input.now c.args.output.now (omega arith) refl c.requires.free
@@ -23,33 +17,30 @@ pub write_output-requires-clause-ready : goal.write_output-requires-clause-ready
 write_output-requires-clause-ready g c = c.requires.ready.layable
 
 pub send_report-requires-clause-order : goal.send_report-requires-clause-order
-send_report-requires-clause-order g c = ready-order c.args.input.now (g.D.Folder.files c.args.folder.now) (work g (goal.at.send_report-requires-clause-order g c).After-frames) c.requires.ready
+send_report-requires-clause-order g c = ready-order c.args.input.now (g.D.Folder.files c.args.folder.now) c.args.work.now c.requires.ready
 
 pub returns-in_err-write_output-clause-run : goal.returns-in_err-write_output-clause-run
 returns-in_err-write_output-clause-run g c =
-    let at = (goal.at.returns-in_err-write_output-clause-run g c).After-frames in
     let old = seen (g.D.Folder.files c.args.folder.now) (g.D.Folder.counts c.args.folder.now) in
     let new = seen (g.D.Folder.files c.write_output.new.folder) (g.D.Folder.counts c.write_output.new.folder) in
     failed-run (salvage_command c.args.input.now c.args.output.now) old new _ _ c.requires.free c.from_residual.ensures.1
-    (left-part c.args.input.now c.args.output.now c.requires.free old old new (work g at) refl c.requires.ready c.write_output.ensures.touches _ c.in_err-write_output.ensures.numbers c.in_err-write_output.ensures.left)
+    (left-part c.args.input.now c.args.output.now c.requires.free old old new c.args.work.now refl c.requires.ready c.write_output.ensures.touches _ c.in_err-write_output.ensures.numbers c.in_err-write_output.ensures.left)
     (numbers-pass c.args.input.now c.args.output.now _ c.in_err-write_output.ensures.numbers) c.write_output.ensures.counts
 
 pub returns-in-Ok-clause-run : goal.returns-in-Ok-clause-run
 returns-in-Ok-clause-run g c =
-    let at = (goal.at.returns-in-Ok-clause-run g c).After-frames in
     let old = seen (g.D.Folder.files c.args.folder.now) (g.D.Folder.counts c.args.folder.now) in
     let new = seen (g.D.Folder.files c.write_output.new.folder) (g.D.Folder.counts c.write_output.new.folder) in
     done-run (salvage_command c.args.input.now c.args.output.now) old new c.requires.free
-    (left-done c.args.input.now c.args.output.now c.requires.free old old new (work g at) refl c.requires.ready c.write_output.ensures.touches c.in_ok-write_output.ensures.written c.in_ok-write_output.ensures.done)
-    (left-streams c.args.input.now c.args.output.now c.requires.free (g.D.Folder.files c.args.folder.now) (work g at) c.requires.ready) c.write_output.ensures.counts
+    (left-done c.args.input.now c.args.output.now c.requires.free old old new c.args.work.now refl c.requires.ready c.write_output.ensures.touches c.in_ok-write_output.ensures.written c.in_ok-write_output.ensures.done)
+    (left-streams c.args.input.now c.args.output.now c.requires.free (g.D.Folder.files c.args.folder.now) c.args.work.now c.requires.ready) c.write_output.ensures.counts
 
 pub returns-in-Ok-clause-says : goal.returns-in-Ok-clause-says
 returns-in-Ok-clause-says g c =
-    let at = (goal.at.returns-in-Ok-clause-says g c).After-frames in
     record {
       text = λ all is.
-          let report = c.args.report.now in
-          let same = ready-text c.args.input.now (g.D.Folder.files c.args.folder.now) (work g at) c.requires.ready c.args.output.now all is in
+          let report = c.args.work.now.report in
+          let same = ready-text c.args.input.now (g.D.Folder.files c.args.folder.now) c.args.work.now c.requires.ready c.args.output.now all is in
           let told : text_of (length c.frames.result.now) report ≡ all = ap (λ (rows : List Row). text_of (length rows) report) c.frames.ensures ∙ sym same in
           c.in-Ok.ensures.sent ∙ ap (sent_more (g.T.Sink.sent c.args.out.now)) told;
       faults = c.in-Ok.ensures.cause.done;
@@ -57,20 +48,18 @@ returns-in-Ok-clause-says g c =
 
 pub returns-in-Err-clause-run : goal.returns-in-Err-clause-run
 returns-in-Err-clause-run g c =
-    let at = (goal.at.returns-in-Err-clause-run g c).After-frames in
     let old = seen (g.D.Folder.files c.args.folder.now) (g.D.Folder.counts c.args.folder.now) in
     let new = seen (g.D.Folder.files c.write_output.new.folder) (g.D.Folder.counts c.write_output.new.folder) in
     failed-run (salvage_command c.args.input.now c.args.output.now) old new _ Sent c.requires.free refl
-    (left-done c.args.input.now c.args.output.now c.requires.free old old new (work g at) refl c.requires.ready c.write_output.ensures.touches c.in_ok-write_output.ensures.written c.in_ok-write_output.ensures.done)
+    (left-done c.args.input.now c.args.output.now c.requires.free old old new c.args.work.now refl c.requires.ready c.write_output.ensures.touches c.in_ok-write_output.ensures.written c.in_ok-write_output.ensures.done)
     (λ e. absurd cc) c.write_output.ensures.counts
 
 pub returns-in-Err-clause-says : goal.returns-in-Err-clause-says
 returns-in-Err-clause-says g c =
-    let at = (goal.at.returns-in-Err-clause-says g c).After-frames in
     record {
       text = λ all is.
-          let report = c.args.report.now in
-          let same = ready-text c.args.input.now (g.D.Folder.files c.args.folder.now) (work g at) c.requires.ready c.args.output.now all is in
+          let report = c.args.work.now.report in
+          let same = ready-text c.args.input.now (g.D.Folder.files c.args.folder.now) c.args.work.now c.requires.ready c.args.output.now all is in
           let told : text_of (length c.frames.result.now) report ≡ all = ap (λ (rows : List Row). text_of (length rows) report) c.frames.ensures ∙ sym same in
           let part = c.in-Err.ensures.prefix in
           (part.count, subst (λ (l : List ℕ). part.count ≤ length l) told part.within, part.sent ∙ ap (λ (l : List ℕ). sent_more (g.T.Sink.sent c.args.out.now) (take part.count l)) told);
