@@ -1,6 +1,6 @@
 -- A command that makes one file: what it leaves by its steps.
 use Rattle.std.proofs.Common.{◌≡◌, ◌≢◌, ℕ, ◌≤◌, List, [], ◌∷◌, length, slice_index_or, Option, Some, None, refl, sym, ◌∙◌, ap, subst, Result, Ok, Err, Bool, true, false, cond, inl, inr, arith}
-use Rattle.std.specs.Prelude.{IfErr, OnOk, bytes_eq, ◌||◌}
+use Rattle.std.specs.Prelude.{◌↔◌, IfErr, IsErrOf, OnOk, bytes_eq, ◌||◌}
 use Rattle.std.specs.List.{list_any}
 use Rattle.bit_fields.specs.Bits.{AreBytes}
 use Rattle.outside.specs.Files.{Contents, Files, Holds, IsThere, Told, Untold, IfTold, OnlyTouches}
@@ -15,7 +15,7 @@ use Rattle.std.specs.Result.{IsErrAnd}
 use Rattle.commands.specs.Runs.{IsRunOf}
 use Rattle.commands.specs.Inputs.{names_of}
 use Rattle.commands.specs.One.{Task, first_input, clash_in, made_result, made_of, one_command, holding, Refuses, IsEarlyFaultBy, IsEarlyFault, IsMaking, IsOfInputs, HoldsPrefix, HoldsLess, IsBegun, IsLeftShort, IsPassFaultBy, IsPassFault}
-use Rattle.commands.specs.Command.{Made, clash_from, Gives, written, LacksBytes, written_to, AreSound, MakesStreams, HoldsStreams}
+use Rattle.commands.specs.Command.{Made, Command, clash_of, clash_from, Gives, written, LacksBytes, written_to, AreSound, MakesStreams, HoldsStreams}
 use Rattle.commands.specs.Left.{Why, Rejected, Missing, Unread, Shorter, Unwritten, NoMemory, why_of, Seen, IsLate, IsOfPass, IsDone, IsWrittenTo, IsUnfinished, IsNotBefore, TakesMemory, LeavesBy, Leaves, HasNumbers}
 
 abbrev pub ok_made : Made → Result Made EditFault
@@ -225,22 +225,21 @@ module _ (task : Task) (output : List ℕ) (free : clash_in task output ≡ None
 -- ---- a fault that was met before there is an output
 
 -- it has the right numbers
-numbers_early : (task : Task) (output : List ℕ) (fault : EditFault) → IsOfInputs task fault → HasNumbers (one_command task output) fault
+pub numbers_early : (task : Task) (output : List ℕ) (fault : EditFault) → IsOfInputs task fault → HasNumbers (one_command task output) fault
 numbers_early task output (Input place fault) h = h
 numbers_early task output (Refused refusal) h = h
 numbers_early task output Memory h = tt
 numbers_early task output _ h = absurd h
 
-pub early_run : (task : Task) (output : List ℕ) (old new : Seen) (r : Result (Unit {0}) EditFault) (fault : EditFault) → clash_in task output ≡ None → IsErrAnd r (λ y. y ≡ fault) → Leaves (one_command task output) old new fault
-    → IsOfInputs task fault → NoneFell old.counts new.counts → IsRunOf (one_command task output) old new r
-early_run task output old new (Ok x) fault free is left numbers fell = absurd is
-early_run task output old new (Err first) fault free is left numbers fell =
-    let right : HasNumbers (one_command task output) first = subst (HasNumbers (one_command task output)) (sym is) (numbers_early task output fault numbers) in
-    record {
-      done = tt;
-      left = subst (Leaves (one_command task output) old new) (sym is) left;
-      numbers = right;
-      names = λ place. ((λ e. (let same : first ≡ EqualNames place = cc in subst (HasNumbers (one_command task output)) same right)), λ clash. absurd cc);
-      streams = tt;
-      counts = fell;
-    }
+-- where no name clashes, no fault is that of equal names
+pub names_free : (command : Command) (r : Result (Unit {0}) EditFault) → clash_of command ≡ None → IfErr r (HasNumbers command) → (place : ℕ) → IsErrOf r (EqualNames place) ↔ (clash_of command ≡ Some place)
+names_free command (Ok x) none numbers place = ((λ e. absurd cc), λ clash. absurd cc)
+names_free command (Err first) none numbers place = ((λ e. (let same : first ≡ EqualNames place = cc in subst (HasNumbers command) same numbers)), λ clash. absurd cc)
+
+-- a call that ended so
+pub refused_run : (command : Command) (old new : Seen) (r : Result (Unit {0}) EditFault) (fault : EditFault) → clash_of command ≡ None → IsErrAnd r (λ y. y ≡ fault) → Leaves command old new fault → HasNumbers command fault
+    → NoneFell old.counts new.counts → IsRunOf command old new r
+refused_run command old new (Ok x) fault none is left numbers fell = absurd is
+refused_run command old new (Err first) fault none is left numbers fell =
+    let right : HasNumbers command first = subst (HasNumbers command) (sym is) numbers in
+    record { done = tt; left = subst (Leaves command old new) (sym is) left; numbers = right; names = names_free command (Err first) none right; streams = tt; counts = fell }

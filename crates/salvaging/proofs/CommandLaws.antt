@@ -284,21 +284,6 @@ module _ (input output : List ℕ) where
   numbers-pass (Write place) h = omega (arith, h)
   numbers-pass _ h = absurd h
 
--- a fault that isn't of equal names, where no name clashes
-pub failed-run : (command : Command) (old new : Seen) (r : Result (Unit {0}) EditFault) (fault : EditFault) → clash_of command ≡ None → IsErrAnd r (λ y. y ≡ fault) → Leaves command old new fault → HasNumbers command fault
-    → NoneFell old.counts new.counts → IsRunOf command old new r
-failed-run command old new (Ok x) fault none is left numbers fell = absurd is
-failed-run command old new (Err first) fault none is left numbers fell =
-    let right : HasNumbers command first = subst (HasNumbers command) (sym is) numbers in
-    record {
-      done = tt;
-      left = subst (Leaves command old new) (sym is) left;
-      numbers = right;
-      names = λ place. ((λ e. (let same : first ≡ EqualNames place = cc in subst (HasNumbers command) same right)), λ clash. absurd cc);
-      streams = tt;
-      counts = fell;
-    }
-
--- and where all was done
+-- where all was done
 pub done-run : (command : Command) (old new : Seen) → clash_of command ≡ None → IsDone command old new → HoldsStreams command old.files → NoneFell old.counts new.counts → IsRunOf command old new (Ok tt)
 done-run command old new none done streams fell = record { done = done; left = tt; numbers = tt; names = λ place. ((λ e. absurd cc), λ clash. absurd cc); streams = streams; counts = fell }

@@ -1,10 +1,8 @@
 -- What the command leaves, by its steps.
 use Rattle.std.proofs.Common.{◌≡◌, ℕ, ◌+◌, ◌<◌, ◌≤◌, ◌≢◌, List, [], ◌∷◌, length, map, take, Option, Some, None, Result, Ok, Err, refl, sym, ◌∙◌, ap, subst, inl, inr, Bool, true, false, cond, arith, ◌||◌}
-use Rattle.std.specs.Prelude.{◌⊎◌, ◌↔◌, IfSome, IfErr, IsErrOf}
-use Rattle.std.specs.Result.{IsErrAnd}
+use Rattle.std.specs.Prelude.{◌⊎◌, IfSome, IfErr}
 use Rattle.bit_fields.specs.Bits.{AreBytes}
 use Rattle.outside.specs.Files.{Contents, Files, Holds, IsThere, Told, Untold, IfTold, OnlyTouches}
-use Rattle.outside.specs.Counts.{NoneFell}
 use Rattle.outside.proofs.FilesLaws.{there_holds, touches_none, touches_more}
 use Rattle.cue_sheet.specs.declared.cue_fault.CueFault.{CueFault}
 use Rattle.cue_sheet.specs.declared.place.Place.{Place}
@@ -31,7 +29,6 @@ use Rattle.frame_edits.specs.Chosen.{Chosen, cut_refuses, chosen_file, chosen_st
 use Rattle.commands.specs.Command.{Output, Made, Command, clash_of, Gives, written, AreStreams, HoldsStreams}
 use Rattle.commands.specs.Left.{Why, Rejected, Missing, Unread, Shorter, Unwritten, NoMemory, why_of, Seen, IsNotBefore, IsLate, IsDone, IsWrittenTo, IsUnfinished, TakesMemory, LeavesBy, Leaves, IsRefusal, IsOfSurvey, HasNumbers, input_of, ended_at}
 use Rattle.commands.specs.One.{most_frames, IsFileFaultBy, IsFileFault}
-use Rattle.commands.specs.Runs.{IsRunOf}
 use Rattle.sync_survey.proofs.SurveyedFiles.{survey_of-sound}
 use Rattle.frame_edits.proofs.ChosenLaws.{cut_proper}
 use Rattle.piece_names.specs.Names.{piece_names}
@@ -136,26 +133,6 @@ module _ (prefix file : List ℕ) (s : SurveyFields) (octets : AreBytes file) (s
   pub at-hold : (places : List Place) (cs : List Chosen) → chosen_at s.class (length s.frames) places ≡ Ok cs → Hold 1 cs
   at-hold [] cs e = let none : [] ≡ cs = cc in subst (Hold 1) none tt
   at-hold (place ∷ places) cs e = from-hold 1 (frame_at s.class (length s.frames) place) (map (frame_at s.class (length s.frames)) places) cs e
-
--- ---- what a call says of a fault that it met before it wrote
-
--- where no name clashes, no fault is that of equal names
-pub names-free : (command : Command) (r : Result (Unit {0}) EditFault) → clash_of command ≡ None → IfErr r (HasNumbers command) → (place : ℕ) → IsErrOf r (EqualNames place) ↔ (clash_of command ≡ Some place)
-names-free command (Ok x) none numbers place = ((λ e. absurd cc), λ clash. absurd cc)
-names-free command (Err first) none numbers place = ((λ e. (let same : first ≡ EqualNames place = cc in subst (HasNumbers command) same numbers)), λ clash. absurd cc)
-
-pub refused-run : (command : Command) (old new : Seen) (r : Result (Unit {0}) EditFault) (fault : EditFault) → clash_of command ≡ None → IsErrAnd r (λ y. y ≡ fault) → Leaves command old new fault → HasNumbers command fault → NoneFell old.counts new.counts → IsRunOf command old new r
-refused-run command old new (Ok x) fault none is left numbers fell = absurd is
-refused-run command old new (Err first) fault none is left numbers fell =
-    let right : HasNumbers command first = subst (HasNumbers command) (sym is) numbers in
-    record {
-      done = tt;
-      left = subst (Leaves command old new) (sym is) left;
-      numbers = right;
-      names = names-free command (Err first) none right;
-      streams = tt;
-      counts = fell;
-    }
 
 -- ---- what the told files make of the command
 

@@ -3,9 +3,9 @@ use Rattle.std.proofs.Common.{◌≡◌, ◌≢◌, ℕ, List, [], ◌∷◌, ap
 use Rattle.std.specs.Prelude.{IfErr, OnOk}
 use Rattle.outside.specs.Files.{Holds}
 use Rattle.commands.specs.Left.{seen}
-use Rattle.commands.specs.One.{holding, IsPassFault}
+use Rattle.commands.specs.One.{holding, one_command, IsPassFault}
 use Rattle.outside.proofs.CountsLaws.{none_fell_by_reads}
-use Rattle.commands.proofs.MakeLaws.{source_is, clash_is, source_apart, clash_left, early_left, early_run, one_done, one_left, proper_holds, one_streams}
+use Rattle.commands.proofs.MakeLaws.{source_is, clash_is, source_apart, clash_left, early_left, numbers_early, refused_run, one_done, one_left, proper_holds, one_streams}
 use Rattle.commands.proofs.edit.make_one.Goals as goal
 
 pub returns-in-Some : goal.returns-in-Some
@@ -18,8 +18,9 @@ pub returns-in_err-work : goal.returns-in_err-work
 returns-in_err-work g c =
     let task = g.E.Edit.task c.args.edit.now in
     let free = clash_is c.inputs-inputs.result task c.inputs-inputs.ensures c.args.output.now c.clash.ensures c.in_default.is in
-    early_run task c.args.output.now _ _ c.from_residual.result _ free c.from_residual.ensures.1
-    (early_left task c.args.output.now free c.requires.proper.late _ _ _ c.in_err-work.ensures.refused) c.in_err-work.ensures.numbers (none_fell_by_reads _ _ c.prepare.ensures.counts)
+    refused_run (one_command task c.args.output.now) _ _ c.from_residual.result _ free c.from_residual.ensures.1
+    (early_left task c.args.output.now free c.requires.proper.late _ _ _ c.in_err-work.ensures.refused)
+    (numbers_early task c.args.output.now _ c.in_err-work.ensures.numbers) (none_fell_by_reads _ _ c.prepare.ensures.counts)
 
 pub write_output-requires-clause-apart : goal.write_output-requires-clause-apart
 write_output-requires-clause-apart g c =

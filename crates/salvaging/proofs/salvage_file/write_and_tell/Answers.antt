@@ -3,11 +3,11 @@ use Rattle.std.proofs.Common.{◌≡◌, ℕ, ◌≤◌, List, [], ◌∷◌, le
 use Rattle.outside.specs.Files.{sent_more}
 use Rattle.commands.specs.Left.{seen}
 use Rattle.commands.specs.declared.fault.EditFault.TheVariants.{Sent}
-use Rattle.commands.proofs.MakeLaws.{source_apart}
+use Rattle.commands.proofs.MakeLaws.{source_apart, refused_run}
 use Rattle.sync_survey.specs.declared.rows.Row.{Row}
 use Rattle.salvaging.specs.Salvaged.{salvage_command}
 use Rattle.salvaging.specs.Ordered.{text_of}
-use Rattle.salvaging.proofs.CommandLaws.{left-done, left-part, left-streams, numbers-pass, ready-text, ready-order, failed-run, done-run}
+use Rattle.salvaging.proofs.CommandLaws.{left-done, left-part, left-streams, numbers-pass, ready-text, ready-order, done-run}
 use Rattle.salvaging.proofs.salvage_file.write_and_tell.Goals as goal
 
 pub write_output-requires-clause-apart : goal.write_output-requires-clause-apart
@@ -23,7 +23,7 @@ pub returns-in_err-write_output-clause-run : goal.returns-in_err-write_output-cl
 returns-in_err-write_output-clause-run g c =
     let old = seen (g.D.Folder.files c.args.folder.now) (g.D.Folder.counts c.args.folder.now) in
     let new = seen (g.D.Folder.files c.write_output.new.folder) (g.D.Folder.counts c.write_output.new.folder) in
-    failed-run (salvage_command c.args.input.now c.args.output.now) old new _ _ c.requires.free c.from_residual.ensures.1
+    refused_run (salvage_command c.args.input.now c.args.output.now) old new _ _ c.requires.free c.from_residual.ensures.1
     (left-part c.args.input.now c.args.output.now c.requires.free old old new c.args.work.now refl c.requires.ready c.write_output.ensures.touches _ c.in_err-write_output.ensures.numbers c.in_err-write_output.ensures.left)
     (numbers-pass c.args.input.now c.args.output.now _ c.in_err-write_output.ensures.numbers) c.write_output.ensures.counts
 
@@ -50,7 +50,7 @@ pub returns-in-Err-clause-run : goal.returns-in-Err-clause-run
 returns-in-Err-clause-run g c =
     let old = seen (g.D.Folder.files c.args.folder.now) (g.D.Folder.counts c.args.folder.now) in
     let new = seen (g.D.Folder.files c.write_output.new.folder) (g.D.Folder.counts c.write_output.new.folder) in
-    failed-run (salvage_command c.args.input.now c.args.output.now) old new _ Sent c.requires.free refl
+    refused_run (salvage_command c.args.input.now c.args.output.now) old new _ Sent c.requires.free refl
     (left-done c.args.input.now c.args.output.now c.requires.free old old new c.args.work.now refl c.requires.ready c.write_output.ensures.touches c.in_ok-write_output.ensures.written c.in_ok-write_output.ensures.done)
     (λ e. absurd cc) c.write_output.ensures.counts
 

@@ -6,10 +6,10 @@ use Rattle.outside.proofs.CountsLaws.{none_fell_by_reads, none_fell_then, only_r
 use Rattle.frame_writer.proofs.WritingLaws.{ok-both}
 use Rattle.sync_survey.specs.Faults.{tells}
 use Rattle.commands.specs.Left.{Seen, seen}
-use Rattle.commands.proofs.MakeLaws.{no_clash}
+use Rattle.commands.proofs.MakeLaws.{no_clash, names_free, refused_run}
 use Rattle.splitting.specs.Split.{placing_of, split_command_of}
 use Rattle.splitting.specs.Steps.{Says}
-use Rattle.splitting.proofs.CommandLaws.{names-free, refused-run, equal-left, input-left, places-left, memory-left, range-left, split-done, split-left, split-streams, places-numbers, survey-numbers, range-numbers, pieces-numbers}
+use Rattle.splitting.proofs.CommandLaws.{equal-left, input-left, places-left, memory-left, range-left, split-done, split-left, split-streams, places-numbers, survey-numbers, range-numbers, pieces-numbers}
 use Rattle.splitting.proofs.PiecesLaws.{can-be-written}
 use Rattle.splitting.proofs.split_file.split.Given as given
 use Rattle.splitting.proofs.split_file.split.Goals as goal
@@ -23,7 +23,7 @@ returns-in-Some g c =
 pub returns-in_err-survey : goal.returns-in_err-survey
 returns-in_err-survey g c =
     let none = sym c.clash.ensures ∙ c.in_default.is in
-    refused-run _ _ _ _ _ none c.from_residual.ensures.1 (input-left c.args.points.now c.args.input.now c.args.prefix.now none _ _ _ c.in_err-survey.ensures.refused)
+    refused_run _ _ _ _ _ none c.from_residual.ensures.1 (input-left c.args.points.now c.args.input.now c.args.prefix.now none _ _ _ c.in_err-survey.ensures.refused)
     (survey-numbers c.args.points.now c.args.input.now c.args.prefix.now _ c.in_err-survey.ensures.numbers)
     (none_fell_by_reads _ _ c.survey_at.ensures.counts)
 
@@ -32,7 +32,7 @@ returns-in_err-places g c =
     let none = sym c.clash.ensures ∙ c.in_default.is in
     let old = seen (g.D.Folder.files c.args.folder.now) (g.D.Folder.counts c.args.folder.now) in
     let mid = seen (g.D.Folder.files c.survey_at.new.folder) (g.D.Folder.counts c.survey_at.new.folder) in
-    refused-run _ _ _ _ _ none c.from_residual-in_err-places.ensures.1
+    refused_run _ _ _ _ _ none c.from_residual-in_err-places.ensures.1
     (places-left c.args.points.now c.args.input.now c.args.prefix.now none (tells c.in_ok-survey.survey) old c.in_ok-survey.ensures.there c.in_ok-survey.ensures.surveyed mid _ (ap₂ seen c.survey_at.ensures.files c.in_ok-survey.ensures.done) _ c.in_err-places.ensures.refused)
     (places-numbers c.args.points.now c.args.input.now c.args.prefix.now _ c.in_err-places.ensures.numbers)
     (none_fell_by_reads _ _ (only_reads_then _ _ _ c.survey_at.ensures.counts c.places_of.ensures.counts))
@@ -58,7 +58,7 @@ pub returns-in_err-pieces : goal.returns-in_err-pieces
 returns-in_err-pieces g c =
     let at = (goal.at.returns-in_err-pieces g c).After-as_slice in
     let none = sym c.clash.ensures ∙ c.in_default.is in
-    refused-run _ _ _ _ _ none c.from_residual-in_err-pieces.ensures.1
+    refused_run _ _ _ _ _ none c.from_residual-in_err-pieces.ensures.1
     (range-left c.args.points.now c.args.input.now c.args.prefix.now none (tells c.in_ok-survey.survey) (old g at) c.in_ok-survey.ensures.there c.in_ok-survey.ensures.surveyed _ _ (stays g at) c.as_slice.result.now (said g at) _ refl c.in_err-pieces.ensures.chosen)
     (range-numbers c.args.points.now c.args.input.now c.args.prefix.now _ c.in_err-pieces.ensures.chosen) (fell g at)
 
@@ -66,7 +66,7 @@ pub returns-in_err-buffers : goal.returns-in_err-buffers
 returns-in_err-buffers g c =
     let at = (goal.at.returns-in_err-buffers g c).After-as_slice in
     let none = sym c.clash.ensures ∙ c.in_default.is in
-    refused-run _ _ _ _ _ none c.from_residual-in_err-buffers.ensures.1
+    refused_run _ _ _ _ _ none c.from_residual-in_err-buffers.ensures.1
     (memory-left c.args.points.now c.args.input.now c.args.prefix.now none (tells c.in_ok-survey.survey) (old g at) c.in_ok-survey.ensures.there c.in_ok-survey.ensures.surveyed _ _ (stays g at) refl) tt (fell g at)
 
 -- no more than there are names
@@ -100,7 +100,7 @@ returns g c =
           (split-left c.args.points.now c.args.input.now c.args.prefix.now none (tells c.in_ok-survey.survey) (old g at) survey.there survey.surveyed (mid g at) _ (stays g at) c.as_slice.result.now (said g at) _ pieces.pieces pieces.chosen most touches)
           (rw items at c.write_pieces.ensures.left);
       numbers = numbers;
-      names = names-free (split_command_of c.args.points.now c.args.input.now c.args.prefix.now) c.write_pieces.result none numbers;
+      names = names_free (split_command_of c.args.points.now c.args.input.now c.args.prefix.now) c.write_pieces.result none numbers;
       streams = on_ok_weaker c.write_pieces.result
           (λ done. split-streams c.args.points.now c.args.input.now c.args.prefix.now none (tells c.in_ok-survey.survey) (old g at) survey.there survey.surveyed c.as_slice.result.now (said g at) survey.octets) c.write_pieces.ensures.done;
       counts = none_fell_then _ _ _ (fell g at) c.write_pieces.ensures.counts;
