@@ -4,11 +4,14 @@ use Rattle.std.specs.Prelude.{Result, Ok, Err, OnOk, OnErr}
 use Rattle.std.proofs.lemmas.List.{length-take-le, take-append-le, append_cancel_right, nil_from_length}
 use Rattle.outside.specs.Files.{Files, appended}
 use Rattle.outside.specs.Passed.{PassedOn, AppendedPrefix}
+use Rattle.outside.proofs.FilesLaws.{appended_twice}
 use Rattle.outside.proofs.PassedLaws.{passed_with, passed_then_prefix, passed_more, passed_more_prefix}
 use Rattle.frame_writer.specs.declared.frames.Kept.{Kept}
 use Rattle.frame_header.specs.Fields.{ClassFields}
 use Rattle.frame_writer.specs.Laid.{Piece, Waiting, AreLaid}
-use Rattle.frame_writer.specs.Frames.{Frame, Held, area_in, first_bytes, framed, held_bytes, AreWritten}
+use Rattle.frame_writer.specs.Frames.{Frame, Held, area_in, first_bytes, framed, held_bytes, IsNextSettled, AreWritten}
+use Rattle.frame_writer.specs.declared.writer.State.{State}
+use Rattle.frame_writer.specs.Writer.{IsSettled}
 use Rattle.frame_writer.proofs.FrameLaws.{first-framed, first-written}
 use Rattle.frame_writer.specs.Writing.{Writing, writing, waiting_bytes, HandedOn, HandedPart, AreBehind, WritesOn, WritesPart, GoesOn}
 
@@ -165,3 +168,49 @@ passed-two {name} {mid} {after} {f} {g} {h} before a b c is p q =
 pub prefix-two : {name mid : List ℕ} {f g h : Files} (before a b c : List ℕ) → a ++ b ≡ c → PassedOn name (before ++ a) mid f g → AppendedPrefix name (mid ++ b) g h → AppendedPrefix name (before ++ c) f h
 prefix-two {name} {mid} {f} {g} {h} before a b c is p q =
     subst (λ (xs : List ℕ). AppendedPrefix name xs f h) (append_assoc before a b ∙ ap (λ (xs : List ℕ). before ++ xs) is) (passed_more_prefix b p q)
+
+-- ---- what waits in the buffer is written too
+
+-- the bytes that were passed on into the buffer, and then all of it
+pub passed-sent : {name bytes : List ℕ} {f g h : Files} (new : Writing) → PassedOn name bytes (waiting_bytes new) f g →
+    h ≡ appended g name new.unsent → PassedOn name bytes (held_bytes new.held) f h
+passed-sent {name} {bytes} {f} {g} {h} new p all = record {
+  passed = p.passed ++ new.unsent;
+  split = p.split ∙ sym (append_assoc p.passed new.unsent (held_bytes new.held));
+  files = all ∙ ap (λ files. appended files name new.unsent) p.files ∙ appended_twice f name p.passed new.unsent;
+}
+
+-- a frame was given, and then the buffer was written
+pub writes-sent : {name : List ℕ} {fr : Frame} {old : Writing} {f g h : Files} (new : Writing) → WritesOn name fr old new f g →
+    h ≡ appended g name new.unsent → WritesOn name fr old (writing new.held []) f h
+writes-sent {name} {fr} {old} {f} {g} {h} new on all = record {
+  passed = on.passed ++ new.unsent;
+  files = all ∙ ap (λ files. appended files name new.unsent) on.files ∙ appended_twice f name on.passed new.unsent;
+  writer = λ base out fs are.
+      subst (λ (xs : List ℕ). AreBehind base xs new.held (fs ++ fr ∷ []))
+      (append_assoc out on.passed new.unsent ∙ sym (append-nil (out ++ (on.passed ++ new.unsent))))
+      (on.writer base out fs are);
+}
+
+-- the buffer couldn't be written
+pub writes-unsent : {name : List ℕ} {fr : Frame} {old : Writing} {f g h : Files} (new : Writing) → WritesOn name fr old new f g →
+    AppendedPrefix name new.unsent g h → WritesPart name fr old new.held f h
+writes-unsent {name} {fr} {old} {f} {g} {h} new on part = record {
+  settled = on.passed ++ new.unsent;
+  prefix = passed_then_prefix (record { passed = on.passed; split = refl; files = on.files }) part;
+  writer = λ base out fs are.
+      subst (λ (xs : List ℕ). AreBehind base xs new.held (fs ++ fr ∷ [])) (append_assoc out on.passed new.unsent)
+      (on.writer base out fs are);
+}
+
+-- a prefix of what waits in the buffer is one of all that waits
+pub unsent-prefix : {name bytes : List ℕ} {f g h : Files} (new : Writing) → PassedOn name bytes (waiting_bytes new) f g →
+    AppendedPrefix name new.unsent g h → AppendedPrefix name bytes f h
+unsent-prefix {name} {bytes} {f} {g} {h} new p part =
+    passed_then_prefix p
+    (prefix-piece name [] new.unsent (waiting_bytes new) (held_bytes new.held) g h refl part)
+
+-- an open writer
+pub is-open : (state : State) (held : Held) (unsent : List ℕ) → IsSettled state held unsent → state ≡ State.Open →
+    (unsent ≡ []) × (IsNextSettled held → ⊥)
+is-open state held unsent is opened = subst (λ s. IsSettled s held unsent) opened is

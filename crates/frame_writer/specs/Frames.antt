@@ -37,6 +37,9 @@ pub record Frame : Type 0 where
   pub kept : Kept
   pub payload : List ℕ
 
+abbrev pub frame_of : HeaderFields → Side → List ℕ → Frame
+frame_of h s payload = record { kept = record { header = h; side = s }; payload = payload }
+
 abbrev pub piece_of : Frame → Piece
 piece_of f = record { payload = f.payload; begin = f.kept.side.main_data_begin; area = area_in f.kept }
 

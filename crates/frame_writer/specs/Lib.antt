@@ -1,6 +1,7 @@
 pub mod Laid
 pub mod Frames
 pub mod Writing
+pub mod Writer
 pub mod Laws
 pub use Rattle.bit_fields.specs.Bits
 pub use Rattle.frame_header.specs.Fields

@@ -1,4 +1,3 @@
 -- The lemmas of this crate.
 pub mod WindowLaws
-pub mod QueueLaws
 pub mod FrameLaws

@@ -1,11 +1,14 @@
 -- Laws of windows: the last bytes of main data, and the bits of a frame's main data among them.
-use Rattle.std.proofs.Common.{◌≡◌, ℕ, zero, suc, min, ◌<◌, inl, inr, ◌+◌, ◌-◌, ◌*◌, ◌/◌, ◌%◌, ◌^◌, ◌≤◌, List, [], ◌∷◌, ◌++◌, length, take, drop, replicate, refl, sym, subst, ap, ap₂, ◌∙◌, append_assoc, append-nil, arith, length-append}
+use Rattle.std.proofs.Common.{◌≡◌, ℕ, zero, suc, min, ◌<◌, inl, inr, ◌+◌, ◌-◌, ◌*◌, ◌/◌, ◌%◌, ◌^◌, ◌≤◌, List, [], ◌∷◌, ◌++◌, length, take, drop, replicate, refl, sym, subst, ap, ap₂, ◌∙◌, append_assoc, append-nil, arith, length-append, Bor}
 use Rattle.std.proofs.lemmas.List.{length-drop, length-take-le, take-append-le, drop-append-le, take-append-drop, drop-drop}
+use Rattle.std.proofs.lemmas.Option.{get_or_from_slice_get, none-some}
 use Rattle.std.proofs.Math.Seq.{drop-append-add, take-append-add, drop-length, take-length, take-add, drop-cons}
+use Rattle.circular_buffer.proofs.Places.{slice_get-some}
 use Rattle.std.proofs.Math.Nat.{min-eq_left, min-eq_right, zero-div}
 use Rattle.std.proofs.lemmas.Bool.{cases_lt}
-use Rattle.std.specs.Prelude.{get_or}
-use Rattle.circular_buffer.specs.Buffer.{keep_last}
+use Rattle.std.specs.Prelude.{Option, Some, None, slice_get, option_copied, get_or}
+use Rattle.std.specs.Option.{IsSome}
+use Rattle.circular_buffer.specs.Buffer.{Buffer, buffer, keep_last}
 use Rattle.bit_fields.specs.Bits.{bits, bits_of}
 use Rattle.bit_fields.proofs.BitsLaws.{length-bits_of, take-bits, drop-bits, bits_of-mod, bits_of-cat, take-bits_of, bits-nil, bits-one, bits-cons, bits-append}
 use Rattle.reservoir.specs.Window.{IsWindowOver, main_bits, ArePacked}
@@ -137,10 +140,36 @@ take_two count xs ys =
     of_both count (length xs) (λ m k. take count (xs ++ ys) ≡ take m xs ++ take k ys) (λ within. take-append-le count xs ys (omega arith) ∙ sym (append-nil (take count xs)))
     (λ past. let split : count ≡ length xs + (count - length xs) = omega arith in rw (take-length xs) (ap (λ k. take k (xs ++ ys)) split ∙ take-append-add xs ys (count - length xs)))
 
--- the last of what is held, and of an area after it
-pub last-pushed : (k over : ℕ) (held area new : List ℕ) → length held ≤ 2048 → k ≡ length area - 2048 → over ≡ length held + length (drop k area) - 2048 → new ≡ drop over held ++ drop k area → new ≡ keep_last 2048 (held ++ area)
-last-pushed k over held area new few passes overs is =
-    let from = length (held ++ area) - 2048 in
-    let front : over ≡ min from (length held) = omega (arith, few, passes, overs, length-append held area, length-drop k area) in
-    let rest : k ≡ from - min from (length held) = omega (arith, few, passes, length-append held area) in
-    is ∙ ap₂ (λ m n. drop m held ++ drop n area) front rest ∙ sym (drop_two from held area)
+-- the first of a list from a place on, and then as much of the other
+pub part_of_two : (from count passed first : ℕ) (xs ys front back : List ℕ) → front ≡ drop passed xs →
+    back ≡ drop (from - passed) ys → passed ≡ min from (length xs) → first ≡ min count (length front) →
+    take first front ++ take (count - first) back ≡ take count (drop from (xs ++ ys))
+part_of_two from count passed first xs ys front back fronts backs passes firsts =
+    rw (firsts, fronts, backs, passes)
+    (sym (ap (take count) (drop_two from xs ys) ∙ take_two count (drop (min from (length xs)) xs) (drop (from - min from (length xs)) ys)))
+
+-- ---- a byte of a ring, and bytes added to it
+
+-- a byte that is there
+pub found : (r : Option (Bor ℕ)) (xs : List ℕ) (i : ℕ) → option_copied r ≡ slice_get xs i → i < length xs → IsSome r
+found None xs i is within = let some = slice_get-some xs i within in absurd (none-some some.0 (is ∙ some.1))
+found (Some b) xs i is within = refl
+
+pub found-is : (r : Option (Bor ℕ)) (b : Bor ℕ) (xs : List ℕ) (i : ℕ) → option_copied r ≡ slice_get xs i → r ≡ Some b → b.now ≡ get_or xs i 0
+found-is r b xs i is some = sym (get_or_from_slice_get xs i b.now 0 (sym is ∙ ap option_copied some))
+
+-- bytes for which a ring has room
+pub filled : (old new : Buffer ℕ) (xs : List ℕ) (k : ℕ) → length old.items + length xs ≤ old.capacity →
+    k ≡ min (length xs) (old.capacity - length old.items) → new ≡ buffer (old.items ++ take k xs) old.capacity →
+    new ≡ buffer (old.items ++ xs) old.capacity
+filled old new xs k room is adds =
+    let all : k ≡ length xs = is ∙ min-eq_left (omega (arith, room)) in
+    adds ∙ ap (λ (ys : List ℕ). buffer (old.items ++ ys) old.capacity) (ap (λ n. take n xs) all ∙ take-length xs)
+
+-- two such pieces
+pub filled_two : (old mid new : Buffer ℕ) (xs ys : List ℕ) → mid ≡ buffer (old.items ++ xs) old.capacity →
+    new ≡ buffer (mid.items ++ ys) mid.capacity → new ≡ buffer (old.items ++ (xs ++ ys)) old.capacity
+filled_two old mid new xs ys first second =
+    second
+    ∙ ap (λ (b : Buffer ℕ). buffer (b.items ++ ys) b.capacity) first
+    ∙ ap (λ (zs : List ℕ). buffer zs old.capacity) (append_assoc old.items xs ys)

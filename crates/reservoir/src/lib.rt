@@ -5,16 +5,14 @@
 //! ```text
 //! let mut window = Window::new(alloc)?;
 //! window.push_area(area);
-//! let payload = window.payload(area.len() as u32, main_data_begin, bits);
+//! window.payload(area.len() as u32, main_data_begin, bits, &mut payload);
 //! ```
 #![tactic(auto)]
 
 mod laws;
 mod payload;
-mod queue;
 mod window;
 
 pub use laws::{areas_are_held, frames_are_held};
 pub use payload::Payload;
-pub use queue::ByteQueue;
 pub use window::Window;

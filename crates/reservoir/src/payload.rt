@@ -1,14 +1,17 @@
 //! The main data of a frame, read where they are.
 ghost use Rattle.std.specs.Prelude.{◌≡◌, ◌+◌, ◌≤◌, ◌++◌, [], length};
-ghost use Rattle.bit_fields.specs.Bits.{AreBytes};
+ghost use Rattle.circular_buffer.specs.Buffer.{buffer};
 
-use crate::queue::ByteQueue;
+use arrayvec::ArrayVec;
+use circular_buffer::HeapCircularBuffer;
 use std::marker::Model;
 
-/// The main data of a frame, in as few bytes as hold their bits. Contracts see them as a list of bytes.
+/// The main data of a frame, in as few bytes as hold their bits. Contracts see them as a list of bytes. The
+/// whole bytes are in two slices, one after the other, since a window is a ring.
 #[derive(Drop)]
 pub struct Payload<'a> {
-    whole: &'a [u8],
+    front: &'a [u8],
+    back: &'a [u8],
     // The byte of the bits after the whole bytes, with zeros after them.
     last: Option<u8>,
 }
@@ -19,7 +22,7 @@ impl<'a> Model for Payload<'a> {
 
     ghost Value = { List ℕ };
 
-    ghost view = { λ p. p.whole.now ++ byte_of p.last };
+    ghost view = { λ p. p.front.now ++ (p.back.now ++ byte_of p.last) };
 }
 
 impl<'a> Payload<'a> {
@@ -29,19 +32,27 @@ impl<'a> Payload<'a> {
     pub fn empty() -> Payload<'a>
         ensures { result ≡ [] }
     {
+        Payload::whole(&[])
+    }
+
+    /// Main data that are these bytes.
+    #[inline]
+    pub fn whole(bytes: &'a [u8]) -> Payload<'a>
+        ensures { result ≡ bytes.now }
+    {
         Payload {
-            whole: &[],
+            front: bytes,
+            back: &[],
             last: None,
         }
     }
 
     /// These bytes, and one after them if it is there.
     #[inline]
-    pub(crate) fn new(whole: &'a [u8], last: Option<u8>) -> Payload<'a>
-        ensures payload { result ≡ whole.now ++ byte_of last }
-        ensures bytes { AreBytes whole.now }
+    pub(crate) fn new(front: &'a [u8], back: &'a [u8], last: Option<u8>) -> Payload<'a>
+        ensures { result ≡ front.now ++ (back.now ++ byte_of last) }
     {
-        Payload { whole, last }
+        Payload { front, back, last }
     }
 
     /// How many bytes these are.
@@ -50,18 +61,32 @@ impl<'a> Payload<'a> {
         requires { length self.now ≤ 2048 }
         ensures { result ≡ length self.now }
     {
-        self.whole.len() + usize::from(self.last.is_some())
+        self.front.len() + self.back.len() + usize::from(self.last.is_some())
     }
 
-    /// Adds them to a queue.
+    /// Adds them to a queue that has room for them.
     #[inline]
-    pub fn append_to(&self, queue: &mut ByteQueue)
-        requires { length queue.old + length self.now ≤ 8192 }
-        ensures { queue.new ≡ queue.old ++ self.now }
+    pub fn append_to(&self, queue: &mut HeapCircularBuffer<u8>)
+        requires { length queue.old.items + length self.now ≤ queue.old.capacity }
+        ensures { queue.new ≡ buffer (queue.old.items ++ self.now) queue.old.capacity }
     {
-        queue.push(self.whole);
+        queue.fill_from_slice(self.front);
+        queue.fill_from_slice(self.back);
         if let Some(last) = self.last {
-            queue.push(&[last]);
+            queue.fill_from_slice(&[last]);
+        }
+    }
+
+    /// Puts them into a list of at most 2,048 bytes, in place of what is in it.
+    pub fn copy_to(&self, into: &mut ArrayVec<u8, 2048>)
+        requires { length self.now ≤ 2048 }
+        ensures { into.new.items ≡ self.now }
+    {
+        into.clear();
+        let _ = into.try_extend_from_slice(self.front);
+        let _ = into.try_extend_from_slice(self.back);
+        if let Some(last) = self.last {
+            let _ = into.try_extend_from_slice(&[last]);
         }
     }
 }

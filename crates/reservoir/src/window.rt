@@ -1,11 +1,12 @@
-//! The window: a queue whose oldest bytes are dropped.
+//! The window, over a ring that drops its oldest bytes.
 ghost use Rattle.std.specs.Prelude.{◌≡◌, ℕ, ◌+◌, ◌-◌, ◌*◌, ◌/◌, ◌<◌, ◌≤◌, List, [], ◌++◌, length, take, drop, IfOk};
 ghost use Rattle.circular_buffer.specs.Buffer.{keep_last};
 ghost use Rattle.bit_fields.specs.Bits.{AreBytes};
 ghost use Rattle.reservoir.specs.Window.{IsWindowOver, main_bits, ArePacked, byte_of};
 
 use crate::payload::Payload;
-use crate::queue::ByteQueue;
+use arrayvec::ArrayVec;
+use circular_buffer::HeapCircularBuffer;
 use std::alloc::{AllocError, Global};
 use std::marker::Model;
 
@@ -17,17 +18,17 @@ const CAPACITY: usize = 2048;
 /// the list of these bytes, the oldest first.
 #[derive(Drop)]
 pub struct Window {
-    queue: ByteQueue,
+    ring: HeapCircularBuffer<u8>,
 }
 
 impl Model for Window {
-    ghost use Rattle.std.specs.Prelude.{◌≤◌, ℕ, List, length};
+    ghost use Rattle.std.specs.Prelude.{◌≡◌, ◌≤◌, ℕ, List, length};
 
     ghost Value = { List ℕ };
 
-    ghost view = { λ w. w.queue };
+    ghost view = { λ w. w.ring.items };
 
-    ghost invariant = { λ w. length w.queue ≤ 2048 };
+    ghost invariant = { λ w. (w.ring.capacity ≡ 2048) × (length w.ring.items ≤ 2048) };
 }
 
 impl Window {
@@ -40,7 +41,7 @@ impl Window {
         ensures main { IfOk result (λ window. IsWindowOver window []) }
     {
         Ok(Window {
-            queue: ByteQueue::new(alloc)?,
+            ring: HeapCircularBuffer::with_capacity(alloc, CAPACITY)?,
         })
     }
 
@@ -49,7 +50,7 @@ impl Window {
         ensures none { self.new ≡ [] }
         ensures main { IsWindowOver self.new [] }
     {
-        self.queue.clear();
+        self.ring.clear();
     }
 
     /// How many bytes it holds, at most 2,048.
@@ -57,7 +58,7 @@ impl Window {
         ensures count { result ≡ length self.now }
         ensures most { result ≤ 2048 }
     {
-        self.queue.len()
+        self.ring.len()
     }
 
     /// Adds an area: the bytes of a frame after its header, check word and side information. Of what was
@@ -68,29 +69,41 @@ impl Window {
         ensures main { (main : List ℕ) → IsWindowOver self.old main
             → IsWindowOver self.new (main ++ area.now) }
     {
-        let area = &area[area.len().saturating_sub(CAPACITY)..];
-        let over = (self.queue.len() + area.len()).saturating_sub(CAPACITY);
-        self.queue.drop_first(over);
-        self.queue.push(area);
+        self.ring.extend_from_slice(area);
     }
 
-    /// The main data of the frame whose area was pushed last: `bits` bits from `begin` bytes before its
-    /// area of `area` bytes on, in as few bytes as hold them, with the unused low bits of the last byte 0.
-    /// `begin` is the frame's main_data_begin (ISO/IEC 11172-3 and 13818-3, 2.4.2.7), and `bits` the sum of
-    /// all its part2_3_length.
+    /// The main data of the frame whose area was pushed last, as `main_data` lends them, in place of what is
+    /// in `into`. They have at most 2,048 bytes, as the window has.
+    pub fn payload(&self, area: u32, begin: u32, bits: u32, into: &mut ArrayVec<u8, 2048>)
+        requires held { area + begin ≤ length self.now }
+        requires within { bits ≤ 8 * (area + begin) }
+        ensures payload { (main : List ℕ) → IsWindowOver self.now main → ArePacked into.new.items
+            bits (main_bits main (length main - area - begin) bits) }
+        ensures bytes { AreBytes into.new.items }
+        ensures few { length into.new.items ≤ 2048 }
+    {
+        self.main_data(area, begin, bits).copy_to(into);
+    }
+
+    /// The main data of the frame whose area was pushed last, where they are: `bits` bits from `begin` bytes
+    /// before its area of `area` bytes on, in as few bytes as hold them, with the unused low bits of the
+    /// last byte 0. `begin` is the frame's main_data_begin (ISO/IEC 11172-3 and 13818-3, 2.4.2.7), and
+    /// `bits` the sum of all its part2_3_length.
     #[inline]
-    pub fn payload(&self, area: u32, begin: u32, bits: u32) -> Payload<'_>
+    pub fn main_data(&self, area: u32, begin: u32, bits: u32) -> Payload<'_>
         requires held { area + begin ≤ length self.now }
         requires within { bits ≤ 8 * (area + begin) }
         ensures payload { (main : List ℕ) → IsWindowOver self.now main
             → ArePacked result bits (main_bits main (length main - area - begin) bits) }
         ensures bytes { AreBytes result }
+        ensures few { length result ≤ 2048 }
     {
-        let bytes = self.queue.bytes();
-        let from = bytes.len() - (area + begin) as usize;
-        let end = from + (bits / 8) as usize;
-        let last = self.last_byte(end, bits % 8);
-        Payload::new(&bytes[from..end], last)
+        let (front, back) = self.ring.as_slices();
+        let from = self.ring.len() - (area + begin) as usize;
+        let whole = (bits / 8) as usize;
+        let last = self.last_byte(from + whole, bits % 8);
+        let (front, back) = part(front, back, from, whole);
+        Payload::new(front, back, last)
     }
 
     /// The first `bits` bits of byte `at`, fewer than 8, and zeros after them; `None` for no bits.
@@ -104,8 +117,23 @@ impl Window {
         if bits == 0 {
             return None;
         }
-        let byte = self.queue.bytes()[at];
+        let byte = *self.ring.get(at).unwrap();
         let unused = 8 - bits;
         Some(byte >> unused << unused)
     }
+}
+
+/// `count` bytes from the place `from` on of two slices, one after the other, as two slices again.
+#[inline]
+fn part<'a>(front: &'a [u8], back: &'a [u8], from: usize, count: usize) -> (&'a [u8], &'a [u8])
+    requires within { from + count ≤ length front.now + length back.now }
+    requires short { length front.now + length back.now ≤ 2048 }
+    ensures part { result.0.now ++ result.1.now ≡ take count (drop from (front.now ++ back.now)) }
+    ensures bytes { AreBytes result.0.now × AreBytes result.1.now }
+{
+    let passed = from.min(front.len());
+    let front = &front[passed..];
+    let back = &back[from - passed..];
+    let first = count.min(front.len());
+    (&front[..first], &back[..count - first])
 }

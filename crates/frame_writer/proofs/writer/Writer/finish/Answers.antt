@@ -1,31 +1,34 @@
--- One frame after another.
-use Rattle.std.proofs.Common.{◌≡◌, List, ℕ, length, refl, ◌∙◌, subst, arith}
-use Rattle.outside.specs.Passed.{PassedOn}
-use Rattle.outside.proofs.PassedLaws.{on_err, passed_nothing, passed_then, passed_then_prefix, passed_there}
-use Rattle.frame_writer.specs.Writing.{writing, waiting_bytes}
-use Rattle.frame_writer.proofs.WritingLaws.{none-left}
+-- What waits goes into the buffer, and the buffer to the file.
+use Rattle.std.proofs.Common.{◌≡◌, List, ℕ, ◌++◌, subst, ap, ap₂, ◌∙◌}
+use Rattle.outside.specs.Files.{appended}
+use Rattle.outside.specs.Passed.{AppendedPrefix}
+use Rattle.outside.proofs.PassedLaws.{on_err, passed_there, passed_then_all, passed_then_prefix}
+use Rattle.frame_writer.specs.Frames.{Held, held_bytes}
+use Rattle.frame_writer.specs.Writer.{Writer, IsSettled}
+use Rattle.frame_writer.specs.declared.writer.State.{State}
+use Rattle.frame_writer.proofs.WritingLaws.{is-open}
 use Rattle.frame_writer.proofs.writer.Writer.finish.Goals as goal
 
-pub loop-self-init : goal.loop-self-init
-loop-self-init g c = record {
-  passed = passed_nothing (g.D.Folder.files c.args.folder.now) c.args.name.now (waiting_bytes (writing c.args.self.now c.args.unsent.now)) c.requires.there;
-  there = c.requires.there;
-  counts = refl;
-}
+-- all that waits of an open writer are the frames
+all : (held : Held) (unsent : List ℕ) (state : State) (now : Writer) → IsSettled state held unsent →
+    record { held = held; state = state } ≡ now → now.state ≡ State.Open → unsent ++ held_bytes held ≡ held_bytes now.held
+all held unsent state now settled view opened =
+    ap₂ (λ (xs : List ℕ) (h : Held). xs ++ held_bytes h)
+    (is-open state held unsent settled (ap (λ (w : Writer). w.state) view ∙ opened)).0
+    (ap (λ (w : Writer). w.held) view)
 
-pub loop-self-preserved : goal.loop-self-preserved
-loop-self-preserved g c = record {
-  passed = passed_then c.loop-self.invariant.passed c.in_ok-take_first.ensures.passed;
-  there = passed_there c.in_ok-take_first.ensures.passed;
-  counts = c.in_ok-take_first.ensures.done ∙ c.loop-self.invariant.counts;
-}
+pub finish-requires-2 : goal.finish-requires-2
+finish-requires-2 g c = passed_there c.in_ok-finish.ensures.passed
 
-pub returns-in_err-take_first-clause-prefix : goal.returns-in_err-take_first-clause-prefix
-returns-in_err-take_first-clause-prefix g c =
-    on_err c.from_residual.result (passed_then_prefix c.loop-self.invariant.passed c.in_err-take_first.ensures.prefix)
+pub returns-in_err-finish-2-clause-prefix : goal.returns-in_err-finish-2-clause-prefix
+returns-in_err-finish-2-clause-prefix g c =
+    on_err c.from_residual-in_err-finish-2.result
+    (subst (λ (xs : List ℕ). AppendedPrefix c.args.name.now xs (g.D.Folder.files c.args.folder.now) (g.D.Folder.files c.finish-2.new.folder))
+    (all c.self.inside.queue c.self.inside.unsent c.self.inside.state c.args.self.now c.self.invariant c.self.view_is c.requires.ready)
+    (passed_then_prefix c.in_ok-finish.ensures.passed c.in_err-finish-2.ensures.prefix))
 
-pub returns-clause-passed : goal.returns-clause-passed
-returns-clause-passed g c =
-    let none : length c.loop-self.self.kept ≡ 0 = omega (arith, c.count.ensures.count, c.loop-self-test.false) in
-    subst (λ (xs : List ℕ). PassedOn c.args.name.now (waiting_bytes (writing c.args.self.now c.args.unsent.now)) xs (g.D.Folder.files c.args.folder.now) (g.D.Folder.files c.loop-self.folder))
-    (none-left c.loop-self.self c.loop-self.unsent none) c.loop-self.invariant.passed
+pub returns-clause-appended : goal.returns-clause-appended
+returns-clause-appended g c =
+    passed_then_all c.in_ok-finish.ensures.passed c.in_ok-finish-2.ensures.appended
+    ∙ ap (appended (g.D.Folder.files c.args.folder.now) c.args.name.now)
+    (all c.self.inside.queue c.self.inside.unsent c.self.inside.state c.args.self.now c.self.invariant c.self.view_is c.requires.ready)

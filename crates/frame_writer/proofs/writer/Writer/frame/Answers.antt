@@ -1,18 +1,62 @@
--- The frame waits, and then what is settled is handed on.
-use Rattle.frame_writer.specs.Writing.{writing}
-use Rattle.frame_writer.proofs.WritingLaws.{ok-both, err-map, writes-on, writes-part}
+-- The frame goes into the buffer, and the buffer to the file.
+use Rattle.std.proofs.Common.{◌≡◌, List, ℕ, [], subst, ap, ap₂, ◌∙◌}
+use Rattle.outside.specs.Passed.{PassedOn, AppendedPrefix}
+use Rattle.outside.proofs.PassedLaws.{on_err, passed_there}
+use Rattle.frame_writer.specs.Frames.{Held, frame_of, held_bytes}
+use Rattle.frame_writer.specs.Writer.{Writer, IsSettled}
+use Rattle.frame_writer.specs.Writing.{Writing, writing, bytes_with, WritesOn, WritesPart}
+use Rattle.frame_writer.specs.declared.writer.State.{State}
+use Rattle.frame_writer.proofs.WritingLaws.{passed-sent, writes-sent, writes-unsent, unsent-prefix, is-open}
 use Rattle.frame_writer.proofs.writer.Writer.frame.Goals as goal
+
+-- nothing waits in the buffer of an open writer
+nothing : (held : Held) (unsent : List ℕ) (state : State) (now : Writer) → IsSettled state held unsent →
+    record { held = held; state = state } ≡ now → now.state ≡ State.Open → writing held unsent ≡ writing now.held []
+nothing held unsent state now settled view opened =
+    ap₂ writing (ap (λ (w : Writer). w.held) view)
+    (is-open state held unsent settled (ap (λ (w : Writer). w.state) view ∙ opened)).0
+
+pub finish-requires : goal.finish-requires
+finish-requires g c = passed_there c.in_ok-frame.ensures.passed
+
+pub returns-in_err-finish-clause-part : goal.returns-in_err-finish-clause-part
+returns-in_err-finish-clause-part g c =
+    let old = nothing c.self.inside.queue c.self.inside.unsent c.self.inside.state c.args.self.now c.self.invariant c.self.view_is c.requires.ready in
+    let new = writing c.frame.new.self c.frame.new.unsent in
+    on_err c.from_residual-in_err-finish.result
+    (subst (λ (w : Writing). WritesPart c.args.name.now (frame_of c.args.header.now c.args.side.now c.args.payload.now) w c.frame.new.self
+    (g.D.Folder.files c.args.folder.now) (g.D.Folder.files c.finish.new.folder)) old
+    (subst (λ (p : List ℕ). WritesPart c.args.name.now (frame_of c.args.header.now c.args.side.now p) (writing c.self.inside.queue c.self.inside.unsent) c.frame.new.self
+    (g.D.Folder.files c.args.folder.now) (g.D.Folder.files c.finish.new.folder)) c.whole.ensures
+    (writes-unsent new c.in_ok-frame.ensures.written c.in_err-finish.ensures.prefix)))
+
+pub returns-in_err-finish-clause-prefix : goal.returns-in_err-finish-clause-prefix
+returns-in_err-finish-clause-prefix g c =
+    let old = nothing c.self.inside.queue c.self.inside.unsent c.self.inside.state c.args.self.now c.self.invariant c.self.view_is c.requires.ready in
+    let new = writing c.frame.new.self c.frame.new.unsent in
+    on_err c.from_residual-in_err-finish.result
+    (subst (λ (w : Writing). AppendedPrefix c.args.name.now (bytes_with w (frame_of c.args.header.now c.args.side.now c.args.payload.now))
+    (g.D.Folder.files c.args.folder.now) (g.D.Folder.files c.finish.new.folder)) old
+    (subst (λ (p : List ℕ). AppendedPrefix c.args.name.now (bytes_with (writing c.self.inside.queue c.self.inside.unsent) (frame_of c.args.header.now c.args.side.now p))
+    (g.D.Folder.files c.args.folder.now) (g.D.Folder.files c.finish.new.folder)) c.whole.ensures
+    (unsent-prefix new c.in_ok-frame.ensures.passed c.in_err-finish.ensures.prefix)))
 
 pub returns-clause-written : goal.returns-clause-written
 returns-clause-written g c =
-    ok-both c.hand_on.result
-    (writes-on c.args.name.now c.args.frame.now (writing c.args.self.now c.args.unsent.now) c.push.new.self
-    (writing c.hand_on.new.self c.hand_on.new.unsent) _ _ c.push.ensures.written)
-    c.hand_on.ensures.passed
-    c.hand_on.ensures.moved
+    let old = nothing c.self.inside.queue c.self.inside.unsent c.self.inside.state c.args.self.now c.self.invariant c.self.view_is c.requires.ready in
+    let new = writing c.frame.new.self c.frame.new.unsent in
+    subst (λ (w : Writing). WritesOn c.args.name.now (frame_of c.args.header.now c.args.side.now c.args.payload.now) w (writing c.frame.new.self [])
+    (g.D.Folder.files c.args.folder.now) (g.D.Folder.files c.finish.new.folder)) old
+    (subst (λ (p : List ℕ). WritesOn c.args.name.now (frame_of c.args.header.now c.args.side.now p) (writing c.self.inside.queue c.self.inside.unsent) (writing c.frame.new.self [])
+    (g.D.Folder.files c.args.folder.now) (g.D.Folder.files c.finish.new.folder)) c.whole.ensures
+    (writes-sent new c.in_ok-frame.ensures.written c.in_ok-finish.ensures.appended))
 
-pub returns-clause-part : goal.returns-clause-part
-returns-clause-part g c =
-    err-map c.hand_on.result
-    (writes-part c.args.name.now c.args.frame.now (writing c.args.self.now c.args.unsent.now) c.push.new.self c.hand_on.new.self _ _ c.push.ensures.written)
-    c.hand_on.ensures.part
+pub returns-clause-passed : goal.returns-clause-passed
+returns-clause-passed g c =
+    let old = nothing c.self.inside.queue c.self.inside.unsent c.self.inside.state c.args.self.now c.self.invariant c.self.view_is c.requires.ready in
+    let new = writing c.frame.new.self c.frame.new.unsent in
+    subst (λ (w : Writing). PassedOn c.args.name.now (bytes_with w (frame_of c.args.header.now c.args.side.now c.args.payload.now)) (held_bytes c.frame.new.self)
+    (g.D.Folder.files c.args.folder.now) (g.D.Folder.files c.finish.new.folder)) old
+    (subst (λ (p : List ℕ). PassedOn c.args.name.now (bytes_with (writing c.self.inside.queue c.self.inside.unsent) (frame_of c.args.header.now c.args.side.now p)) (held_bytes c.frame.new.self)
+    (g.D.Folder.files c.args.folder.now) (g.D.Folder.files c.finish.new.folder)) c.whole.ensures
+    (passed-sent new c.in_ok-frame.ensures.passed c.in_ok-finish.ensures.appended))

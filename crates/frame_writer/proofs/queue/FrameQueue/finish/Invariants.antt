@@ -2,7 +2,7 @@
 use Rattle.std.proofs.Common.{◌≡◌, length}
 use Rattle.outside.specs.Files.{IsThere}
 use Rattle.frame_writer.specs.Writing.{writing, GoesOn}
-use Rattle.frame_writer.proofs.writer.Writer.finish.Given as goal
+use Rattle.frame_writer.proofs.queue.FrameQueue.finish.Given as goal
 
 abbrev pub invariant-loop-self : goal.invariant-loop-self
 invariant-loop-self g l = record {

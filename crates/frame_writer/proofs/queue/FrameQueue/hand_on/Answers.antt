@@ -3,7 +3,7 @@ use Rattle.std.proofs.Common.{refl, ◌∙◌}
 use Rattle.outside.proofs.PassedLaws.{on_err, passed_nothing, passed_then, passed_then_prefix, passed_there}
 use Rattle.frame_writer.specs.Writing.{writing, waiting_bytes}
 use Rattle.frame_writer.proofs.WritingLaws.{handed-none, handed-then, part-then}
-use Rattle.frame_writer.proofs.writer.Writer.hand_on.Goals as goal
+use Rattle.frame_writer.proofs.queue.FrameQueue.hand_on.Goals as goal
 
 pub loop-self-init : goal.loop-self-init
 loop-self-init g c = record {

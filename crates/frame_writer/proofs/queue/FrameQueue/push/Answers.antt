@@ -9,7 +9,7 @@ use Rattle.frame_writer.specs.Laid.{AreLaid}
 use Rattle.frame_writer.specs.Frames.{Held, Frame, area_in, areas_in, AreOf, IsNextSettled, AreWritten}
 use Rattle.frame_writer.specs.Laws.{HaveRoom}
 use Rattle.frame_writer.proofs.FrameLaws.{few-wait, pushed-kept, areas_in-pushed, AreOf-more, more-written}
-use Rattle.frame_writer.proofs.writer.Writer.push.Goals as goal
+use Rattle.frame_writer.proofs.queue.FrameQueue.push.Goals as goal
 
 -- another frame may wait
 room_of : (held old : Held) → held ≡ old → AreOf held.class held.kept → areas_in held.kept ≡ length held.waiting.bytes → (IsNextSettled old → ⊥) → HaveRoom held

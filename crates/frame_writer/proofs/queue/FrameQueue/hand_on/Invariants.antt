@@ -3,7 +3,7 @@ use Rattle.std.proofs.Common.{◌≡◌, length}
 use Rattle.outside.specs.Files.{IsThere}
 use Rattle.frame_writer.specs.Frames.{reach_of}
 use Rattle.frame_writer.specs.Writing.{writing, GoesOn, HandedOn}
-use Rattle.frame_writer.proofs.writer.Writer.hand_on.Given as goal
+use Rattle.frame_writer.proofs.queue.FrameQueue.hand_on.Given as goal
 
 abbrev pub invariant-loop-self : goal.invariant-loop-self
 invariant-loop-self g l = record {

@@ -6,9 +6,9 @@ use Rattle.frame_writer.specs.Laid.{Piece, AreLaid}
 use Rattle.frame_writer.specs.Frames.{area_in, areas_in, Held, first_bytes, framed, held_bytes}
 use Rattle.frame_writer.proofs.FrameLaws.{first-kept, first-framed}
 use Rattle.frame_writer.proofs.WritingLaws.{err-map, prefix-piece, first-handed, first-part}
-use Rattle.frame_writer.proofs.writer.Writer.take_first.Given as given
-use Rattle.frame_writer.proofs.writer.Writer.take_first.Goals as goal
-use Rattle.frame_writer.proofs.writer.Writer.take_first.Goals.{After-drop_first}
+use Rattle.frame_writer.proofs.queue.FrameQueue.take_first.Given as given
+use Rattle.frame_writer.proofs.queue.FrameQueue.take_first.Goals as goal
+use Rattle.frame_writer.proofs.queue.FrameQueue.take_first.Goals.{After-drop_first}
 
 -- the first frame that waits, and the others
 first : (g : given.Over) (c : After-drop_first g) → c.self.inside.kept.items ≡ c.unwrap-first.result ∷ drop 1 c.self.inside.kept.items

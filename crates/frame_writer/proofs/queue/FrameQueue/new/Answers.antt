@@ -5,7 +5,7 @@ use Rattle.frame_writer.specs.declared.frames.Kept.{Kept}
 use Rattle.frame_writer.specs.Laid.{Waiting, AreLaid}
 use Rattle.frame_writer.specs.Writing.{IsNew}
 use Rattle.frame_writer.proofs.FrameLaws.{none-new}
-use Rattle.frame_writer.proofs.writer.Writer.new.Goals as goal
+use Rattle.frame_writer.proofs.queue.FrameQueue.new.Goals as goal
 
 pub returns : goal.returns
 returns c =

@@ -1,0 +1,276 @@
+//! Frames that wait until no later main data can reach their areas.
+ghost use Rattle.std.specs.Prelude.{◌≡◌, ℕ, ◌+◌, ◌-◌, ◌<◌, ◌≤◌, ◌↔◌, List, [], ◌∷◌, ◌++◌, length, drop, min, IsTrue, IfOk, OnOk, OnErr};
+ghost use Rattle.frame_header.specs.Tables.{class_of};
+ghost use Rattle.side_info.specs.Side.{SideFits};
+ghost use Rattle.outside.specs.Files.{IsThere};
+ghost use Rattle.outside.specs.Passed.{PassedOn, AppendedPrefix};
+ghost use Rattle.outside.specs.Counts.{OnlyWrites};
+ghost use Rattle.frame_writer.specs.Frames.{held_bytes, first_area, area_in, areas_with, Frame, EndsInArea, IsNextSettled, reach_of, reach_with, AreWritten};
+ghost use Rattle.frame_writer.specs.Writing.{writing, waiting_bytes, bytes_with, IsNew, HandedOn, HandedPart, WritesOn, WritesPart, GoesOn, WriteFailed};
+
+use crate::areas::Areas;
+use crate::frames::{Frame, Kept, add_frame};
+use circular_buffer::HeapCircularBuffer;
+use frame_header::Class;
+use outside::{Failed, Folder, WriteBuffer};
+use std::alloc::{AllocError, Global};
+use std::marker::Model;
+
+/// How many frames may wait.
+const MOST: usize = 256;
+
+/// Frames of one class on their way to a file: those whose main data were laid, and whose areas later main
+/// data may reach. Contracts see the class, the frames that wait and what waits of their areas. The frames
+/// go through a buffer before the file, which is the caller's: what waits in it comes before them.
+#[derive(Drop)]
+pub struct FrameQueue {
+    class: Class,
+    kept: HeapCircularBuffer<Kept>,
+    areas: Areas,
+}
+
+impl Model for FrameQueue {
+    ghost use Rattle.std.specs.Prelude.{◌≡◌, ◌≤◌, length};
+    ghost use Rattle.frame_writer.specs.Frames.{Held, AreOf, areas_in};
+
+    ghost Value = { Held };
+
+    ghost view = { λ w. record { class = w.class; kept = w.kept.items; waiting = w.areas } };
+
+    ghost invariant = { λ w. (w.kept.capacity ≡ 256) × (length w.kept.items ≤ 256)
+        × (areas_in w.kept.items ≡ length w.areas.bytes) × AreOf w.class w.kept.items };
+}
+
+impl FrameQueue {
+    /// No frames of this class. It takes all its memory here.
+    ///
+    /// # Errors
+    /// Where there is no memory.
+    pub fn new(alloc: Global, class: Class) -> Result<FrameQueue, AllocError>
+        ensures { IfOk result (IsNew class) }
+    {
+        Ok(FrameQueue {
+            class,
+            kept: HeapCircularBuffer::with_capacity(alloc, MOST)?,
+            areas: Areas::new(alloc)?,
+        })
+    }
+
+    /// Begins again, with frames of this class. What waits is forgotten.
+    pub fn restart(&mut self, class: Class)
+        ensures { IsNew class self.new }
+    {
+        self.class = class;
+        self.kept.clear();
+        self.areas.clear();
+    }
+
+    /// The class of the frames.
+    pub fn class(&self) -> Class
+        ensures { result ≡ self.now.class }
+    {
+        self.class
+    }
+
+    /// Whether it takes a frame. It does, except after a write that failed, where it may not.
+    pub fn is_ready(&self) -> bool
+        ensures { IsTrue result ↔ (IsNextSettled self.now → ⊥) }
+    {
+        !self.is_next_settled()
+    }
+
+    /// How many bytes before its own area the main data of the next frame may begin.
+    pub fn reach(&self) -> u32
+        ensures { result ≡ reach_of self.now }
+    {
+        self.areas.free().min(self.class.window())
+    }
+
+    /// How many frames wait, at most 256.
+    pub fn count(&self) -> usize
+        ensures count { result ≡ length self.now.kept }
+        ensures most { result ≤ 256 }
+    {
+        self.kept.len()
+    }
+
+    /// Adds a frame, lays its main data, and hands on what no later main data can reach.
+    ///
+    /// # Errors
+    /// Where a write failed. Then of the bytes that waited, and of the frame after them, a prefix was
+    /// appended that no later main data can reach.
+    #[inline]
+    pub fn frame<D: Folder>(
+        &mut self,
+        frame: &Frame<'_>,
+        folder: &mut D,
+        name: &str,
+        unsent: &mut WriteBuffer,
+    ) -> Result<(), Failed>
+        requires there { IsThere (D.files folder.old) name.now }
+        requires class { class_of frame.now.kept.header ≡ self.old.class }
+        requires fits { SideFits self.old.class frame.now.kept.side }
+        requires start { frame.now.kept.side.main_data_begin ≤ self.old.waiting.free }
+        requires within { EndsInArea frame.now }
+        requires few { length frame.now.payload ≤ 2048 }
+        requires unsettled { IsNextSettled self.old → ⊥ }
+        ensures written { OnOk result (WritesOn name.now frame.now (writing self.old unsent.old)
+            (writing self.new unsent.new) (D.files folder.old) (D.files folder.new)) }
+        ensures passed { OnOk result (PassedOn name.now
+            (bytes_with (writing self.old unsent.old) frame.now)
+            (waiting_bytes (writing self.new unsent.new))
+            (D.files folder.old) (D.files folder.new)) }
+        ensures part { OnErr result (WritesPart name.now frame.now (writing self.old unsent.old)
+            self.new (D.files folder.old) (D.files folder.new)) }
+        ensures prefix { OnErr result (AppendedPrefix name.now
+            (bytes_with (writing self.old unsent.old) frame.now)
+            (D.files folder.old) (D.files folder.new)) }
+        ensures class { self.new.class ≡ self.old.class }
+        ensures reach { reach_of self.new ≡ reach_with self.old.class frame.now }
+        ensures unsettled { OnOk result (IsNextSettled self.new → ⊥) }
+        ensures failed { OnErr result (WriteFailed name.now (D.counts folder.old)
+            (D.counts folder.new)) }
+        ensures done { OnOk result (D.counts folder.new ≡ D.counts folder.old) }
+        ensures counts { OnlyWrites (D.counts folder.old) (D.counts folder.new) }
+    {
+        self.push(frame);
+        self.hand_on(folder, name, unsent)
+    }
+
+    /// Hands on all that waits, to the buffer before the file.
+    ///
+    /// # Errors
+    /// Where a write failed. Then a prefix of what waited was appended.
+    pub fn finish<D: Folder>(
+        &mut self,
+        folder: &mut D,
+        name: &str,
+        unsent: &mut WriteBuffer,
+    ) -> Result<(), Failed>
+        requires there { IsThere (D.files folder.old) name.now }
+        ensures passed { OnOk result (PassedOn name.now (unsent.old ++ held_bytes self.old)
+            unsent.new (D.files folder.old) (D.files folder.new)) }
+        ensures none { OnOk result (self.new.kept ≡ []) }
+        ensures prefix { OnErr result (AppendedPrefix name.now (unsent.old ++ held_bytes self.old)
+            (D.files folder.old) (D.files folder.new)) }
+        ensures failed { OnErr result (WriteFailed name.now (D.counts folder.old)
+            (D.counts folder.new)) }
+        ensures done { OnOk result (D.counts folder.new ≡ D.counts folder.old) }
+        ensures counts { OnlyWrites (D.counts folder.old) (D.counts folder.new) }
+    {
+        while self.count() > 0 {
+            self.take_first(folder, name, unsent)?;
+        }
+        Ok(())
+    }
+
+    /// Hands on frames for as long as the first is settled.
+    #[inline]
+    fn hand_on<D: Folder>(
+        &mut self,
+        folder: &mut D,
+        name: &str,
+        unsent: &mut WriteBuffer,
+    ) -> Result<(), Failed>
+        requires there { IsThere (D.files folder.old) name.now }
+        ensures passed { OnOk result (GoesOn name.now (writing self.old unsent.old)
+            (writing self.new unsent.new) (D.files folder.old) (D.files folder.new)) }
+        ensures moved { OnOk result (HandedOn self.old self.new) }
+        ensures part { OnErr result (HandedPart name.now (writing self.old unsent.old)
+            self.new (D.files folder.old) (D.files folder.new)) }
+        ensures class { self.new.class ≡ self.old.class }
+        ensures reach { reach_of self.new ≡ reach_of self.old }
+        ensures unsettled { OnOk result (IsNextSettled self.new → ⊥) }
+        ensures prefix { OnErr result (AppendedPrefix name.now (unsent.old ++ held_bytes self.old)
+            (D.files folder.old) (D.files folder.new)) }
+        ensures failed { OnErr result (WriteFailed name.now (D.counts folder.old)
+            (D.counts folder.new)) }
+        ensures done { OnOk result (D.counts folder.new ≡ D.counts folder.old) }
+        ensures counts { OnlyWrites (D.counts folder.old) (D.counts folder.new) }
+    {
+        while self.is_next_settled() {
+            self.take_first(folder, name, unsent)?;
+        }
+        Ok(())
+    }
+
+    /// Adds a frame, and lays its main data into the areas that wait and its own: they begin main_data_begin bytes
+    /// before its own area (ISO/IEC 11172-3 and 13818-3, 2.4.2.7). There is always room for it where the first frame
+    /// that waits isn't settled: at most 255 frames wait then (`few_frames_wait`).
+    #[inline]
+    fn push(&mut self, frame: &Frame<'_>)
+        requires class { class_of frame.now.kept.header ≡ self.old.class }
+        requires fits { SideFits self.old.class frame.now.kept.side }
+        requires start { frame.now.kept.side.main_data_begin ≤ self.old.waiting.free }
+        requires within { EndsInArea frame.now }
+        requires few { length frame.now.payload ≤ 2048 }
+        requires unsettled { IsNextSettled self.old → ⊥ }
+        ensures class { self.new.class ≡ self.old.class }
+        ensures kept { self.new.kept ≡ self.old.kept ++ frame.now.kept ∷ [] }
+        ensures free { self.new.waiting.free + length frame.now.payload ≡
+            frame.now.kept.side.main_data_begin + area_in frame.now.kept }
+        ensures put { self.new.waiting.bytes ≡ areas_with self.old.waiting frame.now }
+        ensures written { (taken : List ℕ) (fs : List Frame) → AreWritten taken self.old fs →
+            AreWritten taken self.new (fs ++ frame.now ∷ []) }
+    {
+        let Kept { header, side } = frame.kept;
+        let _ = &header.slot;
+        let area = header.area();
+        self.kept.push_back(frame.kept);
+        self.areas
+            .push(u32::from(side.main_data_begin), area, &frame.payload);
+    }
+
+    /// Takes the first frame that waits, and adds its bytes to what waits for the file: its header, its check word where
+    /// it is protected, its side information and its area. Where it was settled, main data can begin afterwards wherever
+    /// they could before.
+    ///
+    /// # Errors
+    /// Where a write failed. Then a prefix was appended of what waited and the frame.
+    fn take_first<D: Folder>(
+        &mut self,
+        folder: &mut D,
+        name: &str,
+        unsent: &mut WriteBuffer,
+    ) -> Result<(), Failed>
+        requires there { IsThere (D.files folder.old) name.now }
+        requires some { 0 < length self.old.kept }
+        ensures passed { OnOk result (GoesOn name.now (writing self.old unsent.old)
+            (writing self.new unsent.new) (D.files folder.old) (D.files folder.new)) }
+        ensures moved { HandedOn self.old self.new }
+        ensures part { OnErr result (HandedPart name.now (writing self.old unsent.old)
+            self.new (D.files folder.old) (D.files folder.new)) }
+        ensures prefix { OnErr result (AppendedPrefix name.now (unsent.old ++ held_bytes self.old)
+            (D.files folder.old) (D.files folder.new)) }
+        ensures class { self.new.class ≡ self.old.class }
+        ensures kept { self.new.kept ≡ drop 1 self.old.kept }
+        ensures left { self.new.waiting.bytes ≡ drop
+            (first_area self.old.kept) self.old.waiting.bytes }
+        ensures free { self.new.waiting.free ≡ min self.old.waiting.free
+            (length self.new.waiting.bytes) }
+        ensures reach { IsNextSettled self.old → reach_of self.new ≡ reach_of self.old }
+        ensures failed { OnErr result (WriteFailed name.now (D.counts folder.old)
+            (D.counts folder.new)) }
+        ensures done { OnOk result (D.counts folder.new ≡ D.counts folder.old) }
+        ensures counts { OnlyWrites (D.counts folder.old) (D.counts folder.new) }
+    {
+        let first = self.kept.pop_front().unwrap();
+        let area = first.header.area() as usize;
+        let added = add_frame(&first, &self.areas, folder, name, unsent);
+        self.areas.drop_first(area);
+        added
+    }
+
+    /// Whether a frame waits whose area no later main data can reach. These begin at most 511 bytes before
+    /// their frame's own area in MPEG-1, 255 in MPEG-2 and MPEG-2.5, and not before the end of the last
+    /// main data.
+    #[inline]
+    fn is_next_settled(&self) -> bool
+        ensures { IsTrue result ↔ IsNextSettled self.now }
+    {
+        match self.kept.front() {
+            None => false,
+            Some(kept) => kept.header.area() as usize <= self.areas.settled(self.class.window()),
+        }
+    }
+}
