@@ -9,9 +9,8 @@ mod tags;
 mod wrong_rows;
 
 use command_runs::running::Program;
-use in_memory::MemSink;
 use mp3_cli::run;
-use outside::Folder;
+use outside::{Folder, MemSink};
 use std::alloc::Global;
 
 /// The program that is tested.

@@ -29,7 +29,7 @@ use command_rows::lines::{last_said, said};
 use command_rows::stop::{Stop, none_of};
 use command_runs::differences::{Found, other_end};
 use command_runs::running::{Ended, Program, run_failing};
-use in_memory::MemFolder;
+use outside::MemFolder;
 use std::alloc::{AllocError, AllocFailed, Global};
 use test_files::named::FILES;
 use test_files::texts::{Named, define};

@@ -9,7 +9,7 @@ use command_rows::lines::{last_said, parted, said};
 use command_rows::stop::Stop;
 use command_runs::differences::{Found, wants_memory};
 use command_runs::running::{Ended, Program, run_failing};
-use in_memory::MemFolder;
+use outside::MemFolder;
 use std::alloc::Global;
 use test_files::texts::{Named, number_of};
 

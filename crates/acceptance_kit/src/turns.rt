@@ -17,7 +17,7 @@ use command_rows::progress::{Progress, progress_of};
 use command_rows::stop::Stop;
 use command_runs::differences::{Found, wants_memory};
 use command_runs::running::{Ended, Program, run_failing};
-use in_memory::{Call, MemFolder};
+use outside::{Call, MemFolder};
 use std::alloc::Global;
 use test_files::texts::{Named, number_of};
 

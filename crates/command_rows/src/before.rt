@@ -4,7 +4,7 @@ use crate::lines::{outputs_of, parted, said};
 use crate::stop::Stop;
 use command_runs::differences::Found;
 use command_runs::running::{put, reserve};
-use in_memory::{Call, MemFolder};
+use outside::{Call, MemFolder};
 use std::alloc::Global;
 use test_files::texts::{Named, bytes_of_words, number_of};
 

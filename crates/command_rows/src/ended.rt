@@ -5,7 +5,7 @@ use crate::lines::{last_said, parted, said};
 use crate::stop::{Stop, none_of};
 use command_runs::differences::{Found, difference_of_sent, wants_memory};
 use command_runs::running::Ended;
-use in_memory::MemFolder;
+use outside::MemFolder;
 use std::alloc::{AllocError, Global};
 use test_files::texts::{Named, number_of};
 

@@ -3,7 +3,7 @@
 use crate::lines::{names_file, outputs_of, parted};
 use crate::stop::{Stop, none_of};
 use command_runs::differences::{Found, bytes_differ};
-use in_memory::MemFolder;
+use outside::MemFolder;
 use std::alloc::Global;
 use test_files::texts::{Named, bytes_of_words};
 

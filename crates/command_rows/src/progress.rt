@@ -2,7 +2,7 @@
 
 use crate::lines::parted;
 use crate::stop::Stop;
-use in_memory::MemFolder;
+use outside::MemFolder;
 use std::alloc::Global;
 use test_files::texts::{Named, bytes_of_words};
 

@@ -1,7 +1,6 @@
 //! Commands in words, over a folder and sinks in memory.
 
-use in_memory::{MemFolder, MemSink};
-use outside::Folder;
+use outside::{Folder, MemFolder, MemSink};
 use std::alloc::{AllocError, Global};
 
 /// More than any line of these tests takes.

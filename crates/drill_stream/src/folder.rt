@@ -1,10 +1,10 @@
 //! A folder in memory with a stream and room for the file that it is packed into.
 ghost use Rattle.std.specs.Prelude.{◌≡◌, ◌+◌, ◌*◌, ◌≤◌, Some, IfOk};
-ghost use Rattle.in_memory.specs.Memory.{contents_of, room_of};
+ghost use Rattle.outside.specs.Memory.{contents_of, room_of};
 ghost use Rattle.drill_stream.specs.Drill.{drill_stream};
 
 use crate::stream::write_stream;
-use in_memory::MemFolder;
+use outside::MemFolder;
 use std::alloc::{AllocError, Global};
 
 /// The length of a frame of the stream in bytes.

@@ -3,8 +3,7 @@
 //! A test owns its folder and ends in one place, and what it asserts is in small functions that borrow it: that costs the check least.
 mod real;
 
-use in_memory::{Call, MemFolder};
-use outside::{Failed, Folder, read_full, write_all};
+use outside::{Call, Failed, Folder, MemFolder, read_full, write_all};
 use std::alloc::AllocError;
 use std::process::Abort;
 use std::test::Fail;

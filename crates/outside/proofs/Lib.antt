@@ -5,3 +5,5 @@ pub mod FeedLaws
 pub mod PassedLaws
 pub mod PassLaws
 pub mod SentLaws
+mod SlotsLaws
+pub mod ShortLaws

@@ -5,3 +5,8 @@ pub mod Feed
 pub mod Passed
 pub mod Exact
 pub mod Pass
+pub mod Held
+pub mod Plan
+pub mod Slots
+pub mod Memory
+pub mod Short

@@ -1,11 +1,12 @@
-//! The outside of a program: a folder of files and a sink of bytes, as traits with a written meaning, and
-//! buffers before them. `in_memory` has both for tests, and `on_disk` over real files and streams.
+//! The outside of a program: a folder of files and a sink of bytes, as traits with a written meaning, both in memory,
+//! for tests, and buffers before them. `on_disk` has both over real files and streams.
 #![tactic(auto)]
 
 mod exact;
 mod feed;
 mod folder;
 mod helpers;
+mod memory;
 mod occurrences;
 mod pass;
 mod send_buffer;
@@ -17,6 +18,7 @@ pub use exact::{ReadFault, read_exact};
 pub use feed::Feed;
 pub use folder::{Failed, FindFault, Folder};
 pub use helpers::{read_full, send_all, write_all};
+pub use memory::{Call, MemFolder, MemSink, ShortFolder};
 pub use pass::{Pass, PassFault};
 pub use send_buffer::SendBuffer;
 pub use sink::Sink;

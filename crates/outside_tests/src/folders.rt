@@ -7,8 +7,7 @@ mod sending;
 mod short;
 mod slow;
 
-use in_memory::MemSink;
-use outside::{Failed, send_all};
+use outside::{Failed, MemSink, send_all};
 use std::process::Abort;
 use std::test::Fail;
 

@@ -3,7 +3,7 @@
 //! A test owns its folder and ends in one place, and all else borrows it: at each end of the owner the folder is let go, which
 //! costs the check much.
 
-use in_memory::MemFolder;
+use outside::MemFolder;
 use std::alloc::AllocError;
 
 /// Puts a file without bytes, with room for `room`.

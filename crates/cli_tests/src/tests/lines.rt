@@ -1,8 +1,8 @@
 //! Lines of faults as they are sent.
 use cue_sheet::CueFault;
 use edits::{EditFault, Refusal};
-use in_memory::MemSink;
 use mp3_cli::{Outputs, send_bad_word, send_fault, status};
+use outside::MemSink;
 use std::alloc::{AllocError, AllocGlobal, Global};
 use std::process::Abort;
 use std::test::Fail;

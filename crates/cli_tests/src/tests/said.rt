@@ -1,8 +1,8 @@
 //! Texts that the program says of itself.
 
 use crate::tests::reading::owned;
-use in_memory::{MemFolder, MemSink};
 use mp3_cli::run;
+use outside::{MemFolder, MemSink};
 use std::alloc::{AllocError, Global};
 use std::test::Fail;
 use test_files::table;

@@ -1,6 +1,6 @@
 //! What a survey finds in a file.
 
-use in_memory::MemFolder;
+use outside::MemFolder;
 use std::alloc::{AllocError, Global};
 use sync_survey::{Piece, Survey, SurveyFault, survey};
 

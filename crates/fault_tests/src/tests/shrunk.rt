@@ -1,7 +1,7 @@
 //! Files that are shorter than the folder says.
 
 use super::stretches::Z;
-use in_memory::{MemFolder, ShortFolder};
+use outside::{MemFolder, ShortFolder};
 use std::alloc::{AllocError, Global};
 use std::process::Abort;
 use std::test::Fail;

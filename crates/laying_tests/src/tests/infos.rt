@@ -2,10 +2,9 @@
 //! fields counted by hand from the layout of heads.
 
 use frame_header::{Header, Slot};
-use in_memory::{Call, MemFolder};
 use info_header::Info;
 use laying::{Kept, info_of, kept_fields};
-use outside::{Folder, PassFault};
+use outside::{Call, Folder, MemFolder, PassFault};
 use slot_plan::Placed;
 use std::alloc::{AllocError, Global};
 use std::process::Abort;

@@ -3,8 +3,7 @@ ghost use Rattle.std.specs.Prelude.{◌<◌, ◌≤◌, length, IfOk};
 ghost use Rattle.sync_survey.specs.Faults.{tells};
 ghost use Rattle.sync_survey.specs.Survey.{IsLaidOut};
 
-use in_memory::MemFolder;
-use outside::Folder;
+use outside::{Folder, MemFolder};
 use part_needs::{Parts, one_part_fits};
 use slot_plan::{Keep, Need, Placed, Plan};
 use std::alloc::{AllocError, AllocGlobal};

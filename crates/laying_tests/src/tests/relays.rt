@@ -2,9 +2,8 @@
 //! 381 (ISO/IEC 11172-3, 2.4.3.1), a lead-in at 32 kbit/s 104 and an area of 68.
 ghost use Rattle.std.specs.Prelude.{◌<◌};
 
-use in_memory::MemFolder;
 use laying::{Buffers, Relay, Section, asked_plans, plans_fit};
-use outside::{Folder, Pass, PassFault};
+use outside::{Folder, MemFolder, Pass, PassFault};
 use part_needs::{Parts, one_part_fits};
 use slot_plan::Keep;
 use std::alloc::{AllocError, AllocGlobal, Global};

@@ -1,7 +1,6 @@
 //! A buffer before a sink.
 
-use in_memory::MemSink;
-use outside::{Failed, SendBuffer};
+use outside::{Failed, MemSink, SendBuffer};
 use std::alloc::{AllocError, Global};
 use std::process::Abort;
 use std::test::Fail;

@@ -1,7 +1,6 @@
 //! A folder whose files are shorter than it says.
 
-use in_memory::{MemFolder, ShortFolder};
-use outside::{Failed, Folder, read_full};
+use outside::{Failed, Folder, MemFolder, ShortFolder, read_full};
 use std::alloc::{AllocError, Global};
 use std::process::Abort;
 use std::test::Fail;

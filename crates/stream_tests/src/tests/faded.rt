@@ -3,7 +3,7 @@
 use commands::{EditFault, Refusal};
 use fade_plan::EnvelopeFault;
 use fading::fade;
-use in_memory::MemFolder;
+use outside::MemFolder;
 use std::alloc::{AllocError, Global};
 use std::process::Abort;
 use std::test::Fail;

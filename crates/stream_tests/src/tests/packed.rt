@@ -2,7 +2,7 @@
 //! worked out by hand.
 
 use commands::{EditFault, Refusal};
-use in_memory::MemFolder;
+use outside::MemFolder;
 use packing::{PackMode, pack_with};
 use std::alloc::{AllocError, Global};
 use std::process::Abort;

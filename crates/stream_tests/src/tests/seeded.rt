@@ -3,8 +3,7 @@
 use commands::EditFault;
 use drill::drill;
 use drill_stream::{StreamFault, Summary, send_summary, stream_folder, write_stream};
-use in_memory::{Call, MemFolder, MemSink};
-use outside::Failed;
+use outside::{Call, Failed, MemFolder, MemSink};
 use std::alloc::{AllocError, Global};
 use std::process::Abort;
 use std::test::Fail;

@@ -1,6 +1,6 @@
 //! Damaged files, and what is read of them. All of it was worked out by hand.
 
-use in_memory::MemFolder;
+use outside::MemFolder;
 use salvage::{Damaged, Gap, read_damaged};
 use std::alloc::{AllocError, Global};
 use std::process::Abort;

@@ -2,8 +2,7 @@
 
 use super::untold::Untold;
 use frame_header::{Class, Version};
-use in_memory::{Call, MemFolder};
-use outside::Folder;
+use outside::{Call, Folder, MemFolder};
 use std::alloc::{AllocError, Global};
 use std::process::Abort;
 use std::test::Fail;

@@ -2,8 +2,7 @@
 
 use super::untold::Untold;
 use file_tag::*;
-use in_memory::{Call, MemFolder};
-use outside::Folder;
+use outside::{Call, Folder, MemFolder};
 use std::alloc::{AllocError, AllocGlobal, Global};
 use std::process::Abort;
 use std::test::Fail;

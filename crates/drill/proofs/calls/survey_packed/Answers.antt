@@ -1,6 +1,6 @@
 -- The packed file is there, and it was surveyed.
 use Rattle.std.proofs.Common.{◌<◌, arith}
-use Rattle.in_memory.specs.Memory.{contents_of}
+use Rattle.outside.specs.Memory.{contents_of}
 use Rattle.drill.specs.Drilled.{packed_file}
 use Rattle.drill.proofs.PackedLaws.{packed-there}
 use Rattle.drill.proofs.calls.survey_packed.Goals as goal

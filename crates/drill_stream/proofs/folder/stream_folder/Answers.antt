@@ -3,7 +3,7 @@ use Rattle.std.proofs.Common.{◌≡◌, ◌+◌, ◌*◌, ◌∙◌, ℕ, List,
 use Rattle.std.specs.Prelude.{unwrap_or, bytes_eq}
 use Rattle.std.proofs.lemmas.Map.{update_same}
 use Rattle.outside.specs.Files.{Files, Contents, Holds, Told}
-use Rattle.in_memory.specs.Memory.{contents_of, rooms_of, room_of}
+use Rattle.outside.specs.Memory.{contents_of, rooms_of, room_of}
 use Rattle.outside.proofs.FilesLaws.{bytes_eq_same, written_holds}
 use Rattle.drill_stream.specs.Drill.{drill_stream}
 use Rattle.drill_stream.proofs.folder.stream_folder.Goals as goal

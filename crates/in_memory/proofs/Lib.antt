@@ -1,2 +1,0 @@
-mod SlotsLaws
-pub mod ShortLaws

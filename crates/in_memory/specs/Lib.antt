@@ -1,5 +1,0 @@
-pub mod Held
-pub mod Plan
-pub mod Slots
-pub mod Memory
-pub mod Short

@@ -1,0 +1,105 @@
+-- What a folder and a sink in memory show.
+use Rattle.std.specs.Prelude.{◌≡◌, ◌≢◌, ℕ, ◌+◌, List, [], length, Bool, ◌||◌, not, nat_lt, Option, None, Some, Result, Ok, Err, if◌then◌else◌, max, is_some, unwrap_or, bytes_eq}
+use Rattle.std.specs.Map.{update}
+use Rattle.outside.specs.declared.folder.FindFault.{FindFault}
+use Rattle.outside.specs.declared.folder.FindFault.TheVariants.{Absent, Failed}
+use Rattle.outside.specs.declared.memory.folder.Call.{Call}
+use Rattle.outside.specs.declared.memory.folder.Call.TheVariants.{Find, Read, Create, Write}
+use Rattle.outside.specs.declared.memory.folder.MemFolder.{MemFolder}
+use Rattle.outside.specs.declared.memory.sink.MemSink.{MemSink}
+use Rattle.outside.specs.Counts.{Counts, one_more}
+use Rattle.outside.specs.Files.{Contents}
+use Rattle.outside.specs.Plan.{Plan, is_next_to_fail}
+use Rattle.outside.specs.Slots.{contents_in, rooms_in}
+
+-- the files of a folder
+abbrev pub contents_of : MemFolder → Contents
+contents_of folder = contents_in folder.slots
+
+-- the bytes of a name, none where it isn't there
+abbrev pub bytes_of : MemFolder → List ℕ → List ℕ
+bytes_of folder name = unwrap_or (contents_of folder name) []
+
+-- the room for each name that was put or reserved
+abbrev pub rooms_of : MemFolder → List ℕ → Option ℕ
+rooms_of folder = rooms_in folder.slots
+
+-- the room for a name, 0 where it has none
+abbrev pub room_of : MemFolder → List ℕ → ℕ
+room_of folder name = unwrap_or (rooms_of folder name) 0
+
+-- the name's room is the greater of its old room and this
+abbrev pub with_room : (List ℕ → Option ℕ) → List ℕ → ℕ → List ℕ → Option ℕ
+with_room rooms name room = update bytes_eq rooms name (Some (max (unwrap_or (rooms name) 0) room))
+
+abbrev pub counts_of : MemFolder → Counts
+counts_of folder = folder.tally
+
+abbrev pub plan_of : MemFolder → Call → Plan
+plan_of folder Find = folder.finds
+plan_of folder Read = folder.reads
+plan_of folder Create = folder.creates
+plan_of folder Write = folder.writes
+
+-- how many calls of a kind there were
+abbrev pub calls_made : MemFolder → Call → ℕ
+calls_made folder call = (plan_of folder call).made
+
+-- the numbers of the calls of a kind that are to fail
+abbrev pub calls_to_fail : MemFolder → Call → List ℕ
+calls_to_fail folder call = (plan_of folder call).failing
+
+-- the next call of a kind is on the list of those that are to fail
+abbrev pub is_to_fail : MemFolder → Call → Bool
+is_to_fail folder call = is_next_to_fail (plan_of folder call)
+
+-- one call of a kind was made, and the rooms and what is to fail stay
+pub record Called (old new : MemFolder) (call : Call) : Type 0 where
+  pub made : calls_made new call ≡ one_more (calls_made old call)
+  pub others_made : (other : Call) → other ≢ call → calls_made new other ≡ calls_made old other
+  pub failing : (kind : Call) → calls_to_fail new kind ≡ calls_to_fail old kind
+  pub rooms : rooms_of new ≡ rooms_of old
+
+-- no call was made, nothing was counted, and what is to fail stays
+pub record NotCalled (old new : MemFolder) : Type 0 where
+  pub counts : counts_of new ≡ counts_of old
+  pub made : (kind : Call) → calls_made new kind ≡ calls_made old kind
+  pub failing : (kind : Call) → calls_to_fail new kind ≡ calls_to_fail old kind
+
+-- what `find` answers
+abbrev pub find_answer : MemFolder → List ℕ → Result ℕ FindFault
+find_answer folder name = if is_to_fail folder Find then Err Failed else length_or_absent (contents_of folder name)
+  where
+    length_or_absent : Option (List ℕ) → Result ℕ FindFault
+    length_or_absent None = Err Absent
+    length_or_absent (Some bytes) = Ok (length bytes)
+
+-- a `create` of this name fails
+abbrev pub create_fails : MemFolder → List ℕ → Bool
+create_fails folder name = is_to_fail folder Create || not (is_some (rooms_of folder name))
+
+-- a `write` of these bytes to this name fails
+abbrev pub write_fails : MemFolder → List ℕ → List ℕ → Bool
+write_fails folder name bytes = is_to_fail folder Write || nat_lt (room_of folder name) (length (bytes_of folder name) + length bytes)
+
+-- the bytes of a sink
+abbrev pub bytes_sent : MemSink → List ℕ
+bytes_sent sink = sink.buffer.bytes
+
+abbrev pub sink_room : MemSink → ℕ
+sink_room sink = sink.buffer.room
+
+abbrev pub sink_faults : MemSink → ℕ
+sink_faults sink = sink.faults
+
+-- how many writes there were
+abbrev pub writes_made : MemSink → ℕ
+writes_made sink = sink.writes.made
+
+-- the numbers of the writes that are to fail
+abbrev pub writes_to_fail : MemSink → List ℕ
+writes_to_fail sink = sink.writes.failing
+
+-- a `write` of these bytes to the sink fails
+abbrev pub send_fails : MemSink → List ℕ → Bool
+send_fails sink bytes = is_next_to_fail sink.writes || nat_lt (sink_room sink) (length (bytes_sent sink) + length bytes)

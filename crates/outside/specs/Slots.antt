@@ -1,0 +1,22 @@
+-- What a map of names holds, and the room that it has for each.
+use Rattle.std.specs.Prelude.{ℕ, List, Option, Some, None, option_map, if◌then◌else◌}
+use Rattle.std.specs.BTreeMap.{get_by_text}
+use Rattle.outside.specs.declared.memory.slots.Slot.{Slot}
+use Rattle.outside.specs.declared.memory.slots.Slots.{Slots}
+use Rattle.outside.specs.Files.{Contents}
+
+-- the bytes of a slot, where a file is there
+abbrev pub content_of : Slot → Option (List ℕ)
+content_of slot = if slot.there then Some slot.buffer.bytes else None
+
+-- the bytes of a slot that may be missing
+abbrev pub content_in : Option Slot → Option (List ℕ)
+content_in None = None
+content_in (Some slot) = content_of slot
+
+abbrev pub contents_in : Slots → Contents
+contents_in slots = λ name. content_in (get_by_text slots.by_name name)
+
+-- the room for each name that has one
+abbrev pub rooms_in : Slots → List ℕ → Option ℕ
+rooms_in slots = λ name. option_map (λ slot. slot.buffer.room) (get_by_text slots.by_name name)

@@ -1,0 +1,13 @@
+//! A folder and a sink in memory, any call of which can be made to fail, and a folder whose files become shorter while
+//! they are read.
+
+mod buffer;
+mod folder;
+mod schedule;
+mod short;
+mod sink;
+mod slots;
+
+pub use folder::{Call, MemFolder};
+pub use short::ShortFolder;
+pub use sink::MemSink;

@@ -1,0 +1,285 @@
+//! A folder in memory, for tests.
+ghost use Rattle.std.specs.Prelude.{◌≡◌, ◌≢◌, ℕ, ◌+◌, ◌-◌, ◌<◌, ◌≤◌, [], ◌∷◌, ◌++◌, List, None, Some, Ok, Err, length, take, drop, min, IfOk, OnOk, OnErr, IsErrOf, is_err, option_copied, if◌then◌else◌, ◌==◌, ◌&&◌, ◌⊎◌, nat_lt};
+ghost use Rattle.outside.specs.Files.{Told, with_file, emptied, appended, FailsToCreate, Holds, IsThere, IsMissing, AreOctets};
+ghost use Rattle.outside.specs.Counts.{none_counted, with_miss, with_end, with_read_fault, with_write_fault, OnlyReads, OnlyWrites, NothingFailed, HappenedTo, EndedAt};
+
+use crate::folder::{Failed, FindFault, Folder};
+use crate::memory::schedule::Schedule;
+use crate::memory::slots::{Slot, Slots};
+use crate::tally::Tally;
+use std::alloc::{AllocError, Global};
+
+/// The kinds of calls of a folder.
+#[derive(Clone, Copy, Debug, PartialEq, Eq)]
+pub enum Call {
+    /// `Folder::find`
+    Find,
+    /// `Folder::read`
+    Read,
+    /// `Folder::create`
+    Create,
+    /// `Folder::write`
+    Write,
+}
+
+/// A folder in memory. It tells its files, and a call of its trait takes no memory: each name has a room in
+/// bytes, for which `put` and `reserve` take the memory. A call of the trait fails exactly if it is on the
+/// list of calls that are to fail, if `create` is given a name without a room, or if `write` would make a
+/// file longer than its room.
+#[derive(Drop)]
+pub struct MemFolder {
+    alloc: Global,
+    slots: Slots,
+    // A folder over this one may count in it too.
+    pub(super) tally: Tally,
+    finds: Schedule,
+    reads: Schedule,
+    creates: Schedule,
+    writes: Schedule,
+}
+
+impl MemFolder {
+    ghost use Rattle.outside.specs.Memory.{contents_of, rooms_of, with_room, counts_of, calls_made, calls_to_fail, NotCalled};
+
+    /// A folder without files and rooms, with all counts 0 and nothing that is to fail.
+    pub fn new(alloc: Global) -> Self
+        ensures contents { contents_of result ≡ (λ _. None) }
+        ensures rooms { rooms_of result ≡ (λ _. None) }
+        ensures counts { counts_of result ≡ none_counted }
+        ensures made { (call : Call) → calls_made result call ≡ 0 }
+        ensures failing { (call : Call) → calls_to_fail result call ≡ [] }
+    {
+        MemFolder {
+            alloc,
+            slots: Slots::new(alloc),
+            tally: Tally::new(),
+            finds: Schedule::new(alloc),
+            reads: Schedule::new(alloc),
+            creates: Schedule::new(alloc),
+            writes: Schedule::new(alloc),
+        }
+    }
+
+    /// Makes the name hold these bytes. Its room is then the greater of its old room and their number.
+    ///
+    /// # Errors
+    /// Where there is no memory. Then files and rooms stay.
+    #[tactic(auto, unfolding(crate::specs::Files::with_file))]
+    pub fn put(&mut self, name: &str, bytes: &[u8]) -> Result<(), AllocError>
+        ensures contents { OnOk result (contents_of self.new ≡ with_file
+            (contents_of self.old) name.now bytes.now) }
+        ensures rooms { OnOk result (rooms_of self.new ≡ with_room (rooms_of self.old) name.now
+            (length bytes.now)) }
+        ensures contents_kept { OnErr result (contents_of self.new ≡ contents_of self.old) }
+        ensures rooms_kept { OnErr result (rooms_of self.new ≡ rooms_of self.old) }
+        ensures others { NotCalled self.old self.new }
+    {
+        let room = self.slots.room(name).max(bytes.len() as u64);
+        let slot = Slot::new(self.alloc, room, Some(bytes))?;
+        self.slots.set(self.alloc, name, slot)
+    }
+
+    /// Makes the name's room the greater of its old room and this number of bytes. All files stay.
+    ///
+    /// # Errors
+    /// Where there is no memory. Then the rooms stay.
+    pub fn reserve(&mut self, name: &str, bytes: u64) -> Result<(), AllocError>
+        ensures contents { contents_of self.new ≡ contents_of self.old }
+        ensures rooms { OnOk result (rooms_of self.new ≡ with_room
+            (rooms_of self.old) name.now bytes) }
+        ensures rooms_kept { OnErr result (rooms_of self.new ≡ rooms_of self.old) }
+        ensures others { NotCalled self.old self.new }
+    {
+        let room = self.slots.room(name).max(bytes);
+        let slot = Slot::new(self.alloc, room, self.slots.content(name))?;
+        self.slots.set(self.alloc, name, slot)
+    }
+
+    /// The bytes of the file, or `None` where the name isn't there.
+    pub fn get(&self, name: &str) -> Option<&[u8]>
+        ensures { option_copied result ≡ contents_of self.now name.now }
+    {
+        self.slots.content(name)
+    }
+
+    /// Makes the call of this kind with this number fail. Calls are counted from 1 over the folder's
+    /// whole life, up to `u64::MAX`.
+    ///
+    /// # Errors
+    /// Where there is no memory. Then the list of calls that are to fail stays.
+    pub fn fail(&mut self, call: Call, number: u64) -> Result<(), AllocError>
+        ensures added { OnOk result (calls_to_fail self.new call
+            ≡ calls_to_fail self.old call ++ number ∷ []) }
+        ensures others { (other : Call) → other ≢ call
+            → calls_to_fail self.new other ≡ calls_to_fail self.old other }
+        ensures kept { OnErr result (calls_to_fail self.new call ≡ calls_to_fail self.old call) }
+        ensures made { (kind : Call) → calls_made self.new kind ≡ calls_made self.old kind }
+        ensures counts { counts_of self.new ≡ counts_of self.old }
+        ensures contents { contents_of self.new ≡ contents_of self.old }
+        ensures rooms { rooms_of self.new ≡ rooms_of self.old }
+    {
+        match call {
+            Call::Find => self.finds.fail(number),
+            Call::Read => self.reads.fail(number),
+            Call::Create => self.creates.fail(number),
+            Call::Write => self.writes.fail(number),
+        }
+    }
+}
+
+/// The number of the bytes.
+fn size_of(bytes: &[u8]) -> u64
+    ensures size { result ≡ length bytes.now }
+    // The type says that they are bytes.
+    ensures octets { AreOctets bytes.now }
+{
+    bytes.len() as u64
+}
+
+impl Folder for MemFolder {
+    ghost use Rattle.outside.specs.Memory.{contents_of, bytes_of, counts_of, is_to_fail, find_answer, create_fails, write_fails, Called};
+
+    ghost files = { λ folder. Told (contents_of folder) };
+
+    ghost counts = { λ folder. counts_of folder };
+
+    fn find(&mut self, name: &str) -> Result<u64, FindFault>
+        ensures found { IfOk result (λ n. (bytes : List ℕ)
+            → Holds (Told (contents_of self.old)) name.now bytes → n ≡ length bytes) }
+        ensures there { OnOk result (IsThere (Told (contents_of self.old)) name.now) }
+        ensures octets { OnOk result ((bytes : List ℕ)
+            → Holds (Told (contents_of self.old)) name.now bytes → AreOctets bytes) }
+        ensures missing { IsErrOf result FindFault.Absent
+            → IsMissing (Told (contents_of self.old)) name.now }
+        ensures absent { IsErrOf result FindFault.Absent
+            → HappenedTo name.now (counts_of self.old).misses (counts_of self.new).misses }
+        ensures failed { IsErrOf result FindFault.Failed
+            → HappenedTo name.now (counts_of self.old).read_faults
+            (counts_of self.new).read_faults }
+        ensures files { Told (contents_of self.new) ≡ Told (contents_of self.old) }
+        ensures ends { (counts_of self.new).ends ≡ (counts_of self.old).ends }
+        ensures done { OnOk result (counts_of self.new ≡ counts_of self.old) }
+        ensures counts { OnlyReads (counts_of self.old) (counts_of self.new) }
+        ensures exact { result ≡ find_answer self.old name.now }
+        ensures called { Called self.old self.new Call.Find }
+        ensures absent_counts { IsErrOf result FindFault.Absent
+            → counts_of self.new ≡ with_miss name.now (counts_of self.old) }
+        ensures failed_counts { IsErrOf result FindFault.Failed
+            → counts_of self.new ≡ with_read_fault name.now (counts_of self.old) }
+    {
+        if self.finds.next_fails() {
+            self.tally.count_read_fault(name);
+            return Err(FindFault::Failed);
+        }
+        match self.slots.content(name) {
+            Some(content) => Ok(size_of(content)),
+            None => {
+                self.tally.count_miss(name);
+                Err(FindFault::Absent)
+            }
+        }
+    }
+
+    fn read(&mut self, name: &str, at: u64, into: &mut [u8]) -> Result<usize, Failed>
+        requires { IsThere (Told (contents_of self.old)) name.now }
+        ensures bound { IfOk result (λ k. k ≤ length into.old) }
+        ensures bytes { IfOk result (λ k. (bytes : List ℕ)
+            → Holds (Told (contents_of self.old)) name.now bytes
+            → take k into.new ≡ take k (drop at bytes)) }
+        ensures rest { IfOk result (λ k. drop k into.new ≡ drop k into.old) }
+        ensures end { IfOk result (λ k. (bytes : List ℕ)
+            → Holds (Told (contents_of self.old)) name.now bytes → k ≡ 0 → (length into.old ≡ 0)
+            ⊎ (length bytes ≤ at)) }
+        ensures within { IfOk result (λ k. (bytes : List ℕ)
+            → Holds (Told (contents_of self.old)) name.now bytes → k ≤ length bytes - at) }
+        ensures ended { IfOk result (λ k. k ≡ 0 → 0 < length into.old
+            → EndedAt name.now at (counts_of self.old).ends (counts_of self.new).ends) }
+        ensures failed { OnErr result (HappenedTo name.now (counts_of self.old).read_faults
+            (counts_of self.new).read_faults) }
+        ensures files { Told (contents_of self.new) ≡ Told (contents_of self.old) }
+        ensures got { IfOk result (λ k. (0 < k) ⊎ (length into.old ≡ 0)
+            → counts_of self.new ≡ counts_of self.old) }
+        ensures done { OnOk result (NothingFailed (counts_of self.old) (counts_of self.new)) }
+        ensures counts { OnlyReads (counts_of self.old) (counts_of self.new) }
+        ensures fails { is_err result ≡ is_to_fail self.old Call.Read }
+        ensures whole { IfOk result (λ k. k ≡ min (length into.old)
+            (length (bytes_of self.old name.now) - at)) }
+        ensures called { Called self.old self.new Call.Read }
+        ensures kept { OnErr result (into.new ≡ into.old) }
+        ensures read_counts { IfOk result
+            (λ k. counts_of self.new ≡ (if k == 0 && nat_lt 0 (length into.old)
+            then with_end name.now at (counts_of self.old) else counts_of self.old)) }
+        ensures failed_counts { OnErr result
+            (counts_of self.new ≡ with_read_fault name.now (counts_of self.old)) }
+    {
+        if self.reads.next_fails() {
+            self.tally.count_read_fault(name);
+            return Err(Failed);
+        }
+        let content = self.slots.content(name).unwrap_or(&[]);
+        let count = copy_from(content, at, into);
+        self.tally.count_read(name, at, count, into.len());
+        Ok(count)
+    }
+
+    fn create(&mut self, name: &str) -> Result<(), Failed>
+        ensures created { OnOk result (Told (contents_of self.new) ≡ emptied
+            (Told (contents_of self.old)) name.now) }
+        ensures kept { OnErr result (FailsToCreate name.now (Told (contents_of self.old))
+            (Told (contents_of self.new))) }
+        ensures stays { OnErr result (contents_of self.new ≡ contents_of self.old) }
+        ensures failed { OnErr result (HappenedTo name.now (counts_of self.old).write_faults
+            (counts_of self.new).write_faults) }
+        ensures done { OnOk result (counts_of self.new ≡ counts_of self.old) }
+        ensures counts { OnlyWrites (counts_of self.old) (counts_of self.new) }
+        ensures fails { is_err result ≡ create_fails self.old name.now }
+        ensures called { Called self.old self.new Call.Create }
+        ensures failed_counts { OnErr result
+            (counts_of self.new ≡ with_write_fault name.now (counts_of self.old)) }
+    {
+        if self.creates.next_fails() || !self.slots.create(name) {
+            self.tally.count_write_fault(name);
+            return Err(Failed);
+        }
+        Ok(())
+    }
+
+    fn write(&mut self, name: &str, bytes: &[u8]) -> Result<usize, Failed>
+        requires { IsThere (Told (contents_of self.old)) name.now }
+        ensures bound { IfOk result (λ k. k ≤ length bytes.now) }
+        ensures some { IfOk result (λ k. 0 < length bytes.now → 0 < k) }
+        ensures written { IfOk result (λ k. Told (contents_of self.new) ≡ appended
+            (Told (contents_of self.old)) name.now (take k bytes.now)) }
+        ensures kept { OnErr result (Told (contents_of self.new) ≡ Told (contents_of self.old)) }
+        ensures failed { OnErr result (HappenedTo name.now (counts_of self.old).write_faults
+            (counts_of self.new).write_faults) }
+        ensures done { OnOk result (counts_of self.new ≡ counts_of self.old) }
+        ensures counts { OnlyWrites (counts_of self.old) (counts_of self.new) }
+        ensures fails { is_err result ≡ write_fails self.old name.now bytes.now }
+        ensures whole { IfOk result (λ k. k ≡ length bytes.now) }
+        ensures called { Called self.old self.new Call.Write }
+        ensures failed_counts { OnErr result
+            (counts_of self.new ≡ with_write_fault name.now (counts_of self.old)) }
+    {
+        if self.writes.next_fails() || !self.slots.append(name, bytes) {
+            self.tally.count_write_fault(name);
+            return Err(Failed);
+        }
+        Ok(bytes.len())
+    }
+}
+
+// Copies the bytes from the offset `at` on, as many as there are and fit, and answers how many.
+fn copy_from(content: &[u8], at: u64, into: &mut [u8]) -> usize
+    ensures count { result ≡ min (length into.old) (length content.now - at) }
+    ensures front { take result into.new ≡ take result (drop at content.now) }
+    ensures rest { drop result into.new ≡ drop result into.old }
+{
+    if at >= content.len() as u64 {
+        return 0;
+    }
+    let rest = &content[at as usize..];
+    let count = rest.len().min(into.len());
+    into[..count].copy_from_slice(&rest[..count]);
+    count
+}

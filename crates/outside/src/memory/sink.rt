@@ -1,0 +1,112 @@
+//! A sink in memory, for tests.
+ghost use Rattle.std.specs.Prelude.{◌≡◌, ◌<◌, ◌≤◌, [], ◌∷◌, ◌++◌, Some, length, take, max, IfOk, OnOk, OnErr, is_err};
+ghost use Rattle.outside.specs.Files.{sent_more};
+ghost use Rattle.outside.specs.Counts.{HasCause, one_more};
+
+use crate::folder::Failed;
+use crate::memory::buffer::Buffer;
+use crate::memory::schedule::Schedule;
+use crate::sink::Sink;
+use std::alloc::{AllocError, Global};
+
+/// A sink in memory. It tells its bytes, and a `write` takes no memory: the sink has a room in bytes, for
+/// which `reserve` takes the memory. A `write` fails exactly if it is on the list of those that are to
+/// fail, or if the sink would then have more bytes than room.
+#[derive(Drop)]
+pub struct MemSink {
+    alloc: Global,
+    buffer: Buffer,
+    faults: u64,
+    writes: Schedule,
+}
+
+impl MemSink {
+    ghost use Rattle.outside.specs.Memory.{bytes_sent, sink_room, sink_faults, writes_made, writes_to_fail};
+
+    /// A sink without bytes and room, with count 0 and nothing that is to fail.
+    pub fn new(alloc: Global) -> Self
+        ensures sent { bytes_sent result ≡ [] }
+        ensures room { sink_room result ≡ 0 }
+        ensures faults { sink_faults result ≡ 0 }
+        ensures made { writes_made result ≡ 0 }
+        ensures failing { writes_to_fail result ≡ [] }
+    {
+        MemSink {
+            alloc,
+            buffer: Buffer::new(alloc),
+            faults: 0,
+            writes: Schedule::new(alloc),
+        }
+    }
+
+    /// Makes the room the greater of the old room and this number of bytes. The sink's bytes stay.
+    ///
+    /// # Errors
+    /// Where there is no memory. Then the room stays.
+    pub fn reserve(&mut self, bytes: u64) -> Result<(), AllocError>
+        ensures room { OnOk result (sink_room self.new ≡ max (sink_room self.old) bytes) }
+        ensures room_kept { OnErr result (sink_room self.new ≡ sink_room self.old) }
+        ensures sent { bytes_sent self.new ≡ bytes_sent self.old }
+        ensures faults { sink_faults self.new ≡ sink_faults self.old }
+        ensures made { writes_made self.new ≡ writes_made self.old }
+        ensures failing { writes_to_fail self.new ≡ writes_to_fail self.old }
+    {
+        let room = self.buffer.room().max(bytes);
+        self.buffer = Buffer::with_room(self.alloc, room, self.buffer.bytes())?;
+        Ok(())
+    }
+
+    /// Makes the `write` with this number fail. Writes are counted from 1 over the sink's whole life.
+    ///
+    /// # Errors
+    /// Where there is no memory. Then the list of writes that are to fail stays.
+    pub fn fail(&mut self, number: u64) -> Result<(), AllocError>
+        ensures added { OnOk result (writes_to_fail self.new ≡ writes_to_fail self.old ++ number
+            ∷ []) }
+        ensures kept { OnErr result (writes_to_fail self.new ≡ writes_to_fail self.old) }
+        ensures sent { bytes_sent self.new ≡ bytes_sent self.old }
+        ensures room { sink_room self.new ≡ sink_room self.old }
+        ensures faults { sink_faults self.new ≡ sink_faults self.old }
+        ensures made { writes_made self.new ≡ writes_made self.old }
+    {
+        self.writes.fail(number)
+    }
+
+    /// The sink's bytes.
+    pub fn sent(&self) -> &[u8]
+        ensures { result.now ≡ bytes_sent self.now }
+    {
+        self.buffer.bytes()
+    }
+}
+
+impl Sink for MemSink {
+    ghost use Rattle.outside.specs.Memory.{bytes_sent, sink_room, sink_faults, writes_made, writes_to_fail, send_fails};
+
+    ghost sent = { λ sink. Some (bytes_sent sink) };
+
+    ghost faults = { λ sink. sink_faults sink };
+
+    fn write(&mut self, bytes: &[u8]) -> Result<usize, Failed>
+        ensures bound { IfOk result (λ k. k ≤ length bytes.now) }
+        ensures some { IfOk result (λ k. 0 < length bytes.now → 0 < k) }
+        ensures written { IfOk result (λ k. Some (bytes_sent self.new) ≡ sent_more
+            (Some (bytes_sent self.old)) (take k bytes.now)) }
+        ensures kept { OnErr result (Some (bytes_sent self.new) ≡ Some (bytes_sent self.old)) }
+        ensures cause { HasCause (sink_faults self.old) (sink_faults self.new) result }
+        ensures fails { is_err result ≡ send_fails self.old bytes.now }
+        ensures whole { IfOk result (λ k. k ≡ length bytes.now) }
+        ensures room { sink_room self.new ≡ sink_room self.old }
+        ensures made { writes_made self.new ≡ one_more (writes_made self.old) }
+        ensures failing { writes_to_fail self.new ≡ writes_to_fail self.old }
+        ensures written_faults { OnOk result (sink_faults self.new ≡ sink_faults self.old) }
+        ensures failed_faults { OnErr result
+            (sink_faults self.new ≡ one_more (sink_faults self.old)) }
+    {
+        if self.writes.next_fails() || !self.buffer.append(bytes) {
+            self.faults = self.faults.saturating_add(1);
+            return Err(Failed);
+        }
+        Ok(bytes.len())
+    }
+}
