@@ -169,9 +169,9 @@ impl Side {
     }
 
     /// The length of the frame's main data in bytes, rounded up.
-    pub fn payload_bytes(&self) -> u16
+    pub fn payload_bytes(&self) -> u32
         ensures { result ≡ payload_bytes self.now }
     {
-        self.all_bits().div_ceil(8) as u16
+        self.all_bits().div_ceil(8)
     }
 }
