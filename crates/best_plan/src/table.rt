@@ -78,7 +78,7 @@ pub(crate) fn table_of<P: Policy>(
         let areas = areas_of(need, policy);
         append_frame(
             window,
-            need.bytes as u32,
+            need.bytes,
             areas.as_slice(),
             &mut sums,
             &mut places,

@@ -63,7 +63,7 @@ pub(crate) fn walk<P: Policy>(
         places.truncate(from);
         let frame = frame_at(need, place, free, policy);
         let area = area_with(need, frame.slot);
-        free = free_behind(window, free, need.bytes as u32, area);
+        free = free_behind(window, free, need.bytes, area);
         placed.push(frame)?;
     }
     Ok(())

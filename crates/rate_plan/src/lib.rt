@@ -4,7 +4,6 @@
 
 mod fault;
 mod laws;
-mod menu;
 mod placing;
 mod planning;
 mod reserves;

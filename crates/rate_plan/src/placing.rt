@@ -7,9 +7,8 @@ ghost use Rattle.slot_plan.specs.Reserve.{greatest, needed, needed_behind, opens
 ghost use Rattle.rate_plan.specs.Menus.{from_menu, AreAscending};
 ghost use Rattle.rate_plan.specs.Placing.{Places};
 
-use crate::menu::least_slot;
 use frame_header::{Class, Slot};
-use slot_plan::{Need, Placed, free_behind};
+use slot_plan::{Need, Placed, free_behind, least_slot_among};
 use std::alloc::AllocError;
 
 /// The lead-in with the smallest area that leaves `behind` bytes free after it, where nothing is before it.
@@ -21,7 +20,7 @@ pub(crate) fn lead_in(class: Class, behind: u16, menu: &[Slot]) -> Placed
     ensures begin { result.begin ≡ 0 }
     ensures least { IsLeastSlot behind class false menu.now result.slot }
 {
-    let slot = least_slot(class, false, menu, u64::from(behind));
+    let slot = least_slot_among(class, false, menu, u64::from(behind));
     Placed {
         lead_in: true,
         slot,
@@ -43,7 +42,7 @@ fn place_frame(class: Class, need: &Need, behind: u16, free: u32, menu: &[Slot])
         need.now.header.protected menu.now result.slot }
 {
     let wanted = (u64::from(need.bytes) + u64::from(behind)).saturating_sub(u64::from(free));
-    let slot = least_slot(class, need.header.protected, menu, wanted);
+    let slot = least_slot_among(class, need.header.protected, menu, wanted);
     Placed {
         lead_in: false,
         slot,
@@ -82,7 +81,7 @@ pub(crate) fn place_frames(
         let wanted = behind.pop().unwrap_or(0);
         let frame = place_frame(class, need, wanted, free, menu);
         let area = class.area_of(frame.slot, need.header.protected);
-        free = free_behind(window, free, need.bytes as u32, area);
+        free = free_behind(window, free, need.bytes, area);
         placed.push(frame)?;
     }
     Ok(())

@@ -6,9 +6,8 @@ ghost use Rattle.slot_plan.specs.Reserve.{greatest};
 ghost use Rattle.rate_plan.specs.Menus.{AreAscending};
 ghost use Rattle.rate_plan.specs.Placing.{NeedAtMost, HasReserves};
 
-use crate::menu::largest_area;
 use frame_header::{Class, Slot};
-use slot_plan::{Need, Reserves};
+use slot_plan::{Need, Reserves, largest_area_of};
 use std::alloc::{AllocError, Global};
 
 /// How many bytes have to be free before a frame, if `behind` bytes have to be free after it.
@@ -18,7 +17,7 @@ fn needed_before(class: Class, need: &Need, behind: u16, menu: &[Slot]) -> u64
     ensures { result ≡ (need.now.bytes + behind)
         - greatest (areas_with class need.now.header.protected menu.now) }
 {
-    let largest = largest_area(class, need.header.protected, menu);
+    let largest = largest_area_of(class, need.header.protected, menu);
     (u64::from(need.bytes) + u64::from(behind)).saturating_sub(u64::from(largest))
 }
 

@@ -6,9 +6,8 @@ ghost use Rattle.frame_header.specs.Limits.{most_frames};
 ghost use Rattle.slot_plan.specs.Parts.{AreOfClass};
 ghost use Rattle.rate_plan.specs.Menus.{AreAscending, CanBeLaidFrom, IsUnfit};
 
-use crate::menu::largest_area;
 use frame_header::{Class, Slot};
-use slot_plan::{Need, free_behind};
+use slot_plan::{Need, free_behind, largest_area_of};
 
 /// The first frame up to which the frames have no layout, even after a lead-in; `None` if all have one.
 pub(crate) fn first_unfit(class: Class, needs: &[Need], menu: &[Slot]) -> Option<u32>
@@ -22,13 +21,13 @@ pub(crate) fn first_unfit(class: Class, needs: &[Need], menu: &[Slot]) -> Option
         (λ i. IsUnfit (window_of class.version) menu.now needs.now i) }
 {
     let window = class.window();
-    let mut free = free_behind(window, 0, 0, largest_area(class, false, menu));
+    let mut free = free_behind(window, 0, 0, largest_area_of(class, false, menu));
     for (i, need) in needs.iter().enumerate() {
-        let area = largest_area(class, need.header.protected, menu);
-        if need.bytes as u32 > free + area {
+        let area = largest_area_of(class, need.header.protected, menu);
+        if need.bytes > free + area {
             return Some(i as u32);
         }
-        free = free_behind(window, free, need.bytes as u32, area);
+        free = free_behind(window, free, need.bytes, area);
     }
     None
 }

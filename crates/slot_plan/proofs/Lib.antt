@@ -1,5 +1,6 @@
 pub mod ReserveLaws
 pub mod AreaLaws
+pub mod HalvingLaws
 pub mod PartLaws
 pub mod PlacedLaws
 pub mod CheckedLaws

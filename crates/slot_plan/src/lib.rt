@@ -2,6 +2,7 @@
 //! lexicographically least list of slots that has one.
 #![tactic(auto)]
 
+mod ascending;
 mod laws;
 mod needs;
 mod placing;
@@ -10,6 +11,7 @@ mod policy;
 mod reserves;
 mod slots;
 
+pub use ascending::{largest_area_of, least_slot_among};
 pub use laws::{lead_ins_come_first, plans_are_unique, the_plan_is_the_plan};
 pub use needs::{Need, Placed, Plan};
 pub use plans::{end_of, plan};

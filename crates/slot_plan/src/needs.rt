@@ -3,12 +3,12 @@
 use frame_header::{Header, Slot};
 use info_header::InSlot;
 
-/// A frame that is to be placed: its header, and the length of its main data in bytes. It takes 14 bytes of
+/// A frame that is to be placed: its header, and the length of its main data in bytes. It takes 16 bytes of
 /// memory.
 #[derive(Clone, Copy, Debug, PartialEq, Eq)]
 pub struct Need {
     pub header: Header,
-    pub bytes: u16,
+    pub bytes: u32,
 }
 
 /// A frame of a plan: whether it is a lead-in, its slot, and its main_data_begin in bytes (ISO/IEC 11172-3,

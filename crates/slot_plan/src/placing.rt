@@ -82,7 +82,7 @@ fn place_frames<P: Policy>(
         let frame = place_frame(need, wanted, free, policy);
         let class = need.header.class();
         let area = class.area_of(frame.slot, need.header.protected);
-        free = free_behind(window, free, need.bytes as u32, area);
+        free = free_behind(window, free, need.bytes, area);
         placed.push(frame)?;
     }
     Ok(free)

@@ -6,11 +6,13 @@ ghost use Rattle.frame_header.specs.Slots.{all_slots};
 ghost use Rattle.slot_plan.specs.Parts.{areas_for};
 ghost use Rattle.slot_plan.specs.Reserve.{greatest, IsLeastFor};
 
+use crate::ascending::{largest_area_of, least_slot_among};
 use crate::slots::least_slot_of;
 use arrayvec::ArrayVec;
 use frame_header::{Header, Slot};
 
-/// The slots that a frame may have.
+/// The slots that a frame may have. Only `choices` has to be written; the others follow from it, and a policy
+/// that can answer them without the list may write them too.
 pub trait Policy {
     ghost choices_of: { Self → HeaderFields → List SlotFields };
 
@@ -21,16 +23,24 @@ pub trait Policy {
             (map (λ s. area_of (class_of header.now) s header.now.protected) result.items) }
         ensures own { Contains result.items header.now.slot };
 
-    /// The largest area that a frame with this header may have, in bytes. Its own slot is among the choices.
+    /// The largest area that a frame with this header may have, in bytes: that of the last of the choices.
     fn largest_area(&self, header: &Header) -> u32
         ensures largest { result ≡ greatest (areas_for (choices_of self.now) header.now) }
-        ensures own { Contains (choices_of self.now header.now) header.now.slot };
+        ensures own { Contains (choices_of self.now header.now) header.now.slot }
+    {
+        let choices = self.choices(header);
+        largest_area_of(header.class(), header.protected, choices.as_slice())
+    }
 
     /// Of the slots that a frame with this header may have, the one with the smallest area of at least
-    /// `wanted` bytes.
+    /// `wanted` bytes, which is the first such. The largest area has so many.
     fn least_slot(&self, header: &Header, wanted: u64) -> Slot
         requires { wanted ≤ greatest (areas_for (choices_of self.now) header.now) }
-        ensures { IsLeastFor wanted (choices_of self.now) header.now result };
+        ensures { IsLeastFor wanted (choices_of self.now) header.now result }
+    {
+        let choices = self.choices(header);
+        least_slot_among(header.class(), header.protected, choices.as_slice(), wanted)
+    }
 }
 
 /// Each frame keeps its own slot.

@@ -11,14 +11,14 @@ pub loop-i-init : goal.loop-i-init
 loop-i-init c = record {
   free = c.free_behind-free.ensures.within;
   fit = to-begun c.window-window.result c.args.class c.args.menu.now c.args.needs.now c.free_behind-free.result
-      (c.free_behind-free.ensures.free ∙ ap (λ n. free_behind c.window-window.result 0 0 n) c.largest_area.ensures.largest);
+      (c.free_behind-free.ensures.free ∙ ap (λ n. free_behind c.window-window.result 0 0 n) c.largest_area_of.ensures.largest);
 }
 
 pub returns-then-need-free : goal.returns-then-need-free
 returns-then-need-free c =
     let need = c.index-needs-i.result in
-    let area : c.largest_area-area.result ≡ most_area c.args.menu.now need =
-    c.largest_area-area.ensures.largest ∙ ap (λ n. greatest (areas_with c.args.class n.header.protected c.args.menu.now)) c.need.view_is
+    let area : c.largest_area_of-area.result ≡ most_area c.args.menu.now need =
+    c.largest_area_of-area.ensures.largest ∙ ap (λ n. greatest (areas_with c.args.class n.header.protected c.args.menu.now)) c.need.view_is
     ∙ area-at c.args.class c.args.menu.now c.args.needs.now c.loop-i.i need c.requires.class c.loop-i-test.true c.index-needs-i.is in
     subst (λ n. IsUnfit n c.args.menu.now c.args.needs.now c.loop-i.i) c.window-window.ensures.window
     (to-unfit c.window-window.result c.args.class c.args.menu.now c.args.needs.now c.loop-i.i need c.loop-i.free c.loop-i-test.true c.index-needs-i.is
@@ -27,15 +27,15 @@ returns-then-need-free c =
 pub loop-i-preserved : goal.loop-i-preserved
 loop-i-preserved c =
     let need = c.index-needs-i.result in
-    let area : c.largest_area-area.result ≡ most_area c.args.menu.now need =
-    c.largest_area-area.ensures.largest ∙ ap (λ n. greatest (areas_with c.args.class n.header.protected c.args.menu.now)) c.need.view_is
+    let area : c.largest_area_of-area.result ≡ most_area c.args.menu.now need =
+    c.largest_area_of-area.ensures.largest ∙ ap (λ n. greatest (areas_with c.args.class n.header.protected c.args.menu.now)) c.need.view_is
     ∙ area-at c.args.class c.args.menu.now c.args.needs.now c.loop-i.i need c.requires.class c.loop-i-test.true c.index-needs-i.is in
     record {
       free = c.free_behind-free-in-loop-i.ensures.within;
       fit = to-more c.window-window.result c.args.class c.args.menu.now c.args.needs.now c.loop-i.i need c.loop-i.free c.free_behind-free-in-loop-i.result c.loop-i-test.true c.index-needs-i.is
           (omega (arith, c.if-need-free.false, area, ap (λ n. n.bytes) c.need.view_is))
           (c.free_behind-free-in-loop-i.ensures.free
-          ∙ ap (λ n. free_behind c.window-window.result c.loop-i.free n.bytes c.largest_area-area.result) c.need.view_is
+          ∙ ap (λ n. free_behind c.window-window.result c.loop-i.free n.bytes c.largest_area_of-area.result) c.need.view_is
           ∙ ap (λ n. free_behind c.window-window.result c.loop-i.free need.bytes n) area)
           c.loop-i.invariant.fit;
     }
