@@ -93,7 +93,7 @@ fn pack<'w>(bytes: &[u8], bits: u32, window: &'w mut Window) -> Payload<'w>
 {
     window.clear();
     window.push_area(bytes);
-    window.payload(bytes.len() as u32, 0, bits)
+    window.main_data(bytes.len() as u32, 0, bits)
 }
 
 /// Draws the main data of a frame: `bits` bits, at most 7,136, in as few bytes as hold them, each at most

@@ -12,7 +12,7 @@ ghost use Rattle.drill_stream.specs.Making.{writing_in, IsNext, next_frame, HasM
 
 use crate::draws::Draws;
 use crate::frames::{draw_payload, draw_side, drill_header};
-use frame_writer::{Frame, Kept, Writer};
+use frame_writer::{Frame, FrameQueue, Kept};
 use outside::{Failed, Folder, WriteBuffer};
 use reservoir::Window;
 use std::alloc::{AllocError, Global};
@@ -23,7 +23,7 @@ use std::alloc::{AllocError, Global};
 pub(crate) struct Making {
     pub(crate) draws: Draws,
     window: Window,
-    pub(crate) writer: Writer,
+    pub(crate) writer: FrameQueue,
     pub(crate) unsent: WriteBuffer,
 }
 
@@ -41,7 +41,7 @@ impl Making {
             draws: Draws { state: seed },
             unsent: WriteBuffer::new(alloc)?,
             window: Window::new(alloc)?,
-            writer: Writer::new(alloc, drill_header().class())?,
+            writer: FrameQueue::new(alloc, drill_header().class())?,
         })
     }
 

@@ -3,7 +3,7 @@ ghost use Rattle.std.specs.Prelude.{IfOk};
 ghost use Rattle.laying.specs.Passing.{IsFresh};
 
 use frame_header::Class;
-use frame_writer::Writer;
+use frame_writer::FrameQueue;
 use outside::{Feed, WriteBuffer};
 use reservoir::Window;
 use std::alloc::{AllocError, Global};
@@ -15,7 +15,7 @@ use std::alloc::{AllocError, Global};
 pub struct Buffers {
     pub feed: Feed,
     pub window: Window,
-    pub writer: Writer,
+    pub writer: FrameQueue,
     pub waiting: WriteBuffer,
 }
 
@@ -31,7 +31,7 @@ impl Buffers {
             feed: Feed::new(alloc)?,
             waiting: WriteBuffer::new(alloc)?,
             window: Window::new(alloc)?,
-            writer: Writer::new(alloc, class)?,
+            writer: FrameQueue::new(alloc, class)?,
         })
     }
 }

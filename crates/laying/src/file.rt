@@ -1,5 +1,7 @@
 //! A whole file of the frames of one part.
-ghost use Rattle.std.specs.Prelude.{◌≡◌, ◌++◌, [], IfErr, OnOk};
+ghost use Rattle.std.specs.Prelude.{◌≡◌, ◌++◌, [], IfErr, OnOk, OnErr};
+ghost use Rattle.outside.specs.Files.{IsThere};
+ghost use Rattle.outside.specs.Passed.{PassedOn, AppendedPrefix};
 ghost use Rattle.std.specs.List.{concat};
 ghost use Rattle.outside.specs.Pass.{Writes, WritesPrefix, Appends, AppendsPrefix, route_of, HasPassCause};
 ghost use Rattle.sync_survey.specs.Faults.{tells};
@@ -12,8 +14,32 @@ use crate::section::Section;
 use outside::{Feed, Folder, PassFault, WriteBuffer};
 
 impl<'a> Relay<'a> {
-    /// Adds to what waits for the output the blocks that go before the frames, and an Info frame of these
-    /// bytes. It takes no memory.
+    /// Appends to the output what waits for it, and then these bytes.
+    ///
+    /// # Errors
+    /// `Write` where a write failed.
+    fn send<D: Folder>(
+        &self,
+        folder: &mut D,
+        bytes: &[u8],
+        waiting: &mut WriteBuffer,
+    ) -> Result<(), PassFault>
+        requires { IsThere (D.files folder.old) self.now.pass.output.now }
+        ensures passed { OnOk result (PassedOn self.now.pass.output.now (waiting.old ++ bytes.now)
+            waiting.new (D.files folder.old) (D.files folder.new)) }
+        ensures prefix { OnErr result (AppendedPrefix self.now.pass.output.now
+            (waiting.old ++ bytes.now) (D.files folder.old) (D.files folder.new)) }
+        ensures none { OnOk result (waiting.new ≡ []) }
+        ensures done { OnOk result (D.counts folder.new ≡ D.counts folder.old) }
+        ensures cause { IfErr result (HasPassCause (route_of self.now.pass) (D.files folder.old)
+            (D.counts folder.old) (D.counts folder.new)) }
+    {
+        self.pass.push(folder, bytes, waiting)?;
+        self.pass.finish(folder, waiting)
+    }
+
+    /// Appends to the output what waits for it, the blocks that go before the frames, and an Info frame of
+    /// these bytes, so that what players read first is there before the frames. It takes no memory.
     ///
     /// # Errors
     /// As `write`.
@@ -31,13 +57,14 @@ impl<'a> Relay<'a> {
         ensures prefix { IfErr result (WritesPrefix self.now.pass
             (λ file. concat (front_blocks file (tells self.now.survey.now)) ++ info.now)
             waiting.old (D.files folder.old) (D.files folder.new)) }
+        ensures none { OnOk result (waiting.new ≡ []) }
         ensures done { OnOk result (D.counts folder.new ≡ D.counts folder.old) }
         ensures cause { IfErr result (HasPassCause (route_of self.now.pass) (D.files folder.old)
             (D.counts folder.old) (D.counts folder.new)) }
         ensures ready { OnOk result (IsReady self.now (D.files folder.new) feed.new) }
     {
         self.copy_blocks(folder, true, feed, waiting)?;
-        self.pass.push(folder, info, waiting)
+        self.send(folder, info, waiting)
     }
 
     /// Adds to what waits for the output the file of a section, except the blocks after its frames.

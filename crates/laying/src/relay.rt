@@ -20,7 +20,7 @@ ghost use Rattle.laying.specs.Passing.{Reaches, IsReady, HasArea, IsOver, IsOver
 use crate::buffers::Buffers;
 use crate::section::Section;
 use frame_header::Header;
-use frame_writer::{Frame, Kept, Writer};
+use frame_writer::{Frame, FrameQueue, Kept};
 use outside::{Feed, Folder, Pass, PassFault, WriteBuffer};
 use reservoir::{Payload, Window};
 use side_info::Side;
@@ -54,7 +54,7 @@ impl<'a> Relay<'a> {
         &self,
         folder: &mut D,
         frame: &Frame<'_>,
-        writer: &mut Writer,
+        writer: &mut FrameQueue,
         unsent: &mut WriteBuffer,
     ) -> Result<(), PassFault>
         requires there { IsThere (D.files folder.old) self.now.pass.output.now }
@@ -92,7 +92,7 @@ impl<'a> Relay<'a> {
         folder: &mut D,
         row: &Row,
         place: &Placed,
-        writer: &mut Writer,
+        writer: &mut FrameQueue,
         unsent: &mut WriteBuffer,
     ) -> Result<(), PassFault>
         requires there { IsThere (D.files folder.old) self.now.pass.output.now }
@@ -426,7 +426,7 @@ impl<'a> Relay<'a> {
     pub fn finish<D: Folder>(
         &self,
         folder: &mut D,
-        writer: &mut Writer,
+        writer: &mut FrameQueue,
         unsent: &mut WriteBuffer,
     ) -> Result<(), PassFault>
         requires { IsThere (D.files folder.old) self.now.pass.output.now }
@@ -514,6 +514,6 @@ fn cut_payload<'w>(
         Payload::empty()
     } else {
         let begin = u32::from(row.side.main_data_begin);
-        window.payload(area, begin, row.side.bits())
+        window.main_data(area, begin, row.side.bits())
     }
 }

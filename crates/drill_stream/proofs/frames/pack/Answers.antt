@@ -6,5 +6,5 @@ use Rattle.drill_stream.proofs.frames.pack.Goals as goal
 pub returns-clause-payload : goal.returns-clause-payload
 returns-clause-payload c =
     let octets = c.args.bytes.now in
-    packed-first c.payload.result octets c.args.bits (length octets - length octets - 0) c.payload.ensures.bytes (omega arith) c.requires.size
-    (c.payload.ensures.payload octets (c.push_area.ensures.main [] c.clear.ensures.main))
+    packed-first c.main_data.result octets c.args.bits (length octets - length octets - 0) c.main_data.ensures.bytes (omega arith) c.requires.size
+    (c.main_data.ensures.payload octets (c.push_area.ensures.main [] c.clear.ensures.main))

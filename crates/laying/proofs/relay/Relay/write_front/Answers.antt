@@ -17,18 +17,18 @@ returns-in_err-copy_blocks-clause-prefix g c =
 
 pub returns-clause-written : goal.returns-clause-written
 returns-clause-written g c =
-    on_ok_weaker c.push.result
-    (λ passed. writes_then c.args.self.now.pass c.requires.ready.pass.apart c.in_ok-copy_blocks.ensures.written (writes_piece c.args.self.now.pass (λ file. c.args.info.now) (λ file holds. refl) passed)) c.push.ensures.passed
+    on_ok_weaker c.send.result
+    (λ passed. writes_then c.args.self.now.pass c.requires.ready.pass.apart c.in_ok-copy_blocks.ensures.written (writes_piece c.args.self.now.pass (λ file. c.args.info.now) (λ file holds. refl) passed)) c.send.ensures.passed
 
 pub returns-clause-prefix : goal.returns-clause-prefix
 returns-clause-prefix g c =
-    err_by c.push.result
-    (λ fault part. prefix_then c.args.self.now.pass c.requires.ready.pass.apart c.in_ok-copy_blocks.ensures.written (prefix_piece c.args.self.now.pass (λ file. c.args.info.now) (λ file holds. refl) part)) c.push.ensures.prefix
+    err_by c.send.result
+    (λ fault part. prefix_then c.args.self.now.pass c.requires.ready.pass.apart c.in_ok-copy_blocks.ensures.written (prefix_piece c.args.self.now.pass (λ file. c.args.info.now) (λ file holds. refl) part)) c.send.ensures.prefix
 
 pub returns-clause-cause : goal.returns-clause-cause
 returns-clause-cause g c =
-    causes_behind c.in_ok-copy_blocks.ensures.written _ _ _ _ c.in_ok-copy_blocks.ensures.done c.push.result c.push.ensures.cause
+    causes_behind c.in_ok-copy_blocks.ensures.written _ _ _ _ c.in_ok-copy_blocks.ensures.done c.send.result c.send.ensures.cause
 
 pub returns-clause-ready : goal.returns-clause-ready
 returns-clause-ready g c =
-    on_ok_weaker c.push.result (λ passed. ready-passed c.args.self.now passed c.in_ok-copy_blocks.ensures.ready) c.push.ensures.passed
+    on_ok_weaker c.send.result (λ passed. ready-passed c.args.self.now passed c.in_ok-copy_blocks.ensures.ready) c.send.ensures.passed

@@ -1,0 +1,36 @@
+-- The bytes wait, and then all that waits is written.
+use Rattle.std.proofs.Common.{◌≡◌, ℕ, List, ◌++◌, ap, sym, ◌∙◌, append-nil}
+use Rattle.std.specs.Prelude.{[]}
+use Rattle.outside.specs.Files.{Files, appended}
+use Rattle.outside.specs.Passed.{PassedOn}
+use Rattle.outside.proofs.PassedLaws.{passed_there, passed_then_all, passed_then_prefix}
+use Rattle.outside.proofs.PassLaws.{causes_later}
+use Rattle.frame_writer.proofs.WritingLaws.{ok-map, err-map}
+use Rattle.laying.proofs.relay.Relay.send.Goals as goal
+
+-- some bytes were passed on, and then all others
+all_on : {name before mid after : List ℕ} {f g h : Files} → PassedOn name before mid f g → after ≡ [] → h ≡ appended g name mid →
+    PassedOn name before after f h
+all_on {name} {before} {mid} {after} {f} {g} {h} p none all = record {
+  passed = before;
+  split = sym (ap (λ (xs : List ℕ). before ++ xs) none ∙ append-nil before);
+  files = passed_then_all p all;
+}
+
+pub finish-requires : goal.finish-requires
+finish-requires g c = passed_there c.in_ok-push.ensures.passed
+
+pub returns-clause-passed : goal.returns-clause-passed
+returns-clause-passed g c =
+    ok-map c.finish.result (all_on c.in_ok-push.ensures.passed c.finish.ensures.none) c.finish.ensures.appended
+
+pub returns-clause-prefix : goal.returns-clause-prefix
+returns-clause-prefix g c =
+    err-map c.finish.result (passed_then_prefix c.in_ok-push.ensures.passed) c.finish.ensures.prefix
+
+pub returns-clause-cause : goal.returns-clause-cause
+returns-clause-cause g c =
+    let files = g.D.Folder.files in
+    let on = c.in_ok-push.ensures.passed in
+    causes_later c.finish.result _ (files c.args.folder.now) (files c.push.new.folder) c.args.self.now.pass.output.now on.passed _ _ _
+    on.files c.in_ok-push.ensures.done c.finish.ensures.cause
