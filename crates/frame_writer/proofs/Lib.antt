@@ -2,3 +2,4 @@
 pub mod LaidLaws
 pub mod FrameLaws
 pub mod WritingLaws
+pub mod BytesLaws

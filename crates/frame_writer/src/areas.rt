@@ -1,13 +1,12 @@
-//! The areas that wait, over a ring of bytes.
+//! The areas that wait, over a queue of bytes.
 ghost use Rattle.std.specs.Prelude.{◌≡◌, ℕ, ◌+◌, ◌-◌, ◌≤◌, min, List, [], ◌∷◌, ◌++◌, length, take, drop, IfOk, OnOk, OnErr};
-ghost use Rattle.circular_buffer.specs.Buffer.{buffer};
 ghost use Rattle.outside.specs.Files.{IsThere};
 ghost use Rattle.outside.specs.Passed.{PassedOn, AppendedPrefix};
 ghost use Rattle.outside.specs.Counts.{OnlyWrites};
 ghost use Rattle.frame_writer.specs.Laid.{Piece, Waiting, zeros, laid_behind, AreLaid};
 ghost use Rattle.frame_writer.specs.Writing.{WriteFailed};
 
-use circular_buffer::HeapCircularBuffer;
+use crate::bytes::ByteQueue;
 use outside::{Failed, Folder, WriteBuffer};
 use reservoir::Payload;
 use std::alloc::{AllocError, Global};
@@ -25,20 +24,19 @@ static ZEROS: [u8; CAPACITY] = [0; CAPACITY];
 #[derive(Drop)]
 pub struct Areas {
     // The bytes up to the end of the main data laid last. After them only zeros wait.
-    queue: HeapCircularBuffer<u8>,
+    queue: ByteQueue,
     free: u32,
 }
 
 impl Model for Areas {
-    ghost use Rattle.std.specs.Prelude.{◌≡◌, ◌+◌, ◌≤◌, ◌++◌, length};
+    ghost use Rattle.std.specs.Prelude.{◌+◌, ◌≤◌, ◌++◌, length};
     ghost use Rattle.frame_writer.specs.Laid.{Waiting, zeros};
 
     ghost Value = { Waiting };
 
-    ghost view = { λ a. record { bytes = a.queue.items ++ zeros a.free; free = a.free } };
+    ghost view = { λ a. record { bytes = a.queue ++ zeros a.free; free = a.free } };
 
-    ghost invariant = { λ a. (a.queue.capacity ≡ 8192)
-        × (length a.queue.items + a.free ≤ 8192) };
+    ghost invariant = { λ a. length a.queue + a.free ≤ 8192 };
 }
 
 impl Areas {
@@ -51,7 +49,7 @@ impl Areas {
         ensures laid { IfOk result (λ areas. AreLaid [] areas []) }
     {
         Ok(Areas {
-            queue: HeapCircularBuffer::with_capacity(alloc, CAPACITY)?,
+            queue: ByteQueue::new(alloc)?,
             free: 0,
         })
     }
@@ -99,7 +97,7 @@ impl Areas {
     {
         let gap = self.free - begin;
         push_zeros(&mut self.queue, gap as usize);
-        payload.append_to(&mut self.queue);
+        push_payload(&mut self.queue, payload);
         self.free = begin + area - payload.len() as u32;
     }
 
@@ -126,8 +124,9 @@ impl Areas {
         ensures done { OnOk result (D.counts folder.new ≡ D.counts folder.old) }
         ensures counts { OnlyWrites (D.counts folder.old) (D.counts folder.new) }
     {
-        let stored = count.min(self.queue.len());
-        push_first(&self.queue, stored, folder, name, unsent)?;
+        let bytes = self.queue.bytes();
+        let stored = count.min(bytes.len());
+        unsent.push(folder, name, &bytes[..stored])?;
         add_zeros(count - stored, folder, name, unsent)
     }
 
@@ -142,7 +141,7 @@ impl Areas {
             AreLaid (given ++ take count self.old.bytes) self.new ps }
     {
         let stored = count.min(self.queue.len());
-        drop_front(&mut self.queue, stored);
+        self.queue.drop_first(stored);
         self.free -= (count - stored) as u32;
     }
 
@@ -164,56 +163,31 @@ fn zeros_of(count: usize) -> &'static [u8]
     &ZEROS[..count]
 }
 
-/// Adds `count` zeros to a queue that has room for them.
+/// Adds main data to a queue.
 #[inline]
-fn push_zeros(queue: &mut HeapCircularBuffer<u8>, count: usize)
-    requires few { count ≤ 8192 }
-    requires room { length queue.old.items + count ≤ queue.old.capacity }
-    ensures { queue.new ≡ buffer (queue.old.items ++ zeros count) queue.old.capacity }
+fn push_payload(queue: &mut ByteQueue, payload: &Payload<'_>)
+    requires { length queue.old + length payload.now ≤ 8192 }
+    ensures { queue.new ≡ queue.old ++ payload.now }
+{
+    let (front, back, last) = payload.pieces();
+    queue.push(front);
+    if !back.is_empty() {
+        queue.push(back);
+    }
+    if let Some(last) = last {
+        queue.push(&[last]);
+    }
+}
+
+/// Adds `count` zeros to a queue.
+#[inline]
+fn push_zeros(queue: &mut ByteQueue, count: usize)
+    requires { length queue.old + count ≤ 8192 }
+    ensures { queue.new ≡ queue.old ++ zeros count }
 {
     if count > 0 {
-        queue.fill_from_slice(zeros_of(count));
+        queue.push(zeros_of(count));
     }
-}
-
-/// Drops the first `count` bytes of a queue.
-#[inline]
-fn drop_front(queue: &mut HeapCircularBuffer<u8>, count: usize)
-    requires { count ≤ length queue.old.items }
-    ensures { queue.new ≡ buffer (drop count queue.old.items) queue.old.capacity }
-{
-    queue.truncate_front(queue.len() - count);
-}
-
-/// Adds the first `count` bytes of a queue, which are in two slices, to what waits for the file.
-///
-/// # Errors
-/// Where a write failed. Then a prefix of both was appended.
-#[inline]
-fn push_first<D: Folder>(
-    queue: &HeapCircularBuffer<u8>,
-    count: usize,
-    folder: &mut D,
-    name: &str,
-    unsent: &mut WriteBuffer,
-) -> Result<(), Failed>
-    requires there { IsThere (D.files folder.old) name.now }
-    requires within { count ≤ length queue.now.items }
-    ensures passed { OnOk result (PassedOn name.now (unsent.old ++ take count queue.now.items)
-        unsent.new (D.files folder.old) (D.files folder.new)) }
-    ensures prefix { OnErr result (AppendedPrefix name.now
-        (unsent.old ++ take count queue.now.items) (D.files folder.old) (D.files folder.new)) }
-    ensures failed { OnErr result (WriteFailed name.now (D.counts folder.old)
-        (D.counts folder.new)) }
-    ensures done { OnOk result (D.counts folder.new ≡ D.counts folder.old) }
-    ensures counts { OnlyWrites (D.counts folder.old) (D.counts folder.new) }
-{
-    let (front, back) = queue.as_slices();
-    if count <= front.len() {
-        return unsent.push(folder, name, &front[..count]);
-    }
-    unsent.push(folder, name, front)?;
-    unsent.push(folder, name, &back[..count - front.len()])
 }
 
 /// Adds `count` zeros to what waits for the file.

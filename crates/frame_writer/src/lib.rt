@@ -11,6 +11,7 @@
 #![tactic(auto)]
 
 mod areas;
+mod bytes;
 mod frames;
 mod laws;
 mod queue;

@@ -8,7 +8,7 @@ use Rattle.std.proofs.Math.Nat.{min-eq_left, min-eq_right, zero-div}
 use Rattle.std.proofs.lemmas.Bool.{cases_lt}
 use Rattle.std.specs.Prelude.{Option, Some, None, slice_get, option_copied, get_or}
 use Rattle.std.specs.Option.{IsSome}
-use Rattle.circular_buffer.specs.Buffer.{Buffer, buffer, keep_last}
+use Rattle.circular_buffer.specs.Buffer.{keep_last}
 use Rattle.bit_fields.specs.Bits.{bits, bits_of}
 use Rattle.bit_fields.proofs.BitsLaws.{length-bits_of, take-bits, drop-bits, bits_of-mod, bits_of-cat, take-bits_of, bits-nil, bits-one, bits-cons, bits-append}
 use Rattle.reservoir.specs.Window.{IsWindowOver, main_bits, ArePacked}
@@ -148,7 +148,7 @@ part_of_two from count passed first xs ys front back fronts backs passes firsts 
     rw (firsts, fronts, backs, passes)
     (sym (ap (take count) (drop_two from xs ys) ∙ take_two count (drop (min from (length xs)) xs) (drop (from - min from (length xs)) ys)))
 
--- ---- a byte of a ring, and bytes added to it
+-- ---- a byte of a ring
 
 -- a byte that is there
 pub found : (r : Option (Bor ℕ)) (xs : List ℕ) (i : ℕ) → option_copied r ≡ slice_get xs i → i < length xs → IsSome r
@@ -157,19 +157,3 @@ found (Some b) xs i is within = refl
 
 pub found-is : (r : Option (Bor ℕ)) (b : Bor ℕ) (xs : List ℕ) (i : ℕ) → option_copied r ≡ slice_get xs i → r ≡ Some b → b.now ≡ get_or xs i 0
 found-is r b xs i is some = sym (get_or_from_slice_get xs i b.now 0 (sym is ∙ ap option_copied some))
-
--- bytes for which a ring has room
-pub filled : (old new : Buffer ℕ) (xs : List ℕ) (k : ℕ) → length old.items + length xs ≤ old.capacity →
-    k ≡ min (length xs) (old.capacity - length old.items) → new ≡ buffer (old.items ++ take k xs) old.capacity →
-    new ≡ buffer (old.items ++ xs) old.capacity
-filled old new xs k room is adds =
-    let all : k ≡ length xs = is ∙ min-eq_left (omega (arith, room)) in
-    adds ∙ ap (λ (ys : List ℕ). buffer (old.items ++ ys) old.capacity) (ap (λ n. take n xs) all ∙ take-length xs)
-
--- two such pieces
-pub filled_two : (old mid new : Buffer ℕ) (xs ys : List ℕ) → mid ≡ buffer (old.items ++ xs) old.capacity →
-    new ≡ buffer (mid.items ++ ys) mid.capacity → new ≡ buffer (old.items ++ (xs ++ ys)) old.capacity
-filled_two old mid new xs ys first second =
-    second
-    ∙ ap (λ (b : Buffer ℕ). buffer (b.items ++ ys) b.capacity) first
-    ∙ ap (λ (zs : List ℕ). buffer zs old.capacity) (append_assoc old.items xs ys)

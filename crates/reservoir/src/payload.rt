@@ -1,9 +1,7 @@
 //! The main data of a frame, read where they are.
-ghost use Rattle.std.specs.Prelude.{◌≡◌, ◌+◌, ◌≤◌, ◌++◌, [], length};
-ghost use Rattle.circular_buffer.specs.Buffer.{buffer};
+ghost use Rattle.std.specs.Prelude.{◌≡◌, ◌≤◌, ◌++◌, [], length};
 
 use arrayvec::ArrayVec;
-use circular_buffer::HeapCircularBuffer;
 use std::marker::Model;
 
 /// The main data of a frame, in as few bytes as hold their bits. Contracts see them as a list of bytes. The
@@ -64,17 +62,13 @@ impl<'a> Payload<'a> {
         self.front.len() + self.back.len() + usize::from(self.last.is_some())
     }
 
-    /// Adds them to a queue that has room for them.
+    /// The whole bytes in two slices, one after the other, and the byte of the bits after them if there are
+    /// any.
     #[inline]
-    pub fn append_to(&self, queue: &mut HeapCircularBuffer<u8>)
-        requires { length queue.old.items + length self.now ≤ queue.old.capacity }
-        ensures { queue.new ≡ buffer (queue.old.items ++ self.now) queue.old.capacity }
+    pub fn pieces(&self) -> (&[u8], &[u8], Option<u8>)
+        ensures { result.0.now ++ (result.1.now ++ byte_of result.2) ≡ self.now }
     {
-        queue.fill_from_slice(self.front);
-        queue.fill_from_slice(self.back);
-        if let Some(last) = self.last {
-            queue.fill_from_slice(&[last]);
-        }
+        (self.front, self.back, self.last)
     }
 
     /// Puts them into a list of at most 2,048 bytes, in place of what is in it.

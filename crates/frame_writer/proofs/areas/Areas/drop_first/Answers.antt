@@ -1,6 +1,5 @@
 -- What is left of the queue, and of the zeros after it.
-use Rattle.std.proofs.Common.{◌≡◌, ℕ, ◌-◌, ◌++◌, min, take, drop, refl, ap, ◌∙◌, arith, length-append}
-use Rattle.circular_buffer.specs.Buffer.{Buffer}
+use Rattle.std.proofs.Common.{◌≡◌, ◌-◌, ◌++◌, min, take, drop, refl, ap, ◌∙◌, arith, length-append}
 use Rattle.frame_writer.specs.Laid.{Waiting, zeros}
 use Rattle.frame_writer.proofs.LaidLaws.{length-zeros, left-is, taken-laid}
 use Rattle.frame_writer.proofs.areas.Areas.drop_first.Goals as goal
@@ -11,9 +10,9 @@ returns-clause-laid c = λ given ps are.
     let free = c.self.inside.free in
     let now = c.args.self.now.bytes in
     let less = free - (n - c.min-stored.result) in
-    let left = c.drop_front.new.queue.items in
+    let left = c.drop_first.new.self in
     let leaves : left ++ zeros less ≡ drop n now =
-    left-is n free c.min-stored.result c.self.inside.queue.items left now (c.min-stored.ensures ∙ ap (min n) c.len.ensures.len) (ap (λ (b : Buffer ℕ). b.items) c.drop_front.ensures) (ap (λ (w : Waiting). w.bytes) c.self.view_is) c.requires in
+    left-is n free c.min-stored.result c.self.inside.queue left now (c.min-stored.ensures ∙ ap (min n) c.len.ensures.count) c.drop_first.ensures (ap (λ (w : Waiting). w.bytes) c.self.view_is) c.requires in
     taken-laid given now (take n now) (left ++ zeros less) n c.args.self.now.free less ps refl leaves
     (omega (arith, ap (λ (w : Waiting). w.free) c.self.view_is))
     (omega (arith, length-append left (zeros less), length-zeros less)) are

@@ -1,0 +1,110 @@
+//! A queue of bytes that are next to each other in memory.
+ghost use Rattle.std.specs.Prelude.{◌≡◌, ◌+◌, ◌-◌, ◌≤◌, [], ◌++◌, length, take, drop, IfOk};
+
+use std::alloc::{AllocError, Global};
+use std::marker::Model;
+
+/// The bytes of memory of a queue. They are twice as many as may wait, so that what waits is moved at most
+/// once while 8,192 bytes are pushed.
+const SIZE: usize = 16_384;
+
+/// A queue of at most 8,192 bytes. Contracts see it as the list of these bytes, the oldest first.
+#[derive(Drop)]
+pub struct ByteQueue {
+    room: Vec<u8>,
+    from: usize,
+    to: usize,
+}
+
+impl Model for ByteQueue {
+    ghost use Rattle.std.specs.Prelude.{◌≡◌, ◌+◌, ◌-◌, ◌≤◌, ℕ, List, length, take, drop};
+
+    ghost Value = { List ℕ };
+
+    ghost view = { λ q. take (q.to - q.from) (drop q.from q.room.items) };
+
+    ghost invariant = { λ q. (length q.room.items ≡ 16384) × (q.from ≤ q.to) × (q.to ≤ 16384)
+        × (q.to - q.from ≤ 8192) };
+}
+
+impl ByteQueue {
+    /// A queue of no bytes. It takes all its memory here.
+    ///
+    /// # Errors
+    /// Where there is no memory.
+    pub fn new(alloc: Global) -> Result<ByteQueue, AllocError>
+        ensures { IfOk result (λ queue. queue ≡ []) }
+    {
+        Ok(ByteQueue {
+            room: vec![in alloc; 0; SIZE]?,
+            from: 0,
+            to: 0,
+        })
+    }
+
+    /// The bytes.
+    #[inline]
+    pub fn bytes(&self) -> &[u8]
+        ensures { result.now ≡ self.now }
+    {
+        &self.room[self.from..self.to]
+    }
+
+    /// How many bytes these are, at most 8,192.
+    #[inline]
+    pub fn len(&self) -> usize
+        ensures count { result ≡ length self.now }
+        ensures most { result ≤ 8192 }
+    {
+        self.to - self.from
+    }
+
+    /// Adds bytes at the end.
+    #[inline]
+    pub fn push(&mut self, bytes: &[u8])
+        requires { length self.old + length bytes.now ≤ 8192 }
+        ensures { self.new ≡ self.old ++ bytes.now }
+    {
+        let count = self.to - self.from;
+        let room = self.room.as_mut_slice();
+        let from = make_room(room, self.from, self.to, bytes.len());
+        let end = from + count;
+        room[end..end + bytes.len()].copy_from_slice(bytes);
+        self.from = from;
+        self.to = end + bytes.len();
+    }
+
+    /// Drops the first `count` bytes.
+    #[inline]
+    pub fn drop_first(&mut self, count: usize)
+        requires { count ≤ length self.old }
+        ensures { self.new ≡ drop count self.old }
+    {
+        self.from += count;
+    }
+
+    /// Drops all bytes.
+    pub fn clear(&mut self)
+        ensures { self.new ≡ [] }
+    {
+        self.from = 0;
+        self.to = 0;
+    }
+}
+
+/// Moves the bytes between two places to the beginning of `room`, if there isn't room for `more` bytes after
+/// them, and answers where they begin then.
+#[inline]
+fn make_room(room: &mut [u8], from: usize, to: usize, more: usize) -> usize
+    requires ordered { from ≤ to }
+    requires within { to ≤ length room.old }
+    requires free { to - from + more ≤ length room.old }
+    ensures room { result + (to - from) + more ≤ length room.old }
+    ensures same { take (to - from) (drop result room.new) ≡ take (to - from) (drop from room.old) }
+{
+    if more <= room.len() - to {
+        return from;
+    }
+    room.copy_within(from..to, 0);
+    0
+}
