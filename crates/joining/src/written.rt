@@ -44,8 +44,7 @@ fn append_front<D: Folder>(
     ensures cause { IfErr result (HasPassCause (route_of relay.now.pass) (D.files folder.old)
         (D.counts folder.old) (D.counts folder.new)) }
 {
-    relay.write_front(folder, info, &mut buffers.feed, &mut buffers.waiting)?;
-    relay.pass.finish(folder, &mut buffers.waiting)
+    relay.write_front(folder, info, &mut buffers.feed, &mut buffers.waiting)
 }
 
 /// Appends the file of all frames to the output, beginning with the ID3v2 blocks of the first input. It takes no memory.

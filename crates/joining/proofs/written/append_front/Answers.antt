@@ -1,20 +1,32 @@
--- What waits of the blocks and the Info frame is written.
-use Rattle.std.proofs.lemmas.Result.{on_ok_weaker}
-use Rattle.outside.proofs.PassedLaws.{err_at, err_by}
-use Rattle.outside.proofs.PassLaws.{writes_all, writes_end, writes_behind_none, part_behind_none, causes_behind}
+-- What is before the frames is written whole.
+use Rattle.std.proofs.Common.{◌≡◌, ℕ, List, [], ◌++◌, ap, sym, ◌∙◌, append-nil}
+use Rattle.std.specs.Prelude.{Result, Ok, Err, OnOk}
+use Rattle.outside.specs.Files.{Files, appended}
+use Rattle.outside.specs.Pass.{Writes, Appends}
+use Rattle.outside.specs.declared.pass.Pass.{Pass}
+use Rattle.outside.specs.declared.pass.PassFault.{PassFault}
+use Rattle.outside.proofs.PassedLaws.{err_by}
+use Rattle.outside.proofs.PassLaws.{writes_behind_none, part_behind_none}
+use Rattle.frame_writer.proofs.WritingLaws.{ok-both}
 use Rattle.joining.proofs.written.append_front.Goals as goal
 
-pub returns-in_err-write_front-clause-prefix : goal.returns-in_err-write_front-clause-prefix
-returns-in_err-write_front-clause-prefix g c = err_at c.from_residual.result _ c.from_residual.ensures.1 (part_behind_none c.requires.none c.in_err-write_front.ensures.prefix)
+-- if nothing waits before and after, the bytes were appended
+all_appended : {pass : Pass} {made : List ℕ → List ℕ} {mid : List ℕ} {old new : Files} → Writes pass made [] mid old new → mid ≡ [] →
+    Appends pass.input.now pass.output.now made old new
+all_appended {pass} {made} {mid} {old} {new} w none = record {
+  bytes = w.piece;
+  is = w.is;
+  files =
+      w.passed.files
+      ∙ ap (appended old pass.output.now)
+      (sym (append-nil w.passed.passed) ∙ ap (λ (xs : List ℕ). w.passed.passed ++ xs) (sym none) ∙ sym w.passed.split);
+}
 
 pub returns-clause-written : goal.returns-clause-written
 returns-clause-written g c =
-    on_ok_weaker c.finish.result (λ is. writes_all c.args.relay.now.pass _ (writes_behind_none c.requires.none c.in_ok-write_front.ensures.written) is) c.finish.ensures.appended
+    ok-both c.write_front.result (λ w none. all_appended (writes_behind_none c.requires.none w) none)
+    c.write_front.ensures.written c.write_front.ensures.none
 
 pub returns-clause-prefix : goal.returns-clause-prefix
 returns-clause-prefix g c =
-    err_by c.finish.result (λ fault part. writes_end c.args.relay.now.pass _ (writes_behind_none c.requires.none c.in_ok-write_front.ensures.written) part) c.finish.ensures.prefix
-
-pub returns-clause-cause : goal.returns-clause-cause
-returns-clause-cause g c =
-    causes_behind c.in_ok-write_front.ensures.written _ _ _ _ c.in_ok-write_front.ensures.done c.finish.result c.finish.ensures.cause
+    err_by c.write_front.result (λ fault part. part_behind_none c.requires.none part) c.write_front.ensures.prefix
