@@ -1,5 +1,5 @@
 //! A folder that says greater lengths than it gives, for tests.
-ghost use Rattle.std.specs.Prelude.{◌≡◌, ℕ, ◌+◌, ◌-◌, ◌<◌, ◌≤◌, ◌++◌, List, Ok, length, take, drop, min, true, false, IfOk, OnOk, OnErr, IsErrOf, is_err, option_copied, ◌⊎◌, if◌then◌else◌, ◌==◌, ◌&&◌, nat_lt};
+ghost use Rattle.std.specs.Prelude.{◌≡◌, ℕ, ◌+◌, ◌-◌, ◌<◌, ◌≤◌, ◌++◌, List, Ok, length, take, drop, min, true, false, IfOk, OnOk, OnErr, IsErrOf, is_err, is_some, option_copied, ◌⊎◌, if◌then◌else◌, ◌==◌, ◌&&◌, nat_lt};
 ghost use Rattle.outside.specs.Files.{Told, untold, FailsToCreate, with_file, emptied, appended, Holds, IsThere, IsMissing, AreOctets};
 ghost use Rattle.outside.specs.Memory.{contents_of, counts_of};
 ghost use Rattle.outside.specs.Short.{short_counts, create_missing_fails, IsCreated};
@@ -45,6 +45,7 @@ fn create_missing(folder: &mut MemFolder, name: &str) -> Result<(), Failed>
     ensures fails { is_err result ≡ create_missing_fails folder.old name.now }
     ensures there { OnOk result (IsThere (Told (contents_of folder.new)) name.now) }
     ensures made { OnOk result (IsCreated folder.old folder.new name.now) }
+    ensures stays { is_some (contents_of folder.old name.now) ≡ true → folder.new ≡ folder.old }
     ensures failed { OnErr result (HappenedTo name.now (counts_of folder.old).write_faults
         (counts_of folder.new).write_faults) }
     ensures done { OnOk result (counts_of folder.new ≡ counts_of folder.old) }
@@ -181,6 +182,10 @@ impl Folder for ShortFolder {
         ensures inside { OnOk result (contents_of self.new.inner ≡ with_file
             (contents_of self.old.inner) name.now
             (bytes_of self.old.inner name.now ++ bytes.now)) }
+        ensures inside_kept { is_inside self.old name.now ≡ true
+            → OnErr result (contents_of self.new.inner ≡ contents_of self.old.inner) }
+        ensures called { is_inside self.old name.now ≡ true
+            → Called self.old.inner self.new.inner Call.Write }
         ensures extra { self.new.extra ≡ self.old.extra }
         ensures failed_counts { OnErr result
             (short_counts self.new ≡ with_write_fault name.now (short_counts self.old)) }
