@@ -9,12 +9,12 @@ use Rattle.frame_header.proofs.SlotLaws.{areas-ascend, length-areas_of, length-a
 use Rattle.slot_plan.specs.Parts.{areas_with}
 use Rattle.rate_plan.specs.Laws.{SlicesAreMenus}
 
-slice-many : (from to : ℕ) → from < to → to ≤ 28 → length (slice_range all_slots from to) ≡ to - from
+pub slice-many : (from to : ℕ) → from < to → to ≤ 28 → length (slice_range all_slots from to) ≡ to - from
 slice-many from to some within =
     length-take-le (to - from) (drop from all_slots) (omega (arith, length-drop from all_slots, length-all_slots, within))
 
 -- an element of a slice
-slice-at : {X : Type 0} (xs : List X) (from to i : ℕ) (d : X) → i < to - from → get_or (slice_range xs from to) i d ≡ get_or xs (from + i) d
+pub slice-at : {X : Type 0} (xs : List X) (from to i : ℕ) (d : X) → i < to - from → get_or (slice_range xs from to) i d ≡ get_or xs (from + i) d
 slice-at xs from to i d before = get_or-take (to - from) (drop from xs) i d before ∙ get_or-drop from xs i d
 
 areas-slice : (class : ClassFields) (protected : Bool) (from to : ℕ) → areas_with class protected (slice_range all_slots from to) ≡ slice_range (areas_of class protected) from to

@@ -126,7 +126,7 @@ fn parts_of_a_file(rt: HostRuntime) -> Result<(), Fail> {
 }
 
 /// Whether the parts need these bytes in the slots that the frames have.
-fn are_needed(needs: &[Need], bytes: &[u16]) -> bool {
+fn are_needed(needs: &[Need], bytes: &[u32]) -> bool {
     needs.len() == bytes.len()
         && needs.iter().zip(bytes).all(|(need, wanted)| need.bytes == *wanted
             && need.header.slot.rate_index == OWN)

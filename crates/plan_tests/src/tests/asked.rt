@@ -17,7 +17,7 @@ pub const HIGH: [u8; 4] = [0xff, 0xf3, 0xe6, 0xc0];
 
 /// A frame's header, and how many bytes its main data have.
 #[derive(Clone, Copy)]
-pub struct Asked(pub [u8; 4], pub u16);
+pub struct Asked(pub [u8; 4], pub u32);
 
 /// What these frames need; empty where a header can't be read.
 pub fn needs_of(alloc: Global, frames: &[Asked]) -> Result<Vec<Need>, AllocError> {

@@ -50,10 +50,10 @@ pub fn fit(window: u32, part: &[Need]) -> bool
     let mut free = window;
     for need in part {
         let area = need.header.area();
-        if need.bytes as u32 > free + area {
+        if need.bytes > free + area {
             return false;
         }
-        free = free_behind(window, free, need.bytes as u32, area);
+        free = free_behind(window, free, need.bytes, area);
     }
     true
 }

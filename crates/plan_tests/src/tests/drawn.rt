@@ -17,11 +17,11 @@ pub fn next(state: &mut u32) -> u32 {
 }
 
 /// Four frames with one of these headers, each with fewer bytes than `limit`.
-pub fn drawn(state: &mut u32, class: usize, limit: u16) -> [Asked; 4] {
+pub fn drawn(state: &mut u32, class: usize, limit: u32) -> [Asked; 4] {
     let header = HEADERS[class % 3];
     let mut frames = [Asked(header, 0); 4];
     for frame in &mut frames {
-        let number = (next(state) % 65_536) as u16;
+        let number = next(state) % 65_536;
         frame.1 = number.checked_rem(limit).unwrap_or(0);
     }
     frames

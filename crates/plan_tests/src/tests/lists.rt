@@ -66,7 +66,7 @@ fn laid(needs: &[Need], menu: Menu<'_>, lead_ins: usize, number: u64) -> Result<
         } else {
             need.header.slot
         };
-        let bytes = if is_lead_in { 0 } else { u32::from(need.bytes) };
+        let bytes = if is_lead_in { 0 } else { need.bytes };
         let area = class.area_of(slot, need.header.protected && !is_lead_in);
         let start = end.max(found.sum.saturating_sub(class.window()));
         let begin = found.sum.saturating_sub(start).min(511) as u16;

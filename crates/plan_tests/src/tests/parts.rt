@@ -1,5 +1,6 @@
-//! Plans of parts, in which the frames keep their slots, or may have any.
+//! Plans of parts, in which the frames keep their slots, may have any, or one that isn't smaller.
 mod classes;
+mod larger;
 mod planned;
 mod search;
 mod worked;

@@ -46,7 +46,7 @@ fn expect_greatest<R: Abort + AllocGlobal>(
 ) -> Result<(), Fail> {
     let class = header.class();
     let window = class.window();
-    let bytes = (window + header.area()) as u16;
+    let bytes = window + header.area();
     let slot = header.slot;
     let needs = [Need { header, bytes }];
     let rate = class.rate(slot);
