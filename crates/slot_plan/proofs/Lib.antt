@@ -7,3 +7,4 @@ pub mod CheckedLaws
 pub mod LeadInLaws
 pub mod OnePlan
 pub mod ThePlan
+pub mod LeastPlan

@@ -127,7 +127,7 @@ ordered_append : (xs ys : List Item) → AreOrdered xs → AreOrdered ys → Are
 ordered_append [] ys first second = second
 ordered_append (x ∷ xs) ys first second = (first.0, ordered_append xs ys first.1 second)
 
-ordered_frames : (choices : HeaderFields → List SlotFields) (part : List Need) → AreInOrder choices part → AreOrdered (map (item_of choices) part)
+pub ordered_frames : (choices : HeaderFields → List SlotFields) (part : List Need) → AreInOrder choices part → AreOrdered (map (item_of choices) part)
 ordered_frames choices [] order = tt
 ordered_frames choices (need ∷ needs) order = (order.0.ascending, ordered_frames choices needs order.1)
 

@@ -1,6 +1,6 @@
--- The plan that is made frame by frame is the plan, and so the only one.
-use Rattle.std.proofs.Common.{◌≡◌, ℕ, zero, suc, ◌+◌, ◌-◌, ◌<◌, ◌≤◌, ◌==◌, leb, cond, Bool, true, false, List, [], ◌∷◌, ◌++◌, map, length, All, Contains, Option, Some, None, refl, sym, ap, subst, arith}
-use Rattle.std.specs.Prelude.{◌↔◌}
+-- Frame by frame each in the smallest area that leaves what is needed after it: this is a plan, so parts of one class that have layouts in
+-- their own slots have one.
+use Rattle.std.proofs.Common.{◌≡◌, ℕ, zero, suc, ◌+◌, ◌-◌, ◌<◌, ◌≤◌, ◌==◌, leb, cond, if◌then◌else◌, Bool, true, false, List, [], ◌∷◌, ◌++◌, map, length, All, Contains, Option, Some, None, refl, sym, ap, subst, arith}
 use Rattle.std.proofs.lemmas.Bool.{leb-true, leb-false, eqb-true}
 use Rattle.std.proofs.lemmas.List.{map-append}
 use Rattle.frame_header.specs.Fields.{SlotFields, HeaderFields, ClassFields}
@@ -14,13 +14,37 @@ use Rattle.slot_plan.specs.Lists.{AreChosen}
 use Rattle.slot_plan.specs.Parts.{Item, area_in, open_of, item_of, items_of, areas_with, own_area, own_frame, AreOfClass, ArePartsFeasible, IsLeadIn, AreLeadIns, whole_of}
 use Rattle.slot_plan.specs.Plans.{IsPlan}
 use Rattle.slot_plan.specs.Reserve.{greatest, needed, free_behind, AllWithin, opens_in, IsLeastSlot, ArePlaced}
-use Rattle.slot_plan.specs.ThePlan.{first_with, lead_in_for, placed_from, the_plan}
 use Rattle.slot_plan.specs.Laws.{ChooseInOrder}
 use Rattle.slot_plan.proofs.ReserveLaws.{append-within}
 use Rattle.slot_plan.proofs.AreaLaws.{Ascend, Contains-area, lead-some, lead-any}
 use Rattle.slot_plan.proofs.PartLaws.{needed-own, nothing_needed, nothing_within, nothing_chosen, chosen-cons}
 use Rattle.slot_plan.proofs.PlacedLaws.{no-lead_in, one-lead_in, lead_in-needed, whole-needed, plan-placed}
-use Rattle.slot_plan.proofs.OnePlan.{AreOrdered, AreInOrder, AllInOrder, all_in_order, slots_ascend, ordered_whole, one-plan}
+use Rattle.slot_plan.proofs.OnePlan.{AreOrdered, AreInOrder, AllInOrder, all_in_order, slots_ascend, ordered_whole}
+
+-- ---- the plan as it is made
+
+-- the first of some slots whose area has so many bytes
+unfoldable pub first_with : ℕ → ClassFields → Bool → List SlotFields → SlotFields
+first_with wanted class protected [] = largest_slot
+first_with wanted class protected (slot ∷ slots) = if leb wanted (area_of class slot protected) then slot else first_with wanted class protected slots
+
+-- the lead-in of a part: none if nothing is needed before it, else the smallest that has what is needed
+abbrev pub lead_in_for : (HeaderFields → List SlotFields) → List Need → Option SlotFields
+lead_in_for choices [] = None
+lead_in_for choices (first ∷ part) =
+    let bytes = needed (opens_in choices (first ∷ part)) in
+    if bytes == 0 then None else Some (first_with bytes (class_of first.header) false all_slots)
+
+-- frames placed after so many free bytes
+unfoldable pub placed_from : ℕ → ℕ → List Item → List Placed
+placed_from window free [] = []
+placed_from window free (item ∷ items) =
+    let slot = first_with ((item.bytes + needed (map open_of items)) - free) item.class item.protected item.choices in
+    record { lead_in = item.lead_in; slot = slot; begin = free } ∷ placed_from window (free_behind window free item.bytes (area_in item slot)) items
+
+-- all parts
+unfoldable pub the_plan : ℕ → (HeaderFields → List SlotFields) → List (List Need) → List Placed
+the_plan window choices parts = placed_from window 0 (whole_of choices parts (map (lead_in_for choices) parts))
 
 -- ---- the first slot that is large enough has the smallest area
 
@@ -173,7 +197,7 @@ module _ (class : ClassFields) (choices : HeaderFields → List SlotFields) wher
   slots-whole (part ∷ parts) [] order = tt
   slots-whole (part ∷ parts) (lead_in ∷ lead_ins) order = slots-append (items_of choices part lead_in) (whole_of choices parts lead_ins) (slots-items part lead_in order.0) (slots-whole parts lead_ins order.1)
 
-  plan-is : (parts : List (List Need)) → All (λ part. AreOfClass class part) parts → ChooseInOrder choices parts → ArePartsFeasible window parts → IsPlan window choices parts (the_plan window choices parts)
+  pub plan-is : (parts : List (List Need)) → All (λ part. AreOfClass class part) parts → ChooseInOrder choices parts → ArePartsFeasible window parts → IsPlan window choices parts (the_plan window choices parts)
   unfolding the_plan
   plan-is parts of_class order feasible =
       let all = all_in_order choices parts order in
@@ -186,11 +210,3 @@ module _ (class : ClassFields) (choices : HeaderFields → List SlotFields) wher
         whole = plan-placed window items (placed_from window 0 items)
             (placed-is window 0 items (slots-whole parts lead_ins all) (ordered_whole choices parts lead_ins all) (omega (arith, whole-needed window choices parts lead_ins alone)) (whole-within parts lead_ins alone));
       }
-
-pub plan-the_plan : (class : ClassFields) (choices : HeaderFields → List SlotFields) (parts : List (List Need)) (placed : List Placed) → All (λ part. AreOfClass class part) parts → ChooseInOrder choices parts → ArePartsFeasible (window_of class.version) parts
-    → IsPlan (window_of class.version) choices parts placed ↔ (placed ≡ the_plan (window_of class.version) choices parts)
-plan-the_plan class choices parts placed of_class order feasible =
-    let is = plan-is class choices parts of_class order feasible in (
-      (λ other. one-plan (window_of class.version) choices parts placed (the_plan (window_of class.version) choices parts) order other is),
-      (λ same. subst (IsPlan (window_of class.version) choices parts) (sym same) is),
-    )

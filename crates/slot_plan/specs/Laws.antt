@@ -8,7 +8,7 @@ use Rattle.slot_plan.specs.declared.needs.Placed.{Placed}
 use Rattle.slot_plan.specs.Lists.{Open, CanBeLaid, IsLeast}
 use Rattle.slot_plan.specs.Parts.{open_of, item_of, lead_in_of, items_of, areas_with, AreOfClass, ArePartsFeasible, IsLeadIn}
 use Rattle.slot_plan.specs.Plans.{IsPlan}
-use Rattle.slot_plan.specs.ThePlan.{the_plan}
+use Rattle.slot_plan.specs.LeastPlan.{least_plan}
 
 -- a part's frames after one lead-in, which may have any slot
 abbrev pub behind_any : (HeaderFields → List SlotFields) → Need → List Need → List Open
@@ -39,9 +39,9 @@ PlansAreUnique =
     (window : ℕ) (choices : HeaderFields → List SlotFields) (parts : List (List Need)) (a b : List Placed)
     → ChooseInOrder choices parts → IsPlan window choices parts a → IsPlan window choices parts b → a ≡ b
 
--- parts of one class, each with a layout in its own slots, have one plan, which is that of the function
-abbrev pub ThePlanIsThePlan : Type 0
-ThePlanIsThePlan =
+-- parts of one class, each with a layout in its own slots, have one plan, which is that of the first list
+abbrev pub LeastPlanIsThePlan : Type 0
+LeastPlanIsThePlan =
     (class : ClassFields) (choices : HeaderFields → List SlotFields) (parts : List (List Need)) (placed : List Placed)
     → All (λ part. AreOfClass class part) parts → ChooseInOrder choices parts → ArePartsFeasible (window_of class.version) parts
-    → IsPlan (window_of class.version) choices parts placed ↔ (placed ≡ the_plan (window_of class.version) choices parts)
+    → IsPlan (window_of class.version) choices parts placed ↔ (placed ≡ least_plan (window_of class.version) choices parts)

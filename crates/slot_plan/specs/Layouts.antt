@@ -1,5 +1,5 @@
 -- Where the main data of each frame may be in the areas of all frames, one area after the other.
-use Rattle.std.specs.Prelude.{ℕ, ◌+◌, ◌-◌, ◌≤◌, max, List, [], ◌∷◌}
+use Rattle.std.specs.Prelude.{ℕ, ◌+◌, ◌-◌, ◌≤◌, ◌&&◌, leb, max, Bool, true, List, [], ◌∷◌}
 
 -- a frame: the lengths of its main data and of its own area in bytes
 pub record Frame : Type 0 where
@@ -27,3 +27,10 @@ begins_of window end before [] = []
 begins_of window end before (frame ∷ frames) =
     let start = max end (before - window) in
     (before - start) ∷ begins_of window (start + frame.bytes) (before + frame.area) frames
+
+-- There is a layout exactly if all main data that start as early as they may end within the areas of their frames.
+unfoldable pub has_layout : ℕ → ℕ → ℕ → List Frame → Bool
+has_layout window end before [] = true
+has_layout window end before (frame ∷ frames) =
+    let start = max end (before - window) in
+    leb (start + frame.bytes) (before + frame.area) && has_layout window (start + frame.bytes) (before + frame.area) frames

@@ -1,10 +1,10 @@
 pub mod Laws
 pub mod Layouts
+pub mod LeastPlan
 pub mod Lists
 pub mod Parts
 pub mod Plans
 pub mod Reserve
-pub mod ThePlan
 pub use Rattle.frame_header.specs.Fields
 pub use Rattle.frame_header.specs.Tables
 pub use Rattle.frame_header.specs.Slots

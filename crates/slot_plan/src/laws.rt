@@ -1,6 +1,6 @@
 //! Laws of the definitions that the contract of `plan` cites. Each function does nothing: a proof that needs its law
 //! calls it.
-ghost use Rattle.slot_plan.specs.Laws.{LeadInsComeFirst, PlansAreUnique, ThePlanIsThePlan};
+ghost use Rattle.slot_plan.specs.Laws.{LeadInsComeFirst, PlansAreUnique, LeastPlanIsThePlan};
 
 /// If the frames of a part can't be laid without a lead-in, its lead-in is the one with the smallest area
 /// with which they can. This is the first entry of the lexicographically least list of these frames after
@@ -15,8 +15,8 @@ pub fn plans_are_unique()
 {}
 
 /// Parts of one class, each with a layout in its own slots after a whole window of free bytes, have one
-/// plan, which is made frame by frame: each has the smallest area of its choices that leaves as many free
-/// bytes as are needed after it.
-pub fn the_plan_is_the_plan()
-    ensures { ThePlanIsThePlan }
+/// plan: of all lists of slots the first, in the order of their areas, for which there is a layout, with
+/// the lead-ins that the parts have alone.
+pub fn least_plan_is_the_plan()
+    ensures { LeastPlanIsThePlan }
 {}

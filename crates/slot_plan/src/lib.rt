@@ -12,7 +12,7 @@ mod reserves;
 mod slots;
 
 pub use ascending::{largest_area_of, least_slot_among};
-pub use laws::{lead_ins_come_first, plans_are_unique, the_plan_is_the_plan};
+pub use laws::{lead_ins_come_first, least_plan_is_the_plan, plans_are_unique};
 pub use needs::{Need, Placed, Plan};
 pub use plans::{end_of, plan};
 pub use policy::{Keep, Least, Policy};

@@ -3,6 +3,8 @@ ghost use Rattle.std.specs.Prelude.{◌≡◌, ◌<◌, ◌≤◌, ◌+◌, AllP
 ghost use Rattle.frame_header.specs.Limits.{most_frames};
 ghost use Rattle.slot_plan.specs.Parts.{AreOfOneClass, ArePartsFeasible, window_in, parts_of};
 ghost use Rattle.slot_plan.specs.Plans.{IsPlan, entries};
+ghost use Rattle.slot_plan.specs.Laws.{ChooseInOrder};
+ghost use Rattle.slot_plan.specs.LeastPlan.{least_plan};
 
 use crate::needs::{Need, Plan};
 use crate::placing::place_part;
@@ -47,8 +49,12 @@ pub fn plan<P: Policy>(
     requires ascending { AllPairs (λ m n. m < n) parts.now }
     requires within { All (λ place. place < length needs.now) parts.now }
     requires feasible { ArePartsFeasible (window_in needs.now) (parts_of needs.now parts.now) }
-    ensures { IfOk result (λ p. IsPlan (window_in needs.now) (P.choices_of policy.now)
+    ensures plan { IfOk result (λ p. IsPlan (window_in needs.now) (P.choices_of policy.now)
         (parts_of needs.now parts.now) (entries p)) }
+    ensures least { IfOk result (λ p.
+        ChooseInOrder (P.choices_of policy.now) (parts_of needs.now parts.now)
+        → entries p ≡ least_plan (window_in needs.now) (P.choices_of policy.now)
+        (parts_of needs.now parts.now)) }
 {
     let window = needs[0].header.class().window();
     // Each part has at most one lead-in.

@@ -1,9 +1,10 @@
 -- One part more.
 use Rattle.std.proofs.Common.{◌+◌, ◌<◌, length, get_or, drop, refl, sym, subst, arith, rules}
-use Rattle.slot_plan.specs.Parts.{ArePartsFeasible, parts_of}
+use Rattle.slot_plan.specs.Parts.{ArePartsFeasible, window_in, parts_of}
 use Rattle.slot_plan.specs.Plans.{IsPlan}
 use Rattle.slot_plan.proofs.PartLaws.{window-first, part-ready, parts-cons, parts-none}
 use Rattle.slot_plan.proofs.PlacedLaws.{PartsPlaced, parts-begun, parts-more, parts-all}
+use Rattle.slot_plan.proofs.LeastPlan.{plan-least}
 use Rattle.slot_plan.proofs.plans.plan.Goals as goal
 
 pub loop-at-init : goal.loop-at-init
@@ -56,4 +57,5 @@ returns g c =
     let some : 0 < length needs = omega (arith, c.requires.within 0 0 c.requires.some) in
     let window = window-first needs c.index-needs-0.result c.class.result c.window-window.result c.requires.class some c.class.ensures c.window-window.ensures.window in
     let all = subst (λ l. PartsPlaced c.window-window.result choices (parts_of needs parts) l c.loop-at.free c.loop-at.placed.items) (parts-none needs parts c.loop-at.at c.loop-at-test.false) c.loop-at.invariant.placed in
-    subst (λ n. IsPlan n choices (parts_of needs parts) c.loop-at.placed.items) window (parts-all c.window-window.result choices (parts_of needs parts) c.loop-at.free c.loop-at.placed.items all)
+    let plan = subst (λ n. IsPlan n choices (parts_of needs parts) c.loop-at.placed.items) window (parts-all c.window-window.result choices (parts_of needs parts) c.loop-at.free c.loop-at.placed.items all) in
+    record { plan = plan; least = λ order. plan-least (window_in needs) choices (parts_of needs parts) c.loop-at.placed.items order plan }

@@ -1,0 +1,376 @@
+-- The first list of slots for which there is a layout is the least, so the plan is that of the function.
+use Rattle.std.proofs.Common.{◌≡◌, ℕ, zero, suc, ◌+◌, ◌-◌, ◌<◌, ◌≤◌, ◌&&◌, max, leb, cond, Bool, true, false, inl, inr, List, [], ◌∷◌, ◌++◌, map, length, get_or, Contains, Option, Some, None, refl, sym, ap, ap₂, ◌∙◌, subst, arith}
+use Rattle.std.specs.Prelude.{◌↔◌, All, flat_map, find, option_map, option_and_then, is_some, unwrap_or, slice_get}
+use Rattle.std.specs.Option.{option_or}
+use Rattle.std.proofs.lemmas.Bool.{leb-true, le-leb, and_parts}
+use Rattle.std.proofs.lemmas.List.Folds.{find-append}
+use Rattle.frame_header.specs.Fields.{SlotFields, HeaderFields, ClassFields}
+use Rattle.frame_header.specs.Tables.{class_of, area_of, window_of}
+use Rattle.frame_header.specs.Slots.{all_slots}
+use Rattle.slot_plan.specs.declared.needs.Need.{Need}
+use Rattle.slot_plan.specs.declared.needs.Placed.{Placed}
+use Rattle.slot_plan.specs.Layouts.{Frame, IsLayout, IsFeasible, has_layout, begins_of}
+use Rattle.slot_plan.specs.Lists.{Open, AreChosen, frames_of, CanBeLaid, IsNotBehind, IsLeast}
+use Rattle.slot_plan.specs.Parts.{Item, area_in, open_of, item_of, lead_in_of, items_of, areas_with, ArePartsFeasible, AreOfClass, IsLeadIn, AreLeadIns, whole_of}
+use Rattle.slot_plan.specs.Plans.{AreFor, areas_in, IsPlanFor, IsPlan}
+use Rattle.slot_plan.specs.Reserve.{free_behind}
+use Rattle.slot_plan.specs.LeastPlan.{all_lists, in_slots, first_list, placed_in, laid_early, least_of, lead_in_alone, least_plan}
+use Rattle.slot_plan.specs.Laws.{ChooseInOrder, behind_any}
+use Rattle.slot_plan.proofs.ReserveLaws.{AllFit, fit-layout, layout-fit, starts_of}
+use Rattle.slot_plan.proofs.AreaLaws.{Ascend, slot-area, Contains-area, one-slot}
+use Rattle.slot_plan.proofs.LeadInLaws.{lead-first}
+use Rattle.slot_plan.proofs.ThePlan.{the_plan, plan-is}
+use Rattle.slot_plan.proofs.OnePlan.{AreOrdered, AreInOrder, AllInOrder, all_in_order, slots_ascend, ordered_frames, ordered_whole, one_plan_for, equal_lists}
+
+-- ---- the test finds whether there is a layout
+
+max-is : (m n : ℕ) → max m n ≡ m + (n - m)
+max-is m n = omega arith
+
+fit-has : (window end before free : ℕ) (frames : List Frame) → end ≤ before → free ≡ (before - end) - ((before - end) - window) → AllFit window free frames → has_layout window end before frames ≡ true
+unfolding AllFit has_layout
+fit-has window end before free [] ends is fit = refl
+fit-has window end before free (frame ∷ frames) ends is fit =
+    let start : ℕ = max end (before - window) in
+    let at : start ≡ end + ((before - window) - end) = max-is end (before - window) in
+    let room : frame.bytes ≤ free + frame.area = fit.0 in
+    let here : start + frame.bytes ≤ before + frame.area = omega arith in
+    ap₂ (λ (a b : Bool). a && b) (le-leb (start + frame.bytes) (before + frame.area) here)
+    (fit-has window (start + frame.bytes) (before + frame.area) (free_behind window free frame.bytes frame.area) frames here (omega arith) fit.1)
+
+has-fit : (window end before free : ℕ) (frames : List Frame) → end ≤ before → free ≡ (before - end) - ((before - end) - window) → has_layout window end before frames ≡ true → AllFit window free frames
+unfolding AllFit has_layout
+has-fit window end before free [] ends is has = tt
+has-fit window end before free (frame ∷ frames) ends is has =
+    let start : ℕ = max end (before - window) in
+    let at : start ≡ end + ((before - window) - end) = max-is end (before - window) in
+    let both = and_parts (leb (start + frame.bytes) (before + frame.area)) (has_layout window (start + frame.bytes) (before + frame.area) frames) has in
+    let here : start + frame.bytes ≤ before + frame.area = leb-true (start + frame.bytes) (before + frame.area) both.0 in
+    (omega arith, has-fit window (start + frame.bytes) (before + frame.area) (free_behind window free frame.bytes frame.area) frames here (omega arith) both.1)
+
+has-feasible : (window : ℕ) (frames : List Frame) → has_layout window 0 0 frames ≡ true → IsFeasible window 0 frames
+unfolding IsFeasible
+has-feasible window frames has = (starts_of window 0 0 frames, layout-fit window 0 0 0 frames (omega arith) (omega arith) (has-fit window 0 0 0 frames (omega arith) (omega arith) has))
+
+feasible-has : (window : ℕ) (frames : List Frame) → IsFeasible window 0 frames → has_layout window 0 0 frames ≡ true
+unfolding IsFeasible
+feasible-has window frames feasible = fit-has window 0 0 0 frames (omega arith) (omega arith) (fit-layout window 0 0 0 frames feasible.0 (omega arith) feasible.1)
+
+-- ---- the first list that passes a test
+
+-- a slot for each item, one of its choices
+unfoldable AreOf : List Item → List SlotFields → Type 0
+AreOf [] [] = Unit {0}
+AreOf [] (slot ∷ slots) = ⊥
+AreOf (item ∷ items) [] = ⊥
+AreOf (item ∷ items) (slot ∷ slots) = Contains item.choices slot × AreOf items slots
+
+unfoldable areas_by : List Item → List SlotFields → List ℕ
+areas_by [] slots = []
+areas_by (item ∷ items) [] = []
+areas_by (item ∷ items) (slot ∷ slots) = area_in item slot ∷ areas_by items slots
+
+-- it passes, and no list that passes comes before it
+record IsFirst (items : List Item) (test : List SlotFields → Bool) (slots : List SlotFields) : Type 0 where
+  of : AreOf items slots
+  passes : test slots ≡ true
+  first : (others : List SlotFields) → AreOf items others → test others ≡ true → IsNotBehind (areas_by items slots) (areas_by items others)
+
+abbrev Finds : List Item → (List SlotFields → Bool) → Option (List SlotFields) → Type 0
+Finds items test (Some slots) = IsFirst items test slots
+Finds items test None = (others : List SlotFields) → AreOf items others → test others ≡ true → ⊥
+
+find-map : {X Y : Type 0} (test : Y → Bool) (f : X → Y) (xs : List X) → find test (map f xs) ≡ option_map f (find (λ x. test (f x)) xs)
+find-map test f [] = refl
+find-map test f (x ∷ xs) = at (test (f x)) (find-map test f xs)
+  where
+    at : (b : Bool) → find test (map f xs) ≡ option_map f (find (λ x. test (f x)) xs) → cond b (Some (f x)) (find test (map f xs)) ≡ option_map f (cond b (Some x) (find (λ x. test (f x)) xs))
+    at true rest = refl
+    at false rest = rest
+
+-- the same of lists whose first slot is one of these
+record IsFirstOf (item : Item) (items : List Item) (choices : List SlotFields) (test : List SlotFields → Bool) (slot : SlotFields) (slots : List SlotFields) : Type 0 where
+  chosen : Contains choices slot
+  of : AreOf items slots
+  passes : test (slot ∷ slots) ≡ true
+  first : (s : SlotFields) (others : List SlotFields) → Contains choices s → AreOf items others → test (s ∷ others) ≡ true → IsNotBehind (area_in item slot ∷ areas_by items slots) (area_in item s ∷ areas_by items others)
+
+abbrev FindsOf : Item → List Item → List SlotFields → (List SlotFields → Bool) → Option (List SlotFields) → Type 0
+FindsOf item items choices test (Some (slot ∷ slots)) = IsFirstOf item items choices test slot slots
+FindsOf item items choices test (Some []) = ⊥
+FindsOf item items choices test None = (s : SlotFields) (others : List SlotFields) → Contains choices s → AreOf items others → test (s ∷ others) ≡ true → ⊥
+
+area-later : (c : ClassFields) (p : Bool) (slot : SlotFields) (slots : List SlotFields) (other : SlotFields) → Ascend (areas_with c p (slot ∷ slots)) → Contains slots other → area_of c slot p < area_of c other p
+area-later c p slot slots other ascend is =
+    let has = Contains-area c p slots other is in
+    omega (arith, ascend 0 (suc has.0) (area_of c other p) (omega arith) (omega (arith, has.1)), has.2)
+
+ascend-behind : (n : ℕ) (ns : List ℕ) → Ascend (n ∷ ns) → Ascend ns
+ascend-behind n ns ascend = λ i j d before lt. ascend (suc i) (suc j) d (omega (arith, before)) (omega (arith, lt))
+
+module _ (item : Item) (items : List Item) (test : List SlotFields → Bool) where
+  none-of : (slot : SlotFields) (choices : List SlotFields) → ((others : List SlotFields) → AreOf items others → test (slot ∷ others) ≡ true → ⊥)
+      → FindsOf item items choices test None → FindsOf item items (slot ∷ choices) test None
+  none-of slot choices none later s others (zero, within, at) of passes = none others of (subst (λ t. test (t ∷ others) ≡ true) (sym at) passes)
+  none-of slot choices none later s others (suc k, within, at) of passes = later s others (k, omega (arith, within), at) of passes
+
+  first-later : (slot : SlotFields) (choices : List SlotFields) → ((others : List SlotFields) → AreOf items others → test (slot ∷ others) ≡ true → ⊥)
+      → (t : SlotFields) (slots : List SlotFields) → IsFirstOf item items choices test t slots
+      → (s : SlotFields) (others : List SlotFields) → Contains (slot ∷ choices) s → AreOf items others → test (s ∷ others) ≡ true → IsNotBehind (area_in item t ∷ areas_by items slots) (area_in item s ∷ areas_by items others)
+  first-later slot choices none t slots is s others (zero, within, at) of passes = absurd (none others of (subst (λ r. test (r ∷ others) ≡ true) (sym at) passes))
+  first-later slot choices none t slots is s others (suc k, within, at) of passes = is.first s others (k, omega (arith, within), at) of passes
+
+  none-more : (slot : SlotFields) (choices : List SlotFields) → ((others : List SlotFields) → AreOf items others → test (slot ∷ others) ≡ true → ⊥)
+      → (found : Option (List SlotFields)) → FindsOf item items choices test found → FindsOf item items (slot ∷ choices) test found
+  none-more slot choices none None is = none-of slot choices none is
+  none-more slot choices none (Some []) is = is
+  none-more slot choices none (Some (t ∷ slots)) is = record {
+    chosen = (suc is.chosen.0, omega (arith, is.chosen.1), is.chosen.2);
+    of = is.of;
+    passes = is.passes;
+    first = first-later slot choices none t slots is;
+  }
+
+  first-here : (slot : SlotFields) (choices : List SlotFields) → Ascend (areas_with item.class item.protected (slot ∷ choices)) → (slots : List SlotFields) → IsFirst items (λ rest. test (slot ∷ rest)) slots
+      → (s : SlotFields) (others : List SlotFields) → Contains (slot ∷ choices) s → AreOf items others → test (s ∷ others) ≡ true → IsNotBehind (area_in item slot ∷ areas_by items slots) (area_in item s ∷ areas_by items others)
+  unfolding IsNotBehind
+  first-here slot choices ascend slots is s others (zero, within, at) of passes = inr (ap (λ t. area_in item t) at, is.first others of (subst (λ t. test (t ∷ others) ≡ true) (sym at) passes))
+  first-here slot choices ascend slots is s others (suc k, within, at) of passes = inl (area-later item.class item.protected slot choices s ascend (k, omega (arith, within), at))
+
+  finds-more : (slot : SlotFields) (choices : List SlotFields) (later : List (List SlotFields)) → Ascend (areas_with item.class item.protected (slot ∷ choices)) → FindsOf item items choices test (find test later)
+      → (found : Option (List SlotFields)) → Finds items (λ slots. test (slot ∷ slots)) found → FindsOf item items (slot ∷ choices) test (option_or (option_map (λ slots. slot ∷ slots) found) (find test later))
+  finds-more slot choices later ascend rest None none = none-more slot choices none (find test later) rest
+  finds-more slot choices later ascend rest (Some slots) is = record { chosen = (zero, omega arith, refl); of = is.of; passes = is.passes; first = first-here slot choices ascend slots is }
+
+  finds-of : (choices : List SlotFields) → Ascend (areas_with item.class item.protected choices) → ((among : List SlotFields → Bool) → Finds items among (find among (all_lists items)))
+      → FindsOf item items choices test (find test (flat_map (λ slot. map (λ slots. slot ∷ slots) (all_lists items)) choices))
+  finds-of [] ascend all = λ s others has of passes. absurd (omega (arith, has.1))
+  finds-of (slot ∷ choices) ascend all =
+      let later : List (List SlotFields) = flat_map (λ s. map (λ slots. s ∷ slots) (all_lists items)) choices in
+      let found_is = find-append test (map (λ slots. slot ∷ slots) (all_lists items)) later ∙ ap (λ o. option_or o (find test later)) (find-map test (λ slots. slot ∷ slots) (all_lists items)) in
+      subst (FindsOf item items (slot ∷ choices) test) (sym found_is)
+      (finds-more slot choices later ascend (finds-of choices (ascend-behind (area_in item slot) (areas_with item.class item.protected choices) ascend) all)
+      (find (λ slots. test (slot ∷ slots)) (all_lists items)) (all (λ slots. test (slot ∷ slots))))
+
+  whole-none : FindsOf item items item.choices test None → (others : List SlotFields) → AreOf (item ∷ items) others → test others ≡ true → ⊥
+  unfolding AreOf
+  whole-none none [] of passes = absurd of
+  whole-none none (s ∷ others) of passes = none s others of.0 of.1 passes
+
+  whole-first : (slot : SlotFields) (slots : List SlotFields) → IsFirstOf item items item.choices test slot slots → (others : List SlotFields) → AreOf (item ∷ items) others → test others ≡ true → IsNotBehind (areas_by (item ∷ items) (slot ∷ slots)) (areas_by (item ∷ items) others)
+  unfolding AreOf areas_by
+  whole-first slot slots is [] of passes = absurd of
+  whole-first slot slots is (s ∷ others) of passes = is.first s others of.0 of.1 passes
+
+  finds-whole : (found : Option (List SlotFields)) → FindsOf item items item.choices test found → Finds (item ∷ items) test found
+  unfolding AreOf
+  finds-whole None none = whole-none none
+  finds-whole (Some []) is = absurd is
+  finds-whole (Some (slot ∷ slots)) is = record { of = (is.chosen, is.of); passes = is.passes; first = whole-first slot slots is }
+
+finds-nothing : (test : List SlotFields → Bool) (b : Bool) → test [] ≡ b → Finds [] test (cond b (Some []) None)
+unfolding AreOf areas_by IsNotBehind
+finds-nothing test true is = record {
+  of = tt;
+  passes = is;
+  first = λ others of passes. tt;
+}
+finds-nothing test false is = none
+  where
+    none : (others : List SlotFields) → AreOf [] others → test others ≡ true → ⊥
+    none [] of passes = let both : false ≡ true = sym is ∙ passes in absurd cc
+    none (s ∷ others) of passes = of
+
+finds : (items : List Item) → AreOrdered items → (test : List SlotFields → Bool) → Finds items test (find test (all_lists items))
+unfolding all_lists
+finds [] ordered test = finds-nothing test (test []) refl
+finds (item ∷ items) ordered test = finds-whole item items test (find test (all_lists (item ∷ items))) (finds-of item items test item.choices ordered.0 (finds items ordered.1))
+
+-- ---- it is the least list
+
+slots-frames : (items : List Item) (slots : List SlotFields) → in_slots items slots ≡ frames_of (map open_of items) (areas_by items slots)
+unfolding in_slots frames_of areas_by
+slots-frames [] slots = refl
+slots-frames (item ∷ items) [] = refl
+slots-frames (item ∷ items) (slot ∷ slots) = ap (λ (l : List Frame). record { bytes = item.bytes; area = area_in item slot } ∷ l) (slots-frames items slots)
+
+of-chosen : (items : List Item) (slots : List SlotFields) → AreOf items slots → AreChosen (map open_of items) (areas_by items slots)
+unfolding AreOf AreChosen areas_by
+of-chosen [] [] of = tt
+of-chosen [] (slot ∷ slots) of = absurd of
+of-chosen (item ∷ items) [] of = absurd of
+of-chosen (item ∷ items) (slot ∷ slots) of = (Contains-area item.class item.protected item.choices slot of.0, of-chosen items slots of.1)
+
+chosen-of : (items : List Item) (areas : List ℕ) → AreChosen (map open_of items) areas → (slots : List SlotFields) × AreOf items slots × (areas_by items slots ≡ areas)
+unfolding AreOf AreChosen areas_by
+chosen-of [] [] chosen = ([], tt, refl)
+chosen-of [] (area ∷ areas) chosen = absurd chosen
+chosen-of (item ∷ items) [] chosen = absurd chosen
+chosen-of (item ∷ items) (area ∷ areas) chosen =
+    let slot = slot-area item.class item.protected item.choices area chosen.0 in
+    let rest = chosen-of items areas chosen.1 in
+    (slot.0 ∷ rest.0, (slot.1, rest.1), ap₂ (λ n (l : List ℕ). n ∷ l) slot.2 rest.2)
+
+module _ (window : ℕ) (items : List Item) where
+  abbrev passing : List SlotFields → Bool
+  passing slots = has_layout window 0 0 (in_slots items slots)
+
+  slots-feasible : (slots : List SlotFields) → passing slots ≡ true → IsFeasible window 0 (frames_of (map open_of items) (areas_by items slots))
+  slots-feasible slots passes = subst (IsFeasible window 0) (slots-frames items slots) (has-feasible window (in_slots items slots) passes)
+
+  feasible-slots : (slots : List SlotFields) → IsFeasible window 0 (frames_of (map open_of items) (areas_by items slots)) → passing slots ≡ true
+  feasible-slots slots feasible = feasible-has window (in_slots items slots) (subst (IsFeasible window 0) (sym (slots-frames items slots)) feasible)
+
+  first-list-least : (slots : List SlotFields) → AreOrdered items → first_list window items ≡ Some slots → AreOf items slots × IsLeast window (map open_of items) (areas_by items slots)
+  first-list-least slots ordered is =
+      let found : IsFirst items passing slots = subst (Finds items passing) is (finds items ordered passing) in (
+        found.of,
+        record {
+          chosen = of-chosen items slots found.of;
+          feasible = slots-feasible slots found.passes;
+          least = λ others chosen feasible.
+              let of = chosen-of items others chosen in
+              subst (IsNotBehind (areas_by items slots)) of.2
+              (found.first of.0 of.1 (feasible-slots of.0 (subst (λ l. IsFeasible window 0 (frames_of (map open_of items) l)) (sym of.2) feasible)));
+        },
+      )
+
+  no-list : AreOrdered items → first_list window items ≡ None → CanBeLaid window (map open_of items) → ⊥
+  unfolding CanBeLaid
+  no-list ordered is can =
+      let none : Finds items passing None = subst (Finds items passing) is (finds items ordered passing) in
+      let of = chosen-of items can.0 can.1 in
+      none of.0 of.1 (feasible-slots of.0 (subst (λ l. IsFeasible window 0 (frames_of (map open_of items) l)) (sym of.2) can.2))
+
+  some-list : AreOrdered items → CanBeLaid window (map open_of items) → (slots : List SlotFields) × (first_list window items ≡ Some slots)
+  some-list ordered can = at (first_list window items) refl
+    where
+      at : (found : Option (List SlotFields)) → first_list window items ≡ found → (slots : List SlotFields) × (first_list window items ≡ Some slots)
+      at None is = absurd (no-list ordered is can)
+      at (Some slots) is = (slots, is)
+
+  never-list : AreOrdered items → (CanBeLaid window (map open_of items) → ⊥) → first_list window items ≡ None
+  unfolding CanBeLaid
+  never-list ordered never = at (first_list window items) refl
+    where
+      at : (found : Option (List SlotFields)) → first_list window items ≡ found → first_list window items ≡ None
+      at None is = is
+      at (Some slots) is = let least = (first-list-least slots ordered is).1 in absurd (never (areas_by items slots, least.chosen, least.feasible))
+
+-- ---- laid as early as may be, it is the plan of these items
+
+laid-for : (window end before : ℕ) (items : List Item) (slots : List SlotFields) → AreOf items slots → AreFor items (placed_in items slots (begins_of window end before (in_slots items slots)))
+unfolding AreOf AreFor in_slots begins_of placed_in
+laid-for window end before [] [] of = tt
+laid-for window end before [] (slot ∷ slots) of = absurd of
+laid-for window end before (item ∷ items) [] of = absurd of
+laid-for window end before (item ∷ items) (slot ∷ slots) of = (refl, of.0, laid-for window (max end (before - window) + item.bytes) (before + area_in item slot) items slots of.1)
+
+laid-areas : (window end before : ℕ) (items : List Item) (slots : List SlotFields) → AreOf items slots → areas_in items (placed_in items slots (begins_of window end before (in_slots items slots))) ≡ areas_by items slots
+unfolding AreOf areas_in areas_by in_slots begins_of placed_in
+laid-areas window end before [] [] of = refl
+laid-areas window end before [] (slot ∷ slots) of = absurd of
+laid-areas window end before (item ∷ items) [] of = absurd of
+laid-areas window end before (item ∷ items) (slot ∷ slots) of =
+    ap (λ (l : List ℕ). area_in item slot ∷ l) (laid-areas window (max end (before - window) + item.bytes) (before + area_in item slot) items slots of.1)
+
+laid-begins : (window end before : ℕ) (items : List Item) (slots : List SlotFields) → AreOf items slots
+    → map (λ (p : Placed). p.begin) (placed_in items slots (begins_of window end before (in_slots items slots))) ≡ begins_of window end before (in_slots items slots)
+unfolding AreOf in_slots begins_of placed_in
+laid-begins window end before [] [] of = refl
+laid-begins window end before [] (slot ∷ slots) of = absurd of
+laid-begins window end before (item ∷ items) [] of = absurd of
+laid-begins window end before (item ∷ items) (slot ∷ slots) of =
+    ap (λ (l : List ℕ). (before - max end (before - window)) ∷ l) (laid-begins window (max end (before - window) + item.bytes) (before + area_in item slot) items slots of.1)
+
+module _ (window : ℕ) (items : List Item) (ordered : AreOrdered items) where
+  plan-laid : (slots : List SlotFields) → first_list window items ≡ Some slots → IsPlanFor window items (laid_early window items slots)
+  plan-laid slots is =
+      let found = first-list-least window items slots ordered is in
+      let areas = laid-areas window 0 0 items slots found.0 in
+      record {
+        slots = laid-for window 0 0 items slots found.0;
+        least = subst (IsLeast window (map open_of items)) (sym areas) found.1;
+        begins = laid-begins window 0 0 items slots found.0 ∙ ap (begins_of window 0 0) (slots-frames items slots ∙ ap (frames_of (map open_of items)) (sym areas));
+      }
+
+  pub plan-found : (placed : List Placed) → IsPlanFor window items placed → least_of window items ≡ Some placed
+  unfolding CanBeLaid
+  plan-found placed plan = at (first_list window items) refl
+    where
+      at : (found : Option (List SlotFields)) → first_list window items ≡ found → option_map (laid_early window items) found ≡ Some placed
+      at None is = absurd (no-list window items ordered is (areas_in items placed, plan.least.chosen, plan.least.feasible))
+      at (Some slots) is = ap Some (one_plan_for window items (laid_early window items slots) placed ordered (plan-laid slots is) plan)
+
+  pub found-plan : (placed : List Placed) → least_of window items ≡ Some placed → IsPlanFor window items placed
+  found-plan placed same = at (first_list window items) refl same
+    where
+      at : (found : Option (List SlotFields)) → first_list window items ≡ found → option_map (laid_early window items) found ≡ Some placed → IsPlanFor window items placed
+      at None is e = absurd cc
+      at (Some slots) is e = subst (IsPlanFor window items) (ap (λ o. unwrap_or o placed) e) (plan-laid slots is)
+
+  pub none-found : (CanBeLaid window (map open_of items) → ⊥) → least_of window items ≡ None
+  none-found never = ap (option_map (laid_early window items)) (never-list window items ordered never)
+
+  pub can-found : CanBeLaid window (map open_of items) → (placed : List Placed) × (least_of window items ≡ Some placed)
+  can-found can = let found = some-list window items ordered can in (laid_early window items found.0, ap (option_map (laid_early window items)) found.1)
+
+-- ---- the lead-ins
+
+module _ (window : ℕ) (choices : HeaderFields → List SlotFields) where
+  lead-slot : (first : Need) (part : List Need) (slot : SlotFields) (rest : List ℕ) (slots : List SlotFields) → AreInOrder choices (first ∷ part) → Contains all_slots slot → IsLeast window (behind_any choices first part) (area_of (class_of first.header) slot false ∷ rest)
+      → AreOf (lead_in_of (class_of first.header) all_slots ∷ map (item_of choices) (first ∷ part)) slots
+      → IsLeast window (behind_any choices first part) (areas_by (lead_in_of (class_of first.header) all_slots ∷ map (item_of choices) (first ∷ part)) slots) → slice_get slots 0 ≡ Some slot
+  unfolding AreOf areas_by
+  lead-slot first part slot rest [] order is least of found = absurd of
+  lead-slot first part slot rest (s ∷ slots) order is least of found =
+      let areas : List ℕ = areas_by (lead_in_of (class_of first.header) all_slots ∷ map (item_of choices) (first ∷ part)) (s ∷ slots) in
+      let same = equal_lists areas (area_of (class_of first.header) slot false ∷ rest) (found.least (area_of (class_of first.header) slot false ∷ rest) least.chosen least.feasible) (least.least areas found.chosen found.feasible) in
+      ap Some (one-slot (class_of first.header) false all_slots s slot (slots_ascend (class_of first.header) order.0.class) of.0 is (ap (λ l. get_or l 0 0) same))
+
+  lead-alone : (part : List Need) (lead_in : Option SlotFields) → AreInOrder choices part → IsLeadIn window choices part lead_in → lead_in_alone window choices part ≡ lead_in
+  unfolding IsLeadIn items_of lead_in_alone CanBeLaid
+  lead-alone [] None order is = refl
+  lead-alone [] (Some slot) order is = absurd is
+  lead-alone (first ∷ part) None order is =
+      let items : List Item = map (item_of choices) (first ∷ part) in
+      let behind : List Item = lead_in_of (class_of first.header) all_slots ∷ items in
+      let found = some-list window items (ordered_frames choices (first ∷ part) order) is in
+      ap (λ (o : Option (List SlotFields)). cond (is_some o) None (option_and_then (λ slots. slice_get slots 0) (first_list window behind))) found.1
+  lead-alone (first ∷ part) (Some slot) order is =
+      let items : List Item = map (item_of choices) (first ∷ part) in
+      let behind : List Item = lead_in_of (class_of first.header) all_slots ∷ items in
+      let ordered : AreOrdered items = ordered_frames choices (first ∷ part) order in
+      let ordered_behind : AreOrdered behind = (slots_ascend (class_of first.header) order.0.class, ordered) in
+      let least = (lead-first window choices first part slot is.0 is.2).0 is in
+      let found = some-list window behind ordered_behind (area_of (class_of first.header) slot false ∷ least.0, least.1.chosen, least.1.feasible) in
+      let at = first-list-least window behind found.0 ordered_behind found.1 in
+      ap (λ (o : Option (List SlotFields)). cond (is_some o) None (option_and_then (λ slots. slice_get slots 0) (first_list window behind))) (never-list window items ordered is.0)
+      ∙ ap (λ (o : Option (List SlotFields)). option_and_then (λ slots. slice_get slots 0) o) found.1
+      ∙ lead-slot first part slot least.0 found.0 order is.2 least.1 at.0 at.1
+
+  leads-alone : (parts : List (List Need)) (lead_ins : List (Option SlotFields)) → AllInOrder choices parts → AreLeadIns window choices parts lead_ins → map (lead_in_alone window choices) parts ≡ lead_ins
+  unfolding AreLeadIns
+  leads-alone [] [] order are = refl
+  leads-alone [] (lead_in ∷ lead_ins) order are = absurd are
+  leads-alone (part ∷ parts) [] order are = absurd are
+  leads-alone (part ∷ parts) (lead_in ∷ lead_ins) order are =
+      ap₂ (λ (o : Option SlotFields) (l : List (Option SlotFields)). o ∷ l) (lead-alone part lead_in order.0 are.0) (leads-alone parts lead_ins order.1 are.1)
+
+  -- ---- the plan
+
+  pub plan-least : (parts : List (List Need)) (placed : List Placed) → ChooseInOrder choices parts → IsPlan window choices parts placed → placed ≡ least_plan window choices parts
+  unfolding least_plan
+  plan-least parts placed order plan =
+      let all = all_in_order choices parts order in
+      let found = plan-found window (whole_of choices parts plan.lead_ins) (ordered_whole choices parts plan.lead_ins all) placed plan.whole in
+      sym (ap (λ l. unwrap_or (least_of window (whole_of choices parts l)) []) (leads-alone parts plan.lead_ins all plan.alone) ∙ ap (λ o. unwrap_or o []) found)
+
+-- parts of one class that have layouts have a plan, so it is the only one
+pub least-plan-is : (class : ClassFields) (choices : HeaderFields → List SlotFields) (parts : List (List Need)) (placed : List Placed)
+    → All (λ part. AreOfClass class part) parts → ChooseInOrder choices parts → ArePartsFeasible (window_of class.version) parts → IsPlan (window_of class.version) choices parts placed ↔ (placed ≡ least_plan (window_of class.version) choices parts)
+least-plan-is class choices parts placed of_class order feasible =
+    let is = plan-is class choices parts of_class order feasible in (
+      (λ plan. plan-least (window_of class.version) choices parts placed order plan),
+      (λ same. subst (IsPlan (window_of class.version) choices parts) (plan-least (window_of class.version) choices parts (the_plan (window_of class.version) choices parts) order is ∙ sym same) is),
+    )

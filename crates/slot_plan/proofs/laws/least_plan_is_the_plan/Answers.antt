@@ -1,0 +1,6 @@
+-- The plan is that of the first list.
+use Rattle.slot_plan.proofs.LeastPlan.{least-plan-is}
+use Rattle.slot_plan.proofs.laws.least_plan_is_the_plan.Goals as goal
+
+pub returns : goal.returns
+returns c = least-plan-is
