@@ -11,7 +11,7 @@ use Rattle.slot_plan.specs.Reserve.{greatest, free_behind, opens_in}
 use Rattle.slot_plan.proofs.ReserveLaws.{AllFit, starts_of, fit-layout, layout-fit, greatest-most, Contains-greatest}
 use Rattle.slot_plan.proofs.PartLaws.{class-at}
 use Rattle.slot_plan.proofs.AreaLaws.{Contains-area}
-use Rattle.rate_plan.specs.MenuPlan.{most_area, start_of}
+use Rattle.rate_plan.proofs.MenuPlan.{most_area, start_of}
 use Rattle.rate_plan.specs.Menus.{from_menu, items_from, CanBeLaidFrom, IsUnfit}
 
 -- ---- each in its largest area
@@ -137,7 +137,7 @@ fit-take window free menu needs k fit =
     ap (map (top_frame menu)) (sym (take-append-drop k needs)) ∙ map-append (top_frame menu) (take k needs) (drop k needs) in
     fit-front window free (map (top_frame menu) (take k needs)) (map (top_frame menu) (drop k needs)) (subst (AllFit window free) parts fit)
 
-class-take : (class : ClassFields) (needs : List Need) (k : ℕ) → AreOfClass class needs → AreOfClass class (take k needs)
+pub class-take : (class : ClassFields) (needs : List Need) (k : ℕ) → AreOfClass class needs → AreOfClass class (take k needs)
 unfolding AreOfClass
 class-take class needs zero same = tt
 class-take class [] (suc k) same = tt

@@ -10,7 +10,7 @@ use Rattle.slot_plan.specs.Reserve.{greatest, free_behind}
 use Rattle.slot_plan.proofs.ReserveLaws.{AllFit, fit-from, greatest-most}
 use Rattle.slot_plan.proofs.AreaLaws.{Contains-area}
 use Rattle.rate_plan.specs.Laws.{LargestSlotFits}
-use Rattle.rate_plan.specs.MenuPlan.{most_area, start_of}
+use Rattle.rate_plan.proofs.MenuPlan.{most_area, start_of}
 use Rattle.rate_plan.proofs.FitLaws.{top_frame, fit-laid}
 
 -- no area of the class is larger

@@ -1,5 +1,7 @@
 pub mod FitLaws
 pub mod PlacingLaws
 pub mod LargestLaw
+pub mod LeastMenuPlan
 pub mod MenuLaws
+pub mod MenuPlan
 pub mod OneMenuPlan

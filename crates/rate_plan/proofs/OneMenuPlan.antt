@@ -1,4 +1,4 @@
--- The plan that is made frame by frame is the plan, and so the only one; and there is one first unfit frame.
+-- What is made frame by frame is a plan, and so the only one, or there is one first unfit frame.
 use Rattle.std.proofs.Common.{◌≡◌, ℕ, ◌+◌, ◌<◌, ◌≤◌, ◌==◌, leb, not, cond, Bool, true, false, inl, inr, List, [], ◌∷◌, map, length, get_or, drop, AllPairs, Option, Some, None, Result, Ok, Err, refl, sym, ap, ◌∙◌, subst, arith}
 use Rattle.std.specs.Prelude.{◌↔◌, MatchOption}
 use Rattle.std.proofs.lemmas.Bool.{leb-true, leb-false, eqb-true, eqb-false, cases_lt}
@@ -11,14 +11,13 @@ use Rattle.slot_plan.specs.Lists.{Open, CanBeLaid, IsLeast}
 use Rattle.slot_plan.specs.Parts.{Item, open_of, item_of, areas_with, AreOfClass}
 use Rattle.slot_plan.specs.Plans.{areas_in, IsPlanFor}
 use Rattle.slot_plan.specs.Reserve.{needed, free_behind, opens_in}
-use Rattle.slot_plan.specs.ThePlan.{placed_from}
+use Rattle.slot_plan.proofs.ThePlan.{placed_from}
 use Rattle.slot_plan.proofs.ReserveLaws.{needed-can}
 use Rattle.slot_plan.proofs.PlacedLaws.{plan-placed}
 use Rattle.slot_plan.proofs.OnePlan.{AreOrdered, one_plan_for}
 use Rattle.slot_plan.proofs.ThePlan.{HaveSlots, placed-is}
 use Rattle.rate_plan.specs.Menus.{AreAscending, from_menu, items_from, CanBeLaidFrom, IsMenuPlan, IsUnfit}
-use Rattle.rate_plan.specs.MenuPlan.{most_area, start_of, unfit_from, placed_in, plan_or, menu_plan}
-use Rattle.rate_plan.specs.Laws.{MenuPlanIsThePlan}
+use Rattle.rate_plan.proofs.MenuPlan.{most_area, start_of, unfit_from, placed_in, plan_or, menu_plan}
 use Rattle.rate_plan.proofs.FitLaws.{FitTo, to-begun, to-more, to-all, to-unfit}
 use Rattle.rate_plan.proofs.PlacingLaws.{laid-need, plan-without}
 
@@ -86,7 +85,7 @@ ordered-frames class menu [] same ascend = tt
 ordered-frames class menu (need ∷ needs) same ascend =
     (subst (λ c. AllPairs (λ m n. m < n) (areas_with c need.header.protected menu)) (sym same.0) (ascend need.header.protected), ordered-frames class menu needs same.1 ascend)
 
-ordered-items : (lead_in : Bool) (class : ClassFields) (menu : List SlotFields) (needs : List Need) → AreOfClass class needs → AreAscending class menu → AreOrdered (items_from lead_in menu needs)
+pub ordered-items : (lead_in : Bool) (class : ClassFields) (menu : List SlotFields) (needs : List Need) → AreOfClass class needs → AreAscending class menu → AreOrdered (items_from lead_in menu needs)
 unfolding items_from AreOfClass
 ordered-items false class menu needs same ascend = ordered-frames class menu needs same ascend
 ordered-items true class menu [] same ascend = tt
@@ -146,7 +145,7 @@ module _ (window : ℕ) (class : ClassFields) (menu : List SlotFields) (needs : 
   placed-by false is can = behind-is window class menu needs same ascend slots can (eqb-false _ 0 is)
 
   -- what a search says, as the function has it
-  abbrev Answers : Result (List Placed) ℕ → Type 0
+  abbrev pub Answers : Result (List Placed) ℕ → Type 0
   Answers (Ok placed) = IsMenuPlan window menu needs placed
   Answers (Err i) = IsUnfit window menu needs i
 
@@ -154,15 +153,15 @@ module _ (window : ℕ) (class : ClassFields) (menu : List SlotFields) (needs : 
   answers-by None says = placed-by (needed (opens_in (from_menu menu) needs) == 0) refl says
   answers-by (Some i) says = says
 
-  plan-answer : (answer : Result (List Placed) ℕ) (placed : List Placed) → Answers answer → IsMenuPlan window menu needs placed ↔ (answer ≡ Ok placed)
+  pub plan-answer : (answer : Result (List Placed) ℕ) (placed : List Placed) → Answers answer → IsMenuPlan window menu needs placed ↔ (answer ≡ Ok placed)
   plan-answer (Ok made) placed is = ((λ other. ap (λ l. Ok l) (one-menu_plan window class menu needs made placed same ascend is other)), (λ e. subst Answers e is))
   plan-answer (Err i) placed is = ((λ other. absurd (plan-fits window menu needs placed i other is)), (λ e. subst Answers e is))
 
-  unfit-answer : (answer : Result (List Placed) ℕ) (i : ℕ) → Answers answer → IsUnfit window menu needs i ↔ (answer ≡ Err i)
+  pub unfit-answer : (answer : Result (List Placed) ℕ) (i : ℕ) → Answers answer → IsUnfit window menu needs i ↔ (answer ≡ Err i)
   unfit-answer (Ok made) i is = ((λ other. absurd (plan-fits window menu needs made i is other)), (λ e. subst Answers e is))
   unfit-answer (Err j) i is = ((λ other. ap (λ n. Err n) (one-unfit window class menu needs same some slots j i is other)), (λ e. subst Answers e is))
 
-plan-answers : (window : ℕ) (class : ClassFields) (menu : List SlotFields) (needs : List Need) (same : AreOfClass class needs) (some : 1 ≤ length needs) (ascend : AreAscending class menu) (slots : 1 ≤ length menu)
+pub plan-answers : (window : ℕ) (class : ClassFields) (menu : List SlotFields) (needs : List Need) (same : AreOfClass class needs) (some : 1 ≤ length needs) (ascend : AreAscending class menu) (slots : 1 ≤ length menu)
     → Answers window class menu needs same some ascend slots (menu_plan window menu needs)
 unfolding menu_plan AreOfClass
 plan-answers window class menu [] same some ascend slots = absurd (omega (arith, some))
@@ -170,10 +169,3 @@ plan-answers window class menu (first ∷ needs) same some ascend slots =
     let start : ℕ = start_of window (class_of first.header) menu in
     let begun = to-begun window class menu (first ∷ needs) start (ap (λ c. start_of window c menu) same.0) in
     answers-by window class menu (first ∷ needs) same some ascend slots (unfit_from window menu 0 start (first ∷ needs)) (search-says window class menu (first ∷ needs) same some slots 0 start (first ∷ needs) refl begun)
-
-pub menu_plan-is : MenuPlanIsThePlan
-menu_plan-is = λ window class menu needs same some ascend slots.
-    let is = plan-answers window class menu needs same some ascend slots in (
-      (λ placed. plan-answer window class menu needs same some ascend slots (menu_plan window menu needs) placed is),
-      (λ i. unfit-answer window class menu needs same some ascend slots (menu_plan window menu needs) i is),
-    )

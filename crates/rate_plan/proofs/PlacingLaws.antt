@@ -16,7 +16,7 @@ use Rattle.slot_plan.proofs.PlacedLaws.{plan-placed}
 use Rattle.slot_plan.proofs.LeadInLaws.{within-tail}
 use Rattle.rate_plan.specs.Menus.{from_menu, items_from, CanBeLaidFrom, IsMenuPlan}
 use Rattle.rate_plan.specs.Placing.{NeedAtMost, HasReserves, Places}
-use Rattle.rate_plan.specs.MenuPlan.{most_area}
+use Rattle.rate_plan.proofs.MenuPlan.{most_area}
 use Rattle.rate_plan.proofs.FitLaws.{tops_of, tops-chosen}
 
 pub window-most : (version : Version) → window_of version ≤ 511

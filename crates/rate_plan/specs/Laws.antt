@@ -8,7 +8,7 @@ use Rattle.slot_plan.specs.declared.needs.Placed.{Placed}
 use Rattle.slot_plan.specs.Layouts.{IsFeasible}
 use Rattle.slot_plan.specs.Parts.{own_frame, AreOfClass}
 use Rattle.rate_plan.specs.Menus.{AreAscending, IsMenuPlan, IsUnfit}
-use Rattle.rate_plan.specs.MenuPlan.{menu_plan}
+use Rattle.rate_plan.specs.LeastMenuPlan.{least_menu_plan}
 
 -- Frames of one class that have a layout in their own slots after a whole window all fit, if the largest slot is in the menu.
 abbrev pub LargestSlotFits : Type 0
@@ -25,10 +25,11 @@ SlicesAreMenus =
     → AreAscending class (slice_range all_slots from to) × (1 ≤ length (slice_range all_slots from to))
     × (to ≡ 28 → Contains (slice_range all_slots from to) largest_slot)
 
--- Frames of one class have one plan from a menu, or one first unfit frame, which is that of the function.
-abbrev pub MenuPlanIsThePlan : Type 0
-MenuPlanIsThePlan =
+-- Frames of one class have one plan from a menu, or one first unfit frame, which is that of the first list: a frame is unfit exactly where
+-- no list has a layout.
+abbrev pub LeastMenuPlanIsThePlan : Type 0
+LeastMenuPlanIsThePlan =
     (window : ℕ) (class : ClassFields) (menu : List SlotFields) (needs : List Need)
     → AreOfClass class needs → 1 ≤ length needs → AreAscending class menu → 1 ≤ length menu
-    → ((placed : List Placed) → IsMenuPlan window menu needs placed ↔ (menu_plan window menu needs ≡ Ok placed))
-    × ((i : ℕ) → IsUnfit window menu needs i ↔ (menu_plan window menu needs ≡ Err i))
+    → ((placed : List Placed) → IsMenuPlan window menu needs placed ↔ (least_menu_plan window menu needs ≡ Ok placed))
+    × ((i : ℕ) → IsUnfit window menu needs i ↔ (least_menu_plan window menu needs ≡ Err i))

@@ -1,5 +1,5 @@
 pub mod Laws
-pub mod MenuPlan
+pub mod LeastMenuPlan
 pub mod Menus
 pub mod Placing
 pub use Rattle.slot_plan.specs.Layouts

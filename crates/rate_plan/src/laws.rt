@@ -1,5 +1,5 @@
 //! Laws of plans from a menu. Each function does nothing: a proof that needs its law calls it.
-ghost use Rattle.rate_plan.specs.Laws.{LargestSlotFits, SlicesAreMenus, MenuPlanIsThePlan};
+ghost use Rattle.rate_plan.specs.Laws.{LargestSlotFits, SlicesAreMenus, LeastMenuPlanIsThePlan};
 
 /// Frames that have a layout in their own slots after a whole window all fit, if the largest slot of all is
 /// in the menu, such as in a menu of all slots from some bit rate on.
@@ -12,8 +12,9 @@ pub fn slices_are_menus()
     ensures { SlicesAreMenus }
 {}
 
-/// Frames have one plan from a menu, or one first unfit frame. The plan is made frame by frame: each has
-/// the smallest area that leaves what is needed after it.
-pub fn menu_plan_is_the_plan()
-    ensures { MenuPlanIsThePlan }
+/// Frames have one plan from a menu, or one first unfit frame. The plan is the first of all lists of slots
+/// from the menu, in the order of their areas, for which there is a layout, without a lead-in or else with
+/// one; a frame is unfit exactly where there is no such list.
+pub fn least_menu_plan_is_the_plan()
+    ensures { LeastMenuPlanIsThePlan }
 {}

@@ -10,5 +10,5 @@ mod reserves;
 mod unfit;
 
 pub use fault::RateFault;
-pub use laws::{largest_slot_fits, menu_plan_is_the_plan, slices_are_menus};
+pub use laws::{largest_slot_fits, least_menu_plan_is_the_plan, slices_are_menus};
 pub use planning::rate_plan;

@@ -1,9 +1,10 @@
 //! The plan from a menu.
-ghost use Rattle.std.specs.Prelude.{◌≤◌, true, length, IfOk, IfErr};
+ghost use Rattle.std.specs.Prelude.{◌≡◌, ◌≤◌, true, length, Ok, IfOk, IfErr, MatchResult};
 ghost use Rattle.frame_header.specs.Tables.{window_of};
 ghost use Rattle.frame_header.specs.Limits.{most_frames};
 ghost use Rattle.slot_plan.specs.Parts.{window_in, AreOfClass, AreOfOneClass};
 ghost use Rattle.slot_plan.specs.Plans.{entries};
+ghost use Rattle.rate_plan.specs.LeastMenuPlan.{least_menu_plan, IsMenuFault};
 ghost use Rattle.rate_plan.specs.Menus.{AreAscending, IsMenu, CanBeLaidFrom, IsMenuPlan, Refuses};
 
 use crate::fault::RateFault;
@@ -60,6 +61,9 @@ pub fn rate_plan(alloc: Global, needs: &[Need], menu: &[Slot]) -> Result<Plan, R
     ensures plan { IfOk result (λ plan.
         IsMenuPlan (window_in needs.now) menu.now needs.now (entries plan)) }
     ensures refusal { IfErr result (Refuses (window_in needs.now) menu.now needs.now) }
+    ensures least { MatchResult result
+        (λ plan. least_menu_plan (window_in needs.now) menu.now needs.now ≡ Ok (entries plan))
+        (IsMenuFault (least_menu_plan (window_in needs.now) menu.now needs.now)) }
 {
     let class = needs[0].header.class();
     if let Some(i) = first_unfit(class, needs, menu) {

@@ -242,14 +242,14 @@ module _ (window : ℕ) (items : List Item) where
       let of = chosen-of items can.0 can.1 in
       none of.0 of.1 (feasible-slots of.0 (subst (λ l. IsFeasible window 0 (frames_of (map open_of items) l)) (sym of.2) can.2))
 
-  some-list : AreOrdered items → CanBeLaid window (map open_of items) → (slots : List SlotFields) × (first_list window items ≡ Some slots)
+  pub some-list : AreOrdered items → CanBeLaid window (map open_of items) → (slots : List SlotFields) × (first_list window items ≡ Some slots)
   some-list ordered can = at (first_list window items) refl
     where
       at : (found : Option (List SlotFields)) → first_list window items ≡ found → (slots : List SlotFields) × (first_list window items ≡ Some slots)
       at None is = absurd (no-list ordered is can)
       at (Some slots) is = (slots, is)
 
-  never-list : AreOrdered items → (CanBeLaid window (map open_of items) → ⊥) → first_list window items ≡ None
+  pub never-list : AreOrdered items → (CanBeLaid window (map open_of items) → ⊥) → first_list window items ≡ None
   unfolding CanBeLaid
   never-list ordered never = at (first_list window items) refl
     where

@@ -3,7 +3,7 @@ use Rattle.std.proofs.Common.{◌≡◌, ◌∙◌, true, ap, subst, arith}
 use Rattle.slot_plan.specs.Parts.{areas_with}
 use Rattle.slot_plan.specs.Reserve.{greatest, free_behind}
 use Rattle.rate_plan.specs.Menus.{CanBeLaidFrom, IsUnfit}
-use Rattle.rate_plan.specs.MenuPlan.{most_area}
+use Rattle.rate_plan.proofs.MenuPlan.{most_area}
 use Rattle.rate_plan.proofs.FitLaws.{area-at, to-begun, to-more, to-all, to-unfit}
 use Rattle.rate_plan.proofs.unfit.first_unfit.Goals as goal
 

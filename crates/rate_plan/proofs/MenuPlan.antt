@@ -1,5 +1,5 @@
--- The plan from a menu as a function: the first frame that doesn't fit even if each has its largest area; else frame by frame the smallest
--- area that leaves what is needed after it.
+-- How a plan from a menu is made: the first frame that doesn't fit even if each has its largest area; else frame by frame the smallest area
+-- that leaves what is needed after it.
 use Rattle.std.specs.Prelude.{ℕ, ◌+◌, ◌==◌, leb, not, if◌then◌else◌, false, List, [], ◌∷◌, Option, Some, None, Result, Ok, Err}
 use Rattle.frame_header.specs.Fields.{SlotFields, ClassFields}
 use Rattle.frame_header.specs.Tables.{class_of}
@@ -7,7 +7,7 @@ use Rattle.slot_plan.specs.declared.needs.Need.{Need}
 use Rattle.slot_plan.specs.declared.needs.Placed.{Placed}
 use Rattle.slot_plan.specs.Parts.{areas_with}
 use Rattle.slot_plan.specs.Reserve.{greatest, needed, free_behind, opens_in}
-use Rattle.slot_plan.specs.ThePlan.{placed_from}
+use Rattle.slot_plan.proofs.ThePlan.{placed_from}
 use Rattle.rate_plan.specs.Menus.{from_menu, items_from}
 
 -- the largest area that a frame can have

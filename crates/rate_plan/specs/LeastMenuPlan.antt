@@ -1,0 +1,33 @@
+-- The plan from a menu as a value: of all lists of slots from it the first, in the order of their areas, for which there is a layout; and
+-- the first unfit frame where there is none.
+use Rattle.std.specs.Prelude.{ℕ, ◌+◌, ◌≡◌, is_none, Bool, true, false, List, length, take, find, unwrap_or, ok_or, Option, Result, Err}
+use Rattle.std.specs.List.{range_with_len}
+use Rattle.std.specs.Option.{option_or}
+use Rattle.frame_header.specs.Fields.{SlotFields}
+use Rattle.slot_plan.specs.declared.needs.Need.{Need}
+use Rattle.slot_plan.specs.declared.needs.Placed.{Placed}
+use Rattle.slot_plan.specs.LeastPlan.{first_list, least_of}
+use Rattle.rate_plan.specs.declared.fault.RateFault.{RateFault}
+use Rattle.rate_plan.specs.declared.fault.RateFault.TheVariants.{Unfit, Memory}
+use Rattle.rate_plan.specs.Menus.{items_from}
+
+-- the first list without a lead-in, or else the first with one
+abbrev pub least_from : ℕ → List SlotFields → List Need → Option (List Placed)
+least_from window menu needs = option_or (least_of window (items_from false menu needs)) (least_of window (items_from true menu needs))
+
+-- there is no list for the frames up to this one, even after a lead-in
+abbrev pub is_unfit : ℕ → List SlotFields → List Need → ℕ → Bool
+is_unfit window menu needs i = is_none (first_list window (items_from true menu (take (i + 1) needs)))
+
+-- the first such frame
+abbrev pub first_unfit_in : ℕ → List SlotFields → List Need → ℕ
+first_unfit_in window menu needs = unwrap_or (find (is_unfit window menu needs) (range_with_len 0 (length needs))) 0
+
+-- the plan, or the first unfit frame
+unfoldable pub least_menu_plan : ℕ → List SlotFields → List Need → Result (List Placed) ℕ
+least_menu_plan window menu needs = ok_or (least_from window menu needs) (first_unfit_in window menu needs)
+
+-- what a fault says where this is the plan, or the first unfit frame
+abbrev pub IsMenuFault : Result (List Placed) ℕ → RateFault → Type 0
+IsMenuFault plan (Unfit i) = plan ≡ Err i
+IsMenuFault plan Memory = Unit {0}
