@@ -1,5 +1,5 @@
 -- The plan from a menu, or the first unfit frame, is that of the first list.
-use Rattle.std.proofs.Common.{◌≡◌, ℕ, zero, suc, ◌+◌, ◌<◌, ◌≤◌, cond, Bool, true, false, inl, inr, List, [], ◌∷◌, map, length, take, Option, Some, None, Result, Ok, Err, refl, sym, ap, ap₂, ◌∙◌, subst, arith}
+use Rattle.std.proofs.Common.{◌≡◌, ℕ, zero, suc, ◌+◌, ◌<◌, ◌≤◌, cond, Bool, true, false, inl, inr, List, [], ◌∷◌, length, take, Option, Some, Result, Ok, Err, refl, sym, ap, ap₂, ◌∙◌, subst, arith}
 use Rattle.std.specs.Prelude.{◌↔◌, find, get_or, is_none, unwrap_or, ok_or}
 use Rattle.std.specs.List.{range_with_len}
 use Rattle.std.specs.Option.{option_or}
@@ -10,7 +10,7 @@ use Rattle.slot_plan.specs.declared.needs.Need.{Need}
 use Rattle.slot_plan.specs.declared.needs.Placed.{Placed}
 use Rattle.slot_plan.specs.Parts.{AreOfClass, AreOfOneClass, window_in}
 use Rattle.slot_plan.specs.Plans.{IsPlanFor}
-use Rattle.slot_plan.specs.LeastPlan.{first_list, least_of}
+use Rattle.slot_plan.specs.LeastPlan.{least_of}
 use Rattle.slot_plan.proofs.PartLaws.{window-first}
 use Rattle.slot_plan.proofs.OnePlan.{AreOrdered}
 use Rattle.slot_plan.proofs.LeastPlan.{some-list, never-list, plan-found, none-found}

@@ -1,5 +1,5 @@
 -- The first list of slots for which there is a layout is the least, so the plan is that of the function.
-use Rattle.std.proofs.Common.{◌≡◌, ℕ, zero, suc, ◌+◌, ◌-◌, ◌<◌, ◌≤◌, ◌&&◌, max, leb, cond, Bool, true, false, inl, inr, List, [], ◌∷◌, ◌++◌, map, length, get_or, Contains, Option, Some, None, refl, sym, ap, ap₂, ◌∙◌, subst, arith}
+use Rattle.std.proofs.Common.{◌≡◌, ℕ, zero, suc, ◌+◌, ◌-◌, ◌<◌, ◌≤◌, ◌&&◌, max, leb, cond, Bool, true, false, inl, inr, List, [], ◌∷◌, map, get_or, Contains, Option, Some, None, refl, sym, ap, ap₂, ◌∙◌, subst, arith}
 use Rattle.std.specs.Prelude.{◌↔◌, All, flat_map, find, option_map, option_and_then, is_some, unwrap_or, slice_get}
 use Rattle.std.specs.Option.{option_or}
 use Rattle.std.proofs.lemmas.Bool.{leb-true, le-leb, and_parts}
@@ -9,8 +9,8 @@ use Rattle.frame_header.specs.Tables.{class_of, area_of, window_of}
 use Rattle.frame_header.specs.Slots.{all_slots}
 use Rattle.slot_plan.specs.declared.needs.Need.{Need}
 use Rattle.slot_plan.specs.declared.needs.Placed.{Placed}
-use Rattle.slot_plan.specs.Layouts.{Frame, IsLayout, IsFeasible, has_layout, begins_of}
-use Rattle.slot_plan.specs.Lists.{Open, AreChosen, frames_of, CanBeLaid, IsNotBehind, IsLeast}
+use Rattle.slot_plan.specs.Layouts.{Frame, IsFeasible, has_layout, begins_of}
+use Rattle.slot_plan.specs.Lists.{AreChosen, frames_of, CanBeLaid, IsNotBehind, IsLeast}
 use Rattle.slot_plan.specs.Parts.{Item, area_in, open_of, item_of, lead_in_of, items_of, areas_with, ArePartsFeasible, AreOfClass, IsLeadIn, AreLeadIns, whole_of}
 use Rattle.slot_plan.specs.Plans.{AreFor, areas_in, IsPlanFor, IsPlan}
 use Rattle.slot_plan.specs.Reserve.{free_behind}

@@ -1,5 +1,5 @@
 -- The plan as a value: of all lists of slots the first, in the order of their areas, for which there is a layout.
-use Rattle.std.specs.Prelude.{ℕ, is_some, if◌then◌else◌, List, [], ◌∷◌, map, flat_map, find, slice_get, unwrap_or, option_map, option_and_then, Option, Some, None}
+use Rattle.std.specs.Prelude.{ℕ, is_some, if◌then◌else◌, List, [], ◌∷◌, map, flat_map, find, slice_get, unwrap_or, option_map, option_and_then, Option, None}
 use Rattle.frame_header.specs.Fields.{SlotFields, HeaderFields}
 use Rattle.frame_header.specs.Tables.{class_of}
 use Rattle.frame_header.specs.Slots.{all_slots}

@@ -1,5 +1,5 @@
--- How `plan` works: the bytes that have to be free before a frame, and the choice by them. Of these the plan as a function (`ThePlan`)
--- cites the bytes alone.
+-- How `plan` works: the bytes that have to be free before a frame, and the choice by them. What the plan is, is said without them
+-- (`Plans`, `LeastPlan`).
 use Rattle.std.specs.Prelude.{◌≡◌, ℕ, ◌+◌, ◌-◌, ◌≤◌, max, Bool, List, [], ◌∷◌, ◌++◌, map, Contains, Option}
 use Rattle.frame_header.specs.Fields.{SlotFields, ClassFields, HeaderFields}
 use Rattle.frame_header.specs.Tables.{class_of, area_of}
