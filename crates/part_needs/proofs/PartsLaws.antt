@@ -15,9 +15,9 @@ use Rattle.frame_header.proofs.HeaderLaws.{IsClass-class_of}
 use Rattle.frame_header.proofs.SlotLaws.{areas-ascend, Contains-all_slots}
 use Rattle.slot_plan.specs.Laws.{ChoosesInOrder, ChooseInOrder}
 use Rattle.slot_plan.specs.Plans.{IsPlan}
-use Rattle.slot_plan.specs.ThePlan.{the_plan}
+use Rattle.slot_plan.specs.LeastPlan.{least_plan}
 use Rattle.slot_plan.specs.declared.needs.Placed.{Placed}
-use Rattle.slot_plan.proofs.ThePlan.{plan-the_plan}
+use Rattle.slot_plan.proofs.LeastPlan.{least-plan-is}
 use Rattle.slot_plan.proofs.AreaLaws.{class-ascend}
 use Rattle.slot_plan.specs.declared.needs.Need.{Need}
 use Rattle.slot_plan.specs.Layouts.{IsFeasible}
@@ -220,10 +220,10 @@ one-part-fits s from to placed some within =
 -- the plan of parts that can be planned is the first of all, by either policy
 pub parts-plan : (class : ClassFields) (choices : HeaderFields → List SlotFields) (parts : List (List Row)) (placed : List Placed) → AreFit class (asked_of parts)
     → ChooseInOrder choices (parts_of (asked_of parts).needs (asked_of parts).places)
-    → IsPlan (window_of class.version) choices (map (map need_of) parts) placed ↔ (placed ≡ the_plan (window_of class.version) choices (map (map need_of) parts))
+    → IsPlan (window_of class.version) choices (map (map need_of) parts) placed ↔ (placed ≡ least_plan (window_of class.version) choices (map (map need_of) parts))
 parts-plan class choices parts placed fit in_order =
     let are : parts_of (asked_of parts).needs (asked_of parts).places ≡ map (map need_of) parts = parts_are [] 0 parts refl in
-    plan-the_plan class choices (map (map need_of) parts) placed
+    least-plan-is class choices (map (map need_of) parts) placed
     (subst (All (AreOfClass class)) are fit.each)
     (subst (ChooseInOrder choices) are in_order)
     (subst (λ (n : ℕ). ArePartsFeasible n (map (map need_of) parts)) fit.window (subst (ArePartsFeasible (window_in (asked_of parts).needs)) are fit.planned.feasible))

@@ -3,6 +3,8 @@ ghost use Rattle.std.specs.Prelude.{◌≡◌, ◌+◌, ◌≤◌, List, [], ◌
 ghost use Rattle.frame_header.specs.Limits.{most_frames};
 ghost use Rattle.slot_plan.specs.Parts.{window_in, parts_of};
 ghost use Rattle.slot_plan.specs.Plans.{IsPlan, entries};
+ghost use Rattle.slot_plan.specs.LeastPlan.{least_plan};
+ghost use Rattle.slot_plan.specs.Laws.{ChooseInOrder};
 ghost use Rattle.sync_survey.specs.declared.rows.Row.{Row as RowFields};
 ghost use Rattle.part_needs.specs.Needs.{Asked, need_of as need_of_lem, asked_of};
 ghost use Rattle.part_needs.specs.Fit.{CanBePlanned};
@@ -114,8 +116,12 @@ impl Parts {
         requires planned { CanBePlanned self.now }
         requires needs { length self.now.needs ≤ most_frames }
         requires few { length self.now.places ≤ 64 }
-        ensures { IfOk result (λ p. IsPlan (window_in self.now.needs) (P.choices_of policy.now)
-            (parts_of self.now.needs self.now.places) (entries p)) }
+        ensures plan { IfOk result (λ p. IsPlan (window_in self.now.needs)
+            (P.choices_of policy.now) (parts_of self.now.needs self.now.places) (entries p)) }
+        ensures least { IfOk result (λ p.
+            ChooseInOrder (P.choices_of policy.now) (parts_of self.now.needs self.now.places)
+            → entries p ≡ least_plan (window_in self.now.needs) (P.choices_of policy.now)
+            (parts_of self.now.needs self.now.places)) }
     {
         plan(alloc, self.needs(), self.places(), policy)
     }
