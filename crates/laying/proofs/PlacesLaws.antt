@@ -1,6 +1,6 @@
 -- The first places of a plan, which all frames of one input take, and those after them.
 use Rattle.std.proofs.Common.{◌≡◌, ℕ, zero, suc, ◌+◌, ◌-◌, ◌<◌, ◌≤◌, Bool, true, false, List, [], ◌∷◌, ◌++◌, length, map, take, drop, Option, Some, None, refl, sym, ◌∙◌, ap, ap₂, subst, arith, append-nil, length-append}
-use Rattle.std.specs.Prelude.{slice_range, flat_map}
+use Rattle.std.specs.Prelude.{slice_range, flat_map, option_map, unwrap_or}
 use Rattle.std.proofs.lemmas.List.{length-map, take_all}
 use Rattle.outside.specs.Files.{Files}
 use Rattle.outside.specs.declared.pass.PassFault.{PassFault}
@@ -8,9 +8,9 @@ use Rattle.frame_header.specs.Fields.{SlotFields, HeaderFields}
 use Rattle.frame_header.specs.Tables.{window_of}
 use Rattle.slot_plan.specs.declared.needs.Need.{Need}
 use Rattle.slot_plan.specs.declared.needs.Placed.{Placed}
-use Rattle.slot_plan.specs.ThePlan.{first_with, lead_in_for, placed_from, the_plan}
-use Rattle.slot_plan.specs.Reserve.{needed, free_behind}
-use Rattle.slot_plan.specs.Parts.{Item, area_in, open_of, item_of, whole_of, items_of}
+use Rattle.slot_plan.specs.Layouts.{begins_of}
+use Rattle.slot_plan.specs.LeastPlan.{in_slots, first_list, placed_in, laid_early, lead_in_alone, least_plan}
+use Rattle.slot_plan.specs.Parts.{Item, item_of, whole_of, items_of}
 use Rattle.part_needs.specs.Needs.{need_of}
 use Rattle.frame_writer.specs.Laid.{Piece, BeginsWithin}
 use Rattle.frame_writer.specs.Frames.{Frame, pieces}
@@ -29,11 +29,16 @@ use Rattle.laying.proofs.RelayLaws.{relaid-end, begins-left, part_more}
 
 -- ---- how many places a plan has
 
-placed-length : (window : ℕ) (items : List Item) (free : ℕ) → length (placed_from window free items) ≡ length items
-unfolding placed_from
-placed-length window [] free = refl
-placed-length window (item ∷ items) free =
-    ap suc (placed-length window items (free_behind window free item.bytes (area_in item (first_with ((item.bytes + needed (map open_of items)) - free) item.class item.protected item.choices))))
+placed-length : (items : List Item) (slots : List SlotFields) (begins : List ℕ) → length (placed_in items slots begins) ≤ length items
+unfolding placed_in
+placed-length [] slots begins = omega arith
+placed-length (item ∷ items) [] begins = omega arith
+placed-length (item ∷ items) (slot ∷ slots) [] = omega arith
+placed-length (item ∷ items) (slot ∷ slots) (begin ∷ begins) = omega (arith, placed-length items slots begins)
+
+least-length : (window : ℕ) (items : List Item) (found : Option (List SlotFields)) → length (unwrap_or (option_map (laid_early window items) found) []) ≤ length items
+least-length window items None = omega arith
+least-length window items (Some slots) = placed-length items slots (begins_of window 0 0 (in_slots items slots))
 
 items-length : (choices : HeaderFields → List SlotFields) (part : List Need) (lead_in : Option SlotFields) → length (items_of choices part lead_in) ≤ length part + 1
 unfolding items_of
@@ -41,17 +46,19 @@ items-length choices part None = omega (arith, length-map part (item_of choices)
 items-length choices [] (Some slot) = omega arith
 items-length choices (first ∷ part) (Some slot) = omega (arith, length-map part (item_of choices))
 
-whole-items : (choices : HeaderFields → List SlotFields) (parts : List (List Need)) → length (whole_of choices parts (map (lead_in_for choices) parts)) ≤ length (flat_map (λ (part : List Need). part) parts) + length parts
+whole-items : (window : ℕ) (choices : HeaderFields → List SlotFields) (parts : List (List Need)) → length (whole_of choices parts (map (lead_in_alone window choices) parts)) ≤ length (flat_map (λ (part : List Need). part) parts) + length parts
 unfolding whole_of
-whole-items choices [] = omega arith
-whole-items choices (part ∷ parts) =
-    let items = items_of choices part (lead_in_for choices part) in
-    omega (arith, whole-items choices parts, items-length choices part (lead_in_for choices part), length-append items (whole_of choices parts (map (lead_in_for choices) parts)), length-append part (flat_map (λ (p : List Need). p) parts))
+whole-items window choices [] = omega arith
+whole-items window choices (part ∷ parts) =
+    let items = items_of choices part (lead_in_alone window choices part) in
+    omega (arith, whole-items window choices parts, items-length choices part (lead_in_alone window choices part), length-append items (whole_of choices parts (map (lead_in_alone window choices) parts)), length-append part (flat_map (λ (p : List Need). p) parts))
 
 -- one for each frame, and at most one more for each part
-pub plan-length : (window : ℕ) (choices : HeaderFields → List SlotFields) (parts : List (List Need)) → length (the_plan window choices parts) ≤ length (flat_map (λ (part : List Need). part) parts) + length parts
-unfolding the_plan
-plan-length window choices parts = omega (arith, placed-length window (whole_of choices parts (map (lead_in_for choices) parts)) 0, whole-items choices parts)
+pub plan-length : (window : ℕ) (choices : HeaderFields → List SlotFields) (parts : List (List Need)) → length (least_plan window choices parts) ≤ length (flat_map (λ (part : List Need). part) parts) + length parts
+unfolding least_plan
+plan-length window choices parts =
+    let items = whole_of choices parts (map (lead_in_alone window choices) parts) in
+    omega (arith, least-length window items (first_list window items), whole-items window choices parts)
 
 -- ---- how many places frames take
 
