@@ -5,7 +5,7 @@ use Rattle.frame_header.specs.Tables.{window_of}
 use Rattle.cue_sheet.specs.declared.place.Place.{Place}
 use Rattle.cue_sheet.specs.Places.{frame_at}
 use Rattle.slot_plan.specs.declared.needs.Placed.{Placed}
-use Rattle.slot_plan.specs.ThePlan.{the_plan}
+use Rattle.slot_plan.specs.LeastPlan.{least_plan}
 use Rattle.part_needs.specs.Needs.{need_of}
 use Rattle.part_needs.specs.Fit.{own_choice, any_choice}
 use Rattle.frame_writer.specs.Frames.{Frame}
@@ -64,9 +64,10 @@ choices_by Own = own_choice
 abbrev pub chosen_rows : Chosen → SurveyFields → List Row
 chosen_rows chosen s = slice_range s.frames chosen.from chosen.to
 
--- the slots of their plan, with a lead-in where their main data need one
+-- The slots of their plan: of all lists the first, in the order of areas, for which there is a layout, after a lead-in only where there is none
+-- without.
 abbrev pub plan_of : Chosen → SurveyFields → List Placed
-plan_of chosen s = the_plan (window_of s.class.version) (choices_by chosen.slots) (map need_of (chosen_rows chosen s) ∷ [])
+plan_of chosen s = least_plan (window_of s.class.version) (choices_by chosen.slots) (map need_of (chosen_rows chosen s) ∷ [])
 
 -- these are the slots of their plan, which can be written frame by frame
 pub record IsPlanOf (chosen : Chosen) (s : SurveyFields) (placed : List Placed) : Type 0 where

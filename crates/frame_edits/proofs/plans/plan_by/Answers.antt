@@ -27,4 +27,4 @@ plan-requires-clause-planned g c =
 pub returns : goal.returns
 returns g c =
     let only_one = only g (goal.at.returns g c).In_ok-push in
-    IfOk-weaker c.plan.result _ _ (λ plan is. plan_is (chosen_in c.args.chosen.now) (tells c.args.survey.now) c.requires.there.laid.placed c.requires.there.some c.requires.there.within c.push.new.self _ (entries plan) only_one c.requires.policy is) c.plan.ensures
+    IfOk-weaker c.plan.result _ _ (λ plan is. plan_is (chosen_in c.args.chosen.now) (tells c.args.survey.now) c.requires.there.laid.placed c.requires.there.some c.requires.there.within c.push.new.self _ (entries plan) only_one c.requires.policy is) c.plan.ensures.plan
