@@ -15,7 +15,8 @@ use Rattle.slot_plan.specs.Reserve.{free_behind}
 use Rattle.slot_plan.proofs.ReserveLaws.{AllFit, frees_of}
 use Rattle.slot_plan.proofs.AreaLaws.{Contains-area}
 use Rattle.slot_plan.proofs.OnePlan.{AreOrdered, equal_lists, one_placed, all_in_order, ordered_whole, slots_ascend}
-use Rattle.best_plan.specs.BestOf.{or_behind, best_plan_of, placed_at, plans_of, comes_before, cost_of, better_of, cheapest, best_of}
+use Rattle.best_plan.specs.BestOf.{or_behind, best_plan_of, comes_before, cost_of, better_of, cheapest, best_of}
+use Rattle.best_plan.proofs.PlansFrom.{placed_at, plans_from, best_from, best-from}
 use Rattle.best_plan.proofs.SumLaws.{fits-laid, laid-fits}
 use Rattle.best_plan.proofs.WalkLaws.{IsWalked, best-walked, walked-best}
 use Rattle.best_plan.specs.Best.{IsBestFor, items_behind, IsBestPlan}
@@ -65,7 +66,7 @@ pub record IsRoomy (window free : ℕ) (items : List Item) (placed : List Placed
 
 abbrev tails : ℕ → ℕ → Item → List Item → SlotFields → List (List Placed)
 tails window free item items slot =
-    cond (leb item.bytes (free + area_in item slot)) (map (λ placed. placed_at free item slot ∷ placed) (plans_of window (free_behind window free item.bytes (area_in item slot)) items)) []
+    cond (leb item.bytes (free + area_in item slot)) (map (λ placed. placed_at free item slot ∷ placed) (plans_from window (free_behind window free item.bytes (area_in item slot)) items)) []
 
 among-slots : (window free : ℕ) (item : Item) (items : List Item) (slots : List SlotFields) (k : ℕ) (slot : SlotFields) (placed : List Placed) → k < length slots → get_or slots k slot ≡ slot
     → Among (tails window free item items slot) placed → Among (flat_map (tails window free item items) slots) placed
@@ -75,19 +76,19 @@ among-slots window free item items (s ∷ slots) zero slot placed within here ha
 among-slots window free item items (s ∷ slots) (suc k) slot placed within here has =
     among-back (tails window free item items s) (flat_map (tails window free item items) slots) placed (among-slots window free item items slots k slot placed (omega (arith, within)) here has)
 
-has-tail : (window free : ℕ) (item : Item) (items : List Item) (slot : SlotFields) (rest : List Placed) → item.bytes ≤ free + area_in item slot → Among (plans_of window (free_behind window free item.bytes (area_in item slot)) items) rest
+has-tail : (window free : ℕ) (item : Item) (items : List Item) (slot : SlotFields) (rest : List Placed) → item.bytes ≤ free + area_in item slot → Among (plans_from window (free_behind window free item.bytes (area_in item slot)) items) rest
     → Among (tails window free item items slot) (placed_at free item slot ∷ rest)
 has-tail window free item items slot rest fits has =
-    subst (λ b. Among (cond b (map (λ placed. placed_at free item slot ∷ placed) (plans_of window (free_behind window free item.bytes (area_in item slot)) items)) []) (placed_at free item slot ∷ rest))
+    subst (λ b. Among (cond b (map (λ placed. placed_at free item slot ∷ placed) (plans_from window (free_behind window free item.bytes (area_in item slot)) items)) []) (placed_at free item slot ∷ rest))
     (sym (le-leb item.bytes (free + area_in item slot) fits))
-    (among-map (λ placed. placed_at free item slot ∷ placed) (plans_of window (free_behind window free item.bytes (area_in item slot)) items) rest has)
+    (among-map (λ placed. placed_at free item slot ∷ placed) (plans_from window (free_behind window free item.bytes (area_in item slot)) items) rest has)
 
 placed_is : (p : Placed) (free : ℕ) (item : Item) → p.lead_in ≡ item.lead_in → p.begin ≡ free → placed_at free item p.slot ≡ p
 placed_is p free item lead begin =
     ap (λ b. record { lead_in = b; slot = p.slot; begin = free }) (sym lead) ∙ ap (λ n. record { lead_in = p.lead_in; slot = p.slot; begin = n }) (sym begin)
 
-pub roomy-among : (window free : ℕ) (items : List Item) (placed : List Placed) → IsRoomy window free items placed → Among (plans_of window free items) placed
-unfolding plans_of AreFor areas_in frames_of AllFit frees_of
+pub roomy-among : (window free : ℕ) (items : List Item) (placed : List Placed) → IsRoomy window free items placed → Among (plans_from window free items) placed
+unfolding plans_from AreFor areas_in frames_of AllFit frees_of
 roomy-among window free [] [] is = inl refl
 roomy-among window free [] (p ∷ placed) is = absurd is.slots
 roomy-among window free (item ∷ items) [] is = absurd is.slots
@@ -109,18 +110,18 @@ from-slots window free item items (s ∷ slots) placed has =
     ]
 
 of-tail : (window free : ℕ) (item : Item) (items : List Item) (slot : SlotFields) (placed : List Placed) → Among (tails window free item items slot) placed
-    → (rest : List Placed) × (item.bytes ≤ free + area_in item slot) × Among (plans_of window (free_behind window free item.bytes (area_in item slot)) items) rest × (placed_at free item slot ∷ rest ≡ placed)
+    → (rest : List Placed) × (item.bytes ≤ free + area_in item slot) × Among (plans_from window (free_behind window free item.bytes (area_in item slot)) items) rest × (placed_at free item slot ∷ rest ≡ placed)
 of-tail window free item items slot placed has = at (leb item.bytes (free + area_in item slot)) refl has
   where
-    at : (b : Bool) → leb item.bytes (free + area_in item slot) ≡ b → Among (cond b (map (λ placed. placed_at free item slot ∷ placed) (plans_of window (free_behind window free item.bytes (area_in item slot)) items)) []) placed
-        → (rest : List Placed) × (item.bytes ≤ free + area_in item slot) × Among (plans_of window (free_behind window free item.bytes (area_in item slot)) items) rest × (placed_at free item slot ∷ rest ≡ placed)
+    at : (b : Bool) → leb item.bytes (free + area_in item slot) ≡ b → Among (cond b (map (λ placed. placed_at free item slot ∷ placed) (plans_from window (free_behind window free item.bytes (area_in item slot)) items)) []) placed
+        → (rest : List Placed) × (item.bytes ≤ free + area_in item slot) × Among (plans_from window (free_behind window free item.bytes (area_in item slot)) items) rest × (placed_at free item slot ∷ rest ≡ placed)
     at true fits has =
-        let found = from-map (λ placed. placed_at free item slot ∷ placed) (plans_of window (free_behind window free item.bytes (area_in item slot)) items) placed has in
+        let found = from-map (λ placed. placed_at free item slot ∷ placed) (plans_from window (free_behind window free item.bytes (area_in item slot)) items) placed has in
         (found.0, leb-true item.bytes (free + area_in item slot) fits, found.1, found.2)
     at false fits has = absurd has
 
-pub among-roomy : (window free : ℕ) (items : List Item) (placed : List Placed) → Among (plans_of window free items) placed → IsRoomy window free items placed
-unfolding plans_of AreFor areas_in frames_of AllFit frees_of
+pub among-roomy : (window free : ℕ) (items : List Item) (placed : List Placed) → Among (plans_from window free items) placed → IsRoomy window free items placed
+unfolding plans_from AreFor areas_in frames_of AllFit frees_of
 among-roomy window free [] placed (inl here) = subst (IsRoomy window free []) here (record { slots = tt; fit = tt; begins = refl })
 among-roomy window free [] placed (inr has) = absurd has
 among-roomy window free (item ∷ items) placed has =
@@ -289,16 +290,16 @@ unfolding IsNotBehind
 same_areas ms ns short first (inl less) = absurd (omega (arith, short, less))
 same_areas ms ns short first (inr at) = equal_lists ms ns at.1 (first at.0)
 
-pub walked-of : (window free : ℕ) (items : List Item) (placed : List Placed) → AreOrdered items → IsWalked window free items placed → best_of window free items ≡ Some placed
-walked-of window free items placed ordered is = of (best_of window free items) refl
+pub walked-of : (window free : ℕ) (items : List Item) (placed : List Placed) → AreOrdered items → IsWalked window free items placed → best_from window free items ≡ Some placed
+walked-of window free items placed ordered is = of (best_from window free items) refl
   where
     roomy : IsRoomy window free items placed
     roomy = record { slots = is.slots; fit = is.list.fit; begins = is.begins }
 
-    of : (o : Option (List Placed)) → best_of window free items ≡ o → o ≡ Some placed
-    of None none = absurd (no-plans items (plans_of window free items) none placed (roomy-among window free items placed roomy))
+    of : (o : Option (List Placed)) → best_from window free items ≡ o → o ≡ Some placed
+    of None none = absurd (no-plans items (plans_from window free items) none placed (roomy-among window free items placed roomy))
     of (Some found) e =
-        let cheap = cheapest-is items (plans_of window free items) found e in
+        let cheap = cheapest-is items (plans_from window free items) found e in
         let also = among-roomy window free items found cheap.among in
         let chosen = chosen-for items found also.slots in
         let areas = same_areas (areas_in items found) (areas_in items placed) (is.list.shortest (areas_in items found) chosen also.fit) (is.list.first (areas_in items found) chosen also.fit) (cheap.least placed (roomy-among window free items placed roomy)) in
@@ -314,7 +315,7 @@ unfolding IsNotBehind
 first-of ms ns (inl less) same = absurd (omega (arith, less, same))
 first-of ms ns (inr at) same = at.1
 
-pub of-walked : (window free : ℕ) (items : List Item) (placed : List Placed) → best_of window free items ≡ Some placed → IsWalked window free items placed
+pub of-walked : (window free : ℕ) (items : List Item) (placed : List Placed) → best_from window free items ≡ Some placed → IsWalked window free items placed
 of-walked window free items placed e = record {
   slots = roomy.slots;
   list = record {
@@ -326,8 +327,8 @@ of-walked window free items placed e = record {
   begins = roomy.begins;
 }
   where
-    cheap : IsCheapest items (plans_of window free items) placed
-    cheap = cheapest-is items (plans_of window free items) placed e
+    cheap : IsCheapest items (plans_from window free items) placed
+    cheap = cheapest-is items (plans_from window free items) placed e
 
     roomy : IsRoomy window free items placed
     roomy = among-roomy window free items placed cheap.among
@@ -338,16 +339,16 @@ of-walked window free items placed e = record {
         subst (λ l. IsNotBehind (cost_of items placed) (sum l ∷ l)) other.same (cheap.least other.placed (roomy-among window free items other.placed other.roomy))
 
 -- there is one exactly where the items can be laid
-pub of-laid : (window : ℕ) (items : List Item) (placed : List Placed) → best_of window 0 items ≡ Some placed → CanBeLaid window (map open_of items)
+pub of-laid : (window : ℕ) (items : List Item) (placed : List Placed) → best_of window items ≡ Some placed → CanBeLaid window (map open_of items)
 unfolding CanBeLaid
 of-laid window items placed e =
-    let is = of-walked window 0 items placed e in (areas_in items placed, is.list.chosen, laid-fits window 0 (frames_of (map open_of items) (areas_in items placed)) (omega arith) is.list.fit)
+    let is = of-walked window 0 items placed (sym (best-from window items) ∙ e) in (areas_in items placed, is.list.chosen, laid-fits window 0 (frames_of (map open_of items) (areas_in items placed)) (omega arith) is.list.fit)
 
-pub none-laid : (window : ℕ) (items : List Item) → best_of window 0 items ≡ None → CanBeLaid window (map open_of items) → ⊥
+pub none-laid : (window : ℕ) (items : List Item) → best_of window items ≡ None → CanBeLaid window (map open_of items) → ⊥
 unfolding CanBeLaid
 none-laid window items none can =
     let other = areas-placed window 0 items can.0 can.1 (fits-laid window 0 (frames_of (map open_of items) can.0) can.2) in
-    no-plans items (plans_of window 0 items) none other.placed (roomy-among window 0 items other.placed other.roomy)
+    no-plans items (plans_from window 0 items) (sym (best-from window items) ∙ none) other.placed (roomy-among window 0 items other.placed other.roomy)
 
 -- ---- the best plan of a part
 
@@ -369,27 +370,27 @@ module _ (window : ℕ) (choices : HeaderFields → List SlotFields) (needs : Li
   plan-of : ChooseInOrder choices (needs ∷ []) → (lead_in : Bool) → (lead_in ≡ false) ↔ CanBeLaid window (map open_of (map (item_of choices) needs)) → IsBestFor window 0 (items_behind lead_in choices needs) placed
       → best_plan_of window choices needs ≡ Some placed
   unfolding items_behind
-  plan-of order false alone best = ap (λ o. or_behind o (best_of window 0 behind)) (walked-of window 0 without placed (ordered-behind choices needs order false) (walked-best window 0 without placed (omega arith) best))
-  plan-of order true alone best = at (best_of window 0 without) refl
+  plan-of order false alone best = ap (λ o. or_behind o (best_of window behind)) (best-from window without ∙ walked-of window 0 without placed (ordered-behind choices needs order false) (walked-best window 0 without placed (omega arith) best))
+  plan-of order true alone best = at (best_of window without) refl
     where
-      at : (o : Option (List Placed)) → best_of window 0 without ≡ o → or_behind o (best_of window 0 behind) ≡ Some placed
-      at None none = walked-of window 0 behind placed (ordered-behind choices needs order true) (walked-best window 0 behind placed (omega arith) best)
+      at : (o : Option (List Placed)) → best_of window without ≡ o → or_behind o (best_of window behind) ≡ Some placed
+      at None none = best-from window behind ∙ walked-of window 0 behind placed (ordered-behind choices needs order true) (walked-best window 0 behind placed (omega arith) best)
       at (Some other) e = let never : true ≡ false = alone.1 (of-laid window without other e) in absurd cc
 
   of-plan : best_plan_of window choices needs ≡ Some placed → IsBestPlan window choices needs placed
   unfolding items_behind
-  of-plan e = at (best_of window 0 without) refl e
+  of-plan e = at (best_of window without) refl e
     where
-      at : (o : Option (List Placed)) → best_of window 0 without ≡ o → or_behind o (best_of window 0 behind) ≡ Some placed → IsBestPlan window choices needs placed
+      at : (o : Option (List Placed)) → best_of window without ≡ o → or_behind o (best_of window behind) ≡ Some placed → IsBestPlan window choices needs placed
       at (Some other) is e = let same : other ≡ placed = cc in subst (IsBestPlan window choices needs) same (record {
         lead_in = false;
         without = ((λ _. of-laid window without other is), (λ _. refl));
-        whole = best-walked window 0 without other (omega arith) (of-walked window 0 without other is);
+        whole = best-walked window 0 without other (omega arith) (of-walked window 0 without other (sym (best-from window without) ∙ is));
       })
       at None none e = record {
         lead_in = true;
         without = ((λ f. absurd cc), (λ can. absurd (none-laid window without none can)));
-        whole = best-walked window 0 behind placed (omega arith) (of-walked window 0 behind placed e);
+        whole = best-walked window 0 behind placed (omega arith) (of-walked window 0 behind placed (sym (best-from window behind) ∙ e));
       }
 
 pub best-plan-of : BestPlanIsThePlan

@@ -22,12 +22,12 @@ module _ (window : ℕ) (choices : HeaderFields → List SlotFields) (needs : Li
   abbrev CanBe : Type 0
   CanBe = CanBeLaid window (map open_of (items_behind false choices needs)) ⊎ CanBeLaid window (map open_of (items_behind true choices needs))
 
-  none : CanBe → best_of window 0 (items_behind false choices needs) ≡ None → best_of window 0 (items_behind true choices needs) ≡ None → ⊥
+  none : CanBe → best_of window (items_behind false choices needs) ≡ None → best_of window (items_behind true choices needs) ≡ None → ⊥
   none (inl can) without behind = none-laid window (items_behind false choices needs) without can
   none (inr can) without behind = none-laid window (items_behind true choices needs) behind can
 
-  found : CanBe → (a b : Option (List Placed)) → best_of window 0 (items_behind false choices needs) ≡ a → best_of window 0 (items_behind true choices needs) ≡ b → Best
-  found can (Some best) b without behind = (best, ap (λ o. or_behind o (best_of window 0 (items_behind true choices needs))) without)
+  found : CanBe → (a b : Option (List Placed)) → best_of window (items_behind false choices needs) ≡ a → best_of window (items_behind true choices needs) ≡ b → Best
+  found can (Some best) b without behind = (best, ap (λ o. or_behind o (best_of window (items_behind true choices needs))) without)
   found can None (Some best) without behind = (best, ap₂ or_behind without behind)
   found can None None without behind = absurd (none can without behind)
 
@@ -50,4 +50,4 @@ by-leads window choices needs (lead_in ∷ []) placed alone plan =
 
 pub best-exists : BestExists
 best-exists = λ window choices needs placed plan.
-    found window choices needs (by-leads window choices needs plan.lead_ins placed plan.alone plan.whole) (best_of window 0 (items_behind false choices needs)) (best_of window 0 (items_behind true choices needs)) refl refl
+    found window choices needs (by-leads window choices needs plan.lead_ins placed plan.alone plan.whole) (best_of window (items_behind false choices needs)) (best_of window (items_behind true choices needs)) refl refl
