@@ -17,9 +17,9 @@
 //! What they share, the faults and the one body of those that make one file, is in `commands`.
 
 pub use commands::{EditFault, MOST_FRAMES, Refusal};
-pub use fading::{fade, fade_gives_back};
+pub use fading::{fade, fade_gives_back, fade_keeps_all};
 pub use frame_edits::{cut, pack};
-pub use gain_edits::{gain, opposite_gives_back, undo, undo_gives_back};
+pub use gain_edits::{gain, gains_keep_all, opposite_gives_back, undo, undo_gives_back};
 pub use joining::join;
 pub use listing::list;
 pub use moved_gains::{Channels, Shift, Steps, Stuck};

@@ -2,3 +2,4 @@
 pub mod FadeLaws
 pub mod Proper
 mod TakenBack
+mod KeptFade

@@ -2,3 +2,4 @@
 pub mod Fade
 pub mod Steps
 pub mod TakenBack
+pub mod Kept

@@ -1,4 +1,5 @@
-//! The same sheet undoes a fade.
+//! The same sheet undoes a fade, and a fade changes nothing but gains.
+ghost use Rattle.fading.specs.Kept.{FadeKeepsAll};
 ghost use Rattle.fading.specs.TakenBack.{FadeGivesBack, FadeIsTakenBack};
 
 /// A law and no work: after a fade, the fade the other way with the same sheet is accepted. It gives the file from before the
@@ -8,4 +9,10 @@ ghost use Rattle.fading.specs.TakenBack.{FadeGivesBack, FadeIsTakenBack};
 pub fn fade_gives_back()
     ensures bytes { FadeGivesBack }
     ensures command { FadeIsTakenBack }
+{}
+
+/// A law and no work: what a fade makes of a file differs from it in gains, check words of protected frames and junk that is
+/// left out, and in nothing else. A proof that needs it calls this function.
+pub fn fade_keeps_all()
+    ensures { FadeKeepsAll }
 {}

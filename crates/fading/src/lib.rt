@@ -8,4 +8,4 @@ mod laws;
 
 pub use calls::fade;
 pub use edit::FadeEdit;
-pub use laws::fade_gives_back;
+pub use laws::{fade_gives_back, fade_keeps_all};

@@ -4,3 +4,4 @@ pub mod Proper
 pub mod RangeAgain
 pub mod OppositeSteps
 pub mod UndoneGains
+pub mod KeptGains

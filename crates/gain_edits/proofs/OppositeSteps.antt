@@ -178,7 +178,7 @@ channel_back shift s none = by_choice (are_both shift.channels) none
 
 -- ---- what a change without a note makes
 
-plain-parts : (shift : Shift) (file : List ℕ) (s : SurveyFields) (change : Change) → gain_change shift false file s ≡ Ok change
+pub plain-parts : (shift : Shift) (file : List ℕ) (s : SurveyFields) (change : Change) → gain_change shift false file s ≡ Ok change
     → (channel_fault shift s ≡ None) × (range_fault (even (steps_of shift)) s.frames ≡ None) × (record { steps = even (steps_of shift); tag = None } ≡ change)
 unfolding gain_change
 plain-parts shift file s change e =

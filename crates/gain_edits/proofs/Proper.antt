@@ -206,6 +206,19 @@ read-tag file s tag all is e = file_tag-is file most_frames s tag all (survey_of
 pub unless_empty-are : (tag : TagFields) → IsTag tag → IsTagBytes (bytes_unless_empty tag)
 unless_empty-are tag is = elim (length tag.items == 0) as (λ b. IsTagBytes (cond b [] (tag_bytes tag))) [ true ↦ inl refl | false ↦ inr (block_front-tag_bytes tag is) ]
 
+-- the new tag of a change that is noted
+pub noted-tag : (shift : Shift) (file : List ℕ) (s : SurveyFields) (change : Change) → AreBytes file → survey_of file most_frames ≡ Ok s → tagged_change shift file s ≡ Ok change → IfSome change.tag IsTagBytes
+noted-tag shift file s change all is e =
+    let parts = tagged-parts shift file s change e in
+    let next = next_undo shift parts.undo in
+    subst (λ (c : Change). IfSome c.tag IsTagBytes) parts.is (inr (block_front-tag_bytes (tag_with next parts.tag) (IsTag-with_undo next parts.tag (read-tag file s parts.tag all is parts.read))))
+
+-- that of a change that is undone
+pub undone-tag : (file : List ℕ) (s : SurveyFields) (change : Change) → AreBytes file → survey_of file most_frames ≡ Ok s → undo_change file s ≡ Ok change → IfSome change.tag IsTagBytes
+undone-tag file s change all is e =
+    let parts = undone-parts file s change e in
+    subst (λ (c : Change). IfSome c.tag IsTagBytes) parts.is (unless_empty-are (tag_without parts.tag) (IsTag-without_undo parts.tag (read-tag file s parts.tag all is parts.read)))
+
 -- the steps are those of the command, and there is no new tag or the bytes of one
 abbrev IsChangeOf : Changes → List ℕ → Change → Type 0
 IsChangeOf changes file change = (change.steps ≡ even (steps_by changes file)) × IfSome change.tag IsTagBytes
@@ -214,16 +227,14 @@ change_is : (changes : Changes) (file : List ℕ) (s : SurveyFields) (change : C
 unfolding gain_change
 change_is (Move shift true) file s change all is e =
     let parts = tagged-parts shift.now file s change e in
-    let next = next_undo shift.now parts.undo in
-    subst (IsChangeOf (Move shift true) file) parts.is (refl, inr (block_front-tag_bytes (tag_with next parts.tag) (IsTag-with_undo next parts.tag (read-tag file s parts.tag all is parts.read))))
+    (ap (λ (c : Change). c.steps) (sym parts.is), noted-tag shift.now file s change all is e)
 change_is (Move shift false) file s change all is e =
     let parts = unless_ok (or_else (channel_fault shift.now s) (range_fault (even (steps_of shift.now)) s.frames)) _ change e in
     subst (IsChangeOf (Move shift false) file) parts.1 (refl, tt)
 change_is UndoAll file s change all is e =
     let parts = undone-parts file s change e in
     let undo : undo_in file s ≡ Ok parts.undo = ap (λ (r : Result TagFields EditFault). then_made r (λ tag. found_undo (tag_at s) (undo_from 32 tag.items))) parts.read ∙ parts.item in
-    subst (IsChangeOf UndoAll file) parts.is
-    (ap even (sym (ap (steps_read file) is ∙ ap steps_when undo)), unless_empty-are (tag_without parts.tag) (IsTag-without_undo parts.tag (read-tag file s parts.tag all is parts.read)))
+    (ap (λ (c : Change). c.steps) (sym parts.is) ∙ ap even (sym (ap (steps_read file) is ∙ ap steps_when undo)), undone-tag file s change all is e)
 
 -- ---- as commands
 

@@ -8,3 +8,4 @@ pub mod Undo
 pub mod Movable
 pub mod Changes
 pub mod GivenBack
+pub mod Kept

@@ -1,5 +1,6 @@
-//! Changes of gains can be undone: by one undo, or by as many steps the other way.
+//! Changes of gains can be undone: by one undo, or by as many steps the other way. They change nothing else.
 ghost use Rattle.gain_edits.specs.GivenBack.{UndoGivesBack, OppositeGivesBack};
+ghost use Rattle.gain_edits.specs.Kept.{GainKeepsAll, UndoKeepsAll};
 
 /// A law and no work: one undo takes back all changes of gains that were accepted one after the other, with or without wrap,
 /// of a well-formed file whose tag can be read and has no undo item. The undo is accepted, and gives the file without its
@@ -14,4 +15,12 @@ pub fn undo_gives_back()
 #[tactic(auto, using(crate::proofs::OppositeSteps::steps_back))]
 pub fn opposite_gives_back()
     ensures { OppositeGivesBack }
+{}
+
+/// A law and no work: what `gain` and `gain -u` make of a file differs from it in gains, check words of protected frames, the
+/// tag and junk that is left out, and in nothing else; without tags `gain` leaves the tag too. A proof that needs it calls this
+/// function.
+pub fn gains_keep_all()
+    ensures gain { GainKeepsAll }
+    ensures undo { UndoKeepsAll }
 {}

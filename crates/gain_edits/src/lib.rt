@@ -16,5 +16,5 @@ pub use calls::{gain, undo};
 pub use changes::Changes;
 pub use edit::GainEdit;
 pub use gain_range::range_fault;
-pub use laws::{opposite_gives_back, undo_gives_back};
+pub use laws::{gains_keep_all, opposite_gives_back, undo_gives_back};
 pub use work::Work;

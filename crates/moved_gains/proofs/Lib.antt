@@ -13,6 +13,8 @@ pub mod MovedStream
 pub mod TagPlaces
 pub mod WrittenTag
 pub mod FramesThere
+pub mod KeptFrame
+pub mod KeptFile
 pub mod MovedAgain
 pub mod TaggedAgain
 pub mod Rows

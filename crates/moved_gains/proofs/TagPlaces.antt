@@ -192,6 +192,11 @@ pub record IsAmong (s : SurveyFields) : Type 0 where
   pub rest : EndBy (tag_at s + tag_length s) behind s.length
   pub up : tag_at s + tag_length s ≤ s.length
 
+-- the same; and no frame begins where the tag begins, since a tag has bytes, and no frame is after the place for one
+pub record IsApart (s : SurveyFields) : Type 0 where
+  pub among : IsAmong s
+  pub apart : (among.behind ≡ []) ⊎ (0 < tag_length s)
+
 -- it is before the junk
 pub record IsInFront (s : SurveyFields) : Type 0 where
   pub some : 0 < tag_length s
@@ -287,11 +292,11 @@ module _ (steps : ℕ → Steps) (file : List ℕ) (allowed : ℕ) (start : Star
   }
   cut_by (Some found) b cut = cut_later lost file first (first + size) (frames_of later.items) b later.stop (omega arith) cut
 
-  among_by : (b : Piece) → tag_block s ≡ Some b → first < b.offset → IsCut lost file first (numbered head (start.first ∷ frames_of later.items)) b later.stop → IsAmong s
+  among_by : (b : Piece) → tag_block s ≡ Some b → first < b.offset → IsCut lost file first (numbered head (start.first ∷ frames_of later.items)) b later.stop → IsApart s
   among_by b is beyond cut =
       let tag = place-some s b is in
       let high = end_rises (b.offset + b.block.length) (rows_by lost file cut.behind) later.stop cut.rest in
-      record {
+      let among : IsAmong s = record {
         before = rows_by lost file cut.before;
         behind = rows_by lost file cut.behind;
         all = rows_told ∙ ap (rows_by lost file) cut.all ∙ map-append (λ (p : PlacedFrame). record (row_of file p) { lost = lost p.offset }) cut.before cut.behind;
@@ -301,7 +306,8 @@ module _ (steps : ℕ → Steps) (file : List ℕ) (allowed : ℕ) (start : Star
         rest = end_later (tag_at s + tag_length s) (rows_by lost file cut.behind) later.stop (length file) stop_within
             (subst (λ n. EndBy n (rows_by lost file cut.behind) later.stop) (ap₂ (λ m n. m + n) (sym tag.0) (sym tag.1)) cut.rest);
         up = omega (arith, tag.0, tag.1, high, stop_within);
-      }
+      } in
+      record { among = among; apart = inr (omega (arith, tag.1, cut.some)) }
 
   some_frame : (rows : List Row) (frames : List PlacedFrame) → length rows ≡ length frames → end_fault file frames (fault_at (stream_run file start).stop (item_at file (stream_run file start).stop)) ≡ None → 0 < length rows
   some_frame rows frames same none = at frames (fault_at (stream_run file start).stop (item_at file (stream_run file start).stop)) same none
@@ -317,13 +323,13 @@ module _ (steps : ℕ → Steps) (file : List ℕ) (allowed : ℕ) (start : Star
   frames_some : 0 < length s.frames
   frames_some = some_frame s.frames (frames_from file start) (marked_long head (rows_of file (frames_from file start)) ∙ length-map (frames_from file start) (row_of file)) read.end
 
-  last_by : (rows : List Row) → rows ≡ s.frames → EndBy first rows (length file) → 0 < length rows → tag_block s ≡ None → IsAmong s
+  last_by : (rows : List Row) → rows ≡ s.frames → EndBy first rows (length file) → 0 < length rows → tag_block s ≡ None → IsApart s
   last_by [] same ends some is = absurd (omega (arith, some))
   last_by (row ∷ rows) same ends some is =
       let tag = tag_none s is in
       let last = last_ends first row rows (length file) ends in
       let place : tag_at s ≡ last_end (row ∷ rows) = tag.0 ∙ ap last_end (sym same) in
-      record {
+      let among : IsAmong s = record {
         before = row ∷ rows;
         behind = [];
         all = sym same ∙ sym (append-nil (row ∷ rows));
@@ -332,12 +338,13 @@ module _ (steps : ℕ → Steps) (file : List ℕ) (allowed : ℕ) (start : Star
         front = subst (EndBy first (row ∷ rows)) (sym place) last.0;
         rest = omega (arith, place, tag.1, last.1);
         up = omega (arith, place, tag.1, last.1);
-      }
+      } in
+      record { among = among; apart = inl refl }
 
   blocks_later : blocks_of (stream_run file start).items ≡ blocks_of later.items
   blocks_later = ap (λ (r : Run). blocks_of r.items) stream_is
 
-  place_by : (x y : Option Piece) → find is_tag (blocks_of front.items) ≡ x → find is_tag (blocks_of later.items) ≡ y → tag_block s ≡ option_or x y → IsInFront s ⊎ IsAmong s
+  place_by : (x y : Option Piece) → find is_tag (blocks_of front.items) ≡ x → find is_tag (blocks_of later.items) ≡ y → tag_block s ≡ option_or x y → IsInFront s ⊎ IsApart s
   place_by (Some b) y front_is later_is is =
       let tag = place-some s b is in
       let here = items_within lost file Front 0 front.items b front.stop (run-ends Front file 0) front_is in
@@ -349,6 +356,15 @@ module _ (steps : ℕ → Steps) (file : List ℕ) (allowed : ℕ) (start : Star
   place_by None None front_is later_is is =
       inr (last_by s.frames refl rows_ends frames_some is)
 
+  pub apart_place : IsInFront s ⊎ IsApart s
+  apart_place =
+      place_by _ _ refl refl
+      (find-append is_tag (blocks_of front.items) (blocks_of (stream_run file start).items) ∙ ap (λ (l : List Piece). option_or (find is_tag (blocks_of front.items)) (find is_tag l)) blocks_later)
+
+  somewhere : IsInFront s ⊎ IsApart s → IsInFront s ⊎ IsAmong s
+  somewhere (inl front) = inl front
+  somewhere (inr apart) = inr apart.among
+
   pub stands : StandsSomewhere steps file s
   stands = record {
     size = refl;
@@ -357,11 +373,15 @@ module _ (steps : ℕ → Steps) (file : List ℕ) (allowed : ℕ) (start : Star
     sized = subst (AreSized steps file) (sym rows_told) (sized_by head);
     ends = rows_ends;
     some = frames_some;
-    place = place_by _ _ refl refl
-        (find-append is_tag (blocks_of front.items) (blocks_of (stream_run file start).items) ∙ ap (λ (l : List Piece). option_or (find is_tag (blocks_of front.items)) (find is_tag l)) blocks_later);
+    place = somewhere apart_place;
   }
 
 pub stands_somewhere : (steps : ℕ → Steps) (file : List ℕ) (allowed : ℕ) (s : SurveyFields) → surveyed file allowed ≡ Ok s → StandsSomewhere steps file s
 stands_somewhere steps file allowed s e =
     let parts = surveyed-parts file allowed s e in
     subst (StandsSomewhere steps file) parts.2 (stands steps file allowed parts.0 parts.1)
+
+pub stands_apart : (steps : ℕ → Steps) (file : List ℕ) (allowed : ℕ) (s : SurveyFields) → surveyed file allowed ≡ Ok s → IsInFront s ⊎ IsApart s
+stands_apart steps file allowed s e =
+    let parts = surveyed-parts file allowed s e in
+    subst (λ (t : SurveyFields). IsInFront t ⊎ IsApart t) parts.2 (apart_place steps file allowed parts.0 parts.1)

@@ -19,7 +19,7 @@ use Rattle.moved_gains.specs.Change.{Change, retag, changed}
 use Rattle.outside.specs.Pass.{bytes_between}
 use Rattle.moved_gains.specs.Moving.{row_end, copied, written_from, IsTagOf, IsNewTag}
 use Rattle.moved_gains.proofs.MovingLaws.{moved_from, IsBehind, moved_from-later, written-edited, behind_earlier}
-use Rattle.moved_gains.proofs.WrittenLaws.{written-none, EndBy, moved_to, AreSized, moved_to-long, moved_split, before_tag, around_tag, written-behind, written-split}
+use Rattle.moved_gains.proofs.WrittenLaws.{written-none, EndBy, moved_to, AreSized, moved_to-long, moved_split, append_three, before_tag, around_tag, written-behind, written-split}
 use Rattle.moved_gains.proofs.TagPlaces.{tag_none, IsAmong, IsInFront, StandsSomewhere, stands_somewhere}
 
 -- ---- the tag of the edited file
@@ -115,7 +115,7 @@ pub sized_front : (steps : ℕ → Steps) (file : List ℕ) (before behind : Lis
 sized_front steps file [] behind sized = tt
 sized_front steps file (row ∷ before) behind sized = (sized.0, sized_front steps file before behind sized.1)
 
-module _ (steps : ℕ → Steps) (file : List ℕ) (allowed : ℕ) (s : SurveyFields) (is : surveyed file allowed ≡ Ok s) (tag : NewTag) (bytes : List ℕ) (new : IsTagOf s (Some bytes) (Some tag)) where
+module _ (steps : ℕ → Steps) (file : List ℕ) (allowed : ℕ) (s : SurveyFields) (is : surveyed file allowed ≡ Ok s) (bytes : List ℕ) where
   abbrev m2 : SurveyFields
   m2 = moved_survey steps s
 
@@ -139,13 +139,13 @@ module _ (steps : ℕ → Steps) (file : List ℕ) (allowed : ℕ) (s : SurveyFi
       ap₂ (λ n k. take n moved ++ (bytes ++ drop (n + k) moved)) (sym at) (sym (length_moved steps s))
       ∙ sym (with_tag-is bytes m2 moved)
 
-  front_case : IsInFront s → copied (Some tag) file 0 s.junk ++ written_from steps (Some tag) file s.first s.frames ≡ with_tag bytes m2 moved
-  front_case front =
+  -- the tag is before the junk
+  pub front_whole : IsInFront s → take a file ++ (bytes ++ (bytes_between file (a + size) s.junk ++ moved_from steps file s.first s.frames)) ≡ with_tag bytes m2 moved
+  front_whole front =
       let junk = s.junk in
       let rest = moved_from steps file s.first s.frames in
       let within : junk ≤ length file = omega (arith, known.size, known.junk, known.first) in
       let long : length (take junk file) ≡ junk = length-take-le junk file within in
-      let none : a - 0 ≡ a = omega arith in
       let high : a + size ≤ junk = front.before in
       let taken : take a moved ≡ take a file =
       ap (take a) moved_is ∙ take-append-le a (take junk file) rest (omega (arith, long, high)) ∙ take-take a junk file (omega (arith, high)) in
@@ -154,20 +154,13 @@ module _ (steps : ℕ → Steps) (file : List ℕ) (allowed : ℕ) (s : SurveyFi
       ap (drop (a + size)) moved_is
       ∙ drop-append-le (a + size) (take junk file) rest (omega (arith, long, high))
       ∙ ap (λ (l : List ℕ). l ++ rest) (ap (λ n. drop (a + size) (take n file)) sum ∙ drop-take (a + size) (junk - (a + size)) file) in
-      ap₂ (λ (l r : List ℕ). l ++ r)
-      (around_tag steps file tag 0 junk (omega arith) (omega (arith, new.0, new.1)) (omega (arith, new.1, high))
-      ∙ ap₂ (λ n k. bytes_between file 0 n ++ (tag.bytes.now ++ bytes_between file k junk)) new.0 new.1
-      ∙ ap₂ (λ n (l : List ℕ). take n file ++ (l ++ bytes_between file (a + size) junk)) none new.2)
-      (written-behind steps file tag s.first s.frames s.length (omega (arith, new.0, front.some, high, known.junk)) known.ends)
-      ∙ append_assoc (take a file) (bytes ++ bytes_between file (a + size) junk) rest
-      ∙ ap (λ (l : List ℕ). take a file ++ l) (append_assoc bytes (bytes_between file (a + size) junk) rest)
-      ∙ ap₂ (λ (l r : List ℕ). l ++ (bytes ++ r)) (sym taken) (sym dropped)
+      ap₂ (λ (l r : List ℕ). l ++ (bytes ++ r)) (sym taken) (sym dropped)
       ∙ goal_from a (at_front steps s (omega (arith, front.some, high, known.junk)) front.some)
 
-  among_case : (0 < length s.frames) → IsAmong s → copied (Some tag) file 0 s.junk ++ written_from steps (Some tag) file s.first s.frames ≡ with_tag bytes m2 moved
-  among_case some among =
+  -- it is among the frames, or after them
+  pub among_whole : (among : IsAmong s) → (take s.junk file ++ moved_to steps file s.first a among.before) ++ (bytes ++ moved_from steps file (a + size) among.behind) ≡ with_tag bytes m2 moved
+  among_whole among =
       let junk = s.junk in
-      let none : junk - 0 ≡ junk = omega arith in
       let within : junk ≤ length file = omega (arith, known.size, known.junk, known.first) in
       let long : length (take junk file) ≡ junk = length-take-le junk file within in
       let up : a + size ≤ length file = omega (arith, known.size, among.up) in
@@ -192,22 +185,58 @@ module _ (steps : ℕ → Steps) (file : List ℕ) (allowed : ℕ) (s : SurveyFi
       ∙ ap (λ (l : List ℕ). drop size (drop (a - junk_length s) l)) all
       ∙ ap (drop size) (drop_at front (own ++ rest) (a - junk_length s) place)
       ∙ drop_at own rest size own_long in
+      ap₂ (λ (l r : List ℕ). l ++ (bytes ++ r)) (sym taken) (sym dropped)
+      ∙ goal_from (a - junk_length s) (at_behind steps s s.length (omega (arith, among.low)) known.ends known.some)
+
+module _ (steps : ℕ → Steps) (file : List ℕ) (allowed : ℕ) (s : SurveyFields) (is : surveyed file allowed ≡ Ok s) (tag : NewTag) (bytes : List ℕ) (new : IsTagOf s (Some bytes) (Some tag)) where
+  abbrev at_tag : ℕ
+  at_tag = tag_at s
+
+  abbrev long_tag : ℕ
+  long_tag = tag_length s
+
+  abbrev with_new : List ℕ
+  with_new = with_tag bytes (moved_survey steps s) (edited steps file s)
+
+  there : StandsSomewhere steps file s
+  there = stands_somewhere steps file allowed s is
+
+  front_case : IsInFront s → copied (Some tag) file 0 s.junk ++ written_from steps (Some tag) file s.first s.frames ≡ with_new
+  front_case front =
+      let junk = s.junk in
+      let rest = moved_from steps file s.first s.frames in
+      let none : at_tag - 0 ≡ at_tag = omega arith in
+      let high : at_tag + long_tag ≤ junk = front.before in
+      let between = bytes_between file (at_tag + long_tag) junk in
       ap₂ (λ (l r : List ℕ). l ++ r)
-      (before_tag steps file tag 0 junk (omega (arith, new.1, among.past)) ∙ ap (λ n. take n file) none)
+      (around_tag steps file tag 0 junk (omega arith) (omega (arith, new.0, new.1)) (omega (arith, new.1, high))
+      ∙ ap₂ (λ n k. bytes_between file 0 n ++ (tag.bytes.now ++ bytes_between file k junk)) new.0 new.1
+      ∙ ap₂ (λ n (l : List ℕ). take n file ++ (l ++ between)) none new.2)
+      (written-behind steps file tag s.first s.frames s.length (omega (arith, new.0, front.some, high, there.junk)) there.ends)
+      ∙ append_three (take at_tag file) bytes between rest
+      ∙ front_whole steps file allowed s is bytes front
+
+  among_case : IsAmong s → copied (Some tag) file 0 s.junk ++ written_from steps (Some tag) file s.first s.frames ≡ with_new
+  among_case among =
+      let none : s.junk - 0 ≡ s.junk = omega arith in
+      let up : at_tag + long_tag ≤ length file = omega (arith, there.size, among.up) in
+      let before = moved_to steps file s.first at_tag among.before in
+      let rest = moved_from steps file (at_tag + long_tag) among.behind in
+      ap₂ (λ (l r : List ℕ). l ++ r)
+      (before_tag steps file tag 0 s.junk (omega (arith, new.1, among.past)) ∙ ap (λ n. take n file) none)
       (ap (written_from steps (Some tag) file s.first) among.all
       ∙ written-split steps file tag s.first among.before among.behind s.length (subst (EndBy s.first among.before) (sym new.0) among.front) (omega (arith, new.0, new.1)) (omega (arith, new.1, up)) (subst (λ n. EndBy n among.behind s.length) (sym new.1) among.rest)
       ∙ ap₂ (λ n k. moved_to steps file s.first n among.before ++ (tag.bytes.now ++ moved_from steps file k among.behind)) new.0 new.1
       ∙ ap (λ (l : List ℕ). before ++ (l ++ rest)) new.2)
-      ∙ sym (append_assoc (take junk file) before (bytes ++ rest))
-      ∙ ap₂ (λ (l r : List ℕ). l ++ (bytes ++ r)) (sym taken) (sym dropped)
-      ∙ goal_from (a - junk_length s) (at_behind steps s s.length (omega (arith, among.low)) known.ends some)
+      ∙ sym (append_assoc (take s.junk file) before (bytes ++ rest))
+      ∙ among_whole steps file allowed s is bytes among
 
-  tag_case : copied (Some tag) file 0 s.junk ++ written_from steps (Some tag) file s.first s.frames ≡ with_tag bytes m2 moved
-  tag_case = at known.place
+  tag_case : copied (Some tag) file 0 s.junk ++ written_from steps (Some tag) file s.first s.frames ≡ with_new
+  tag_case = at there.place
     where
-      at : IsInFront s ⊎ IsAmong s → copied (Some tag) file 0 s.junk ++ written_from steps (Some tag) file s.first s.frames ≡ with_tag bytes m2 moved
+      at : IsInFront s ⊎ IsAmong s → copied (Some tag) file 0 s.junk ++ written_from steps (Some tag) file s.first s.frames ≡ with_new
       at (inl front) = front_case front
-      at (inr among) = among_case known.some among
+      at (inr among) = among_case among
 
 -- what the second pass writes
 pub written-changed : (change : Change) (tag : Option NewTag) (file : List ℕ) (allowed : ℕ) (s : SurveyFields) → IsNewTag s change tag → surveyed file allowed ≡ Ok s

@@ -5,4 +5,5 @@ pub mod Edited
 pub mod Streams
 pub mod Change
 pub mod Moving
+pub mod Kept
 pub mod Buffers

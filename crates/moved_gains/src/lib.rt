@@ -8,6 +8,7 @@ mod buffers;
 mod change;
 mod course;
 mod gains;
+mod laws;
 mod moving;
 mod shift;
 
@@ -15,5 +16,6 @@ pub use buffers::Buffers;
 pub use change::Change;
 pub use course::Course;
 pub use gains::{Stuck, stuck_in};
+pub use laws::changes_keep_all;
 pub use moving::write_changed;
 pub use shift::{Channels, Shift, Steps};

@@ -1,0 +1,27 @@
+-- What the commands that change gains keep of a file.
+use Rattle.std.specs.Prelude.{◌≡◌, ℕ, Bool, true, List, Ok}
+use Rattle.bit_fields.specs.Bits.{AreBytes}
+use Rattle.file_tag.specs.Places.{IsTagBytes}
+use Rattle.sync_survey.specs.Faults.{SurveyFields}
+use Rattle.sync_survey.specs.Survey.{survey_of}
+use Rattle.moved_gains.specs.declared.shift.Shift.{Shift}
+use Rattle.moved_gains.specs.Kept.{KeepsAll}
+use Rattle.commands.specs.One.{most_frames}
+use Rattle.gain_edits.specs.Change.{changed_file}
+use Rattle.gain_edits.specs.Gain.{gain_change}
+use Rattle.gain_edits.specs.Undo.{undo_change}
+
+-- What `gain` makes of a file that it accepts differs from it in gains, check words, junk that is
+-- left out, and, if the change is noted, the tag.
+abbrev pub GainKeepsAll : Type 0
+GainKeepsAll =
+    (shift : Shift) (tags : Bool) (file new : List ℕ) (s : SurveyFields) → AreBytes file
+    → survey_of file most_frames ≡ Ok s → changed_file (gain_change shift tags) file ≡ Ok new
+    → KeepsAll (λ tag. (tags ≡ true) × IsTagBytes tag) file s new
+
+-- what `gain -u` makes of a file that it accepts differs from it in gains, check words, junk that is
+-- left out, and the tag
+abbrev pub UndoKeepsAll : Type 0
+UndoKeepsAll =
+    (file new : List ℕ) (s : SurveyFields) → AreBytes file → survey_of file most_frames ≡ Ok s
+    → changed_file undo_change file ≡ Ok new → KeepsAll IsTagBytes file s new

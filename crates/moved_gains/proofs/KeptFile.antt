@@ -1,0 +1,294 @@
+-- A changed file differs from what it was in gains, check words, the tag and junk that is left out.
+use Rattle.std.proofs.Common.{◌≡◌, ℕ, zero, suc, ◌+◌, ◌-◌, ◌<◌, ◌≤◌, List, [], ◌∷◌, ◌++◌, length, take, drop, map, Option, Some, None, Ok, refl, sym, ◌∙◌, ap, ap₂, subst, arith, inl, inr, append_assoc, take-append-drop, append-nil}
+use Rattle.std.specs.Prelude.{◌⊎◌, slice_get}
+use Rattle.std.proofs.lemmas.List.{drop-drop}
+use Rattle.std.proofs.Math.Seq.{take-add}
+use Rattle.bit_fields.specs.Bits.{AreBytes}
+use Rattle.sync_survey.specs.declared.rows.Row.{Row}
+use Rattle.sync_survey.specs.Faults.{SurveyFields, surveyed}
+use Rattle.file_tag.specs.Places.{tag_at, tag_length, with_tag}
+use Rattle.outside.specs.Pass.{bytes_between}
+use Rattle.moved_gains.specs.declared.shift.Steps.{Steps}
+use Rattle.moved_gains.specs.Edited.{edited}
+use Rattle.moved_gains.specs.Moving.{row_length, row_end, moved_row_bytes}
+use Rattle.moved_gains.specs.Streams.{moved_survey}
+use Rattle.moved_gains.specs.Change.{Change, retag, changed}
+use Rattle.moved_gains.specs.Kept.{Patch, patched, BeginsAfter, AreInOrder, LeavesJunk, ReplacesTag, MovesFrame, MayBecome, AreAllowed, KeepsAll, ChangesKeepAll}
+use Rattle.moved_gains.proofs.MovingLaws.{moved_from, moved_from-nil, moved_from-cons, written-edited}
+use Rattle.moved_gains.proofs.WrittenLaws.{EndBy, end_rises, moved_to, append_three}
+use Rattle.moved_gains.proofs.TagPlaces.{IsAmong, IsApart, IsInFront, StandsSomewhere, stands_somewhere, stands_apart}
+use Rattle.moved_gains.proofs.WrittenTag.{front_whole, among_whole}
+use Rattle.moved_gains.proofs.FramesThere.{frame_of, IsFrameOf, AreFramesOf, frames_there}
+use Rattle.moved_gains.proofs.KeptFrame.{row_differs}
+
+-- ---- patches in order
+
+-- from an earlier offset on there are more bytes before the first patch
+ordered_earlier : (at to : ℕ) (patches : List Patch) → at ≤ to → AreInOrder to patches → AreInOrder at patches
+ordered_earlier at to [] low order = tt
+ordered_earlier at to (patch ∷ patches) low order = (omega (arith, low, order.0), order.1, order.2, order.3)
+
+patches_earlier : (file : List ℕ) (at to : ℕ) (patches : List Patch) → at ≤ to → AreInOrder to patches → patched file at patches ≡ bytes_between file at to ++ patched file to patches
+patches_earlier file at to [] low order =
+    let sum : to - at + at ≡ to = omega (arith, low) in
+    sym (take-append-drop (to - at) (drop at file)) ∙ ap (λ (l : List ℕ). bytes_between file at to ++ l) (drop-drop (to - at) at file ∙ ap (λ n. drop n file) (omega (arith, low)))
+patches_earlier file at to (patch ∷ patches) low order =
+    let rest = patch.now ++ patched file patch.to patches in
+    let sum : patch.from - at ≡ (to - at) + (patch.from - to) = omega (arith, low, order.0) in
+    let there : at + (to - at) ≡ to = omega (arith, low) in
+    ap (λ n. take n (drop at file) ++ rest) sum
+    ∙ ap (λ (l : List ℕ). l ++ rest)
+    (take-add (to - at) (patch.from - to) (drop at file)
+    ∙ ap (λ (l : List ℕ). bytes_between file at to ++ take (patch.from - to) l) (drop-drop (to - at) at file ∙ ap (λ n. drop n file) there))
+    ∙ append_assoc (bytes_between file at to) (bytes_between file to patch.from) rest
+
+begins_later : (at to : ℕ) (patches : List Patch) → at < to → AreInOrder to patches → BeginsAfter at patches
+begins_later at to [] low order = tt
+begins_later at to (patch ∷ patches) low order = omega (arith, low, order.0)
+
+module _ (T : List ℕ → Type 0) (steps : ℕ → Steps) (file : List ℕ) (s : SurveyFields) where
+  -- ---- the patches of frames
+
+  abbrev row_patch : Row → Patch
+  row_patch row = record { from = row.offset; to = row_end row; now = moved_row_bytes (steps row.offset) file row }
+
+  abbrev row_patches : List Row → List Patch
+  row_patches rows = map row_patch rows
+
+  abbrev AllMove : List Row → Type 0
+  AllMove [] = Unit {0}
+  AllMove (row ∷ rows) = MovesFrame file s (row_patch row) × AllMove rows
+
+  moves : (i : ℕ) (row : Row) → slice_get s.frames i ≡ Some row → IsFrameOf file row → MovesFrame file s (row_patch row)
+  moves i row there here =
+      let size : row_end row - row.offset ≡ row_length row = omega arith in
+      record {
+        number = i;
+        row = row;
+        there = there;
+        from = refl;
+        to = refl;
+        now = subst (λ n. MayBecome row (take n (drop row.offset file)) (moved_row_bytes (steps row.offset) file row)) (sym size) (row_differs (steps row.offset) file row here);
+      }
+
+  all_move : (n : ℕ) (rows : List Row) → ((i : ℕ) (row : Row) → slice_get rows i ≡ Some row → slice_get s.frames (n + i) ≡ Some row) → AreFramesOf file rows → AllMove rows
+  all_move n [] there here = tt
+  all_move n (row ∷ rows) there here = (
+    moves (n + 0) row (there 0 row refl) here.0,
+    all_move (n + 1) rows (λ i r is. ap (slice_get s.frames) (omega arith) ∙ there (suc i) r is) here.1,
+  )
+
+  front_move : (before behind : List Row) → AllMove (before ++ behind) → AllMove before
+  front_move [] behind all = tt
+  front_move (row ∷ before) behind all = (all.0, front_move before behind all.1)
+
+  behind_move : (before behind : List Row) → AllMove (before ++ behind) → AllMove behind
+  behind_move [] behind all = all
+  behind_move (row ∷ before) behind all = behind_move before behind all.1
+
+  rows_allowed : (rows : List Row) (patches : List Patch) → AllMove rows → AreAllowed T file s patches → AreAllowed T file s (row_patches rows ++ patches)
+  rows_allowed [] patches all later = later
+  rows_allowed (row ∷ rows) patches all later = (inr (inr all.0), rows_allowed rows patches all.1 later)
+
+  rows_begin : (at : ℕ) (rows : List Row) (to : ℕ) → EndBy at rows to → (x : ℕ) → x < at → BeginsAfter x (row_patches rows)
+  rows_begin at [] to ends x low = tt
+  rows_begin at (row ∷ rows) to ends x low = omega (arith, low, ends.0)
+
+  rows_ordered : (at : ℕ) (rows : List Row) (to : ℕ) → EndBy at rows to → AreInOrder at (row_patches rows)
+  rows_ordered at [] to ends = tt
+  rows_ordered at (row ∷ rows) to ends =
+      (ends.0, omega (arith, ends.1), rows_begin (row_end row) rows to ends.2 row.offset ends.1, rows_ordered (row_end row) rows to ends.2)
+
+  -- frames before another patch
+  before_begin : (at : ℕ) (rows : List Row) (patch : Patch) (patches : List Patch) → EndBy at rows patch.from → (x : ℕ) → x < at → BeginsAfter x (row_patches rows ++ (patch ∷ patches))
+  before_begin at [] patch patches ends x low = omega (arith, low, ends)
+  before_begin at (row ∷ rows) patch patches ends x low = omega (arith, low, ends.0)
+
+  before_ordered : (at : ℕ) (rows : List Row) (patch : Patch) (patches : List Patch) → EndBy at rows patch.from → AreInOrder patch.from (patch ∷ patches) → AreInOrder at (row_patches rows ++ (patch ∷ patches))
+  before_ordered at [] patch patches ends order = (ends, order.1, order.2, order.3)
+  before_ordered at (row ∷ rows) patch patches ends order =
+      (ends.0, omega (arith, ends.1), before_begin (row_end row) rows patch patches ends.2 row.offset ends.1, before_ordered (row_end row) rows patch patches ends.2 order)
+
+  patches-moved : (at : ℕ) (rows : List Row) → patched file at (row_patches rows) ≡ moved_from steps file at rows
+  patches-moved at [] = sym (moved_from-nil steps file at)
+  patches-moved at (row ∷ rows) =
+      ap (λ (l : List ℕ). bytes_between file at row.offset ++ (moved_row_bytes (steps row.offset) file row ++ l)) (patches-moved (row_end row) rows) ∙ sym (moved_from-cons steps file at row rows)
+
+  patches-before : (at : ℕ) (rows : List Row) (patch : Patch) (patches : List Patch)
+      → patched file at (row_patches rows ++ (patch ∷ patches)) ≡ moved_to steps file at patch.from rows ++ (patch.now ++ patched file patch.to patches)
+  patches-before at [] patch patches = refl
+  patches-before at (row ∷ rows) patch patches =
+      let own = moved_row_bytes (steps row.offset) file row in
+      ap (λ (l : List ℕ). bytes_between file at row.offset ++ (own ++ l)) (patches-before (row_end row) rows patch patches)
+      ∙ sym (append_three (bytes_between file at row.offset) own (moved_to steps file (row_end row) patch.from rows) (patch.now ++ patched file patch.to patches))
+
+  -- ---- the junk
+
+  abbrev junk_patch : Patch
+  junk_patch = record { from = s.junk; to = s.first; now = [] }
+
+  -- patches that leave out the junk too, if there is any
+  record Joined (at : ℕ) (patches : List Patch) : Type 0 where
+    pub all : List Patch
+    pub in_order : AreInOrder at all
+    pub allowed : AreAllowed T file s all
+    pub begins : (x : ℕ) → x < s.junk → BeginsAfter x all
+    pub written : patched file at all ≡ bytes_between file at s.junk ++ patched file s.first patches
+
+  after_junk : (at : ℕ) (patches : List Patch) → at ≤ s.junk → s.junk ≤ s.first → AreInOrder s.first patches → AreAllowed T file s patches → Joined at patches
+  after_junk at patches low up order allowed = by_junk (s.first - s.junk) refl
+    where
+      by_junk : (n : ℕ) → s.first - s.junk ≡ n → Joined at patches
+      by_junk zero is =
+          let same : s.first ≡ s.junk = omega (arith, is, up) in
+          let order = subst (λ n. AreInOrder n patches) same order in
+          record {
+            all = patches;
+            in_order = ordered_earlier at s.junk patches low order;
+            allowed = allowed;
+            begins = λ x less. begins_later x s.junk patches less order;
+            written = patches_earlier file at s.junk patches low order ∙ ap (λ n. bytes_between file at s.junk ++ patched file n patches) (sym same);
+          }
+      by_junk (suc n) is = record {
+        all = junk_patch ∷ patches;
+        in_order = (low, up, begins_later s.junk s.first patches (omega (arith, is)) order, order);
+        allowed = (inl (record { from = refl; to = refl; none = refl }), allowed);
+        begins = λ x less. less;
+        written = refl;
+      }
+
+-- ---- the changed file
+
+module _ (file : List ℕ) (allowed : ℕ) (s : SurveyFields) (all : AreBytes file) (is : surveyed file allowed ≡ Ok s) (steps : ℕ → Steps) where
+  known : StandsSomewhere steps file s
+  known = stands_somewhere steps file allowed s is
+
+  each_moves : (T : List ℕ → Type 0) → AllMove T steps file s s.frames
+  each_moves T = all_move T steps file s 0 s.frames (λ i row there. ap (slice_get s.frames) (omega arith) ∙ there) (frames_there file allowed s all is)
+
+  none : s.junk - 0 ≡ s.junk
+  none = omega arith
+
+  -- without a new tag
+  keeps_none : KeepsAll (λ tag. None ≡ Some tag) file s (edited steps file s)
+  keeps_none =
+      let T : List ℕ → Type 0 = λ tag. None ≡ Some tag in
+      let patches = row_patches T steps file s s.frames in
+      let order = rows_ordered T steps file s s.first s.frames s.length known.ends in
+      let may : AreAllowed T file s patches = subst (AreAllowed T file s) (append-nil patches) (rows_allowed T steps file s s.frames [] (each_moves T) tt) in
+      let joined = after_junk T steps file s 0 patches (omega arith) known.junk order may in
+      record {
+        patches = joined.all;
+        in_order = joined.in_order;
+        allowed = joined.allowed;
+        written =
+            sym (written-edited steps file allowed s is)
+            ∙ ap₂ (λ n (l : List ℕ). take n file ++ l) (sym none) (sym (patches-moved T steps file s s.first s.frames))
+            ∙ sym joined.written;
+      }
+
+  -- ---- with a new tag
+
+  module _ (bytes : List ℕ) where
+    abbrev MayBe : List ℕ → Type 0
+    MayBe tag = Some bytes ≡ Some tag
+
+    abbrev a : ℕ
+    a = tag_at s
+
+    abbrev size : ℕ
+    size = tag_length s
+
+    abbrev with_new : List ℕ
+    with_new = with_tag bytes (moved_survey steps s) (edited steps file s)
+
+    abbrev tag_patch : Patch
+    tag_patch = record { from = a; to = a + size; now = bytes }
+
+    tag_allowed : ReplacesTag MayBe s tag_patch
+    tag_allowed = record { from = refl; to = refl; now = refl }
+
+    abbrev rows : List Patch
+    rows = row_patches MayBe steps file s s.frames
+
+    keeps_front : IsInFront s → KeepsAll MayBe file s with_new
+    keeps_front front =
+        let order = rows_ordered MayBe steps file s s.first s.frames s.length known.ends in
+        let may : AreAllowed MayBe file s rows = subst (AreAllowed MayBe file s) (append-nil rows) (rows_allowed MayBe steps file s s.frames [] (each_moves MayBe) tt) in
+        let joined = after_junk MayBe steps file s (a + size) rows front.before known.junk order may in
+        let zero_less : a - 0 ≡ a = omega arith in
+        record {
+          patches = tag_patch ∷ joined.all;
+          in_order = (omega arith, omega arith, joined.begins a (omega (arith, front.some, front.before)), joined.in_order);
+          allowed = (inr (inl tag_allowed), joined.allowed);
+          written =
+              sym (front_whole steps file allowed s is bytes front)
+              ∙ ap₂ (λ n (l : List ℕ). take n file ++ (bytes ++ (bytes_between file (a + size) s.junk ++ l))) (sym zero_less) (sym (patches-moved MayBe steps file s s.first s.frames))
+              ∙ ap (λ (l : List ℕ). bytes_between file 0 a ++ (bytes ++ l)) (sym joined.written);
+        }
+
+    keeps_among : IsApart s → KeepsAll MayBe file s with_new
+    keeps_among apart =
+        let among = apart.among in
+        let before = row_patches MayBe steps file s among.before in
+        let behind = row_patches MayBe steps file s among.behind in
+        let parts : AllMove MayBe steps file s (among.before ++ among.behind) = subst (AllMove MayBe steps file s) among.all (each_moves MayBe) in
+        let before_moves = front_move MayBe steps file s among.before among.behind parts in
+        let behind_moves = behind_move MayBe steps file s among.before among.behind parts in
+        let behind_allowed : AreAllowed MayBe file s behind = subst (AreAllowed MayBe file s) (append-nil behind) (rows_allowed MayBe steps file s among.behind [] behind_moves tt) in
+        let behind_order = rows_ordered MayBe steps file s (a + size) among.behind s.length among.rest in
+        let all_allowed : AreAllowed MayBe file s (before ++ (tag_patch ∷ behind)) = rows_allowed MayBe steps file s among.before (tag_patch ∷ behind) before_moves (inr (inl tag_allowed), behind_allowed) in
+        let tag_order : AreInOrder a (tag_patch ∷ behind) = (omega arith, omega arith, tag_begins among.behind among.rest apart.apart, behind_order) in
+        let order : AreInOrder s.first (before ++ (tag_patch ∷ behind)) = before_ordered MayBe steps file s s.first among.before tag_patch behind among.front tag_order in
+        let joined = after_junk MayBe steps file s 0 (before ++ (tag_patch ∷ behind)) (omega arith) known.junk order all_allowed in
+        record {
+          patches = joined.all;
+          in_order = joined.in_order;
+          allowed = joined.allowed;
+          written =
+              sym (among_whole steps file allowed s is bytes among)
+              ∙ append_assoc (take s.junk file) (moved_to steps file s.first a among.before) (bytes ++ moved_from steps file (a + size) among.behind)
+              ∙ ap₂ (λ n (l : List ℕ). take n file ++ (moved_to steps file s.first a among.before ++ (bytes ++ l))) (sym none) (sym (patches-moved MayBe steps file s (a + size) among.behind))
+              ∙ ap (λ (l : List ℕ). bytes_between file 0 s.junk ++ l) (sym (patches-before MayBe steps file s s.first among.before tag_patch behind))
+              ∙ sym joined.written;
+        }
+      where
+        tag_begins : (behind : List Row) → EndBy (a + size) behind s.length → (behind ≡ []) ⊎ (0 < size) → BeginsAfter a (row_patches MayBe steps file s behind)
+        tag_begins [] ends apart = tt
+        tag_begins (row ∷ behind) ends (inl none) = absurd cc
+        tag_begins (row ∷ behind) ends (inr some) = omega (arith, ends.0, some)
+
+    keeps_tag : KeepsAll MayBe file s with_new
+    keeps_tag = by_place (stands_apart steps file allowed s is)
+      where
+        by_place : IsInFront s ⊎ IsApart s → KeepsAll MayBe file s with_new
+        by_place (inl front) = keeps_front front
+        by_place (inr apart) = keeps_among apart
+
+pub changes_kept : ChangesKeepAll
+unfolding changed
+changes_kept change file allowed s all is = by_tag change.tag
+  where
+    by_tag : (o : Option (List ℕ)) → KeepsAll (λ tag. o ≡ Some tag) file s (retag o (moved_survey change.steps s) (edited change.steps file s))
+    by_tag None = keeps_none file allowed s all is change.steps
+    by_tag (Some bytes) = keeps_tag file allowed s all is change.steps bytes
+
+-- ---- what may be the tag
+
+allowed_weaker : (T U : List ℕ → Type 0) → ((tag : List ℕ) → T tag → U tag) → (file : List ℕ) (s : SurveyFields) (patches : List Patch) → AreAllowed T file s patches → AreAllowed U file s patches
+allowed_weaker T U weaker file s [] may = tt
+allowed_weaker T U weaker file s (patch ∷ patches) may = (one may.0, allowed_weaker T U weaker file s patches may.1)
+  where
+    one : LeavesJunk s patch ⊎ (ReplacesTag T s patch ⊎ MovesFrame file s patch) → LeavesJunk s patch ⊎ (ReplacesTag U s patch ⊎ MovesFrame file s patch)
+    one (inl junk) = inl junk
+    one (inr (inl tag)) = inr (inl (record { from = tag.from; to = tag.to; now = weaker patch.now tag.now }))
+    one (inr (inr frame)) = inr (inr frame)
+
+-- more may be the tag
+pub keeps_weaker : (T U : List ℕ → Type 0) → ((tag : List ℕ) → T tag → U tag) → (file : List ℕ) (s : SurveyFields) (new : List ℕ) → KeepsAll T file s new → KeepsAll U file s new
+keeps_weaker T U weaker file s new keeps = record {
+  patches = keeps.patches;
+  in_order = keeps.in_order;
+  allowed = allowed_weaker T U weaker file s keeps.patches keeps.allowed;
+  written = keeps.written;
+}
