@@ -1,7 +1,9 @@
 -- What the list command leaves, by the survey of its input.
 use Rattle.std.proofs.Common.{◌≡◌, ℕ, ◌+◌, ◌≤◌, List, [], ◌∷◌, length, Some, Result, Ok, Err, refl, sym, ◌∙◌, ap, subst, inl, arith}
-use Rattle.outside.specs.Files.{Contents, Files, Holds, IsThere, IsMissing, Told, Untold, IfTold, OnlyTouches}
-use Rattle.outside.specs.Counts.{Counts}
+use Rattle.std.specs.Prelude.{IfErr, OnOk, OnErr, take}
+use Rattle.outside.specs.Files.{sent_more, Contents, Files, Holds, IsThere, IsMissing, Told, Untold, IfTold, OnlyTouches}
+use Rattle.outside.specs.Counts.{Counts, HasCause}
+use Rattle.outside.specs.Passed.{SentPrefix}
 use Rattle.outside.proofs.FilesLaws.{there_holds, touches_none}
 use Rattle.sync_survey.specs.declared.survey_fault.SurveyFault.{SurveyFault}
 use Rattle.sync_survey.specs.declared.survey_fault.SurveyFault.TheVariants.{Absent}
@@ -15,6 +17,7 @@ use Rattle.commands.specs.declared.fault.EditFault.TheVariants.{Input, Sent as N
 use Rattle.commands.specs.One.{most_frames, IsFileFaultBy, IsFileFault}
 use Rattle.commands.specs.Command.{Made, Gives, written, MakesStreams, HoldsStreams}
 use Rattle.commands.specs.Left.{Why, Rejected, Missing, Unread, Shorter, NoMemory, why_of, Seen, seen, IsDone, TakesMemory, LeavesBy, Leaves}
+use Rattle.commands.specs.Said.{Heard, IsText, Says, fault_of}
 use Rattle.listing.specs.Listing.{listed_by, listed_where, listing, list_command}
 use Rattle.commands.proofs.InputLaws.{of_bytes_behind}
 use Rattle.commands.proofs.MakeLaws.{ok_made, made-same}
@@ -93,3 +96,29 @@ module _ (input : List ℕ) where
             let held = there_holds f input there in
             let parts = survey_of-parts held.0 most_frames s (is held.0 held.1) in
             λ made e. none_written f held.0 held.1 (s, surveyed-allowed held.0 most_frames (length held.0 + 1) s (omega arith) parts.1) made (sym (gives_survey f held.0 (Ok s) held.1 (is held.0 held.1)) ∙ e)
+
+-- ---- the last step
+
+-- what holds where all was sent, and where a write failed, holds of every answer of the last step
+pub told_by : {T : Type 0} (P : Result T EditFault → Type 0) → ((x : T) → P (Ok x)) → P (Err NotSent) → (result : Result T EditFault) → IfErr result (λ fault. fault ≡ NotSent) → P result
+told_by P all part (Ok x) is = all x
+told_by P all part (Err fault) is = subst (λ f. P (Err f)) (sym is) part
+
+module _ (input : List ℕ) (files : Files) (s : SurveyFields) (there : IsThere files input) (is : (bytes : List ℕ) → Holds files input bytes → survey_of bytes most_frames ≡ Ok s) where
+  -- the text of the command is the listing
+  text_is : (text : List ℕ) → IsText (list_command input) files text → listing s ≡ text
+  text_is text (inl always) = absurd cc
+  text_is text (inr told) =
+      let makes : (list_command input).makes told.0 ≡ Ok (record { outputs = []; text = listing s }) = subst (λ fs. Gives (list_command input) fs (Ok (record { outputs = []; text = listing s }))) told.2 (gives_bytes input files (Ok s) there is) in
+      ap (λ (m : Made). m.text) (made-same (record { outputs = []; text = listing s }) told.1 (sym makes ∙ told.3)) ∙ told.4
+
+  -- what the sink got of it
+  pub says : {T : Type 0} (old new : Heard) (result : Result T EditFault) → IfErr result (λ fault. fault ≡ NotSent) → OnOk result (new.sent ≡ sent_more old.sent (listing s))
+      → OnErr result (SentPrefix (listing s) old.sent new.sent) → HasCause old.faults new.faults result → Says (list_command input) files old new (fault_of result)
+  says old new =
+      told_by (λ r. OnOk r (new.sent ≡ sent_more old.sent (listing s)) → OnErr r (SentPrefix (listing s) old.sent new.sent) → HasCause old.faults new.faults r → Says (list_command input) files old new (fault_of r))
+      (λ x sent part cause. record { text = λ text it. sent ∙ ap (sent_more old.sent) (text_is text it); faults = cause.done })
+      (λ sent part cause. record {
+        text = λ text it. subst (λ (t : List ℕ). (n : ℕ) × (n ≤ length t) × (new.sent ≡ sent_more old.sent (take n t))) (text_is text it) (part.count, part.within, part.sent);
+        rose = cause.failed;
+      })

@@ -18,7 +18,10 @@ use outside::{Failed, Folder, SendBuffer, Sink};
 use std::alloc::Global;
 use sync_survey::Survey;
 
-// Sends the lines of the file and its summary.
+/// Sends the lines of the file and its summary. It takes no memory.
+///
+/// # Errors
+/// Where a write failed. Then a prefix of the text was sent.
 fn send_listing<T: Sink>(survey: &Survey, mut buffer: SendBuffer, out: &mut T) -> Result<(), Failed>
     requires laid { IsLaidOut (tells survey.now) }
     requires empty { buffer ≡ [] }
@@ -38,6 +41,26 @@ fn send_listing<T: Sink>(survey: &Survey, mut buffer: SendBuffer, out: &mut T) -
     set_summary(&mut line, survey.class(), count);
     buffer.push(out, line.bytes())?;
     buffer.finish(out)
+}
+
+/// The last step of the command: sends the lines of the file and its summary. All memory was taken before.
+///
+/// # Errors
+/// `Sent` where a write failed. Then a prefix of the text was sent.
+fn tell<T: Sink>(survey: &Survey, buffer: SendBuffer, out: &mut T) -> Result<(), EditFault>
+    requires laid { IsLaidOut (tells survey.now) }
+    requires empty { buffer ≡ [] }
+    ensures sent { OnOk result (T.sent out.new ≡ sent_more (T.sent out.old)
+        (listing (tells survey.now))) }
+    ensures prefix { OnErr result (SentPrefix (listing (tells survey.now)) (T.sent out.old)
+        (T.sent out.new)) }
+    ensures cause { HasCause (T.faults out.old) (T.faults out.new) result }
+    ensures fault { IfErr result (λ fault. fault ≡ EditFault.Sent) }
+{
+    match send_listing(survey, buffer, out) {
+        Ok(()) => Ok(()),
+        Err(Failed) => Err(EditFault::Sent),
+    }
 }
 
 /// Sends what is in the file to `out`: a line for each thing in order of the offsets, and a summary. Nothing
@@ -85,8 +108,5 @@ pub fn list<D: Folder, T: Sink>(
 {
     let survey = survey_at(alloc, folder, input, 0, MOST_FRAMES)?;
     let buffer = SendBuffer::new(alloc)?;
-    match send_listing(&survey, buffer, out) {
-        Ok(()) => Ok(()),
-        Err(Failed) => Err(EditFault::Sent),
-    }
+    tell(&survey, buffer, out)
 }
