@@ -4,7 +4,7 @@ use Rattle.std.proofs.lemmas.Map.Text.{btree_set_updates_text}
 use Rattle.std.specs.BTreeSet.{UpdatesBy}
 use Rattle.std.specs.Cmp.Lexicographic.{slice_cmp}
 use Rattle.std.specs.Ordering.{nat_cmp}
-use Rattle.std.specs.Prelude.{Bool, true, false, cond, ◌||◌, ◌&&◌, bytes_eq, Result, Ok, Err, OnOk, OnErr}
+use Rattle.std.specs.Prelude.{Bool, true, false, cond, ◌||◌, ◌&&◌, bytes_eq, IsTrue, Result, Ok, Err, OnOk, OnErr}
 use Rattle.std.specs.String.{string_cmp}
 use Rattle.on_disk.specs.Names.{touched_in}
 use Rattle.on_disk.specs.declared.touched.Touched.{Touched as TouchedNames}
@@ -31,6 +31,14 @@ touch_again touched name is_so was = same_touched _ _ (λ other. at other is_so 
     at other true false false e t = refl
     at other false same false e t = refl
     at other true true false e t = sym t ∙ sym (ap touched ((bytes_eq-Decides name other).0 e)) ∙ was
+
+-- a name that was added may have been touched
+pub touch_there : (old new : Touched) (name : List ℕ) → new ≡ with_touch old name true → IsTrue (new name)
+touch_there old new name added = ap (λ touched. touched name) added ∙ at (old name) (bytes_eq name name) ((bytes_eq-Decides name name).1 refl)
+  where
+    at : (was same : Bool) → same ≡ true → (was || true && same) ≡ true
+    at true same e = refl
+    at false same e = e
 
 -- ---- a name that is touched, and whose file is then emptied or not
 

@@ -1,7 +1,18 @@
--- What `create` does with a file that it opened.
-use Rattle.std.specs.Prelude.{Bool, true, false}
+-- Which files a folder noted, and what `create` does with a file that it opened.
+use Rattle.std.specs.Prelude.{Bool, true, false, ◌==◌, ◌&&◌}
+use Rattle.std.specs.List.{list_any}
+use Rattle.on_disk.specs.declared.noted.FileId.{FileId}
+use Rattle.on_disk.specs.declared.noted.Noted.{Noted}
 use Rattle.on_disk.specs.declared.noted.Opening.{Opening}
 use Rattle.on_disk.specs.declared.noted.Opening.TheVariants.{Refused, Emptied, Kept}
+
+-- files are the same if their devices and their inode numbers are
+abbrev pub is_same : FileId → FileId → Bool
+is_same a b = a.device == b.device && a.inode == b.inode
+
+-- a file was noted, by whatever name
+abbrev pub is_noted : Noted → FileId → Bool
+is_noted noted file = list_any (λ found. is_same found file) noted.files.items
 
 -- by whether the folder found the file before, and whether it is a regular one
 abbrev pub opening_of_lem : Bool → Bool → Opening

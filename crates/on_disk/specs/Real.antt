@@ -1,14 +1,16 @@
 -- What a folder of real files and a real stream count and keep open, and what open files tell.
-use Rattle.std.specs.Prelude.{◌≡◌, ◌≢◌, ℕ, ◌-◌, ◌≤◌, List, length, take, drop, min, Option, Some, IsSome, Result, Ok, IfOk, option_map, option_and_then, string_bytes, pos}
+use Rattle.std.specs.Prelude.{◌≡◌, ◌≢◌, ℕ, ◌-◌, ◌≤◌, List, length, take, drop, min, Option, Some, IsSome, IfSome, IsTrue, false, Result, Ok, IfOk, option_map, option_and_then, string_bytes, pos}
 use Rattle.std.specs.Io.KnownBytes.{Appends, Keeps}
 use Rattle.std.specs.Io.Seek.{SeekMoves}
 use Rattle.std.specs.declared.io.traits.SeekFrom.TheVariants.{End}
 use Rattle.on_disk.specs.declared.disk.DiskFolder.{DiskFolder}
 use Rattle.on_disk.specs.declared.disk.Opened.{Opened}
+use Rattle.on_disk.specs.declared.noted.FileId.{FileId}
 use Rattle.on_disk.specs.declared.stream.StdSink.{StdSink}
 use Rattle.outside.specs.Counts.{Counts}
 use Rattle.outside.specs.Files.{Files, Untold}
 use Rattle.on_disk.specs.Names.{touched_in}
+use Rattle.on_disk.specs.Opening.{is_noted}
 
 abbrev pub disk_counts : {R File Dir : Type 0} → DiskFolder R File Dir → Counts
 disk_counts folder = folder.tally
@@ -27,6 +29,18 @@ found_name folder = open_name folder.found
 
 abbrev pub found_file : {R File Dir : Type 0} → DiskFolder R File Dir → Option File
 found_file folder = option_map (λ opened. opened.file) folder.found
+
+-- the device and the inode number of the file that is open for reading are noted
+abbrev pub FoundIsNoted : {R File Dir : Type 0} → DiskFolder R File Dir → Type 0
+FoundIsNoted folder = IfSome folder.found (λ opened. IsTrue (is_noted folder.noted opened.id))
+
+-- those of the file that is open for appending are not
+abbrev pub CreatedIsNotNoted : {R File Dir : Type 0} → DiskFolder R File Dir → Type 0
+CreatedIsNotNoted folder = IfSome folder.created (λ opened. is_noted folder.noted opened.id ≡ false)
+
+-- what was noted stays so
+abbrev pub StayNoted : {R File Dir : Type 0} → DiskFolder R File Dir → DiskFolder R File Dir → Type 0
+StayNoted old new = (file : FileId) → IsTrue (is_noted old.noted file) → IsTrue (is_noted new.noted file)
 
 -- the name of the file that is open for appending
 abbrev pub created_name : {R File Dir : Type 0} → DiskFolder R File Dir → Option (List ℕ)

@@ -1,8 +1,9 @@
 //! Real files.
 ghost use Rattle.std.specs.Prelude.{◌≡◌, ℕ, ◌<◌, ◌≤◌, List, length, take, drop, IfOk, OnOk, OnErr, IsErrOf, if◌then◌else◌, ◌==◌, ◌&&◌, nat_lt, ◌⊎◌, ◌-◌, Some, IfSome, IsTrue, true, false, ◌↔◌, min};
-ghost use Rattle.std.specs.List.{list_any};
 ghost use Rattle.std.specs.Fs.{new_options};
 ghost use Rattle.std.specs.Io.KnownBytes.{Keeps, WriteAppends};
+ghost use Rattle.on_disk.specs.Names.{touched_in};
+ghost use Rattle.on_disk.specs.Opening.{is_noted};
 ghost use Rattle.on_disk.specs.Real.{open_name, TellsBytes, ReadsOn};
 ghost use Rattle.outside.specs.Files.{Untold, emptied, appended, FailsToCreate, Holds, IsThere, IsMissing, AreOctets};
 ghost use Rattle.outside.specs.Counts.{none_counted, with_miss, with_end, with_read_fault, with_write_fault, OnlyReads, OnlyWrites, NothingFailed, HappenedTo, EndedAt};
@@ -18,16 +19,18 @@ use std::io::{Read, Seek, Write};
 use std::rt::Files;
 use std::{fs, io};
 
-// A file that is kept open, with the name that it was opened by.
+// A file that is kept open, with the name that it was opened by, and its device and inode number.
 #[derive(Drop)]
 struct Opened<F> {
     name: String,
     file: F,
+    id: FileId,
 }
 
 impl<F: Write> Opened<F> {
     fn append(&mut self, bytes: &[u8]) -> Result<usize, Failed>
         ensures name { self.new.name ≡ self.old.name }
+        ensures id { self.new.id ≡ self.old.id }
         ensures bound { IfOk result (λ k. k ≤ length bytes.now) }
         ensures some { IfOk result (λ k. 0 < length bytes.now → 0 < k) }
         ensures appended { WriteAppends (F.contents self.old.file)
@@ -41,6 +44,7 @@ impl<F: Read + Seek> Opened<F> {
     // Reads what there is from the offset `at` on, as much as fits.
     fn read_part(&mut self, at: u64, into: &mut [u8]) -> io::Result<usize>
         ensures name { self.new.name ≡ self.old.name }
+        ensures id { self.new.id ≡ self.old.id }
         ensures bound { IfOk result (λ k. k ≤ length into.old) }
         ensures rest { IfOk result (λ k. drop k into.new ≡ drop k into.old) }
         ensures whole { (xs : List ℕ) → TellsBytes F.stream_position F.stream_bytes self.old.file xs
@@ -86,7 +90,7 @@ pub struct DiskFolder<'a, R: Files> {
 }
 
 impl<'a, R: Files> DiskFolder<'a, R> {
-    ghost use Rattle.on_disk.specs.Real.{disk_counts, disk_files, found_name, found_file, created_name, created_bytes, EndsAt, ReadsWhole, ReadsOpen, AppendsOpen, LeavesOthers};
+    ghost use Rattle.on_disk.specs.Real.{disk_counts, disk_files, found_name, found_file, created_name, created_bytes, EndsAt, ReadsWhole, ReadsOpen, AppendsOpen, LeavesOthers, FoundIsNoted, CreatedIsNotNoted, StayNoted};
 
     /// A folder with all counts 0 that has touched no name. It takes no memory.
     pub fn new(rt: &'a R, alloc: Global) -> Self
@@ -109,6 +113,8 @@ impl<'a, R: Files> DiskFolder<'a, R> {
         ensures tally { disk_counts self.new ≡ disk_counts self.old }
         ensures touched { self.new.touched ≡ self.old.touched }
         ensures opened { OnOk result (found_name self.new ≡ Some name.now) }
+        ensures noted { OnOk result (FoundIsNoted self.new) }
+        ensures stay_noted { StayNoted self.old self.new }
         ensures length { IfOk result (λ n. IfSome (found_file self.new)
             (λ file. EndsAt R.File.stream_position R.File.stream_bytes file n)) }
         ensures created { self.new.created ≡ self.old.created }
@@ -116,24 +122,24 @@ impl<'a, R: Files> DiskFolder<'a, R> {
         let (mut file, id) = open_regular(self.rt, name)?;
         let length = length_of(&mut file)?;
         let name = String::from_str(self.alloc, name)?;
-        self.keep(name, file, id)?;
+        self.keep(Opened { name, file, id })?;
         Ok(length)
     }
 
     // Notes a file that was found, and keeps it open for reading. Fails for a file that comes after 65
     // others.
-    fn keep(&mut self, name: String, file: R::File, id: FileId) -> Result<(), FindFault>
+    fn keep(&mut self, opened: Opened<R::File>) -> Result<(), FindFault>
         ensures tally { disk_counts self.new ≡ disk_counts self.old }
         ensures touched { self.new.touched ≡ self.old.touched }
-        ensures opened { OnOk result (self.new.found ≡ Some (record { name = name; file = file })) }
-        ensures noted { OnOk result (IsTrue
-            (list_any (λ found. ⟦<FileId as PartialEq>⟧.eq found id) self.new.noted.files.items)) }
+        ensures opened { OnOk result (self.new.found ≡ Some opened) }
+        ensures noted { OnOk result (FoundIsNoted self.new) }
+        ensures stay_noted { StayNoted self.old self.new }
         ensures created { self.new.created ≡ self.old.created }
     {
-        if !self.noted.note(id) {
+        if !self.noted.note(opened.id) {
             return Err(FindFault::Failed);
         }
-        self.found = Some(Opened { name, file });
+        self.found = Some(opened);
         Ok(())
     }
 
@@ -143,14 +149,15 @@ impl<'a, R: Files> DiskFolder<'a, R> {
         ensures touched { self.new.touched ≡ self.old.touched }
         ensures opened { OnOk result (found_name self.new ≡ Some name.now) }
         ensures same { found_name self.old ≡ Some name.now → self.new.found ≡ self.old.found }
+        ensures noted { self.new.noted ≡ self.old.noted }
         ensures created { self.new.created ≡ self.old.created }
     {
         if is_open(&self.found, name) {
             return Ok(());
         }
-        let (file, _) = open_regular(self.rt, name)?;
+        let (file, id) = open_regular(self.rt, name)?;
         let name = String::from_str(self.alloc, name)?;
-        self.found = Some(Opened { name, file });
+        self.found = Some(Opened { name, file, id });
         Ok(())
     }
 
@@ -160,6 +167,7 @@ impl<'a, R: Files> DiskFolder<'a, R> {
         ensures rest { IfOk result (λ k. drop k into.new ≡ drop k into.old) }
         ensures tally { disk_counts self.new ≡ disk_counts self.old }
         ensures touched { self.new.touched ≡ self.old.touched }
+        ensures noted { self.new.noted ≡ self.old.noted }
         ensures created { self.new.created ≡ self.old.created }
         ensures opened { OnOk result (found_name self.new ≡ Some name.now) }
         ensures whole { ReadsWhole R.File.stream_position R.File.stream_bytes self.old name.now at
@@ -175,17 +183,23 @@ impl<'a, R: Files> DiskFolder<'a, R> {
     }
 
     // Opens the file of this name, empties it if it is a regular one, and keeps it open; fails if this
-    // folder found it.
+    // folder found it. The name has to be noted first, since the system may make a file and fail then.
     fn make_empty(&mut self, name: &str) -> Result<(), Failed>
+        requires noted_first { IsTrue (touched_in self.now.touched name.now) }
         ensures tally { disk_counts self.new ≡ disk_counts self.old }
         ensures touched { self.new.touched ≡ self.old.touched }
         ensures opened { OnOk result (created_name self.new ≡ Some name.now) }
+        ensures unfound { OnOk result (CreatedIsNotNoted self.new) }
         ensures found { self.new.found ≡ self.old.found }
         ensures noted { self.new.noted ≡ self.old.noted }
     {
         let kept = String::from_str(self.alloc, name)?;
-        let file = open_emptied(self.rt, &self.noted, name)?;
-        self.created = Some(Opened { name: kept, file });
+        let (file, id) = open_emptied(self.rt, &self.noted, name)?;
+        self.created = Some(Opened {
+            name: kept,
+            file,
+            id,
+        });
         Ok(())
     }
 
@@ -197,6 +211,7 @@ impl<'a, R: Files> DiskFolder<'a, R> {
         ensures kept { OnErr result (FailsToCreate name.now (disk_files self.old)
             (disk_files self.new)) }
         ensures opened { OnOk result (created_name self.new ≡ Some name.now) }
+        ensures unfound { OnOk result (CreatedIsNotNoted self.new) }
         ensures found { self.new.found ≡ self.old.found }
         ensures noted { self.new.noted ≡ self.old.noted }
     {
@@ -216,6 +231,7 @@ impl<'a, R: Files> DiskFolder<'a, R> {
         ensures aside { LeavesOthers self.old self.new name.now }
         ensures opened { created_name self.new ≡ created_name self.old }
         ensures found { self.new.found ≡ self.old.found }
+        ensures noted { self.new.noted ≡ self.old.noted }
     {
         if !is_open(&self.created, name) {
             return append_anew(self.rt, name, bytes);
@@ -247,15 +263,18 @@ fn appending(creates: bool) -> OpenOptions
 
 // Opens the file of this name to be written, and empties it if it is a regular one; fails if it was found. A file that is empty
 // is left as it is: some file systems write a file that was cut off to the disk when it is closed.
-fn open_emptied<R: Files>(rt: &R, noted: &Noted, name: &str) -> Result<R::File, Failed> {
+fn open_emptied<R: Files>(rt: &R, noted: &Noted, name: &str) -> Result<(R::File, FileId), Failed>
+    ensures unfound { IfOk result (λ opened. is_noted noted.now opened.1 ≡ false) }
+{
     let file = appending(true).open(rt, name)?;
     let metadata = file.metadata()?;
-    match opening_of(noted, &FileId::of(&metadata), metadata.is_file()) {
+    let id = FileId::of(&metadata);
+    match opening_of(noted, &id, metadata.is_file()) {
         Opening::Refused => return Err(Failed),
         Opening::Emptied if metadata.len() > 0 => file.set_len(0)?,
         Opening::Emptied | Opening::Kept => {}
     }
-    Ok(file)
+    Ok((file, id))
 }
 
 // Opens a regular file for reading. Anything else is looked at first, since to open a pipe may block.
@@ -272,7 +291,7 @@ fn open_regular<R: Files>(rt: &R, name: &str) -> Result<(R::File, FileId), FindF
 }
 
 impl<'a, R: Files> Folder for DiskFolder<'a, R> {
-    ghost use Rattle.on_disk.specs.Real.{disk_counts, disk_files, found_name, found_file, created_name, created_bytes, EndsAt, ReadsWhole, ReadsOpen, AppendsOpen, LeavesOthers};
+    ghost use Rattle.on_disk.specs.Real.{disk_counts, disk_files, found_name, found_file, created_name, created_bytes, EndsAt, ReadsWhole, ReadsOpen, AppendsOpen, LeavesOthers, FoundIsNoted, CreatedIsNotNoted, StayNoted};
 
     ghost files = { λ folder. disk_files folder };
 
@@ -305,6 +324,9 @@ impl<'a, R: Files> Folder for DiskFolder<'a, R> {
         ensures opened { OnOk result (found_name self.new ≡ Some name.now) }
         ensures length { IfOk result (λ n. IfSome (found_file self.new)
             (λ file. EndsAt R.File.stream_position R.File.stream_bytes file n)) }
+        // Its device and inode are noted, and stay so.
+        ensures noted { OnOk result (FoundIsNoted self.new) }
+        ensures stay_noted { StayNoted self.old self.new }
         ensures created_stays { self.new.created ≡ self.old.created }
         ensures absent_counts { IsErrOf result FindFault.Absent
             → disk_counts self.new ≡ with_miss name.now (disk_counts self.old) }
@@ -354,6 +376,7 @@ impl<'a, R: Files> Folder for DiskFolder<'a, R> {
             (length into.old) result }
         ensures open_bytes { ReadsOpen R.File.remaining R.File.stream_position R.File.stream_bytes
             self.old name.now at into.new result }
+        ensures noted_stay { self.new.noted ≡ self.old.noted }
         ensures created_stays { self.new.created ≡ self.old.created }
         ensures read_counts { IfOk result
             (λ k. disk_counts self.new ≡ (if k == 0 && nat_lt 0 (length into.old)
@@ -385,6 +408,8 @@ impl<'a, R: Files> Folder for DiskFolder<'a, R> {
         ensures done { OnOk result (disk_counts self.new ≡ disk_counts self.old) }
         ensures counts { OnlyWrites (disk_counts self.old) (disk_counts self.new) }
         ensures opened { OnOk result (created_name self.new ≡ Some name.now) }
+        // Its device and inode are those of no file that was found.
+        ensures unfound { OnOk result (CreatedIsNotNoted self.new) }
         ensures found_stays { self.new.found ≡ self.old.found }
         ensures noted_stay { self.new.noted ≡ self.old.noted }
         ensures failed_counts { OnErr result
@@ -421,6 +446,7 @@ impl<'a, R: Files> Folder for DiskFolder<'a, R> {
             (created_bytes R.File.contents self.new)) }
         ensures opened { created_name self.new ≡ created_name self.old }
         ensures found_stays { self.new.found ≡ self.old.found }
+        ensures noted_stay { self.new.noted ≡ self.old.noted }
         ensures failed_counts { OnErr result
             (disk_counts self.new ≡ with_write_fault name.now (disk_counts self.old)) }
     {

@@ -1,7 +1,6 @@
 //! The files that a folder found, so that none of them is emptied.
-ghost use Rattle.std.specs.Prelude.{◌≡◌, [], ◌∷◌, ◌++◌, length, ◌||◌, ◌&&◌, not, nat_lt, if◌then◌else◌};
-ghost use Rattle.std.specs.List.{list_any};
-ghost use Rattle.on_disk.specs.Opening.{opening_of_lem};
+ghost use Rattle.std.specs.Prelude.{◌≡◌, [], ◌∷◌, ◌++◌, length, ◌||◌, ◌&&◌, not, nat_lt, if◌then◌else◌, IsTrue};
+ghost use Rattle.on_disk.specs.Opening.{is_noted, opening_of_lem};
 
 use arrayvec::ArrayVec;
 use std::fs::Metadata;
@@ -43,21 +42,20 @@ impl Noted {
 
     /// Whether the file was noted, by whatever name.
     pub fn has(&self, file: &FileId) -> bool
-        ensures { result ≡ list_any (λ noted. ⟦<FileId as PartialEq>⟧.eq noted file.now)
-            self.now.files.items }
+        ensures { result ≡ is_noted self.now file.now }
     {
         self.files.as_slice().contains(file)
     }
 
     /// Notes a file unless it is noted already, and answers whether it is noted now.
     pub fn note(&mut self, file: FileId) -> bool
-        ensures answer { result ≡ (list_any
-            (λ noted. ⟦<FileId as PartialEq>⟧.eq noted file) self.old.files.items || nat_lt
+        ensures answer { result ≡ (is_noted self.old file || nat_lt
             (length self.old.files.items) MOST_FILES) }
-        ensures noted { self.new.files.items
-            ≡ (if result && not (list_any
-            (λ noted. ⟦<FileId as PartialEq>⟧.eq noted file) self.old.files.items) then
+        ensures noted { self.new.files.items ≡ (if result && not (is_noted self.old file) then
             self.old.files.items ++ file ∷ [] else self.old.files.items) }
+        ensures there { IsTrue result → IsTrue (is_noted self.new file) }
+        ensures stay { (other : FileId) → IsTrue (is_noted self.old other)
+            → IsTrue (is_noted self.new other) }
     {
         self.has(&file) || self.files.try_push(file).is_ok()
     }
@@ -76,8 +74,7 @@ pub enum Opening {
 
 /// What `create` does with a file.
 pub fn opening_of(noted: &Noted, file: &FileId, is_regular: bool) -> Opening
-    ensures { result ≡ opening_of_lem (list_any
-        (λ found. ⟦<FileId as PartialEq>⟧.eq found file.now) noted.now.files.items) is_regular }
+    ensures { result ≡ opening_of_lem (is_noted noted.now file.now) is_regular }
 {
     match (noted.has(file), is_regular) {
         (true, _) => Opening::Refused,
