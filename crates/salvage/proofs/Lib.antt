@@ -9,5 +9,6 @@ pub mod ProgressLaws
 pub mod Results
 pub mod KeepsLaws
 pub mod KeptLaws
+pub mod LaidOutLaws
 pub mod StreamLaws
 pub mod MendedLaws

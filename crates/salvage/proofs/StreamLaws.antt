@@ -20,16 +20,17 @@ use Rattle.sync_survey.specs.Survey.{AreLaid, IsWholeHead}
 use Rattle.sync_survey.proofs.FaultsLaws.{place-more, place-next, place-none}
 use Rattle.salvage.specs.Sound.{FrameRuns, runs_of, is_sound, judged, judged_runs}
 use Rattle.salvage.specs.Judged.{before_next}
-use Rattle.salvage.specs.Stream.{run_stream, runs_stream, salvaged_stream}
+use Rattle.salvage.specs.Stream.{run_stream, runs_stream, stream_from, salvaged_stream}
 use Rattle.salvage.specs.Progress.{IsLaidOut}
 use Rattle.salvage.specs.Laws.{SalvageTellsStreams}
 use Rattle.salvage.specs.Walk.{first_frame}
-use Rattle.salvage.specs.Damaged.{DamagedFields, damaged_from, things_from, unless_too_many, counted, damaged_by, damaged, most_frames}
+use Rattle.salvage.specs.Damaged.{DamagedFields, damaged_from, things_from, damaged}
 use Rattle.sync_survey.specs.Start.{front_end_of}
 use Rattle.sync_survey.specs.Walk.{head_of}
 use Rattle.sync_survey.proofs.StepLaws.{laid_end}
 use Rattle.salvage.proofs.SoundLaws.{judged_from, judged-from}
 use Rattle.salvage.proofs.KeptLaws.{sound_within, not_false}
+use Rattle.salvage.proofs.LaidOutLaws.{damaged-from, damaged_of-is, read-laid}
 
 -- ---- frames one after the other
 
@@ -231,29 +232,21 @@ module _ (file : List ℕ) where
 
 -- ---- the law
 
-counted_is : (front_end : ℕ) (rows : List Row) (d e : DamagedFields) → counted front_end rows d ≡ Ok e → d ≡ e
-counted_is front_end [] d e is = absurd cc
-counted_is front_end (r ∷ rows) d e is = by_many (slice_get (r ∷ rows) most_frames) is
-  where
-    by_many : (o : Option Row) → unless_too_many o d ≡ Ok e → d ≡ e
-    by_many None is = cc
-    by_many (Some q) is = absurd cc
+from_first : (file : List ℕ) (first : PlacedFrame) → first_frame file (front_end_of file) ≡ Some first → runs_stream file (head_of file first) (runs_of (things_from file first)) ≡ salvaged_stream file
+unfolding salvaged_stream
+from_first file first is = sym (ap (stream_from file) is)
 
-read_from : (file : List ℕ) (front_end : ℕ) (o : Option PlacedFrame) (d : DamagedFields) → first_frame file front_end ≡ o → damaged_by file front_end o ≡ Ok d → (first : PlacedFrame) × (first_frame file front_end ≡ Some first) × (damaged_from file front_end first ≡ d)
-read_from file front_end None d is e = absurd cc
-read_from file front_end (Some first) d is e = (first, is, counted_is front_end (damaged_from file front_end first).survey.frames (damaged_from file front_end first) d e)
-
-pub damaged_is : (file : List ℕ) (d : DamagedFields) → damaged file ≡ Ok d → (first : PlacedFrame) × (first_frame file (front_end_of file) ≡ Some first) × (damaged_from file (front_end_of file) first ≡ d)
-unfolding damaged
-damaged_is file d e = read_from file (front_end_of file) (first_frame file (front_end_of file)) d refl e
-
-told_stream : (file : List ℕ) (front_end : ℕ) (first : PlacedFrame) → IsLaidOut (damaged_from file front_end first) → stream_of_survey file (damaged_from file front_end first).survey ≡ salvaged_stream file first
-unfolding damaged_from stream_of_survey salvaged_stream
+told_stream : (file : List ℕ) (front_end : ℕ) (first : PlacedFrame) → IsLaidOut (damaged_from file front_end first)
+    → stream_of_survey file (damaged_from file front_end first).survey ≡ runs_stream file (head_of file first) (runs_of (things_from file first))
+unfolding damaged_from stream_of_survey
 told_stream file front_end first laid =
     all_stream file (head_of file first) (runs_of (things_from file first)) (length_head file (head_of file first) first.offset (length file) (class_of first.header) laid.head (omega arith))
     (laid_whole file first.offset (judged_runs file (head_of file first) (runs_of (things_from file first))) (length file) (omega arith) laid.frames)
 
+pub stream-told : (file : List ℕ) (d : DamagedFields) → damaged file ≡ Ok d → IsLaidOut d → stream_of_survey file d.survey ≡ salvaged_stream file
+stream-told file d e laid =
+    let is = damaged-from file d e in
+    ap (λ (c : DamagedFields). stream_of_survey file c.survey) (sym is.same) ∙ told_stream file (front_end_of file) is.first (subst IsLaidOut (sym is.same) laid) ∙ from_first file is.first is.first_is
+
 pub tells_streams : SalvageTellsStreams
-tells_streams = λ file d e laid.
-    let is = damaged_is file d e in
-    (is.0, is.1, ap (λ (c : DamagedFields). stream_of_survey file c.survey) (sym is.2) ∙ told_stream file (front_end_of file) is.0 (subst IsLaidOut (sym is.2) laid))
+tells_streams file d e = let read = damaged_of-is file d e in stream-told file d read.1 (read-laid file d e)

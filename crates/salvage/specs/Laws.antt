@@ -1,12 +1,8 @@
 -- Laws of what is read of damaged files.
-use Rattle.std.specs.Prelude.{◌≡◌, ℕ, ◌≤◌, List, length, Ok, Some}
-use Rattle.sync_survey.specs.declared.places.PlacedFrame.{PlacedFrame}
-use Rattle.sync_survey.specs.Start.{front_end_of}
+use Rattle.std.specs.Prelude.{◌≡◌, ℕ, ◌≤◌, List, length, Ok}
 use Rattle.sync_survey.specs.Faults.{SurveyFields, surveyed, stream_of_survey}
-use Rattle.salvage.specs.Walk.{first_frame}
-use Rattle.salvage.specs.Damaged.{DamagedFields, damaged, gap_between, most_frames}
+use Rattle.salvage.specs.Damaged.{DamagedFields, damaged, damaged_of, gap_between, most_frames}
 use Rattle.salvage.specs.Stream.{salvaged_stream}
-use Rattle.salvage.specs.Progress.{IsLaidOut}
 
 -- of a file without fault all is read that its survey tells, and nothing is missing except the junk before the first frame
 abbrev pub SalvageKeepsStreams : Type 0
@@ -17,6 +13,4 @@ SalvageKeepsStreams =
 -- The stream that the survey of what is read tells is that of the runs of frames between gaps: the main data of each frame that is kept are
 -- those of its run, and each other one is an empty frame.
 abbrev pub SalvageTellsStreams : Type 0
-SalvageTellsStreams =
-    (file : List ℕ) (d : DamagedFields) → damaged file ≡ Ok d → IsLaidOut d
-    → (first : PlacedFrame) × (first_frame file (front_end_of file) ≡ Some first) × (stream_of_survey file d.survey ≡ salvaged_stream file first)
+SalvageTellsStreams = (file : List ℕ) (d : DamagedFields) → damaged_of file ≡ Ok d → stream_of_survey file d.survey ≡ salvaged_stream file

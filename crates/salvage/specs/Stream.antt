@@ -1,10 +1,12 @@
 -- The stream of what is read of a damaged file.
-use Rattle.std.specs.Prelude.{ℕ, List, ◌++◌, flat_map, Option, None}
+use Rattle.std.specs.Prelude.{ℕ, List, [], ◌++◌, flat_map, Option, Some, None}
 use Rattle.sync_survey.specs.declared.places.Head.{Head}
 use Rattle.sync_survey.specs.declared.places.PlacedFrame.{PlacedFrame}
 use Rattle.sync_survey.specs.declared.rows.Row.{Row}
 use Rattle.sync_survey.specs.MainData.{rows_of, main_bytes, StreamFrame, stream_frames}
+use Rattle.sync_survey.specs.Start.{front_end_of}
 use Rattle.sync_survey.specs.Walk.{head_of}
+use Rattle.salvage.specs.Walk.{first_frame}
 use Rattle.salvage.specs.Sound.{FrameRuns, runs_of, judged}
 use Rattle.salvage.specs.Damaged.{things_from}
 
@@ -17,6 +19,11 @@ run_stream file head rows = stream_frames (main_bytes file head rows) head rows
 abbrev pub runs_stream : List ℕ → Option Head → FrameRuns → List StreamFrame
 runs_stream file head runs = run_stream file head (judged head (rows_of file runs.first)) ++ flat_map (λ run. run_stream file None (judged None (rows_of file run))) runs.later
 
--- the stream of what is read of a file with this first frame
-unfoldable pub salvaged_stream : List ℕ → PlacedFrame → List StreamFrame
-salvaged_stream file first = runs_stream file (head_of file first) (runs_of (things_from file first))
+-- from this first frame on; without one there is none
+abbrev pub stream_from : List ℕ → Option PlacedFrame → List StreamFrame
+stream_from file None = []
+stream_from file (Some first) = runs_stream file (head_of file first) (runs_of (things_from file first))
+
+-- the stream of what is read of a file
+unfoldable pub salvaged_stream : List ℕ → List StreamFrame
+salvaged_stream file = stream_from file (first_frame file (front_end_of file))

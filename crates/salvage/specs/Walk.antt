@@ -78,7 +78,11 @@ things_up_to (suc most) file class at =
 unfoldable pub things : List ℕ → ClassFields → ℕ → List PlacedThing
 things file class from = things_up_to (length file) file class from
 
--- ---- gaps and blocks
+-- ---- frames, gaps and blocks
+
+abbrev pub frame_in : ℕ → Thing → Option PlacedFrame
+frame_in at (IsItem item) = frame_as at item
+frame_in at (IsGap n) = None
 
 abbrev pub gap_as : ℕ → Thing → Option Gap
 gap_as at (IsItem item) = None
@@ -87,6 +91,10 @@ gap_as at (IsGap n) = Some (record { offset = at; length = n })
 abbrev pub block_in : ℕ → Thing → Option Piece
 block_in at (IsItem item) = block_as at item
 block_in at (IsGap n) = None
+
+-- the frames among these things, in their order
+abbrev pub frames_in : List PlacedThing → List PlacedFrame
+frames_in ts = filter_map (λ t. frame_in t.offset t.thing) ts
 
 -- the gaps among these things, in their order
 abbrev pub gaps_of : List PlacedThing → List Gap

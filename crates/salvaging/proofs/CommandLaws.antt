@@ -22,6 +22,7 @@ use Rattle.salvage.specs.Damaged.{DamagedFields, unless_too_many, counted, damag
 use Rattle.salvage.specs.Mended.{mended_row, emptied_from}
 use Rattle.salvage.specs.Text.{salvage_text}
 use Rattle.salvage.proofs.ReadFaults.{damaged_of-short}
+use Rattle.salvage.proofs.LaidOutLaws.{damaged_of-is}
 use Rattle.commands.specs.declared.fault.EditFault.{EditFault}
 use Rattle.commands.specs.declared.fault.EditFault.TheVariants.{EqualNames, Input, Refused, Write, Memory}
 use Rattle.commands.specs.Command.{Command, clash_of, AreSound, HoldsStreams}
@@ -51,13 +52,20 @@ use Rattle.salvaging.proofs.StreamLaws.{salvaged-holds}
 
 -- ---- a file that may be read
 
-length-by : (b : Bool) (n : ℕ) (r : Result DamagedFields SurveyFault) (d : DamagedFields) → cond b (Err (TooLong n)) r ≡ Ok d → (b ≡ false) × (r ≡ Ok d)
-length-by true n r d e = absurd cc
-length-by false n r d e = (refl, e)
+-- what is read of the input, where the command isn't refused
+pub record IsReadAt (o : Option (List ℕ)) : Type 0 where
+  pub file : List ℕ
+  pub there : o ≡ Some file
+  pub left : DamagedFields
+  pub read : damaged_of file ≡ Ok left
 
-pub damaged_of-is : (file : List ℕ) (d : DamagedFields) → damaged_of file ≡ Ok d → (ltb longest_file (length file) ≡ false) × (damaged file ≡ Ok d)
-unfolding damaged_of
-damaged_of-is file d e = length-by (ltb longest_file (length file)) (length file) (damaged file) d e
+read-by : (file bytes : List ℕ) (r : Result DamagedFields SurveyFault) → damaged_of file ≡ r → made_by file r ≡ Ok bytes → IsReadAt (Some file)
+read-by file bytes (Err fault) is e = absurd cc
+read-by file bytes (Ok d) is e = record { file = file; there = refl; left = d; read = is }
+
+pub read-where : (o : Option (List ℕ)) (bytes : List ℕ) → made_where o ≡ Ok bytes → IsReadAt o
+read-where None bytes e = absurd cc
+read-where (Some file) bytes e = read-by file bytes (damaged_of file) refl e
 
 many-late : (file : List ℕ) (o : Option Row) (d : DamagedFields) → IfErr (made_by file (unless_too_many o d)) IsLate
 many-late file None d = tt
@@ -130,7 +138,7 @@ module _ (input : List ℕ) where
 
   -- want of memory, once the input was read
   pub early-memory : (old new : Seen) (d : DamagedFields) → IsThere old.files input → IsReadOf input old.files d → new ≡ old → NeedsMemory input old new
-  early-memory old new d there read stays = record { there = there; few = λ bytes holds. ltb-false longest_file (length bytes) (damaged_of-is bytes d (read bytes holds)).0; stays = stays }
+  early-memory old new d there read stays = record { there = there; few = λ bytes holds. (damaged_of-is bytes d (read bytes holds)).0; stays = stays }
 
   -- a fault of the reading is one of the whole call
   pub fault-on : {T U : Type 0} {old new : Seen} {fault : EditFault} (r : Result U EditFault) → IsErrAnd r (λ y. y ≡ fault) → ReadsInput {T = T} input (Err fault) old new → ReadsInput input r old new

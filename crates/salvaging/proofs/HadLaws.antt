@@ -1,7 +1,5 @@
 -- What is left of a damaged file, with its emptied frames as frames without main data, is laid in the file as its survey says.
 use Rattle.std.proofs.Common.{◌≡◌, ℕ, zero, suc, ◌+◌, ◌≤◌, ltb, cond, Bool, true, false, List, [], ◌∷◌, ◌++◌, length, map, drop, Option, Some, None, Ok, refl, sym, subst, arith}
-use Rattle.std.specs.Prelude.{option_and_then}
-use Rattle.std.specs.Option.{option_or}
 use Rattle.std.specs.List.{cons_option}
 use Rattle.std.proofs.lemmas.List.{map-append}
 use Rattle.frame_header.specs.Fields.{ClassFields, IsHeader}
@@ -23,16 +21,15 @@ use Rattle.sync_survey.specs.MainData.{head_area}
 use Rattle.sync_survey.specs.Survey.{AreLaid}
 use Rattle.sync_survey.proofs.ItemsLaws.{stands-at, header_front-in_range}
 use Rattle.sync_survey.proofs.RunsLaws.{IsItemOf, run-ends}
-use Rattle.salvage.specs.Usable.{next_usable}
-use Rattle.salvage.specs.Walk.{item_read, first_frame, Thing, IsItem, IsGap, size_of_thing, thing_by, thing_at, PlacedThing, things_up_to, things, block_in, blocks_in}
+use Rattle.salvage.specs.Walk.{first_frame, Thing, IsItem, IsGap, size_of_thing, thing_by, thing_at, PlacedThing, things_up_to, things, block_in, blocks_in}
 use Rattle.salvage.specs.Sound.{runs_of, judged_runs}
 use Rattle.salvage.specs.Judged.{rows_here, before_here, rows_left}
 use Rattle.salvage.specs.Damaged.{DamagedFields, things_from, damaged_from, damaged}
 use Rattle.salvage.specs.Progress.{AreOfClass, IsLaidOut}
 use Rattle.salvage.specs.Mended.{mended_row, mended}
-use Rattle.salvage.proofs.WalkLaws.{item_read-is, next_usable-is}
+use Rattle.salvage.proofs.WalkLaws.{item_read-is}
 use Rattle.salvage.proofs.SoundLaws.{runs-left}
-use Rattle.salvage.proofs.StreamLaws.{damaged_is}
+use Rattle.salvage.proofs.LaidOutLaws.{first_frame-is, damaged-from}
 use Rattle.salvage.proofs.MendedLaws.{empty_row, survey-mended}
 use Rattle.laid_files.specs.LaidFiles.{HasPairs, IsBlocks, block_bytes}
 use Rattle.laid_files.proofs.KeptBlocks.{block_more, ends-blocks, blocks-append}
@@ -43,28 +40,9 @@ use Rattle.laying.proofs.ReadLaws.{laid-behind}
 -- ---- the first frame
 
 module _ (file : List ℕ) where
-  first-by : (at : ℕ) (o : Option Item) (next : Option PlacedFrame) (first : PlacedFrame) → ((item : Item) → o ≡ Some item → IsItemOf Stream file at item) → ((p : PlacedFrame) → next ≡ Some p → IsItemOf Stream file p.offset (Frame p.header))
-      → option_or (option_and_then (frame_as at) o) next ≡ Some first → IsItemOf Stream file first.offset (Frame first.header)
-  first-by at (Some (Frame h)) next first is follows e =
-      let same : record { offset = at; header = h } ≡ first = cc in
-      subst (λ (p : PlacedFrame). IsItemOf Stream file p.offset (Frame p.header)) same (is (Frame h) refl)
-  first-by at (Some Free) next first is follows e = follows first e
-  first-by at (Some (Block b)) next first is follows e = follows first e
-  first-by at (Some Zero) next first is follows e = follows first e
-  first-by at (Some End) next first is follows e = follows first e
-  first-by at (Some Nothing) next first is follows e = follows first e
-  first-by at None next first is follows e = follows first e
-
-  -- whichever role it is wanted for
-  first-role : {R : Type 0} (read : R → Option Item) (usable : R → Option PlacedFrame) (role : R) (at : ℕ) (first : PlacedFrame) → ((r : R) (item : Item) → read r ≡ Some item → IsItemOf Stream file at item)
-      → ((r : R) (p : PlacedFrame) → usable r ≡ Some p → IsItemOf Stream file p.offset (Frame p.header)) → option_or (option_and_then (frame_as at) (read role)) (usable role) ≡ Some first
-      → IsItemOf Stream file first.offset (Frame first.header)
-  first-role read usable role at first is follows e = first-by at (read role) (usable role) first (is role) (follows role) e
-
   first-whole : (at : ℕ) (first : PlacedFrame) → first_frame file at ≡ Some first → IsWholeAt file first.offset first.header
-  unfolding first_frame
   first-whole at first e =
-      let here = first-role (λ r. item_read file r at) (λ r. next_usable file r (at + 1)) _ at first (λ r item is. item_read-is file r at item is) (λ r p is. (next_usable-is file r (at + 1) p is).frame) e in
+      let here = (first_frame-is file at first e).frame in
       record { header = header_front-in_range _ first.header (stands-at file first.offset (Frame first.header) here.is); within = here.within }
 
   -- ---- the frames
@@ -159,6 +137,6 @@ module _ (file : List ℕ) where
 
 pub damaged-had : (file : List ℕ) (d : DamagedFields) → damaged file ≡ Ok d → IsLaidOut d → HasSurvey file (mended d.survey)
 damaged-had file d e laid =
-    let is = damaged_is file d e in
-    subst (λ (c : DamagedFields). HasSurvey file (mended c.survey)) is.2
-    (begun-had file (front_end_of file) is.0 (first-whole file (front_end_of file) is.0 is.1) (subst IsLaidOut (sym is.2) laid))
+    let is = damaged-from file d e in
+    subst (λ (c : DamagedFields). HasSurvey file (mended c.survey)) is.same
+    (begun-had file (front_end_of file) is.first (first-whole file (front_end_of file) is.first is.first_is) (subst IsLaidOut (sym is.same) laid))

@@ -12,13 +12,14 @@ use Rattle.sync_survey.proofs.SurveyParts.{stream-length}
 use Rattle.salvage.specs.Damaged.{DamagedFields, damaged}
 use Rattle.salvage.specs.Progress.{IsLaidOut}
 use Rattle.salvage.specs.Mended.{mended_row, mended}
-use Rattle.salvage.proofs.StreamLaws.{payload_none, tells_streams}
+use Rattle.salvage.specs.Stream.{salvaged_stream}
+use Rattle.salvage.proofs.StreamLaws.{payload_none, stream-told}
 use Rattle.salvage.proofs.MendedLaws.{empty_row, place-same, survey-mended}
 use Rattle.laying.specs.Relaid.{with_lead_ins}
 use Rattle.laying.proofs.PlacesLaws.{range-whole}
 use Rattle.frame_edits.specs.Chosen.{plan_of, chosen_file, chosen_stream}
 use Rattle.frame_edits.proofs.ChosenLaws.{chosen-holds}
-use Rattle.salvaging.specs.Salvaged.{all_of, salvaged_file, stream_from, left_stream}
+use Rattle.salvaging.specs.Salvaged.{all_of, salvaged_file, left_stream}
 use Rattle.salvaging.proofs.HadLaws.{damaged-had}
 
 -- ---- a frame that becomes an empty one is already one in the stream of what is left
@@ -67,19 +68,20 @@ stream-same file s =
 
 -- ---- all frames
 
-whole-stream : (file : List ℕ) (s : SurveyFields) → slice_range (stream_of_survey file s) 0 (length s.frames) ≡ stream_of_survey file s
+pub whole-stream : (file : List ℕ) (s : SurveyFields) → slice_range (stream_of_survey file s) 0 (length s.frames) ≡ stream_of_survey file s
 whole-stream file s = ap (λ n. slice_range (stream_of_survey file s) 0 n) (sym (stream-length file s)) ∙ range-whole (stream_of_survey file s)
 
 module _ (file : List ℕ) (d : DamagedFields) (is : damaged file ≡ Ok d) (laid : IsLaidOut d) where
   abbrev own : SurveyFields
   own = mended d.survey
 
+  -- all frames that are laid are what is left of the file
+  pub laid-left : slice_range (stream_of_survey file own) 0 (length own.frames) ≡ salvaged_stream file
+  laid-left = whole-stream file own ∙ stream-same file d.survey ∙ stream-told file d is laid
+
   left-is : left_stream file d ≡ chosen_stream (all_of own) file own
   unfolding left_stream chosen_stream
-  left-is =
-      let told = tells_streams file d is laid in
-      ap (stream_from file d) told.1
-      ∙ ap (with_lead_ins (plan_of (all_of own) own)) (sym told.2 ∙ sym (stream-same file d.survey) ∙ sym (whole-stream file own))
+  left-is = ap (with_lead_ins (plan_of (all_of own) own)) (sym laid-left)
 
   pub salvaged-holds : HoldsStream (salvaged_file file d) (left_stream file d)
   unfolding salvaged_file

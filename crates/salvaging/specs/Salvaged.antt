@@ -1,12 +1,9 @@
 -- The salvage command: what is left of a damaged file, laid anew, and a text that says what is missing.
 use Rattle.std.specs.Prelude.{ℕ, Bool, false, List, [], ◌∷◌, length, replicate, Option, Some, None, Result, Ok, Err}
-use Rattle.sync_survey.specs.declared.places.PlacedFrame.{PlacedFrame}
 use Rattle.sync_survey.specs.declared.survey_fault.SurveyFault.{SurveyFault}
 use Rattle.sync_survey.specs.declared.survey_fault.SurveyFault.TheVariants.{Absent}
-use Rattle.sync_survey.specs.Start.{front_end_of}
 use Rattle.sync_survey.specs.MainData.{StreamFrame}
 use Rattle.sync_survey.specs.Faults.{SurveyFields}
-use Rattle.salvage.specs.Walk.{first_frame}
 use Rattle.salvage.specs.Damaged.{DamagedFields, damaged_of}
 use Rattle.salvage.specs.Mended.{mended}
 use Rattle.salvage.specs.Stream.{salvaged_stream}
@@ -32,13 +29,9 @@ all_of s = record { from = 0; to = length s.frames; slots = Own; quality = None;
 unfoldable pub salvaged_file : List ℕ → DamagedFields → List ℕ
 salvaged_file file d = chosen_file (all_of (mended d.survey)) file (mended d.survey)
 
--- its stream: at most one lead-in, and then what is left of the file, run by run
-abbrev pub stream_from : List ℕ → DamagedFields → Option PlacedFrame → List StreamFrame
-stream_from file d None = []
-stream_from file d (Some first) = with_lead_ins (plan_of (all_of (mended d.survey)) (mended d.survey)) (salvaged_stream file first)
-
+-- its stream: the lead-ins of the plan, and what is left of the file, run by run
 unfoldable pub left_stream : List ℕ → DamagedFields → List StreamFrame
-left_stream file d = stream_from file d (first_frame file (front_end_of file))
+left_stream file d = with_lead_ins (plan_of (all_of (mended d.survey)) (mended d.survey)) (salvaged_stream file)
 
 -- ---- the command
 
