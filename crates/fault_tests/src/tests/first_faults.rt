@@ -38,7 +38,7 @@ const FRONT_1: Stretch = Filled(
 );
 
 /// Two frames with 300 and 400 bytes of main data, one after the other, each byte 55 (hex).
-const TWO_FRAMES: &[Stretch] = &end_to_end! {
+pub const TWO_FRAMES: &[Stretch] = &end_to_end! {
     FRONT_0, Fill(0x55, 381),
     FRONT_1, Fill(0x55, 319), Fill(0, 62)
 };
@@ -199,7 +199,7 @@ static ORDERS: [Case; 10] = table! {
 };
 
 /// Whether both the plain reading and the survey find this first fault, or none.
-fn both_find(
+pub fn both_find(
     alloc: Global,
     file: &[u8],
     allowed: u32,
@@ -260,97 +260,4 @@ fn faults_of_walks(rt: HostRuntime) -> Result<(), Fail> {
     let wrong = first_wrong_walk(rt.alloc())?.unwrap_or("");
     assert!(rt; wrong.is_empty(), "{wrong}");
     Ok(())
-}
-
-/// What is done to the two frames: they are cut to their first bytes, or a byte gets another value.
-#[derive(Clone, Copy)]
-enum Edit {
-    Cut(usize),
-    Byte(usize, u8),
-}
-
-/// An edit, and the fault of the file.
-struct Edited {
-    edit: Edit,
-    answer: Option<SurveyFault>,
-}
-
-static CUTS: [Edited; 11] = table! {
-    Edited { edit, answer }
-    (Edit::Cut(0), Some(SurveyFault::NoFrame(0)))
-    (Edit::Cut(3), Some(SurveyFault::NoFrame(0)))
-    (Edit::Cut(4), Some(SurveyFault::Truncated(0)))
-    (Edit::Cut(416), Some(SurveyFault::Truncated(0)))
-    (Edit::Cut(417), None)
-    (Edit::Cut(418), Some(SurveyFault::LostSync(417)))
-    (Edit::Cut(420), Some(SurveyFault::LostSync(417)))
-    (Edit::Cut(421), Some(SurveyFault::Truncated(417)))
-    (Edit::Cut(500), Some(SurveyFault::Truncated(417)))
-    (Edit::Cut(833), Some(SurveyFault::Truncated(417)))
-    (Edit::Cut(834), None)
-};
-
-/// Other values of a byte of the second header, in their order.
-static CHANGES: [Edited; 23] = table! {
-    Edited { edit, answer }
-    (Edit::Byte(417, 0x00), Some(SurveyFault::LostSync(418)))
-    (Edit::Byte(417, 0xfe), Some(SurveyFault::LostSync(417)))
-    // MPEG-2.5, in which the frame would have 522 bytes.
-    (Edit::Byte(418, 0xe2), Some(SurveyFault::Truncated(417)))
-    (Edit::Byte(418, 0xe3), Some(SurveyFault::Truncated(417)))
-    (Edit::Byte(418, 0xf2), Some(SurveyFault::Mixed(417)))
-    (Edit::Byte(418, 0xf3), Some(SurveyFault::Mixed(417)))
-    (Edit::Byte(418, 0xfa), Some(SurveyFault::CheckWord(417, 0x2880, 0x2ede)))
-    (Edit::Byte(418, 0xfd), Some(SurveyFault::LostSync(417)))
-    (Edit::Byte(419, 0x00), Some(SurveyFault::FreeFormat(417)))
-    (Edit::Byte(419, 0x08), Some(SurveyFault::FreeFormat(417)))
-    (Edit::Byte(419, 0x10), Some(SurveyFault::Overrun(417, 3200, 1192)))
-    (Edit::Byte(419, 0x18), Some(SurveyFault::Mixed(417)))
-    (Edit::Byte(419, 0x72), Some(SurveyFault::Overrun(417, 3200, 2872)))
-    (Edit::Byte(419, 0x80), None)
-    (Edit::Byte(419, 0x91), None)
-    (Edit::Byte(419, 0x92), Some(SurveyFault::Truncated(417)))
-    (Edit::Byte(419, 0x94), Some(SurveyFault::Mixed(417)))
-    (Edit::Byte(419, 0x9c), Some(SurveyFault::LostSync(417)))
-    (Edit::Byte(419, 0xa4), Some(SurveyFault::Truncated(417)))
-    (Edit::Byte(419, 0xf0), Some(SurveyFault::LostSync(417)))
-    (Edit::Byte(420, 0xbf), None)
-    (Edit::Byte(420, 0xc0), Some(SurveyFault::Mixed(417)))
-    (Edit::Byte(420, 0xff), Some(SurveyFault::Mixed(417)))
-};
-
-fn two_frames_edited(alloc: Global, edit: Edit) -> Result<Vec<u8>, AllocError> {
-    let mut file = bytes_of(alloc, TWO_FRAMES)?;
-    match edit {
-        Edit::Cut(length) => file.truncate(length),
-        Edit::Byte(at, value) => {
-            if let Some(byte) = file.get_mut(at) {
-                *byte = value;
-            }
-        }
-    }
-    Ok(file)
-}
-
-/// How many rows hold, up to the first that doesn't.
-fn count_right(alloc: Global, rows: &[Edited]) -> Result<usize, AllocError> {
-    for (number, row) in rows.iter().enumerate() {
-        let file = two_frames_edited(alloc, row.edit)?;
-        if !both_find(alloc, &file, 2, row.answer)? {
-            return Ok(number);
-        }
-    }
-    Ok(rows.len())
-}
-
-fn expect_edits<R: Abort + AllocGlobal>(rt: &R, rows: &[Edited]) -> Result<(), Fail> {
-    let count = count_right(rt.alloc(), rows)?;
-    assert!(rt; count == rows.len(), "row {count}");
-    Ok(())
-}
-
-#[test]
-fn files_cut_short_and_changed_headers(rt: HostRuntime) -> Result<(), Fail> {
-    expect_edits(&rt, &CUTS)?;
-    expect_edits(&rt, &CHANGES)
 }

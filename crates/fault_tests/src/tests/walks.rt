@@ -16,9 +16,18 @@ use test_files::table;
 pub type Walk = Case<Result<Shape, SurveyFault>>;
 
 /// Two silent frames.
-const TWO_FRAMES: &[Stretch] = &[Z, Z];
+pub const TWO_FRAMES: &[Stretch] = &[Z, Z];
 
-pub static CASES: [Walk; 20] = table! {
+/// The header of a frame of 72 bytes: MPEG-2.5, 8,000 Hz, 8 kbit/s, one channel.
+const SLOW_HEADER: Stretch = Bytes(&[0xff, 0xe3, 0x18, 0xc0]);
+
+/// The same with the version that the standard reserves.
+const RESERVED_VERSION: Stretch = Bytes(&[0xff, 0xeb, 0x18, 0xc0]);
+
+/// What is after that header in a silent frame.
+const SLOW_SILENCE: Stretch = Fill(0, 68);
+
+pub static CASES: [Walk; 22] = table! {
     Case { name, file, answer }
     ("an empty file", &[], Err(SurveyFault::NoFrame(0)))
     ("zero bytes alone", &[Fill(0, 3)], Err(SurveyFault::NoFrame(3)))
@@ -58,6 +67,10 @@ pub static CASES: [Walk; 20] = table! {
     ("a frame at the last offset behind junk", &[Fill(0x55, 65_536), Z],
         Ok(Shape { front_end: 0, first: 65536, text_at: None, frames: &[65536], blocks: &[] }))
     ("a frame one byte later", &[Fill(0x55, 65_537), Z], Err(SurveyFault::NoFrame(0)))
+    ("a frame of the reserved version, and one of MPEG-2.5 that the file's end anchors",
+        &[RESERVED_VERSION, SLOW_SILENCE, SLOW_HEADER, SLOW_SILENCE],
+        Ok(Shape { front_end: 0, first: 72, text_at: None, frames: &[72], blocks: &[] }))
+    ("the first of them alone", &[RESERVED_VERSION, SLOW_SILENCE], Err(SurveyFault::NoFrame(0)))
 };
 
 /// The name of the first case whose survey is another than its answer.
@@ -75,36 +88,6 @@ pub fn first_wrong(alloc: Global, cases: &[Walk]) -> Result<Option<&'static str>
 fn files(rt: HostRuntime) -> Result<(), Fail> {
     let wrong = first_wrong(rt.alloc(), &CASES)?.unwrap_or("");
     assert!(rt; wrong.is_empty(), "{wrong}");
-    Ok(())
-}
-
-/// The fault of the first `length` bytes of two frames.
-fn cut_answer(length: usize) -> Option<SurveyFault> {
-    match length {
-        0..=3 => Some(SurveyFault::NoFrame(0)),
-        4..=416 => Some(SurveyFault::Truncated(0)),
-        418..=420 => Some(SurveyFault::LostSync(417)),
-        421..=833 => Some(SurveyFault::Truncated(417)),
-        _ => None,
-    }
-}
-
-/// The greatest length at which the fault of the cut file is another.
-fn wrong_cut(alloc: Global) -> Result<Option<usize>, AllocError> {
-    let mut file = bytes_of(alloc, TWO_FRAMES)?;
-    for length in (0..835).rev() {
-        file.truncate(length);
-        if survey_fault(alloc, &file, 1000)? != cut_answer(length) {
-            return Ok(Some(length));
-        }
-    }
-    Ok(None)
-}
-
-#[test]
-fn files_cut_short(rt: HostRuntime) -> Result<(), Fail> {
-    let wrong = wrong_cut(rt.alloc())?.unwrap_or(1000);
-    assert!(rt; wrong == 1000, "{wrong} bytes");
     Ok(())
 }
 

@@ -1,0 +1,154 @@
+//! Two frames of 417 bytes that are cut short at each length, and with each value of each byte of the second header. What is found is
+//! said by rules, from the standard's table of bit rates and the bits of a header.
+
+use super::{first_faults, walks};
+use std::alloc::{AllocError, Global};
+use std::process::Abort;
+use std::test::Fail;
+use sync_survey::SurveyFault;
+use test_files::files::{Stretch, bytes_of};
+
+/// The bit rates of MPEG-1 in units of 8 kbit/s, by their index.
+const RATES: [u8; 16] = [0, 4, 5, 6, 7, 8, 10, 12, 14, 16, 20, 24, 28, 32, 40, 0];
+
+/// The fault of the first `length` bytes of two frames.
+fn cut_answer(length: usize) -> Option<SurveyFault> {
+    match length {
+        0..=3 => Some(SurveyFault::NoFrame(0)),
+        4..=416 => Some(SurveyFault::Truncated(0)),
+        418..=420 => Some(SurveyFault::LostSync(417)),
+        421..=833 => Some(SurveyFault::Truncated(417)),
+        _ => None,
+    }
+}
+
+/// The greatest length at which another fault is found in the cut file.
+fn wrong_cut(alloc: Global, two_frames: &[Stretch]) -> Result<Option<usize>, AllocError> {
+    let mut file = bytes_of(alloc, two_frames)?;
+    for length in (0..835).rev() {
+        file.truncate(length);
+        if !first_faults::both_find(alloc, &file, 2, cut_answer(length))? {
+            return Ok(Some(length));
+        }
+    }
+    Ok(None)
+}
+
+/// The same of both files of two frames.
+fn wrong_cut_of_both(alloc: Global) -> Result<Option<usize>, AllocError> {
+    match wrong_cut(alloc, walks::TWO_FRAMES)? {
+        None => wrong_cut(alloc, first_faults::TWO_FRAMES),
+        wrong => Ok(wrong),
+    }
+}
+
+#[test]
+fn files_cut_short(rt: HostRuntime) -> Result<(), Fail> {
+    let wrong = wrong_cut_of_both(rt.alloc())?.unwrap_or(1000);
+    assert!(rt; wrong == 1000, "{wrong} bytes");
+    Ok(())
+}
+
+/// The fault where the first byte of the second header has this value: a zero byte is passed.
+fn of_first_byte(value: u8) -> Option<SurveyFault> {
+    match value {
+        0 => Some(SurveyFault::LostSync(418)),
+        0xff => None,
+        _ => Some(SurveyFault::LostSync(417)),
+    }
+}
+
+/// The same of the second byte: three bits of the sync word, two for the version, two for the layer, and one that is 0 where there is a
+/// check word.
+fn of_second_byte(value: u8) -> Option<SurveyFault> {
+    match value {
+        // MPEG-2.5, in which the frame would have 522 bytes.
+        0xe2 | 0xe3 => Some(SurveyFault::Truncated(417)),
+        0xf2 | 0xf3 => Some(SurveyFault::Mixed(417)),
+        // The word was worked out apart, by long division.
+        0xfa => Some(SurveyFault::CheckWord(417, 0x2880, 0x2ede)),
+        0xfb => None,
+        _ => Some(SurveyFault::LostSync(417)),
+    }
+}
+
+/// The length of a frame with this third byte, which has four bits for the bit rate, two for the frequency, and one for padding.
+fn length_of(value: u8, frequency: u32) -> u32 {
+    let eighth = 1_152_000 * u32::from(RATES[usize::from(value / 16)]);
+    let length = eighth.checked_div(frequency).unwrap_or(0);
+    length.saturating_add(u32::from(value / 2 % 2))
+}
+
+/// The same where the frame has this length. Its area has 36 bytes less, and its main data begin 81 bytes before that.
+fn of_length(length: u32) -> Option<SurveyFault> {
+    match length {
+        0..=364 => Some(SurveyFault::Overrun(417, 3200, 8 * (81 + length - 36))),
+        365..=417 => None,
+        _ => Some(SurveyFault::Truncated(417)),
+    }
+}
+
+/// The same where the frame has this length and another frequency.
+fn of_other_class(length: u32) -> Option<SurveyFault> {
+    match length {
+        0..=417 => Some(SurveyFault::Mixed(417)),
+        _ => Some(SurveyFault::Truncated(417)),
+    }
+}
+
+/// The same of the third byte.
+fn of_third_byte(value: u8) -> Option<SurveyFault> {
+    match (value / 16, value / 4 % 4) {
+        (15, _) | (_, 3) => Some(SurveyFault::LostSync(417)),
+        (0, _) => Some(SurveyFault::FreeFormat(417)),
+        (_, 0) => of_length(length_of(value, 44_100)),
+        (_, 1) => of_other_class(length_of(value, 48_000)),
+        _ => of_other_class(length_of(value, 32_000)),
+    }
+}
+
+/// The same of the last byte, whose first two bits say in which mode the channels are.
+fn of_last_byte(value: u8) -> Option<SurveyFault> {
+    match value {
+        0xc0..=0xff => Some(SurveyFault::Mixed(417)),
+        _ => None,
+    }
+}
+
+fn changed_answer(at: usize, value: u8) -> Option<SurveyFault> {
+    match at {
+        417 => of_first_byte(value),
+        418 => of_second_byte(value),
+        419 => of_third_byte(value),
+        _ => of_last_byte(value),
+    }
+}
+
+/// Whether this fault is found in the file where the byte has this value. It keeps it.
+fn finds_changed(alloc: Global, file: &mut [u8], at: usize, value: u8) -> Result<bool, AllocError> {
+    match file.get_mut(at) {
+        Some(byte) => *byte = value,
+        None => return Ok(false),
+    }
+    first_faults::both_find(alloc, file, 2, changed_answer(at, value))
+}
+
+/// The first byte of the second header and the value of it with which another fault is found.
+fn wrong_change(alloc: Global) -> Result<Option<(usize, u8)>, AllocError> {
+    for at in 417..421 {
+        let mut file = bytes_of(alloc, first_faults::TWO_FRAMES)?;
+        for value in 0..=255 {
+            if !finds_changed(alloc, &mut file, at, value)? {
+                return Ok(Some((at, value)));
+            }
+        }
+    }
+    Ok(None)
+}
+
+#[test]
+fn changed_headers(rt: HostRuntime) -> Result<(), Fail> {
+    let (at, value) = wrong_change(rt.alloc())?.unwrap_or((0, 0));
+    assert!(rt; at == 0, "byte {at} as {value}");
+    Ok(())
+}
