@@ -1,7 +1,7 @@
 //! Main data worked out by hand. Byte n of all areas is n modulo 251, so that bytes at two places less than 251 apart differ.
-ghost use Rattle.std.specs.Prelude.{◌≤◌, length};
 
-use reservoir::*;
+use arrayvec::ArrayVec;
+use reservoir::Window;
 use std::alloc::AllocGlobal;
 use std::process::Abort;
 use std::test::Fail;
@@ -124,15 +124,6 @@ static CASES: [Case; 7] = [
     },
 ];
 
-/// The bytes of main data.
-fn bytes_of<R: AllocGlobal>(rt: &R, payload: &Payload) -> Result<Vec<u8>, Fail>
-    requires { length payload.now ≤ 2048 }
-{
-    let mut queue = ByteQueue::new(rt.alloc())?;
-    payload.append_to(&mut queue);
-    Ok(queue.bytes().to_vec(rt.alloc())?)
-}
-
 /// Whether these are the case's bytes.
 fn are_wanted(bytes: &[u8], case: &Case) -> bool {
     let Some((last, front)) = bytes.split_last() else {
@@ -145,22 +136,23 @@ fn are_wanted(bytes: &[u8], case: &Case) -> bool {
 }
 
 /// Whether the window gives the case's main data.
-fn has_payload<R: AllocGlobal>(rt: &R, window: &Window, case: &Case) -> Result<bool, Fail> {
+fn has_payload(window: &Window, case: &Case) -> bool {
     let area = u32::from(case.area);
     let begin = u32::from(case.begin);
     let bits = u32::from(case.bits);
     if (area + begin) as usize > window.held() || bits > 8 * (area + begin) {
-        return Ok(false);
+        return false;
     }
-    let bytes = bytes_of(rt, &window.payload(area, begin, bits))?;
-    Ok(are_wanted(&bytes, case))
+    let mut payload = ArrayVec::new();
+    window.payload(area, begin, bits, &mut payload);
+    are_wanted(&payload, case)
 }
 
 #[test]
 fn payloads(rt: HostRuntime) -> Result<(), Fail> {
     for case in &CASES {
         let window = window_over(&rt, case.areas)?;
-        assert!(rt; has_payload(&rt, &window, case)?, "{}", case.what);
+        assert!(rt; has_payload(&window, case), "{}", case.what);
     }
     Ok(())
 }

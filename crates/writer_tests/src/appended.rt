@@ -1,10 +1,9 @@
 //! Frames appended to the file `o`.
-ghost use Rattle.std.specs.Prelude.{◌≡◌, ◌≤◌, length};
 
 use frame_header::Header;
-use frame_writer::{Frame, Kept, Writer};
+use frame_writer::{Frame, FrameQueue, Kept};
 use outside::{Failed, Folder, WriteBuffer};
-use reservoir::{Payload, Window};
+use reservoir::Payload;
 use side_info::Side;
 use std::alloc::{AllocError, Global};
 use std::process::Abort;
@@ -16,23 +15,10 @@ pub fn side_of(begin: u16, bits: u16) -> Side {
     side
 }
 
-/// These bytes as main data in the window.
-pub fn payload_of<'w>(rt: &impl Abort, window: &'w mut Window, bytes: &[u8]) -> Payload<'w>
-    ensures same { length result ≡ length bytes.now }
-    ensures few { length result ≤ 2048 }
-{
-    window.clear();
-    window.push_area(bytes);
-    let size = bytes.len();
-    assert!(rt; size <= 2048 && size <= window.held());
-    window.payload(size as u32, 0, 8 * size as u32)
-}
-
-/// What appends frames: the writer, the buffer before the file, and the window over their main data.
+/// What appends frames: those that wait, and the buffer before the file.
 #[derive(Drop)]
 pub struct Appending {
-    pub writer: Writer,
-    pub window: Window,
+    pub queue: FrameQueue,
     pub unsent: WriteBuffer,
 }
 
@@ -40,8 +26,7 @@ impl Appending {
     /// Of frames with the class of this header.
     pub fn new(alloc: Global, header: &Header) -> Result<Appending, AllocError> {
         Ok(Appending {
-            writer: Writer::new(alloc, header.class())?,
-            window: Window::new(alloc)?,
+            queue: FrameQueue::new(alloc, header.class())?,
             unsent: WriteBuffer::new(alloc)?,
         })
     }
@@ -54,10 +39,11 @@ impl Appending {
         bytes: &[u8],
         folder: &mut D,
     ) -> Result<(), Failed> {
-        let writer = &mut self.writer;
-        assert!(rt; writer.class().is_same(header.class()) && side.fits(header.class()));
-        assert!(rt; writer.is_ready() && u32::from(side.main_data_begin) <= writer.reach());
-        let payload = payload_of(rt, &mut self.window, bytes);
+        let queue = &mut self.queue;
+        assert!(rt; queue.class().is_same(header.class()) && side.fits(header.class()));
+        assert!(rt; queue.is_ready() && u32::from(side.main_data_begin) <= queue.reach());
+        assert!(rt; bytes.len() <= 2048);
+        let payload = Payload::whole(bytes);
         let kept = Kept {
             header: *header,
             side: *side,
@@ -67,13 +53,13 @@ impl Appending {
             frame.payload.len() <= usize::from(side.main_data_begin) + header.area() as usize
         );
         folder.find("o")?;
-        writer.frame(&frame, folder, "o", &mut self.unsent)
+        queue.frame(&frame, folder, "o", &mut self.unsent)
     }
 
     /// Appends the end of the frames.
     pub fn finish<D: Folder>(&mut self, folder: &mut D) -> Result<(), Failed> {
         folder.find("o")?;
-        self.writer.finish(folder, "o", &mut self.unsent)?;
+        self.queue.finish(folder, "o", &mut self.unsent)?;
         folder.find("o")?;
         self.unsent.finish(folder, "o")
     }

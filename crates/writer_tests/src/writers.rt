@@ -1,11 +1,11 @@
 //! Frames worked out by hand. Rates and lengths are those of ISO/IEC 11172-3 and 13818-3, 2.4.2.3 and 2.4.3.1.
 
-use crate::appended::{Appending, payload_of, side_of};
+use crate::appended::{Appending, side_of};
 use crate::outputs::{are_at, put_empty};
 use frame_header::Header;
-use frame_writer::{Areas, Writer};
+use frame_writer::{Areas, FrameQueue, State, Writer};
 use outside::{Call, Failed, Folder, MemFolder};
-use reservoir::Window;
+use reservoir::Payload;
 use std::alloc::{AllocError, AllocGlobal, Global};
 use std::process::Abort;
 use std::test::Fail;
@@ -27,19 +27,10 @@ fn header_of(bytes: [u8; 4]) -> Result<Header, Fail> {
 }
 
 /// Pushes these bytes as main data after those of `areas`; they begin `begin` bytes before an area of 381.
-fn push(
-    rt: &impl Abort,
-    alloc: Global,
-    areas: &mut Areas,
-    begin: u32,
-    bytes: &[u8],
-) -> Result<(), AllocError> {
-    let mut window = Window::new(alloc)?;
-    let payload = payload_of(rt, &mut window, bytes);
+fn push(rt: &impl Abort, areas: &mut Areas, begin: u32, bytes: &[u8]) {
     assert!(rt; begin <= areas.free() && areas.waiting() <= 381);
-    assert!(rt; payload.len() <= begin as usize + 381);
-    areas.push(begin, 381, &payload);
-    Ok(())
+    assert!(rt; bytes.len() <= 2048 && bytes.len() <= begin as usize + 381);
+    areas.push(begin, 381, &Payload::whole(bytes));
 }
 
 fn has_one(areas: &Areas) -> bool {
@@ -53,9 +44,9 @@ fn has_two(areas: &Areas) -> bool {
 #[test]
 fn two_areas(rt: HostRuntime) -> Result<(), Fail> {
     let mut areas = Areas::new(rt.alloc())?;
-    push(&rt, rt.alloc(), &mut areas, 0, &[0x11; 300])?;
+    push(&rt, &mut areas, 0, &[0x11; 300]);
     assert!(rt; has_one(&areas));
-    push(&rt, rt.alloc(), &mut areas, 81, &[0x22; 400])?;
+    push(&rt, &mut areas, 81, &[0x22; 400]);
     assert!(rt; has_two(&areas));
     Ok(())
 }
@@ -70,9 +61,9 @@ pub struct Main<'a> {
     pub after: Option<(u32, usize)>,
 }
 
-fn is_after(writer: &Writer, after: Option<(u32, usize)>) -> bool {
+fn is_after(queue: &FrameQueue, after: Option<(u32, usize)>) -> bool {
     match after {
-        Some((reach, count)) => writer.reach() == reach && writer.count() == count,
+        Some((reach, count)) => queue.reach() == reach && queue.count() == count,
         None => true,
     }
 }
@@ -89,7 +80,7 @@ pub fn write_all<D: Folder>(
     for main in frames {
         let side = side_of(main.begin, main.bits);
         let appended = appending.append(rt, header, &side, main.bytes, folder);
-        assert!(rt; appended.is_ok() && is_after(&appending.writer, main.after));
+        assert!(rt; appended.is_ok() && is_after(&appending.queue, main.after));
     }
     assert!(rt; appending.finish(folder).is_ok());
     Ok(())
@@ -151,6 +142,61 @@ fn are_two(file: &[u8]) -> bool {
 fn two_frames(rt: HostRuntime) -> Result<(), Fail> {
     let file = file_of(&rt, PLAIN, &TWO, 6144)?;
     assert!(rt; are_two(&file));
+    Ok(())
+}
+
+/// Writes a frame to the file `o`.
+fn write_frame<D: Folder>(
+    rt: &impl Abort,
+    writer: &mut Writer,
+    header: &Header,
+    main: &Main,
+    folder: &mut D,
+) -> Result<(), Failed> {
+    let side = side_of(main.begin, main.bits);
+    assert!(rt; writer.class().is_same(header.class()) && side.fits(header.class()));
+    assert!(rt; writer.state() == State::Open && u32::from(main.begin) <= writer.reach());
+    let most = (main.begin as usize + header.area() as usize).min(2048);
+    assert!(rt; main.bytes.len() <= most);
+    folder.find("o")?;
+    writer.frame(header, &side, main.bytes, folder, "o")
+}
+
+/// Writes two frames to the file, whose `failing`th write fails, and answers how far the writer is then.
+fn write_two<R: Abort + AllocGlobal>(
+    rt: &R,
+    folder: &mut MemFolder,
+    failing: u64,
+) -> Result<State, Fail> {
+    let header = header_of(PLAIN)?;
+    put_empty(folder, "o", 834)?;
+    folder.fail(Call::Write, failing)?;
+    let mut writer = Writer::new(rt.alloc(), header.class())?;
+    for main in &TWO {
+        let _ = write_frame(rt, &mut writer, &header, main, folder);
+    }
+    folder.find("o")?;
+    if writer.state() == State::Open {
+        let _ = writer.finish(folder, "o");
+    }
+    Ok(writer.state())
+}
+
+/// A frame goes to the file with the call that gives the next one, if its area can't be reached then.
+#[test]
+fn frames_straight_to_a_file(rt: HostRuntime) -> Result<(), Fail> {
+    let mut folder = MemFolder::new(rt.alloc());
+    let state = write_two(&rt, &mut folder, 9)?;
+    assert!(rt; state == State::Finished && are_two(folder.get("o").unwrap_or(&[])));
+    Ok(())
+}
+
+/// After a write that failed the writer takes nothing more.
+#[test]
+fn a_writer_that_failed(rt: HostRuntime) -> Result<(), Fail> {
+    let mut folder = MemFolder::new(rt.alloc());
+    let state = write_two(&rt, &mut folder, 1)?;
+    assert!(rt; state == State::Failed && folder.get("o").unwrap_or(&[1]).is_empty());
     Ok(())
 }
 
