@@ -1,5 +1,5 @@
 -- What the list command leaves, by the survey of its input.
-use Rattle.std.proofs.Common.{◌≡◌, ℕ, ◌+◌, ◌≤◌, List, [], ◌∷◌, length, Some, Result, Ok, Err, refl, sym, ◌∙◌, ap, subst, inl, arith}
+use Rattle.std.proofs.Common.{◌≡◌, ℕ, ◌+◌, ◌≤◌, List, [], ◌∷◌, length, Some, Result, Ok, Err, refl, sym, ◌∙◌, ap, subst, inl, inr, arith}
 use Rattle.std.specs.Prelude.{IfErr, OnOk, OnErr, take}
 use Rattle.outside.specs.Files.{sent_more, Contents, Files, Holds, IsThere, IsMissing, Told, Untold, IfTold, OnlyTouches}
 use Rattle.outside.specs.Counts.{Counts, HasCause}
