@@ -4,6 +4,7 @@
 ghost use Rattle.std.specs.Prelude.{◌≤◌, IfOk};
 
 use std::alloc::Allocator;
+use std::cell::Cell;
 use std::fs::{Metadata, OpenFile, OpenOptions};
 use std::io;
 use std::io::{ErrorKind, Read, Seek, SeekFrom, Write};
@@ -50,6 +51,8 @@ pub struct Notes {
 #[derive(Drop)]
 pub struct Shaky<'a, R: Files> {
     pub files: &'a R,
+    /// How many calls there were to open a file.
+    pub opens: Cell<u64>,
 }
 
 /// A file that was opened so.
@@ -124,6 +127,7 @@ impl<R: Files> Files for Shaky<'_, R> {
     type Dir = R::Dir;
 
     fn open_file(&self, how: &OpenOptions, path: &str) -> io::Result<ShakyFile<R::File>> {
+        self.opens.set(self.opens.get().saturating_add(1));
         Ok(ShakyFile {
             file: self.files.open_file(how, path)?,
             reads: Moves::new(),

@@ -3,6 +3,8 @@ use super::copied;
 use on_disk::{DiskFolder, StdSink};
 use outside::{Failed, FindFault, Folder, Sink};
 use shaky_files::{Moves, Notes, Shaky};
+use std::alloc::Global;
+use std::cell::Cell;
 use std::fs;
 use std::io::Write;
 use std::os::unix::fs::symlink;
@@ -68,6 +70,8 @@ fn expect_files<R: Files + AllocGlobal + Abort>(
     expect_grown(rt, folder, "outside_files/to", b"ab", "0123456789ab")?;
     fs::write(rt, "outside_files/link", "longer than what comes")?;
     expect_copied(rt, folder, "outside_files/from", "outside_files/link")?;
+    fs::write(rt, "outside_files/short", "-")?;
+    expect_copied(rt, folder, "outside_files/from", "outside_files/short")?;
     assert!(rt; is_read(folder, "outside_files/from", 7, 3, b"789-"));
     assert!(rt; is_read(folder, "outside_files/from", 10, 0, b"----"));
     // A file that is opened again.
@@ -97,6 +101,43 @@ fn real_files(rt: HostRuntime) -> Result<(), Fail> {
     prepare(&rt, "outside_files", "outside_files/from")?;
     expect_over_files(&rt)?;
     fs::remove_dir_all(&rt, "outside_files")?;
+    Ok(())
+}
+
+// Two files are created, so the first has to be opened again, and somebody removed it.
+fn expect_removed<R: Files + AllocGlobal + Abort>(rt: &R) -> Result<(), Fail> {
+    let mut folder = DiskFolder::new(rt, rt.alloc());
+    assert!(rt; folder.create("outside_removed/to").is_ok());
+    assert!(rt; folder.create("outside_removed/other").is_ok());
+    fs::remove_file(rt, "outside_removed/to")?;
+    assert!(rt; is_unwritten(&mut folder, "outside_removed/to"));
+    Ok(())
+}
+
+// A write makes no file again.
+#[test]
+fn a_removed_file(rt: HostRuntime) -> Result<(), Fail> {
+    prepare(&rt, "outside_removed", "outside_removed/from")?;
+    expect_removed(&rt)?;
+    assert!(rt; !fs::exists(&rt, "outside_removed/to")?);
+    fs::remove_dir_all(&rt, "outside_removed")?;
+    Ok(())
+}
+
+// A name is noted before its file is made, so where this fails bytes may go to a file of this name.
+fn expect_noted_first<R: Files + AllocGlobal + Abort>(rt: &R) -> Result<(), Fail> {
+    let mut folder = DiskFolder::new(rt, rt.alloc());
+    assert!(rt; folder.create("outside_noted/new/to").is_err());
+    fs::create_dir(rt, "outside_noted/new")?;
+    fs::write(rt, "outside_noted/new/to", "")?;
+    expect_grown(rt, &mut folder, "outside_noted/new/to", b"ab", "ab")
+}
+
+#[test]
+fn a_file_that_was_not_made(rt: HostRuntime) -> Result<(), Fail> {
+    prepare(&rt, "outside_noted", "outside_noted/from")?;
+    expect_noted_first(&rt)?;
+    fs::remove_dir_all(&rt, "outside_noted")?;
     Ok(())
 }
 
@@ -166,7 +207,10 @@ fn are_writes_shaky<R: Files>(folder: &mut DiskFolder<R>) -> bool {
 }
 
 fn expect_over_shaky<R: Files + AllocGlobal + Abort>(rt: &R) {
-    let files = Shaky { files: rt };
+    let files = Shaky {
+        files: rt,
+        opens: Cell::new(0),
+    };
     let mut folder = DiskFolder::new(&files, rt.alloc());
     assert!(rt; are_reads_shaky(&mut folder));
     assert!(rt; are_writes_shaky(&mut folder));
@@ -178,6 +222,22 @@ fn a_shaky_file(rt: HostRuntime) -> Result<(), Fail> {
     expect_over_shaky(&rt);
     expect(&rt, "outside_shaky/to", "abcdef")?;
     fs::remove_dir_all(&rt, "outside_shaky")?;
+    Ok(())
+}
+
+// Whether the device is no file that can be found, and wasn't opened either: to open a pipe may block.
+fn is_left_closed<R: Files>(files: &Shaky<R>, alloc: Global) -> bool {
+    let mut folder = DiskFolder::new(files, alloc);
+    folder.find("/dev/null") == Err(FindFault::Failed) && files.opens.get() == 0
+}
+
+#[test]
+fn a_device_is_not_opened(rt: HostRuntime) -> Result<(), Fail> {
+    let files = Shaky {
+        files: &rt,
+        opens: Cell::new(0),
+    };
+    assert!(rt; is_left_closed(&files, rt.alloc()));
     Ok(())
 }
 
