@@ -4,7 +4,9 @@ ghost use Rattle.std.specs.Prelude.{◌≡◌, ◌≤◌, length, drop};
 
 use crate::tests::Mp3edit;
 use crate::tests::frames::pass;
-use command_runs::differences::other_end;
+use command_runs::differences::{Found, other_end};
+use command_runs::running::put;
+use in_memory::{MemFolder, ShortFolder};
 use outside::{Failed, FindFault, Folder, Tally};
 use std::alloc::{AllocError, AllocGlobal, Global};
 use std::process::Abort;
@@ -45,6 +47,8 @@ struct Changing {
     reads: u64,
     output: Vec<u8>,
     created: u64,
+    /// Whether the second piece of a split was created, or written.
+    second: bool,
     ends: u64,
     tally: Tally,
 }
@@ -58,6 +62,7 @@ impl Changing {
             reads: 0,
             output,
             created: 0,
+            second: false,
             ends: 0,
             tally: Tally::new(),
         }
@@ -108,6 +113,10 @@ fn whole<'a>(name: &str, bytes: &'a [u8]) -> &'a [u8] {
     }
 }
 
+fn is_second_piece(name: &str) -> bool {
+    name == "p02.mp3"
+}
+
 /// The length with which a file is found.
 fn found(name: &str, other: u64) -> u64 {
     match name {
@@ -145,7 +154,8 @@ impl Folder for Changing {
     }
 
     #[tactic(auto, unfolding(outside::specs::Files::emptied))]
-    fn create(&mut self, _name: &str) -> Result<(), Failed> {
+    fn create(&mut self, name: &str) -> Result<(), Failed> {
+        self.second |= is_second_piece(name);
         self.output.clear();
         self.created = self.created.saturating_add(1);
         Ok(())
@@ -153,6 +163,7 @@ impl Folder for Changing {
 
     #[tactic(auto, unfolding(outside::specs::Files::appended))]
     fn write(&mut self, name: &str, bytes: &[u8]) -> Result<usize, Failed> {
+        self.second |= is_second_piece(name);
         let count = bytes.len().min(700);
         if self.fails_to_write() || self.output.extend_from_slice(&bytes[..count]).is_err() {
             self.tally.count_write_fault(name);
@@ -198,6 +209,17 @@ struct Case {
     created: u64,
 }
 
+/// Asserts that the second piece of a split was left alone where one output was created.
+fn expect_first_alone<R: Abort>(rt: &R, folder: &Changing, case: &Case) {
+    assert_eq!(rt;
+        folder.second,
+        case.created > 1,
+        "{} {}",
+        case.words,
+        case.line
+    );
+}
+
 /// Asserts how the words end, how often the end was met, and how many outputs were created.
 fn expect_over<R: Abort + AllocGlobal>(
     rt: &R,
@@ -219,6 +241,7 @@ fn expect_over<R: Abort + AllocGlobal>(
         "{} {}",
         case.words, case.line
     );
+    expect_first_alone(rt, folder, case);
     Ok(())
 }
 
@@ -315,10 +338,56 @@ static HEADED: [Case; 3] = table! {
     ("pack a o", 864, Trouble::Short(2, 35), 3, "a: shrunk from 864 to 66\n", 1, 1)
 };
 
+// 200 frames, 83,400 bytes, of which 65,536 are read at first. Of the two pieces of a split the second isn't created before the first is
+// whole.
+static PIECES: [Case; 2] = table! {
+    Case { words, found, trouble, status, line, ends, created }
+    ("split a p 0 100 EOF", 83_400, Trouble::Shorter(40_000), 3, "a: shrunk from 83400 to 40000\n", 1, 1)
+    ("split a p 0 100 EOF", 83_400, Trouble::Shorter(70_000), 3, "a: shrunk from 83400 to 70000\n", 1, 2)
+};
+
 #[test]
 fn each_command_over_files_that_become_shorter(rt: HostRuntime) -> Result<(), Fail> {
     expect_cases(&rt, &READ, "NOTED_FRAME")?;
     expect_cases(&rt, &HEADED, "ID3V2_OF_30 41*20 FULL_HEAD PLAIN")?;
+    expect_cases(&rt, &PIECES, "PLAIN*200")?;
+    Ok(())
+}
+
+/// A file that is found so many bytes longer than it is, and how a command over it ends: its status and line.
+struct Longer {
+    name: &'static str,
+    file: &'static str,
+    extra: u64,
+    words: &'static str,
+    status: u8,
+    line: &'static str,
+}
+
+/// Two frames of 300 and 400 bytes of main data, the second's from 81 bytes before its own area on.
+const A: &str =
+    "fffb9000 000002580032000000004b000640000000096000c8000000012c0019 ~36 55*381 fffb9000 28800320003200000000640006400000000c8000c800000001900019 ~453 55*319 ~834";
+
+static LONGER: [Longer; 2] = table! {
+    Longer { name, file, extra, words, status, line }
+    ("a", A, 5, "list a", 3, "a: shrunk from 839 to 834\n")
+    ("z", "fffb9000 ~417", 1_073_741_824, "list z", 1, "z: too long, 1073742241 bytes\n")
+};
+
+/// How the words end otherwise than the case says.
+fn other_end_of(alloc: Global, case: &Longer) -> Result<Option<Found>, AllocError> {
+    let bytes = bytes_of(alloc, case.file)?;
+    let mut inner = MemFolder::new(alloc);
+    put(&mut inner, case.name, &bytes)?;
+    let mut folder = ShortFolder::new(inner, case.extra);
+    other_end::<Mp3edit, ShortFolder>(alloc, &mut folder, case.words, case.status, case.line)
+}
+
+#[test]
+fn files_that_are_found_longer_than_they_are(rt: HostRuntime) -> Result<(), Fail> {
+    for case in &LONGER {
+        assert_eq!(rt; other_end_of(rt.alloc(), case)?, None, "{}", case.words);
+    }
     Ok(())
 }
 

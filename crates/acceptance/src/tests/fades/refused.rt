@@ -23,6 +23,11 @@ $ fade --back a o s
 
 # Points that do not rise.
 
+< a FLAT
+< s '1_5' 0a '1_6'
+$ fade a o s
+! 1 s: not rising at line 2
+
 # In front of any gain out of range.
 < a FLAT
 < s '1_255' 0a '1_6'

@@ -57,6 +57,11 @@ $ gain -s s -l 0 1 g o
 $ gain -s s -w -l 1 1 g o
 ! 1 joint stereo at 834
 
+# A silent frame alone.
+< z JOINT
+$ gain -s s -l 1 2 z o
+! 1 joint stereo at 0
+
 # Before a gain that would leave its range.
 < g G JOINT
 $ gain -s s -l 0 1 g o

@@ -125,4 +125,9 @@ tell 15
 $ gain -s s -g 0 g p
 ! 3 p: write fault
 tell 15
+
+< a
+$ list a
+! 1 a: no frame at 0
+tell 15
 ";

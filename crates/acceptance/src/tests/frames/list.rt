@@ -69,7 +69,20 @@ $ list a
 | frame 1 at 72: 8 kbit/s, begin 0, bits 0
 | 2 frames, MPEG-2.5, 8000 Hz, 1 channels, 0.00.14
 
+# The file's end anchors the second frame.
+# a first frame of the reserved version, which is junk
+< m ffeb18c0 00*68 ffe318c0 00*68
+$ list m
+| junk at 0: 72 bytes
+| frame 0 at 72: 8 kbit/s, begin 0, bits 0
+| 1 frames, MPEG-2.5, 8000 Hz, 1 channels, 0.00.07
+
 # Refused files. Nothing goes to standard output.
+
+# that frame alone
+< m ffeb18c0 00*68
+$ list m
+! 1 m: no frame at 0
 
 < a
 $ list a

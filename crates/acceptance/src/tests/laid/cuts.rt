@@ -7,7 +7,7 @@ pub static ROWS: &str = "
 A_1_ALONE = fffba000 00000320003200000000640006400000000c8000c800000001900019 ~36 55*400 ~522
 # MPEG-2, one channel, 24,000 Hz, 8 kbit/s, with an area of 11 bytes.
 SMALL = fff314c0 ~24
-# The same with an area full of main data.
+# The same with an area full of main data of a later frame: it is as silent.
 SMALL_FULL = fff314c0 ~13 55*11 ~24
 # 1,600 bits of main data, 200 bytes, which begin 189 bytes before its own area.
 SMALL_LAST = fff314c0 bd32000190 ~13 55*11 ~24
@@ -16,6 +16,8 @@ SMALL_FROM_227 = fff314c0 e332000190 ~24
 # A lead-in of 80 kbit/s with an area of 227 bytes. 189 are needed, and the next lower slot, of 64 kbit/s with padding,
 # has 180.
 SMALL_LEAD_IN = fff394c0 ~13 55*200 ~240
+# The same where the first 189 of the bytes are 0.
+SMALL_LEAD_IN_OF_0 = fff394c0 ~202 55*11 ~240
 
 # Frames cut out.
 
@@ -41,9 +43,13 @@ $ cut a 0 2 o
 $ cut a 0.0.02 0.0.04 o
 > o INFO_FRONT 'Info' 0000000f0000000100000271 55*100 INFO_REST Z
 
-# A frame whose main data begin far back.
+# A frame whose main data begin far back: in the areas of 18 of the 29 silent frames before it. Of 720 bytes 433 are made.
 
-# main data that begin in 18 frames before
+< a SMALL*29 SMALL_LAST
+$ cut a 29 30 o
+> o fff376c0 00*9 'Xing' 0000000f00000002000001b1 63*50 f1*50 00*40 SMALL_LEAD_IN_OF_0 SMALL_FROM_227
+
+# the same with bytes that aren't 0 in these 18 areas
 < a SMALL*11 SMALL_FULL*18 SMALL_LAST
 $ cut a 29 30 o
 > o fff376c0 00*9 'Xing' 0000000f00000002000001b1 63*50 f1*50 00*40 SMALL_LEAD_IN SMALL_FROM_227

@@ -1,4 +1,4 @@
-//! Cuts in classes of MPEG-2 and MPEG-2.5.
+//! Cuts in classes of MPEG-2 and MPEG-2.5, and one packing.
 
 pub static ROWS: &str = "
 # laid/lower_kinds
@@ -30,6 +30,10 @@ LOWEST_MONO_1 = ffe314c0 0f0a000190 ~13 55*25 ~48
 LOWEST_MONO_LEAD_IN = ffe314c0 ~13 55*35 ~48
 # LOWEST_MONO_1 behind it.
 LOWEST_MONO_MOVED = ffe314c0 230a000190 ~13 5555555555 ~48
+# MPEG-2.5, 8,000 Hz, 8 kbit/s, one channel, silent, with an area of 59 bytes.
+SLOWEST = ffe318c0 ~72
+# The same where main data could begin 59 bytes before its area.
+SLOWEST_FROM_59 = ffe318c0 3b ~72
 
 # Classes of MPEG-2 and MPEG-2.5.
 
@@ -47,4 +51,9 @@ $ cut a 1 2 o
 < a LOWEST_MONO_0 LOWEST_MONO_1
 $ cut a 1 2 o
 > o ffe344c0 00*9 'Info' 0000000f0000000200000120 aa*50 d5*50 00*63 LOWEST_MONO_LEAD_IN LOWEST_MONO_MOVED
+
+# packed: MPEG-2.5, 8,000 Hz, with an Info frame of 24 kbit/s, 216 bytes; 360 bytes together
+< m SLOWEST SLOWEST
+$ pack m o
+> o ffe338c0 00*9 'Info' 0000000f0000000200000168 99*50 cc*50 00*87 SLOWEST SLOWEST_FROM_59
 ";

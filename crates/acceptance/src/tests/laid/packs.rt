@@ -57,6 +57,12 @@ $ pack a o
 $ pack a o
 > o INFO_FRONT TWO_OF_416 80*50 c0*50 INFO_REST LEAST LEAST_FROM_68
 
+# It is the whole file: 312 bytes are written.
+# a frame alone whose main data begin before the file
+< a A_1
+$ pack a o
+> o INFO_FRONT 'Info' 0000000f0000000100000138 aa*100 INFO_REST LEAST
+
 # Each call fails in turn.
 < u A
 $ pack u o

@@ -34,6 +34,11 @@ to p01.mp3 p02.mp3
 $ split p99.mp3 p 0.0 0.00.05 EOF
 ! 1 p99.mp3: input is an output
 
+< p01.mp3 FOUR
+to p01.mp3 p02.mp3
+$ split p01.mp3 p 0.0 0.00.05 EOF
+! 1 p01.mp3: input is an output
+
 < z FOUR
 to p01.mp3 p02.mp3
 $ split z p 0 5

@@ -16,6 +16,12 @@ LOWER_FILE = LOWER PROTECTED_LOWER
 M_FILE = M M_LOUDER
 LOWEST_FILE = LOWEST
 LOST_FIRST = LOST G
+# All gains 100: 300 bytes of main data, and 400 that begin 81 bytes before the area of the second frame.
+AT_100 = fffb9000 000002580032000000004b000640000000096000c8000000012c0019 ~36 55*381 fffb9000 28800320003200000000640006400000000c8000c800000001900019 00000000 55*319 ~834
+# The same with all gains 103.
+AT_103 = fffb9000 000002580033800000004b000670000000096000ce000000012c0019c0 ~36 55*381 fffb9000 28800320003380000000640006700000000c8000ce00000001900019c0 000000 55*319 ~834
+# With all gains 98.
+AT_98 = fffb9000 000002580031000000004b000620000000096000c4000000012c001880 ~36 55*381 fffb9000 28800320003100000000640006200000000c8000c40000000190001880 000000 55*319 ~834
 
 # What an undo makes of gains.
 
@@ -223,6 +229,16 @@ $ gain -u d o
 ~ c LOST_FIRST
 ~ d LOST_FIRST
 
+# Main data that begin in the frame before: the tag has what is left to undo after each change.
+< a AT_100
+to b c d
+$ gain -g 3 a b
+$ gain -g -5 b c
+$ gain -u c d
+> b AT_103 UNDO_FRONT '-003,-003,N' UNDO_END
+> c AT_98 UNDO_FRONT '+002,+002,N' UNDO_END
+> d AT_100
+
 # The same files without any change.
 
 # both channels
@@ -275,6 +291,12 @@ $ gain -u a b
 
 # lost frames
 < a LOST_FIRST
+to b
+$ gain -u a b
+! 1 no undo item
+
+# main data that begin in the frame before
+< a AT_100
 to b
 $ gain -u a b
 ! 1 no undo item
