@@ -3,7 +3,7 @@ use Rattle.std.proofs.Common.{◌≡◌, ℕ, ◌&&◌, Bool, true, false, cond,
 use Rattle.std.specs.Prelude.{nat_lt, nat_le}
 use Rattle.frame_header.specs.Tables.{window_of}
 use Rattle.slot_plan.specs.declared.needs.Placed.{Placed}
-use Rattle.rate_plan.specs.MenuPlan.{menu_plan}
+use Rattle.rate_plan.specs.LeastMenuPlan.{least_menu_plan}
 use Rattle.sync_survey.specs.declared.survey_fault.SurveyFault.{SurveyFault}
 use Rattle.sync_survey.specs.Faults.{SurveyFields}
 use Rattle.sync_survey.specs.Survey.{survey_of}
@@ -37,7 +37,7 @@ module _ (rate i : ℕ) (file : List ℕ) (s : SurveyFields) (is : survey_of fil
   unfit-plan chosen chose e = at (is_rate rate s.class) refl e
     where
       at : (b : Bool) → is_rate rate s.class ≡ b
-          → then_made (unless (cond b None (Some (NoRate rate))) (menu_in (From rate) s.class)) (λ menu. fitted (menu_plan (window_of s.class.version) menu (needs_of chosen s))) ≡ unfit i → ⊥
+          → then_made (unless (cond b None (Some (NoRate rate))) (menu_in (From rate) s.class)) (λ menu. fitted (least_menu_plan (window_of s.class.version) menu (needs_of chosen s))) ≡ unfit i → ⊥
       at false none e = absurd cc
       at true some e =
           let right = all_right Least file s chosen chose in

@@ -6,3 +6,6 @@ pub mod LimitLaws
 pub mod PackingLaws
 pub mod RuleLaws
 pub mod FloorLaw
+pub mod FileLengths
+pub mod PlanLengths
+pub mod PackedLengths

@@ -16,11 +16,11 @@ use Rattle.part_needs.specs.Needs.{Asked, need_of, asked_of, needs_of as needs_o
 use Rattle.part_needs.specs.Fit.{IsPlaced}
 use Rattle.part_needs.proofs.FitLaws.{AreKnown, part-fits, part-known}
 use Rattle.part_needs.proofs.PartsLaws.{one_class}
-use Rattle.rate_plan.specs.Menus.{from_menu, items_from, AreAscending, IsMenu, IsMenuPlan, IsUnfit, Refuses}
+use Rattle.rate_plan.specs.Menus.{from_menu, items_from, AreAscending, IsMenu, IsMenuPlan}
 use Rattle.rate_plan.specs.declared.fault.RateFault.{RateFault}
 use Rattle.rate_plan.specs.declared.fault.RateFault.TheVariants.{Unfit, Memory as NoMemory}
-use Rattle.rate_plan.specs.MenuPlan.{menu_plan}
-use Rattle.rate_plan.proofs.OneMenuPlan.{menu_plan-is}
+use Rattle.rate_plan.specs.LeastMenuPlan.{least_menu_plan, IsMenuFault}
+use Rattle.rate_plan.proofs.LeastMenuPlan.{least_menu_plan-is}
 use Rattle.rate_plan.proofs.LargestLaw.{largest-fits}
 use Rattle.laying.specs.Fits.{IsFitting}
 use Rattle.laying.proofs.FitLaws.{Asks, items-fit, asks-each}
@@ -37,7 +37,7 @@ use Rattle.frame_edits.proofs.LaidLaws.{AreOpen, open-in_slots}
 use Rattle.packing.specs.declared.mode.Rates.{Rates}
 use Rattle.packing.specs.declared.mode.Rates.TheVariants.{Only, From}
 use Rattle.packing.specs.Packing.{needs_of, IsPlanFault}
-use Rattle.packing.specs.Rates.{named, is_rate, menu_in, no_rate, fitted, rates_plan, rates_refuse, of_rate, IsMenuFault}
+use Rattle.packing.specs.Rates.{named, is_rate, menu_in, no_rate, fitted, rates_plan, rates_refuse, of_rate}
 use Rattle.packing.proofs.MenuLaws.{menu-ascends, menu-slots, menu-some, floor-largest}
 
 -- ---- from a menu
@@ -107,18 +107,18 @@ fitted-late (Err i) = refl
 
 pub rates-late : (rates : Rates) (class : ClassFields) (needs : List Need) → IfErr (rates_plan rates class needs) IsLate
 rates-late rates class needs =
-    then_late (unless (no_rate rates class) (menu_in rates class)) (λ menu. fitted (menu_plan (window_of class.version) menu needs)) (unless_late (no_rate rates class) (menu_in rates class))
-    (λ menu. fitted-late (menu_plan (window_of class.version) menu needs))
+    then_late (unless (no_rate rates class) (menu_in rates class)) (λ menu. fitted (least_menu_plan (window_of class.version) menu needs)) (unless_late (no_rate rates class) (menu_in rates class))
+    (λ menu. fitted-late (least_menu_plan (window_of class.version) menu needs))
 
 pub rates-fitting : (rates : Rates) (class : ClassFields) (needs : List Need) (placed : List Placed) → IsClass class → AreOfClass class needs → 1 ≤ length needs → rates_plan rates class needs ≡ Ok placed
     → IsFittingFew (window_of class.version) needs placed
 rates-fitting rates class needs placed sound same some planned =
     let window = window_of class.version in
-    let made = then_ok (unless (no_rate rates class) (menu_in rates class)) (λ menu. fitted (menu_plan window menu needs)) placed planned in
+    let made = then_ok (unless (no_rate rates class) (menu_in rates class)) (λ menu. fitted (least_menu_plan window menu needs)) placed planned in
     let ok = unless_ok (no_rate rates class) (menu_in rates class) made.0 made.1 in
-    let is : menu_plan window (menu_in rates class) needs ≡ Ok placed = fitted-ok (menu_plan window (menu_in rates class) needs) placed (ap (λ menu. fitted (menu_plan window menu needs)) ok.1 ∙ made.2) in
+    let is : least_menu_plan window (menu_in rates class) needs ≡ Ok placed = fitted-ok (least_menu_plan window (menu_in rates class) needs) placed (ap (λ menu. fitted (least_menu_plan window menu needs)) ok.1 ∙ made.2) in
     menu-fitting window (menu_in rates class) needs placed (menu-slots rates class)
-    (((menu_plan-is window class (menu_in rates class) needs same some (menu-ascends rates class sound) (menu-some rates class ok.0)).0 placed).1 is)
+    (((least_menu_plan-is window class (menu_in rates class) needs same some (menu-ascends rates class sound) (menu-some rates class ok.0)).0 placed).1 is)
 
 -- ---- what the planner answers
 
@@ -148,26 +148,12 @@ module _ (class : ClassFields) (menu : List SlotFields) (needs given : List Need
   pub given-menu : IsMenu menu given
   given-menu = subst (IsMenu menu) (sym is) (is-menu class menu needs same ascend)
 
-  module _ (some : 1 ≤ length needs) (slots : 1 ≤ length menu) where
-    abbrev Says : Result Plan RateFault → Type 0
-    Says r = MatchResult r (λ plan. menu_plan (window_of class.version) menu needs ≡ Ok (entries plan)) (IsMenuFault (menu_plan (window_of class.version) menu needs))
+  -- what it says of the plan of these needs
+  abbrev Says : ℕ → List Need → Result Plan RateFault → Type 0
+  Says window asked r = MatchResult r (λ plan. least_menu_plan window menu asked ≡ Ok (entries plan)) (IsMenuFault (least_menu_plan window menu asked))
 
-    law : ((placed : List Placed) → IsMenuPlan (window_in needs) menu needs placed → menu_plan (window_of class.version) menu needs ≡ Ok placed)
-        × ((i : ℕ) → IsUnfit (window_in needs) menu needs i → menu_plan (window_of class.version) menu needs ≡ Err i)
-    law =
-        let window = window_is in
-        let laws = menu_plan-is (window_of class.version) class menu needs same some ascend slots in (
-          (λ placed plan. (laws.0 placed).0 (subst (λ w. IsMenuPlan w menu needs placed) window plan)),
-          (λ i unfit. (laws.1 i).0 (subst (λ w. IsUnfit w menu needs i) window unfit)),
-        )
-      where
-        window_is : window_in needs ≡ window_of class.version
-        window_is = window-is class needs same some
-
-    pub planner-says : (r : Result Plan RateFault) → IfOk r (λ plan. IsMenuPlan (window_in given) menu given (entries plan)) → IfErr r (Refuses (window_in given) menu given) → Says r
-    planner-says (Ok plan) ok err = law.0 (entries plan) (subst (λ n. IsMenuPlan (window_in n) menu n (entries plan)) is ok)
-    planner-says (Err (Unfit i)) ok err = law.1 i (subst (λ n. IsUnfit (window_in n) menu n i) is err)
-    planner-says (Err NoMemory) ok err = tt
+  pub planner-says : (r : Result Plan RateFault) → 1 ≤ length needs → Says (window_in given) given r → Says (window_of class.version) needs r
+  planner-says r some says = subst (λ (w : ℕ). Says w needs r) (window-is class needs same some) (subst (λ (n : List Need). Says (window_in n) n r) is says)
 
 -- ---- chosen frames
 
@@ -217,38 +203,38 @@ module _ (chosen : Chosen) (s : SurveyFields) (placed : IsPlaced s) (some : chos
   known = part-known s chosen.from chosen.to placed
 
   -- with all bit rates from one on no frame is unfit
-  pub never-unfit : (rate i : ℕ) → no_rate (From rate) s.class ≡ None → menu_plan (window_of s.class.version) (menu_in (From rate) s.class) (needs_of chosen s) ≡ Err i → ⊥
+  pub never-unfit : (rate i : ℕ) → no_rate (From rate) s.class ≡ None → least_menu_plan (window_of s.class.version) (menu_in (From rate) s.class) (needs_of chosen s) ≡ Err i → ⊥
   never-unfit rate i none is =
       let menu = menu_in (From rate) s.class in
-      let unfit = ((menu_plan-is (window_of s.class.version) s.class menu (needs_of chosen s) rows-same needs-some (menu-ascends (From rate) s.class rows-sound) (menu-some (From rate) s.class none)).1 i).1 is in
+      let unfit = ((least_menu_plan-is (window_of s.class.version) s.class menu (needs_of chosen s) rows-same needs-some (menu-ascends (From rate) s.class rows-sound) (menu-some (From rate) s.class none)).1 i).1 is in
       largest-fits s.class menu (needs_of chosen s) i rows-sound rows-same (known-slots (chosen_rows chosen s) known) (floor-largest rate s.class none) (part-fits s chosen.from chosen.to placed).1 unfit
 
-  refuses-unfit : (rates : Rates) (i : ℕ) → no_rate rates s.class ≡ None → menu_plan (window_of s.class.version) (menu_in rates s.class) (needs_of chosen s) ≡ Err i → rates_refuse rates (UnfitFrame i) ≡ true
+  refuses-unfit : (rates : Rates) (i : ℕ) → no_rate rates s.class ≡ None → least_menu_plan (window_of s.class.version) (menu_in rates s.class) (needs_of chosen s) ≡ Err i → rates_refuse rates (UnfitFrame i) ≡ true
   refuses-unfit (Only rate) i none is = refl
   refuses-unfit (From rate) i none is = absurd (never-unfit rate i none is)
 
-  plan-by : (rates : Rates) → no_rate rates s.class ≡ None → rates_plan rates s.class (needs_of chosen s) ≡ fitted (menu_plan (window_of s.class.version) (menu_in rates s.class) (needs_of chosen s))
-  plan-by rates none = ap (λ o. then_made (unless o (menu_in rates s.class)) (λ menu. fitted (menu_plan (window_of s.class.version) menu (needs_of chosen s)))) none
+  plan-by : (rates : Rates) → no_rate rates s.class ≡ None → rates_plan rates s.class (needs_of chosen s) ≡ fitted (least_menu_plan (window_of s.class.version) (menu_in rates s.class) (needs_of chosen s))
+  plan-by rates none = ap (λ o. then_made (unless o (menu_in rates s.class)) (λ menu. fitted (least_menu_plan (window_of s.class.version) menu (needs_of chosen s)))) none
 
-  pub plan-is : (rates : Rates) (plan : List Placed) → no_rate rates s.class ≡ None → menu_plan (window_of s.class.version) (menu_in rates s.class) (needs_of chosen s) ≡ Ok plan → rates_plan rates s.class (needs_of chosen s) ≡ Ok plan
+  pub plan-is : (rates : Rates) (plan : List Placed) → no_rate rates s.class ≡ None → least_menu_plan (window_of s.class.version) (menu_in rates s.class) (needs_of chosen s) ≡ Ok plan → rates_plan rates s.class (needs_of chosen s) ≡ Ok plan
   plan-is rates plan none is = plan-by rates none ∙ ap fitted is
 
-  pub plan-fault : (rates : Rates) (fault : RateFault) → no_rate rates s.class ≡ None → IsMenuFault (menu_plan (window_of s.class.version) (menu_in rates s.class) (needs_of chosen s)) fault
+  pub plan-fault : (rates : Rates) (fault : RateFault) → no_rate rates s.class ≡ None → IsMenuFault (least_menu_plan (window_of s.class.version) (menu_in rates s.class) (needs_of chosen s)) fault
       → IsPlanFault (rates_plan rates) (rates_refuse rates) s.class (needs_of chosen s) (of_rate fault)
   plan-fault rates (Unfit i) none is = (plan-by rates none ∙ ap fitted is, refuses-unfit rates i none is)
   plan-fault rates NoMemory none is = tt
 
   -- by what the code has of class, menu and frames
   module _ (rates : Rates) (class : ClassFields) (menu : List SlotFields) (frames : List Row) (class_is : class ≡ s.class) (menu_is : menu ≡ menu_in rates class) (frames_are : frames ≡ s.frames) (none : no_rate rates class ≡ None) where
-    pub menu-fault : (fault : RateFault) → IsMenuFault (menu_plan (window_of class.version) menu (map need_of (slice_range frames chosen.from chosen.to))) fault → IsPlanFault (rates_plan rates) (rates_refuse rates) s.class (needs_of chosen s) (of_rate fault)
+    pub menu-fault : (fault : RateFault) → IsMenuFault (least_menu_plan (window_of class.version) menu (map need_of (slice_range frames chosen.from chosen.to))) fault → IsPlanFault (rates_plan rates) (rates_refuse rates) s.class (needs_of chosen s) (of_rate fault)
     menu-fault fault is =
         plan-fault rates fault (subst (λ k. no_rate rates k ≡ None) class_is none)
-        (subst (λ (k : ClassFields). IsMenuFault (menu_plan (window_of k.version) (menu_in rates k) (needs_of chosen s)) fault) class_is
-        (subst (λ m. IsMenuFault (menu_plan (window_of class.version) m (needs_of chosen s)) fault) menu_is
-        (subst (λ l. IsMenuFault (menu_plan (window_of class.version) menu (map need_of (slice_range l chosen.from chosen.to))) fault) frames_are is)))
+        (subst (λ (k : ClassFields). IsMenuFault (least_menu_plan (window_of k.version) (menu_in rates k) (needs_of chosen s)) fault) class_is
+        (subst (λ m. IsMenuFault (least_menu_plan (window_of class.version) m (needs_of chosen s)) fault) menu_is
+        (subst (λ l. IsMenuFault (least_menu_plan (window_of class.version) menu (map need_of (slice_range l chosen.from chosen.to))) fault) frames_are is)))
 
   pub rate-fault : (rates : Rates) (refusal : Refusal) → no_rate rates s.class ≡ Some refusal → IsPlanFault (rates_plan rates) (rates_refuse rates) s.class (needs_of chosen s) (Refused refusal)
   rate-fault rates refusal is = (
-    ap (λ o. then_made (unless o (menu_in rates s.class)) (λ menu. fitted (menu_plan (window_of s.class.version) menu (needs_of chosen s)))) is,
+    ap (λ o. then_made (unless o (menu_in rates s.class)) (λ menu. fitted (least_menu_plan (window_of s.class.version) menu (needs_of chosen s)))) is,
     named-refused rates s.class refusal is,
   )

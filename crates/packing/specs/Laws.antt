@@ -1,12 +1,28 @@
--- What holds of packing with the slots of some bit rates, whatever the code.
-use Rattle.std.specs.Prelude.{◌≡◌, ℕ, List, Err}
+-- What holds of packing with the slots of some bit rates, and in the fewest bytes, whatever the code.
+use Rattle.std.specs.Prelude.{◌≡◌, ℕ, ◌≤◌, List, length, Some, Ok, Err}
+use Rattle.outside.specs.Files.{Contents}
 use Rattle.commands.specs.declared.fault.EditFault.TheVariants.{Refused}
 use Rattle.commands.specs.declared.fault.Refusal.TheVariants.{Unfit}
-use Rattle.commands.specs.One.{made_file}
+use Rattle.commands.specs.One.{made_file, made_result}
+use Rattle.pack_mode.specs.declared.mode.PackMode.TheVariants.{Least, Best}
 use Rattle.packing.specs.declared.mode.Rates.TheVariants.{From}
 use Rattle.packing.specs.Packing.{packing}
 use Rattle.packing.specs.Rates.{rates_plan}
+use Rattle.packing.specs.Modes.{pack_task}
+use Rattle.packing.specs.Fewest.{IsFewest}
 
 -- where all bit rates from one on are allowed, no file is refused with `Unfit`
 abbrev pub FloorsFit : Type 0
 FloorsFit = (rate i : ℕ) (file : List ℕ) → made_file (packing (rates_plan (From rate))) file ≡ Err (Refused (Unfit i)) → ⊥
+
+-- Where `pack --best` writes a file, `pack` writes one of the same input, and that of `pack --best` is at most as long.
+abbrev pub NeverLonger : Type 0
+NeverLonger =
+    (input output : List ℕ) (files : Contents) (best : List ℕ) → made_result (pack_task Best input) output files ≡ Ok best
+    → (plain : List ℕ) × (made_result (pack_task Least input) output files ≡ Ok plain) × (length best ≤ length plain)
+
+-- What `pack --best` writes has the fewest bytes of all files of the frames of its input, in whatever slots their main data have room.
+abbrev pub FewestBytes : Type 0
+FewestBytes =
+    (input output : List ℕ) (files : Contents) (best : List ℕ) → made_result (pack_task Best input) output files ≡ Ok best
+    → (file : List ℕ) × (files input ≡ Some file) × IsFewest file best

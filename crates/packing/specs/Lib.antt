@@ -3,4 +3,5 @@ pub mod Packing
 pub mod Rates
 pub mod Rules
 pub mod Modes
+pub mod Fewest
 pub mod Laws

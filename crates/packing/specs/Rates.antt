@@ -5,7 +5,7 @@ use Rattle.frame_header.specs.Tables.{window_of, rate_of}
 use Rattle.frame_header.specs.Slots.{all_slots}
 use Rattle.slot_plan.specs.declared.needs.Need.{Need}
 use Rattle.slot_plan.specs.declared.needs.Placed.{Placed}
-use Rattle.rate_plan.specs.MenuPlan.{menu_plan}
+use Rattle.rate_plan.specs.LeastMenuPlan.{least_menu_plan}
 use Rattle.rate_plan.specs.declared.fault.RateFault.{RateFault}
 use Rattle.rate_plan.specs.declared.fault.RateFault.TheVariants.{Unfit as UnfitFrame, Memory as NoMemory}
 use Rattle.commands.specs.declared.fault.EditFault.{EditFault}
@@ -43,9 +43,10 @@ abbrev pub fitted : Result (List Placed) ℕ → Result (List Placed) EditFault
 fitted (Ok placed) = Ok placed
 fitted (Err i) = Err (Refused (Unfit i))
 
--- The plan from the menu (the law `menu_plan_is_the_plan` says which that is), or why there is none.
+-- The first of all lists of slots from the menu for which there is a layout, without a lead-in or else with one; or why there is none: the
+-- first frame up to which there is none.
 abbrev pub rates_plan : Rates → ClassFields → List Need → Result (List Placed) EditFault
-rates_plan rates class needs = then_made (unless (no_rate rates class) (menu_in rates class)) (λ menu. fitted (menu_plan (window_of class.version) menu needs))
+rates_plan rates class needs = then_made (unless (no_rate rates class) (menu_in rates class)) (λ menu. fitted (least_menu_plan (window_of class.version) menu needs))
 
 -- With one bit rate alone a frame may be unfit; with all from one on none is.
 abbrev pub rates_refuse : Rates → Refusal → Bool
@@ -58,8 +59,3 @@ rates_refuse rates _ = false
 abbrev pub of_rate : RateFault → EditFault
 of_rate (UnfitFrame i) = Refused (Unfit i)
 of_rate NoMemory = Memory
-
--- what a fault of the planner says
-abbrev pub IsMenuFault : Result (List Placed) ℕ → RateFault → Type 0
-IsMenuFault r (UnfitFrame i) = r ≡ Err i
-IsMenuFault r NoMemory = Unit {0}

@@ -1,11 +1,12 @@
 //! The command `pack` over a folder, in each of its modes.
-ghost use Rattle.std.specs.Prelude.{◌≡◌, ℕ, List, None, IfSome};
+ghost use Rattle.std.specs.Prelude.{◌≡◌, ℕ, List, None, IfSome, OnOk};
 ghost use Rattle.commands.specs.Left.{seen};
 ghost use Rattle.commands.specs.Runs.{IsRunOf};
 ghost use Rattle.commands.specs.One.{one_command};
 ghost use Rattle.pack_mode.specs.declared.mode.PackMode.TheVariants.{Least};
 ghost use Rattle.packing.specs.Modes.{pack_task, pack_mode_command};
 ghost use Rattle.packing.specs.Rules.{rule_task};
+ghost use Rattle.packing.specs.Fewest.{WritesFewest};
 
 use crate::edit::PackEdit;
 use crate::mode::{Rates, Rule};
@@ -70,9 +71,13 @@ pub fn pack_with<D: Folder>(
     mode: &PackMode,
 ) -> Result<(), EditFault>
     // The input is well-formed, and the output holds its stream.
-    ensures { IsRunOf (pack_mode_command mode.now input.now output.now)
+    ensures run { IsRunOf (pack_mode_command mode.now input.now output.now)
         (seen (D.files folder.old) (D.counts folder.old))
         (seen (D.files folder.new) (D.counts folder.new)) result }
+    // With `PackMode::Best`, and where the folder tells its files, no file of the same frames in other slots, with a lead-in
+    // where this one has one or with none, has fewer bytes.
+    ensures fewest { OnOk result (WritesFewest mode.now input.now output.now
+        (D.files folder.old) (D.files folder.new)) }
 {
     match rule_of(mode) {
         None => pack(alloc, folder, input, output),

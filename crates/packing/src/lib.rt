@@ -11,6 +11,6 @@ mod plans;
 
 pub use calls::pack_with;
 pub use edit::PackEdit;
-pub use laws::floors_fit;
+pub use laws::{fewest_bytes, floors_fit, never_longer};
 pub use mode::{Rates, Rule};
 pub use pack_mode::PackMode;

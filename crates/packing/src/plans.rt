@@ -9,7 +9,7 @@ ghost use Rattle.part_needs.specs.Needs.{need_of};
 ghost use Rattle.part_needs.specs.Fit.{any_choice};
 ghost use Rattle.best_plan.specs.BestOf.{best_plan_of};
 ghost use Rattle.rate_plan.specs.Menus.{AreAscending};
-ghost use Rattle.rate_plan.specs.MenuPlan.{menu_plan};
+ghost use Rattle.rate_plan.specs.LeastMenuPlan.{least_menu_plan, IsMenuFault};
 ghost use Rattle.sync_survey.specs.Faults.{tells};
 ghost use Rattle.frame_edits.specs.Laid.{IsLaidInfo};
 ghost use Rattle.commands.specs.One.{most_frames};
@@ -17,7 +17,7 @@ ghost use Rattle.frame_edits.specs.Chosen.{chosen_in, laid_by, AreThere};
 ghost use Rattle.laying.specs.Surveys.{HasSurvey};
 ghost use Rattle.laying.specs.Fits.{IsFitting};
 ghost use Rattle.packing.specs.Packing.{needs_of, IsPlanFault};
-ghost use Rattle.packing.specs.Rates.{no_rate as no_rate_lem, of_rate as of_rate_lem, rates_plan as rates_plan_lem, rates_refuse, IsMenuFault};
+ghost use Rattle.packing.specs.Rates.{no_rate as no_rate_lem, of_rate as of_rate_lem, rates_plan as rates_plan_lem, rates_refuse};
 ghost use Rattle.packing.specs.Rules.{allowed_by, plan_by as plan_by_lem, refuses_by};
 
 use crate::menu::menu_of;
@@ -64,9 +64,9 @@ fn plan_menu(alloc: Global, class: Class, rows: &[Row], menu: &[Slot]) -> Result
     requires slots { 1 ≤ length menu.now }
     requires ascending { AreAscending class menu.now }
     ensures { MatchResult result
-        (λ plan. menu_plan (window_of class.version) menu.now (map need_of rows.now)
+        (λ plan. least_menu_plan (window_of class.version) menu.now (map need_of rows.now)
         ≡ Ok (entries plan))
-        (IsMenuFault (menu_plan (window_of class.version) menu.now (map need_of rows.now))) }
+        (IsMenuFault (least_menu_plan (window_of class.version) menu.now (map need_of rows.now))) }
 {
     let mut parts = Parts::new(alloc);
     parts.push(rows)?;

@@ -18,5 +18,5 @@ rate_plan-requires-clause-ascending c =
 pub returns : goal.returns
 returns c =
     let given = given-needs c.args.rows.now c.push.new.self c.needs.result.now (c.in_ok-push.ensures.added [] c.new-parts.ensures.parts) c.needs.ensures in
-    planner-says c.args.class c.args.menu.now (map need_of c.args.rows.now) c.needs.result.now given c.requires.class c.requires.ascending (omega (arith, c.requires.some, length-map c.args.rows.now need_of)) c.requires.slots c.rate_plan.result
-    c.rate_plan.ensures.plan c.rate_plan.ensures.refusal
+    planner-says c.args.class c.args.menu.now (map need_of c.args.rows.now) c.needs.result.now given c.requires.class c.requires.ascending c.rate_plan.result
+    (omega (arith, c.requires.some, length-map c.args.rows.now need_of)) c.rate_plan.ensures.least

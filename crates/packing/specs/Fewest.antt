@@ -1,11 +1,14 @@
 -- A file of the frames of another that has the fewest bytes.
 use Rattle.std.specs.Prelude.{◌≡◌, ◌⊎◌, ℕ, ◌≤◌, Bool, false, List, length, map, All, Ok}
+use Rattle.outside.specs.Files.{Files, Holds}
 use Rattle.frame_header.specs.Tables.{window_of}
 use Rattle.slot_plan.specs.declared.needs.Placed.{Placed}
 use Rattle.sync_survey.specs.Faults.{SurveyFields}
 use Rattle.sync_survey.specs.Survey.{survey_of}
 use Rattle.laying.specs.Fits.{IsFitting}
 use Rattle.commands.specs.One.{most_frames}
+use Rattle.pack_mode.specs.declared.mode.PackMode.{PackMode}
+use Rattle.pack_mode.specs.declared.mode.PackMode.TheVariants.{Best}
 use Rattle.frame_edits.specs.Laid.{Laid, needs_laid, file_laid}
 
 -- which of the places of a plan are those of lead-ins
@@ -27,3 +30,8 @@ pub record IsFewest (file made : List ℕ) : Type 0 where
   pub fits : IsFitting (window_of survey.class.version) (needs_laid laid survey) laid.placed
   pub is : made ≡ file_laid laid file survey
   pub fewest : (other : List Placed) → IsFitting (window_of survey.class.version) (needs_laid laid survey) other → HasNoMore laid.placed other → length made ≤ length (file_laid (record laid { placed = other }) file survey)
+
+-- In the mode of the fewest bytes, what the output holds afterwards has the fewest bytes of all files of the frames that the input held before.
+abbrev pub WritesFewest : PackMode → List ℕ → List ℕ → Files → Files → Type 0
+WritesFewest Best input output old new = (file made : List ℕ) → Holds old input file → Holds new output made → IsFewest file made
+WritesFewest _ input output old new = Unit {0}

@@ -1,6 +1,8 @@
 -- What `pack --best` writes, and what `pack` writes of the same input.
+use Rattle.std.specs.Prelude.{OnOk}
 use Rattle.std.proofs.Common.{◌≡◌, ℕ, ◌≤◌, List, [], ◌∷◌, length, Option, Some, None, Result, Ok, Err, refl, sym, ◌∙◌, ap, subst}
-use Rattle.outside.specs.Files.{Contents}
+use Rattle.outside.specs.Files.{Contents, Files, Told, Untold, with_file, Holds, IfTold}
+use Rattle.outside.proofs.FilesLaws.{with_file_here}
 use Rattle.frame_header.specs.Tables.{window_of}
 use Rattle.slot_plan.specs.declared.needs.Placed.{Placed}
 use Rattle.slot_plan.specs.Plans.{IsPlan}
@@ -13,24 +15,28 @@ use Rattle.sync_survey.proofs.PlacedRows.{surveyed-placed}
 use Rattle.sync_survey.proofs.SurveyedFiles.{survey_of-parts}
 use Rattle.laying.specs.Fits.{IsFitting}
 use Rattle.laying.proofs.ChosenFrames.{survey-had}
-use Rattle.commands.specs.Command.{clash_from}
-use Rattle.commands.specs.One.{most_frames, made_by, made_file, made_where, unless_clash, made_result}
+use Rattle.commands.specs.declared.fault.EditFault.{EditFault}
+use Rattle.commands.specs.Command.{Made, clash_from, written}
+use Rattle.commands.specs.Left.{Seen, IsDone}
+use Rattle.commands.specs.Runs.{IsRunOf}
+use Rattle.commands.specs.One.{most_frames, made_by, made_file, made_where, unless_clash, made_result, made_of}
 use Rattle.commands.proofs.RefusingLaws.{unless_ok, then_ok}
 use Rattle.frame_edits.specs.declared.chosen.Slots.TheVariants.{Least as LeastSlots}
 use Rattle.frame_edits.specs.Laid.{Laid, file_laid}
 use Rattle.frame_edits.specs.Chosen.{Chosen, outside_fault, choices_by, plan_of, laid_by, laid_with, choosing, chosen_file, all_choice}
 use Rattle.frame_edits.proofs.ChosenLaws.{IsRight, all_right, the-plan, plan-fitting}
-use Rattle.pack_mode.specs.declared.mode.PackMode.TheVariants.{Least, Best}
-use Rattle.packing.specs.Modes.{pack_task}
+use Rattle.pack_mode.specs.declared.mode.PackMode.{PackMode}
+use Rattle.pack_mode.specs.declared.mode.PackMode.TheVariants.{Least, Best, Constant, Floor}
+use Rattle.packing.specs.Modes.{pack_task, pack_mode_command}
 use Rattle.packing.specs.Packing.{needs_of, laid_as, packed, packing}
 use Rattle.packing.specs.Rules.{best_planning, most_best, limited_by}
 use Rattle.packing.proofs.BestLaws.{best-is, best-fitting}
 use Rattle.packing.proofs.LimitLaws.{limited-made}
 use Rattle.packing.proofs.PlanLaws.{rows-same, rows-sound}
-use Rattle.packed_lengths.specs.Fewest.{HasNoMore, IsFewest}
-use Rattle.packed_lengths.specs.Laws.{NeverLonger, FewestBytes}
-use Rattle.packed_lengths.proofs.FileLengths.{no-longer}
-use Rattle.packed_lengths.proofs.PlanLengths.{best-least, plan-no_more}
+use Rattle.packing.specs.Fewest.{HasNoMore, IsFewest, WritesFewest}
+use Rattle.packing.specs.Laws.{NeverLonger, FewestBytes}
+use Rattle.packing.proofs.FileLengths.{no-longer}
+use Rattle.packing.proofs.PlanLengths.{best-least, plan-no_more}
 
 -- ---- what is written
 
@@ -167,3 +173,34 @@ pub bytes-fewest : FewestBytes
 bytes-fewest = λ input output files best e.
     let m = made-of input output files best e in
     (m.file, m.there, fewest-is input output files best m)
+
+-- ---- what is written
+
+-- the one output holds what is made
+one-held : (output made : List ℕ) (f : Contents) (r : Result (List ℕ) EditFault) (all : Made) (new : Files) → made_of output r ≡ Ok all → new ≡ Told (written all.outputs f) → Holds new output made → r ≡ Ok made
+one-held output made f (Err fault) all new e told holds = absurd cc
+one-held output made f (Ok bytes) all new e told holds =
+    let same : record { outputs = record { name = output; bytes = bytes } ∷ []; text = [] } ≡ all = cc in
+    let now : Holds (Told (with_file f output bytes)) output made = subst (λ (m : Made). Holds (Told (written m.outputs f)) output made) (sym same) (subst (λ (n : Files). Holds n output made) told holds) in
+    let is : Some bytes ≡ Some made = sym (with_file_here f output bytes) ∙ now in
+    cc
+
+written-fewest : (input output file made : List ℕ) (old new : Files)
+    → IfTold old (λ f. (all : Made) × ((pack_mode_command Best input output).makes f ≡ Ok all) × (new ≡ Told (written all.outputs f))) → Holds old input file → Holds new output made → IsFewest file made
+written-fewest input output file made (Untold touched) new done there holds = absurd there
+written-fewest input output file made (Told f) new done there holds =
+    let is = one-held output made f (made_result (pack_task Best input) output f) done.0 new done.1 done.2 holds in
+    let least = bytes-fewest input output f made is in
+    let same : least.0 ≡ file = let both : Some least.0 ≡ Some file = sym least.1 ∙ there in cc in
+    subst (λ (l : List ℕ). IsFewest l made) same least.2
+
+done-fewest : (mode : PackMode) (input output : List ℕ) (old new : Seen) → IsDone (pack_mode_command mode input output) old new → WritesFewest mode input output old.files new.files
+done-fewest Best input output old new done = λ file made there holds. written-fewest input output file made old.files new.files done.made there holds
+done-fewest Least input output old new done = tt
+done-fewest (Constant rate) input output old new done = tt
+done-fewest (Floor rate) input output old new done = tt
+
+-- what a run with this answer left
+pub run-fewest : (mode : PackMode) (input output : List ℕ) (old new : Seen) (answer : Result (Unit {0}) EditFault) → IsRunOf (pack_mode_command mode input output) old new answer → OnOk answer (WritesFewest mode input output old.files new.files)
+run-fewest mode input output old new (Ok none) run = done-fewest mode input output old new run.done
+run-fewest mode input output old new (Err fault) run = tt

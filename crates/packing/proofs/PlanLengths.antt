@@ -23,8 +23,8 @@ use Rattle.laying.specs.Relaid.{left_behind}
 use Rattle.laying.specs.Fits.{reach_behind, FitsFrom, AreInSlots, IsFitting}
 use Rattle.laying.proofs.FitLaws.{IsAsked, Asks, asked-area, asked-bytes}
 use Rattle.packing.proofs.BestLaws.{asks-behind}
-use Rattle.packed_lengths.specs.Fewest.{lead_ins, HasNoMore}
-use Rattle.packed_lengths.proofs.FileLengths.{size_of}
+use Rattle.packing.specs.Fewest.{lead_ins, HasNoMore}
+use Rattle.packing.proofs.FileLengths.{size_of}
 
 -- ---- where lead-ins are
 
