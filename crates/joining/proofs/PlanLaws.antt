@@ -7,7 +7,7 @@ use Rattle.frame_header.specs.Fields.{ClassFields}
 use Rattle.frame_header.specs.Limits.{most_placed}
 use Rattle.slot_plan.specs.declared.needs.Need.{Need}
 use Rattle.slot_plan.specs.declared.needs.Placed.{Placed}
-use Rattle.slot_plan.specs.ThePlan.{the_plan}
+use Rattle.slot_plan.specs.LeastPlan.{least_plan}
 use Rattle.slot_plan.specs.Parts.{parts_of, window_in}
 use Rattle.slot_plan.specs.Plans.{IsPlan}
 use Rattle.part_needs.specs.Needs.{Asked, need_of, needs_of, places_from, asked_of}
@@ -19,7 +19,7 @@ use Rattle.sync_survey.specs.declared.rows.Row.{Row}
 use Rattle.sync_survey.specs.Faults.{SurveyFields}
 use Rattle.commands.specs.One.{most_frames}
 use Rattle.joining.specs.Inputs.{class_in, frames_of, rows_of, AreAlike, CanBeJoined}
-use Rattle.joining.specs.Laying.{window_for, the_plan_of, IsPlanOf}
+use Rattle.joining.specs.Laying.{window_for, least_plan_of, IsPlanOf}
 
 -- ---- how many frames and places
 
@@ -84,15 +84,15 @@ module _ (ss : List SurveyFields) (can : CanBeJoined ss) where
   window-is : window_in asked.needs ≡ window
   window-is = all-fit.window ∙ ap window_for (sym can.first)
 
-  one-plan : (placed : List Placed) → IsPlan window own_choice parts placed ↔ (placed ≡ the_plan window own_choice parts)
+  one-plan : (placed : List Placed) → IsPlan window own_choice parts placed ↔ (placed ≡ least_plan window own_choice parts)
   one-plan placed = rw can.first (parts-plan can.class own_choice (rows_of ss) placed all-fit all-fit.kept)
 
-  pub the-plan : IsPlan window own_choice parts (the_plan window own_choice parts)
+  pub the-plan : IsPlan window own_choice parts (least_plan window own_choice parts)
   the-plan = (one-plan _).1 refl
 
   -- what the planner answers
   pub plan-is : (placed : List Placed) → IsPlan (window_in asked.needs) own_choice (parts_of asked.needs asked.places) placed → IsPlanOf ss placed
-  unfolding the_plan_of
+  unfolding least_plan_of
   plan-is placed is =
       let ours : IsPlan window own_choice parts placed = rw can.first (asked-plans can.class own_choice (rows_of ss) placed all-fit is) in
       record { plan = (one-plan placed).0 ours; fits = plans-fit window own_choice (rows_of ss) placed ours }
@@ -103,6 +103,6 @@ module _ (ss : List SurveyFields) (can : CanBeJoined ss) where
   pub places-few : length asked.places ≤ 64
   places-few = omega (arith, places-length 0 (rows_of ss), length-map ss (λ (s : SurveyFields). s.frames), can.few)
 
-  pub plan-few : length (the_plan_of ss) ≤ most_placed
-  unfolding the_plan_of
+  pub plan-few : length (least_plan_of ss) ≤ most_placed
+  unfolding least_plan_of
   plan-few = omega (arith, plan-length window own_choice parts, ap length (needs-flat (rows_of ss)), length-map (rows_of ss) (map need_of), length-map ss (λ (s : SurveyFields). s.frames), needs-length ss, can.few, can.frames)

@@ -13,7 +13,7 @@ use Rattle.frame_header.specs.Tables.{window_of}
 use Rattle.slot_plan.specs.declared.needs.Need.{Need}
 use Rattle.slot_plan.specs.declared.needs.Placed.{Placed}
 use Rattle.slot_plan.specs.Plans.{IsPlan}
-use Rattle.slot_plan.specs.ThePlan.{the_plan}
+use Rattle.slot_plan.specs.LeastPlan.{least_plan}
 use Rattle.slot_plan.proofs.AreaLaws.{only_one}
 use Rattle.part_needs.specs.Needs.{need_of}
 use Rattle.part_needs.specs.Fit.{own_choice}
@@ -37,7 +37,7 @@ use Rattle.commands.specs.One.{most_frames, IsMaking, first_input}
 use Rattle.commands.proofs.MakeLaws.{no_clash, other_name}
 use Rattle.joining.specs.Join.{whole_part, plan_of, joined_frames, joined_from, joined_file, joined_stream, join_refuses, join_task, join_command}
 use Rattle.joining.specs.Inputs.{IsOfJoin, AreInputs, rows_of, AreAlike, CanBeJoined, parts_in, told_in, told_parts}
-use Rattle.joining.specs.Laying.{the_plan_of, IsJoinedInfo, IsSource, AreSources}
+use Rattle.joining.specs.Laying.{least_plan_of, IsJoinedInfo, IsSource, AreSources}
 use Rattle.joining.proofs.InputLaws.{parts-all}
 use Rattle.joining.proofs.PlanLaws.{alike-first, the-plan}
 
@@ -118,9 +118,9 @@ module _ (output : List ℕ) (f : Contents) (name : List ℕ) (names : List (Lis
   abbrev file : List ℕ
   file = unwrap_or (f name) []
 
-  told-plan : plan_of s.class parts ≡ the_plan_of (s ∷ ss)
-  unfolding the_plan_of
-  told-plan = ap (the_plan (window_of s.class.version) own_choice) (parts-rows s.class output f (name ∷ names) (s ∷ ss) are)
+  told-plan : plan_of s.class parts ≡ least_plan_of (s ∷ ss)
+  unfolding least_plan_of
+  told-plan = ap (least_plan (window_of s.class.version) own_choice) (parts-rows s.class output f (name ∷ names) (s ∷ ss) are)
 
   is-plan : IsPlan (window_of s.class.version) own_choice (map needs_in parts) (plan_of s.class parts)
   is-plan = rw (parts-rows s.class output f (name ∷ names) (s ∷ ss) are) (the-plan (s ∷ ss) can)
@@ -151,7 +151,7 @@ module _ (output : List ℕ) (f : Contents) (name : List ℕ) (names : List (Lis
       (files-hold s.class own_choice parts (plan_of s.class parts) (omega arith) are-parts own_slots is-plan (front_blocks file s) found.0.header (plain_info s.class (joined_frames s.class parts)) [] (blocks-kept file s has).0 row.known row.class_is sizes tt)
 
   -- the blocks, the Info frame and all frames are the file
-  joined-told : (placed : List Placed) (info : List ℕ) → placed ≡ the_plan_of (s ∷ ss) → IsJoinedInfo (s ∷ ss) placed info → (concat (front_blocks file s) ++ info) ++ frame_bytes (relaid (flat_map frames_in parts) placed) ≡ joined_file parts
+  joined-told : (placed : List Placed) (info : List ℕ) → placed ≡ least_plan_of (s ∷ ss) → IsJoinedInfo (s ∷ ss) placed info → (concat (front_blocks file s) ++ info) ++ frame_bytes (relaid (flat_map frames_in parts) placed) ≡ joined_file parts
   unfolding laid_file
   joined-told placed info plan is =
       let same : placed ≡ plan_of s.class parts = plan ∙ sym told-plan in
@@ -164,7 +164,7 @@ module _ (output : List ℕ) (f : Contents) (name : List ℕ) (names : List (Lis
       ∙ sym joined-is
 
 told-whole : (output : List ℕ) (files mid : Files) (name file : List ℕ) (names : List (List ℕ)) (s : SurveyFields) (ss : List SurveyFields) (placed : List Placed) (info : List ℕ) → CanBeJoined (s ∷ ss) → AreSources s.class output files (name ∷ names) (s ∷ ss)
-    → placed ≡ the_plan_of (s ∷ ss) → IsJoinedInfo (s ∷ ss) placed info → OnlyTouches (output ∷ []) files mid → Holds files name file
+    → placed ≡ least_plan_of (s ∷ ss) → IsJoinedInfo (s ∷ ss) placed info → OnlyTouches (output ∷ []) files mid → Holds files name file
     → (concat (front_blocks file s) ++ info) ++ frame_bytes (relaid (flat_map frames_in (told_parts mid (name ∷ names) (s ∷ ss))) placed) ≡ joined_file (told_parts files (name ∷ names) (s ∷ ss))
 told-whole output (Untold touched) mid name file names s ss placed info can are plan is only holds = absurd holds
 told-whole output (Told f) mid name file names s ss placed info can are plan is only holds =
@@ -172,7 +172,7 @@ told-whole output (Told f) mid name file names s ss placed info can are plan is 
 
 -- the same by the lists of the code
 pub whole-is : (output : List ℕ) (files mid : Files) {name : List ℕ} {names later : List (List ℕ)} {s : SurveyFields} {ss behind : List SurveyFields} (placed : List Placed) (info : List ℕ) → names ≡ name ∷ later → ss ≡ s ∷ behind → CanBeJoined ss → AreSources s.class output files names ss
-    → placed ≡ the_plan_of ss → IsJoinedInfo ss placed info → OnlyTouches (output ∷ []) files mid → (file : List ℕ) → Holds files name file
+    → placed ≡ least_plan_of ss → IsJoinedInfo ss placed info → OnlyTouches (output ∷ []) files mid → (file : List ℕ) → Holds files name file
     → (concat (front_blocks file s) ++ info) ++ frame_bytes (relaid (flat_map frames_in (told_parts mid names ss)) placed) ≡ joined_file (told_parts files names ss)
 whole-is output files mid {name} {names} {later} {s} {ss} {behind} placed info names-are ss-are can are plan is only file holds =
     rw (names-are, ss-are) (told-whole output files mid name file later s behind placed info (rw ss-are at can) (rw (names-are, ss-are) at are) (rw ss-are at plan) (rw ss-are at is) only holds)

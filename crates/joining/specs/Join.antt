@@ -4,7 +4,7 @@ use Rattle.outside.specs.Files.{Contents}
 use Rattle.frame_header.specs.Fields.{ClassFields, same_class}
 use Rattle.frame_header.specs.Tables.{window_of}
 use Rattle.slot_plan.specs.declared.needs.Placed.{Placed}
-use Rattle.slot_plan.specs.ThePlan.{the_plan}
+use Rattle.slot_plan.specs.LeastPlan.{least_plan}
 use Rattle.part_needs.specs.Fit.{own_choice}
 use Rattle.frame_writer.specs.Frames.{Frame}
 use Rattle.laid_files.specs.LaidFiles.{laid_file}
@@ -57,9 +57,9 @@ parts_of files names = parts_from 0 None most_frames files names
 
 -- ---- the file of them
 
--- the slots of their plan, with the lead-in that each part has alone
+-- the slots of their plan: of all lists of their own slots the first for which there is a layout, with the lead-in that each part has alone
 abbrev pub plan_of : ClassFields → List Part → List Placed
-plan_of class parts = the_plan (window_of class.version) own_choice (map needs_in parts)
+plan_of class parts = least_plan (window_of class.version) own_choice (map needs_in parts)
 
 -- all frames with all main data, in these slots
 abbrev pub joined_frames : ClassFields → List Part → List Frame

@@ -7,7 +7,7 @@ use Rattle.frame_header.specs.Fields.{ClassFields}
 use Rattle.frame_header.specs.Tables.{window_of}
 use Rattle.info_header.specs.InfoFrame.{info_frame}
 use Rattle.slot_plan.specs.declared.needs.Placed.{Placed}
-use Rattle.slot_plan.specs.ThePlan.{the_plan}
+use Rattle.slot_plan.specs.LeastPlan.{least_plan}
 use Rattle.slot_plan.specs.Plans.{entries}
 use Rattle.part_needs.specs.Needs.{need_of, needs_of}
 use Rattle.part_needs.specs.Fit.{own_choice}
@@ -36,8 +36,8 @@ window_for None = 0
 window_for (Some class) = window_of class.version
 
 -- the slots of the plan of all frames of these
-unfoldable pub the_plan_of : List SurveyFields → List Placed
-the_plan_of ss = the_plan (window_for (class_in ss)) own_choice (map (map need_of) (rows_of ss))
+unfoldable pub least_plan_of : List SurveyFields → List Placed
+least_plan_of ss = least_plan (window_for (class_in ss)) own_choice (map (map need_of) (rows_of ss))
 
 -- it can be written frame by frame
 abbrev pub FitsAll : List SurveyFields → List Placed → Type 0
@@ -51,7 +51,7 @@ IsJoinedInfo ss placed bytes =
 
 -- this is the plan, and it can be written
 pub record IsPlanOf (ss : List SurveyFields) (placed : List Placed) : Type 0 where
-  pub plan : placed ≡ the_plan_of ss
+  pub plan : placed ≡ least_plan_of ss
   pub fits : FitsAll ss placed
 
 -- the inputs can be joined, this is their plan, with the Info frame before it, and the buffers are for frames of their class

@@ -16,4 +16,4 @@ pub plan-requires-clause-few : goal.plan-requires-clause-few
 plan-requires-clause-few c = omega (arith, places-few _ c.requires, ap (λ (a : Asked). length a.places) c.in_ok-parts.ensures)
 
 pub returns : goal.returns
-returns c = IfOk-weaker c.plan.result _ _ (λ plan is. plan-is _ c.requires (entries plan) is) (rw c.in_ok-parts.ensures at c.plan.ensures)
+returns c = IfOk-weaker c.plan.result _ _ (λ plan is. plan-is _ c.requires (entries plan) is) (rw c.in_ok-parts.ensures at c.plan.ensures.plan)
