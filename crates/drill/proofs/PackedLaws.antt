@@ -18,7 +18,7 @@ use Rattle.sync_survey.proofs.SurveyedFiles.{survey_of-parts}
 use Rattle.sync_survey.proofs.SurveyParts.{surveyed-parts, surveyed-stream, stream-length}
 use Rattle.slot_plan.specs.declared.needs.Need.{Need}
 use Rattle.slot_plan.specs.declared.needs.Placed.{Placed}
-use Rattle.slot_plan.specs.ThePlan.{the_plan}
+use Rattle.slot_plan.specs.LeastPlan.{least_plan}
 use Rattle.slot_plan.specs.Plans.{IsPlan}
 use Rattle.part_needs.specs.Needs.{need_of}
 use Rattle.part_needs.specs.Fit.{any_choice}
@@ -140,11 +140,11 @@ module _ (seed count : ℕ) (some : 0 < count) (few : count ≤ 20000) where
   rows-whole = range-whole told.frames
 
   plan-same : plan_of all told ≡ packed_plan seed count
-  plan-same = ap (λ (rows : List Row). the_plan (window_of drill_header.version) any_choice (map need_of rows ∷ [])) rows-whole
+  plan-same = ap (λ (rows : List Row). least_plan (window_of drill_header.version) any_choice (map need_of rows ∷ [])) rows-whole
 
   is-plan : IsPlan (window_of drill_header.version) any_choice (drill_needs seed count ∷ []) (packed_plan seed count)
   is-plan =
-      subst (λ (rows : List Row). IsPlan (window_of drill_header.version) any_choice (map need_of rows ∷ []) (the_plan (window_of drill_header.version) any_choice (map need_of rows ∷ []))) rows-whole
+      subst (λ (rows : List Row). IsPlan (window_of drill_header.version) any_choice (map need_of rows ∷ []) (least_plan (window_of drill_header.version) any_choice (map need_of rows ∷ []))) rows-whole
       (the-plan all told placed right.some right.within)
 
   pub none-led : All (λ p. p.lead_in ≡ false) (packed_plan seed count)

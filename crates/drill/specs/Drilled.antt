@@ -2,7 +2,7 @@
 use Rattle.std.specs.Prelude.{ℕ, List, [], ◌∷◌, length, filter, Some, Result, Ok, Err, false}
 use Rattle.frame_header.specs.Tables.{window_of}
 use Rattle.slot_plan.specs.declared.needs.Placed.{Placed}
-use Rattle.slot_plan.specs.ThePlan.{the_plan}
+use Rattle.slot_plan.specs.LeastPlan.{least_plan}
 use Rattle.part_needs.specs.Fit.{any_choice}
 use Rattle.commands.specs.declared.fault.EditFault.{EditFault}
 use Rattle.commands.specs.declared.fault.EditFault.TheVariants.{Sent as NotSent, Memory}
@@ -27,9 +27,9 @@ file_in (Err fault) = []
 unfoldable pub packed_file : ℕ → ℕ → List ℕ
 packed_file seed count = file_in (packing_of seed count)
 
--- the slots of its frames
+-- the slots of its frames: of all lists the first, in the order of areas, for which there is a layout
 abbrev pub packed_plan : ℕ → ℕ → List Placed
-packed_plan seed count = the_plan (window_of drill_header.version) any_choice (drill_needs seed count ∷ [])
+packed_plan seed count = least_plan (window_of drill_header.version) any_choice (drill_needs seed count ∷ [])
 
 -- the lead-ins of a plan
 abbrev pub lead_ins_in : List Placed → ℕ
