@@ -6,7 +6,7 @@ use Rattle.frame_header.specs.Fields.{ClassFields}
 use Rattle.frame_header.specs.Tables.{window_of}
 use Rattle.slot_plan.specs.declared.needs.Need.{Need}
 use Rattle.slot_plan.specs.Plans.{IsPlan}
-use Rattle.slot_plan.specs.ThePlan.{the_plan}
+use Rattle.slot_plan.specs.LeastPlan.{least_plan}
 use Rattle.part_needs.specs.Needs.{need_of, asked_of}
 use Rattle.part_needs.specs.Fit.{own_choice, IsPartOf, AreFit}
 use Rattle.part_needs.proofs.PartsLaws.{parts-fit, parts-plan}
@@ -38,11 +38,11 @@ module _ (first : Part) (parts : List Part) (are : AreParts first.survey.class (
   all_fit : AreFit class (asked_of (map rows_in all))
   all_fit = parts-fit class (map rows_in all) (omega (arith, length-map all rows_in)) (rows-each class all are)
 
-  one_plan : IsPlan (window_of class.version) own_choice (map (map need_of) (map rows_in all)) (the_plan (window_of class.version) own_choice (map (map need_of) (map rows_in all)))
+  one_plan : IsPlan (window_of class.version) own_choice (map (map need_of) (map rows_in all)) (least_plan (window_of class.version) own_choice (map (map need_of) (map rows_in all)))
   one_plan = (parts-plan class own_choice (map rows_in all) _ all_fit all_fit.kept).1 refl
 
   pub join-plan : IsPlan (window_of class.version) own_choice (map needs_in all) (plan_of class all)
-  join-plan = subst (λ (parts : List (List Need)). IsPlan (window_of class.version) own_choice parts (the_plan (window_of class.version) own_choice parts)) (needs-each all) one_plan
+  join-plan = subst (λ (parts : List (List Need)). IsPlan (window_of class.version) own_choice parts (least_plan (window_of class.version) own_choice parts)) (needs-each all) one_plan
 
   pub join-exact : IsExactly (map stream_in all) (joined_stream all)
   unfolding joined_stream

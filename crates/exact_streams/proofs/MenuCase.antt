@@ -10,8 +10,8 @@ use Rattle.slot_plan.specs.Parts.{Item, item_of, AreOfClass}
 use Rattle.slot_plan.specs.Plans.{AreFor}
 use Rattle.part_needs.specs.Needs.{need_of}
 use Rattle.rate_plan.specs.Menus.{from_menu, items_from, IsMenuPlan}
-use Rattle.rate_plan.specs.MenuPlan.{menu_plan}
-use Rattle.rate_plan.proofs.OneMenuPlan.{menu_plan-is}
+use Rattle.rate_plan.specs.LeastMenuPlan.{least_menu_plan}
+use Rattle.rate_plan.proofs.LeastMenuPlan.{least_menu_plan-is}
 use Rattle.sync_survey.specs.MainData.{StreamFrame}
 use Rattle.sync_survey.proofs.PlacedRows.{surveyed-placed}
 use Rattle.sync_survey.proofs.SurveyedFiles.{survey_of-parts}
@@ -36,10 +36,10 @@ rates-menu : (rates : Rates) (class : ClassFields) (needs : List Need) (placed :
     → IsMenuPlan (window_of class.version) (menu_in rates class) needs placed
 rates-menu rates class needs placed sound same some planned =
     let window = window_of class.version in
-    let made = then_ok (unless (no_rate rates class) (menu_in rates class)) (λ menu. fitted (menu_plan window menu needs)) placed planned in
+    let made = then_ok (unless (no_rate rates class) (menu_in rates class)) (λ menu. fitted (least_menu_plan window menu needs)) placed planned in
     let ok = unless_ok (no_rate rates class) (menu_in rates class) made.0 made.1 in
-    let is : menu_plan window (menu_in rates class) needs ≡ Ok placed = fitted-ok (menu_plan window (menu_in rates class) needs) placed (ap (λ menu. fitted (menu_plan window menu needs)) ok.1 ∙ made.2) in
-    ((menu_plan-is window class (menu_in rates class) needs same some (menu-ascends rates class sound) (menu-some rates class ok.0)).0 placed).1 is
+    let is : least_menu_plan window (menu_in rates class) needs ≡ Ok placed = fitted-ok (least_menu_plan window (menu_in rates class) needs) placed (ap (λ menu. fitted (least_menu_plan window menu needs)) ok.1 ∙ made.2) in
+    ((least_menu_plan-is window class (menu_in rates class) needs same some (menu-ascends rates class sound) (menu-some rates class ok.0)).0 placed).1 is
 
 -- ---- its stream
 
