@@ -9,3 +9,4 @@ pub mod PackLaws
 pub mod JoinLaws
 pub mod SalvageLaws
 pub mod LegalLaws
+pub mod UnfitLaws

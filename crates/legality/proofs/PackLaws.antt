@@ -13,8 +13,8 @@ use Rattle.slot_plan.specs.Plans.{areas_in}
 use Rattle.part_needs.specs.Needs.{need_of}
 use Rattle.part_needs.specs.Fit.{IsPlaced}
 use Rattle.rate_plan.specs.Menus.{items_from, CanBeLaidFrom, IsMenuPlan, IsUnfit}
-use Rattle.rate_plan.specs.MenuPlan.{menu_plan}
-use Rattle.rate_plan.proofs.OneMenuPlan.{menu_plan-is}
+use Rattle.rate_plan.specs.LeastMenuPlan.{least_menu_plan}
+use Rattle.rate_plan.proofs.LeastMenuPlan.{least_menu_plan-is}
 use Rattle.laying.proofs.PlacesLaws.{range-whole}
 use Rattle.laying.specs.Written.{head_info}
 use Rattle.sync_survey.specs.Faults.{SurveyFields}
@@ -22,7 +22,8 @@ use Rattle.sync_survey.specs.Survey.{survey_of}
 use Rattle.sync_survey.proofs.PlacedRows.{surveyed-placed}
 use Rattle.sync_survey.proofs.SurveyedFiles.{survey_of-parts}
 use Rattle.commands.specs.declared.fault.EditFault.{EditFault}
-use Rattle.commands.specs.declared.fault.Refusal.TheVariants.{NoRate}
+use Rattle.commands.specs.declared.fault.EditFault.TheVariants.{Refused}
+use Rattle.commands.specs.declared.fault.Refusal.TheVariants.{NoRate, Unfit}
 use Rattle.commands.specs.One.{most_frames}
 use Rattle.commands.specs.Refusing.{unless, then_made}
 use Rattle.commands.proofs.RefusingLaws.{then_ok, unless_ok}
@@ -37,7 +38,7 @@ use Rattle.packing.specs.Rates.{named, is_rate, menu_in, no_rate, fitted, rates_
 use Rattle.packing.specs.Rules.{best_planning}
 use Rattle.packing.proofs.MenuLaws.{menu-ascends, menu-some}
 use Rattle.packing.proofs.PlanLaws.{rows-some, rows-same, rows-sound, never-unfit, plan-is, fitted-ok}
-use Rattle.legality.specs.Choices.{IsRate, HasRoom}
+use Rattle.legality.specs.Choices.{IsRate, HasRoom, IsFirstUnfit}
 use Rattle.legality.proofs.InputLaws.{some-frames}
 use Rattle.legality.proofs.SplitLaws.{within-ok}
 
@@ -67,7 +68,7 @@ kept-some p x is (y ∷ ys) (suc k) within same = at (p y) (kept-some p x is ys 
     at true some = omega arith
     at false some = some
 
-no-rate_none : (rates : Rates) (class : ClassFields) → no_rate rates class ≡ None → IsRate (named rates) class
+pub no-rate_none : (rates : Rates) (class : ClassFields) → no_rate rates class ≡ None → IsRate (named rates) class
 no-rate_none rates class none = at (is_rate (named rates) class) refl none
   where
     found : is_rate (named rates) class ≡ true → IsRate (named rates) class
@@ -79,7 +80,7 @@ no-rate_none rates class none = at (is_rate (named rates) class) refl none
     at true is e = found is
     at false is e = absurd cc
 
-rate-none : (rates : Rates) (class : ClassFields) → IsRate (named rates) class → no_rate rates class ≡ None
+pub rate-none : (rates : Rates) (class : ClassFields) → IsRate (named rates) class → no_rate rates class ≡ None
 rate-none rates class is =
     ap (λ b. cond b None (Some (NoRate (named rates))))
     (lt-ltb 0 (length (menu_in (Only (named rates)) class))
@@ -152,34 +153,34 @@ module _ (file : List ℕ) (s : SurveyFields) (is : survey_of file most_frames �
     abbrev window : ℕ
     window = window_of s.class.version
 
-    menu-law : ((placed : List Placed) → IsMenuPlan window menu needs placed ↔ (menu_plan window menu needs ≡ Ok placed)) × ((i : ℕ) → IsUnfit window menu needs i ↔ (menu_plan window menu needs ≡ Err i))
+    menu-law : ((placed : List Placed) → IsMenuPlan window menu needs placed ↔ (least_menu_plan window menu needs ≡ Ok placed)) × ((i : ℕ) → IsUnfit window menu needs i ↔ (least_menu_plan window menu needs ≡ Err i))
     menu-law =
-        menu_plan-is window s.class menu needs (rows-same chosen s placed some (omega arith)) needs-some (menu-ascends rates s.class (rows-sound chosen s placed some (omega arith))) (menu-some rates s.class none)
+        least_menu_plan-is window s.class menu needs (rows-same chosen s placed some (omega arith)) needs-some (menu-ascends rates s.class (rows-sound chosen s placed some (omega arith))) (menu-some rates s.class none)
 
     -- where no frame is unfit
-    fit-made : ((i : ℕ) → menu_plan window menu needs ≡ Err i → ⊥) → (bytes : List ℕ) × (packing (rates_plan rates) file s ≡ Ok bytes)
-    fit-made fits = at (menu_plan window menu needs) refl
+    fit-made : ((i : ℕ) → least_menu_plan window menu needs ≡ Err i → ⊥) → (bytes : List ℕ) × (packing (rates_plan rates) file s ≡ Ok bytes)
+    fit-made fits = at (least_menu_plan window menu needs) refl
       where
-        at : (r : Result (List Placed) ℕ) → menu_plan window menu needs ≡ r → (bytes : List ℕ) × (packing (rates_plan rates) file s ≡ Ok bytes)
+        at : (r : Result (List Placed) ℕ) → least_menu_plan window menu needs ≡ r → (bytes : List ℕ) × (packing (rates_plan rates) file s ≡ Ok bytes)
         at (Ok found) e = planned-made (rates_plan rates) found (plan-is chosen s placed some (omega arith) rates found none e)
         at (Err i) e = absurd (fits i e)
 
     room-made : (lead_in : Bool) → CanBeLaidFrom window lead_in menu (map need_of s.frames) → (bytes : List ℕ) × (packing (rates_plan rates) file s ≡ Ok bytes)
     room-made lead_in can = fit-made (λ i e. ((menu-law.1 i).1 e).never lead_in (subst (CanBeLaidFrom window lead_in menu) (sym needs-all) can))
 
-    plan-room : (found : List Placed) → menu_plan window menu needs ≡ Ok found → (lead_in : Bool) × CanBeLaidFrom window lead_in menu (map need_of s.frames)
+    plan-room : (found : List Placed) → least_menu_plan window menu needs ≡ Ok found → (lead_in : Bool) × CanBeLaidFrom window lead_in menu (map need_of s.frames)
     plan-room found e =
         let room = laid window menu needs found ((menu-law.0 found).1 e) in
         (room.0, subst (CanBeLaidFrom window room.0 menu) needs-all room.1)
 
   rates-parts : (rates : Rates) (bytes : List ℕ) → packing (rates_plan rates) file s ≡ Ok bytes
-      → (none : no_rate rates s.class ≡ None) × (found : List Placed) × (menu_plan (window_of s.class.version) (menu_in rates s.class) needs ≡ Ok found)
+      → (none : no_rate rates s.class ≡ None) × (found : List Placed) × (least_menu_plan (window_of s.class.version) (menu_in rates s.class) needs ≡ Ok found)
   rates-parts rates bytes made =
       let window = window_of s.class.version in
       let planned = made-planned (rates_plan rates) bytes made in
-      let one = then_ok (unless (no_rate rates s.class) (menu_in rates s.class)) (λ menu. fitted (menu_plan window menu needs)) planned.0 planned.1 in
+      let one = then_ok (unless (no_rate rates s.class) (menu_in rates s.class)) (λ menu. fitted (least_menu_plan window menu needs)) planned.0 planned.1 in
       let ok = unless_ok (no_rate rates s.class) (menu_in rates s.class) one.0 one.1 in
-      (ok.0, planned.0, fitted-ok (menu_plan window (menu_in rates s.class) needs) planned.0 (ap (λ menu. fitted (menu_plan window menu needs)) ok.1 ∙ one.2))
+      (ok.0, planned.0, fitted-ok (least_menu_plan window (menu_in rates s.class) needs) planned.0 (ap (λ menu. fitted (least_menu_plan window menu needs)) ok.1 ∙ one.2))
 
   pub constant-legal : (rate : ℕ) (bytes : List ℕ) → packing (rates_plan (Only rate)) file s ≡ Ok bytes → IsRate rate s.class × HasRoom rate s
   constant-legal rate bytes made =
@@ -196,3 +197,39 @@ module _ (file : List ℕ) (s : SurveyFields) (is : survey_of file most_frames �
   legal-floor rate legal =
       let none = rate-none (From rate) s.class legal in
       fit-made (From rate) none (λ i e. never-unfit chosen s placed some (omega arith) rate i none e)
+
+  -- ---- no room in slots of one bit rate
+
+  pub unfit-made : (rate i : ℕ) → no_rate (Only rate) s.class ≡ None → IsFirstUnfit rate s i → packing (rates_plan (Only rate)) file s ≡ Err (Refused (Unfit i))
+  unfolding packed
+  unfit-made rate i none unfit =
+      let window = window_of s.class.version in
+      let is_unfit : IsUnfit window (menu_in (Only rate) s.class) needs i = subst (λ l. IsUnfit window (menu_in (Only rate) s.class) l i) (sym needs-all) unfit in
+      let least = ((menu-law (Only rate) none).1 i).0 is_unfit in
+      ap (λ (r : Result Chosen EditFault). then_made (then_made r (laid_as (rates_plan (Only rate)) s)) (λ laid. Ok (file_laid laid file s))) (choose-all Least)
+      ∙ ap (λ o. then_made (then_made (then_made (unless o (menu_in (Only rate) s.class)) (λ menu. fitted (least_menu_plan window menu needs))) (λ placed. Ok (laid_by chosen placed))) (λ laid. Ok (file_laid laid file s))) none
+      ∙ ap (λ r. then_made (then_made (fitted r) (λ placed. Ok (laid_by chosen placed))) (λ laid. Ok (file_laid laid file s))) least
+
+  plan-unfit : (rate i : ℕ) → rates_plan (Only rate) s.class needs ≡ Err (Refused (Unfit i)) → (none : no_rate (Only rate) s.class ≡ None) × (least_menu_plan (window_of s.class.version) (menu_in (Only rate) s.class) needs ≡ Err i)
+  plan-unfit rate i e = at (is_rate rate s.class) refl e
+    where
+      menu : (r : Result (List Placed) ℕ) → fitted r ≡ Err (Refused (Unfit i)) → r ≡ Err i
+      menu (Ok placed) e = absurd cc
+      menu (Err k) e = cc
+
+      at : (b : Bool) → is_rate rate s.class ≡ b → then_made (unless (cond b None (Some (NoRate rate))) (menu_in (Only rate) s.class)) (λ menu. fitted (least_menu_plan (window_of s.class.version) menu needs)) ≡ Err (Refused (Unfit i))
+          → (none : no_rate (Only rate) s.class ≡ None) × (least_menu_plan (window_of s.class.version) (menu_in (Only rate) s.class) needs ≡ Err i)
+      at true is e = (ap (λ b. cond b None (Some (NoRate rate))) is, menu (least_menu_plan (window_of s.class.version) (menu_in (Only rate) s.class) needs) e)
+      at false is e = absurd cc
+
+  laid-unfit : (i : ℕ) (r : Result (List Placed) EditFault) → then_made (then_made r (λ placed. Ok (laid_by chosen placed))) (λ laid. Ok (file_laid laid file s)) ≡ Err (Refused (Unfit i)) → r ≡ Err (Refused (Unfit i))
+  laid-unfit i (Ok placed) e = absurd cc
+  laid-unfit i (Err fault) e = cc
+
+  pub made-unfit : (rate i : ℕ) → packing (rates_plan (Only rate)) file s ≡ Err (Refused (Unfit i)) → IsRate rate s.class × IsFirstUnfit rate s i
+  unfolding packed
+  made-unfit rate i e =
+      let chose = sym (ap (λ (r : Result Chosen EditFault). then_made (then_made r (laid_as (rates_plan (Only rate)) s)) (λ laid. Ok (file_laid laid file s))) (choose-all Least)) ∙ e in
+      let plan = plan-unfit rate i (laid-unfit i (rates_plan (Only rate) s.class needs) chose) in
+      let unfit = ((menu-law (Only rate) plan.0).1 i).1 plan.1 in
+      (no-rate_none (Only rate) s.class plan.0, subst (λ l. IsUnfit (window_of s.class.version) (menu_in (Only rate) s.class) l i) needs-all unfit)

@@ -16,7 +16,7 @@ use Rattle.cue_sheet.specs.Cues.{cue_of}
 use Rattle.fade_plan.specs.Sheets.{EnvelopePoint, envelope_of}
 use Rattle.fade_plan.specs.Curves.{frame_of, curve_point, steps_at, steps_back}
 use Rattle.part_needs.specs.Needs.{need_of}
-use Rattle.rate_plan.specs.Menus.{CanBeLaidFrom}
+use Rattle.rate_plan.specs.Menus.{CanBeLaidFrom, IsUnfit}
 use Rattle.outside.specs.Files.{Contents}
 use Rattle.sync_survey.specs.declared.rows.Row.{Row}
 use Rattle.sync_survey.specs.Faults.{SurveyFields, longest_file}
@@ -139,6 +139,10 @@ IsRate rate class = (slot : SlotFields) × Contains all_slots slot × (rate_of c
 -- (main_data_begin, 2.4.2.7).
 abbrev pub HasRoom : ℕ → SurveyFields → Type 0
 HasRoom rate s = (lead_in : Bool) × CanBeLaidFrom (window_of s.class.version) lead_in (menu_in (Only rate) s.class) (map need_of s.frames)
+
+-- No such list has room, and this is the first frame, counted from 0, up to which none has even after a lead-in.
+abbrev pub IsFirstUnfit : ℕ → SurveyFields → ℕ → Type 0
+IsFirstUnfit rate s i = IsUnfit (window_of s.class.version) (menu_in (Only rate) s.class) (map need_of s.frames) i
 
 -- with the least slots, with the fewest bytes, and with all slots from a bit rate on there is always room
 abbrev pub IsLegalPack : PackMode → SurveyFields → Type 0

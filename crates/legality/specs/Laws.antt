@@ -1,7 +1,9 @@
 -- What is legal is exactly what the commands accept.
-use Rattle.std.specs.Prelude.{◌≡◌, ◌↔◌, ℕ, Bool, List, Ok}
+use Rattle.std.specs.Prelude.{◌≡◌, ◌↔◌, ℕ, Bool, List, Ok, Err}
 use Rattle.outside.specs.Files.{Contents}
 use Rattle.cue_sheet.specs.declared.place.Place.{Place}
+use Rattle.commands.specs.declared.fault.EditFault.TheVariants.{Refused}
+use Rattle.commands.specs.declared.fault.Refusal.TheVariants.{Unfit}
 use Rattle.commands.specs.Command.{Made, Command}
 use Rattle.moved_gains.specs.declared.shift.Shift.{Shift}
 use Rattle.gain_edits.specs.Gain.{gain_command}
@@ -9,13 +11,14 @@ use Rattle.gain_edits.specs.Undo.{undo_command}
 use Rattle.fading.specs.Fade.{fade_command}
 use Rattle.frame_edits.specs.Chosen.{cut_command}
 use Rattle.pack_mode.specs.declared.mode.PackMode.{PackMode}
+use Rattle.pack_mode.specs.declared.mode.PackMode.TheVariants.{Constant}
 use Rattle.packing.specs.Modes.{pack_mode_command}
 use Rattle.listing.specs.Listing.{list_command}
 use Rattle.splitting.specs.Split.{split_at_command, split_by_command}
 use Rattle.joining.specs.Join.{join_command}
 use Rattle.salvaging.specs.Salvaged.{salvage_command}
 use Rattle.job_words.specs.Asked.{ListFile, Gain, Undo, Cut, Pack, SplitAt, SplitBy, Join, Fade, Salvage}
-use Rattle.legality.specs.Legal.{IsLegalFor}
+use Rattle.legality.specs.Legal.{IsLegalFor, IsUnfitFor}
 
 -- the command isn't refused
 abbrev pub Makes : Command → Contents → Type 0
@@ -33,3 +36,10 @@ pub record LegalIsAccepted : Type 0 where
   pub join : (files : Contents) (output : List ℕ) (inputs : List (List ℕ)) → IsLegalFor (Join output inputs) files ↔ Makes (join_command output inputs) files
   pub fade : (files : Contents) (back : Bool) (input output sheet : List ℕ) → IsLegalFor (Fade back input output sheet) files ↔ Makes (fade_command sheet back input output) files
   pub salvage : (files : Contents) (input output : List ℕ) → IsLegalFor (Salvage input output) files ↔ Makes (salvage_command input output) files
+
+-- With one bit rate alone a file is refused with `Unfit` exactly where no list of its slots has room for the main data, with the first frame up to which
+-- none has.
+abbrev pub UnfitIsRefused : Type 0
+UnfitIsRefused =
+    (files : Contents) (rate i : ℕ) (input output : List ℕ)
+    → IsUnfitFor rate input output files i ↔ ((pack_mode_command (Constant rate) input output).makes files ≡ Err (Refused (Unfit i)))

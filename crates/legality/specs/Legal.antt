@@ -1,5 +1,5 @@
 -- When a command that was asked for is legal.
-use Rattle.std.specs.Prelude.{ℕ, ◌≤◌, List, [], ◌∷◌, ◌++◌}
+use Rattle.std.specs.Prelude.{ℕ, ◌≤◌, List, [], ◌∷◌, ◌++◌, length}
 use Rattle.outside.specs.Files.{Contents}
 use Rattle.commands.specs.One.{most_frames}
 use Rattle.piece_names.specs.Names.{piece_names}
@@ -7,8 +7,8 @@ use Rattle.packing.specs.Rules.{most_best}
 use Rattle.pack_mode.specs.declared.mode.PackMode.{PackMode}
 use Rattle.pack_mode.specs.declared.mode.PackMode.TheVariants.{Least, Best, Constant, Floor}
 use Rattle.job_words.specs.Asked.{Asked, Help, Version, ListFile, Gain, Undo, Cut, Pack, SplitAt, SplitBy, Join, Drill, Fade, Salvage}
-use Rattle.legality.specs.Inputs.{AreApart, Input, AreInputs, frames_of, OfOne}
-use Rattle.legality.specs.Choices.{IsLegalGain, IsLegalUndo, IsLegalFade, IsRange, ArePieces, IsLegalSheet, IsLegalPack, AreOfOneClass, IsLegalSalvage}
+use Rattle.legality.specs.Inputs.{AreApart, Input, IsInput, AreInputs, frames_of, OfOne}
+use Rattle.legality.specs.Choices.{IsLegalGain, IsLegalUndo, IsLegalFade, IsRange, ArePieces, IsLegalSheet, IsRate, IsFirstUnfit, IsLegalPack, AreOfOneClass, IsLegalSalvage}
 
 -- ---- the files
 
@@ -89,3 +89,15 @@ pub record IsLegalFor (asked : Asked) (files : Contents) : Type 0 where
   pub are : AreInputs files (sources_of asked) inputs
   pub few : frames_of inputs ≤ most_of asked
   pub choices : AreLegal asked files inputs
+
+-- ---- a packing with one bit rate that is refused
+
+-- The input is there, no longer than allowed and well-formed, the bit rate is one of its class, and no list of its slots has room for the main data;
+-- this is the first frame up to which none has.
+pub record IsUnfitFor (rate : ℕ) (input output : List ℕ) (files : Contents) (i : ℕ) : Type 0 where
+  pub names : AreApart (input ∷ []) (output ∷ [])
+  pub read : Input
+  pub is : IsInput files input read
+  pub few : length read.survey.frames ≤ most_frames
+  pub named : IsRate rate read.survey.class
+  pub unfit : IsFirstUnfit rate read.survey i

@@ -5,4 +5,4 @@
 
 mod laws;
 
-pub use laws::legal_is_accepted;
+pub use laws::{legal_is_accepted, unfit_is_refused};
