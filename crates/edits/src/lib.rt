@@ -23,6 +23,6 @@ pub use gain_edits::{gain, gains_keep_all, opposite_gives_back, undo, undo_gives
 pub use joining::join;
 pub use listing::list;
 pub use moved_gains::{Channels, Shift, Steps, Stuck};
-pub use packing::{PackMode, floors_fit, pack_with};
+pub use packing::{PackMode, fewest_bytes, floors_fit, never_longer, pack_with};
 pub use salvaging::salvage;
 pub use splitting::{Points, split};

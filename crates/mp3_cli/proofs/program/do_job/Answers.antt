@@ -38,7 +38,7 @@ pub returns-in-Cut-clause-ends : goal.returns-in-Cut-clause-ends
 returns-in-Cut-clause-ends g c = rw c.in-Cut.is (run_ends _ (one_silent _ _) c.cut.result _ _ _ c.cut.ensures)
 
 pub returns-in-Pack-clause-ends : goal.returns-in-Pack-clause-ends
-returns-in-Pack-clause-ends g c = rw c.in-Pack.is (run_ends _ (one_silent _ _) c.pack_with.result _ _ _ c.pack_with.ensures)
+returns-in-Pack-clause-ends g c = rw c.in-Pack.is (run_ends _ (one_silent _ _) c.pack_with.result _ _ _ c.pack_with.ensures.run)
 
 pub returns-in-SplitAt-clause-ends : goal.returns-in-SplitAt-clause-ends
 returns-in-SplitAt-clause-ends g c =
@@ -64,7 +64,7 @@ pub returns-in-Undo-clause-streams : goal.returns-in-Undo-clause-streams
 returns-in-Undo-clause-streams g c = rw c.in-Undo.is c.undo.ensures.streams
 
 pub returns-in-Pack-clause-streams : goal.returns-in-Pack-clause-streams
-returns-in-Pack-clause-streams g c = rw c.in-Pack.is c.pack_with.ensures.streams
+returns-in-Pack-clause-streams g c = rw c.in-Pack.is c.pack_with.ensures.run.streams
 
 pub returns-in-SplitBy-clause-streams : goal.returns-in-SplitBy-clause-streams
 returns-in-SplitBy-clause-streams g c = rw c.in-SplitBy.is c.split-in-SplitBy.ensures.streams
