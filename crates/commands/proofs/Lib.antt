@@ -4,6 +4,8 @@ pub mod NamedLaws
 pub mod RefusingLaws
 pub mod InputLaws
 pub mod MakeLaws
+pub mod MadeLaws
 pub mod TellingLaws
 pub mod SheetLaws
+pub mod FoundSheet
 pub mod TouchLaws

@@ -1,26 +1,31 @@
--- What a command that makes one file of one input makes.
-use Rattle.std.proofs.Common.{◌≡◌, ℕ, List, [], ◌∷◌, Option, Some, None, Result, Ok, Err, refl, ◌∙◌, ap, ap₂}
+-- What a command that makes one file makes, from its answer.
+use Rattle.std.proofs.Common.{◌≡◌, ℕ, ◌<◌, List, [], ◌∷◌, length, Option, Some, None, Result, Ok, Err, refl, sym, ◌∙◌, ap, ap₂, arith}
+use Rattle.std.proofs.lemmas.List.{length-map}
 use Rattle.outside.specs.Files.{Contents}
-use Rattle.sync_survey.specs.declared.survey_fault.SurveyFault.{SurveyFault}
+use Rattle.sync_survey.specs.Walk.{head_of}
+use Rattle.sync_survey.specs.MainData.{row_of, rows_of}
 use Rattle.sync_survey.specs.Faults.{SurveyFields}
 use Rattle.sync_survey.specs.Survey.{survey_of}
+use Rattle.sync_survey.proofs.FaultsLaws.{marked-length}
+use Rattle.sync_survey.proofs.SurveyParts.{frames_from, surveyed-parts, some_frames}
+use Rattle.sync_survey.proofs.SurveyedFiles.{survey_of-parts}
 use Rattle.commands.specs.declared.fault.EditFault.{EditFault}
 use Rattle.commands.specs.Command.{Made}
-use Rattle.commands.specs.One.{most_frames, Making, made_by, made_file, made_where, Task, clash_in, unless_clash, made_result, made_of, one_command}
-use Rattle.legality.specs.Laws.{Makes}
+use Rattle.commands.specs.One.{most_frames, Making, made_where, Task, clash_in, unless_clash, made_result, made_of, one_command}
+use Rattle.commands.proofs.InputLaws.{made-survey, made_parts}
 
 -- ---- one output
 
-made_parts : (output : List ℕ) (clash : Option ℕ) (r : Result (List ℕ) EditFault) (made : Made) → made_of output (unless_clash clash r) ≡ Ok made → (clash ≡ None) × (bytes : List ℕ) × (r ≡ Ok bytes)
-made_parts output (Some place) r made e = absurd cc
-made_parts output None (Ok bytes) made e = (refl, bytes, refl)
-made_parts output None (Err fault) made e = absurd cc
+one_parts : (output : List ℕ) (clash : Option ℕ) (r : Result (List ℕ) EditFault) (made : Made) → made_of output (unless_clash clash r) ≡ Ok made → (clash ≡ None) × (bytes : List ℕ) × (r ≡ Ok bytes)
+one_parts output (Some place) r made e = absurd cc
+one_parts output None (Ok bytes) made e = (refl, bytes, refl)
+one_parts output None (Err fault) made e = absurd cc
 
-pub makes-parts : (task : Task) (output : List ℕ) (files : Contents) → Makes (one_command task output) files → (clash_in task output ≡ None) × (bytes : List ℕ) × (task.makes files ≡ Ok bytes)
+pub makes-parts : (task : Task) (output : List ℕ) (files : Contents) (made : Made) → (one_command task output).makes files ≡ Ok made → (clash_in task output ≡ None) × (bytes : List ℕ) × (task.makes files ≡ Ok bytes)
 unfolding made_result
-makes-parts task output files made = made_parts output (clash_in task output) (task.makes files) made.0 made.1
+makes-parts task output files made e = one_parts output (clash_in task output) (task.makes files) made e
 
-pub parts-make : (task : Task) (output : List ℕ) (files : Contents) (bytes : List ℕ) → clash_in task output ≡ None → task.makes files ≡ Ok bytes → Makes (one_command task output) files
+pub parts-make : (task : Task) (output : List ℕ) (files : Contents) (bytes : List ℕ) → clash_in task output ≡ None → task.makes files ≡ Ok bytes → (made : Made) × ((one_command task output).makes files ≡ Ok made)
 unfolding made_result
 parts-make task output files bytes free is =
     (record { outputs = record { name = output; bytes = bytes } ∷ []; text = [] }, ap₂ (λ (o : Option ℕ) (r : Result (List ℕ) EditFault). made_of output (unless_clash o r)) free is)
@@ -36,17 +41,23 @@ pub record IsMadeOf (make : Making) (files : Contents) (name : List ℕ) : Type 
   pub made : make file survey ≡ Ok bytes
 
 file-parts : (make : Making) (files : Contents) (name bytes : List ℕ) (o : Option (List ℕ)) → files name ≡ o → made_where make o ≡ Ok bytes → IsMadeOf make files name
-unfolding made_file
 file-parts make files name bytes None there e = absurd cc
-file-parts make files name bytes (Some file) there e = at (survey_of file most_frames) refl e
-  where
-    at : (r : Result SurveyFields SurveyFault) → survey_of file most_frames ≡ r → made_by make file r ≡ Ok bytes → IsMadeOf make files name
-    at (Err fault) surveyed e = absurd cc
-    at (Ok s) surveyed e = record { file = file; survey = s; there = there; surveyed = surveyed; bytes = bytes; made = e }
+file-parts make files name bytes (Some file) there e =
+    let parts = made_parts make file bytes e in
+    record { file = file; survey = parts.0; there = there; surveyed = parts.1; bytes = bytes; made = parts.2 }
 
 pub made-of : (make : Making) (files : Contents) (name bytes : List ℕ) → made_where make (files name) ≡ Ok bytes → IsMadeOf make files name
 made-of make files name bytes e = file-parts make files name bytes (files name) refl e
 
 pub of-made : (make : Making) (files : Contents) (name file : List ℕ) (s : SurveyFields) → files name ≡ Some file → survey_of file most_frames ≡ Ok s → made_where make (files name) ≡ make file s
-unfolding made_file
-of-made make files name file s there surveyed = ap (made_where make) there ∙ ap (made_by make file) surveyed
+of-made make files name file s there surveyed = ap (made_where make) there ∙ made-survey make file s surveyed
+
+-- ---- a surveyed file has a frame
+
+pub some-frames : (file : List ℕ) (allowed : ℕ) (s : SurveyFields) → survey_of file allowed ≡ Ok s → 0 < length s.frames
+some-frames file allowed s e =
+    let parts = surveyed-parts file allowed s (survey_of-parts file allowed s e).1 in
+    let frames = frames_from file parts.0 in
+    let head = head_of file parts.0.first in
+    let size : length s.frames ≡ length (rows_of file frames) = ap (λ (t : SurveyFields). length t.frames) (sym parts.2) ∙ marked-length head (rows_of file frames) in
+    omega (arith, size, length-map frames (row_of file), some_frames file frames _ parts.1.end)

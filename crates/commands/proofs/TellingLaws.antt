@@ -9,6 +9,10 @@ use Rattle.commands.specs.Left.{Why, Rejected, Missing, Unread, Shorter, Unwritt
 use Rattle.commands.specs.Said.{IsText}
 use Rattle.commands.specs.Telling.{with_text, telling}
 
+pub text-parts : (text : List ℕ) (r : Result Made EditFault) (made : Made) → with_text text r ≡ Ok made → (m : Made) × (r ≡ Ok m)
+text-parts text (Ok m) made e = (m, refl)
+text-parts text (Err fault) made e = absurd cc
+
 takes_text : (text : List ℕ) (r : Result Made EditFault) → TakesMemory r → TakesMemory (with_text text r)
 takes_text text (Ok made) takes = tt
 takes_text text (Err fault) takes = takes

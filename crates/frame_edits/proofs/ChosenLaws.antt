@@ -123,6 +123,11 @@ laid_late : (file : List ℕ) (s : SurveyFields) (r : Result Chosen EditFault) �
 laid_late file s (Err fault) late = late
 laid_late file s (Ok chosen) late = tt
 
+-- what it chooses, where it isn't refused
+pub with-parts : (file : List ℕ) (s : SurveyFields) (r : Result Chosen EditFault) (bytes : List ℕ) → laid_with file s r ≡ Ok bytes → (chosen : Chosen) × (r ≡ Ok chosen)
+with-parts file s (Ok chosen) bytes e = (chosen, refl)
+with-parts file s (Err fault) bytes e = absurd cc
+
 module _ (choose : Choosing) (late : (file : List ℕ) (s : SurveyFields) → IfErr (choose file s) IsLate)
     (right : (file : List ℕ) (s : SurveyFields) (chosen : Chosen) → choose file s ≡ Ok chosen → IsRight chosen s) where
   made_stream : (file : List ℕ) (s : SurveyFields) (new : List ℕ) → survey_of file most_frames ≡ Ok s → (r : Result Chosen EditFault) → choose file s ≡ r → laid_with file s r ≡ Ok new → HoldsStream new (stream_with file s r)
@@ -147,11 +152,15 @@ outside-none : (from to frames : ℕ) (b : Bool) → (nat_lt from to && nat_le t
 outside-none from to frames true is e = search rules
 outside-none from to frames false is e = absurd cc
 
+-- the chosen frames are there
+pub chosen-within : (quality : Option ℕ) (extension : List ℕ) (from to : ℕ) (slots : Slots) (frames : ℕ) (chosen : Chosen) → chosen_with quality extension from to slots frames ≡ Ok chosen → (from < to) × (to ≤ frames)
+chosen-within quality extension from to slots frames chosen e = outside-none from to frames (nat_lt from to && nat_le to frames) refl (unless_ok (outside_fault from to frames) _ chosen e).0
+
 with_right : (quality : Option ℕ) (extension : List ℕ) (from to : ℕ) (slots : Slots) (s : SurveyFields) (chosen : Chosen) → length extension ≡ 36
     → chosen_with quality extension from to slots (length s.frames) ≡ Ok chosen → IsRight chosen s
 with_right quality extension from to slots s chosen size e =
     let ok = unless_ok (outside_fault from to (length s.frames)) _ chosen e in
-    let there = outside-none from to (length s.frames) (nat_lt from to && nat_le to (length s.frames)) refl ok.0 in
+    let there = chosen-within quality extension from to slots (length s.frames) chosen e in
     subst (λ (c : Chosen). IsRight c s) ok.1 (record { some = there.0; within = there.1; extension = size })
 
 pub cut_proper : (from to : Place) (slots : Slots) → IsProperMaking (choosing (cut_choice from to slots)) (stream_chosen (cut_choice from to slots))

@@ -17,6 +17,7 @@ use Rattle.commands.specs.declared.fault.Refusal.{Refusal}
 use Rattle.commands.specs.One.{most_frames}
 use Rattle.commands.specs.Refusing.{unless, then_made}
 use Rattle.commands.specs.Sheet.{sheet_in}
+use Rattle.commands.proofs.FoundSheet.{sheet-is, is-sheet}
 use Rattle.commands.proofs.RefusingLaws.{then_ok}
 use Rattle.moved_gains.specs.declared.course.Course.TheVariants.{Along}
 use Rattle.moved_gains.specs.Course.{alike, steps_in, steps_over}
@@ -27,7 +28,6 @@ use Rattle.fading.proofs.Proper.{faded-parts}
 use Rattle.legality.specs.Inputs.{EachNext, Input}
 use Rattle.legality.specs.Choices.{CanAllMove, IsLegalFade}
 use Rattle.legality.proofs.InputLaws.{next-cons}
-use Rattle.legality.proofs.SheetLaws.{sheet-is, is-sheet}
 use Rattle.legality.proofs.GainLaws.{Agree, free-moves, moves-free}
 
 -- ---- the sheet

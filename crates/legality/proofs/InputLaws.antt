@@ -93,14 +93,6 @@ whole-survey file allowed s whole =
     })
     ∙ ap Ok parts.2
 
-pub some-frames : (file : List ℕ) (allowed : ℕ) (s : SurveyFields) → survey_of file allowed ≡ Ok s → 0 < length s.frames
-some-frames file allowed s e =
-    let parts = surveyed-parts file allowed s (survey_of-parts file allowed s e).1 in
-    let frames = frames_from file parts.0 in
-    let head = head_of file parts.0.first in
-    let size : length s.frames ≡ length (rows_of file frames) = ap (λ (t : SurveyFields). length t.frames) (sym parts.2) ∙ marked-length head (rows_of file frames) in
-    omega (arith, size, length-map frames (row_of file), some_frames file frames _ parts.1.end)
-
 -- ---- one input
 
 -- the name's file is an input without fault, and what was chosen is legal for it

@@ -7,7 +7,6 @@ use Rattle.outside.specs.Files.{Contents}
 use Rattle.sync_survey.specs.declared.survey_fault.SurveyFault.{SurveyFault}
 use Rattle.sync_survey.specs.Faults.{SurveyFields}
 use Rattle.sync_survey.specs.Survey.{survey_of}
-use Rattle.sync_survey.proofs.PlacedRows.{same_class-is}
 use Rattle.commands.specs.declared.fault.EditFault.{EditFault}
 use Rattle.commands.specs.declared.fault.EditFault.TheVariants.{Refused}
 use Rattle.commands.specs.declared.fault.Refusal.TheVariants.{Differ}
@@ -17,6 +16,7 @@ use Rattle.commands.proofs.RefusingLaws.{then_ok}
 use Rattle.joining.specs.Join.{whole_part, may_follow, part_by, part_of, parts_from, parts_of}
 use Rattle.joining.specs.Inputs.{Follows}
 use Rattle.joining.proofs.InputLaws.{follows-may}
+use Rattle.joining.proofs.PartLaws.{part-is}
 use Rattle.legality.specs.Inputs.{Input, AreInputs, frames_of}
 use Rattle.legality.specs.Choices.{AreOfOneClass}
 use Rattle.legality.proofs.InputLaws.{survey-whole, whole-survey, survey-input}
@@ -56,30 +56,6 @@ class-one [] one = tt
 class-one (input ∷ inputs) one = (tt, class-follow input.survey.class inputs (λ i p is. one (suc i) 0 p input is refl))
 
 -- ---- one input
-
-may-follows : (first : Option ClassFields) (class : ClassFields) → may_follow first class ≡ true → Follows first class
-may-follows None class may = tt
-may-follows (Some first) class may = same_class-is class first may
-
-pub record IsPart (first : Option ClassFields) (allowed : ℕ) (o : Option (List ℕ)) (part : Part) : Type 0 where
-  pub file : List ℕ
-  pub survey : SurveyFields
-  pub there : o ≡ Some file
-  pub surveyed : survey_of file allowed ≡ Ok survey
-  pub follows : Follows first survey.class
-  pub whole : whole_part file survey ≡ part
-
-part-is : (place : ℕ) (first : Option ClassFields) (allowed : ℕ) (o : Option (List ℕ)) (part : Part) → part_of place first allowed o ≡ Ok part → IsPart first allowed o part
-part-is place first allowed None part e = absurd cc
-part-is place first allowed (Some file) part e = at (survey_of file allowed) refl e
-  where
-    made : (s : SurveyFields) → survey_of file allowed ≡ Ok s → (b : Bool) → may_follow first s.class ≡ b → cond b (Ok (whole_part file s)) (Err (Refused (Differ place))) ≡ Ok part → IsPart first allowed (Some file) part
-    made s surveyed true may e = record { file = file; survey = s; there = refl; surveyed = surveyed; follows = may-follows first s.class may; whole = cc }
-    made s surveyed false may e = absurd cc
-
-    at : (r : Result SurveyFields SurveyFault) → survey_of file allowed ≡ r → part_by place first file r ≡ Ok part → IsPart first allowed (Some file) part
-    at (Err fault) surveyed e = absurd cc
-    at (Ok s) surveyed e = made s surveyed (may_follow first s.class) refl e
 
 is-part : (place : ℕ) (first : Option ClassFields) (allowed : ℕ) (o : Option (List ℕ)) (file : List ℕ) (s : SurveyFields) → o ≡ Some file → survey_of file allowed ≡ Ok s → Follows first s.class → part_of place first allowed o ≡ Ok (whole_part file s)
 is-part place first allowed o file s there surveyed follows =

@@ -12,6 +12,7 @@ use Rattle.commands.specs.Command.{Made, clash_from}
 use Rattle.commands.specs.One.{Task, one_command, most_frames, Making, made_where}
 use Rattle.commands.specs.Refusing.{then_made}
 use Rattle.commands.proofs.RefusingLaws.{then_ok}
+use Rattle.commands.proofs.MadeLaws.{makes-parts, parts-make, made-of, of-made}
 use Rattle.moved_gains.specs.declared.shift.Shift.{Shift}
 use Rattle.moved_gains.specs.Change.{changed}
 use Rattle.moved_gains.specs.Gains.{steps_of}
@@ -22,6 +23,7 @@ use Rattle.fading.specs.Fade.{fade_of, fade_change, fade_task, fade_command}
 use Rattle.frame_edits.specs.declared.chosen.Slots.{Slots}
 use Rattle.frame_edits.specs.declared.chosen.Slots.TheVariants.{Least as LeastSlots}
 use Rattle.frame_edits.specs.Chosen.{chosen_file, laid_with, choosing, chosen_task, cut_choice, all_choice, cut_refuses, slots_of, cut_command}
+use Rattle.frame_edits.proofs.ChosenLaws.{with-parts as laid-parts}
 use Rattle.joining.specs.Join.{joined_file, parts_of, join_task, join_command}
 use Rattle.laying.specs.Relaid.{Part}
 use Rattle.listing.specs.Listing.{listing, listed_by, listed_where, list_command}
@@ -34,16 +36,16 @@ use Rattle.packing.specs.Rules.{best_planning, most_best, unless_fault, limited_
 use Rattle.packing.specs.Modes.{pack_task, pack_mode_command}
 use Rattle.piece_names.specs.Names.{piece_names}
 use Rattle.splitting.specs.Split.{places_where, given, told_by, split_at_command, split_by_command}
+use Rattle.splitting.proofs.PartsLaws.{split-parts, cue-parts, parts-cue}
 use Rattle.job_words.specs.Asked.{Help, Version, ListFile, Gain, Undo, Cut, Pack, SplitAt, SplitBy, Join, Drill, Fade}
 use Rattle.legality.specs.Inputs.{AreApart, Input, AreInputs, frames_of}
 use Rattle.legality.specs.Choices.{IsLegalGain, IsLegalUndo, IsLegalFade, IsRange, ArePieces, IsLegalSheet, IsLegalPack}
 use Rattle.legality.specs.Legal.{most_in_mode, IsLegalFor}
 use Rattle.legality.specs.Laws.{Makes, LegalIsAccepted}
 use Rattle.legality.proofs.InputLaws.{no-clash_apart, apart_no-clash, survey-whole, whole-survey, IsOne, one-of, one-survey, survey-input}
-use Rattle.legality.proofs.MadeLaws.{makes-parts, parts-make, made-of, of-made}
 use Rattle.legality.proofs.GainLaws.{gain-legal, legal-gain, undo-legal, legal-undo, with-parts}
 use Rattle.legality.proofs.FadeLaws.{fade-legal, legal-fade}
-use Rattle.legality.proofs.SplitLaws.{cut-range, range-cut, with-parts as laid-parts, pieces-chosen, split-pieces, split-parts, parts-split, cue-parts, parts-cue}
+use Rattle.legality.proofs.SplitLaws.{cut-range, range-cut, pieces-chosen, split-pieces, parts-split}
 use Rattle.legality.proofs.PackLaws.{all_with, choose-all, best-made, constant-legal, legal-constant, floor-legal, legal-floor}
 use Rattle.legality.proofs.JoinLaws.{parts-joined, joined-parts}
 use Rattle.legality.proofs.SalvageLaws.{salvage-law}
@@ -132,7 +134,7 @@ module _ (files : Contents) (input : List ℕ) (others : List (List ℕ)) (outpu
         let bytes = makes one.1 in
         parts-make task output files bytes.0 (ap (clash_from (output ∷ []) 0) names ∙ apart_no-clash (output ∷ []) (input ∷ others) 0 one.0) bytes.1),
     (λ done.
-        let found = makes-parts task output files done in
+        let found = makes-parts task output files done.0 done.1 in
         whole (no-clash_apart (output ∷ []) (input ∷ others) 0 (sym (ap (clash_from (output ∷ []) 0) names) ∙ found.0), made found.1 found.2)),
   )
 
@@ -368,7 +370,7 @@ join-law files output inputs = (
       (apart_no-clash (output ∷ []) inputs 0 (subst (λ (names : List (List ℕ)). AreApart names (output ∷ [])) (append-nil inputs) legal.names))
       (ap (λ (r : Result (List Part) EditFault). then_made r (λ parts. Ok (joined_file parts))) parts.1)),
   (λ made.
-      let one = makes-parts (join_task inputs) output files made in
+      let one = makes-parts (join_task inputs) output files made.0 made.1 in
       let parts = then_ok (parts_of files inputs) (λ parts. Ok (joined_file parts)) one.1 one.2 in
       let are = parts-joined files inputs parts.0 parts.1 in
       record {

@@ -1,8 +1,6 @@
 -- The lemmas of this crate.
 pub mod InputLaws
-pub mod MadeLaws
 pub mod GainLaws
-pub mod SheetLaws
 pub mod FadeLaws
 pub mod SplitLaws
 pub mod PackLaws

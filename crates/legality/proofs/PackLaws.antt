@@ -27,6 +27,7 @@ use Rattle.commands.specs.declared.fault.Refusal.TheVariants.{NoRate, Unfit}
 use Rattle.commands.specs.One.{most_frames}
 use Rattle.commands.specs.Refusing.{unless, then_made}
 use Rattle.commands.proofs.RefusingLaws.{then_ok, unless_ok}
+use Rattle.commands.proofs.MadeLaws.{some-frames}
 use Rattle.frame_edits.specs.declared.chosen.Slots.{Slots}
 use Rattle.frame_edits.specs.declared.chosen.Slots.TheVariants.{Least}
 use Rattle.frame_edits.specs.Laid.{file_laid}
@@ -39,7 +40,6 @@ use Rattle.packing.specs.Rules.{best_planning}
 use Rattle.packing.proofs.MenuLaws.{menu-ascends, menu-some}
 use Rattle.packing.proofs.PlanLaws.{rows-some, rows-same, rows-sound, never-unfit, plan-is, fitted-ok}
 use Rattle.legality.specs.Choices.{IsRate, HasRoom, IsFirstUnfit}
-use Rattle.legality.proofs.InputLaws.{some-frames}
 use Rattle.legality.proofs.SplitLaws.{within-ok}
 
 -- ---- a bit rate of the class

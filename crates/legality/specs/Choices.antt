@@ -18,10 +18,13 @@ use Rattle.fade_plan.specs.Curves.{frame_of, curve_point, steps_at, steps_back}
 use Rattle.part_needs.specs.Needs.{need_of}
 use Rattle.rate_plan.specs.Menus.{CanBeLaidFrom, IsUnfit}
 use Rattle.outside.specs.Files.{Contents}
+use Rattle.sync_survey.specs.declared.places.PlacedFrame.{PlacedFrame}
 use Rattle.sync_survey.specs.declared.rows.Row.{Row}
+use Rattle.sync_survey.specs.Start.{front_end_of}
 use Rattle.sync_survey.specs.Faults.{SurveyFields, longest_file}
 use Rattle.commands.specs.Sheet.{longest_sheet}
-use Rattle.salvage.specs.Damaged.{DamagedFields, damaged_of}
+use Rattle.salvage.specs.Walk.{first_frame, frames_in}
+use Rattle.salvage.specs.Damaged.{things_from, most_frames}
 use Rattle.moved_gains.specs.declared.shift.Channels.{Channels}
 use Rattle.moved_gains.specs.declared.shift.Channels.TheVariants.{Both, Left, Right}
 use Rattle.moved_gains.specs.declared.shift.Shift.{Shift}
@@ -159,10 +162,13 @@ AreOfOneClass inputs = (i j : ℕ) (p q : Input) → slice_get inputs i ≡ Some
 
 -- ---- salvage
 
--- The input needn't be well-formed: it is there, has at most 1,073,741,824 bytes, and what can be read of it (`damaged_of`) has a frame besides a Xing or
--- Info frame, and no more frames than allowed.
+-- The input needn't be well-formed: it is there, has at most 1,073,741,824 bytes, and a usable frame where its front ends or, anchored, behind, and from
+-- that first frame on 1 to 2,900,000 frames are found, not counting a Xing or Info frame.
 pub record IsLegalSalvage (input : List ℕ) (files : Contents) : Type 0 where
   pub bytes : List ℕ
   pub there : files input ≡ Some bytes
-  pub left : DamagedFields
-  pub read : damaged_of bytes ≡ Ok left
+  pub long : length bytes ≤ longest_file
+  pub first : PlacedFrame
+  pub begins : first_frame bytes (front_end_of bytes) ≡ Some first
+  pub some : 0 < length (frames_in (things_from bytes first))
+  pub few : length (frames_in (things_from bytes first)) ≤ most_frames

@@ -3,3 +3,4 @@ pub mod OutputsLaws
 pub mod PiecesLaws
 pub mod CommandLaws
 pub mod SheetLaws
+pub mod PartsLaws
