@@ -1,5 +1,5 @@
 -- The lead-ins and frames of a plan, part by part.
-use Rattle.std.proofs.Common.{◌≡◌, ℕ, Bool, true, false, List, [], ◌∷◌, ◌++◌, length, map, Option, Some, None, refl, sym, ◌∙◌, ap, arith}
+use Rattle.std.proofs.Common.{◌≡◌, ℕ, Bool, true, false, List, [], ◌∷◌, ◌++◌, length, map, Option, Some, None, refl, sym, ◌∙◌, ap, subst, arith, append-nil}
 use Rattle.std.specs.Prelude.{◌<◌, flat_map}
 use Rattle.std.proofs.lemmas.List.{length-map}
 use Rattle.frame_header.specs.Fields.{SlotFields, HeaderFields, ClassFields}
@@ -86,3 +86,26 @@ parts-on window c choices (p ∷ parts) (lead_in ∷ lead_ins) placed are alone 
 
 pub planned-exact : PlannedStreamsAreExact
 planned-exact c choices parts placed are plan = parts-on (window_of c.version) c choices parts plan.lead_ins placed are plan.alone plan.whole.slots
+
+-- ---- one part, whatever its frames choose among
+
+-- all frames of a plan without a lead-in
+own-on : (choices : HeaderFields → List SlotFields) (needs : List Need) (fs : List StreamFrame) (placed : List Placed) → length fs ≡ length needs → AreFor (map (item_of choices) needs) placed
+    → (rest : List StreamFrame) × (with_lead_ins placed fs ≡ fs ++ rest) × (rest ≡ [])
+own-on choices needs fs placed same for_items =
+    let items = map (item_of choices) needs in
+    let on = frames-on choices [] needs fs [] placed same (subst (λ (l : List Item). AreFor l placed) (sym (append-nil items)) for_items) in
+    (with_lead_ins on.0 [], ap (with_lead_ins placed) (sym (append-nil fs)) ∙ on.1, no-frames on.0)
+
+module _ (choices : HeaderFields → List SlotFields) (needs : List Need) where
+  pub own-exact : (fs : List StreamFrame) (placed : List Placed) → IsSized needs fs → AreFor (map (item_of choices) needs) placed → IsExactly (fs ∷ []) (with_lead_ins placed fs)
+  unfolding IsExactly
+  own-exact fs placed sized for_items = let on = own-on choices needs fs placed sized.same for_items in ([], on.0, tt, on.1, on.2)
+
+  pub led-exact : (lead : Item) → lead.lead_in ≡ true → (fs : List StreamFrame) (placed : List Placed) → IsSized needs fs → AreFor (lead ∷ map (item_of choices) needs) placed → IsExactly (fs ∷ []) (with_lead_ins placed fs)
+  unfolding AreFor IsExactly
+  led-exact lead is [] placed sized for_items = absurd (omega (arith, sized.some, sized.same))
+  led-exact lead is (f ∷ fs) [] sized for_items = absurd for_items
+  led-exact lead is (f ∷ fs) (p ∷ placed) sized for_items =
+      let on = own-on choices needs (f ∷ fs) placed sized.same for_items.2 in
+      (silent_before f ∷ [], on.0, refl, one-on true p placed f fs (for_items.0 ∙ is) ∙ ap (λ (l : List StreamFrame). silent_before f ∷ l) on.1, on.2)

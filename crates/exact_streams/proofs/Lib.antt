@@ -3,3 +3,6 @@ pub mod ExactLaws
 pub mod CaseLaws
 pub mod MenuCase
 pub mod JoinCase
+pub mod SalvageCase
+pub mod ChosenCase
+pub mod JobLaws

@@ -1,33 +1,42 @@
--- A packing whose slots are of some bit rates.
-use Rattle.std.proofs.Common.{◌≡◌, Bool, true, false, List, [], ◌∷◌, ◌++◌, length, map, Ok, refl, sym, ◌∙◌, ap, subst, arith, append-nil}
-use Rattle.std.specs.Prelude.{◌≤◌}
+-- A packing whose slots are of some bit rates, or take the fewest bytes.
+use Rattle.std.proofs.Common.{◌≡◌, ℕ, Bool, true, false, List, [], ◌∷◌, length, map, Ok, refl, sym, ◌∙◌, ap, subst, arith}
+use Rattle.std.specs.Prelude.{◌<◌, ◌≤◌}
 use Rattle.std.proofs.lemmas.List.{length-map}
 use Rattle.frame_header.specs.Fields.{SlotFields, ClassFields, IsClass}
-use Rattle.frame_header.specs.Tables.{window_of}
+use Rattle.frame_header.specs.Tables.{class_of, window_of}
+use Rattle.frame_header.specs.Slots.{all_slots}
 use Rattle.slot_plan.specs.declared.needs.Need.{Need}
 use Rattle.slot_plan.specs.declared.needs.Placed.{Placed}
-use Rattle.slot_plan.specs.Parts.{Item, item_of, AreOfClass}
+use Rattle.slot_plan.specs.Parts.{lead_in_of, AreOfClass}
 use Rattle.slot_plan.specs.Plans.{AreFor}
 use Rattle.part_needs.specs.Needs.{need_of}
+use Rattle.part_needs.specs.Fit.{any_choice, IsPlaced}
+use Rattle.best_plan.specs.Best.{items_behind}
 use Rattle.rate_plan.specs.Menus.{from_menu, items_from, IsMenuPlan}
 use Rattle.rate_plan.specs.LeastMenuPlan.{least_menu_plan}
 use Rattle.rate_plan.proofs.LeastMenuPlan.{least_menu_plan-is}
 use Rattle.sync_survey.specs.MainData.{StreamFrame}
+use Rattle.sync_survey.specs.Faults.{SurveyFields}
+use Rattle.sync_survey.specs.Survey.{survey_of}
 use Rattle.sync_survey.proofs.PlacedRows.{surveyed-placed}
 use Rattle.sync_survey.proofs.SurveyedFiles.{survey_of-parts}
-use Rattle.laying.specs.Relaid.{stream_in, silent_before, with_lead_ins}
+use Rattle.laying.specs.Relaid.{stream_in, with_lead_ins}
 use Rattle.commands.specs.One.{most_frames}
 use Rattle.commands.specs.Refusing.{unless}
 use Rattle.commands.proofs.RefusingLaws.{unless_ok, then_ok}
-use Rattle.frame_edits.specs.Chosen.{chosen_rows, part_of}
+use Rattle.frame_edits.specs.Chosen.{Chosen, chosen_rows, part_of}
 use Rattle.packing.specs.declared.mode.Rates.{Rates}
+use Rattle.packing.specs.declared.mode.Rule.{Rule}
+use Rattle.packing.specs.declared.mode.Rule.TheVariants.{Rates as ByRates, Best}
 use Rattle.packing.specs.Packing.{needs_of}
 use Rattle.packing.specs.Rates.{menu_in, no_rate, fitted, rates_plan}
+use Rattle.packing.specs.Rules.{plan_by}
+use Rattle.packing.proofs.BestLaws.{best-is}
 use Rattle.packing.proofs.MenuLaws.{menu-ascends, menu-some}
 use Rattle.packing.proofs.PlanLaws.{rows-some, rows-same, rows-sound, fitted-ok}
 use Rattle.exact_streams.specs.Exact.{IsExactly}
 use Rattle.exact_streams.specs.Laws.{PackedStreamsAreExact}
-use Rattle.exact_streams.proofs.ExactLaws.{IsSized, part-sized, one-on, no-frames, frames-on}
+use Rattle.exact_streams.proofs.ExactLaws.{IsSized, part-sized, own-exact, led-exact}
 use Rattle.exact_streams.proofs.CaseLaws.{chosen-part, own-stream}
 
 -- ---- the plan from a menu
@@ -43,30 +52,37 @@ rates-menu rates class needs placed sound same some planned =
 
 -- ---- its stream
 
-own-on : (menu : List SlotFields) (needs : List Need) (fs : List StreamFrame) (placed : List Placed) → length fs ≡ length needs → AreFor (map (item_of (from_menu menu)) needs) placed
-    → (rest : List StreamFrame) × (with_lead_ins placed fs ≡ fs ++ rest) × (rest ≡ [])
-own-on menu needs fs placed same for_items =
-    let items = map (item_of (from_menu menu)) needs in
-    let on = frames-on (from_menu menu) [] needs fs [] placed same (subst (λ (l : List Item). AreFor l placed) (sym (append-nil items)) for_items) in
-    (with_lead_ins on.0 [], ap (with_lead_ins placed) (sym (append-nil fs)) ∙ on.1, no-frames on.0)
-
 menu-exact : (lead_in : Bool) (menu : List SlotFields) (needs : List Need) (fs : List StreamFrame) (placed : List Placed) → IsSized needs fs → AreFor (items_from lead_in menu needs) placed
     → IsExactly (fs ∷ []) (with_lead_ins placed fs)
-unfolding items_from AreFor IsExactly
-menu-exact false menu needs fs placed sized for_items =
-    let on = own-on menu needs fs placed sized.same for_items in ([], on.0, tt, on.1, on.2)
+unfolding items_from
+menu-exact false menu needs fs placed sized for_items = own-exact (from_menu menu) needs fs placed sized for_items
 menu-exact true menu [] fs placed sized for_items = absurd (omega (arith, sized.some))
-menu-exact true menu (first ∷ needs) [] placed sized for_items = absurd (omega (arith, sized.same))
-menu-exact true menu (first ∷ needs) (f ∷ fs) [] sized for_items = absurd for_items
-menu-exact true menu (first ∷ needs) (f ∷ fs) (p ∷ placed) sized for_items =
-    let on = own-on menu (first ∷ needs) (f ∷ fs) placed sized.same for_items.2 in
-    (silent_before f ∷ [], on.0, refl, one-on true p placed f fs for_items.0 ∙ ap (λ (l : List StreamFrame). silent_before f ∷ l) on.1, on.2)
+menu-exact true menu (first ∷ needs) fs placed sized for_items = led-exact (from_menu menu) (first ∷ needs) (lead_in_of (class_of first.header) menu) refl fs placed sized for_items
+
+-- that of a best plan is of the menu of all slots
+behind-exact : (lead_in : Bool) (needs : List Need) (fs : List StreamFrame) (placed : List Placed) → IsSized needs fs → AreFor (items_behind lead_in any_choice needs) placed
+    → IsExactly (fs ∷ []) (with_lead_ins placed fs)
+unfolding items_behind
+behind-exact false needs fs placed sized for_items = own-exact any_choice needs fs placed sized for_items
+behind-exact true [] fs placed sized for_items = absurd (omega (arith, sized.some))
+behind-exact true (first ∷ needs) fs placed sized for_items = led-exact any_choice (first ∷ needs) (lead_in_of (class_of first.header) all_slots) refl fs placed sized for_items
+
+module _ (chosen : Chosen) (file : List ℕ) (s : SurveyFields) (is : survey_of file most_frames ≡ Ok s) (some : chosen.from < chosen.to) (within : chosen.to ≤ length s.frames) where
+  abbrev placed_rows : IsPlaced s
+  placed_rows = surveyed-placed file most_frames s (survey_of-parts file most_frames s is).1
+
+  sized : IsSized (needs_of chosen s) (stream_in (part_of chosen file s))
+  sized = part-sized s.class (part_of chosen file s) (chosen-part chosen file s is some within)
+
+  ruled-exact : (rule : Rule) (placed : List Placed) → plan_by rule s.class (needs_of chosen s) ≡ Ok placed → IsExactly (stream_in (part_of chosen file s) ∷ []) (with_lead_ins placed (stream_in (part_of chosen file s)))
+  ruled-exact (ByRates rates) placed planned =
+      let needs_some : 1 ≤ length (needs_of chosen s) = omega (arith, rows-some chosen s placed_rows some within, length-map (chosen_rows chosen s) need_of) in
+      let plan = rates-menu rates s.class (needs_of chosen s) placed (rows-sound chosen s placed_rows some within) (rows-same chosen s placed_rows some within) needs_some planned in
+      menu-exact plan.lead_in (menu_in rates s.class) (needs_of chosen s) (stream_in (part_of chosen file s)) placed sized plan.whole.slots
+  ruled-exact Best placed planned =
+      let plan = best-is chosen s placed_rows some within placed planned in
+      behind-exact plan.lead_in (needs_of chosen s) (stream_in (part_of chosen file s)) placed sized plan.whole.slots
 
 pub packed-exact : PackedStreamsAreExact
-packed-exact rates chosen file s placed is some within planned =
-    let placed_rows = surveyed-placed file most_frames s (survey_of-parts file most_frames s is).1 in
-    let part = part_of chosen file s in
-    let needs_some : 1 ≤ length (needs_of chosen s) = omega (arith, rows-some chosen s placed_rows some within, length-map (chosen_rows chosen s) need_of) in
-    let plan = rates-menu rates s.class (needs_of chosen s) placed (rows-sound chosen s placed_rows some within) (rows-same chosen s placed_rows some within) needs_some planned in
-    let exact = menu-exact plan.lead_in (menu_in rates s.class) (needs_of chosen s) (stream_in part) placed (part-sized s.class part (chosen-part chosen file s is some within)) plan.whole.slots in
-    subst (λ (l : List StreamFrame). IsExactly (l ∷ []) (with_lead_ins placed l)) (sym (own-stream chosen file s is some within)) exact
+packed-exact rule chosen file s placed is some within planned =
+    subst (λ (l : List StreamFrame). IsExactly (l ∷ []) (with_lead_ins placed l)) (sym (own-stream chosen file s is some within)) (ruled-exact chosen file s is some within rule placed planned)

@@ -1,3 +1,4 @@
 -- What the contracts of this crate cite.
 pub mod Exact
+pub mod Chosen
 pub mod Laws
