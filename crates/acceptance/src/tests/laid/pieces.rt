@@ -63,5 +63,5 @@ $ split z p 0.0 0.00.05 EOF
 each Find 1 z: read fault
 each Read 2 z: read fault
 each Create 2 p01.mp3: write fault, p02.mp3: write fault
-each Write 2 p01.mp3: write fault, p02.mp3: write fault
+each Write 4 p01.mp3: write fault, p01.mp3: write fault, p02.mp3: write fault
 ";

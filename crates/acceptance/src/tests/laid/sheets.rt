@@ -85,5 +85,5 @@ $ split z p -c s
 each Find 2 z: read fault, s: read fault
 each Read 3 z: read fault, s: read fault, z: read fault
 each Create 2 p01.mp3: write fault, p02.mp3: write fault
-each Write 2 p01.mp3: write fault, p02.mp3: write fault
+each Write 4 p01.mp3: write fault, p01.mp3: write fault, p02.mp3: write fault
 ";
