@@ -16,7 +16,7 @@ use Rattle.packing.specs.Modes.{pack_task, pack_mode_command}
 use Rattle.legality.specs.Legal.{IsUnfitFor}
 use Rattle.legality.specs.Laws.{UnfitIsRefused}
 use Rattle.legality.proofs.InputLaws.{no-clash_apart, apart_no-clash, survey-whole, whole-survey}
-use Rattle.legality.proofs.MadeLaws.{of-made}
+use Rattle.commands.proofs.MadeLaws.{of-made}
 use Rattle.legality.proofs.PackLaws.{rate-none, unfit-made, made-unfit}
 
 module _ (files : Contents) (rate i : ℕ) (input output : List ℕ) where
