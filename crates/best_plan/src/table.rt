@@ -76,13 +76,7 @@ pub(crate) fn table_of<P: Policy>(
     for i in (0..needs.len()).rev() {
         let need = &needs[i];
         let areas = areas_of(need, policy);
-        append_frame(
-            window,
-            need.bytes,
-            areas.as_slice(),
-            &mut sums,
-            &mut places,
-        )?;
+        append_frame(window, need.bytes, areas.as_slice(), &mut sums, &mut places)?;
     }
     Ok(Table {
         sums: sums.by_free,
