@@ -12,7 +12,7 @@ use Rattle.commands.specs.Kinds.{InputKind, IsAbsent, kind_of, by_kind}
 use Rattle.commands.specs.One.{Task, made_result, made_of, one_command}
 use Rattle.commands.specs.Command.{Made, Command, clash_of, written, Gives}
 use Rattle.splitting.specs.Split.{Placing, split_command}
-use Rattle.legality.proofs.SplitLaws.{split-parts}
+use Rattle.splitting.proofs.PartsLaws.{split-parts}
 use Rattle.drill.specs.Drilled.{IsDrillFault}
 use Rattle.commands.specs.Said.{Heard, IsText, Says, fault_of}
 use Rattle.commands.specs.Left.{Why, Rejected, Missing, Unread, Shorter, Unwritten, Unsent, NoMemory, why_of, Seen, IsDone, IsRefused, LeavesBy, Leaves, HasNumbers}

@@ -1,4 +1,4 @@
--- The outputs that were written are there, each with the stream that it has to hold.
+-- The outputs that were written are there, each with the frames that were chosen.
 use Rattle.std.proofs.Common.{◌≡◌, ◌≢◌, ℕ, zero, suc, ◌+◌, ◌/◌, ◌%◌, ◌<◌, ◌≤◌, List, [], ◌∷◌, length, map, drop, codes, Option, Some, Result, Ok, Err, refl, sym, ◌∙◌, ap, subst, arith, length-append}
 use Rattle.std.specs.Prelude.{IfOk}
 use Rattle.std.specs.List.{range_with_len}
@@ -30,9 +30,11 @@ use Rattle.commands.specs.Left.{Seen}
 use Rattle.commands.specs.Said.{Heard}
 use Rattle.piece_names.specs.Names.{piece_name, piece_names}
 use Rattle.splitting.specs.Split.{frames_between, with_first, chosen_from, chosen_at, pieces_from, places_where, Placing, split_command, given, told_by}
-use Rattle.legality.proofs.SplitLaws.{split-parts, cue-parts}
+use Rattle.splitting.proofs.PartsLaws.{split-parts, cue-parts}
 use Rattle.mp3_cli.proofs.RunLaws.{files_where_done, if_told, one_made}
-use Rattle.mp3_cli.specs.Run.{command_of, world, Answers, AreThere, HoldsWritten, HoldsAllStreams}
+use Rattle.exact_streams.specs.Chosen.{Frames, ConsistsOf, AllConsistOf, chosen_of}
+use Rattle.exact_streams.proofs.JobLaws.{streams-chosen}
+use Rattle.mp3_cli.specs.Run.{command_of, world, Answers, HoldFrames, HoldsWritten, HoldsAllStreams}
 
 -- ---- several outputs
 
@@ -53,15 +55,18 @@ written-other [] files name none = refl
 written-other (output ∷ outputs) files name none =
     written-other outputs (with_file files output.name output.bytes) name none.1 ∙ with_file_other files output.name output.bytes name none.0
 
-are-there : (names : List (List ℕ)) (outputs : List Output) (streams : List (List StreamFrame)) (files : Contents) → AreNamed names outputs → AreStreams outputs streams → AreThere (written outputs files) names streams
-are-there names [] [] files named are = tt
-are-there names [] (stream ∷ streams) files named are = absurd are
-are-there names (output ∷ outputs) [] files named are = absurd are
-are-there [] (output ∷ outputs) (stream ∷ streams) files named are = absurd named
-are-there (name ∷ names) (output ∷ outputs) (stream ∷ streams) files named are =
+hold-frames : (names : List (List ℕ)) (outputs : List Output) (streams : List (List StreamFrame)) (chosen : List Frames) (files : Contents)
+    → AreNamed names outputs → AreStreams outputs streams → AllConsistOf chosen streams → HoldFrames (written outputs files) names chosen
+hold-frames names outputs streams [] files named are consist = tt
+hold-frames names outputs [] (frames ∷ more) files named are consist = absurd consist
+hold-frames names [] (stream ∷ streams) (frames ∷ more) files named are consist = absurd are
+hold-frames [] (output ∷ outputs) (stream ∷ streams) (frames ∷ more) files named are consist = absurd named
+hold-frames (name ∷ names) (output ∷ outputs) (stream ∷ streams) (frames ∷ more) files named are consist =
     let now = with_file files output.name output.bytes in
-    let held : written outputs now output.name ≡ Some output.bytes = written-other outputs now output.name named.1 ∙ with_file_here files output.name output.bytes in
-    ((output.bytes, subst (λ (n : List ℕ). written outputs now n ≡ Some output.bytes) named.0 held, are.0), are-there names outputs streams now named.2 are.1)
+    let held : written outputs now output.name ≡ Some output.bytes = written-other outputs now output.name named.1 ∙ with_file_here files output.name output.bytes in (
+      (output.bytes, subst (λ (n : List ℕ). written outputs now n ≡ Some output.bytes) named.0 held, are.0.well_formed, subst (ConsistsOf frames) (sym are.0.stream_is) consist.0),
+      hold-frames names outputs streams more now named.2 are.1 consist.1,
+    )
 
 -- ---- the pieces of a split
 
@@ -125,11 +130,9 @@ named-told text names (Err fault) made named e = absurd cc
 
 -- ---- whatever is asked for
 
-written-there : (command : Command) (f : Contents) (made : Made) → AreNamed command.outputs made.outputs → MakesStreams command f made → HoldsWritten command f (written made.outputs f)
-written-there command f made named holds = record { sources = holds.sources; outputs = are-there command.outputs made.outputs (command.streams f) f named holds.streams }
-
-one-there : (task : Task) (output : List ℕ) (f : Contents) (made : Made) → (one_command task output).makes f ≡ Ok made → MakesStreams (one_command task output) f made → HoldsWritten (one_command task output) f (written made.outputs f)
-one-there task output f made e holds = written-there (one_command task output) f made (one-named task output f made e) holds
+module _ (asked : Asked) (f : Contents) (made : Made) (holds : MakesStreams (command_of asked) f made) where
+  frames-there : AreNamed (command_of asked).outputs made.outputs → AllConsistOf (chosen_of asked f) ((command_of asked).streams f) → HoldsWritten asked f (written made.outputs f)
+  frames-there named consist = record { sources = holds.sources; outputs = hold-frames (command_of asked).outputs made.outputs ((command_of asked).streams f) (chosen_of asked f) f named holds.streams consist }
 
 -- a cue sheet has at most 99 starts
 cue-few : (bytes : List ℕ) (starts : List Place) → cue_of bytes ≡ Ok starts → length starts ≤ 99
@@ -141,27 +144,33 @@ told-few o found e =
     let cue = cue-parts o found e in
     omega (arith, cue-few cue.bytes cue.starts cue.read, length-append cue.starts (End ∷ []), ap length cue.all)
 
-there : (asked : Asked) (f : Contents) (made : Made) → IsSound asked → (command_of asked).makes f ≡ Ok made → MakesStreams (command_of asked) f made → HoldsWritten (command_of asked) f (written made.outputs f)
+there : (asked : Asked) (f : Contents) (made : Made) → IsSound asked → (command_of asked).makes f ≡ Ok made → MakesStreams (command_of asked) f made → HoldsWritten asked f (written made.outputs f)
 there Help f made sound e holds = record { sources = holds.sources; outputs = tt }
 there Version f made sound e holds = record { sources = holds.sources; outputs = tt }
 there (ListFile input) f made sound e holds = record { sources = holds.sources; outputs = tt }
 there (Drill seed count) f made sound e holds = record { sources = holds.sources; outputs = tt }
-there (Gain shift tags input output) f made sound e holds = one-there _ output f made e holds
-there (Undo input output) f made sound e holds = one-there _ output f made e holds
-there (Cut from to least input output) f made sound e holds = one-there _ output f made e holds
-there (Pack mode input output) f made sound e holds = one-there (pack_task mode input) output f made e holds
-there (SplitAt input prefix places) f made sound e holds = written-there _ f made (split-named (given places) [] input prefix f (λ found is. let same : places ≡ found = cc in subst (λ (l : List Place). length l ≤ 100) same sound.2.few) made e) holds
-there (SplitBy input prefix sheet) f made sound e holds = written-there _ f made (split-named (told_by sheet) (sheet ∷ []) input prefix f (told-few (f sheet)) made e) holds
-there (Join output inputs) f made sound e holds = one-there (join_task inputs) output f made e holds
-there (Fade back input output sheet) f made sound e holds = one-there (fade_task sheet back input) output f made e holds
+there (Gain shift tags input output) f made sound e holds = frames-there (Gain shift tags input output) f made holds (one-named _ output f made e) (streams-chosen.gain shift tags input output f made e)
+there (Undo input output) f made sound e holds = frames-there (Undo input output) f made holds (one-named _ output f made e) (streams-chosen.undo input output f made e)
+there (Cut from to least input output) f made sound e holds = frames-there (Cut from to least input output) f made holds (one-named _ output f made e) (streams-chosen.cut from to least input output f made e)
+there (Pack mode input output) f made sound e holds = frames-there (Pack mode input output) f made holds (one-named (pack_task mode input) output f made e) (streams-chosen.pack mode input output f made e)
+there (SplitAt input prefix places) f made sound e holds =
+    frames-there (SplitAt input prefix places) f made holds
+    (split-named (given places) [] input prefix f (λ found is. let same : places ≡ found = cc in subst (λ (l : List Place). length l ≤ 100) same sound.2.few) made e)
+    (streams-chosen.split_at input prefix places f made e)
+there (SplitBy input prefix sheet) f made sound e holds =
+    frames-there (SplitBy input prefix sheet) f made holds (split-named (told_by sheet) (sheet ∷ []) input prefix f (told-few (f sheet)) made e) (streams-chosen.split_by input prefix sheet f made e)
+there (Join output inputs) f made sound e holds = frames-there (Join output inputs) f made holds (one-named (join_task inputs) output f made e) (streams-chosen.join output inputs f made e)
+there (Fade back input output sheet) f made sound e holds = frames-there (Fade back input output sheet) f made holds (one-named (fade_task sheet back input) output f made e) (streams-chosen.fade back input output sheet f made e)
 there (Salvage input output) f made sound e holds =
-    written-there _ f made (named-told (text_where (f input)) (output ∷ []) ((one_command (salvage_task input) output).makes f) made (one-named (salvage_task input) output f) e) holds
+    frames-there (Salvage input output) f made holds
+    (named-told (text_where (f input)) (output ∷ []) ((one_command (salvage_task input) output).makes f) made (one-named (salvage_task input) output f) e)
+    (streams-chosen.salvage input output f made e)
 
 pub written-streams : (words : List (List ℕ)) (asked : Asked) (is : job_of words ≡ Ok asked) (sound : IsSound asked) (old new : Seen) (out_old out_new err_old err_new : Heard) (status : ℕ)
     (all : Answers (command_of asked) (world old out_old err_old) (world new out_new err_new) status) → (status ≡ 0 → HoldsStreams (command_of asked) old.files) → status ≡ 0 → HoldsAllStreams words old.files new.files
 written-streams words asked is sound old new out_old out_new err_old err_new status all holds zero_is =
-    subst (λ (r : Result Asked ℕ). IfOk r (λ a. IfTold old.files (λ f. IfTold new.files (λ g. HoldsWritten (command_of a) f g)))) (sym is)
+    subst (λ (r : Result Asked ℕ). IfOk r (λ a. IfTold old.files (λ f. IfTold new.files (λ g. HoldsWritten a f g)))) (sym is)
     (if_told old.files (λ f told.
     let done = files_where_done (command_of asked) old new out_old out_new err_old err_new status all f told zero_is in
     let held = subst (HoldsStreams (command_of asked)) told (holds zero_is) in
-    subst (λ (files : Files). IfTold files (λ g. HoldsWritten (command_of asked) f g)) (sym done.2) (there asked f done.0 sound done.1 (held done.0 done.1))))
+    subst (λ (files : Files). IfTold files (λ g. HoldsWritten asked f g)) (sym done.2) (there asked f done.0 sound done.1 (held done.0 done.1))))

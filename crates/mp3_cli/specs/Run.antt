@@ -18,8 +18,8 @@ use Rattle.drill.specs.Drilled.{drill_command}
 use Rattle.salvaging.specs.Salvaged.{salvage_command}
 use Rattle.job_words.specs.Asked.{Asked, Help, Version, ListFile, Gain, Undo, Cut, Pack, SplitAt, SplitBy, Join, Drill, Fade, Salvage}
 use Rattle.job_words.specs.Words.{job_of}
-use Rattle.sync_survey.specs.MainData.{StreamFrame}
-use Rattle.sync_survey.specs.Faults.{HoldsStream}
+use Rattle.sync_survey.specs.Faults.{IsWellFormed, stream_of}
+use Rattle.exact_streams.specs.Chosen.{Frames, ConsistsOf, chosen_of}
 use Rattle.legality.specs.Legal.{IsLegalFor}
 use Rattle.legality.specs.Laws.{Makes}
 use Rattle.program_texts.specs.Texts.{status_of, fault_line, bad_word_line, help_text, version_text, said_command, GotLine}
@@ -161,17 +161,18 @@ LegalIsAccepted = (words : List (List ℕ)) (files : Contents) → IsLegal words
 
 -- ---- the streams
 
--- there are at least as many names as streams; the file of each of the first names is there, is well-formed, and holds the stream at its place
-abbrev pub AreThere : Contents → List (List ℕ) → List (List StreamFrame) → Type 0
-AreThere files names [] = Unit {0}
-AreThere files [] (stream ∷ streams) = ⊥
-AreThere files (name ∷ names) (stream ∷ streams) = ((bytes : List ℕ) × (files name ≡ Some bytes) × HoldsStream bytes stream) × AreThere files names streams
+-- A file of each of the first names is there, one for each of these lists of frames; it is well-formed, and its stream consists of the frames.
+abbrev pub HoldFrames : Contents → List (List ℕ) → List Frames → Type 0
+HoldFrames files names [] = Unit {0}
+HoldFrames files [] (frames ∷ more) = ⊥
+HoldFrames files (name ∷ names) (frames ∷ more) = ((bytes : List ℕ) × (files name ≡ Some bytes) × IsWellFormed bytes × ConsistsOf frames (stream_of bytes)) × HoldFrames files names more
 
--- The inputs were there and well-formed, and the outputs are there, by their names, with the streams that the command has to make of the inputs.
-pub record HoldsWritten (command : Command) (old new : Contents) : Type 0 where
-  pub sources : AreSound old command.sources
-  pub outputs : AreThere new command.outputs (command.streams old)
+-- The inputs that are read as streams were there and well-formed, and the outputs are there, by their names, with exactly the frames that the job
+-- chooses of the inputs (`chosen_of`).
+pub record HoldsWritten (asked : Asked) (old new : Contents) : Type 0 where
+  pub sources : AreSound old (command_of asked).sources
+  pub outputs : HoldFrames new (command_of asked).outputs (chosen_of asked old)
 
 -- so it is of what the words ask for, where the files before and after are told
 abbrev pub HoldsAllStreams : List (List ℕ) → Files → Files → Type 0
-HoldsAllStreams words old new = IfOk (job_of words) (λ asked. IfTold old (λ before. IfTold new (λ after. HoldsWritten (command_of asked) before after)))
+HoldsAllStreams words old new = IfOk (job_of words) (λ asked. IfTold old (λ before. IfTold new (λ after. HoldsWritten asked before after)))

@@ -184,7 +184,8 @@ pub fn run<D: Folder, T: Sink, E: Sink>(
         → (Rose (T.faults out.old) (T.faults out.new) → ⊥) → result ≢ 4
         → ((result ≡ 0) ↔ IsLegal (map string_bytes words.now) files) }
 
-    // Each output is there, by its name, well-formed, and holds exactly the stream that the command has to make of its inputs.
+    // Each output is there, by its name, well-formed, and its stream is exactly the frames that the job chooses of its inputs: part
+    // by part at most one silent lead-in and then the frames, or the input's frames alone where only gains move.
     ensures streams { result ≡ 0 → HoldsAllStreams (map string_bytes words.now)
         (D.files folder.old) (D.files folder.new) }
 
