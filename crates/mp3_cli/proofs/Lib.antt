@@ -2,3 +2,4 @@
 pub mod LegalLaws
 pub mod RunLaws
 pub mod WrittenLaws
+pub mod FewestLaws

@@ -78,6 +78,9 @@ module _ (command : Command) (old new : Seen) (out_old out_new err_old err_new :
   done_at : status ≡ 0 → all.fault ≡ None
   done_at zero_is = by_case (λ is e. e) (λ fault why e is w left. absurd (omega (arith, is, zero_is, (by_status why).0)))
 
+  pub is_done : status ≡ 0 → IsDone command old new
+  is_done zero_is = all.ends.done (done_at zero_is)
+
   line_here : (o : Option EditFault) → all.fault ≡ o → GetsLine err_old err_new (line_of command o)
   line_here o e = subst (λ o. GetsLine err_old err_new (line_of command o)) e all.line
 

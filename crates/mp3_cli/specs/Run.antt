@@ -11,6 +11,7 @@ use Rattle.gain_edits.specs.Undo.{undo_command}
 use Rattle.fading.specs.Fade.{fade_command}
 use Rattle.frame_edits.specs.Chosen.{cut_command}
 use Rattle.packing.specs.Modes.{pack_mode_command}
+use Rattle.packing.specs.Fewest.{WritesFewest}
 use Rattle.listing.specs.Listing.{list_command}
 use Rattle.splitting.specs.Split.{split_at_command, split_by_command}
 use Rattle.joining.specs.Join.{join_command}
@@ -176,3 +177,14 @@ pub record HoldsWritten (asked : Asked) (old new : Contents) : Type 0 where
 -- so it is of what the words ask for, where the files before and after are told
 abbrev pub HoldsAllStreams : List (List ℕ) → Files → Files → Type 0
 HoldsAllStreams words old new = IfOk (job_of words) (λ asked. IfTold old (λ before. IfTold new (λ after. HoldsWritten asked before after)))
+
+-- ---- the fewest bytes
+
+-- what is packed into the fewest bytes has the fewest of all files of the frames of its input
+abbrev pub HasFewest : Asked → Files → Files → Type 0
+HasFewest (Pack mode input output) old new = WritesFewest mode input output old new
+HasFewest _ old new = Unit {0}
+
+-- so it is of what the words ask for
+abbrev pub HasFewestBytes : List (List ℕ) → Files → Files → Type 0
+HasFewestBytes words old new = IfOk (job_of words) (λ asked. HasFewest asked old new)

@@ -9,7 +9,7 @@ ghost use Rattle.job_words.specs.Words.{job_of, IsSound};
 ghost use Rattle.job_words.specs.Code.{asked};
 ghost use Rattle.program_texts.specs.Names.{names_in};
 ghost use Rattle.program_texts.specs.Texts.{GotLine};
-ghost use Rattle.mp3_cli.specs.Run.{command_of, always_of, fault_status, result_line, world, Ends, Answers, AnswersWords, outcome, IsOutcome, IsLegal, HoldsAllStreams, outputs_asked};
+ghost use Rattle.mp3_cli.specs.Run.{command_of, always_of, fault_status, result_line, world, Ends, Answers, AnswersWords, outcome, IsOutcome, IsLegal, HoldsAllStreams, HasFewestBytes, outputs_asked};
 
 use crate::job_names::{inputs_of, outputs_of};
 use commands::EditFault;
@@ -187,6 +187,11 @@ pub fn run<D: Folder, T: Sink, E: Sink>(
     // Each output is there, by its name, well-formed, and its stream is exactly the frames that the job chooses of its inputs: part
     // by part at most one silent lead-in and then the frames, or the input's frames alone where only gains move.
     ensures streams { result ≡ 0 → HoldsAllStreams (map string_bytes words.now)
+        (D.files folder.old) (D.files folder.new) }
+
+    // With `pack --best`, and where the folder tells its files, no file of the same frames in other slots, with a lead-in where this one
+    // has one or with none, has fewer bytes.
+    ensures fewest { result ≡ 0 → HasFewestBytes (map string_bytes words.now)
         (D.files folder.old) (D.files folder.new) }
 
     // Over every folder, told or not, no name but those of the outputs was touched: created, or written to.

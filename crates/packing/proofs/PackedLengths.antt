@@ -194,7 +194,7 @@ written-fewest input output file made (Told f) new done there holds =
     let same : least.0 ≡ file = let both : Some least.0 ≡ Some file = sym least.1 ∙ there in cc in
     subst (λ (l : List ℕ). IsFewest l made) same least.2
 
-done-fewest : (mode : PackMode) (input output : List ℕ) (old new : Seen) → IsDone (pack_mode_command mode input output) old new → WritesFewest mode input output old.files new.files
+pub done-fewest : (mode : PackMode) (input output : List ℕ) (old new : Seen) → IsDone (pack_mode_command mode input output) old new → WritesFewest mode input output old.files new.files
 done-fewest Best input output old new done = λ file made there holds. written-fewest input output file made old.files new.files done.made there holds
 done-fewest Least input output old new done = tt
 done-fewest (Constant rate) input output old new done = tt

@@ -10,6 +10,7 @@ use Rattle.commands.specs.Said.{heard}
 use Rattle.mp3_cli.proofs.RunLaws.{bad_word_defined, is_defined, is_accepted, touched, quiet, at_most, not_two, kept, counts_kept, silent, says_always}
 use Rattle.mp3_cli.specs.Run.{always_of, outputs_asked}
 use Rattle.mp3_cli.proofs.WrittenLaws.{written-streams}
+use Rattle.mp3_cli.proofs.FewestLaws.{fewest-bytes}
 use Rattle.mp3_cli.proofs.program.run.Goals as goal
 
 pub returns-in-Err-clause-defined : goal.returns-in-Err-clause-defined
@@ -60,6 +61,12 @@ returns-in-Ok-clause-streams g c =
     (subst (λ r. IfOk r (λ job. IsSound (asked job))) c.in-Ok.is c.job.ensures.sound)
     (seen (g.D.Folder.files c.args.folder.now) (g.D.Folder.counts c.args.folder.now)) (seen (g.D.Folder.files c.run_job.new.folder) (g.D.Folder.counts c.run_job.new.folder))
     _ _ _ _ _ c.run_job.ensures.answers c.run_job.ensures.streams
+
+pub returns-in-Ok-clause-fewest : goal.returns-in-Ok-clause-fewest
+returns-in-Ok-clause-fewest g c =
+    fewest-bytes (map string_bytes c.args.words.now) (asked c.in-Ok.job) (sym c.job.ensures.exact ∙ ap answer c.in-Ok.is)
+    (seen (g.D.Folder.files c.args.folder.now) (g.D.Folder.counts c.args.folder.now)) (seen (g.D.Folder.files c.run_job.new.folder) (g.D.Folder.counts c.run_job.new.folder))
+    _ _ _ _ _ c.run_job.ensures.answers
 
 pub returns-in-Err-clause-touches : goal.returns-in-Err-clause-touches
 returns-in-Err-clause-touches g c =

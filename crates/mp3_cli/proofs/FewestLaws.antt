@@ -1,0 +1,31 @@
+-- What was packed into the fewest bytes has the fewest.
+use Rattle.std.proofs.Common.{◌≡◌, ℕ, List, Result, Ok, sym, subst}
+use Rattle.std.specs.Prelude.{IfOk}
+use Rattle.job_words.specs.Asked.{Asked, Help, Version, ListFile, Gain, Undo, Cut, Pack, SplitAt, SplitBy, Join, Drill, Fade, Salvage}
+use Rattle.job_words.specs.Words.{job_of}
+use Rattle.commands.specs.Left.{Seen, IsDone}
+use Rattle.commands.specs.Said.{Heard}
+use Rattle.packing.proofs.PackedLengths.{done-fewest}
+use Rattle.mp3_cli.proofs.RunLaws.{is_done}
+use Rattle.mp3_cli.specs.Run.{command_of, world, Answers, HasFewest, HasFewestBytes}
+
+has-fewest : (asked : Asked) (old new : Seen) → IsDone (command_of asked) old new → HasFewest asked old.files new.files
+has-fewest Help old new done = tt
+has-fewest Version old new done = tt
+has-fewest (ListFile input) old new done = tt
+has-fewest (Gain shift tags input output) old new done = tt
+has-fewest (Undo input output) old new done = tt
+has-fewest (Cut from to least input output) old new done = tt
+has-fewest (Pack mode input output) old new done = done-fewest mode input output old new done
+has-fewest (SplitAt input prefix places) old new done = tt
+has-fewest (SplitBy input prefix sheet) old new done = tt
+has-fewest (Join output inputs) old new done = tt
+has-fewest (Drill seed count) old new done = tt
+has-fewest (Fade back input output sheet) old new done = tt
+has-fewest (Salvage input output) old new done = tt
+
+pub fewest-bytes : (words : List (List ℕ)) (asked : Asked) (is : job_of words ≡ Ok asked) (old new : Seen) (out_old out_new err_old err_new : Heard) (status : ℕ)
+    (all : Answers (command_of asked) (world old out_old err_old) (world new out_new err_new) status) → status ≡ 0 → HasFewestBytes words old.files new.files
+fewest-bytes words asked is old new out_old out_new err_old err_new status all zero_is =
+    subst (λ (r : Result Asked ℕ). IfOk r (λ a. HasFewest a old.files new.files)) (sym is)
+    (has-fewest asked old new (is_done (command_of asked) old new out_old out_new err_old err_new status all zero_is))
