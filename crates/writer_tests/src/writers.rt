@@ -155,11 +155,21 @@ fn write_frame<D: Folder>(
 ) -> Result<(), Failed> {
     let side = side_of(main.begin, main.bits);
     assert!(rt; writer.class().is_same(header.class()) && side.fits(header.class()));
-    assert!(rt; writer.state() == State::Open && u32::from(main.begin) <= writer.reach());
-    let most = (main.begin as usize + header.area() as usize).min(2048);
-    assert!(rt; main.bytes.len() <= most);
+    assert!(rt; writer.state() == State::Open);
+    assert!(rt; u32::from(side.main_data_begin) <= writer.reach());
+    let most = usize::from(side.main_data_begin) + header.area() as usize;
+    assert!(rt; main.bytes.len() <= 2048 && main.bytes.len() <= most);
     folder.find("o")?;
     writer.frame(header, &side, main.bytes, folder, "o")
+}
+
+/// Writes the end of the frames, if no write failed.
+fn write_end<D: Folder>(writer: &mut Writer, folder: &mut D) -> Result<(), Failed> {
+    folder.find("o")?;
+    if writer.state() != State::Open {
+        return Ok(());
+    }
+    writer.finish(folder, "o")
 }
 
 /// Writes two frames to the file, whose `failing`th write fails, and answers how far the writer is then.
@@ -175,10 +185,7 @@ fn write_two<R: Abort + AllocGlobal>(
     for main in &TWO {
         let _ = write_frame(rt, &mut writer, &header, main, folder);
     }
-    folder.find("o")?;
-    if writer.state() == State::Open {
-        let _ = writer.finish(folder, "o");
-    }
+    let _ = write_end(&mut writer, folder);
     Ok(writer.state())
 }
 
