@@ -4,8 +4,8 @@ ghost use Rattle.slot_plan.specs.Parts.{areas_with};
 ghost use Rattle.best_plan.specs.Rows.{AreBounds, IsSum, IsChoice};
 
 use arrayvec::ArrayVec;
-use frame_header::{Class, Slot};
-use slot_plan::free_behind;
+use frame_header::Slot;
+use slot_plan::{Lengths, free_behind};
 
 /// The sum if no list of areas fits, in bytes. No list has as many.
 pub(crate) const NOTHING: u32 = u32::MAX;
@@ -39,14 +39,14 @@ pub(crate) struct Known {
 }
 
 /// The areas of some slots, in bytes.
-pub(crate) fn areas_among(class: Class, protected: bool, slots: &[Slot]) -> ArrayVec<u32, 28>
+pub(crate) fn areas_among(lengths: &Lengths, protected: bool, slots: &[Slot]) -> ArrayVec<u32, 28>
     requires { length slots.now ≤ 28 }
-    ensures areas { result.items ≡ areas_with class protected slots.now }
+    ensures areas { result.items ≡ areas_with lengths.now protected slots.now }
     ensures most { All (λ n. n ≤ 1441) result.items }
 {
     let mut areas = ArrayVec::new();
     for slot in slots {
-        areas.push(class.area_of(*slot, protected));
+        areas.push(lengths.area_of(*slot, protected));
     }
     areas
 }

@@ -11,7 +11,7 @@ use crate::choice::{NOTHING, areas_among, best_choice, bounds_of};
 use crate::table::table_of;
 use crate::walk::walk;
 use frame_header::Class;
-use slot_plan::{Need, Placed, Plan, Policy, free_behind};
+use slot_plan::{Lengths, Need, Placed, Plan, Policy, free_behind};
 use std::alloc::{AllocError, Global};
 
 /// The lead-in with which all frames have the fewest bytes, where `sums` has those of the frames after it.
@@ -24,7 +24,8 @@ fn lead_in(class: Class, window: u32, sums: &[u32]) -> Placed
     // The largest slot has room for a whole window.
     let room = class.window();
     let slots = class.slots();
-    let areas = areas_among(class, false, slots.as_slice());
+    let lengths = Lengths::new(class);
+    let areas = areas_among(&lengths, false, slots.as_slice());
     let known = bounds_of(sums);
     let choice = best_choice(room, 0, 0, areas.as_slice(), sums, known);
     Placed {
@@ -52,17 +53,34 @@ pub fn best<P: Policy>(alloc: Global, needs: &[Need], policy: &P) -> Result<Plan
 {
     let class = needs[0].header.class();
     let window = class.window();
+    let lengths = Lengths::new(class);
     // There is at most one lead-in.
     let mut placed = Vec::with_capacity(alloc, needs.len() + 1)?;
-    let table = table_of(alloc, window, needs, policy)?;
+    let table = table_of(alloc, window, needs, policy, &lengths)?;
     if table.sums[0] < NOTHING {
-        walk(window, 0, needs, policy, table.places, &mut placed)?;
+        walk(
+            window,
+            0,
+            needs,
+            policy,
+            &lengths,
+            table.places,
+            &mut placed,
+        )?;
         return Ok(Plan::from_placed(placed));
     }
     let frame = lead_in(class, window, table.sums.as_slice());
     let area = class.area_of(frame.slot, false);
     placed.push(frame)?;
     let free = free_behind(window, 0, 0, area);
-    walk(window, free, needs, policy, table.places, &mut placed)?;
+    walk(
+        window,
+        free,
+        needs,
+        policy,
+        &lengths,
+        table.places,
+        &mut placed,
+    )?;
     Ok(Plan::from_placed(placed))
 }

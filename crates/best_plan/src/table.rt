@@ -1,12 +1,13 @@
 //! The least sums, and the places of the areas that have them, from the last frame back to the first.
 ghost use Rattle.std.specs.Prelude.{◌≡◌, ◌<◌, ◌≤◌, [], All, AllPairs, Contains, length, IfOk};
-ghost use Rattle.slot_plan.specs.Parts.{own_area};
+ghost use Rattle.frame_header.specs.Tables.{class_of};
+ghost use Rattle.slot_plan.specs.Parts.{own_area, AreOfClass};
 ghost use Rattle.best_plan.specs.Table.{areas_for, IsEnd, IsTable};
 
 use crate::choice::areas_among;
 use crate::rows::{Sums, append_frame};
 use arrayvec::ArrayVec;
-use slot_plan::{Need, Policy};
+use slot_plan::{Lengths, Need, Policy};
 use std::alloc::{AllocError, Global};
 
 /// The choices of all frames, for each number of free bytes before them.
@@ -34,18 +35,15 @@ fn no_areas(alloc: Global, window: u32) -> Result<Vec<u32>, AllocError>
 }
 
 /// The areas among which a frame chooses, in bytes.
-fn areas_of<P: Policy>(need: &Need, policy: &P) -> ArrayVec<u32, 28>
+fn areas_of<P: Policy>(need: &Need, policy: &P, lengths: &Lengths) -> ArrayVec<u32, 28>
+    requires class { lengths.now ≡ class_of need.now.header }
     ensures areas { result.items ≡ areas_for (P.choices_of policy.now) need.now }
     ensures most { All (λ n. n ≤ 1441) result.items }
     ensures own { Contains (areas_for (P.choices_of policy.now) need.now) (own_area need.now) }
     ensures ascending { AllPairs (λ m n. m < n) (areas_for (P.choices_of policy.now) need.now) }
 {
     let choices = policy.choices(&need.header);
-    areas_among(
-        need.header.class(),
-        need.header.protected,
-        choices.as_slice(),
-    )
+    areas_among(lengths, need.header.protected, choices.as_slice())
 }
 
 /// The table of these frames. All its memory is taken first.
@@ -57,7 +55,9 @@ pub(crate) fn table_of<P: Policy>(
     window: u32,
     needs: &[Need],
     policy: &P,
+    lengths: &Lengths,
 ) -> Result<Table, AllocError>
+    requires class { AreOfClass lengths.now needs.now }
     requires window { window ≤ 511 }
     requires few { length needs.now ≤ 200000 }
     ensures { IfOk result (λ t. IsTable window
@@ -75,7 +75,7 @@ pub(crate) fn table_of<P: Policy>(
     };
     for i in (0..needs.len()).rev() {
         let need = &needs[i];
-        let areas = areas_of(need, policy);
+        let areas = areas_of(need, policy, lengths);
         append_frame(window, need.bytes, areas.as_slice(), &mut sums, &mut places)?;
     }
     Ok(Table {

@@ -2,11 +2,11 @@
 //! are free before it.
 ghost use Rattle.std.specs.Prelude.{◌≡◌, ◌<◌, ◌≤◌, false, AllPairs, Contains, length, slice_index, IfOk};
 ghost use Rattle.frame_header.specs.Tables.{class_of, area_of};
-ghost use Rattle.slot_plan.specs.Parts.{area_in, item_of};
+ghost use Rattle.slot_plan.specs.Parts.{area_in, item_of, AreOfClass};
 ghost use Rattle.best_plan.specs.Table.{areas_for, CanWalk, Walks};
 
 use frame_header::Slot;
-use slot_plan::{Need, Placed, Policy, free_behind};
+use slot_plan::{Lengths, Need, Placed, Policy, free_behind};
 use std::alloc::AllocError;
 
 /// The frame in the slot at this place of its choices.
@@ -29,11 +29,12 @@ fn frame_at<P: Policy>(need: &Need, place: u8, free: u32, policy: &P) -> Placed
 }
 
 /// The area of a frame in this slot, in bytes.
-fn area_with(need: &Need, slot: Slot) -> u32
+fn area_with(need: &Need, slot: Slot, lengths: &Lengths) -> u32
+    requires class { lengths.now ≡ class_of need.now.header }
     ensures area { result ≡ area_of (class_of need.now.header) slot need.now.header.protected }
     ensures most { result ≤ 1441 }
 {
-    need.header.class().area_of(slot, need.header.protected)
+    lengths.area_of(slot, need.header.protected)
 }
 
 /// Places the frames, where so many bytes are free before the first.
@@ -45,9 +46,11 @@ pub(crate) fn walk<P: Policy>(
     free: u32,
     needs: &[Need],
     policy: &P,
+    lengths: &Lengths,
     places: Vec<u8>,
     placed: &mut Vec<Placed>,
 ) -> Result<(), AllocError>
+    requires class { AreOfClass lengths.now needs.now }
     requires window { window ≤ 511 }
     requires free { free ≤ window }
     requires table { CanWalk window (P.choices_of policy.now) free needs.now places.items }
@@ -62,7 +65,7 @@ pub(crate) fn walk<P: Policy>(
         let place = places[from + free as usize];
         places.truncate(from);
         let frame = frame_at(need, place, free, policy);
-        let area = area_with(need, frame.slot);
+        let area = area_with(need, frame.slot, lengths);
         free = free_behind(window, free, need.bytes, area);
         placed.push(frame)?;
     }

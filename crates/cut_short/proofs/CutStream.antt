@@ -18,7 +18,7 @@ use Rattle.side_info.proofs.SideLaws.{bits_least}
 use Rattle.info_header.specs.HeadText.{head_text_of}
 use Rattle.sync_survey.specs.declared.places.PlacedFrame.{PlacedFrame}
 use Rattle.sync_survey.specs.declared.places.Head.{Head}
-use Rattle.sync_survey.specs.declared.rows.Row.{Row}
+use Rattle.sync_survey.specs.Row.{Row}
 use Rattle.sync_survey.specs.Walk.{frame_bytes, head_of}
 use Rattle.sync_survey.specs.MainData.{own_area, head_area, rows_of, place, end_before, start_of_data, end_of_data, lacks_data, marked_row, marked, area_bytes, head_bytes, main_bytes, payload_at, parts_of, part_lengths, StreamFrame, side_of, stream_frame, stream_frames}
 use Rattle.sync_survey.specs.Survey.{AreWellPlaced}

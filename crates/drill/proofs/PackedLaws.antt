@@ -9,7 +9,7 @@ use Rattle.outside.specs.Files.{Contents, Files, sent_more, Holds, Told}
 use Rattle.outside.specs.Passed.{SentPrefix}
 use Rattle.outside.specs.Counts.{Rose}
 use Rattle.outside.proofs.FilesLaws.{with_file_here}
-use Rattle.sync_survey.specs.declared.rows.Row.{Row}
+use Rattle.sync_survey.specs.Row.{Row}
 use Rattle.sync_survey.specs.MainData.{StreamFrame}
 use Rattle.sync_survey.specs.Faults.{SurveyFields, surveyed, stream_of_survey, HoldsStream}
 use Rattle.sync_survey.specs.Survey.{survey_of, AreWellPlaced}

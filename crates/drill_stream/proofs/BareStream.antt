@@ -8,13 +8,14 @@ use Rattle.frame_header.specs.Fields.{ClassFields}
 use Rattle.frame_header.specs.Tables.{class_of}
 use Rattle.info_header.specs.HeadText.{head_text_of}
 use Rattle.frame_writer.specs.Laid.{start_of, areas_end, laid, CanBeLaid}
-use Rattle.frame_writer.specs.Frames.{front_of, area_in, Frame, all_kept, areas_in, piece_of, pieces, framed, frame_bytes}
+use Rattle.side_info.specs.Frame.{front_of}
+use Rattle.frame_writer.specs.Frames.{area_in, Frame, all_kept, areas_in, piece_of, pieces, framed, frame_bytes}
 use Rattle.sync_survey.specs.declared.items.Item.TheVariants.{Frame as FrameItem, End}
 use Rattle.sync_survey.specs.declared.places.Head.{Head}
 use Rattle.sync_survey.specs.declared.places.PlacedFrame.{PlacedFrame}
 use Rattle.sync_survey.specs.declared.places.Piece.{Piece}
 use Rattle.sync_survey.specs.declared.places.Start.{Start}
-use Rattle.sync_survey.specs.declared.rows.Row.{Row}
+use Rattle.sync_survey.specs.Row.{Row}
 use Rattle.sync_survey.specs.declared.runs.Part.TheVariants.{Front, Stream}
 use Rattle.sync_survey.specs.Items.{item_at, size_of}
 use Rattle.sync_survey.specs.Runs.{Run, run, frames_of, blocks_of}

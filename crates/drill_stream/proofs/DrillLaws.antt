@@ -15,7 +15,8 @@ use Rattle.frame_header.specs.Tables.{class_of, overhead_of, side_size_of}
 use Rattle.side_info.specs.Side.{payload_bytes}
 use Rattle.info_header.specs.HeadText.{has_text, low_place, head_text_of}
 use Rattle.frame_writer.specs.Laid.{zeros, start_of, end_of, CanBeLaidFrom, laid, laid_from}
-use Rattle.frame_writer.specs.Frames.{front_of, area_in, Frame, piece_of, pieces, all_kept, areas_in, framed, frame_bytes}
+use Rattle.side_info.specs.Frame.{front_of}
+use Rattle.frame_writer.specs.Frames.{area_in, Frame, piece_of, pieces, all_kept, areas_in, framed, frame_bytes}
 use Rattle.sync_survey.specs.Faults.{surveyed, HoldsStream}
 use Rattle.sync_survey.proofs.FoldersLaws.{survey_of-short}
 use Rattle.laid_files.specs.LaidFiles.{IsEntry, AreEntries, entry_of, rows_from}

@@ -12,9 +12,10 @@ ghost use Rattle.drill_stream.specs.Making.{writing_in, IsNext, next_frame, HasM
 
 use crate::draws::Draws;
 use crate::frames::{draw_payload, draw_side, drill_header};
-use frame_writer::{Frame, FrameQueue, Kept};
+use frame_writer::{Frame, FrameQueue};
 use outside::{Failed, Folder, WriteBuffer};
 use reservoir::Window;
+use side_info::FrameFront;
 use std::alloc::{AllocError, Global};
 
 /// A stream on its way to a file: the draws, the main data of one frame, the frames that wait, and the
@@ -68,12 +69,9 @@ impl Making {
         ensures counts { OnlyWrites (D.counts folder.old) (D.counts folder.new) }
     {
         let side = draw_side(&mut self.draws, self.writer.reach() as u16);
+        let front = FrameFront::new(&drill_header(), &side);
         let payload = draw_payload(&mut self.draws, side.bits(), &mut self.window);
-        let kept = Kept {
-            header: drill_header(),
-            side,
-        };
-        let frame = Frame { kept, payload };
+        let frame = Frame::new(&front, payload);
         self.writer.frame(&frame, folder, name, &mut self.unsent)
     }
 

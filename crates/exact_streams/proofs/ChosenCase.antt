@@ -10,7 +10,7 @@ use Rattle.cue_sheet.specs.Places.{frame_at}
 use Rattle.slot_plan.specs.declared.needs.Placed.{Placed}
 use Rattle.part_needs.specs.Fit.{IsPlaced}
 use Rattle.sync_survey.specs.declared.places.Head.{Head}
-use Rattle.sync_survey.specs.declared.rows.Row.{Row}
+use Rattle.sync_survey.specs.Row.{Row}
 use Rattle.sync_survey.specs.MainData.{main_bytes, StreamFrame, stream_frame, stream_frames}
 use Rattle.sync_survey.specs.Faults.{SurveyFields, stream_of, stream_of_survey}
 use Rattle.sync_survey.specs.Survey.{survey_of}

@@ -11,7 +11,7 @@ use Rattle.slot_plan.specs.Plans.{IsPlan}
 use Rattle.part_needs.specs.Needs.{need_of}
 use Rattle.part_needs.specs.Fit.{own_choice}
 use Rattle.sync_survey.specs.declared.places.Head.{Head}
-use Rattle.sync_survey.specs.declared.rows.Row.{Row}
+use Rattle.sync_survey.specs.Row.{Row}
 use Rattle.sync_survey.specs.MainData.{main_bytes, side_of, payload_at, start_of_data, place, parts_of, part_lengths, StreamFrame, stream_frame, stream_frames}
 use Rattle.sync_survey.specs.Faults.{SurveyFields, stream_of_survey}
 use Rattle.salvage.specs.Damaged.{DamagedFields, damaged, damaged_of}

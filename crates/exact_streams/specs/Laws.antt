@@ -8,7 +8,7 @@ use Rattle.cue_sheet.specs.declared.place.Place.{Place}
 use Rattle.slot_plan.specs.declared.needs.Placed.{Placed}
 use Rattle.slot_plan.specs.Plans.{IsPlan}
 use Rattle.part_needs.specs.Needs.{need_of}
-use Rattle.sync_survey.specs.declared.rows.Row.{Row}
+use Rattle.sync_survey.specs.Row.{Row}
 use Rattle.sync_survey.specs.MainData.{StreamFrame, no_slot, parts_of, part_lengths}
 use Rattle.sync_survey.specs.Faults.{SurveyFields, stream_of}
 use Rattle.sync_survey.specs.Survey.{survey_of}

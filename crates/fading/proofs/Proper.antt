@@ -8,7 +8,7 @@ use Rattle.fade_plan.specs.declared.envelope_fault.EnvelopeFault.TheVariants.{Li
 use Rattle.fade_plan.specs.Sheets.{EnvelopePoint, envelope_of}
 use Rattle.fade_plan.specs.Curves.{CurvePoint, curve_of}
 use Rattle.sync_survey.specs.declared.places.Head.{Head}
-use Rattle.sync_survey.specs.declared.rows.Row.{Row}
+use Rattle.sync_survey.specs.Row.{Row}
 use Rattle.sync_survey.specs.declared.survey_fault.SurveyFault.{SurveyFault}
 use Rattle.sync_survey.specs.MainData.{StreamFrame, main_bytes, stream_frame, stream_frames}
 use Rattle.sync_survey.specs.Faults.{SurveyFields, surveyed, stream_of_survey, stream_of, HoldsStream}

@@ -11,7 +11,7 @@ use Rattle.frame_header.specs.Fields.{ClassFields}
 use Rattle.fade_plan.specs.Curves.{CurvePoint, curve_of, steps_at, steps_back}
 use Rattle.outside.specs.Files.{Contents, with_file}
 use Rattle.outside.proofs.FilesLaws.{with_file_here, with_file_other, bytes_eq_other}
-use Rattle.sync_survey.specs.declared.rows.Row.{Row}
+use Rattle.sync_survey.specs.Row.{Row}
 use Rattle.sync_survey.specs.Faults.{SurveyFields, surveyed, stream_of, HoldsStream}
 use Rattle.sync_survey.specs.Survey.{survey_of}
 use Rattle.sync_survey.proofs.SurveyedFiles.{survey_of-parts}

@@ -15,7 +15,7 @@ use Rattle.side_info.specs.Frame.{side_in, word_said}
 use Rattle.side_info.proofs.FrameLaws.{side_in-take, word_said-take}
 use Rattle.sync_survey.specs.declared.places.PlacedFrame.{PlacedFrame}
 use Rattle.sync_survey.specs.declared.places.Head.{Head}
-use Rattle.sync_survey.specs.declared.rows.Row.{Row}
+use Rattle.sync_survey.specs.Row.{Row}
 use Rattle.sync_survey.specs.Walk.{frame_bytes, head_of}
 use Rattle.sync_survey.specs.MainData.{row_of, rows_of, own_area, head_area, lacks_data, place, end_behind, end_before, is_lost, marked_row, marked, area_bytes, head_bytes, main_bytes, payload_at, parts_of, part_lengths, side_of, start_of_data, StreamFrame, stream_frame, stream_frames}
 use Rattle.sync_survey.specs.Faults.{all_faults}

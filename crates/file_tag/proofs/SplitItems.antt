@@ -7,7 +7,7 @@ use Rattle.sync_survey.specs.declared.items.Item.TheVariants.{Frame, Free, Block
 use Rattle.sync_survey.specs.declared.places.PlacedFrame.{PlacedFrame}
 use Rattle.sync_survey.specs.declared.places.Piece.{Piece}
 use Rattle.sync_survey.specs.declared.places.Head.{Head}
-use Rattle.sync_survey.specs.declared.rows.Row.{Row}
+use Rattle.sync_survey.specs.Row.{Row}
 use Rattle.sync_survey.specs.declared.runs.Part.TheVariants.{Stream}
 use Rattle.sync_survey.specs.Items.{size_of}
 use Rattle.sync_survey.specs.Runs.{Placed, item_of, AreEndToEnd, frame_as, block_as, frames_of, blocks_of}

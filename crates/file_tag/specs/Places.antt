@@ -7,7 +7,7 @@ use Rattle.tag_blocks.specs.declared.block.Kind.TheVariants.{Id3v2, Id3v1, Ape}
 use Rattle.tag_blocks.specs.Blocks.{block_front}
 use Rattle.sync_survey.specs.declared.places.Piece.{Piece}
 use Rattle.sync_survey.specs.declared.places.Head.{Head}
-use Rattle.sync_survey.specs.declared.rows.Row.{Row}
+use Rattle.sync_survey.specs.Row.{Row}
 use Rattle.sync_survey.specs.Faults.{SurveyFields}
 
 -- ---- where the tag is

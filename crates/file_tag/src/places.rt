@@ -44,7 +44,7 @@ fn last_end(frames: &[Row]) -> u64
     ensures { result ≡ last_end_lem frames.now }
 {
     match frames.last() {
-        Some(row) => u64::from(row.offset) + u64::from(row.header.length()),
+        Some(row) => u64::from(row.offset()) + u64::from(row.header().length()),
         None => 0,
     }
 }

@@ -1,7 +1,8 @@
 //! Side information by the tables of the standard, ISO/IEC 11172-3 and 13818-3, 2.4.1.7, and check words.
 use frame_header::{Class, Header, Version};
 use side_info::{
-    Granule, NO_GRANULE as NONE, Side, check_word, check_word_of_bytes, put_gains, word_of_bytes,
+    FrameFront, Granule, NO_GRANULE as NONE, Side, check_word, check_word_of_bytes, put_gains,
+    word_of_bytes,
 };
 use std::alloc::{AllocError, Global};
 use std::process::Abort;
@@ -221,38 +222,41 @@ fn frame_of(
     Ok(frame)
 }
 
-// Whether the first frame becomes the second with the gains of the side information.
-fn becomes(header: &Header, side: &Side, before: &mut [u8], after: &[u8]) -> bool {
+// Whether a frame with this header and side information becomes the second with the gains of another.
+fn becomes(header: &Header, old: &Side, new: &Side, frame: &mut [u8], after: &[u8]) -> bool {
+    let class = header.class();
     let room = header.length() - header.area();
-    if room as usize > before.len() {
+    if room as usize > frame.len() || !old.fits(class) {
         return false;
     }
-    put_gains(header, side, before);
-    &*before == after
+    put_gains(&FrameFront::new(header, old), class, new, frame);
+    &*frame == after
 }
 
 #[test]
 fn gains_where_they_stand(rt: HostRuntime) -> Result<(), Fail> {
     const FRONT: [u8; 4] = [0xff, 0xfb, 0x10, 0x00];
     let header = Header::read(FRONT)?;
-    let mut before = frame_of(rt.alloc(), &FRONT, &BEFORE, 104)?;
+    let old = side([100, 101, 255, 90]);
+    let mut frame = frame_of(rt.alloc(), &FRONT, &BEFORE, 104)?;
     let after = frame_of(rt.alloc(), &FRONT, &AFTER, 104)?;
-    assert!(rt; becomes(&header, &side([101, 102, 0, 91]), &mut before, &after));
+    assert!(rt; becomes(&header, &old, &side([101, 102, 0, 91]), &mut frame, &after));
     Ok(())
 }
 
 #[tactic(auto, unfolding(frame_header::specs::Tables::side_size_of))]
-fn mono_side() -> Side {
+fn mono_side(gain: u8) -> Side {
     let mut side = Side::read(MPEG_2_MONO, &MONO_BEFORE);
-    side.granules[0][0].global_gain = 101;
+    side.granules[0][0].global_gain = gain;
     side
 }
 
 #[test]
 fn gains_behind_a_check_word(rt: HostRuntime) -> Result<(), Fail> {
     let header = Header::read(MONO_HEADER)?;
-    let mut before = frame_of(rt.alloc(), b"\xff\xf2\x14\xc0\xe9\x52", &MONO_BEFORE, 24)?;
+    let old = mono_side(100);
+    let mut frame = frame_of(rt.alloc(), b"\xff\xf2\x14\xc0\xe9\x52", &MONO_BEFORE, 24)?;
     let after = frame_of(rt.alloc(), b"\xff\xf2\x14\xc0\x68\xb1", &MONO_AFTER, 24)?;
-    assert!(rt; becomes(&header, &mono_side(), &mut before, &after));
+    assert!(rt; becomes(&header, &old, &mono_side(101), &mut frame, &after));
     Ok(())
 }

@@ -25,7 +25,7 @@ use Rattle.laying.proofs.ChosenFrames.{survey-had}
 use Rattle.laying.proofs.FitLaws.{plans-fit}
 use Rattle.laying.proofs.PlannedFrames.{slot_among}
 use Rattle.frame_edits.proofs.LaidLaws.{laid-slots, laid-holds, plan-slots}
-use Rattle.sync_survey.specs.declared.rows.Row.{Row}
+use Rattle.sync_survey.specs.Row.{Row}
 use Rattle.sync_survey.specs.declared.places.Head.{Head}
 use Rattle.sync_survey.specs.declared.survey_fault.SurveyFault.{SurveyFault}
 use Rattle.sync_survey.specs.Faults.{SurveyFields, HoldsStream}

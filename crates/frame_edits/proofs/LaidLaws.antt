@@ -21,7 +21,7 @@ use Rattle.laying.proofs.HoldLaws.{blocks-kept}
 use Rattle.laying.proofs.PlannedFrames.{AllSlots, slot_among}
 use Rattle.laying.proofs.RelayLaws.{range-next}
 use Rattle.laid_files.specs.LaidFiles.{HasInfoSizes}
-use Rattle.sync_survey.specs.declared.rows.Row.{Row}
+use Rattle.sync_survey.specs.Row.{Row}
 use Rattle.sync_survey.specs.Faults.{SurveyFields, HoldsStream}
 use Rattle.frame_edits.specs.Laid.{Laid, part_laid, needs_laid, frames_laid, info_laid, file_from, file_laid, stream_laid}
 

@@ -13,7 +13,7 @@ use Rattle.info_header.specs.declared.fields.Info.{Info}
 use Rattle.laying.specs.Fits.{FitsFrom}
 use Rattle.laying.specs.Relaid.{Part}
 use Rattle.laying.specs.Written.{head_info}
-use Rattle.sync_survey.specs.declared.rows.Row.{Row}
+use Rattle.sync_survey.specs.Row.{Row}
 use Rattle.sync_survey.specs.declared.survey_fault.SurveyFault.{SurveyFault}
 use Rattle.sync_survey.specs.MainData.{StreamFrame}
 use Rattle.sync_survey.specs.Faults.{SurveyFields}

@@ -9,7 +9,7 @@ use Rattle.info_header.specs.declared.fields.Info.{Info}
 use Rattle.info_header.specs.InfoFrame.{info_frame}
 use Rattle.laying.specs.Relaid.{Part, frames_in, stream_in, relaid, with_lead_ins}
 use Rattle.laying.specs.Written.{front_blocks, back_blocks, info_for}
-use Rattle.sync_survey.specs.declared.rows.Row.{Row}
+use Rattle.sync_survey.specs.Row.{Row}
 use Rattle.sync_survey.specs.MainData.{StreamFrame}
 use Rattle.sync_survey.specs.Faults.{SurveyFields}
 

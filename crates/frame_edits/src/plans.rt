@@ -6,7 +6,7 @@ ghost use Rattle.info_header.specs.InfoFrame.{info_frame};
 ghost use Rattle.slot_plan.specs.declared.needs.Placed.{Placed as PlacedFields};
 ghost use Rattle.frame_writer.specs.Frames.{Frame};
 ghost use Rattle.laying.specs.Written.{slot_in, info_for};
-ghost use Rattle.sync_survey.specs.declared.rows.Row.{Row as RowFields};
+ghost use Rattle.sync_survey.specs.Row.{Row as RowFields};
 ghost use Rattle.part_needs.specs.Needs.{need_of};
 ghost use Rattle.slot_plan.specs.Plans.{entries};
 ghost use Rattle.laying.specs.Surveys.{HasSurvey};
@@ -80,7 +80,7 @@ pub fn info_bytes(survey: &Survey, chosen: &Chosen, placed: &[Placed]) -> ArrayV
         chosen.now.kept.quality chosen.now.kept.extension) }
 {
     let fields = info_of(survey.class(), placed, &chosen.kept);
-    let first = &survey.frames()[chosen.from].header;
+    let first = &survey.frames()[chosen.from].header();
     let mut info = ArrayVec::new();
     write_info(first, &fields, &mut info);
     info

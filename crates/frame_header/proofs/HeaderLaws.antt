@@ -126,6 +126,36 @@ IsHeader-read h fields bits is =
     let ok = header_in-ok h fields is in
     subst IsHeader ok.2 (fields_in_range h bits (readable h ok.0) ok.1)
 
+version_again : (n : ℕ) → n < 4 → n ≢ 1 → version_number (cond (eqb n 3) One (cond (eqb n 2) Two TwoFive)) ≡ n
+version_again zero h some = refl
+version_again (suc zero) h some = absurd (omega arith)
+version_again (suc (suc zero)) h some = refl
+version_again (suc (suc (suc zero))) h some = refl
+version_again (suc (suc (suc (suc n)))) h some = absurd (omega arith)
+
+-- what the bits of a header say of its version, its frequency and its bit rate
+pub record SaysClass (h : List ℕ) (fields : HeaderFields) : Type 0 where
+  pub sync : group 0 11 h ≡ 2047
+  pub layer : group 13 2 h ≡ 1
+  pub version : group 11 2 h ≡ version_number fields.version
+  pub frequency : frequency_bits h ≡ fields.frequency_index
+  pub some : 1 ≤ rate_bits h
+  pub most : rate_bits h ≤ 14
+
+pub says_class : (h : List ℕ) (fields : HeaderFields) → AreBits h → header_in h ≡ good fields → SaysClass h fields
+unfolding header_fields
+says_class h fields bits is =
+    let ok = header_in-ok h fields is in
+    let tests = readable h ok.0 in
+    record {
+      sync = tests.sync;
+      layer = tests.layer;
+      version = sym (version_again _ (group-below 11 2 h bits) tests.version) ∙ ap (λ (f : HeaderFields). version_number f.version) ok.2;
+      frequency = ap (λ (f : HeaderFields). f.frequency_index) ok.2;
+      some = omega (arith, ok.1);
+      most = omega (arith, tests.rate, group-below 16 4 h bits);
+    }
+
 pub IsHeader-header_at : (four : List ℕ) (fields : HeaderFields) → header_at four ≡ good fields → IsHeader fields
 unfolding header_at
 IsHeader-header_at four fields is = IsHeader-read (bits four) fields (AreBits-bits four) is
@@ -282,13 +312,6 @@ flag_again : (bit : ℕ) → bit < 2 → flag_of (eqb bit 1) ≡ bit
 flag_again zero h = refl
 flag_again (suc zero) h = refl
 flag_again (suc (suc bit)) h = absurd (omega arith)
-
-version_again : (n : ℕ) → n < 4 → n ≢ 1 → version_number (cond (eqb n 3) One (cond (eqb n 2) Two TwoFive)) ≡ n
-version_again zero h some = refl
-version_again (suc zero) h some = absurd (omega arith)
-version_again (suc (suc zero)) h some = refl
-version_again (suc (suc (suc zero))) h some = refl
-version_again (suc (suc (suc (suc n)))) h some = absurd (omega arith)
 
 protection_again : (bit : ℕ) → bit < 2 → protection_of (eqb bit 0) ≡ bit
 protection_again zero h = refl

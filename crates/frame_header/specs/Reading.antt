@@ -1,12 +1,13 @@
 -- The 32 bits of a header (ISO/IEC 11172-3 and 13818-3, 2.4.1.3 and 2.4.2.3).
-use Rattle.std.specs.Prelude.{ℕ, ◌==◌, ◌&&◌, not, if◌then◌else◌, Bool, List, Result, Ok, Err}
+use Rattle.std.specs.Prelude.{ℕ, ◌==◌, ◌&&◌, not, if◌then◌else◌, Bool, List, Result, Ok, Err, Option, Some, None}
 use Rattle.bit_fields.specs.Bits.{bits}
 use Rattle.bit_fields.specs.Groups.{group}
 use Rattle.frame_header.specs.declared.version.Version.{Version}
 use Rattle.frame_header.specs.declared.version.Version.TheVariants.{One, Two, TwoFive}
 use Rattle.frame_header.specs.declared.header.NotHeader.{NotHeader}
 use Rattle.frame_header.specs.declared.header.NotHeader.TheVariants.{Free, No}
-use Rattle.frame_header.specs.Fields.{HeaderFields}
+use Rattle.frame_header.specs.Fields.{ClassFields, HeaderFields, same_class}
+use Rattle.frame_header.specs.Tables.{class_of}
 
 -- groups of these 32 bits; first the twelfth bit and ID
 abbrev pub version_bits : List ℕ → ℕ
@@ -50,3 +51,8 @@ header_in h = if is_readable h then (if rate_bits h == 0 then Err Free else Ok (
 -- the header that four bytes are
 unfoldable pub header_at : List ℕ → Result HeaderFields NotHeader
 header_at four = header_in (bits four)
+
+-- the same header, if it is of this class
+abbrev pub header_of_class : ClassFields → Result HeaderFields NotHeader → Option HeaderFields
+header_of_class class (Ok h) = if same_class (class_of h) class then Some h else None
+header_of_class class (Err why) = None

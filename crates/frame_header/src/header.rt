@@ -1,10 +1,10 @@
 //! The 32 bits with which a frame begins.
-ghost use Rattle.std.specs.Prelude.{◌≡◌, ℕ, ◌+◌, ◌^◌, ◌<◌, ◌≤◌, ◌==◌, false, List, length};
+ghost use Rattle.std.specs.Prelude.{◌≡◌, ℕ, ◌+◌, ◌^◌, ◌<◌, ◌≤◌, ◌==◌, true, false, List, Ok, length};
 ghost use Rattle.bit_fields.specs.Bits.{bits, bits_of, AreBytes};
 ghost use Rattle.bit_fields.specs.Groups.{group};
 ghost use Rattle.frame_header.specs.Tables.{class_of, length_of, overhead_of, area_of};
-ghost use Rattle.frame_header.specs.Reading.{header_at, header_in, is_readable as is_readable_lem, version_of as version_of_lem};
-ghost use Rattle.frame_header.specs.Fields.{version_number};
+ghost use Rattle.frame_header.specs.Reading.{header_at, header_in, rate_bits, frequency_bits, header_of_class, is_readable as is_readable_lem, version_of as version_of_lem};
+ghost use Rattle.frame_header.specs.Fields.{HeaderFields, version_number};
 ghost use Rattle.frame_header.specs.HeaderBits.{header_bits};
 
 use crate::class::Class;
@@ -103,11 +103,40 @@ fn version_of(word: u32) -> Version
     }
 }
 
+/// The header that readable bits are, which aren't free format, by their version and frequency index.
+#[inline(always)]
+#[tactic(auto, unfolding(crate::specs::Reading::header_in, crate::specs::Reading::header_fields))]
+fn header_of(word: u32, version: Version, frequency_index: u8) -> Header
+    requires readable { is_readable_lem (bits_of 32 word) ≡ true }
+    requires some { 1 ≤ rate_bits (bits_of 32 word) }
+    requires most { rate_bits (bits_of 32 word) ≤ 14 }
+    requires index { frequency_index ≤ 2 }
+    requires version { version ≡ version_of_lem (bits_of 32 word) }
+    requires frequency { frequency_index ≡ frequency_bits (bits_of 32 word) }
+    ensures { header_in (bits_of 32 word) ≡ Ok result }
+{
+    Header {
+        version,
+        protected: group_of(word, 15, 1) == 0,
+        slot: Slot {
+            rate_index: group_of(word, 16, 4) as u8,
+            padding: is_set(word, 22),
+        },
+        frequency_index,
+        private_bit: is_set(word, 23),
+        mode: group_of(word, 24, 2) as u8,
+        mode_extension: group_of(word, 26, 2) as u8,
+        copyright: is_set(word, 28),
+        original: is_set(word, 29),
+        emphasis: group_of(word, 30, 2) as u8,
+    }
+}
+
 /// Reads the 32 bits of a header.
 ///
 /// # Errors
 /// `No` where they aren't readable, `Free` where they are with bit rate index 0.
-#[tactic(auto, unfolding(crate::specs::Reading::header_in, crate::specs::Reading::header_fields, crate::specs::Reading::is_readable))]
+#[tactic(auto, unfolding(crate::specs::Reading::header_in, crate::specs::Reading::is_readable))]
 fn read_word(word: u32) -> Result<Header, NotHeader>
     ensures { result ≡ header_in (bits_of 32 word) }
 {
@@ -117,21 +146,27 @@ fn read_word(word: u32) -> Result<Header, NotHeader>
     if group_of(word, 16, 4) == 0 {
         return Err(NotHeader::Free);
     }
-    Ok(Header {
-        version: version_of(word),
-        protected: group_of(word, 15, 1) == 0,
-        slot: Slot {
-            rate_index: group_of(word, 16, 4) as u8,
-            padding: is_set(word, 22),
-        },
-        frequency_index: group_of(word, 20, 2) as u8,
-        private_bit: is_set(word, 23),
-        mode: group_of(word, 24, 2) as u8,
-        mode_extension: group_of(word, 26, 2) as u8,
-        copyright: is_set(word, 28),
-        original: is_set(word, 29),
-        emphasis: group_of(word, 30, 2) as u8,
-    })
+    let frequency_index = group_of(word, 20, 2) as u8;
+    Ok(header_of(word, version_of(word), frequency_index))
+}
+
+/// Whether these are the bits of a header with this version and sampling frequency, and not free format.
+#[inline(always)]
+#[tactic(auto, using(crate::proofs::HeaderLaws::says_class), unfolding(crate::specs::Reading::is_readable))]
+fn is_header_of(class: Class, word: u32) -> bool
+    ensures readable { result ≡ true → is_readable_lem (bits_of 32 word) ≡ true }
+    ensures some { result ≡ true → 1 ≤ rate_bits (bits_of 32 word) }
+    ensures most { result ≡ true → rate_bits (bits_of 32 word) ≤ 14 }
+    ensures version { result ≡ true → class.version ≡ version_of_lem (bits_of 32 word) }
+    ensures frequency { result ≡ true → class.frequency_index ≡ frequency_bits (bits_of 32 word) }
+    ensures all { (h : HeaderFields) → header_in (bits_of 32 word) ≡ Ok h
+        → h.version ≡ class.version → h.frequency_index ≡ class.frequency_index → result ≡ true }
+{
+    let rate_index = group_of(word, 16, 4);
+    let synced = (group_of(word, 0, 11) == 0x7ff) & (group_of(word, 13, 2) == 1);
+    let version = group_of(word, 11, 2) == version_bits(class.version);
+    let frequency = group_of(word, 20, 2) == u32::from(class.frequency_index);
+    synced & version & frequency & (1 <= rate_index) & (rate_index <= 14)
 }
 
 /// The twelfth bit of a header, which is 0 in MPEG-2.5 alone, and the bit ID after it, which is 1 in MPEG-1
@@ -179,11 +214,27 @@ impl Header {
         read_word(word_at(&bytes))
     }
 
+    /// The header that four bytes are, if it is of this class, as those of all frames of a stream are. It is read faster than
+    /// by `read`, which has to tell all headers apart.
+    #[inline(always)]
+    #[tactic(auto, unfolding(crate::specs::Reading::header_at, crate::specs::Reading::header_in))]
+    pub fn read_of(class: Class, bytes: [u8; 4]) -> Option<Header>
+        ensures { result ≡ header_of_class class (header_at bytes) }
+    {
+        let word = word_at(&bytes);
+        if !is_header_of(class, word) {
+            return None;
+        }
+        let header = header_of(word, class.version, class.frequency_index);
+        header.class().is_same(class).then_some(header)
+    }
+
     /// The four bytes of the header (ISO/IEC 11172-3 and 13818-3, 2.4.1.3). Reading them gives the
     /// header back, and where the header was read they are the bytes that it was read from.
     pub fn bytes(&self) -> [u8; 4]
         ensures bits { bits result ≡ header_bits self.now }
         ensures back { header_at result ≡ Ok self.now }
+        ensures octets { AreBytes result }
         ensures same { (four : List ℕ) → AreBytes four → length four ≡ 4
             → header_at four ≡ Ok self.now → result ≡ four }
     {

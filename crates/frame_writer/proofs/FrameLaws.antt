@@ -1,30 +1,23 @@
 -- Laws of frames that wait.
-use Rattle.std.proofs.Common.{◌≡◌, ℕ, ◌⊎◌, inl, inr, ◌+◌, ◌*◌, ◌-◌, ◌≤◌, ◌<◌, min, Bool, true, false, cond, eqb, List, [], ◌∷◌, ◌++◌, length, take, drop, refl, sym, subst, ap, ap₂, ◌∙◌, append_assoc, append-nil, arith, length-append, mul-suc, lit≤}
-use Rattle.std.proofs.lemmas.List.{length-drop, take-append-le, drop-append-le, map-append, drop-drop}
-use Rattle.std.proofs.Math.Seq.{drop-append-add, take-length}
+use Rattle.std.proofs.Common.{◌≡◌, ℕ, ◌⊎◌, inl, inr, ◌+◌, ◌*◌, ◌≤◌, ◌<◌, min, Bool, true, false, cond, eqb, List, [], ◌∷◌, ◌++◌, length, take, drop, refl, sym, subst, ap, ap₂, ◌∙◌, append_assoc, append-nil, arith, length-append, mul-suc, lit≤}
+use Rattle.std.proofs.lemmas.List.{length-drop, take-append-le, drop-append-le, map-append}
+use Rattle.std.proofs.Math.Seq.{take-length}
 use Rattle.std.proofs.Math.Nat.{min-eq_left, min-eq_right}
-use Rattle.std.proofs.lemmas.Bool.{cases_lt}
+use Rattle.std.proofs.lemmas.Bool.{cases_lt, false≢true}
 use Rattle.frame_header.specs.Fields.{ClassFields, SlotFields, IsClass, IsSlot, IsHeader}
 use Rattle.frame_header.specs.declared.version.Version.{Version}
 use Rattle.frame_header.specs.declared.version.Version.TheVariants.{One, Two, TwoFive}
 use Rattle.frame_header.specs.Tables.{class_of, area_of, overhead_of, side_size_of, side_bytes_of, window_of}
-use Rattle.frame_header.specs.HeaderBits.{header_bits}
-use Rattle.frame_header.specs.Reading.{header_in, header_at}
-use Rattle.frame_header.specs.Fields.{HeaderFields}
-use Rattle.frame_header.proofs.HeaderLaws.{IsClass-class_of, AreBits-header_bits, length-header_bits}
+use Rattle.frame_header.proofs.HeaderLaws.{IsClass-class_of}
 use Rattle.frame_header.proofs.Lengths.{least_length, length-least}
-use Rattle.frame_header.proofs.SlotLaws.{area-most}
-use Rattle.bit_fields.specs.Bits.{bits, bytes, AreBytes}
-use Rattle.bit_fields.proofs.BitsLaws.{AreBytes-bytes, length-bytes, bits-bytes}
-use Rattle.side_info.specs.declared.side.Side.{Side}
-use Rattle.side_info.specs.Side.{SideFits, side_bits}
-use Rattle.side_info.specs.Frame.{frame_with, word_part}
-use Rattle.side_info.proofs.FrameLaws.{overhead-least}
-use Rattle.circular_buffer.specs.Buffer.{Buffer, buffer, keep_last}
-use Rattle.std.specs.Prelude.{slice_get, Some, unwrap_or, Ok}
-use Rattle.frame_writer.specs.declared.frames.Kept.{Kept}
+use Rattle.frame_header.proofs.SlotLaws.{area-is, area-most}
+use Rattle.side_info.specs.Side.{SideFits}
+use Rattle.side_info.specs.Frame.{front_of}
+use Rattle.circular_buffer.specs.Buffer.{Buffer, buffer}
+use Rattle.std.specs.Prelude.{slice_get, Some, unwrap_or, Result, Ok, Err, IsOk, OnOk, ◌↔◌}
+use Rattle.side_info.specs.FrameFields.{FrameFields}
 use Rattle.frame_writer.specs.Laid.{Piece, Waiting, laid, AreLaid, BeginsWithin}
-use Rattle.frame_writer.specs.Frames.{front_of, area_in, areas_in, first_bytes, framed, Frame, piece_of, all_kept, pieces, frame_bytes, Held, held_bytes, AreOf, IsNextSettled, AreWritten}
+use Rattle.frame_writer.specs.Frames.{area_in, areas_in, first_bytes, framed, Frame, piece_of, all_kept, pieces, frame_bytes, Held, held_bytes, AreOf, IsNextSettled, AreWritten}
 use Rattle.frame_writer.proofs.LaidLaws.{laid-later}
 use Rattle.frame_writer.specs.Writing.{IsNew}
 use Rattle.frame_writer.specs.Laws.{LaidSteps, HaveRoom, FewWait}
@@ -32,7 +25,7 @@ use Rattle.frame_writer.specs.Laws.{LaidSteps, HaveRoom, FewWait}
 -- ---- areas cut off one after another
 
 -- frames after others
-pub framed-more : (ks js : List Kept) (xs ys : List ℕ) → length xs ≡ areas_in ks → framed (ks ++ js) (xs ++ ys) ≡ framed ks xs ++ framed js ys
+pub framed-more : (ks js : List FrameFields) (xs ys : List ℕ) → length xs ≡ areas_in ks → framed (ks ++ js) (xs ++ ys) ≡ framed ks xs ++ framed js ys
 framed-more [] js [] ys long = refl
 framed-more [] js (x ∷ xs) ys long = absurd (omega (arith, long))
 framed-more (k ∷ ks) js xs ys long =
@@ -45,7 +38,7 @@ framed-more (k ∷ ks) js xs ys long =
     ∙ ap (λ (qs : List ℕ). front ++ qs) (sym (append_assoc (take n xs) (framed ks (drop n xs)) (framed js ys)))
     ∙ sym (append_assoc front (take n xs ++ framed ks (drop n xs)) (framed js ys))
 
-areas_in-more : (xs : List Kept) (k : Kept) → areas_in (xs ++ k ∷ []) ≡ areas_in xs + area_in k
+areas_in-more : (xs : List FrameFields) (k : FrameFields) → areas_in (xs ++ k ∷ []) ≡ areas_in xs + area_in k
 areas_in-more [] k = omega arith
 areas_in-more (x ∷ xs) k = omega (arith, areas_in-more xs k)
 
@@ -63,21 +56,21 @@ pub none-new : (c : ClassFields) → AreLaid [] (record { bytes = []; free = 0 }
 none-new c are = record { class_is = refl; none = refl; free = refl; written = none-written c are; unsettled = λ next. omega (arith, next.some) }
 
 -- one frame more
-pub more-written : (taken : List ℕ) (c : ClassFields) (kept : List Kept) (waiting more : Waiting) (fs : List Frame) (f : Frame) →
+pub more-written : (taken : List ℕ) (c : ClassFields) (kept : List FrameFields) (waiting more : Waiting) (fs : List Frame) (f : Frame) →
     ((given : List ℕ) (ps : List Piece) → AreLaid given waiting ps → AreLaid given more (ps ++ piece_of f ∷ [])) →
     AreWritten taken (record { class = c; kept = kept; waiting = waiting }) fs →
     AreWritten taken (record { class = c; kept = kept ++ f.kept ∷ []; waiting = more }) (fs ++ f ∷ [])
 more-written taken c kept waiting more fs f step are = record {
   done = are.done;
   given = are.given;
-  all = sym (append_assoc are.done kept (f.kept ∷ [])) ∙ ap (λ (ks : List Kept). ks ++ f.kept ∷ []) are.all ∙ sym (map-append (λ (g : Frame). g.kept) fs (f ∷ []));
+  all = sym (append_assoc are.done kept (f.kept ∷ [])) ∙ ap (λ (ks : List FrameFields). ks ++ f.kept ∷ []) are.all ∙ sym (map-append (λ (g : Frame). g.kept) fs (f ∷ []));
   long = are.long;
   laid = subst (AreLaid are.given more) (sym (map-append piece_of fs (f ∷ []))) (step are.given (pieces fs) are.laid);
   bytes = are.bytes;
 }
 
 -- the first frame taken
-pub first-written : (taken area_bytes : List ℕ) (c : ClassFields) (k : Kept) (ks : List Kept) (waiting less : Waiting) (fs : List Frame) →
+pub first-written : (taken area_bytes : List ℕ) (c : ClassFields) (k : FrameFields) (ks : List FrameFields) (waiting less : Waiting) (fs : List Frame) →
     length area_bytes ≡ area_in k →
     ((given : List ℕ) (ps : List Piece) → AreLaid given waiting ps → AreLaid (given ++ area_bytes) less ps) →
     AreWritten taken (record { class = c; kept = k ∷ ks; waiting = waiting }) fs →
@@ -100,7 +93,7 @@ pub later-frames : (taken : List ℕ) (held : Held) (fs more : List Frame) → A
 later-frames taken held fs more are within =
     let found = laid-later are.given held.waiting (pieces fs) (pieces more) are.laid within in
     let all : all_kept (fs ++ more) ≡ are.done ++ (held.kept ++ all_kept more) =
-    map-append (λ (f : Frame). f.kept) fs more ∙ ap (λ (ks : List Kept). ks ++ all_kept more) (sym are.all) ∙ append_assoc are.done held.kept (all_kept more) in (
+    map-append (λ (f : Frame). f.kept) fs more ∙ ap (λ (ks : List FrameFields). ks ++ all_kept more) (sym are.all) ∙ append_assoc are.done held.kept (all_kept more) in (
       framed (held.kept ++ all_kept more) found.0,
       ap₂ framed all (ap laid (map-append piece_of fs more) ∙ found.1)
           ∙ framed-more are.done (held.kept ++ all_kept more) are.given found.0 are.long
@@ -109,58 +102,35 @@ later-frames taken held fs more are within =
 
 -- ---- frames in their queue
 
-pub AreOf-more : (c : ClassFields) (ks : List Kept) (k : Kept) → AreOf c ks → IsHeader k.header → class_of k.header ≡ c → SideFits c k.side → AreOf c (ks ++ k ∷ [])
+pub AreOf-more : (c : ClassFields) (ks : List FrameFields) (k : FrameFields) → AreOf c ks → IsHeader k.header → class_of k.header ≡ c → SideFits c k.side → AreOf c (ks ++ k ∷ [])
 AreOf-more c [] k are is same fits = (is, same, fits, tt)
 AreOf-more c (j ∷ ks) k are is same fits = (are.0, are.1, are.2, AreOf-more c ks k are.3 is same fits)
 
-pub areas_in-pushed : (ks : List Kept) (k : Kept) (bytes more : List ℕ) → areas_in ks ≡ length bytes → length more ≡ length bytes + area_in k →
+pub areas_in-pushed : (ks : List FrameFields) (k : FrameFields) (bytes more : List ℕ) → areas_in ks ≡ length bytes → length more ≡ length bytes + area_in k →
     areas_in (ks ++ k ∷ []) ≡ length more
 areas_in-pushed ks k bytes more same long = omega (arith, areas_in-more ks k, same, long)
 
-pub pushed-kept : (old new : Buffer Kept) (k : Kept) → old.capacity ≡ 256 → length old.items < 256 → new ≡ buffer (keep_last old.capacity (old.items ++ k ∷ [])) old.capacity →
-    (new.capacity ≡ 256) × (new.items ≡ old.items ++ k ∷ [])
-pushed-kept old new k many few is =
-    let none : length (old.items ++ k ∷ []) - old.capacity ≡ 0 = omega (arith, length-append old.items (k ∷ []), many, few) in
-    (ap (λ (b : Buffer Kept). b.capacity) is ∙ many, ap (λ (b : Buffer Kept). b.items) is ∙ ap (λ n. drop n (old.items ++ k ∷ [])) none)
+pub pushed-kept : {R : Type 0} (old new : Buffer FrameFields) (k : FrameFields) (r : Result R FrameFields) → old.capacity ≡ 256 → length old.items < 256 → (IsOk r ↔ (length old.items < old.capacity)) →
+    OnOk r (new ≡ buffer (old.items ++ k ∷ []) old.capacity) → (new.capacity ≡ 256) × (new.items ≡ old.items ++ k ∷ [])
+pushed-kept old new k (Ok x) many few when is = (ap (λ (b : Buffer FrameFields). b.capacity) is ∙ many, ap (λ (b : Buffer FrameFields). b.items) is)
+pushed-kept old new k (Err e) many few when is = absurd (false≢true (when.1 (omega (arith, many, few))))
 
-pub first-kept : (ks : List Kept) (k : Kept) → 0 < length ks → slice_get ks 0 ≡ Some k → ks ≡ k ∷ drop 1 ks
+pub first-kept : (ks : List FrameFields) (k : FrameFields) → 0 < length ks → slice_get ks 0 ≡ Some k → ks ≡ k ∷ drop 1 ks
 first-kept [] k some is = absurd (omega (arith, some))
-first-kept (j ∷ ks) k some is = ap (λ (i : Kept). i ∷ ks) (ap (λ o. unwrap_or o j) is)
+first-kept (j ∷ ks) k some is = ap (λ (i : FrameFields). i ∷ ks) (ap (λ o. unwrap_or o j) is)
 
 -- ---- the bytes of a frame
 
--- the bytes of a header, by its bits
-pub header-bytes : (h : HeaderFields) (four : List ℕ) → bits four ≡ header_bits h → header_at four ≡ Ok h →
-    ((xs : List ℕ) → AreBytes xs → length xs ≡ 4 → header_at xs ≡ Ok h → four ≡ xs) → four ≡ bytes (header_bits h)
-unfolding header_at
-header-bytes h four is back same =
-    same (bytes (header_bits h)) (AreBytes-bytes (header_bits h) (AreBits-header_bits h)) (length-bytes 4 (header_bits h) (length-header_bits h))
-    (ap header_in (bits-bytes 4 (header_bits h) (AreBits-header_bits h) (length-header_bits h) ∙ sym is) ∙ back)
-
-behind_four : (n : ℕ) (four frame : List ℕ) → length four ≡ 4 → 4 ≤ n → drop n (four ++ drop 4 frame) ≡ drop n frame
-behind_four n four frame long least =
-    let split : n ≡ length four + (n - 4) = omega (arith, long, least) in
-    let back : 4 + (n - 4) ≡ n = omega (arith, least) in
-    ap (λ k. drop k (four ++ drop 4 frame)) split
-    ∙ drop-append-add four (drop 4 frame) (n - 4)
-    ∙ drop-drop (n - 4) 4 frame
-    ∙ ap (λ k. drop k frame) back
-
-pub front-put : (h : HeaderFields) (s : Side) (four frame new : List ℕ) → four ≡ bytes (header_bits h) → new ≡ frame_with h s (four ++ drop 4 frame) →
-    new ≡ front_of h s ++ drop (overhead_of (class_of h) h.protected) frame
-unfolding frame_with front_of
-front-put h s four frame new is put =
-    let n = overhead_of (class_of h) h.protected in
-    let long : length four ≡ 4 = ap length is ∙ length-bytes 4 (header_bits h) (length-header_bits h) in
-    let first : take 4 (four ++ drop 4 frame) ≡ bytes (header_bits h) =
-    take-append-le 4 four (drop 4 frame) (omega (arith, long)) ∙ ap (λ k. take k four) (sym long) ∙ take-length four ∙ is in
-    put
-    ∙ ap₂ (λ (xs ys : List ℕ). xs ++ (word_part h s ++ (bytes (side_bits (class_of h) s) ++ ys))) first (behind_four n four frame long (overhead-least (class_of h) h.protected))
-    ∙ ap (λ (xs : List ℕ). bytes (header_bits h) ++ xs) (sym (append_assoc (word_part h s) (bytes (side_bits (class_of h) s)) (drop n frame)))
-    ∙ sym (append_assoc (bytes (header_bits h)) (word_part h s ++ bytes (side_bits (class_of h) s)) (drop n frame))
+-- how long the area of a frame is
+pub area-range : (k : FrameFields) → IsHeader k.header → (1 ≤ area_in k) × (area_in k ≤ 1441)
+area-range k is =
+    let class = IsClass-class_of k.header is in (
+      (area-is (class_of k.header) k.header.slot k.header.protected class is.slot).1,
+      omega (arith, area-most (class_of k.header) k.header.slot k.header.protected class is.slot),
+    )
 
 -- the bytes of a first frame, and those of the frames after it
-pub first-framed : (k : Kept) (ks : List Kept) (bytes : List ℕ) → first_bytes k bytes ++ framed ks (drop (area_in k) bytes) ≡ framed (k ∷ ks) bytes
+pub first-framed : (k : FrameFields) (ks : List FrameFields) (bytes : List ℕ) → first_bytes k bytes ++ framed ks (drop (area_in k) bytes) ≡ framed (k ∷ ks) bytes
 first-framed k ks bytes = append_assoc (front_of k.header k.side) (take (area_in k) bytes) (framed ks (drop (area_in k) bytes))
 
 pub length-front : (n : ℕ) (frame front into : List ℕ) → frame ≡ front ++ drop n into → length frame ≡ length into → n ≤ length into → length front ≡ n
@@ -191,11 +161,11 @@ unfolding area_of overhead_of side_size_of
 area-least c s true class is = omega (arith, length-least c s class is, least_room c.version c.channels)
 area-least c s false class is = omega (arith, length-least c s class is, least_room c.version c.channels)
 
-kept-least : (c : ClassFields) (k : Kept) → IsClass c → IsHeader k.header → class_of k.header ≡ c → least_of c.version ≤ area_in k
+kept-least : (c : ClassFields) (k : FrameFields) → IsClass c → IsHeader k.header → class_of k.header ≡ c → least_of c.version ≤ area_in k
 kept-least c k class is same =
     subst (λ d. least_of c.version ≤ area_of d k.header.slot k.header.protected) (sym same) (area-least c k.header.slot k.header.protected class is.slot)
 
-many : (c : ClassFields) (m : ℕ) (ks : List Kept) → IsClass c → AreOf c ks → m ≡ least_of c.version → m * length ks ≤ areas_in ks
+many : (c : ClassFields) (m : ℕ) (ks : List FrameFields) → IsClass c → AreOf c ks → m ≡ least_of c.version → m * length ks ≤ areas_in ks
 many c m [] class are is = omega arith
 many c m (k ∷ ks) class are is =
     omega (arith, mul-suc m (length ks), many c m ks class are.3 is, kept-least c k class are.0 are.1, is)
@@ -215,7 +185,7 @@ least_left : (m n : ℕ) → (n < m) ⊎ (m ≤ n) → min m n ≤ m
 least_left m n (inl less) = let le : n ≤ m = omega (arith, less) in let is : min m n ≡ n = min-eq_right le in omega (arith, is, le)
 least_left m n (inr more) = let is : min m n ≡ m = min-eq_left more in omega (arith, is)
 
-have_room : (c : ClassFields) (kept : List Kept) (waiting : Waiting) → AreOf c kept → areas_in kept ≡ length waiting.bytes →
+have_room : (c : ClassFields) (kept : List FrameFields) (waiting : Waiting) → AreOf c kept → areas_in kept ≡ length waiting.bytes →
     (IsNextSettled (record { class = c; kept = kept; waiting = waiting }) → ⊥) → HaveRoom (record { class = c; kept = kept; waiting = waiting })
 have_room c [] waiting are same unsettled = record { few = lit≤ tt; room = omega (arith, same) }
 have_room c (k ∷ ks) waiting are same unsettled =

@@ -6,7 +6,7 @@ use Rattle.outside.specs.Files.{Files, appended}
 use Rattle.outside.specs.Passed.{PassedOn, AppendedPrefix}
 use Rattle.outside.proofs.FilesLaws.{appended_twice}
 use Rattle.outside.proofs.PassedLaws.{passed_with, passed_then_prefix, passed_more, passed_more_prefix}
-use Rattle.frame_writer.specs.declared.frames.Kept.{Kept}
+use Rattle.side_info.specs.FrameFields.{FrameFields}
 use Rattle.frame_header.specs.Fields.{ClassFields}
 use Rattle.frame_writer.specs.Laid.{Piece, Waiting, AreLaid}
 use Rattle.frame_writer.specs.Frames.{Frame, Held, area_in, first_bytes, framed, held_bytes, IsNextSettled, AreWritten}
@@ -64,27 +64,27 @@ handed-then {old} {mid} {new} p q = record {
 }
 
 -- the first frame was taken
-pub first-handed : (old : Held) (c : ClassFields) (k : Kept) (ks left : List Kept) (waiting less : Waiting) → record { class = c; kept = ks; waiting = waiting } ≡ old → ks ≡ k ∷ drop 1 ks → left ≡ drop 1 ks →
+pub first-handed : (old : Held) (c : ClassFields) (k : FrameFields) (ks left : List FrameFields) (waiting less : Waiting) → record { class = c; kept = ks; waiting = waiting } ≡ old → ks ≡ k ∷ drop 1 ks → left ≡ drop 1 ks →
     less.bytes ≡ drop (area_in k) waiting.bytes →
     ((given : List ℕ) (ps : List Piece) → AreLaid given waiting ps → AreLaid (given ++ take (area_in k) waiting.bytes) less ps) → area_in k ≤ length waiting.bytes →
     HandedOn old (record { class = c; kept = left; waiting = less })
 first-handed old c k ks left waiting less view is rest drops step within = record {
   moved = first_bytes k waiting.bytes;
   bytes =
-      ap₂ (λ (js : List Kept) (xs : List ℕ). first_bytes k waiting.bytes ++ framed js xs) rest drops
+      ap₂ (λ (js : List FrameFields) (xs : List ℕ). first_bytes k waiting.bytes ++ framed js xs) rest drops
       ∙ first-framed k (drop 1 ks) waiting.bytes
-      ∙ ap (λ (js : List Kept). framed js waiting.bytes) (sym is)
+      ∙ ap (λ (js : List FrameFields). framed js waiting.bytes) (sym is)
       ∙ ap held_bytes view;
   class = ap (λ (h : Held). h.class) view;
   written = λ taken fs are.
-      subst (λ (js : List Kept). AreWritten (taken ++ first_bytes k waiting.bytes) (record { class = c; kept = js; waiting = less }) fs) (sym rest)
+      subst (λ (js : List FrameFields). AreWritten (taken ++ first_bytes k waiting.bytes) (record { class = c; kept = js; waiting = less }) fs) (sym rest)
       (first-written taken (take (area_in k) waiting.bytes) c k (drop 1 ks) waiting less fs (length-take-le (area_in k) waiting.bytes within) step
-      (subst (λ (js : List Kept). AreWritten taken (record { class = c; kept = js; waiting = waiting }) fs) is
+      (subst (λ (js : List FrameFields). AreWritten taken (record { class = c; kept = js; waiting = waiting }) fs) is
       (subst (λ (h : Held). AreWritten taken h fs) (sym view) are)));
 }
 
 -- the first frame was taken, and a prefix of it was written
-pub first-part : (name unsent : List ℕ) (old : Held) (c : ClassFields) (k : Kept) (ks left : List Kept) (waiting less : Waiting) (f g : Files) → record { class = c; kept = ks; waiting = waiting } ≡ old →
+pub first-part : (name unsent : List ℕ) (old : Held) (c : ClassFields) (k : FrameFields) (ks left : List FrameFields) (waiting less : Waiting) (f g : Files) → record { class = c; kept = ks; waiting = waiting } ≡ old →
     ks ≡ k ∷ drop 1 ks → left ≡ drop 1 ks → less.bytes ≡ drop (area_in k) waiting.bytes →
     ((given : List ℕ) (ps : List Piece) → AreLaid given waiting ps → AreLaid (given ++ take (area_in k) waiting.bytes) less ps) → area_in k ≤ length waiting.bytes →
     AppendedPrefix name (unsent ++ first_bytes k waiting.bytes) f g → HandedPart name (writing old unsent) (record { class = c; kept = left; waiting = less }) f g
@@ -158,7 +158,7 @@ part-then name old mid held f g h passed on part =
 -- if no frame waits, all that waits is in the buffer
 pub none-left : (held : Held) (unsent : List ℕ) → length held.kept ≡ 0 → waiting_bytes (writing held unsent) ≡ unsent
 none-left held unsent none =
-    ap (λ (ks : List Kept). unsent ++ framed ks held.waiting.bytes) (nil_from_length held.kept none) ∙ append-nil unsent
+    ap (λ (ks : List FrameFields). unsent ++ framed ks held.waiting.bytes) (nil_from_length held.kept none) ∙ append-nil unsent
 
 -- first some bytes were passed on, and then others
 pub passed-two : {name mid after : List ℕ} {f g h : Files} (before a b c : List ℕ) → a ++ b ≡ c → PassedOn name (before ++ a) mid f g → PassedOn name (mid ++ b) after g h → PassedOn name (before ++ c) after f h

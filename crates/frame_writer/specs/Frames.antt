@@ -1,40 +1,33 @@
 -- Frames with the main data of all of them laid into their areas (ISO/IEC 11172-3 and 13818-3, 2.4.1).
 use Rattle.std.specs.Prelude.{◌≡◌, ℕ, ◌+◌, ◌-◌, ◌<◌, ◌≤◌, min, List, [], ◌∷◌, ◌++◌, length, take, drop, map}
-use Rattle.bit_fields.specs.Bits.{bytes}
 use Rattle.frame_header.specs.Fields.{HeaderFields, ClassFields, IsHeader}
 use Rattle.frame_header.specs.Tables.{class_of, area_of, window_of}
-use Rattle.frame_header.specs.HeaderBits.{header_bits}
 use Rattle.side_info.specs.declared.side.Side.{Side}
-use Rattle.side_info.specs.Side.{side_bits, SideFits}
-use Rattle.side_info.specs.Frame.{word_part}
-use Rattle.frame_writer.specs.declared.frames.Kept.{Kept}
+use Rattle.side_info.specs.Side.{SideFits}
+use Rattle.side_info.specs.Frame.{front_of}
+use Rattle.side_info.specs.FrameFields.{FrameFields}
 use Rattle.frame_writer.specs.Laid.{Piece, Waiting, laid, laid_behind, AreLaid}
 
--- the front of a frame: the header, the check word of a protected frame, which is right for this header and this side information, and the
--- side information
-unfoldable pub front_of : HeaderFields → Side → List ℕ
-front_of h s = bytes (header_bits h) ++ (word_part h s ++ bytes (side_bits (class_of h) s))
-
-abbrev pub area_in : Kept → ℕ
+abbrev pub area_in : FrameFields → ℕ
 area_in k = area_of (class_of k.header) k.header.slot k.header.protected
 
-abbrev pub areas_in : List Kept → ℕ
+abbrev pub areas_in : List FrameFields → ℕ
 areas_in [] = 0
 areas_in (k ∷ ks) = area_in k + areas_in ks
 
 -- the area of the first frame
-abbrev pub first_area : List Kept → ℕ
+abbrev pub first_area : List FrameFields → ℕ
 first_area [] = 0
 first_area (k ∷ ks) = area_in k
 
 -- frames with these bytes as their areas, cut off one after another
-abbrev pub framed : List Kept → List ℕ → List ℕ
+abbrev pub framed : List FrameFields → List ℕ → List ℕ
 framed [] area_bytes = []
 framed (k ∷ ks) area_bytes = front_of k.header k.side ++ (take (area_in k) area_bytes ++ framed ks (drop (area_in k) area_bytes))
 
 -- a frame and its main data
 pub record Frame : Type 0 where
-  pub kept : Kept
+  pub kept : FrameFields
   pub payload : List ℕ
 
 abbrev pub frame_of : HeaderFields → Side → List ℕ → Frame
@@ -43,7 +36,7 @@ frame_of h s payload = record { kept = record { header = h; side = s }; payload 
 abbrev pub piece_of : Frame → Piece
 piece_of f = record { payload = f.payload; begin = f.kept.side.main_data_begin; area = area_in f.kept }
 
-abbrev pub all_kept : List Frame → List Kept
+abbrev pub all_kept : List Frame → List FrameFields
 all_kept fs = map (λ f. f.kept) fs
 
 abbrev pub pieces : List Frame → List Piece
@@ -62,7 +55,7 @@ frame_bytes fs = framed (all_kept fs) (laid (pieces fs))
 -- frames of a class that wait, and what waits of their areas
 pub record Held : Type 0 where
   pub class : ClassFields
-  pub kept : List Kept
+  pub kept : List FrameFields
   pub waiting : Waiting
 
 -- the bytes of the frames that wait
@@ -74,11 +67,11 @@ abbrev pub areas_with : Waiting → Frame → List ℕ
 areas_with w f = laid_behind w f.payload f.kept.side.main_data_begin (area_in f.kept)
 
 -- the bytes of a frame whose area is the first of these
-abbrev pub first_bytes : Kept → List ℕ → List ℕ
+abbrev pub first_bytes : FrameFields → List ℕ → List ℕ
 first_bytes k bytes = front_of k.header k.side ++ take (area_in k) bytes
 
 -- frames of one class, whose side information fits it
-abbrev pub AreOf : ClassFields → List Kept → Type 0
+abbrev pub AreOf : ClassFields → List FrameFields → Type 0
 AreOf c [] = Unit {0}
 AreOf c (k ∷ ks) = IsHeader k.header × (class_of k.header ≡ c) × SideFits c k.side × AreOf c ks
 
@@ -97,7 +90,7 @@ reach_with c f = min (window_of c.version) (f.kept.side.main_data_begin + area_i
 
 -- the first of these frames were taken, with these bytes as their areas, and the others wait
 pub record AreWritten (taken : List ℕ) (held : Held) (fs : List Frame) : Type 0 where
-  pub done : List Kept
+  pub done : List FrameFields
   pub given : List ℕ
   pub all : done ++ held.kept ≡ all_kept fs
   pub long : length given ≡ areas_in done

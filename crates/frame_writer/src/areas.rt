@@ -169,13 +169,24 @@ fn push_payload(queue: &mut ByteQueue, payload: &Payload<'_>)
     requires { length queue.old + length payload.now ≤ 8192 }
     ensures { queue.new ≡ queue.old ++ payload.now }
 {
-    let (front, back, last) = payload.pieces();
-    queue.push(front);
-    if !back.is_empty() {
-        queue.push(back);
-    }
+    let (front, back, before, own, last) = payload.pieces();
+    push_some(queue, front);
+    push_some(queue, back);
+    push_some(queue, before);
+    push_some(queue, own);
     if let Some(last) = last {
         queue.push(&[last]);
+    }
+}
+
+/// Adds bytes to a queue, of which there are often none.
+#[inline]
+fn push_some(queue: &mut ByteQueue, bytes: &[u8])
+    requires { length queue.old + length bytes.now ≤ 8192 }
+    ensures { queue.new ≡ queue.old ++ bytes.now }
+{
+    if !bytes.is_empty() {
+        queue.push(bytes);
     }
 }
 

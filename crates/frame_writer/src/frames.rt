@@ -1,93 +1,177 @@
 //! Frames as they are written.
-ghost use Rattle.std.specs.Prelude.{◌≡◌, ◌+◌, ◌-◌, ◌<◌, ◌≤◌, ◌++◌, length, drop, OnOk, OnErr};
-ghost use Rattle.frame_header.specs.Tables.{class_of, overhead_of};
+ghost use Rattle.std.specs.Prelude.{◌≡◌, ◌≤◌, ◌++◌, length, take, OnOk, OnErr};
+ghost use Rattle.frame_header.specs.Fields.{IsHeader};
+ghost use Rattle.frame_header.specs.Tables.{class_of};
 ghost use Rattle.side_info.specs.Side.{SideFits};
+ghost use Rattle.side_info.specs.Frame.{front_of};
 ghost use Rattle.outside.specs.Files.{IsThere};
 ghost use Rattle.outside.specs.Passed.{PassedOn, AppendedPrefix};
 ghost use Rattle.outside.specs.Counts.{OnlyWrites};
-ghost use Rattle.frame_writer.specs.Frames.{front_of, area_in, first_bytes};
+ghost use Rattle.frame_writer.specs.Frames.{area_in, first_bytes};
 ghost use Rattle.frame_writer.specs.Writing.{WriteFailed};
-ghost use Rattle.frame_writer.specs.declared.frames.Kept.{Kept};
 
 use crate::areas::Areas;
-use frame_header::Header;
+use frame_header::Class;
 use outside::{Failed, Folder, WriteBuffer};
 use reservoir::Payload;
-use side_info::{Side, put_side};
+use side_info::FrameFront;
 use std::marker::Model;
-
-/// The length of a header in bytes.
-const HEADER_SIZE: usize = 4;
 
 /// The greatest length of what is before the area of a frame, in bytes: header, check word and side
 /// information.
 const FRONT: usize = 38;
 
-/// A frame without its area.
+/// Header and side information of a frame, and how many bytes its area has, so that this isn't computed again while it
+/// waits. Contracts see the fields of header and side information.
 #[derive(Clone, Copy)]
-pub struct Kept {
-    pub header: Header,
-    pub side: Side,
+pub(crate) struct SizedFront {
+    front: FrameFront,
+    area: u16,
 }
 
-/// A frame that is to be written: what is before its area, and its main data.
+impl Model for SizedFront {
+    ghost use Rattle.std.specs.Prelude.{◌≡◌};
+    ghost use Rattle.frame_header.specs.Fields.{IsHeader};
+    ghost use Rattle.side_info.specs.FrameFields.{FrameFields};
+    ghost use Rattle.frame_writer.specs.Frames.{area_in};
+
+    ghost Value = { FrameFields };
+
+    ghost view = { λ s. s.front };
+
+    ghost invariant = { λ s. IsHeader s.front.header × (s.area ≡ area_in s.front) };
+
+    ghost inverse = { λ f. record { front = f; area = area_in f } };
+}
+
+impl SizedFront {
+    /// Of a frame whose area has `area` bytes.
+    #[inline(always)]
+    fn new(front: &FrameFront, area: u32) -> SizedFront
+        requires { area ≡ area_in front.now }
+        ensures { result ≡ front.now }
+    {
+        // The class says that the header is one of the standard's, by which the area is short.
+        let _ = front.class();
+        SizedFront {
+            front: *front,
+            area: area as u16,
+        }
+    }
+
+    /// How many bytes the area has, from 1 to 1,441.
+    #[inline(always)]
+    pub fn area(&self) -> u32
+        ensures area { result ≡ area_in self.now }
+        ensures some { 1 ≤ result }
+        ensures most { result ≤ 1441 }
+        ensures header { IsHeader self.now.header }
+    {
+        u32::from(self.area)
+    }
+
+    /// main_data_begin, where the class of the header is known.
+    #[inline(always)]
+    pub fn begin_in(&self, class: Class) -> u16
+        requires { class ≡ class_of self.now.header }
+        ensures begin { result ≡ self.now.side.main_data_begin }
+        ensures fits { SideFits (class_of self.now.header) self.now.side }
+    {
+        self.front.begin_in(class)
+    }
+
+    /// Writes header, check word and side information into the first of at least 38 bytes, where the class of the
+    /// header is known, and answers how many bytes these are. What is after them may change.
+    #[inline(always)]
+    fn put_in(&self, class: Class, room: &mut [u8]) -> usize
+        requires class { class ≡ class_of self.now.header }
+        requires room { 38 ≤ length room.old }
+        ensures size { result ≤ 38 }
+        ensures front { take result room.new ≡ front_of self.now.header self.now.side }
+    {
+        self.front.put_in(class, room)
+    }
+}
+
+/// A frame that is to be written: header and side information, how many bytes its area has, and its main data.
 #[derive(Drop)]
-pub struct Frame<'a> {
-    pub kept: Kept,
-    pub payload: Payload<'a>,
+pub struct Frame<'f, 'a> {
+    front: &'f FrameFront,
+    area: u32,
+    pub(crate) payload: Payload<'a>,
 }
 
-impl<'a> Model for Frame<'a> {
-    ghost use Rattle.frame_writer.specs.Frames.{Frame};
+impl<'f, 'a> Model for Frame<'f, 'a> {
+    ghost use Rattle.std.specs.Prelude.{◌≡◌};
+    ghost use Rattle.frame_writer.specs.Frames.{Frame, area_in};
 
     ghost Value = { Frame };
 
-    ghost view = { λ f. record { kept = f.kept; payload = f.payload } };
+    ghost view = { λ f. record { kept = f.front.now; payload = f.payload } };
+
+    ghost invariant = { λ f. f.area ≡ area_in f.front.now };
 }
 
-/// Writes the front of a frame: the header, the check word of a protected frame, and the side information.
-/// What is after it stays.
-#[inline(always)]
-#[tactic(auto, unfolding(crate::specs::Frames::front_of, frame_header::specs::Tables::overhead_of, side_info::specs::Frame::frame_with))]
-pub fn put_front(header: &Header, side: &Side, frame: &mut [u8])
-    requires fits { SideFits (class_of header.now) side.now }
-    requires room { overhead_of (class_of header.now) header.now.protected ≤ length frame.old }
-    ensures { frame.new ≡ front_of header.now side.now ++
-        drop (overhead_of (class_of header.now) header.now.protected) frame.old }
-{
-    frame[..HEADER_SIZE].copy_from_slice(&header.bytes());
-    put_side(header, side, frame);
+impl<'f, 'a> Frame<'f, 'a> {
+    /// A frame with this header and side information, and these main data.
+    #[inline(always)]
+    pub fn new(front: &'f FrameFront, payload: Payload<'a>) -> Frame<'f, 'a>
+        ensures { result ≡ record { kept = front.now; payload = payload.entry } }
+    {
+        Frame::with_area(front, front.header().area(), payload)
+    }
+
+    /// The same, where it is known how many bytes the area of the frame has.
+    #[inline(always)]
+    pub fn with_area(front: &'f FrameFront, area: u32, payload: Payload<'a>) -> Frame<'f, 'a>
+        requires { area ≡ area_in front.now }
+        ensures { result ≡ record { kept = front.now; payload = payload.entry } }
+    {
+        Frame {
+            front,
+            area,
+            payload,
+        }
+    }
+
+    /// What is before its area.
+    #[inline(always)]
+    pub(crate) fn front(&self) -> SizedFront
+        ensures { result ≡ self.now.kept }
+    {
+        SizedFront::new(self.front, self.area)
+    }
 }
 
-/// Adds the bytes of a frame, whose area is the first of those that wait, to what waits for the file.
+/// Adds the bytes of a frame of this class, whose area is the first of those that wait, to what waits for the file.
 ///
 /// # Errors
 /// Where a write failed. Then a prefix of both was appended.
+#[inline(always)]
 pub(crate) fn add_frame<D: Folder>(
-    kept: &Kept,
+    class: Class,
+    first: &SizedFront,
     areas: &Areas,
     folder: &mut D,
     name: &str,
     unsent: &mut WriteBuffer,
 ) -> Result<(), Failed>
     requires there { IsThere (D.files folder.old) name.now }
-    requires fits { SideFits (class_of kept.now.header) kept.now.side }
-    requires within { area_in kept.now ≤ length areas.now.bytes }
+    requires class { class ≡ class_of first.now.header }
+    requires within { area_in first.now ≤ length areas.now.bytes }
     ensures passed { OnOk result (PassedOn name.now
-        (unsent.old ++ first_bytes kept.now areas.now.bytes)
+        (unsent.old ++ first_bytes first.now areas.now.bytes)
         unsent.new (D.files folder.old) (D.files folder.new)) }
     ensures prefix { OnErr result (AppendedPrefix name.now
-        (unsent.old ++ first_bytes kept.now areas.now.bytes)
+        (unsent.old ++ first_bytes first.now areas.now.bytes)
         (D.files folder.old) (D.files folder.new)) }
     ensures failed { OnErr result (WriteFailed name.now (D.counts folder.old)
         (D.counts folder.new)) }
     ensures done { OnOk result (D.counts folder.new ≡ D.counts folder.old) }
     ensures counts { OnlyWrites (D.counts folder.old) (D.counts folder.new) }
 {
-    let area = kept.header.area();
-    let mut front = [0; FRONT];
-    put_front(&kept.header, &kept.side, &mut front);
-    let overhead = (kept.header.length() - area) as usize;
-    unsent.push(folder, name, &front[..overhead])?;
-    areas.add_first(area as usize, folder, name, unsent)
+    let mut room = [0; FRONT];
+    let size = first.put_in(class, &mut room);
+    unsent.push_first(folder, name, &room, size)?;
+    areas.add_first(first.area() as usize, folder, name, unsent)
 }

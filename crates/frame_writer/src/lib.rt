@@ -18,7 +18,7 @@ mod queue;
 mod writer;
 
 pub use areas::Areas;
-pub use frames::{Frame, Kept, put_front};
+pub use frames::Frame;
 pub use laws::{few_frames_wait, laid_steps};
 pub use queue::FrameQueue;
 pub use writer::{State, Writer};

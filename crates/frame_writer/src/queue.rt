@@ -1,7 +1,6 @@
 //! Frames that wait until no later main data can reach their areas.
 ghost use Rattle.std.specs.Prelude.{◌≡◌, ℕ, ◌+◌, ◌-◌, ◌<◌, ◌≤◌, ◌↔◌, List, [], ◌∷◌, ◌++◌, length, drop, min, IsTrue, IfOk, OnOk, OnErr};
 ghost use Rattle.frame_header.specs.Tables.{class_of};
-ghost use Rattle.side_info.specs.Side.{SideFits};
 ghost use Rattle.outside.specs.Files.{IsThere};
 ghost use Rattle.outside.specs.Passed.{PassedOn, AppendedPrefix};
 ghost use Rattle.outside.specs.Counts.{OnlyWrites};
@@ -9,7 +8,7 @@ ghost use Rattle.frame_writer.specs.Frames.{held_bytes, first_area, area_in, are
 ghost use Rattle.frame_writer.specs.Writing.{writing, waiting_bytes, bytes_with, IsNew, HandedOn, HandedPart, WritesOn, WritesPart, GoesOn, WriteFailed};
 
 use crate::areas::Areas;
-use crate::frames::{Frame, Kept, add_frame};
+use crate::frames::{Frame, SizedFront, add_frame};
 use circular_buffer::HeapCircularBuffer;
 use frame_header::Class;
 use outside::{Failed, Folder, WriteBuffer};
@@ -25,7 +24,7 @@ const MOST: usize = 256;
 #[derive(Drop)]
 pub struct FrameQueue {
     class: Class,
-    kept: HeapCircularBuffer<Kept>,
+    kept: HeapCircularBuffer<SizedFront>,
     areas: Areas,
 }
 
@@ -102,14 +101,13 @@ impl FrameQueue {
     #[inline]
     pub fn frame<D: Folder>(
         &mut self,
-        frame: &Frame<'_>,
+        frame: &Frame<'_, '_>,
         folder: &mut D,
         name: &str,
         unsent: &mut WriteBuffer,
     ) -> Result<(), Failed>
         requires there { IsThere (D.files folder.old) name.now }
         requires class { class_of frame.now.kept.header ≡ self.old.class }
-        requires fits { SideFits self.old.class frame.now.kept.side }
         requires start { frame.now.kept.side.main_data_begin ≤ self.old.waiting.free }
         requires within { EndsInArea frame.now }
         requires few { length frame.now.payload ≤ 2048 }
@@ -198,9 +196,8 @@ impl FrameQueue {
     /// before its own area (ISO/IEC 11172-3 and 13818-3, 2.4.2.7). There is always room for it where the first frame
     /// that waits isn't settled: at most 255 frames wait then (`few_frames_wait`).
     #[inline]
-    fn push(&mut self, frame: &Frame<'_>)
+    fn push(&mut self, frame: &Frame<'_, '_>)
         requires class { class_of frame.now.kept.header ≡ self.old.class }
-        requires fits { SideFits self.old.class frame.now.kept.side }
         requires start { frame.now.kept.side.main_data_begin ≤ self.old.waiting.free }
         requires within { EndsInArea frame.now }
         requires few { length frame.now.payload ≤ 2048 }
@@ -213,12 +210,11 @@ impl FrameQueue {
         ensures written { (taken : List ℕ) (fs : List Frame) → AreWritten taken self.old fs →
             AreWritten taken self.new (fs ++ frame.now ∷ []) }
     {
-        let Kept { header, side } = frame.kept;
-        let _ = &header.slot;
-        let area = header.area();
-        self.kept.push_back(frame.kept);
-        self.areas
-            .push(u32::from(side.main_data_begin), area, &frame.payload);
+        let front = frame.front();
+        let area = front.area();
+        let begin = front.begin_in(self.class);
+        let _ = self.kept.try_push_back(front);
+        self.areas.push(u32::from(begin), area, &frame.payload);
     }
 
     /// Takes the first frame that waits, and adds its bytes to what waits for the file: its header, its check word where
@@ -227,6 +223,7 @@ impl FrameQueue {
     ///
     /// # Errors
     /// Where a write failed. Then a prefix was appended of what waited and the frame.
+    #[inline(always)]
     fn take_first<D: Folder>(
         &mut self,
         folder: &mut D,
@@ -254,9 +251,10 @@ impl FrameQueue {
         ensures done { OnOk result (D.counts folder.new ≡ D.counts folder.old) }
         ensures counts { OnlyWrites (D.counts folder.old) (D.counts folder.new) }
     {
-        let first = self.kept.pop_front().unwrap();
-        let area = first.header.area() as usize;
-        let added = add_frame(&first, &self.areas, folder, name, unsent);
+        let first = self.kept.front().unwrap();
+        let area = first.area() as usize;
+        let added = add_frame(self.class, first, &self.areas, folder, name, unsent);
+        self.kept.pop_front();
         self.areas.drop_first(area);
         added
     }
@@ -270,7 +268,7 @@ impl FrameQueue {
     {
         match self.kept.front() {
             None => false,
-            Some(kept) => kept.header.area() as usize <= self.areas.settled(self.class.window()),
+            Some(first) => first.area() as usize <= self.areas.settled(self.class.window()),
         }
     }
 }

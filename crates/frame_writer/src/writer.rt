@@ -8,12 +8,12 @@ ghost use Rattle.outside.specs.Counts.{OnlyWrites};
 ghost use Rattle.frame_writer.specs.Frames.{held_bytes, frame_of, EndsInArea, reach_of, reach_with};
 ghost use Rattle.frame_writer.specs.Writing.{writing, bytes_with, IsNew, WritesOn, WritesPart, WriteFailed};
 
-use crate::frames::{Frame, Kept};
+use crate::frames::Frame;
 use crate::queue::FrameQueue;
 use frame_header::{Class, Header};
 use outside::{Failed, Folder, WriteBuffer};
 use reservoir::Payload;
-use side_info::Side;
+use side_info::{FrameFront, Side};
 use std::alloc::{AllocError, Global};
 use std::marker::Model;
 
@@ -139,14 +139,8 @@ impl Writer {
         ensures done { OnOk result (D.counts folder.new ≡ D.counts folder.old) }
         ensures counts { OnlyWrites (D.counts folder.old) (D.counts folder.new) }
     {
-        let kept = Kept {
-            header: *header,
-            side: *side,
-        };
-        let frame = Frame {
-            kept,
-            payload: Payload::whole(payload),
-        };
+        let front = FrameFront::new(header, side);
+        let frame = Frame::new(&front, Payload::whole(payload));
         self.state = State::Failed;
         self.queue.frame(&frame, folder, name, &mut self.unsent)?;
         self.unsent.finish(folder, name)?;

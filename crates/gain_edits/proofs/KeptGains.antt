@@ -1,5 +1,5 @@
 -- What a command makes of a file differs from it in gains, check words, the tag and junk that is left out.
-use Rattle.std.proofs.Common.{◌≡◌, ℕ, Bool, true, false, List, Option, Some, None, Ok, refl, sym, ◌∙◌, ap, subst}
+use Rattle.std.proofs.Common.{◌≡◌, ℕ, true, false, List, Option, Some, None, Ok, refl, ◌∙◌, ap, subst}
 use Rattle.std.specs.Prelude.{IfSome}
 use Rattle.bit_fields.specs.Bits.{AreBytes}
 use Rattle.file_tag.specs.Places.{IsTagBytes}
@@ -7,14 +7,12 @@ use Rattle.sync_survey.specs.Faults.{SurveyFields}
 use Rattle.sync_survey.specs.Survey.{survey_of}
 use Rattle.sync_survey.proofs.SurveyedFiles.{survey_of-parts}
 use Rattle.moved_gains.specs.declared.shift.Shift.{Shift}
-use Rattle.moved_gains.specs.Course.{even}
-use Rattle.moved_gains.specs.Gains.{steps_of}
 use Rattle.moved_gains.specs.Change.{Change}
 use Rattle.moved_gains.specs.Kept.{KeepsAll}
 use Rattle.moved_gains.proofs.KeptFile.{changes_kept, keeps_weaker}
 use Rattle.commands.specs.One.{most_frames}
-use Rattle.gain_edits.specs.Change.{Changing, changed_file}
-use Rattle.gain_edits.specs.Gain.{gain_change, tagged_change, plain_change}
+use Rattle.gain_edits.specs.Change.{Changing}
+use Rattle.gain_edits.specs.Gain.{gain_change, tagged_change}
 use Rattle.gain_edits.specs.Undo.{undo_change}
 use Rattle.gain_edits.specs.Kept.{GainKeepsAll, UndoKeepsAll}
 use Rattle.gain_edits.proofs.Proper.{IsMadeBy, made_of, noted-tag, undone-tag}

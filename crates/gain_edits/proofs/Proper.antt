@@ -13,7 +13,7 @@ use Rattle.std.specs.Prelude.{IfSome, IfErr}
 use Rattle.file_tag.proofs.Retagged.{surveyed-retagged, stream-retagged}
 use Rattle.std.specs.List.{enumerate_from}
 use Rattle.sync_survey.specs.declared.places.Head.{Head}
-use Rattle.sync_survey.specs.declared.rows.Row.{Row}
+use Rattle.sync_survey.specs.Row.{Row}
 use Rattle.sync_survey.specs.MainData.{StreamFrame, main_bytes, stream_frame, stream_frames}
 use Rattle.sync_survey.specs.Survey.{survey_of}
 use Rattle.sync_survey.proofs.SurveyParts.{surveyed-allowed}

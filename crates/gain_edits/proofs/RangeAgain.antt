@@ -7,7 +7,7 @@ use Rattle.side_info.specs.declared.granule.Granule.{Granule}
 use Rattle.side_info.specs.declared.side.Side.{Side}
 use Rattle.side_info.proofs.FrameLaws.{fits-side_in}
 use Rattle.side_info.proofs.SideLaws.{IsShaped, side_with, each_shaped}
-use Rattle.sync_survey.specs.declared.rows.Row.{Row}
+use Rattle.sync_survey.specs.Row.{Row}
 use Rattle.frame_header.specs.Tables.{class_of}
 use Rattle.moved_gains.specs.Course.{even}
 use Rattle.moved_gains.specs.declared.gains.Stuck.{Stuck}

@@ -14,7 +14,7 @@ use Rattle.file_tag.specs.declared.fault.FileTagFault.{FileTagFault}
 use Rattle.file_tag.specs.declared.fault.FileTagFault.TheVariants.{TooLarge, Bad as BadBlock, Read, Shrunk, Memory as NoRoom}
 use Rattle.file_tag.specs.Places.{tag_at}
 use Rattle.file_tag.specs.Reading.{file_tag, IsTagCause}
-use Rattle.sync_survey.specs.declared.rows.Row.{Row}
+use Rattle.sync_survey.specs.Row.{Row}
 use Rattle.sync_survey.specs.Faults.{SurveyFields}
 use Rattle.commands.specs.declared.fault.EditFault.{EditFault}
 use Rattle.commands.specs.declared.fault.EditFault.TheVariants.{Refused, Memory}

@@ -1,6 +1,6 @@
 -- Why one channel of a file can't change alone.
 use Rattle.std.specs.Prelude.{◌==◌, if◌then◌else◌, Bool, true, false, List, Option, Some, None}
-use Rattle.sync_survey.specs.declared.rows.Row.{Row}
+use Rattle.sync_survey.specs.Row.{Row}
 use Rattle.sync_survey.specs.Faults.{SurveyFields}
 use Rattle.commands.specs.declared.fault.Refusal.{Refusal}
 use Rattle.commands.specs.declared.fault.Refusal.TheVariants.{Mono, Joint}

@@ -1,6 +1,6 @@
 -- The first gain of a file that would leave the range.
 use Rattle.std.specs.Prelude.{ℕ, List, Option, Some, None}
-use Rattle.sync_survey.specs.declared.rows.Row.{Row}
+use Rattle.sync_survey.specs.Row.{Row}
 use Rattle.commands.specs.declared.fault.Refusal.{Refusal}
 use Rattle.commands.specs.declared.fault.Refusal.TheVariants.{GainRange}
 use Rattle.commands.specs.Refusing.{first_refusal}

@@ -23,8 +23,8 @@ fn are_both(channels: Channels) -> bool
 fn joint_at(row: &Row) -> Option<Refusal>
     ensures { result ≡ joint_at_lem row.now }
 {
-    if row.header.mode == JOINT {
-        Some(Refusal::Joint(u64::from(row.offset)))
+    if row.header().mode == JOINT {
+        Some(Refusal::Joint(u64::from(row.offset())))
     } else {
         None
     }

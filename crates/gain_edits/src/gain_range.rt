@@ -1,12 +1,16 @@
 //! The first gain that would leave its range.
 ghost use Rattle.std.specs.Prelude.{◌≡◌, ◌<◌, ◌^◌, length};
+ghost use Rattle.frame_header.specs.Tables.{class_of};
 ghost use Rattle.sync_survey.specs.Faults.{tells};
 ghost use Rattle.sync_survey.specs.Survey.{IsLaidOut};
+ghost use Rattle.moved_gains.specs.Gains.{stuck_in as stuck_in_lem};
+ghost use Rattle.moved_gains.specs.Moving.{AreOfClass};
 ghost use Rattle.moved_gains.specs.Course.{even, steps_over, AreNumbered};
 ghost use Rattle.moved_gains.specs.Edited.{stuck_of as stuck_of_lem};
 ghost use Rattle.gain_edits.specs.GainRange.{stuck_fault, range_fault as range_fault_lem};
 
 use commands::Refusal;
+use frame_header::{Class, Version};
 use moved_gains::{Course, Steps, Stuck, stuck_in};
 use sync_survey::{Row, Survey};
 
@@ -18,18 +22,41 @@ fn fault_at(offset: u32, stuck: Option<Stuck>) -> Option<Refusal>
     Some(Refusal::GainRange(u64::from(offset), stuck.granule, stuck.channel, stuck.gain))
 }
 
-/// The first gain of a frame that would leave the range from 0 to 255. A lost frame isn't changed, so it has none.
-fn stuck_of(steps: &Steps, row: &Row) -> Option<Stuck>
-    ensures { result ≡ stuck_of_lem steps.now row.now }
+/// The first gain of a frame of this class that would leave the range from 0 to 255.
+#[inline(always)]
+fn stuck_in_class(class: Class, steps: &Steps, row: &Row) -> Option<Stuck>
+    requires { class_of row.now.header ≡ class }
+    ensures { result ≡ stuck_in_lem steps.now row.now.side }
 {
-    if row.lost {
-        return None;
-    }
-    stuck_in(steps, &row.side)
+    stuck_in(steps, &row.front().side_in(class))
 }
 
-/// The first gain of these frames that would leave the range.
-fn first_fault(course: &Course, rows: &[Row]) -> Option<Refusal>
+/// The same, but a lost frame isn't changed, so it has none. In MPEG-1 with two channels, the most frequent class, the
+/// compiler knows the places of the gains.
+#[inline(always)]
+fn stuck_of(class: Class, steps: &Steps, row: &Row) -> Option<Stuck>
+    requires { class_of row.now.header ≡ class }
+    ensures { result ≡ stuck_of_lem steps.now row.now }
+{
+    if row.lost() {
+        return None;
+    }
+    match (class.version, class.channels) {
+        (Version::One, 2) => {
+            let stereo = Class {
+                version: Version::One,
+                frequency_index: class.frequency_index,
+                channels: 2,
+            };
+            stuck_in_class(stereo, steps, row)
+        }
+        _ => stuck_in_class(class, steps, row),
+    }
+}
+
+/// The first gain of these frames of one class that would leave the range.
+fn first_fault(course: &Course, class: Class, rows: &[Row]) -> Option<Refusal>
+    requires classed { AreOfClass class rows.now }
     requires numbered { AreNumbered rows.now }
     requires few { length rows.now < 2 ^ 32 }
     ensures { result ≡ range_fault_lem (steps_over course.now rows.now) rows.now }
@@ -37,7 +64,7 @@ fn first_fault(course: &Course, rows: &[Row]) -> Option<Refusal>
     let mut near = 0;
     for (frame, row) in rows.iter().enumerate() {
         let steps = course.steps(frame as u32, &mut near);
-        if let Some(fault) = fault_at(row.offset, stuck_of(&steps, row)) {
+        if let Some(fault) = fault_at(row.offset(), stuck_of(class, &steps, row)) {
             return Some(fault);
         }
     }
@@ -51,7 +78,7 @@ pub fn range_fault(course: &Course, survey: &Survey) -> Option<Refusal>
     ensures { result ≡ range_fault_lem (steps_over course.now (tells survey.now).frames)
         (tells survey.now).frames }
 {
-    first_fault(course, survey.frames())
+    first_fault(course, survey.class(), survey.frames())
 }
 
 /// The same where all frames move by the same steps.

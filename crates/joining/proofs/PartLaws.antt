@@ -5,7 +5,7 @@ use Rattle.laying.specs.Relaid.{Part}
 use Rattle.sync_survey.specs.declared.survey_fault.SurveyFault.{SurveyFault}
 use Rattle.sync_survey.specs.Faults.{SurveyFields}
 use Rattle.sync_survey.specs.Survey.{survey_of}
-use Rattle.sync_survey.proofs.PlacedRows.{same_class-is}
+use Rattle.frame_header.proofs.ClassLaws.{same_class-is}
 use Rattle.commands.specs.declared.fault.EditFault.TheVariants.{Refused}
 use Rattle.commands.specs.declared.fault.Refusal.TheVariants.{Differ}
 use Rattle.joining.specs.Join.{whole_part, may_follow, part_by, part_of}

@@ -15,7 +15,7 @@ use Rattle.part_needs.specs.Fit.{own_choice, IsPartOf, AreFit}
 use Rattle.part_needs.proofs.PartsLaws.{parts-fit, parts-plan}
 use Rattle.laying.proofs.FitLaws.{plans-fit, asked-plans}
 use Rattle.laying.proofs.PlacesLaws.{range-whole, plan-length}
-use Rattle.sync_survey.specs.declared.rows.Row.{Row}
+use Rattle.sync_survey.specs.Row.{Row}
 use Rattle.sync_survey.specs.Faults.{SurveyFields}
 use Rattle.commands.specs.One.{most_frames}
 use Rattle.joining.specs.Inputs.{class_in, frames_of, rows_of, AreAlike, CanBeJoined}

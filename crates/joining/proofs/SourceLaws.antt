@@ -26,7 +26,7 @@ use Rattle.laying.proofs.HoldLaws.{files-hold, blocks-kept}
 use Rattle.laying.proofs.SlotLaws.{slots-planned}
 use Rattle.laying.proofs.ChosenFrames.{survey-had}
 use Rattle.laying.proofs.PlacesLaws.{range-whole}
-use Rattle.sync_survey.specs.declared.rows.Row.{Row}
+use Rattle.sync_survey.specs.Row.{Row}
 use Rattle.sync_survey.specs.Faults.{SurveyFields, HoldsStream}
 use Rattle.sync_survey.proofs.SurveyedFiles.{survey_of-sound}
 use Rattle.commands.specs.declared.fault.EditFault.{EditFault}

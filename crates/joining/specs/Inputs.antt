@@ -2,7 +2,7 @@
 use Rattle.std.specs.Prelude.{◌≡◌, ◌≢◌, true, ℕ, ◌+◌, ◌-◌, ◌<◌, ◌≤◌, List, [], ◌∷◌, length, map, unwrap_or, Option, Some, None, Ok, Err}
 use Rattle.outside.specs.Files.{Contents, Files, Holds, IsThere, IfTold, Told, Untold}
 use Rattle.frame_header.specs.Fields.{ClassFields}
-use Rattle.sync_survey.specs.declared.rows.Row.{Row}
+use Rattle.sync_survey.specs.Row.{Row}
 use Rattle.sync_survey.specs.declared.survey_fault.SurveyFault.TheVariants.{Memory as NoRoom}
 use Rattle.sync_survey.specs.Faults.{SurveyFields}
 use Rattle.sync_survey.specs.Survey.{HoldsOctets, survey_of, IsLaidOut}

@@ -10,7 +10,7 @@ use Rattle.frame_writer.specs.Frames.{Frame}
 use Rattle.laid_files.specs.LaidFiles.{laid_file}
 use Rattle.laying.specs.Relaid.{Part, frames_in, stream_in, needs_in, relaid, with_lead_ins}
 use Rattle.laying.specs.Written.{front_blocks, plain_info}
-use Rattle.sync_survey.specs.declared.rows.Row.{Row}
+use Rattle.sync_survey.specs.Row.{Row}
 use Rattle.sync_survey.specs.declared.survey_fault.SurveyFault.{SurveyFault}
 use Rattle.sync_survey.specs.declared.survey_fault.SurveyFault.TheVariants.{Absent}
 use Rattle.sync_survey.specs.MainData.{StreamFrame}

@@ -19,7 +19,7 @@ use Rattle.laying.specs.Fits.{FitsFrom}
 use Rattle.laying.specs.Written.{slot_in, plain_info}
 use Rattle.laying.specs.Surveys.{HasSurvey}
 use Rattle.laying.specs.Passing.{IsFresh}
-use Rattle.sync_survey.specs.declared.rows.Row.{Row}
+use Rattle.sync_survey.specs.Row.{Row}
 use Rattle.sync_survey.specs.Faults.{SurveyFields}
 use Rattle.sync_survey.specs.Survey.{IsLaidOut}
 use Rattle.commands.specs.declared.fault.EditFault.{EditFault}

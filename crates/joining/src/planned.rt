@@ -53,7 +53,7 @@ pub(crate) fn prepare(alloc: Global, surveys: &[Survey]) -> Result<Work, AllocEr
     let plan = plan_all(alloc, surveys)?;
     let first = known_at(surveys, 0);
     let fields = info_of(first.class(), plan.placed(), &Kept::none());
-    let header = &first.frames()[0].header;
+    let header = &first.frames()[0].header();
     let mut info = ArrayVec::new();
     write_info(header, &fields, &mut info);
     let buffers = Buffers::new(alloc, first.class())?;

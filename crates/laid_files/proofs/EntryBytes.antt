@@ -17,7 +17,7 @@ use Rattle.side_info.specs.CheckWord.{check_word_of}
 use Rattle.side_info.specs.Frame.{side_in, word_said, word_part, frame_with}
 use Rattle.side_info.proofs.SideLaws.{IsShaped, length-side_bits}
 use Rattle.side_info.proofs.FrameLaws.{HasRoom, overhead-is, side_in-frame_with, word_said-frame_with, length-word_part}
-use Rattle.frame_writer.specs.Frames.{front_of}
+use Rattle.side_info.specs.Frame.{front_of}
 use Rattle.sync_survey.specs.declared.items.Item.TheVariants.{Frame as FrameItem}
 use Rattle.sync_survey.specs.Items.{header_front}
 use Rattle.sync_survey.proofs.ItemBytes.{IsItem, frame_item, frame-least}

@@ -11,11 +11,12 @@ use Rattle.side_info.specs.Side.{SideFits}
 use Rattle.side_info.specs.CheckWord.{check_word_of}
 use Rattle.side_info.specs.Frame.{side_in, word_said}
 use Rattle.frame_writer.specs.Laid.{areas_end}
-use Rattle.frame_writer.specs.Frames.{front_of, area_in, areas_in, framed, Frame, all_kept, pieces}
+use Rattle.side_info.specs.Frame.{front_of}
+use Rattle.frame_writer.specs.Frames.{area_in, areas_in, framed, Frame, all_kept, pieces}
 use Rattle.sync_survey.specs.declared.items.Item.{Item}
 use Rattle.sync_survey.specs.declared.items.Item.TheVariants.{Frame as FrameItem}
 use Rattle.sync_survey.specs.declared.places.PlacedFrame.{PlacedFrame}
-use Rattle.sync_survey.specs.declared.rows.Row.{Row}
+use Rattle.sync_survey.specs.Row.{Row}
 use Rattle.sync_survey.specs.declared.runs.Part.TheVariants.{Stream}
 use Rattle.sync_survey.specs.Runs.{frames_of, blocks_of}
 use Rattle.sync_survey.specs.MainData.{rows_of, own_area, area_bytes}

@@ -16,7 +16,7 @@ use Rattle.frame_writer.specs.Laid.{start_of, areas_end, laid}
 use Rattle.frame_writer.specs.Frames.{Frame, piece_of, pieces}
 use Rattle.sync_survey.specs.declared.places.Head.{Head}
 use Rattle.sync_survey.specs.declared.places.Start.{Start}
-use Rattle.sync_survey.specs.declared.rows.Row.{Row}
+use Rattle.sync_survey.specs.Row.{Row}
 use Rattle.sync_survey.specs.Walk.{head_of}
 use Rattle.sync_survey.specs.MainData.{rows_of, start_of_data, place, head_bytes, main_bytes, payload_at, parts_of, part_lengths, StreamFrame, stream_frame, stream_frames, marked}
 use Rattle.sync_survey.specs.Faults.{all_faults, surveyed, stream_of_survey, HoldsStream}

@@ -11,7 +11,7 @@ use Rattle.side_info.specs.Frame.{word_said}
 use Rattle.frame_writer.specs.Laid.{start_of, end_of, areas_end, data_end, CanBeLaid}
 use Rattle.frame_writer.specs.Frames.{Frame, piece_of, pieces}
 use Rattle.sync_survey.specs.declared.places.Head.{Head}
-use Rattle.sync_survey.specs.declared.rows.Row.{Row}
+use Rattle.sync_survey.specs.Row.{Row}
 use Rattle.sync_survey.specs.MainData.{own_area, head_area, is_silent, start_of_data, end_of_data, points_too_far, lacks_data, place, end_behind, end_before, is_lost, marked_row, marked}
 use Rattle.sync_survey.proofs.SurveyParts.{StandWell, IsSound, AreSound}
 use Rattle.laid_files.specs.LaidFiles.{AreEntries, frame_length, rows_from}

@@ -16,7 +16,7 @@ use Rattle.frame_writer.specs.Laid.{zeros, CanBeLaid}
 use Rattle.frame_writer.specs.Frames.{Frame, pieces, frame_bytes}
 use Rattle.sync_survey.specs.declared.places.Piece.{Piece}
 use Rattle.sync_survey.specs.declared.places.Head.{Head}
-use Rattle.sync_survey.specs.declared.rows.Row.{Row}
+use Rattle.sync_survey.specs.Row.{Row}
 use Rattle.sync_survey.specs.MainData.{StreamFrame, no_slot, part_lengths, parts_of}
 use Rattle.sync_survey.specs.Faults.{SurveyFields}
 

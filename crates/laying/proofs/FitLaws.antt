@@ -13,7 +13,7 @@ use Rattle.slot_plan.specs.Plans.{AreFor, areas_in, IsPlan}
 use Rattle.slot_plan.specs.Parts.{window_in}
 use Rattle.part_needs.specs.Needs.{need_of, needs_of}
 use Rattle.part_needs.proofs.PartsLaws.{parts_are}
-use Rattle.sync_survey.specs.declared.rows.Row.{Row}
+use Rattle.sync_survey.specs.Row.{Row}
 use Rattle.laying.specs.Relaid.{left_behind}
 use Rattle.laying.specs.Fits.{bytes_at, reach_behind, FitsFrom}
 use Rattle.laying.specs.Laws.{PlansFit, AskedPlans}

@@ -11,7 +11,7 @@ use Rattle.slot_plan.specs.declared.needs.Need.{Need}
 use Rattle.part_needs.specs.Needs.{need_of}
 use Rattle.frame_writer.specs.Laid.{CanBeLaid}
 use Rattle.frame_writer.specs.Frames.{Frame, pieces}
-use Rattle.sync_survey.specs.declared.rows.Row.{Row}
+use Rattle.sync_survey.specs.Row.{Row}
 use Rattle.sync_survey.specs.MainData.{StreamFrame}
 use Rattle.sync_survey.specs.Faults.{SurveyFields, HoldsStream}
 use Rattle.sync_survey.specs.declared.places.Piece.{Piece}

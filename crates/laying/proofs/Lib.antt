@@ -2,6 +2,7 @@ pub mod PlannedFrames
 pub mod ChosenFrames
 pub mod HoldLaws
 pub mod ReadLaws
+pub mod ReachLaws
 pub mod PassLaws
 pub mod RelayLaws
 pub mod FitLaws

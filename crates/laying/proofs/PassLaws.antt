@@ -13,7 +13,7 @@ use Rattle.frame_writer.specs.Frames.{Frame, Held, pieces}
 use Rattle.frame_writer.specs.Writing.{Writing, AreBehind, IsWriterOf, WritesOn, WritesPart}
 use Rattle.sync_survey.specs.Faults.{SurveyFields}
 use Rattle.laying.specs.declared.relay.Relay.{Relay}
-use Rattle.laying.specs.Passing.{IsReady, IsOver, Lays, EndsEarly, LaysPart}
+use Rattle.laying.specs.Passing.{IsReady, HoldsLast, Lays, EndsEarly, LaysPart}
 
 -- all is ready for the next step once some bytes were appended to the output, and the feed is still of the input
 pub ready-with : (relay : Relay) (old new : Files) (fed now : Fed) (more : List ℕ) → new ≡ appended old relay.pass.output.now more → IsReady relay old fed → PassReady relay.pass new now → IsReady relay new now
@@ -39,11 +39,14 @@ ready-filled relay old new fed now same ready pass = record {
   laid = ready.laid;
 }
 
-pub over-later : (window input output : List ℕ) (s : SurveyFields) (i : ℕ) (old new : Files) (more : List ℕ) → input ≢ output → new ≡ appended old output more → IsOver window input old s i → IsOver window input new s i
-over-later window input output s i old new more apart is over = record {
-  main = over.main;
-  held = over.held;
+pub holds-later : (window input output : List ℕ) (s : SurveyFields) (at count i : ℕ) (old new : Files) (more : List ℕ) → input ≢ output → new ≡ appended old output more → HoldsLast window input old s at count i
+    → HoldsLast window input new s at count i
+holds-later window input output s at count i old new more apart is over = record {
+  passed = over.passed;
   long = over.long;
+  reaches = over.reaches;
+  within = over.within;
+  few = over.few;
   is = λ file holds. over.is file (input_held old new input output more file apart is holds);
 }
 

@@ -20,14 +20,14 @@ use Rattle.reservoir.specs.Window.{IsWindowOver, main_bits, ArePacked}
 use Rattle.frame_writer.specs.Laid.{zeros}
 use Rattle.part_needs.proofs.BeginLaws.{begin-near}
 use Rattle.sync_survey.specs.declared.places.Head.{Head}
-use Rattle.sync_survey.specs.declared.rows.Row.{Row}
+use Rattle.sync_survey.specs.Row.{Row}
 use Rattle.sync_survey.specs.MainData.{own_area, head_area, place, end_before, start_of_data, end_of_data, area_bytes, head_bytes, main_bytes, payload_at}
 use Rattle.sync_survey.specs.Faults.{SurveyFields}
 use Rattle.sync_survey.specs.Survey.{AreLaid, IsWellPlaced, IsLaidOut, IsWholeHead}
 use Rattle.sync_survey.proofs.SurveyParts.{data-none_well}
 use Rattle.laying.specs.Relaid.{packed, payload_of}
 use Rattle.laying.specs.Surveys.{HasSurvey}
-use Rattle.laying.specs.Passing.{HasArea, IsOver, skipped_before, IsOverLast}
+use Rattle.laying.specs.Passing.{IsAreaOf, IsOver, skipped_before, IsOverLast}
 use Rattle.laying.proofs.ChosenFrames.{main-place, packed-bits, packed-bytes, filling}
 
 -- ---- a frame within the file
@@ -96,6 +96,7 @@ main-front file head rows n =
 -- where they are and how far a window has to reach
 pub record IsWithin (head : Option Head) (rows : List Row) (i : ℕ) (r : Row) : Type 0 where
   pub begins : r.side.main_data_begin ≤ place head rows i
+  pub apart : end_before head rows i ≤ place head rows i - r.side.main_data_begin
   pub near : r.side.main_data_begin ≤ 511
   pub ends : payload_bytes r.side ≤ own_area r.header + r.side.main_data_begin
 
@@ -113,6 +114,7 @@ data-within head c rows i r is kept =
     let begins : r.side.main_data_begin ≤ place head rows i = ltb-false (place head rows i) r.side.main_data_begin stands.begins in
     record {
       begins = begins;
+      apart = ltb-false (place head rows i - r.side.main_data_begin) (end_before head rows i) stands.apart;
       near = omega (arith, begin-near c r.side is.fits, window_most c);
       ends = omega (arith, begins, ltb-false (place head rows i + own_area r.header) (end_of_data (place head rows i) r) stands.within);
     }
@@ -169,25 +171,16 @@ bytes-are s = refl
 abbrev some : List ℕ → Option (List ℕ)
 some l = Some l
 
--- one more
-pub over-next : (before after input : List ℕ) (files : Files) (s : SurveyFields) (i : ℕ) (r : Row) → slice_get s.frames i ≡ Some r → IsOver before input files s i → HasArea before after input files r → IsOver after input files s (i + 1)
-over-next before after input files s i r found over has = record {
-  main = over.main ++ has.area;
-  held = has.held over.main over.held;
-  long = length-append over.main has.area ∙ ap₂ (λ m n. m + n) over.long has.long ∙ sym (place-next s.head s.frames i r found);
-  is = λ file holds. ap₂ (λ (l m : List ℕ). l ++ m) (over.is file holds) (has.is file holds) ∙ sym (main-next file s.head s.frames i r found);
-}
-
 -- one more after those from a first one on
-pub last-next : (before after input : List ℕ) (files : Files) (s : SurveyFields) (first i : ℕ) (r : Row) → slice_get s.frames i ≡ Some r → IsOverLast before input files s first i → HasArea before after input files r
-    → IsOverLast after input files s first (i + 1)
-last-next before after input files s first i r found over has = record {
-  main = over.main ++ has.area;
-  held = has.held over.main over.held;
-  long = omega (arith, length-append over.main has.area, over.long, has.long, place-next s.head s.frames i r found);
+pub last-next : (before after area input : List ℕ) (files : Files) (s : SurveyFields) (first i : ℕ) (r : Row) → slice_get s.frames i ≡ Some r → IsOverLast before input files s first i → IsAreaOf area input files r
+    → ((main : List ℕ) → IsWindowOver before main → IsWindowOver after (main ++ area)) → IsOverLast after input files s first (i + 1)
+last-next before after area input files s first i r found over has more = record {
+  main = over.main ++ area;
+  held = more over.main over.held;
+  long = omega (arith, length-append over.main area, over.long, has.long, place-next s.head s.frames i r found);
   is = λ file holds.
       let own = over.is file holds in
-      (own.0, own.1, main-next file s.head s.frames i r found ∙ ap₂ (λ (l m : List ℕ). l ++ m) own.2 (sym (has.is file holds)) ∙ append_assoc own.0 over.main has.area);
+      (own.0, own.1, main-next file s.head s.frames i r found ∙ ap₂ (λ (l m : List ℕ). l ++ m) own.2 (sym (has.is file holds)) ∙ append_assoc own.0 over.main area);
 }
 
 -- the area of the head alone

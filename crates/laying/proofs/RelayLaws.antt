@@ -12,7 +12,7 @@ use Rattle.outside.specs.declared.pass.PassFault.{PassFault}
 use Rattle.frame_writer.specs.Laid.{BeginsWithin}
 use Rattle.frame_writer.specs.Frames.{Frame, pieces}
 use Rattle.frame_writer.specs.Writing.{Writing}
-use Rattle.sync_survey.specs.declared.rows.Row.{Row}
+use Rattle.sync_survey.specs.Row.{Row}
 use Rattle.sync_survey.specs.Faults.{SurveyFields}
 use Rattle.laying.specs.Relaid.{frame_of, all_frames, placed_as, left_behind, relaid}
 use Rattle.laying.specs.Fits.{bytes_at, area_at, reach_behind, FitsFrom, last_reach}

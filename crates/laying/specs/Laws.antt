@@ -12,7 +12,7 @@ use Rattle.laid_files.specs.LaidFiles.{IsBlocks, AreEntries, entry_of, HasInfoSi
 use Rattle.sync_survey.specs.MainData.{StreamFrame}
 use Rattle.laying.specs.Written.{front_blocks, back_blocks, slot_in}
 use Rattle.part_needs.specs.Needs.{need_of, needs_of, asked_of}
-use Rattle.sync_survey.specs.declared.rows.Row.{Row}
+use Rattle.sync_survey.specs.Row.{Row}
 use Rattle.laying.specs.Fits.{FitsFrom, IsFitting}
 use Rattle.part_needs.specs.Fit.{AreFit}
 use Rattle.slot_plan.specs.Parts.{window_in, parts_of}

@@ -1,5 +1,5 @@
 -- What a pass that lays frames out again makes of its output.
-use Rattle.std.specs.Prelude.{◌≡◌, ℕ, ◌+◌, ◌-◌, ◌==◌, ◌<◌, ◌≤◌, min, if◌then◌else◌, List, [], ◌∷◌, ◌++◌, length, take, map, slice_range}
+use Rattle.std.specs.Prelude.{◌≡◌, ℕ, ◌+◌, ◌-◌, ◌==◌, ◌<◌, ◌≤◌, min, if◌then◌else◌, List, [], ◌∷◌, ◌++◌, length, take, drop, map, slice_range}
 use Rattle.std.specs.List.{concat}
 use Rattle.frame_header.specs.Fields.{ClassFields}
 use Rattle.frame_header.specs.Tables.{class_of, area_of, window_of}
@@ -15,8 +15,8 @@ use Rattle.part_needs.specs.Needs.{need_of}
 use Rattle.frame_writer.specs.Laid.{BeginsWithin}
 use Rattle.frame_writer.specs.Frames.{Frame, Held, pieces, frame_bytes}
 use Rattle.frame_writer.specs.Writing.{Writing, writing, IsNew, AreBehind, IsWriterOf}
-use Rattle.sync_survey.specs.declared.rows.Row.{Row}
-use Rattle.sync_survey.specs.MainData.{own_area, area_bytes, place, main_bytes}
+use Rattle.sync_survey.specs.Row.{Row}
+use Rattle.sync_survey.specs.MainData.{own_area, area_bytes, place, end_before, main_bytes}
 use Rattle.sync_survey.specs.Faults.{SurveyFields, tells}
 use Rattle.sync_survey.specs.Survey.{IsLaidOut}
 use Rattle.laying.specs.declared.buffers.Buffers.{Buffers}
@@ -44,16 +44,36 @@ pub record IsFresh (class : ClassFields) (b : Buffers) : Type 0 where
 abbrev pub writing_in : Buffers → Writing
 writing_in b = writing b.writer b.waiting
 
--- a window is over so many bytes of areas
-abbrev pub Reaches : List ℕ → ℕ → Type 0
-Reaches window count = (main : List ℕ) × IsWindowOver window main × (length main ≡ count)
-
 -- A window is over as many bytes as the areas of the head and of the frames before frame i have. If the input is told, these are they.
 pub record IsOver (window input : List ℕ) (files : Files) (s : SurveyFields) (i : ℕ) : Type 0 where
   pub main : List ℕ
   pub held : IsWindowOver window main
   pub long : length main ≡ place s.head s.frames i
   pub is : (file : List ℕ) → Holds files input file → main ≡ main_bytes file s.head (take i s.frames)
+
+-- so many bytes before the area of frame i reach back to the end of the main data before it, or are 511
+abbrev pub Reaches : ℕ → SurveyFields → ℕ → Type 0
+Reaches held s i = min 511 (place s.head s.frames i - end_before s.head s.frames i) ≤ held
+
+-- A window, and so many bytes of the input at an offset after it, hold the last bytes of the areas of the head and of the frames before
+-- frame i, as many as later main data can reach: these begin neither before the end of those before them nor more than 511 bytes before
+-- their own area. If the input is told, these are they.
+pub record HoldsLast (window input : List ℕ) (files : Files) (s : SurveyFields) (at count i : ℕ) : Type 0 where
+  pub passed : List ℕ
+  pub long : length passed + length window + count ≡ place s.head s.frames i
+  pub reaches : Reaches (length window + count) s i
+  pub within : at + count ≤ s.length
+  pub few : count ≤ 1939
+  pub is : (file : List ℕ) → Holds files input file
+      → (passed ++ window) ++ take count (drop at file) ≡ main_bytes file s.head (take i s.frames)
+
+-- so does a window with these bytes after it
+pub record HoldsWith (window last input : List ℕ) (files : Files) (s : SurveyFields) (i : ℕ) : Type 0 where
+  pub passed : List ℕ
+  pub long : length passed + length window + length last ≡ place s.head s.frames i
+  pub reaches : Reaches (length window + length last) s i
+  pub few : length last ≤ 1939
+  pub is : (file : List ℕ) → Holds files input file → (passed ++ window) ++ last ≡ main_bytes file s.head (take i s.frames)
 
 -- how many bytes of areas are before the first one that was read; if that is the first frame's, the area of the head was read too
 abbrev pub skipped_before : SurveyFields → ℕ → ℕ
@@ -66,12 +86,20 @@ pub record IsOverLast (window input : List ℕ) (files : Files) (s : SurveyField
   pub long : skipped_before s first + length main ≡ place s.head s.frames i
   pub is : (file : List ℕ) → Holds files input file → (skipped : List ℕ) × (length skipped ≡ skipped_before s first) × (main_bytes file s.head (take i s.frames) ≡ skipped ++ main)
 
--- The area of a frame was read into a window: if the input is told, its bytes.
-pub record HasArea (before after input : List ℕ) (files : Files) (row : Row) : Type 0 where
-  pub area : List ℕ
+-- These are as many bytes as the area of a frame has. If the input is told, they are its bytes.
+pub record IsAreaOf (area input : List ℕ) (files : Files) (row : Row) : Type 0 where
   pub long : length area ≡ own_area row.header
   pub is : (file : List ℕ) → Holds files input file → area ≡ area_bytes file row.offset row.header
-  pub held : (main : List ℕ) → IsWindowOver before main → IsWindowOver after (main ++ area)
+
+-- An area comes after a window, so many bytes of areas come after it, and its first `taken` bytes are before the end of the last main data.
+-- Then the window is over the end of the area alone, of which it has what is after these bytes, or with the bytes after the area 511 bytes;
+-- or it is over all that it held and the whole area, none of which was taken.
+pub record KeepsReach (old new area : List ℕ) (own taken : ℕ) : Type 0 where
+  pub first : ℕ
+  pub within : first ≤ length area
+  pub many : min (511 - own) (length area - taken) ≤ length area - first
+  pub whole : taken + first ≡ 0 → IsWindowOver new (old ++ area)
+  pub rest : 0 < taken + first → IsWindowOver new (drop first area)
 
 -- Frames were given to the writer: if the input is told, those that are made of its bytes. More was appended to the output.
 pub record Lays (input output : List ℕ) (made : List ℕ → List Frame) (old new : Writing) (before after : Files) : Type 0 where

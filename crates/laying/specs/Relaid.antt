@@ -10,7 +10,7 @@ use Rattle.slot_plan.specs.declared.needs.Placed.{Placed}
 use Rattle.part_needs.specs.Needs.{need_of}
 use Rattle.frame_writer.specs.Laid.{zeros}
 use Rattle.frame_writer.specs.Frames.{Frame}
-use Rattle.sync_survey.specs.declared.rows.Row.{Row}
+use Rattle.sync_survey.specs.Row.{Row}
 use Rattle.sync_survey.specs.MainData.{StreamFrame, main_bytes, payload_at, start_of_data, place, side_of, part_lengths, parts_of}
 use Rattle.sync_survey.specs.Faults.{SurveyFields, stream_of_survey}
 use Rattle.laying.specs.Surveys.{HasSurvey}

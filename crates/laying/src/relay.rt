@@ -1,29 +1,29 @@
 //! The frames of a surveyed input, read once from its beginning to its end and given to the writer of an
 //! output.
-ghost use Rattle.std.specs.Prelude.{◌≡◌, ◌⊎◌, false, if◌then◌else◌, ◌+◌, ◌-◌, ◌^◌, ◌<◌, ◌≤◌, ◌++◌, min, List, ℕ, [], length, take, slice_get, Some, IfOk, IfErr, OnOk, OnErr};
-ghost use Rattle.frame_header.specs.Tables.{class_of, area_of, overhead_of, window_of};
+ghost use Rattle.std.specs.Prelude.{◌≡◌, ◌⊎◌, false, if◌then◌else◌, ◌+◌, ◌-◌, ◌^◌, ◌<◌, ◌≤◌, ◌++◌, min, List, ℕ, [], length, take, drop, slice_get, Some, IfOk, IfErr, OnOk, OnErr};
+ghost use Rattle.frame_header.specs.Tables.{class_of, area_of, length_of, overhead_of, window_of};
 ghost use Rattle.outside.specs.Files.{IsThere};
 ghost use Rattle.outside.specs.Passed.{PassedOn, AppendedPrefix};
 ghost use Rattle.outside.specs.Pass.{Writes, WritesPrefix, IsOfRead, route_of, HasPassCause};
-ghost use Rattle.side_info.specs.Side.{SideFits};
+ghost use Rattle.side_info.specs.Side.{front_width, payload_bits, SideFits};
 ghost use Rattle.frame_writer.specs.Frames.{EndsInArea, held_bytes, frame_bytes, reach_of, reach_with, IsNextSettled};
 ghost use Rattle.frame_writer.specs.Writing.{writing, IsNew, WritesOn, WritesPart};
 ghost use Rattle.sync_survey.specs.Faults.{tells};
-ghost use Rattle.sync_survey.specs.MainData.{place, main_bytes, side_of as side_of_lem};
+ghost use Rattle.sync_survey.specs.MainData.{own_area, place, main_bytes, side_of as side_of_lem};
 ghost use Rattle.sync_survey.specs.Survey.{AreWellPlaced};
 ghost use Rattle.reservoir.specs.Window.{IsWindowOver};
 ghost use Rattle.part_needs.specs.Needs.{need_of};
 ghost use Rattle.laying.specs.Relaid.{payload_of, lead_in_before};
 ghost use Rattle.laying.specs.Fits.{bytes_at, area_at};
-ghost use Rattle.laying.specs.Passing.{Reaches, IsReady, HasArea, IsOver, IsOverLast, moved_frame, placed_frame, planned_frames, own_reach, reach_at, reach_behind_all, FitsBehind, GivesFrames, GivesPart, IsSection, section_frames};
+ghost use Rattle.laying.specs.Passing.{Reaches, IsReady, IsAreaOf, KeepsReach, IsOver, HoldsLast, HoldsWith, IsOverLast, moved_frame, placed_frame, planned_frames, own_reach, reach_at, reach_behind_all, FitsBehind, GivesFrames, GivesPart, IsSection, section_frames};
 
 use crate::buffers::Buffers;
 use crate::section::Section;
-use frame_header::Header;
-use frame_writer::{Frame, FrameQueue, Kept};
+use frame_header::{Class, Header};
+use frame_writer::{Frame, FrameQueue};
 use outside::{Feed, Folder, Pass, PassFault, WriteBuffer};
 use reservoir::{Payload, Window};
-use side_info::Side;
+use side_info::{Extent, FrameFront, Side};
 use slot_plan::Placed;
 use sync_survey::{Row, Survey};
 
@@ -34,14 +34,88 @@ pub struct Relay<'a> {
     pub survey: &'a Survey,
 }
 
+/// How far the frames of an input were read: the number of the next frame, and of the area before it, if it
+/// isn't in the window yet, the offset in bytes and the length; 0 if it is. It is given by the feed again
+/// together with the next one, so that its bytes are copied into the window only if more main data reach
+/// them.
+#[derive(Clone, Copy)]
+struct Reading {
+    next: usize,
+    at: u64,
+    count: usize,
+}
+
+/// Where a feed gives the bytes for a frame: `before` bytes of the area before it, and its own area from
+/// byte `skip` on, which is in the input at the offset `at`.
+#[derive(Clone, Copy)]
+struct Span {
+    before: usize,
+    skip: usize,
+    at: u64,
+}
+
 /// How many bytes of a frame are before its area: header, check word and side information.
-#[tactic(auto, unfolding(frame_header::specs::Tables::overhead_of))]
 fn overhead(header: &Header) -> u32
     ensures overhead { result ≡ overhead_of (class_of header.now) header.now.protected }
     ensures most { result ≤ 38 }
 {
-    let word = if header.protected { 2 } else { 0 };
-    4 + word + header.class().side_size()
+    overhead_in(header.class(), header.protected)
+}
+
+/// The same of a frame of this class.
+#[inline(always)]
+#[tactic(auto, unfolding(frame_header::specs::Tables::overhead_of))]
+fn overhead_in(class: Class, protected: bool) -> u32
+    ensures overhead { result ≡ overhead_of class protected }
+    ensures most { result ≤ 38 }
+{
+    let word = if protected { 2 } else { 0 };
+    4 + word + class.side_size()
+}
+
+/// Where the area of a frame is in the input: the offset at which it begins, and how many bytes it has.
+#[derive(Clone, Copy)]
+struct AreaPlace {
+    at: u64,
+    size: usize,
+}
+
+/// Where the area of a frame of this class is.
+#[inline(always)]
+fn area_place(class: Class, row: &Row) -> AreaPlace
+    requires { class ≡ class_of row.now.header }
+    ensures at { result.at
+        ≡ row.now.offset + overhead_of (class_of row.now.header) row.now.header.protected }
+    ensures size { result.size ≡ own_area row.now.header }
+    ensures most { result.size ≤ 1441 }
+    ensures whole { result.at + result.size
+        ≡ row.now.offset + length_of (class_of row.now.header) row.now.header.slot }
+{
+    let front = row.front();
+    let protected = front.protected();
+    AreaPlace {
+        at: u64::from(row.offset()) + u64::from(overhead_in(class, protected)),
+        size: class.area_of(front.slot(), protected) as usize,
+    }
+}
+
+/// Puts header and side information of a frame, which are `front`, in its place of a plan. The side information of a
+/// lost frame becomes all 0, but for main_data_begin.
+// In place, since the compiler copies an answer byte by byte here.
+#[inline(always)]
+fn place_front(row: &Row, place: &Placed, front: &mut FrameFront)
+    requires begin { place.now.begin < 2 ^ front_width (class_of row.now.header) 0 }
+    requires same { front.old ≡ record { header = row.now.header; side = row.now.side } }
+    ensures { front.new ≡ record {
+      header = record row.now.header { slot = place.now.slot };
+      side = record (side_of_lem row.now) { main_data_begin = place.now.begin };
+    } }
+{
+    if row.lost() {
+        front.empty_side();
+    }
+    front.set_slot(place.slot);
+    front.set_begin(place.begin);
 }
 
 impl<'a> Relay<'a> {
@@ -53,7 +127,7 @@ impl<'a> Relay<'a> {
     fn write_frame<D: Folder>(
         &self,
         folder: &mut D,
-        frame: &Frame<'_>,
+        frame: &Frame<'_, '_>,
         writer: &mut FrameQueue,
         unsent: &mut WriteBuffer,
     ) -> Result<(), PassFault>
@@ -114,33 +188,28 @@ impl<'a> Relay<'a> {
         ensures cause { IfErr result (HasPassCause (route_of self.now.pass) (D.files folder.old)
             (D.counts folder.old) (D.counts folder.new)) }
     {
-        let kept = Kept {
-            header: row.header.unprotected(place.slot),
-            side: Side::empty().with_begin(place.begin),
-        };
-        let frame = Frame {
-            kept,
-            payload: Payload::empty(),
-        };
+        let header = row.header().unprotected(place.slot);
+        let side = Side::empty().with_begin(place.begin);
+        let front = FrameFront::new(&header, &side);
+        let frame = Frame::new(&front, Payload::empty());
         self.write_frame(folder, &frame, writer, unsent)
     }
 
-    /// Reads the area of frame `i` into the window.
+    /// Gives the area of frame `i` by the feed.
     ///
     /// # Errors
     /// `Read` or `Shrunk` where the input can't be read.
     #[inline(always)]
-    fn read_area<D: Folder>(
+    fn fill_area<D: Folder>(
         &self,
         folder: &mut D,
         i: usize,
         row: &Row,
         feed: &mut Feed,
-        window: &mut Window,
     ) -> Result<(), PassFault>
         requires ready { IsReady self.now (D.files folder.old) feed.old }
         requires found { slice_get (tells self.now.survey.now).frames i ≡ Some row.now }
-        ensures area { OnOk result (HasArea window.old window.new self.now.pass.input.now
+        ensures area { OnOk result (IsAreaOf feed.new.given self.now.pass.input.now
             (D.files folder.new) row.now) }
         ensures done { OnOk result (D.counts folder.new ≡ D.counts folder.old) }
         ensures cause { IfErr result (HasPassCause (route_of self.now.pass) (D.files folder.old)
@@ -149,11 +218,8 @@ impl<'a> Relay<'a> {
         ensures files { D.files folder.new ≡ D.files folder.old }
         ensures ready { IsReady self.now (D.files folder.new) feed.new }
     {
-        let header = &row.header;
-        let at = u64::from(row.offset) + u64::from(overhead(header));
-        self.pass.fill(folder, at, header.area() as usize, feed)?;
-        window.push_area(feed.bytes());
-        Ok(())
+        let own = area_place(self.survey.class(), row);
+        self.pass.fill(folder, own.at, own.size, feed)
     }
 
     /// Reads the area of the head, if there is one, into a window over no areas.
@@ -201,7 +267,7 @@ impl<'a> Relay<'a> {
         let mut bytes = 0;
         while first > 0 && bytes < 2048 {
             first -= 1;
-            bytes += rows[first].header.area();
+            bytes += rows[first].header().area();
         }
         first
     }
@@ -265,96 +331,246 @@ impl<'a> Relay<'a> {
         let rows = self.survey.frames();
         let mut at = first;
         while at < i {
-            self.read_area(folder, at, &rows[at], feed, window)?;
+            self.fill_area(folder, at, &rows[at], feed)?;
+            window.push_area(feed.bytes());
             at += 1;
         }
         Ok(())
     }
 
-    /// Reads frame `i` and gives it to the writer.
+    /// Reads the area that isn't in the window yet into it.
+    ///
+    /// # Errors
+    /// `Read` or `Shrunk` where the input can't be read.
+    #[inline(never)]
+    fn push_last<D: Folder>(
+        &self,
+        folder: &mut D,
+        reading: &Reading,
+        feed: &mut Feed,
+        window: &mut Window,
+    ) -> Result<(), PassFault>
+        requires ready { IsReady self.now (D.files folder.old) feed.old }
+        requires over { HoldsLast window.old self.now.pass.input.now (D.files folder.old)
+            (tells self.now.survey.now) reading.now.at reading.now.count reading.now.next }
+        ensures over { OnOk result ((at : ℕ) → at ≤ (tells self.now.survey.now).length
+            → HoldsLast window.new self.now.pass.input.now (D.files folder.new)
+            (tells self.now.survey.now) at 0 reading.now.next) }
+        ensures done { OnOk result (D.counts folder.new ≡ D.counts folder.old) }
+        ensures cause { IfErr result (HasPassCause (route_of self.now.pass) (D.files folder.old)
+            (D.counts folder.old) (D.counts folder.new)) }
+        ensures read { IfErr result IsOfRead }
+        ensures files { D.files folder.new ≡ D.files folder.old }
+        ensures ready { IsReady self.now (D.files folder.new) feed.new }
+    {
+        self.pass.fill(folder, reading.at, reading.count, feed)?;
+        window.push_area(feed.bytes());
+        Ok(())
+    }
+
+    /// The offset of the first byte that a frame needs, and how many bytes of the area before it: that area
+    /// is read into the window first, if the feed can't give it together with the frame's own, which has
+    /// `area` bytes and is at the offset `at`.
+    ///
+    /// # Errors
+    /// `Read` or `Shrunk` where the input can't be read.
+    #[inline(always)]
+    fn first_byte<D: Folder>(
+        &self,
+        folder: &mut D,
+        reading: &Reading,
+        at: u64,
+        area: usize,
+        feed: &mut Feed,
+        window: &mut Window,
+    ) -> Result<(u64, usize), PassFault>
+        requires ready { IsReady self.now (D.files folder.old) feed.old }
+        requires over { HoldsLast window.old self.now.pass.input.now (D.files folder.old)
+            (tells self.now.survey.now) reading.now.at reading.now.count reading.now.next }
+        requires within { at + area ≤ (tells self.now.survey.now).length }
+        requires few { area ≤ 1441 }
+        ensures over { IfOk result (λ first. HoldsLast window.new self.now.pass.input.now
+            (D.files folder.new) (tells self.now.survey.now) first.0 first.1 reading.now.next) }
+        ensures near { IfOk result (λ first. (first.0 + first.1 ≤ at) × (at + area ≤ first.0 + 4096)) }
+        ensures done { OnOk result (D.counts folder.new ≡ D.counts folder.old) }
+        ensures cause { IfErr result (HasPassCause (route_of self.now.pass) (D.files folder.old)
+            (D.counts folder.old) (D.counts folder.new)) }
+        ensures read { IfErr result IsOfRead }
+        ensures files { D.files folder.new ≡ D.files folder.old }
+        ensures ready { IsReady self.now (D.files folder.new) feed.new }
+    {
+        let end = reading.at + reading.count as u64;
+        if reading.count > 0 && end <= at && at + area as u64 <= reading.at + 4096 {
+            return Ok((reading.at, reading.count));
+        }
+        self.push_last(folder, reading, feed, window)?;
+        Ok((at, 0))
+    }
+
+    /// Gives by the feed the area of a frame, and with it that of the frame before it if this isn't in the
+    /// window.
+    ///
+    /// # Errors
+    /// `Read` or `Shrunk` where the input can't be read.
+    #[inline(always)]
+    fn fill_frame<D: Folder>(
+        &self,
+        folder: &mut D,
+        class: Class,
+        reading: &Reading,
+        row: &Row,
+        feed: &mut Feed,
+        window: &mut Window,
+    ) -> Result<Span, PassFault>
+        requires ready { IsReady self.now (D.files folder.old) feed.old }
+        requires known { class ≡ (tells self.now.survey.now).class }
+        requires found { slice_get (tells self.now.survey.now).frames reading.now.next ≡ Some row.now }
+        requires over { HoldsLast window.old self.now.pass.input.now (D.files folder.old)
+            (tells self.now.survey.now) reading.now.at reading.now.count reading.now.next }
+        ensures over { IfOk result (λ span. HoldsWith window.new (take span.before feed.new.given)
+            self.now.pass.input.now (D.files folder.new) (tells self.now.survey.now)
+            reading.now.next) }
+        ensures area { IfOk result (λ span. IsAreaOf (drop span.skip feed.new.given)
+            self.now.pass.input.now (D.files folder.new) row.now) }
+        ensures within { IfOk result (λ span. (span.before ≤ length feed.new.given)
+            × (span.skip ≤ length feed.new.given)) }
+        ensures at { IfOk result (λ span. span.at
+            ≡ row.now.offset + overhead_of (class_of row.now.header) row.now.header.protected) }
+        ensures ends { IfOk result (λ span. span.at + length (drop span.skip feed.new.given)
+            ≤ (tells self.now.survey.now).length) }
+        ensures done { OnOk result (D.counts folder.new ≡ D.counts folder.old) }
+        ensures cause { IfErr result (HasPassCause (route_of self.now.pass) (D.files folder.old)
+            (D.counts folder.old) (D.counts folder.new)) }
+        ensures read { IfErr result IsOfRead }
+        ensures files { D.files folder.new ≡ D.files folder.old }
+        ensures ready { IsReady self.now (D.files folder.new) feed.new }
+    {
+        let AreaPlace { at, size: area } = area_place(class, row);
+        let (first, before) = self.first_byte(folder, reading, at, area, feed, window)?;
+        let skip = (at - first) as usize;
+        self.pass.fill(folder, first, skip + area, feed)?;
+        Ok(Span { before, skip, at })
+    }
+
+    /// Reads the next frame and gives it to the writer.
     ///
     /// # Errors
     /// `Read` or `Shrunk` where the input can't be read, `Write` where a write failed.
     fn frame<D: Folder>(
         &self,
         folder: &mut D,
-        i: usize,
+        class: Class,
+        reading: &Reading,
         row: &Row,
         place: &Placed,
         buffers: &mut Buffers,
-    ) -> Result<(), PassFault>
+    ) -> Result<Reading, PassFault>
         requires ready { IsReady self.now (D.files folder.old) buffers.old.feed }
-        requires found { slice_get (tells self.now.survey.now).frames i ≡ Some row.now }
-        requires over { IsOver buffers.old.window self.now.pass.input.now (D.files folder.old)
-            (tells self.now.survey.now) i }
+        requires known { class ≡ (tells self.now.survey.now).class }
+        requires few { reading.now.next < 2 ^ 62 }
+        requires found { slice_get (tells self.now.survey.now).frames reading.now.next ≡ Some row.now }
+        requires over { HoldsLast buffers.old.window self.now.pass.input.now (D.files folder.old)
+            (tells self.now.survey.now) reading.now.at reading.now.count reading.now.next }
         requires class { buffers.old.writer.class ≡ (tells self.now.survey.now).class }
         requires begin { place.now.begin ≤ reach_of buffers.old.writer }
         requires within { (need_of row.now).bytes ≤
             place.now.begin
             + area_of (class_of row.now.header) place.now.slot row.now.header.protected }
         requires unsettled { IsNextSettled buffers.old.writer → ⊥ }
-        ensures lays { OnOk result (GivesFrames self.now (moved_frame self.now i row.now place.now)
+        ensures next { IfOk result (λ behind. behind.next ≡ reading.now.next + 1) }
+        ensures lays { OnOk result (GivesFrames self.now
+            (moved_frame self.now reading.now.next row.now place.now)
             buffers.old buffers.new (D.files folder.old) (D.files folder.new)) }
-        ensures part { IfErr result (GivesPart self.now (moved_frame self.now i row.now place.now)
+        ensures part { IfErr result (GivesPart self.now
+            (moved_frame self.now reading.now.next row.now place.now)
             (own_reach self.now row.now place.now)
             buffers.old (D.files folder.old) (D.files folder.new)) }
         ensures reach { OnOk result (reach_of buffers.new.writer
             ≡ own_reach self.now row.now place.now) }
         ensures class { OnOk result (buffers.new.writer.class ≡ (tells self.now.survey.now).class) }
         ensures unsettled { OnOk result (IsNextSettled buffers.new.writer → ⊥) }
-        ensures over { OnOk result (IsOver buffers.new.window self.now.pass.input.now
-            (D.files folder.new) (tells self.now.survey.now) (i + 1)) }
+        ensures over { IfOk result (λ behind. HoldsLast buffers.new.window self.now.pass.input.now
+            (D.files folder.new) (tells self.now.survey.now) behind.at behind.count behind.next) }
         ensures ready { OnOk result (IsReady self.now (D.files folder.new) buffers.new.feed) }
         ensures done { OnOk result (D.counts folder.new ≡ D.counts folder.old) }
         ensures cause { IfErr result (HasPassCause (route_of self.now.pass) (D.files folder.old)
             (D.counts folder.old) (D.counts folder.new)) }
     {
-        let area = row.header.area();
-        self.read_area(folder, i, row, &mut buffers.feed, &mut buffers.window)?;
-        let kept = Kept {
-            header: row.header.with_slot(place.slot),
-            side: side_of(row).with_begin(place.begin),
-        };
-        let payload = cut_payload(self.survey, i, row, area, &buffers.window);
-        let frame = Frame { kept, payload };
-        self.write_frame(folder, &frame, &mut buffers.writer, &mut buffers.waiting)
+        let span = self.fill_frame(
+            folder,
+            class,
+            reading,
+            row,
+            &mut buffers.feed,
+            &mut buffers.window,
+        )?;
+        let bytes = buffers.feed.bytes();
+        let before = &bytes[..span.before];
+        let own = &bytes[span.skip..];
+        let extent = row.front().extent_in(class);
+        let payload = cut_payload(
+            self.survey,
+            reading.next,
+            row,
+            &extent,
+            before,
+            own,
+            &buffers.window,
+        );
+        let taken = taken_before(before.len(), payload.len(), usize::from(extent.begin));
+        let mut front = *row.front();
+        place_front(row, place, &mut front);
+        let area = class.area_of(place.slot, row.front().protected());
+        let frame = Frame::with_area(&front, area, payload);
+        self.write_frame(folder, &frame, &mut buffers.writer, &mut buffers.waiting)?;
+        pass_area(&mut buffers.window, before, own.len(), taken);
+        Ok(Reading {
+            next: reading.next + 1,
+            at: span.at,
+            count: own.len(),
+        })
     }
 
-    /// Gives to the writer what is at a place of the plan: a lead-in before frame `i`, or that frame.
-    /// Answers the number of the frame for the next place.
+    /// Gives to the writer what is at a place of the plan: a lead-in before the next frame, or
+    /// that frame.
     ///
     /// # Errors
     /// `Read` or `Shrunk` where the input can't be read, `Write` where a write failed.
     fn place<D: Folder>(
         &self,
         folder: &mut D,
-        i: usize,
+        class: Class,
+        reading: &Reading,
         row: &Row,
         place: &Placed,
         buffers: &mut Buffers,
-    ) -> Result<usize, PassFault>
+    ) -> Result<Reading, PassFault>
         requires ready { IsReady self.now (D.files folder.old) buffers.old.feed }
-        requires few { i < 2 ^ 62 }
-        requires found { slice_get (tells self.now.survey.now).frames i ≡ Some row.now }
-        requires over { IsOver buffers.old.window self.now.pass.input.now (D.files folder.old)
-            (tells self.now.survey.now) i }
+        requires known { class ≡ (tells self.now.survey.now).class }
+        requires few { reading.now.next < 2 ^ 62 }
+        requires found { slice_get (tells self.now.survey.now).frames reading.now.next ≡ Some row.now }
+        requires over { HoldsLast buffers.old.window self.now.pass.input.now (D.files folder.old)
+            (tells self.now.survey.now) reading.now.at reading.now.count reading.now.next }
         requires class { buffers.old.writer.class ≡ (tells self.now.survey.now).class }
         requires begin { place.now.begin ≤ reach_of buffers.old.writer }
         requires within { bytes_at place.now.lead_in (need_of row.now) ≤
             place.now.begin + area_at place.now (need_of row.now) }
         requires unsettled { IsNextSettled buffers.old.writer → ⊥ }
-        ensures next { IfOk result (λ next. next ≡ i + (if place.now.lead_in then 0 else 1)) }
-        ensures lays { OnOk result (GivesFrames self.now (placed_frame self.now i row.now place.now)
+        ensures next { IfOk result (λ behind. behind.next
+            ≡ reading.now.next + (if place.now.lead_in then 0 else 1)) }
+        ensures lays { OnOk result (GivesFrames self.now
+            (placed_frame self.now reading.now.next row.now place.now)
             buffers.old buffers.new (D.files folder.old) (D.files folder.new)) }
-        ensures part { IfErr result (GivesPart self.now (placed_frame self.now i row.now place.now)
+        ensures part { IfErr result (GivesPart self.now
+            (placed_frame self.now reading.now.next row.now place.now)
             (reach_at self.now row.now place.now)
             buffers.old (D.files folder.old) (D.files folder.new)) }
         ensures reach { OnOk result (reach_of buffers.new.writer ≡
             reach_at self.now row.now place.now) }
         ensures class { OnOk result (buffers.new.writer.class ≡ (tells self.now.survey.now).class) }
         ensures unsettled { OnOk result (IsNextSettled buffers.new.writer → ⊥) }
-        ensures over { IfOk result (λ next. IsOver buffers.new.window self.now.pass.input.now
-            (D.files folder.new) (tells self.now.survey.now) next) }
+        ensures over { IfOk result (λ behind. HoldsLast buffers.new.window self.now.pass.input.now
+            (D.files folder.new) (tells self.now.survey.now) behind.at behind.count behind.next) }
         ensures ready { OnOk result (IsReady self.now (D.files folder.new) buffers.new.feed) }
         ensures done { OnOk result (D.counts folder.new ≡ D.counts folder.old) }
         ensures cause { IfErr result (HasPassCause (route_of self.now.pass) (D.files folder.old)
@@ -368,10 +584,9 @@ impl<'a> Relay<'a> {
                 &mut buffers.writer,
                 &mut buffers.waiting,
             )?;
-            Ok(i)
+            Ok(*reading)
         } else {
-            self.frame(folder, i, row, place, buffers)?;
-            Ok(i + 1)
+            self.frame(folder, class, reading, row, place, buffers)
         }
     }
 
@@ -412,9 +627,16 @@ impl<'a> Relay<'a> {
             (D.counts folder.old) (D.counts folder.new)) }
     {
         let rows = self.survey.frames();
-        let mut i = from;
+        let mut reading = Reading {
+            next: from,
+            at: 0,
+            count: 0,
+        };
+        // Outside the loop, so that what depends on it alone is computed once.
+        let class = self.survey.class();
         for place in placed {
-            i = self.place(folder, i, &rows[i], place, buffers)?;
+            let row = &rows[reading.next];
+            reading = self.place(folder, class, &reading, row, place, buffers)?;
         }
         Ok(())
     }
@@ -479,41 +701,95 @@ impl<'a> Relay<'a> {
     }
 }
 
-/// The side information of a frame, all 0 if the frame is lost.
-fn side_of(row: &Row) -> Side
-    ensures { result ≡ side_of_lem row.now }
-{
-    if row.lost { Side::empty() } else { row.side }
-}
-
-/// The main data of frame `i`, whose area has `area` bytes, out of the window, in as few bytes as hold
-/// them. A lost frame has none.
+/// The main data of frame `i`, from its own area, the area `before` it and the window before that, in as few
+/// bytes as hold them. A lost frame has none.
+#[inline]
 fn cut_payload<'w>(
     survey: &Survey,
     i: usize,
     row: &Row,
-    area: u32,
+    extent: &Extent,
+    before: &'w [u8],
+    own: &'w [u8],
     window: &'w Window,
 ) -> Payload<'w>
     requires placed { AreWellPlaced (tells survey.now).head (tells survey.now).class
         (tells survey.now).frames }
     requires found { slice_get (tells survey.now).frames i ≡ Some row.now }
-    requires area { area ≡ area_of (class_of row.now.header) row.now.header.slot
-        row.now.header.protected }
-    requires most { area ≤ 1441 }
-    requires over { Reaches window.now (place (tells survey.now).head (tells survey.now).frames
-        (i + 1)) }
+    requires begin { extent.now.begin ≡ row.now.side.main_data_begin }
+    requires bits { extent.now.bits ≡ payload_bits row.now.side }
+    requires area { length own.now ≡ own_area row.now.header }
+    requires few { length before.now ≤ 1939 }
+    requires over { Reaches (length window.now + length before.now) (tells survey.now) i }
     ensures size { length result ≡ (need_of row.now).bytes }
-    ensures told { (file main : List ℕ) → IsWindowOver window.now main
-        → length main ≡ place (tells survey.now).head (tells survey.now).frames (i + 1)
-        → main ≡ main_bytes file (tells survey.now).head (take (i + 1) (tells survey.now).frames)
+    ensures told { (file passed : List ℕ)
+        → length passed + length window.now + length before.now
+        ≡ place (tells survey.now).head (tells survey.now).frames i
+        → ((passed ++ window.now) ++ before.now) ++ own.now
+        ≡ main_bytes file (tells survey.now).head (take (i + 1) (tells survey.now).frames)
         → result ≡ payload_of file (tells survey.now) i row.now }
     ensures few { length result ≤ 2048 }
 {
-    if row.lost {
+    if row.lost() {
         Payload::empty()
     } else {
-        let begin = u32::from(row.side.main_data_begin);
-        window.main_data(area, begin, row.side.bits())
+        let begin = u32::from(extent.begin);
+        window.main_data_with(before, own, begin, extent.bits)
     }
+}
+
+/// How many of the `before` bytes before a frame's own area are before the end of its main data. These have
+/// `bytes` bytes, and begin `begin` bytes before that area; where there are none they end nowhere.
+#[inline]
+fn taken_before(before: usize, bytes: usize, begin: usize) -> usize
+    requires few { (before ≤ 1939) × (bytes ≤ 2048) }
+    ensures none { bytes ≡ 0 → result ≡ 0 }
+    ensures some { 0 < bytes → result ≡ min before (before + bytes - begin) }
+{
+    if bytes == 0 {
+        return 0;
+    }
+    (before + bytes).saturating_sub(begin).min(before)
+}
+
+/// The place in an area of `area` bytes from which on later main data can reach it, or a place before it.
+/// Its first `taken` bytes are before the end of the last main data, `own` bytes of areas follow it, and
+/// main data begin at most 511 bytes before their own area (main_data_begin, ISO/IEC 11172-3 and 13818-3,
+/// 2.4.2.7). As the ring copies 32 bytes at a time, what is after the place has a multiple of 32, where the
+/// area has as many.
+#[inline]
+fn first_kept(area: usize, own: usize, taken: usize) -> usize
+    requires within { taken ≤ area }
+    requires few { area ≤ 4096 }
+    ensures within { result ≤ area }
+    ensures many { min (511 - own) (area - taken) ≤ area - result }
+{
+    let reach = (area - taken).min(511usize.saturating_sub(own));
+    area - reach.next_multiple_of(32).min(area)
+}
+
+/// Forgets what is in the window, unless later main data may reach it, so that nothing of the area after it
+/// was taken or is left out.
+#[inline]
+fn forget_before(window: &mut Window, taken: usize, first: usize)
+    requires few { taken + first ≤ 8192 }
+    ensures none { taken + first ≡ 0 → window.new ≡ window.old }
+    ensures some { 0 < taken + first → window.new ≡ [] }
+{
+    if taken + first > 0 {
+        window.clear();
+    }
+}
+
+/// Adds to the window what later main data can reach of an area that `own` bytes of areas follow. Its first
+/// `taken` bytes are before the end of the last main data.
+#[inline]
+fn pass_area(window: &mut Window, area: &[u8], own: usize, taken: usize)
+    requires within { taken ≤ length area.now }
+    requires few { length area.now ≤ 4096 }
+    ensures { KeepsReach window.old window.new area.now own taken }
+{
+    let first = first_kept(area.len(), own, taken);
+    forget_before(window, taken, first);
+    window.push_area(&area[first..]);
 }

@@ -13,7 +13,7 @@ use Rattle.tag_blocks.specs.UndoItems.{undo_from}
 use Rattle.file_tag.specs.declared.fault.FileTagFault.{FileTagFault}
 use Rattle.file_tag.specs.Places.{tag_at}
 use Rattle.file_tag.specs.Reading.{longest_tag, file_tag}
-use Rattle.sync_survey.specs.declared.rows.Row.{Row}
+use Rattle.sync_survey.specs.Row.{Row}
 use Rattle.sync_survey.specs.Faults.{SurveyFields, longest_file}
 use Rattle.commands.specs.declared.fault.EditFault.{EditFault}
 use Rattle.commands.specs.declared.fault.Refusal.{Refusal}

@@ -19,7 +19,7 @@ use Rattle.part_needs.specs.Needs.{need_of}
 use Rattle.rate_plan.specs.Menus.{CanBeLaidFrom, IsUnfit}
 use Rattle.outside.specs.Files.{Contents}
 use Rattle.sync_survey.specs.declared.places.PlacedFrame.{PlacedFrame}
-use Rattle.sync_survey.specs.declared.rows.Row.{Row}
+use Rattle.sync_survey.specs.Row.{Row}
 use Rattle.sync_survey.specs.Start.{front_end_of}
 use Rattle.sync_survey.specs.Faults.{SurveyFields, longest_file}
 use Rattle.commands.specs.Sheet.{longest_sheet}

@@ -1,4 +1,7 @@
 -- The lemmas of this crate.
+pub mod PairsLaws
+pub mod DecimalLaws
+pub mod RateLaws
 pub mod ThingsLaws
 pub mod ListingLaws
 pub mod ListLaws

@@ -1,6 +1,6 @@
 -- The lines of a text, one after another, and what is sent of them: those of entries, and a last one.
-use Rattle.std.proofs.Common.{◌≡◌, ℕ, List, [], ◌∷◌, ◌++◌, drop, refl, sym, ◌∙◌, ap, subst, append_assoc, Some, None}
-use Rattle.std.specs.Prelude.{Result, Ok, Err, OnOk, OnErr, flat_map}
+use Rattle.std.proofs.Common.{◌≡◌, ℕ, List, [], ◌∷◌, ◌++◌, drop, refl, sym, ◌∙◌, ap, subst, append_assoc, Some, None, length, ◌<◌, arith}
+use Rattle.std.specs.Prelude.{Result, Ok, Err, OnOk, OnErr, flat_map, option_map}
 use Rattle.offset_order.specs.Order.{first_of}
 use Rattle.outside.specs.Files.{Sent, sent_more}
 use Rattle.outside.specs.Passed.{SentOn, SentPrefix}
@@ -20,6 +20,15 @@ split_first (u ∷ us) t is = let same : t ≡ u = cc in rw same refl
 no_more : {A : Type 0} (left : List A) → None ≡ first_of left → left ≡ []
 no_more [] is = refl
 no_more (t ∷ ts) is = absurd cc
+
+-- a text that is the line of what is first
+pub first_line : {A : Type 0} (line : A → List ℕ) (left : List A) {text : List ℕ} → option_map line (first_of left) ≡ Some text → (t : A) × (Some t ≡ first_of left) × (line t ≡ text)
+first_line line [] is = absurd cc
+first_line line (t ∷ ts) is = (t, refl, cc)
+
+pub shorter_behind : {A : Type 0} (line : A → List ℕ) (left rest : List A) {text : List ℕ} → option_map line (first_of left) ≡ Some text → rest ≡ drop 1 left → length rest < length left
+shorter_behind line [] rest first is = absurd cc
+shorter_behind line (t ∷ ts) rest first is = omega (arith, ap length is)
 
 module _ {A : Type 0} (line : A → List ℕ) (all : List A) where
   pub said_none : (left : List A) (sent : Sent) → left ≡ all → IsSaidTo line all left [] sent sent

@@ -1,3 +1,4 @@
 -- What the contracts of this crate cite.
+pub mod Decimals
 pub mod Things
 pub mod Listing

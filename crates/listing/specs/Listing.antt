@@ -1,5 +1,5 @@
 -- The list command: a line for each thing of a file, in order of the offsets, and a summary.
-use Rattle.std.specs.Prelude.{ℕ, ◌+◌, ◌*◌, ◌/◌, ◌%◌, Bool, if◌then◌else◌, List, [], ◌∷◌, ◌++◌, length, flat_map, codes, decimal, Option, Some, None, Result, Ok, Err, false}
+use Rattle.std.specs.Prelude.{ℕ, ◌*◌, ◌/◌, ◌%◌, Bool, if◌then◌else◌, List, [], ◌∷◌, ◌++◌, length, flat_map, codes, decimal, Option, Some, None, Result, Ok, Err, false}
 use Rattle.frame_header.specs.declared.version.Version.{Version}
 use Rattle.frame_header.specs.declared.version.Version.TheVariants.{One, Two, TwoFive}
 use Rattle.frame_header.specs.Fields.{ClassFields}
@@ -7,7 +7,7 @@ use Rattle.frame_header.specs.Tables.{class_of, rate_of, length_of, frequency_of
 use Rattle.side_info.specs.Side.{payload_bits}
 use Rattle.tag_blocks.specs.declared.block.Kind.{Kind}
 use Rattle.tag_blocks.specs.declared.block.Kind.TheVariants.{Id3v2, Id3v1, Ape}
-use Rattle.sync_survey.specs.declared.rows.Row.{Row}
+use Rattle.sync_survey.specs.Row.{Row}
 use Rattle.sync_survey.specs.declared.survey_fault.SurveyFault.{SurveyFault}
 use Rattle.sync_survey.specs.declared.survey_fault.SurveyFault.TheVariants.{Absent}
 use Rattle.sync_survey.specs.Faults.{SurveyFields}
@@ -18,6 +18,7 @@ use Rattle.listing.specs.declared.things.Thing.{Thing}
 use Rattle.listing.specs.declared.things.Thing.TheVariants.{Block, Junk, FirstHead, Frame}
 use Rattle.commands.specs.One.{most_frames}
 use Rattle.commands.specs.Command.{Made, Command}
+use Rattle.listing.specs.Decimals.{two_digits}
 use Rattle.listing.specs.Things.{things_of, in_order}
 
 -- ---- the line of each thing
@@ -30,6 +31,10 @@ kind_name Ape = codes "APEv2"
 -- where it begins and how long it is, in bytes
 abbrev pub extent : ℕ → ℕ → List ℕ
 extent at size = codes " at " ++ (decimal at ++ (codes ": " ++ (decimal size ++ codes " bytes\n")))
+
+-- a bit rate in kbit/s, behind the offset
+abbrev pub rate_text : ℕ → List ℕ
+rate_text rate = codes ": " ++ (decimal rate ++ codes " kbit/s")
 
 abbrev pub padding_text : Bool → List ℕ
 padding_text padding = if padding then codes " padded" else []
@@ -61,9 +66,6 @@ version_name TwoFive = codes "MPEG-2.5"
 -- how long `count` frames of this class sound, in hundredths of a second, rounded down
 abbrev pub hundredths : ClassFields → ℕ → ℕ
 hundredths class count = (count * samples_of class.version * 100) / frequency_of class
-
-abbrev pub two_digits : ℕ → List ℕ
-two_digits n = (48 + n / 10 % 10) ∷ (48 + n % 10) ∷ []
 
 -- a time in hundredths of a second as minutes, seconds and hundredths, with dots between them
 abbrev pub time_text : ℕ → List ℕ

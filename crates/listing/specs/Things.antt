@@ -1,9 +1,9 @@
 -- What is in a file, in order of the offsets.
-use Rattle.std.specs.Prelude.{ℕ, ◌-◌, nat_lt, if◌then◌else◌, List, [], ◌∷◌, ◌++◌, map, drop, Option, Some, None, option_to_list}
+use Rattle.std.specs.Prelude.{ℕ, ◌-◌, nat_lt, if◌then◌else◌, List, [], ◌∷◌, ◌++◌, map, drop, Option, Some, None, option_to_list, option_map, ◌≡◌}
 use Rattle.std.specs.List.{enumerate_from}
-use Rattle.offset_order.specs.Order.{ordered_by, left_by}
+use Rattle.offset_order.specs.Order.{ordered_by, left_by, first_of}
 use Rattle.sync_survey.specs.declared.places.Head.{Head}
-use Rattle.sync_survey.specs.declared.rows.Row.{Row}
+use Rattle.sync_survey.specs.Row.{Row}
 use Rattle.sync_survey.specs.Faults.{SurveyFields}
 use Rattle.listing.specs.declared.things.Thing.{Thing}
 use Rattle.listing.specs.declared.things.Thing.TheVariants.{Block, Junk, FirstHead, Frame}
@@ -46,3 +46,10 @@ stream_left t = option_to_list t.junk ++ (option_to_list t.head ++ frames_from t
 
 unfoldable pub left : Things → List Thing
 left t = left_by offset_of Block t.pieces.now t.next_piece (stream_left t)
+
+-- no block that is left is at or before this offset, so what isn't a block comes first if it is there
+abbrev pub IsAheadOfBlocks : Things → ℕ → Type 0
+IsAheadOfBlocks t at =
+    (us : List Thing) → option_map offset_of (first_of us) ≡ Some at
+    → (first_of (left_by offset_of Block t.pieces.now t.next_piece us) ≡ first_of us)
+    × (drop 1 (left_by offset_of Block t.pieces.now t.next_piece us) ≡ left_by offset_of Block t.pieces.now t.next_piece (drop 1 us))

@@ -1,9 +1,13 @@
 //! The lines of a listing.
-ghost use Rattle.std.specs.Prelude.{◌≡◌, ◌+◌, ◌<◌, ◌≤◌, ◌++◌, length, codes};
-ghost use Rattle.listing.specs.Listing.{kind_name as kind_name_lem, version_name as version_name_lem, extent as extent_lem, frame_line as frame_line_lem, line_of, time_text, two_digits as two_digits_lem, summary};
+ghost use Rattle.std.specs.Prelude.{◌≡◌, ◌+◌, ◌<◌, ◌≤◌, ◌++◌, Some, None, true, false, length, drop, codes, option_map};
+ghost use Rattle.listing.specs.Listing.{kind_name as kind_name_lem, version_name as version_name_lem, extent as extent_lem, frame_line as frame_line_lem, line_of, time_text, summary};
+ghost use Rattle.listing.specs.Things.{left};
+ghost use Rattle.offset_order.specs.Order.{first_of};
 
+use crate::leading_digits::LeadingDigits;
 use crate::line::Line;
-use crate::things::Thing;
+use crate::rate_text::put_rate;
+use crate::things::{Thing, Things};
 use frame_header::{Class, Version};
 use itoa::Buffer;
 use sync_survey::Row;
@@ -31,31 +35,57 @@ fn kind_name<'a>(kind: Kind) -> &'a [u8]
     }
 }
 
-// The number of a frame, its offset, its bit rate in kbit/s, its main_data_begin in bytes, how many bits its main data are, and whether it is lost.
-fn set_frame_line(line: &mut Line, number: u64, row: &Row)
-    ensures { line.new ≡ frame_line_lem number row.now }
-{
-    let slot = row.header.slot;
-    line.clear();
-    line.put(b"\n");
-    if row.lost {
-        line.put(b", lost");
-    }
-    line.put_number(u64::from(row.side.bits()));
-    line.put_counted(u64::from(row.side.main_data_begin), b", bits ");
-    line.put(b", begin ");
-    if slot.padding {
-        line.put(b" padded");
-    }
-    line.put_counted(u64::from(row.header.class().rate(slot)), b" kbit/s");
-    line.put_counted(u64::from(row.offset), b": ");
-    line.put_counted(number, b" at ");
-    line.put(b"frame ");
+/// What a frame's line has in common with that of the frame before: the leading digits of its number and of its offset.
+#[derive(Drop)]
+pub(crate) struct Common {
+    number: LeadingDigits,
+    offset: LeadingDigits,
 }
 
-/// Makes the text the line of a thing.
+impl Common {
+    /// Before the first frame.
+    pub(crate) fn new() -> Common {
+        Common {
+            number: LeadingDigits::of(1),
+            offset: LeadingDigits::of(1),
+        }
+    }
+}
+
+// The number of a frame, its offset, its bit rate in kbit/s, its main_data_begin in bytes, how many bits its main data are, and whether it is lost.
+#[inline(always)]
+fn set_frame_line(line: &mut Line, common: &mut Common, number: u64, row: &Row)
+    ensures { line.new ≡ frame_line_lem number row.now }
+{
+    let front = row.front();
+    let class = front.class();
+    let slot = front.slot();
+    let extent = front.extent_in(class);
+    line.clear();
+    line.put(b"\n");
+    if row.lost() {
+        line.put(b", lost");
+    }
+    line.put_number(u64::from(extent.bits));
+    line.put_from(1, b"_, bits ");
+    line.put_number(u64::from(extent.begin));
+    if slot.padding {
+        // The compiler sees that a copy doesn't overlap the line.
+        let text = *b"_ padded, begin ";
+        line.put_from(1, &text);
+    } else {
+        line.put(b", begin ");
+    }
+    put_rate(line, class, slot);
+    common.offset.put_by_myriads(u64::from(row.offset()), line);
+    line.put(b" at ");
+    common.number.put_by_hundreds(number, line);
+    line.put_from(2, b"__frame ");
+}
+
+// Makes the text the line of a thing.
 #[tactic(auto, unfolding(crate::specs::Listing::line_of))]
-pub(crate) fn set_line(line: &mut Line, thing: &Thing)
+fn set_line(line: &mut Line, common: &mut Common, thing: &Thing)
     ensures { line.new ≡ line_of thing.now }
 {
     match thing {
@@ -72,7 +102,40 @@ pub(crate) fn set_line(line: &mut Line, thing: &Thing)
             set_extent(line, *at, u64::from(header.length()));
             line.put(b"head");
         }
-        Thing::Frame(number, row) => set_frame_line(line, *number, row),
+        Thing::Frame(number, row) => set_frame_line(line, common, *number, row),
+    }
+}
+
+// As `set_next_line`. It is apart from it, since the compiler would make room for a thing of each kind at every frame.
+#[inline(never)]
+fn set_other_line(line: &mut Line, common: &mut Common, things: &mut Things) -> bool
+    ensures line { result ≡ true → option_map line_of (first_of (left things.old)) ≡ Some line.new }
+    ensures none { result ≡ false → first_of (left things.old) ≡ None }
+    ensures rest { left things.new ≡ drop 1 (left things.old) }
+{
+    match things.next() {
+        Some(thing) => {
+            set_line(line, common, &thing);
+            true
+        }
+        None => false,
+    }
+}
+
+/// Makes the text the line of the next thing; false, with any text, once all were met.
+#[tactic(auto, unfolding(crate::specs::Listing::line_of))]
+#[inline]
+pub(crate) fn set_next_line(line: &mut Line, common: &mut Common, things: &mut Things) -> bool
+    ensures line { result ≡ true → option_map line_of (first_of (left things.old)) ≡ Some line.new }
+    ensures none { result ≡ false → first_of (left things.old) ≡ None }
+    ensures rest { left things.new ≡ drop 1 (left things.old) }
+{
+    match things.next_frame() {
+        Some((number, row)) => {
+            set_frame_line(line, common, number, row);
+            true
+        }
+        None => set_other_line(line, common, things),
     }
 }
 
@@ -87,16 +150,6 @@ fn version_name<'a>(version: Version) -> &'a [u8]
     }
 }
 
-// Puts the last two decimal digits of a number before the line.
-fn put_two_digits(line: &mut Line, number: u64)
-    requires { length line.old + 2 ≤ 192 }
-    ensures { line.new ≡ two_digits_lem number ++ line.old }
-{
-    let tens = b'0' + (number / 10 % 10) as u8;
-    let ones = b'0' + (number % 10) as u8;
-    line.put(&[tens, ones]);
-}
-
 // The end of a line: a time in hundredths of a second, written as M.SS.HH.
 fn set_time(line: &mut Line, time: u128)
     ensures text { line.new ≡ time_text time ++ codes "\n" }
@@ -104,9 +157,9 @@ fn set_time(line: &mut Line, time: u128)
 {
     line.clear();
     line.put(b"\n");
-    put_two_digits(line, (time % 100) as u64);
+    line.put_pair((time % 100) as u32);
     line.put(b".");
-    put_two_digits(line, (time / 100 % 60) as u64);
+    line.put_pair((time / 100 % 60) as u32);
     line.put(b".");
     line.put(Buffer::new().format(time / 6000).as_bytes());
 }

@@ -11,7 +11,7 @@ ghost use Rattle.listing.specs.Listing.{listing, list_command};
 ghost use Rattle.commands.specs.Said.{heard, Says, fault_of};
 
 use crate::line::Line;
-use crate::lines::{set_line, set_summary};
+use crate::lines::{Common, set_next_line, set_summary};
 use crate::things::Things;
 use commands::{EditFault, MOST_FRAMES, survey_at};
 use outside::{Failed, Folder, SendBuffer, Sink};
@@ -32,9 +32,9 @@ fn send_listing<T: Sink>(survey: &Survey, mut buffer: SendBuffer, out: &mut T) -
     ensures cause { HasCause (T.faults out.old) (T.faults out.new) result }
 {
     let mut line = Line::new();
+    let mut common = Common::new();
     let mut things = Things::of(survey);
-    while let Some(thing) = things.next() {
-        set_line(&mut line, &thing);
+    while set_next_line(&mut line, &mut common, &mut things) {
         buffer.push(out, line.bytes())?;
     }
     let count = survey.frames().len() as u64;

@@ -1,8 +1,9 @@
 //! What is in a file, in order of the offsets.
-ghost use Rattle.std.specs.Prelude.{◌≡◌, drop, option_map, option_to_list};
+ghost use Rattle.std.specs.Prelude.{◌≡◌, drop, false, option_map, option_to_list, IfSome, IfNone};
 ghost use Rattle.sync_survey.specs.Faults.{tells};
 ghost use Rattle.sync_survey.specs.Survey.{IsLaidOut};
-ghost use Rattle.listing.specs.Things.{offset_of, things_of, in_order, junk_of as junk_of_lem, head_of as head_of_lem, left, stream_left};
+ghost use Rattle.listing.specs.Things.{offset_of, things_of, in_order, junk_of as junk_of_lem, head_of as head_of_lem, left, stream_left, IsAheadOfBlocks};
+ghost use Rattle.listing.specs.declared.things.Thing.TheVariants.{Frame};
 ghost use Rattle.offset_order.specs.Order.{first_of};
 
 use frame_header::Header;
@@ -28,7 +29,7 @@ impl Thing {
         match self {
             Thing::Block(piece) => piece.offset,
             Thing::Junk(at, _) | Thing::FirstHead(at, _) => *at,
-            Thing::Frame(_, row) => u64::from(row.offset),
+            Thing::Frame(_, row) => u64::from(row.offset()),
         }
     }
 }
@@ -77,6 +78,40 @@ impl<'a> Things<'a> {
         }
     }
 
+    /// The next thing, if it is a frame: its number, and its row. None if it is another, or all were met.
+    #[inline]
+    pub(crate) fn next_frame(&mut self) -> Option<(u64, &'a Row)>
+        ensures first { IfSome result (λ frame. first_of (left self.old)
+            ≡ Some (Frame frame.0 frame.1.now)) }
+        ensures rest { IfSome result (λ frame. left self.new ≡ drop 1 (left self.old)) }
+        ensures none { IfNone result (self.new ≡ self.old) }
+    {
+        if self.junk.is_some() {
+            return None;
+        }
+        if self.head.is_some() {
+            return None;
+        }
+        let row = self.frames.get(self.next_frame)?;
+        if self.has_block_until(u64::from(row.offset())) {
+            return None;
+        }
+        let number = self.next_frame as u64;
+        self.next_frame += 1;
+        Some((number, row))
+    }
+
+    /// Whether a block that is left is at or before this offset.
+    #[inline]
+    fn has_block_until(&self, offset: u64) -> bool
+        ensures { result ≡ false → IsAheadOfBlocks self.now offset }
+    {
+        match self.pieces.get(self.next_piece) {
+            Some(piece) => piece.offset <= offset,
+            None => false,
+        }
+    }
+
     /// The next thing, in order of the offsets; none once all were met.
     pub(crate) fn next(&mut self) -> Option<Thing>
         ensures first { result ≡ first_of (left self.old) }
@@ -105,7 +140,7 @@ impl<'a> Things<'a> {
             return Some(head.offset());
         }
         let row = self.frames.get(self.next_frame)?;
-        Some(u64::from(row.offset))
+        Some(u64::from(row.offset()))
     }
 
     /// The next thing that isn't a block.

@@ -7,7 +7,7 @@ use Rattle.frame_header.specs.Fields.{IsHeader}
 use Rattle.frame_header.specs.Tables.{class_of, length_of}
 use Rattle.frame_header.proofs.HeaderLaws.{IsClass-class_of}
 use Rattle.frame_header.proofs.Lengths.{area_some}
-use Rattle.sync_survey.specs.declared.rows.Row.{Row}
+use Rattle.sync_survey.specs.Row.{Row}
 use Rattle.sync_survey.specs.Runs.{frames_of}
 use Rattle.sync_survey.specs.Walk.{stream_run, numbered}
 use Rattle.sync_survey.specs.MainData.{rows_of, marked}
@@ -16,6 +16,7 @@ use Rattle.sync_survey.specs.Faults.{SurveyFields, surveyed}
 use Rattle.sync_survey.specs.Survey.{AreLaid, IsLaidOut}
 use Rattle.moved_gains.specs.declared.course.Course.{Course}
 use Rattle.moved_gains.specs.Course.{number_at, AreNumbered, steps_in, steps_over}
+use Rattle.moved_gains.specs.Moving.{AreOfClass}
 use Rattle.moved_gains.proofs.LostOffsets.{AreRising, rising_less, rising_get, marked_rising, walk_rising}
 
 -- ---- frames at rising offsets
@@ -67,6 +68,9 @@ out_rising s laid = laid_rising s.first s.frames s.length (λ i row is. (laid.pl
 
 pub out_numbered : (s : SurveyFields) → IsLaidOut s → AreNumbered s.frames
 out_numbered s laid = rising_numbered s.first s.frames (out_rising s laid)
+
+pub out_classed : (s : SurveyFields) → IsLaidOut s → AreOfClass s.class s.frames
+out_classed s laid i row is = (laid.placed i row is).class_is
 
 pub out_few : (s : SurveyFields) → IsLaidOut s → length s.frames ≤ s.length
 out_few s laid = omega (arith, laid_few s.first s.frames s.length (λ i row is. (laid.placed i row is).known) laid.frames)

@@ -7,7 +7,7 @@ use Rattle.side_info.proofs.SideLaws.{IsShaped}
 use Rattle.side_info.proofs.FrameLaws.{IsRight, shaped-side_in}
 use Rattle.sync_survey.specs.declared.places.PlacedFrame.{PlacedFrame}
 use Rattle.sync_survey.specs.declared.places.Start.{Start}
-use Rattle.sync_survey.specs.declared.rows.Row.{Row}
+use Rattle.sync_survey.specs.Row.{Row}
 use Rattle.sync_survey.specs.Walk.{head_of}
 use Rattle.sync_survey.specs.Faults.{SurveyFields, surveyed}
 use Rattle.sync_survey.proofs.SurveyParts.{frames_from, told_from, IsRead, surveyed-parts}

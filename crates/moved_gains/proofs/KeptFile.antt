@@ -1,10 +1,10 @@
 -- A changed file differs from what it was in gains, check words, the tag and junk that is left out.
-use Rattle.std.proofs.Common.{◌≡◌, ℕ, zero, suc, ◌+◌, ◌-◌, ◌<◌, ◌≤◌, List, [], ◌∷◌, ◌++◌, length, take, drop, map, Option, Some, None, Ok, refl, sym, ◌∙◌, ap, ap₂, subst, arith, inl, inr, append_assoc, take-append-drop, append-nil}
+use Rattle.std.proofs.Common.{◌≡◌, ℕ, zero, suc, ◌+◌, ◌-◌, ◌<◌, ◌≤◌, List, [], ◌∷◌, ◌++◌, take, drop, map, Option, Some, None, Ok, refl, sym, ◌∙◌, ap, ap₂, subst, arith, inl, inr, append_assoc, take-append-drop, append-nil}
 use Rattle.std.specs.Prelude.{◌⊎◌, slice_get}
 use Rattle.std.proofs.lemmas.List.{drop-drop}
 use Rattle.std.proofs.Math.Seq.{take-add}
 use Rattle.bit_fields.specs.Bits.{AreBytes}
-use Rattle.sync_survey.specs.declared.rows.Row.{Row}
+use Rattle.sync_survey.specs.Row.{Row}
 use Rattle.sync_survey.specs.Faults.{SurveyFields, surveyed}
 use Rattle.file_tag.specs.Places.{tag_at, tag_length, with_tag}
 use Rattle.outside.specs.Pass.{bytes_between}
@@ -12,13 +12,13 @@ use Rattle.moved_gains.specs.declared.shift.Steps.{Steps}
 use Rattle.moved_gains.specs.Edited.{edited}
 use Rattle.moved_gains.specs.Moving.{row_length, row_end, moved_row_bytes}
 use Rattle.moved_gains.specs.Streams.{moved_survey}
-use Rattle.moved_gains.specs.Change.{Change, retag, changed}
+use Rattle.moved_gains.specs.Change.{retag, changed}
 use Rattle.moved_gains.specs.Kept.{Patch, patched, BeginsAfter, AreInOrder, LeavesJunk, ReplacesTag, MovesFrame, MayBecome, AreAllowed, KeepsAll, ChangesKeepAll}
 use Rattle.moved_gains.proofs.MovingLaws.{moved_from, moved_from-nil, moved_from-cons, written-edited}
-use Rattle.moved_gains.proofs.WrittenLaws.{EndBy, end_rises, moved_to, append_three}
-use Rattle.moved_gains.proofs.TagPlaces.{IsAmong, IsApart, IsInFront, StandsSomewhere, stands_somewhere, stands_apart}
+use Rattle.moved_gains.proofs.WrittenLaws.{EndBy, moved_to, append_three}
+use Rattle.moved_gains.proofs.TagPlaces.{IsApart, IsInFront, StandsSomewhere, stands_somewhere, stands_apart}
 use Rattle.moved_gains.proofs.WrittenTag.{front_whole, among_whole}
-use Rattle.moved_gains.proofs.FramesThere.{frame_of, IsFrameOf, AreFramesOf, frames_there}
+use Rattle.moved_gains.proofs.FramesThere.{IsFrameOf, AreFramesOf, frames_there}
 use Rattle.moved_gains.proofs.KeptFrame.{row_differs}
 
 -- ---- patches in order

@@ -1,11 +1,11 @@
 -- A frame with moved gains differs from what it was in gains and in the check word alone.
-use Rattle.std.proofs.Common.{◌≡◌, ℕ, ◌+◌, ◌*◌, ◌≤◌, Bool, true, false, cond, not, List, [], ◌∷◌, ◌++◌, length, take, drop, sum, refl, sym, ◌∙◌, ap, ap₂, subst, arith, ℤ, append_assoc, take-append-drop, length-take, length-drop}
+use Rattle.std.proofs.Common.{◌≡◌, ℕ, ◌≤◌, Bool, true, false, cond, not, List, [], ◌∷◌, ◌++◌, length, take, drop, sum, refl, sym, ◌∙◌, ap, ap₂, subst, arith, ℤ, append_assoc, take-append-drop, length-take, length-drop}
 use Rattle.std.specs.Prelude.{flat_map, MatchBool}
 use Rattle.std.proofs.lemmas.Bool.{false≢true}
 use Rattle.std.proofs.lemmas.List.{drop-drop, take_at, drop_at, take-append-le, drop-append-le}
 use Rattle.bit_fields.specs.Bits.{bits, bits_of, bytes, AreBytes}
 use Rattle.bit_fields.specs.Groups.{spelled}
-use Rattle.bit_fields.proofs.BitsLaws.{AreBits-bits_of, bits-append, bits-bytes, length-bits, length-bits_of, bits-nil}
+use Rattle.bit_fields.proofs.BitsLaws.{bits-append, bits-bytes, length-bits, length-bits_of, bits-nil}
 use Rattle.bit_fields.proofs.GroupsLaws.{sum-cons, length-spelled}
 use Rattle.frame_header.specs.declared.version.Version.{Version}
 use Rattle.frame_header.specs.declared.version.Version.TheVariants.{One, Two}
@@ -22,7 +22,7 @@ use Rattle.side_info.specs.Frame.{side_place, side_part, side_in, word_part, fra
 use Rattle.side_info.proofs.GranuleLaws.{bits-parts}
 use Rattle.side_info.proofs.SideLaws.{each_class, IsShaped, each_shaped, AreBits-side_bits, length-side_bits}
 use Rattle.side_info.proofs.FrameLaws.{HasRoom, IsRight, overhead-is, length-word, room-least, room-protected, side_there, frame_with-own, shaped-side_in}
-use Rattle.sync_survey.specs.declared.rows.Row.{Row}
+use Rattle.sync_survey.specs.Row.{Row}
 use Rattle.moved_gains.specs.declared.shift.Steps.{Steps}
 use Rattle.moved_gains.specs.Gains.{is_silent_granule, moved_gain, moved, moved_side}
 use Rattle.moved_gains.specs.Edited.{moved_frame}

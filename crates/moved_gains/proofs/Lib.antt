@@ -19,3 +19,4 @@ pub mod MovedAgain
 pub mod TaggedAgain
 pub mod Rows
 pub mod TagEnds
+pub mod BufferLaws

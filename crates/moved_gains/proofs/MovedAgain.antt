@@ -7,7 +7,7 @@ use Rattle.side_info.specs.Side.{granule_in}
 use Rattle.side_info.specs.Frame.{frame_with}
 use Rattle.side_info.proofs.SideLaws.{IsShaped}
 use Rattle.side_info.proofs.FrameLaws.{frame_with-again}
-use Rattle.sync_survey.specs.declared.rows.Row.{Row}
+use Rattle.sync_survey.specs.Row.{Row}
 use Rattle.moved_gains.specs.declared.shift.Steps.{Steps}
 use Rattle.moved_gains.specs.Gains.{moved, moved_side, moved_unless}
 use Rattle.outside.specs.Pass.{bytes_between}

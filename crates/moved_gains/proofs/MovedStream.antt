@@ -11,7 +11,7 @@ use Rattle.side_info.proofs.FrameLaws.{shaped-side_in}
 use Rattle.sync_survey.specs.declared.places.PlacedFrame.{PlacedFrame}
 use Rattle.sync_survey.specs.declared.places.Head.{Head}
 use Rattle.sync_survey.specs.declared.places.Start.{Start}
-use Rattle.sync_survey.specs.declared.rows.Row.{Row}
+use Rattle.sync_survey.specs.Row.{Row}
 use Rattle.sync_survey.specs.Walk.{frame_bytes, head_of}
 use Rattle.sync_survey.specs.MainData.{area_bytes, head_bytes, main_bytes, parts_of, part_lengths, StreamFrame, side_of, stream_frame, stream_frames}
 use Rattle.sync_survey.specs.Faults.{SurveyFields, surveyed, stream_of_survey}

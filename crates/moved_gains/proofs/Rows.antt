@@ -1,7 +1,7 @@
 -- Rows one at a time.
 use Rattle.std.proofs.Common.{◌≡◌, ℕ, suc, ◌+◌, ◌<◌, List, ◌∷◌, length, get_or, drop, ◌∙◌, ap, arith}
 use Rattle.std.proofs.Math.Seq.{drop-cons}
-use Rattle.sync_survey.specs.declared.rows.Row.{Row}
+use Rattle.sync_survey.specs.Row.{Row}
 
 -- the row at i, and those after it
 pub next_row : (rows : List Row) (i : ℕ) (d : Row) → i < length rows → drop i rows ≡ get_or rows i d ∷ drop (i + 1) rows

@@ -8,7 +8,7 @@ use Rattle.bit_fields.specs.Bits.{AreBytes}
 use Rattle.tag_blocks.specs.declared.block.Kind.TheVariants.{Ape}
 use Rattle.tag_blocks.specs.Blocks.{block_front}
 use Rattle.tag_blocks.proofs.BlocksLaws.{block_front-least}
-use Rattle.sync_survey.specs.declared.rows.Row.{Row}
+use Rattle.sync_survey.specs.Row.{Row}
 use Rattle.sync_survey.specs.Faults.{SurveyFields, surveyed}
 use Rattle.file_tag.specs.Places.{tag_at, tag_length, with_tag, moved_at, moved_row as tagged_row, retagged}
 use Rattle.file_tag.specs.Laws.{own_bytes, HasNewTag}

@@ -5,7 +5,7 @@ use Rattle.std.specs.List.{find}
 use Rattle.std.proofs.lemmas.Bool.{lt-ltb, le-ltb}
 use Rattle.std.proofs.lemmas.List.{drop-drop, take_at, drop_at, take-take, drop-take, take-append-le, drop-append-le, length-take-le}
 use Rattle.sync_survey.specs.declared.places.Piece.{Piece}
-use Rattle.sync_survey.specs.declared.rows.Row.{Row}
+use Rattle.sync_survey.specs.Row.{Row}
 use Rattle.sync_survey.specs.Faults.{SurveyFields, surveyed}
 use Rattle.file_tag.specs.Places.{is_tag, tag_block, tag_at, tag_length, last_end, with_tag}
 use Rattle.file_tag.proofs.FoundTag.{last_more}

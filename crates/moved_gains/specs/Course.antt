@@ -1,7 +1,7 @@
 -- By how many steps the gains of each frame of a file move.
 use Rattle.std.specs.Prelude.{◌≡◌, ℕ, suc, false, slice_get, Some, nat_lt, if◌then◌else◌, List, [], ◌∷◌, ℤ}
 use Rattle.fade_plan.specs.Curves.{steps_at, steps_back}
-use Rattle.sync_survey.specs.declared.rows.Row.{Row}
+use Rattle.sync_survey.specs.Row.{Row}
 use Rattle.moved_gains.specs.declared.course.Course.{Course}
 use Rattle.moved_gains.specs.declared.course.Course.TheVariants.{Even, Along}
 use Rattle.moved_gains.specs.declared.shift.Steps.{Steps}

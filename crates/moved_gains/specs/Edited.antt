@@ -5,7 +5,7 @@ use Rattle.side_info.specs.Frame.{side_in, frame_with}
 use Rattle.sync_survey.specs.declared.items.Item.{Item}
 use Rattle.sync_survey.specs.declared.items.Item.TheVariants.{Frame, Free, Block, Zero, End, Nothing}
 use Rattle.sync_survey.specs.declared.places.Head.{Head}
-use Rattle.sync_survey.specs.declared.rows.Row.{Row}
+use Rattle.sync_survey.specs.Row.{Row}
 use Rattle.sync_survey.specs.declared.runs.Part.TheVariants.{Front, Stream}
 use Rattle.sync_survey.specs.Runs.{Placed, run, bytes_in, bytes_of_items}
 use Rattle.sync_survey.specs.Faults.{SurveyFields}

@@ -14,7 +14,7 @@ use Rattle.side_info.specs.declared.side.Side.{Side}
 use Rattle.side_info.specs.Granule.{granule_widths}
 use Rattle.side_info.specs.Side.{front_widths, granules_in}
 use Rattle.side_info.specs.Frame.{side_in}
-use Rattle.sync_survey.specs.declared.rows.Row.{Row}
+use Rattle.sync_survey.specs.Row.{Row}
 use Rattle.sync_survey.specs.Faults.{SurveyFields, surveyed}
 use Rattle.file_tag.specs.Places.{tag_at, tag_length}
 use Rattle.outside.specs.Pass.{bytes_between}

@@ -7,3 +7,4 @@ pub mod Change
 pub mod Moving
 pub mod Kept
 pub mod Buffers
+pub mod Passing

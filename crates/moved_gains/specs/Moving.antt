@@ -1,8 +1,9 @@
 -- A file that is read once from its beginning to its end and written with moved gains and with another tag.
-use Rattle.std.specs.Prelude.{◌≡◌, ℕ, ◌+◌, ◌&&◌, nat_le, if◌then◌else◌, Option, Some, None, length, List, [], ◌∷◌, ◌++◌, take, drop}
+use Rattle.std.specs.Prelude.{◌≡◌, ℕ, ◌+◌, ◌&&◌, nat_le, slice_get, if◌then◌else◌, Option, Some, None, length, List, [], ◌∷◌, ◌++◌, take, drop}
+use Rattle.frame_header.specs.Fields.{ClassFields}
 use Rattle.frame_header.specs.Tables.{class_of, length_of, overhead_of}
 use Rattle.side_info.specs.Frame.{side_in, frame_with}
-use Rattle.sync_survey.specs.declared.rows.Row.{Row}
+use Rattle.sync_survey.specs.Row.{Row}
 use Rattle.file_tag.specs.Places.{tag_at, tag_length}
 use Rattle.sync_survey.specs.Faults.{SurveyFields}
 use Rattle.outside.specs.Pass.{bytes_between}
@@ -29,6 +30,10 @@ IsRowOf file row = side_in row.header (drop row.offset file) ≡ row.side
 abbrev pub AreRowsOf : List ℕ → List Row → Type 0
 AreRowsOf file [] = Unit {0}
 AreRowsOf file (row ∷ rows) = IsRowOf file row × AreRowsOf file rows
+
+-- the rows are of frames of this class
+abbrev pub AreOfClass : ClassFields → List Row → Type 0
+AreOfClass class rows = (i : ℕ) (row : Row) → slice_get rows i ≡ Some row → class_of row.header ≡ class
 
 -- the bytes of a frame, or the first of them up to its area, with its gains moved; a lost frame stays
 abbrev pub moved_bytes : Steps → Row → List ℕ → List ℕ

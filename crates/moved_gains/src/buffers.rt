@@ -1,16 +1,126 @@
 //! The memory of a pass.
-ghost use Rattle.std.specs.Prelude.{List, ℕ, IfOk};
-ghost use Rattle.outside.specs.Files.{Files};
+ghost use Rattle.std.specs.Prelude.{◌≡◌, ◌≢◌, ◌+◌, ◌-◌, ◌^◌, ◌<◌, ◌≤◌, ◌++◌, List, ℕ, [], length, take, drop, IfOk, IfErr, OnOk, OnErr};
+ghost use Rattle.frame_header.specs.Tables.{class_of};
+ghost use Rattle.side_info.specs.Frame.{side_in};
+ghost use Rattle.outside.specs.Files.{Files, Holds, IsThere, appended};
+ghost use Rattle.outside.specs.Passed.{PassedOn, AppendedPrefix};
+ghost use Rattle.outside.specs.Pass.{IsReady, IsOfRead, bytes_at, bytes_between, Writes, WritesPrefix, route_of, HasPassCause};
 ghost use Rattle.moved_gains.specs.Buffers.{AreFresh};
+ghost use Rattle.moved_gains.specs.Moving.{row_overhead, moved_bytes};
 
-use outside::{Feed, WriteBuffer};
+use crate::front::{MovedRow, move_front};
+use frame_header::Class;
+use outside::{Folder, Pass, PassFault, read_exact, write_all};
 use std::alloc::{AllocError, Global};
+use std::marker::Model;
 
-/// What is held of the input of a pass, and what waits for its output.
+// The size of the buffer in bytes.
+const SIZE: usize = 65_536;
+
+/// How many bytes are copied at once.
+const PIECE: u64 = 4096;
+
+/// What waits for the output of a pass, and what is held of its input after that, in one buffer of 65,536 bytes: so a byte
+/// that goes on isn't copied. Contracts see both.
 #[derive(Drop)]
 pub struct Buffers {
-    pub feed: Feed,
-    pub waiting: WriteBuffer,
+    room: Vec<u8>,
+    // The offset in the input of the first byte that is held.
+    place: u64,
+    // How many bytes wait. After them are those that are held.
+    done: usize,
+    end: usize,
+}
+
+impl Model for Buffers {
+    ghost use Rattle.std.specs.Prelude.{◌-◌, [], take, drop};
+    ghost use Rattle.moved_gains.specs.Passing.{Passing, IsWithin};
+
+    ghost Value = { Passing };
+
+    ghost view = { λ b. record { feed = record { place = b.place; held = take (b.end - b.done) (drop b.done b.room.items); given = [] }; waiting = take b.done b.room.items } };
+
+    ghost invariant = { λ b. IsWithin b.room.items b.place b.done b.end };
+}
+
+/// Appends bytes to the output.
+///
+/// # Errors
+/// `Write` where a write failed.
+fn hand_on<D: Folder>(folder: &mut D, pass: &Pass, bytes: &[u8]) -> Result<(), PassFault>
+    requires { IsThere (D.files folder.old) pass.now.output.now }
+    ensures appended { OnOk result (D.files folder.new ≡ appended (D.files folder.old)
+        pass.now.output.now bytes.now) }
+    ensures prefix { OnErr result (AppendedPrefix pass.now.output.now bytes.now
+        (D.files folder.old) (D.files folder.new)) }
+    ensures done { OnOk result (D.counts folder.new ≡ D.counts folder.old) }
+    ensures cause { IfErr result (HasPassCause (route_of pass.now) (D.files folder.old)
+        (D.counts folder.old) (D.counts folder.new)) }
+{
+    match write_all(folder, pass.output, bytes) {
+        Ok(()) => Ok(()),
+        Err(_) => Err(PassFault::Write),
+    }
+}
+
+/// Reads on after the first `kept` bytes, which are those of the input from the offset `at` on, until `room` is full or the
+/// input ends, and answers how many there are then: at least `n`. At the input's end nothing is read.
+///
+/// # Errors
+/// `Read` where a read failed; `Shrunk` where one gave no byte before the input's length.
+fn read_behind<D: Folder>(
+    folder: &mut D,
+    pass: &Pass,
+    at: u64,
+    room: &mut [u8],
+    kept: usize,
+    n: usize,
+) -> Result<usize, PassFault>
+    requires there { IsThere (D.files folder.old) pass.now.input.now }
+    requires found { (file : List ℕ) → Holds (D.files folder.old) pass.now.input.now file
+        → length file ≡ pass.now.length }
+    requires short { pass.now.length ≤ 2 ^ 32 }
+    requires size { length room.old ≡ 65536 }
+    requires few { n ≤ 4096 }
+    requires kept { kept ≤ 65536 }
+    requires within { at + n ≤ pass.now.length }
+    ensures enough { IfOk result (λ end. n ≤ end) }
+    ensures most { IfOk result (λ end. end ≤ 65536) }
+    ensures bytes { IfOk result (λ end. (file : List ℕ) → Holds (D.files folder.old)
+        pass.now.input.now file → take kept room.old ≡ take kept (drop at file)
+        → take end room.new ≡ take end (drop at file)) }
+    ensures done { OnOk result (D.counts folder.new ≡ D.counts folder.old) }
+    ensures cause { IfErr result (HasPassCause (route_of pass.now) (D.files folder.old)
+        (D.counts folder.old) (D.counts folder.new)) }
+    ensures read { IfErr result IsOfRead }
+    ensures files { D.files folder.new ≡ D.files folder.old }
+{
+    let from = at + kept as u64;
+    if pass.length <= from {
+        return Ok(kept);
+    }
+    let more = (pass.length - from).min((SIZE - kept) as u64);
+    let end = kept + more as usize;
+    read_exact(folder, pass.input, pass.length, from, &mut room[kept..end])?;
+    Ok(end)
+}
+
+/// Moves what is held from `at` on to the front, where the bytes from `done` up to `end` are those from the offset `place` on, and
+/// answers how many bytes these are: none where `at` isn't among them.
+fn keep_from(room: &mut [u8], place: u64, done: usize, end: usize, at: u64) -> usize
+    requires ordered { done ≤ end }
+    requires within { end ≤ length room.old }
+    ensures fewer { result ≤ end - done }
+    ensures kept { (file : List ℕ) → take (end - done) (drop place file)
+        ≡ take (end - done) (drop done room.old)
+        → take result room.new ≡ take result (drop at file) }
+{
+    if at < place || (end - done) as u64 <= at - place {
+        return 0;
+    }
+    let from = done + (at - place) as usize;
+    room.copy_within(from..end, 0);
+    end - from
 }
 
 impl Buffers {
@@ -23,8 +133,221 @@ impl Buffers {
             AreFresh buffers files input) }
     {
         Ok(Buffers {
-            feed: Feed::new(alloc)?,
-            waiting: WriteBuffer::new(alloc)?,
+            room: vec![in alloc; 0; SIZE]?,
+            place: 0,
+            done: 0,
+            end: 0,
         })
+    }
+
+    /// Holds `n` bytes of the input from the offset `at` on, at most 4,096, which are within its length.
+    ///
+    /// # Errors
+    /// `Read` or `Shrunk` where the input can't be read, `Write` where a write failed.
+    #[inline(always)]
+    pub(crate) fn fill<D: Folder>(
+        &mut self,
+        folder: &mut D,
+        pass: &Pass,
+        at: u64,
+        n: usize,
+    ) -> Result<(), PassFault>
+        requires ready { IsReady pass.now (D.files folder.old) self.old.feed }
+        requires few { n ≤ 4096 }
+        requires within { at + n ≤ pass.now.length }
+        ensures passed { OnOk result (PassedOn pass.now.output.now self.old.waiting
+            self.new.waiting (D.files folder.old) (D.files folder.new)) }
+        ensures place { OnOk result (self.new.feed.place ≡ at) }
+        ensures enough { OnOk result (n ≤ length self.new.feed.held) }
+        ensures prefix { IfErr result (WritesPrefix pass.now (λ file. []) self.old.waiting
+            (D.files folder.old) (D.files folder.new)) }
+        ensures done { OnOk result (D.counts folder.new ≡ D.counts folder.old) }
+        ensures cause { IfErr result (HasPassCause (route_of pass.now) (D.files folder.old)
+            (D.counts folder.old) (D.counts folder.new)) }
+        ensures ready { OnOk result (IsReady pass.now (D.files folder.new) self.new.feed) }
+    {
+        if at == self.place && n <= self.end - self.done {
+            return Ok(());
+        }
+        self.refill(folder, pass, at, n)
+    }
+
+    // Appends what waits to the output, moves what is held from `at` on to the front of the buffer, and reads on after it.
+    #[inline(never)]
+    fn refill<D: Folder>(
+        &mut self,
+        folder: &mut D,
+        pass: &Pass,
+        at: u64,
+        n: usize,
+    ) -> Result<(), PassFault>
+        requires ready { IsReady pass.now (D.files folder.old) self.old.feed }
+        requires few { n ≤ 4096 }
+        requires within { at + n ≤ pass.now.length }
+        ensures passed { OnOk result (PassedOn pass.now.output.now self.old.waiting
+            self.new.waiting (D.files folder.old) (D.files folder.new)) }
+        ensures place { OnOk result (self.new.feed.place ≡ at) }
+        ensures enough { OnOk result (n ≤ length self.new.feed.held) }
+        ensures prefix { IfErr result (WritesPrefix pass.now (λ file. []) self.old.waiting
+            (D.files folder.old) (D.files folder.new)) }
+        ensures done { OnOk result (D.counts folder.new ≡ D.counts folder.old) }
+        ensures cause { IfErr result (HasPassCause (route_of pass.now) (D.files folder.old)
+            (D.counts folder.old) (D.counts folder.new)) }
+        ensures ready { OnOk result (IsReady pass.now (D.files folder.new) self.new.feed) }
+    {
+        hand_on(folder, pass, &self.room[..self.done])?;
+        let room = self.room.as_mut_slice();
+        let kept = keep_from(room, self.place, self.done, self.end, at);
+        self.place = at;
+        self.done = 0;
+        self.end = 0;
+        self.end = read_behind(folder, pass, at, room, kept, n)?;
+        Ok(())
+    }
+
+    /// Lets the next `n` bytes that are held wait for the output.
+    #[inline(always)]
+    fn pass_on(&mut self, n: usize)
+        requires enough { n ≤ length self.old.feed.held }
+        requires early { self.old.feed.place + n ≤ 2 ^ 32 }
+        ensures waiting { self.new.waiting ≡ self.old.waiting ++ take n self.old.feed.held }
+        ensures place { self.new.feed.place ≡ self.old.feed.place + n }
+        ensures held { self.new.feed.held ≡ drop n self.old.feed.held }
+    {
+        self.done += n;
+        self.place += n as u64;
+    }
+
+    /// Lets the next `n` bytes that are held, which are a frame of this class, wait for the output, with its gains moved if it
+    /// isn't lost.
+    #[inline(always)]
+    pub(crate) fn pass_moved(&mut self, class: Class, moved: &MovedRow, n: usize)
+        requires class { class_of moved.now.row.now.header ≡ class }
+        requires reached { row_overhead moved.now.row.now ≤ n }
+        requires enough { n ≤ length self.old.feed.held }
+        requires early { self.old.feed.place + n ≤ 2 ^ 32 }
+        ensures waiting { (piece : List ℕ) × (self.new.waiting ≡ self.old.waiting ++ piece)
+            × (side_in moved.now.row.now.header (take n self.old.feed.held)
+            ≡ moved.now.row.now.side → piece ≡ moved_bytes moved.now.steps moved.now.row.now
+            (take n self.old.feed.held)) }
+        ensures place { self.new.feed.place ≡ self.old.feed.place + n }
+        ensures held { self.new.feed.held ≡ drop n self.old.feed.held }
+    {
+        let end = self.done + n;
+        move_front(
+            class,
+            &moved.steps,
+            moved.row,
+            &mut self.room[self.done..end],
+        );
+        self.done = end;
+        self.place += n as u64;
+    }
+
+    /// Adds a piece to what waits for the output.
+    ///
+    /// # Errors
+    /// `Write` where a write failed.
+    pub(crate) fn push<D: Folder>(
+        &mut self,
+        folder: &mut D,
+        pass: &Pass,
+        piece: &[u8],
+    ) -> Result<(), PassFault>
+        requires ready { IsReady pass.now (D.files folder.old) self.old.feed }
+        ensures passed { OnOk result (PassedOn pass.now.output.now
+            (self.old.waiting ++ piece.now) self.new.waiting (D.files folder.old)
+            (D.files folder.new)) }
+        ensures prefix { OnErr result (AppendedPrefix pass.now.output.now
+            (self.old.waiting ++ piece.now) (D.files folder.old) (D.files folder.new)) }
+        ensures done { OnOk result (D.counts folder.new ≡ D.counts folder.old) }
+        ensures cause { IfErr result (HasPassCause (route_of pass.now) (D.files folder.old)
+            (D.counts folder.old) (D.counts folder.new)) }
+        ensures ready { OnOk result (IsReady pass.now (D.files folder.new) self.new.feed) }
+    {
+        hand_on(folder, pass, &self.room[..self.done])?;
+        // What is held comes again where it is needed.
+        self.done = 0;
+        self.end = 0;
+        hand_on(folder, pass, piece)
+    }
+
+    /// Appends to the output what waits.
+    ///
+    /// # Errors
+    /// `Write` where a write failed.
+    pub(crate) fn finish<D: Folder>(&mut self, folder: &mut D, pass: &Pass) -> Result<(), PassFault>
+        requires { IsThere (D.files folder.old) pass.now.output.now }
+        ensures appended { OnOk result (D.files folder.new ≡ appended (D.files folder.old)
+            pass.now.output.now self.old.waiting) }
+        ensures prefix { OnErr result (AppendedPrefix pass.now.output.now self.old.waiting
+            (D.files folder.old) (D.files folder.new)) }
+        ensures done { OnOk result (D.counts folder.new ≡ D.counts folder.old) }
+        ensures cause { IfErr result (HasPassCause (route_of pass.now) (D.files folder.old)
+            (D.counts folder.old) (D.counts folder.new)) }
+    {
+        let waits = self.done;
+        self.done = 0;
+        self.end = 0;
+        hand_on(folder, pass, &self.room[..waits])
+    }
+
+    /// Copies the bytes of the input from one offset up to another, which are within its length.
+    ///
+    /// # Errors
+    /// As `fill`.
+    #[inline]
+    pub(crate) fn copy<D: Folder>(
+        &mut self,
+        folder: &mut D,
+        pass: &Pass,
+        from: u64,
+        to: u64,
+    ) -> Result<(), PassFault>
+        requires ready { IsReady pass.now (D.files folder.old) self.old.feed }
+        requires ordered { from ≤ to }
+        requires within { to ≤ pass.now.length }
+        ensures written { OnOk result (Writes pass.now (λ file. bytes_between file from to)
+            self.old.waiting self.new.waiting (D.files folder.old) (D.files folder.new)) }
+        ensures prefix { IfErr result (WritesPrefix pass.now (λ file. bytes_between file from to)
+            self.old.waiting (D.files folder.old) (D.files folder.new)) }
+        ensures done { OnOk result (D.counts folder.new ≡ D.counts folder.old) }
+        ensures cause { IfErr result (HasPassCause (route_of pass.now) (D.files folder.old)
+            (D.counts folder.old) (D.counts folder.new)) }
+        ensures ready { OnOk result (IsReady pass.now (D.files folder.new) self.new.feed) }
+    {
+        let mut at = from;
+        while at < to {
+            let n = (to - at).min(PIECE);
+            self.copy_piece(folder, pass, at, n as usize)?;
+            at += n;
+        }
+        Ok(())
+    }
+
+    // Copies at most 4,096 bytes.
+    #[inline(never)]
+    fn copy_piece<D: Folder>(
+        &mut self,
+        folder: &mut D,
+        pass: &Pass,
+        at: u64,
+        n: usize,
+    ) -> Result<(), PassFault>
+        requires ready { IsReady pass.now (D.files folder.old) self.old.feed }
+        requires few { n ≤ 4096 }
+        requires within { at + n ≤ pass.now.length }
+        ensures written { OnOk result (Writes pass.now (bytes_at at n)
+            self.old.waiting self.new.waiting (D.files folder.old) (D.files folder.new)) }
+        ensures prefix { IfErr result (WritesPrefix pass.now (bytes_at at n)
+            self.old.waiting (D.files folder.old) (D.files folder.new)) }
+        ensures done { OnOk result (D.counts folder.new ≡ D.counts folder.old) }
+        ensures cause { IfErr result (HasPassCause (route_of pass.now) (D.files folder.old)
+            (D.counts folder.old) (D.counts folder.new)) }
+        ensures ready { OnOk result (IsReady pass.now (D.files folder.new) self.new.feed) }
+    {
+        self.fill(folder, pass, at, n)?;
+        self.pass_on(n);
+        Ok(())
     }
 }

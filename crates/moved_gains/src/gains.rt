@@ -50,14 +50,17 @@ pub(crate) fn moved_side(steps: &Steps, side: &Side) -> Side
 }
 
 /// Whether the gain would leave the range from 0 to 255.
+#[inline(always)]
 fn is_stuck(steps: i16, granule: &Granule) -> bool
     ensures { result ≡ (not (is_silent_granule granule.now)
         && is_outside (pos granule.now.global_gain +ℤ steps)) }
 {
-    granule.part2_3_length != 0 && !(0..=255).contains(&sum(steps, granule.global_gain))
+    // Few gains leave the range, so most need no look at the length.
+    !(0..=255).contains(&sum(steps, granule.global_gain)) && granule.part2_3_length != 0
 }
 
 /// The gain of this granule and channel, if it would leave the range from 0 to 255.
+#[inline(always)]
 fn stuck_at(steps: i16, side: &Side, granule: u8, channel: u8) -> Option<Stuck>
     requires granule { granule < 2 }
     requires channel { channel < 2 }
@@ -75,6 +78,7 @@ fn stuck_at(steps: i16, side: &Side, granule: u8, channel: u8) -> Option<Stuck>
 }
 
 #[tactic(auto, unfolding(crate::specs::Gains::stuck_in))]
+#[inline(always)]
 /// The first gain that would leave the range from 0 to 255, in order of granules and channels; `None` with
 /// wrap.
 pub fn stuck_in(steps: &Steps, side: &Side) -> Option<Stuck>
@@ -84,8 +88,14 @@ pub fn stuck_in(steps: &Steps, side: &Side) -> Option<Stuck>
         return None;
     }
     let Steps { left, right, .. } = *steps;
-    stuck_at(left, side, 0, 0)
-        .or(stuck_at(right, side, 0, 1))
-        .or(stuck_at(left, side, 1, 0))
-        .or(stuck_at(right, side, 1, 1))
+    if let Some(stuck) = stuck_at(left, side, 0, 0) {
+        return Some(stuck);
+    }
+    if let Some(stuck) = stuck_at(right, side, 0, 1) {
+        return Some(stuck);
+    }
+    if let Some(stuck) = stuck_at(left, side, 1, 0) {
+        return Some(stuck);
+    }
+    stuck_at(right, side, 1, 1)
 }

@@ -7,6 +7,7 @@
 mod buffers;
 mod change;
 mod course;
+mod front;
 mod gains;
 mod laws;
 mod moving;

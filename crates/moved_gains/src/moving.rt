@@ -1,8 +1,7 @@
 //! The second pass over an input: it is read from its beginning to its end, and written with the gains of
 //! its frames moved, except those of lost ones, and with another tag if that changes.
 ghost use Rattle.std.specs.Prelude.{◌≡◌, ◌≢◌, ◌+◌, ◌<◌, ◌≤◌, ◌^◌, List, ℕ, length, IfOk, IfErr, OnOk, Ok};
-ghost use Rattle.frame_header.specs.Tables.{class_of, length_of, overhead_of};
-ghost use Rattle.side_info.specs.Frame.{side_in};
+ghost use Rattle.frame_header.specs.Tables.{class_of};
 ghost use Rattle.outside.specs.Files.{Holds, IsThere};
 ghost use Rattle.outside.specs.Pass.{IsReady, Writes, WritesPrefix, Appends, AppendsPrefix, route, route_of, HasPassCause};
 ghost use Rattle.sync_survey.specs.Faults.{tells};
@@ -11,45 +10,16 @@ ghost use Rattle.moved_gains.specs.Buffers.{AreFresh};
 ghost use Rattle.sync_survey.specs.Limits.{most_frames};
 ghost use Rattle.moved_gains.specs.Change.{changed, change_in};
 ghost use Rattle.moved_gains.specs.Course.{steps_over, AreNumbered};
-ghost use Rattle.moved_gains.specs.Moving.{row_end, row_overhead, row_bytes, IsRowOf, AreRowsOf, moved_bytes, moved_row_bytes, bytes_around, copied, written_from, IsNewTag};
+ghost use Rattle.moved_gains.specs.Moving.{row_end, IsRowOf, AreRowsOf, AreOfClass, moved_row_bytes, bytes_around, copied, written_from, IsNewTag};
 
 use crate::buffers::Buffers;
 use crate::change::Change;
 use crate::course::Course;
-use crate::gains::moved_side;
-use crate::shift::Steps;
+use crate::front::{MovedRow, frame_length};
 use file_tag::tag_place;
-use frame_header::Header;
-use outside::{Folder, Pass, PassFault, WriteBuffer};
-use side_info::put_gains;
+use frame_header::Class;
+use outside::{Folder, Pass, PassFault};
 use sync_survey::{Row, Survey};
-
-/// The greatest length of what is before the area of a frame, in bytes: header, check word and side
-/// information.
-const MOST_OVERHEAD: usize = 38;
-
-/// The length of a frame in bytes.
-fn frame_length(header: &Header) -> u32
-    ensures length { result ≡ length_of (class_of header.now) header.now.slot }
-    ensures most { result ≤ 1441 }
-    ensures room { overhead_of (class_of header.now) header.now.protected ≤ result }
-{
-    header.class().length_of(header.slot)
-}
-
-/// Moves the gains in the front of a frame, and makes the check word of a protected frame right for them. A
-/// lost frame stays.
-#[inline(always)]
-fn move_front(steps: &Steps, row: &Row, front: &mut [u8])
-    requires { row_overhead row.now ≤ length front.old }
-    ensures { side_in row.now.header front.old ≡ row.now.side →
-        front.new ≡ moved_bytes steps.now row.now front.old }
-{
-    if row.lost {
-        return;
-    }
-    put_gains(&row.header, &moved_side(steps, &row.side), front);
-}
 
 /// The bytes of a new tag, and the offsets in the input at which what they replace begins and ends.
 #[derive(Clone, Copy)]
@@ -59,17 +29,12 @@ struct NewTag<'a> {
     bytes: &'a [u8],
 }
 
-/// A frame, and by how many steps its gains move.
-#[derive(Clone, Copy)]
-struct MovedRow<'a> {
-    row: &'a Row,
-    steps: Steps,
-}
-
 /// A pass that moves gains.
 #[derive(Drop)]
 struct GainPass<'a> {
     pass: Pass<'a>,
+    /// That of all frames.
+    class: Class,
     course: &'a Course,
     /// The new tag, if that changes.
     tag: Option<NewTag<'a>>,
@@ -106,10 +71,7 @@ impl<'a> GainPass<'a> {
             Some(tag) if from <= tag.at && tag.at <= tag.end && tag.end <= to => {
                 self.copy_around(folder, from, tag, to, buffers)
             }
-            _ => {
-                let Buffers { feed, waiting } = buffers;
-                self.pass.copy(folder, from, to, feed, waiting)
-            }
+            _ => buffers.copy(folder, &self.pass, from, to),
         }
     }
 
@@ -140,81 +102,9 @@ impl<'a> GainPass<'a> {
             (D.counts folder.old) (D.counts folder.new)) }
         ensures ready { OnOk result (IsReady self.now.pass (D.files folder.new) buffers.new.feed) }
     {
-        let Buffers { feed, waiting } = buffers;
-        self.pass.copy(folder, from, tag.at, feed, waiting)?;
-        self.pass.push(folder, tag.bytes, waiting)?;
-        self.pass.copy(folder, tag.end, to, feed, waiting)
-    }
-
-    /// Adds a frame to what waits for the output, with its gains moved if it isn't lost. All that changes
-    /// is in the first `size` of its bytes.
-    ///
-    /// # Errors
-    /// `Write` where a write failed.
-    #[inline(always)]
-    fn push_moved<D: Folder>(
-        &self,
-        folder: &mut D,
-        moved: &MovedRow,
-        frame: &[u8],
-        size: usize,
-        waiting: &mut WriteBuffer,
-    ) -> Result<(), PassFault>
-        requires target { IsThere (D.files folder.old) self.now.pass.output.now }
-        requires reached { row_overhead moved.now.row.now ≤ size }
-        requires few { size ≤ 38 }
-        requires within { size ≤ length frame.now }
-        requires told { (file : List ℕ) → Holds (D.files folder.old) self.now.pass.input.now file →
-            IsRowOf file moved.now.row.now × (frame.now ≡ row_bytes file moved.now.row.now) }
-        ensures written { OnOk result (Writes self.now.pass
-            (λ file. moved_row_bytes moved.now.steps file moved.now.row.now)
-            waiting.old waiting.new (D.files folder.old) (D.files folder.new)) }
-        ensures prefix { IfErr result (WritesPrefix self.now.pass
-            (λ file. moved_row_bytes moved.now.steps file moved.now.row.now)
-            waiting.old (D.files folder.old) (D.files folder.new)) }
-        ensures done { OnOk result (D.counts folder.new ≡ D.counts folder.old) }
-        ensures cause { IfErr result (HasPassCause (route_of self.now.pass) (D.files folder.old)
-            (D.counts folder.old) (D.counts folder.new)) }
-    {
-        let mut room = [0; MOST_OVERHEAD];
-        let front = &mut room[..size];
-        front.copy_from_slice(&frame[..size]);
-        move_front(&moved.steps, moved.row, front);
-        self.pass.push_both(folder, front, &frame[size..], waiting)
-    }
-
-    /// Adds a frame to what waits for the output, with its gains moved if it isn't lost.
-    ///
-    /// # Errors
-    /// `Write` where a write failed.
-    #[inline]
-    fn push_frame<D: Folder>(
-        &self,
-        folder: &mut D,
-        moved: &MovedRow,
-        frame: &[u8],
-        waiting: &mut WriteBuffer,
-    ) -> Result<(), PassFault>
-        requires target { IsThere (D.files folder.old) self.now.pass.output.now }
-        requires room { row_overhead moved.now.row.now ≤ length frame.now }
-        requires told { (file : List ℕ) → Holds (D.files folder.old) self.now.pass.input.now file →
-            IsRowOf file moved.now.row.now × (frame.now ≡ row_bytes file moved.now.row.now) }
-        ensures written { OnOk result (Writes self.now.pass
-            (λ file. moved_row_bytes moved.now.steps file moved.now.row.now)
-            waiting.old waiting.new (D.files folder.old) (D.files folder.new)) }
-        ensures prefix { IfErr result (WritesPrefix self.now.pass
-            (λ file. moved_row_bytes moved.now.steps file moved.now.row.now)
-            waiting.old (D.files folder.old) (D.files folder.new)) }
-        ensures done { OnOk result (D.counts folder.new ≡ D.counts folder.old) }
-        ensures cause { IfErr result (HasPassCause (route_of self.now.pass) (D.files folder.old)
-            (D.counts folder.old) (D.counts folder.new)) }
-    {
-        // Copying is fastest if the number of bytes is a constant.
-        if frame.len() >= MOST_OVERHEAD {
-            self.push_moved(folder, moved, frame, MOST_OVERHEAD, waiting)
-        } else {
-            self.push_moved(folder, moved, frame, frame.len(), waiting)
-        }
+        buffers.copy(folder, &self.pass, from, tag.at)?;
+        buffers.push(folder, &self.pass, tag.bytes)?;
+        buffers.copy(folder, &self.pass, tag.end, to)
     }
 
     /// Copies a frame with its gains moved if it isn't lost, and answers the offset at which it ends.
@@ -229,6 +119,7 @@ impl<'a> GainPass<'a> {
         buffers: &mut Buffers,
     ) -> Result<u64, PassFault>
         requires ready { IsReady self.now.pass (D.files folder.old) buffers.old.feed }
+        requires class { class_of moved.now.row.now.header ≡ self.now.class }
         requires within { row_end moved.now.row.now ≤ self.now.pass.length }
         requires told { (file : List ℕ) → Holds (D.files folder.old) self.now.pass.input.now file →
             IsRowOf file moved.now.row.now }
@@ -244,12 +135,11 @@ impl<'a> GainPass<'a> {
             (D.counts folder.old) (D.counts folder.new)) }
         ensures ready { OnOk result (IsReady self.now.pass (D.files folder.new) buffers.new.feed) }
     {
-        let Buffers { feed, waiting } = buffers;
         let row = moved.row;
-        let length = frame_length(&row.header);
-        let at = u64::from(row.offset);
-        self.pass.fill(folder, at, length as usize, feed)?;
-        self.push_frame(folder, moved, feed.bytes(), waiting)?;
+        let length = frame_length(self.class, row);
+        let at = u64::from(row.offset());
+        buffers.fill(folder, &self.pass, at, length as usize)?;
+        buffers.pass_moved(self.class, moved, length as usize);
         Ok(at + u64::from(length))
     }
 
@@ -267,6 +157,7 @@ impl<'a> GainPass<'a> {
     ) -> Result<(), PassFault>
         requires ready { IsReady self.now.pass (D.files folder.old) buffers.old.feed }
         requires laid { AreLaid from rows.now self.now.pass.length }
+        requires classed { AreOfClass self.now.class rows.now }
         requires numbered { AreNumbered rows.now }
         requires few { length rows.now < 2 ^ 32 }
         requires told { (file : List ℕ) → Holds (D.files folder.old) self.now.pass.input.now file →
@@ -286,7 +177,7 @@ impl<'a> GainPass<'a> {
         let mut at = from;
         let mut near = 0;
         for (frame, row) in rows.iter().enumerate() {
-            self.copy(folder, at, u64::from(row.offset), buffers)?;
+            self.copy(folder, at, u64::from(row.offset()), buffers)?;
             let steps = self.course.steps(frame as u32, &mut near);
             at = self.move_frame(folder, &MovedRow { row, steps }, buffers)?;
         }
@@ -348,11 +239,12 @@ pub fn write_changed<D: Folder>(
     };
     let gains = GainPass {
         pass,
+        class: survey.class(),
         course: &change.course,
         tag: new_tag(survey, change),
     };
     let (junk, _) = survey.junk();
     gains.copy(folder, 0, junk, buffers)?;
     gains.move_frames(folder, survey.first(), survey.frames(), buffers)?;
-    pass.finish(folder, &mut buffers.waiting)
+    buffers.finish(folder, &pass)
 }

@@ -75,6 +75,40 @@ impl WriteBuffer {
         self.push_over(folder, name, piece)
     }
 
+    /// Adds the first `count` bytes of a piece to what waits, as `push` does.
+    ///
+    /// # Errors
+    /// Where a write failed. Then a prefix of what waited and these bytes, and not all, was appended, and
+    /// nothing waits.
+    // Copying is fastest if the number of bytes is a constant, so the whole piece is copied where there is room for it.
+    #[inline(always)]
+    pub fn push_first<D: Folder>(
+        &mut self,
+        folder: &mut D,
+        name: &str,
+        piece: &[u8],
+        count: usize,
+    ) -> Result<(), Failed>
+        requires there { IsThere (D.files folder.old) name.now }
+        requires within { count ≤ length piece.now }
+        ensures passed { OnOk result (PassedOn name.now (self.old ++ take count piece.now) self.new
+            (D.files folder.old) (D.files folder.new)) }
+        ensures prefix { OnErr result (AppendedPrefix name.now (self.old ++ take count piece.now)
+            (D.files folder.old) (D.files folder.new)) }
+        ensures none { OnErr result (self.new ≡ []) }
+        ensures few { length self.new ≤ 65536 }
+        ensures failed { OnErr result (HappenedTo name.now (D.counts folder.old).write_faults
+            (D.counts folder.new).write_faults) }
+        ensures done { OnOk result (D.counts folder.new ≡ D.counts folder.old) }
+        ensures counts { OnlyWrites (D.counts folder.old) (D.counts folder.new) }
+    {
+        if piece.len() <= SIZE - self.waiting {
+            self.add_first(piece, count);
+            return Ok(());
+        }
+        self.push(folder, name, &piece[..count])
+    }
+
     /// Appends to the file what waits.
     ///
     /// # Errors
@@ -105,6 +139,18 @@ impl WriteBuffer {
         let end = self.waiting + piece.len();
         self.room[self.waiting..end].copy_from_slice(piece);
         self.waiting = end;
+    }
+
+    // Adds the first bytes of a piece that fits.
+    #[inline(always)]
+    fn add_first(&mut self, piece: &[u8], count: usize)
+        requires room { length self.old + length piece.now ≤ 65536 }
+        requires within { count ≤ length piece.now }
+        ensures { self.new ≡ self.old ++ take count piece.now }
+    {
+        let end = self.waiting + piece.len();
+        self.room[self.waiting..end].copy_from_slice(piece);
+        self.waiting += count;
     }
 
     // Adds bytes that don't fit: fills the buffer and appends it to the file, then of the others as many

@@ -10,7 +10,8 @@ use Rattle.info_header.specs.InfoFrame.{info_header_of, info_frame}
 use Rattle.info_header.specs.Over.{bytes_of}
 use Rattle.slot_plan.specs.declared.needs.Placed.{Placed}
 use Rattle.frame_writer.specs.Laid.{Piece, start_of, end_of, areas_end, zeros, CanBeLaidFrom, laid_from, laid}
-use Rattle.frame_writer.specs.Frames.{front_of, area_in, areas_in, framed, Frame, all_kept, pieces, frame_bytes}
+use Rattle.side_info.specs.Frame.{front_of}
+use Rattle.frame_writer.specs.Frames.{area_in, areas_in, framed, Frame, all_kept, pieces, frame_bytes}
 use Rattle.frame_writer.proofs.LaidLaws.{length-zeros}
 use Rattle.laid_files.specs.LaidFiles.{AreEntries, laid_file}
 use Rattle.laid_files.proofs.EntryBytes.{shaped, length-entry}
@@ -20,7 +21,7 @@ use Rattle.laying.specs.Surveys.{HasSurvey}
 use Rattle.laying.specs.Fits.{IsFitting}
 use Rattle.laying.specs.Written.{front_blocks, back_blocks, slot_in}
 use Rattle.laying.proofs.FittingFrames.{fitting-laid}
-use Rattle.sync_survey.specs.declared.rows.Row.{Row}
+use Rattle.sync_survey.specs.Row.{Row}
 use Rattle.sync_survey.specs.Faults.{SurveyFields}
 use Rattle.frame_edits.specs.Laid.{Laid, part_laid, needs_laid, frames_laid, info_laid, file_from, file_laid}
 use Rattle.frame_edits.proofs.LaidLaws.{part_is, laid-slots, sizes, first-header}

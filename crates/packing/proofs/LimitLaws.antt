@@ -8,7 +8,7 @@ use Rattle.frame_header.specs.Fields.{ClassFields}
 use Rattle.outside.specs.Files.{Files, Holds, IsThere, IsMissing, Told, Untold, IfTold}
 use Rattle.outside.proofs.FilesLaws.{there_holds}
 use Rattle.sync_survey.specs.declared.places.Head.{Head}
-use Rattle.sync_survey.specs.declared.rows.Row.{Row}
+use Rattle.sync_survey.specs.Row.{Row}
 use Rattle.sync_survey.specs.declared.survey_fault.SurveyFault.{SurveyFault}
 use Rattle.sync_survey.specs.declared.survey_fault.SurveyFault.TheVariants.{Absent}
 use Rattle.sync_survey.specs.Walk.{head_of}

@@ -24,7 +24,7 @@ use Rattle.rate_plan.proofs.LeastMenuPlan.{least_menu_plan-is}
 use Rattle.rate_plan.proofs.LargestLaw.{largest-fits}
 use Rattle.laying.specs.Fits.{IsFitting}
 use Rattle.laying.proofs.FitLaws.{Asks, items-fit, asks-each}
-use Rattle.sync_survey.specs.declared.rows.Row.{Row}
+use Rattle.sync_survey.specs.Row.{Row}
 use Rattle.sync_survey.specs.Faults.{SurveyFields}
 use Rattle.commands.specs.declared.fault.EditFault.TheVariants.{Refused}
 use Rattle.commands.specs.declared.fault.Refusal.{Refusal}

@@ -11,15 +11,15 @@ use Rattle.frame_header.specs.Fields.{ClassFields, IsHeader}
 use Rattle.frame_header.specs.Tables.{window_of}
 use Rattle.side_info.specs.Side.{payload_bits, payload_bytes}
 use Rattle.sync_survey.specs.declared.places.Head.{Head}
-use Rattle.sync_survey.specs.declared.rows.Row.{Row}
+use Rattle.sync_survey.specs.Row.{Row}
 use Rattle.sync_survey.specs.MainData.{own_area, is_silent, lacks_data, end_of_data, end_behind, place, end_before}
 use Rattle.sync_survey.specs.Faults.{SurveyFields}
 use Rattle.sync_survey.specs.Survey.{AreWellPlaced}
 use Rattle.sync_survey.proofs.SurveyParts.{StandWell, data-none_well}
-use Rattle.slot_plan.specs.declared.needs.Need.{Need}
 use Rattle.slot_plan.specs.Layouts.{Frame, IsFeasible}
 use Rattle.slot_plan.specs.Parts.{own_frame, AreOfClass}
 use Rattle.slot_plan.specs.Reserve.{free_behind}
+use Rattle.slot_plan.proofs.PartLaws.{class-range}
 use Rattle.slot_plan.proofs.ReserveLaws.{AllFit, starts_of, layout-fit, fit-from}
 use Rattle.part_needs.specs.Needs.{need_of}
 use Rattle.part_needs.specs.Fit.{IsPlaced}
@@ -37,7 +37,7 @@ shown window place ended = (place - ended) - ((place - ended) - window)
 abbrev Goes : (window place ended area bytes free : ℕ) → Type 0
 Goes window place ended area bytes free = (bytes ≤ free + area) × (ended ≤ place + area) × (shown window (place + area) ended ≤ free_behind window free bytes area)
 
-silent_bytes : (r : Row) → is_silent r ≡ true → payload_bytes r.side ≡ 0
+pub silent_bytes : (r : Row) → is_silent r ≡ true → payload_bytes r.side ≡ 0
 unfolding payload_bytes
 silent_bytes r silent = omega (arith, eqb-true (payload_bits r.side) 0 silent)
 
@@ -69,7 +69,7 @@ place_more : (head : Option Head) (rows : List Row) (n : ℕ) (r : Row) → slic
 unfolding place
 place_more head rows n r is = omega (arith, area_more (λ (q : Row). own_area q.header) rows n r is)
 
-end_more : (head : Option Head) (rows : List Row) (n : ℕ) (r : Row) → slice_get rows n ≡ Some r → end_before head rows (suc n) ≡ end_behind (place head rows n) (end_before head rows n) (Some r)
+pub end_more : (head : Option Head) (rows : List Row) (n : ℕ) (r : Row) → slice_get rows n ≡ Some r → end_before head rows (suc n) ≡ end_behind (place head rows n) (end_before head rows n) (Some r)
 unfolding end_before
 end_more head rows n r is = ap (end_behind (place head rows n) (end_before head rows n)) is
 
@@ -139,18 +139,6 @@ fit-take window free zero frames fit = tt
 fit-take window free (suc n) [] fit = tt
 fit-take window free (suc n) (frame ∷ frames) fit = (fit.0, fit-take window (free_behind window free frame.bytes frame.area) n frames fit.1)
 
-class-take : (class : ClassFields) (n : ℕ) (needs : List Need) → AreOfClass class needs → AreOfClass class (take n needs)
-unfolding AreOfClass
-class-take class zero needs all = tt
-class-take class (suc n) [] all = tt
-class-take class (suc n) (need ∷ needs) all = (all.0, class-take class n needs all.1)
-
-class-drop : (class : ClassFields) (n : ℕ) (needs : List Need) → AreOfClass class needs → AreOfClass class (drop n needs)
-unfolding AreOfClass
-class-drop class zero needs all = all
-class-drop class (suc n) [] all = all
-class-drop class (suc n) (need ∷ needs) all = class-drop class n needs all.1
-
 range-map : {X Y : Type 0} (f : X → Y) (from to : ℕ) (xs : List X) → slice_range (map f xs) from to ≡ map f (slice_range xs from to)
 range-map f from to xs = ap (take (to - from)) (drop-map f from xs) ∙ take-map f (to - from) (drop from xs)
 
@@ -169,7 +157,7 @@ part_of s from to classes fit =
     let window : ℕ = window_of s.class.version in
     let of_needs = range-map need_of from to s.frames in
     let frames = fit-take window window (to - from) _ (fit-from window from (map own_frame (map need_of s.frames)) (feasible-fit window _ fit)) in (
-      subst (AreOfClass s.class) of_needs (class-take s.class (to - from) _ (class-drop s.class from (map need_of s.frames) classes)),
+      subst (AreOfClass s.class) of_needs (class-range s.class (map need_of s.frames) from to classes),
       feasible-fit window (map own_frame (needs_between s from to))
           (subst (AllFit window window) (range-map own_frame from to (map need_of s.frames) ∙ ap (map own_frame) of_needs) frames),
     )

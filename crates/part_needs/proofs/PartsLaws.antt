@@ -8,7 +8,7 @@ use Rattle.std.proofs.lemmas.List.Kept.{AllPairs-cons}
 use Rattle.std.proofs.Math.Seq.{take-append_seam, drop-append_seam}
 use Rattle.frame_header.specs.Fields.{SlotFields, ClassFields, HeaderFields, IsHeader}
 use Rattle.frame_header.specs.Tables.{class_of, window_of}
-use Rattle.sync_survey.specs.declared.rows.Row.{Row}
+use Rattle.sync_survey.specs.Row.{Row}
 use Rattle.sync_survey.specs.Faults.{SurveyFields}
 use Rattle.frame_header.specs.Slots.{all_slots}
 use Rattle.frame_header.proofs.HeaderLaws.{IsClass-class_of}

@@ -1,12 +1,19 @@
 -- What frames of surveys need when they are placed again, part by part.
-use Rattle.std.specs.Prelude.{ℕ, ◌+◌, if◌then◌else◌, List, [], ◌∷◌, length, map, flat_map}
+use Rattle.std.specs.Prelude.{◌≡◌, false, ℕ, ◌+◌, if◌then◌else◌, List, [], ◌∷◌, length, map, flat_map}
+use Rattle.frame_header.specs.Fields.{HeaderFields}
+use Rattle.side_info.specs.FrameFields.{header_like}
 use Rattle.side_info.specs.Side.{payload_bytes}
-use Rattle.sync_survey.specs.declared.rows.Row.{Row}
+use Rattle.sync_survey.specs.Row.{Row}
 use Rattle.slot_plan.specs.declared.needs.Need.{Need}
 
 -- the header of a frame, and the length of its main data in bytes, 0 for a lost frame
 abbrev pub need_of : Row → Need
 need_of r = record { header = r.header; bytes = if r.lost then 0 else payload_bytes r.side }
+
+-- a frame isn't lost, and its header is this but for slot and mode extension
+pub record IsUsual (h : HeaderFields) (r : Row) : Type 0 where
+  pub like : r.header ≡ header_like h r.header
+  pub here : r.lost ≡ false
 
 -- the frames of several parts, one part after the other
 unfoldable pub needs_of : List (List Row) → List Need

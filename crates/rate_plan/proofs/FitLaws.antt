@@ -1,15 +1,15 @@
 -- Which frames fit: all do that fit in the largest slot each, after a lead-in of that slot.
-use Rattle.std.proofs.Common.{◌≡◌, ℕ, zero, suc, ◌+◌, ◌<◌, ◌≤◌, Bool, true, false, List, [], ◌∷◌, ◌++◌, map, length, get_or, take, drop, Contains, refl, sym, ap, ◌∙◌, subst, arith}
+use Rattle.std.proofs.Common.{◌≡◌, ℕ, ◌+◌, ◌<◌, ◌≤◌, Bool, true, false, List, [], ◌∷◌, ◌++◌, map, length, get_or, take, drop, Contains, refl, sym, ap, ◌∙◌, subst, arith}
 use Rattle.std.proofs.lemmas.List.{map_more, map-append, take_all, take-take, take-append-drop, length-take-le}
 use Rattle.frame_header.specs.Fields.{SlotFields, ClassFields}
 use Rattle.frame_header.specs.Tables.{class_of, area_of}
 use Rattle.slot_plan.specs.declared.needs.Need.{Need}
 use Rattle.slot_plan.specs.Layouts.{Frame, IsFeasible}
 use Rattle.slot_plan.specs.Lists.{Open, AreChosen, frames_of, CanBeLaid}
-use Rattle.slot_plan.specs.Parts.{open_of, lead_in_of, areas_with, AreOfClass, AreOfOneClass}
+use Rattle.slot_plan.specs.Parts.{open_of, lead_in_of, areas_with, AreOfClass}
 use Rattle.slot_plan.specs.Reserve.{greatest, free_behind, opens_in}
 use Rattle.slot_plan.proofs.ReserveLaws.{AllFit, starts_of, fit-layout, layout-fit, greatest-most, Contains-greatest}
-use Rattle.slot_plan.proofs.PartLaws.{class-at}
+use Rattle.slot_plan.proofs.PartLaws.{class-at, class-take}
 use Rattle.slot_plan.proofs.AreaLaws.{Contains-area}
 use Rattle.rate_plan.proofs.MenuPlan.{most_area, start_of}
 use Rattle.rate_plan.specs.Menus.{from_menu, items_from, CanBeLaidFrom, IsUnfit}
@@ -136,17 +136,6 @@ fit-take window free menu needs k fit =
     let parts : map (top_frame menu) needs ≡ map (top_frame menu) (take k needs) ++ map (top_frame menu) (drop k needs) =
     ap (map (top_frame menu)) (sym (take-append-drop k needs)) ∙ map-append (top_frame menu) (take k needs) (drop k needs) in
     fit-front window free (map (top_frame menu) (take k needs)) (map (top_frame menu) (drop k needs)) (subst (AllFit window free) parts fit)
-
-pub class-take : (class : ClassFields) (needs : List Need) (k : ℕ) → AreOfClass class needs → AreOfClass class (take k needs)
-unfolding AreOfClass
-class-take class needs zero same = tt
-class-take class [] (suc k) same = tt
-class-take class (need ∷ needs) (suc k) same = (same.0, class-take class needs k same.1)
-
-pub one-class : (class : ClassFields) (needs : List Need) (d : Need) → AreOfOneClass needs → class ≡ class_of (get_or needs 0 d).header → AreOfClass class needs
-unfolding AreOfClass
-one-class class [] d all is = tt
-one-class class (first ∷ needs) d all is = (sym is, subst (λ c. AreOfClass c needs) (sym is) all)
 
 -- the largest area of the class is that of the frame
 pub area-at : (class : ClassFields) (menu : List SlotFields) (needs : List Need) (i : ℕ) (need : Need) → AreOfClass class needs → i < length needs → need ≡ get_or needs i need

@@ -11,14 +11,13 @@ use Rattle.slot_plan.specs.declared.needs.Placed.{Placed}
 use Rattle.slot_plan.specs.Parts.{AreOfClass, AreOfOneClass, window_in}
 use Rattle.slot_plan.specs.Plans.{IsPlanFor}
 use Rattle.slot_plan.specs.LeastPlan.{least_of}
-use Rattle.slot_plan.proofs.PartLaws.{window-first}
+use Rattle.slot_plan.proofs.PartLaws.{window-first, class-take, one-class}
 use Rattle.slot_plan.proofs.OnePlan.{AreOrdered}
 use Rattle.slot_plan.proofs.LeastPlan.{some-list, never-list, plan-found, none-found}
 use Rattle.rate_plan.specs.Menus.{AreAscending, IsMenu, items_from, CanBeLaidFrom, IsMenuPlan, IsUnfit}
 use Rattle.rate_plan.specs.LeastMenuPlan.{least_from, is_unfit, first_unfit_in, least_menu_plan}
 use Rattle.rate_plan.specs.Laws.{LeastMenuPlanIsThePlan}
 use Rattle.rate_plan.proofs.MenuPlan.{menu_plan}
-use Rattle.rate_plan.proofs.FitLaws.{class-take, one-class}
 use Rattle.rate_plan.proofs.OneMenuPlan.{Answers, ordered-items, plan-answers, plan-answer, unfit-answer}
 
 -- the first number of a range that passes

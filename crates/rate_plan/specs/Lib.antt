@@ -1,3 +1,4 @@
+pub mod LargestAreas
 pub mod Laws
 pub mod LeastMenuPlan
 pub mod Menus

@@ -3,6 +3,7 @@
 #![tactic(auto)]
 
 mod fault;
+mod largest;
 mod laws;
 mod placing;
 mod planning;

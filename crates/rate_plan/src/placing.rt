@@ -1,15 +1,17 @@
 //! Gives each frame, from the first to the last, the slot with the smallest area that leaves what is needed
 //! after it.
-ghost use Rattle.std.specs.Prelude.{◌≡◌, ◌+◌, ◌-◌, ◌≤◌, true, false, length, map, IfOk};
-ghost use Rattle.frame_header.specs.Tables.{window_of};
+ghost use Rattle.std.specs.Prelude.{◌≡◌, ◌+◌, ◌-◌, ◌<◌, ◌≤◌, true, false, List, length, map, IfOk};
+ghost use Rattle.frame_header.specs.Fields.{SlotFields};
+ghost use Rattle.frame_header.specs.Tables.{window_of, overhead_of};
 ghost use Rattle.slot_plan.specs.Parts.{areas_with, item_of, AreOfClass};
 ghost use Rattle.slot_plan.specs.Reserve.{greatest, needed, needed_behind, opens_in, AllWithin, IsLeastSlot};
+ghost use Rattle.slot_plan.specs.SlotTables.{IsTableOf};
 ghost use Rattle.rate_plan.specs.Menus.{from_menu, AreAscending};
 ghost use Rattle.rate_plan.specs.Placing.{Places};
 
 use frame_header::{Class, Slot};
-use slot_plan::{Need, Placed, free_behind, least_slot_among};
-use std::alloc::AllocError;
+use slot_plan::{Need, Placed, SlotTable, free_behind, least_slot_among};
+use std::alloc::{AllocError, Global};
 
 /// The lead-in with the smallest area that leaves `behind` bytes free after it, where nothing is before it.
 pub(crate) fn lead_in(class: Class, behind: u16, menu: &[Slot]) -> Placed
@@ -30,19 +32,19 @@ pub(crate) fn lead_in(class: Class, behind: u16, menu: &[Slot]) -> Placed
 
 /// The frame in the slot with the smallest area that leaves `behind` bytes free after it, where `free` are
 /// free before it.
-fn place_frame(class: Class, need: &Need, behind: u16, free: u32, menu: &[Slot]) -> Placed
-    requires slots { 1 ≤ length menu.now }
-    requires ascending { AreAscending class menu.now }
-    requires enough { (need.now.bytes + behind)
-        - greatest (areas_with class need.now.header.protected menu.now) ≤ free }
+fn place_frame(need: &Need, behind: u16, free: u32, table: &SlotTable) -> Placed
+    requires enough { ((need.now.bytes + behind) - free)
+        + overhead_of table.now.lengths need.now.header.protected
+        < length table.now.by_length.items }
     requires free { free ≤ 511 }
     ensures frame { result.lead_in ≡ false }
     ensures begin { result.begin ≡ free }
-    ensures least { IsLeastSlot ((need.now.bytes + behind) - free) class
-        need.now.header.protected menu.now result.slot }
+    ensures least { (menu : List SlotFields) → IsTableOf menu table.now
+        → IsLeastSlot ((need.now.bytes + behind) - free) table.now.lengths
+        need.now.header.protected menu result.slot }
 {
     let wanted = (u64::from(need.bytes) + u64::from(behind)).saturating_sub(u64::from(free));
-    let slot = least_slot_among(class, need.header.protected, menu, wanted);
+    let slot = table.least_slot(need.header.protected, wanted);
     Placed {
         lead_in: false,
         slot,
@@ -56,6 +58,7 @@ fn place_frame(class: Class, need: &Need, behind: u16, free: u32, menu: &[Slot])
 /// # Errors
 /// Where there is no memory.
 pub(crate) fn place_frames(
+    alloc: Global,
     class: Class,
     free: u32,
     needs: &[Need],
@@ -75,14 +78,16 @@ pub(crate) fn place_frames(
         (map (item_of (from_menu menu.now)) needs.now) placed.old.items placed.new.items) }
 {
     let window = class.window();
+    let table = SlotTable::new(alloc, class, menu)?;
     let mut behind = behind;
     let mut free = free;
+    placed.reserve(needs.len())?;
     for need in needs {
         let wanted = behind.pop().unwrap_or(0);
-        let frame = place_frame(class, need, wanted, free, menu);
-        let area = class.area_of(frame.slot, need.header.protected);
+        let frame = place_frame(need, wanted, free, &table);
+        let area = table.lengths.area_of(frame.slot, need.header.protected);
         free = free_behind(window, free, need.bytes, area);
-        placed.push(frame)?;
+        placed.push_reserved(frame);
     }
     Ok(())
 }

@@ -33,14 +33,22 @@ fn fit_plan(alloc: Global, class: Class, needs: &[Need], menu: &[Slot]) -> Resul
     let mut placed = Vec::with_capacity(alloc, needs.len() + 1)?;
     let reserves = reserves_of(alloc, class, needs, menu)?;
     if reserves.before == 0 {
-        place_frames(class, 0, needs, menu, reserves.behind, &mut placed)?;
+        place_frames(alloc, class, 0, needs, menu, reserves.behind, &mut placed)?;
         return Ok(Plan::from_placed(placed));
     }
     let frame = lead_in(class, reserves.before, menu);
     let area = class.area_of(frame.slot, false);
     placed.push(frame)?;
     let free = free_behind(class.window(), 0, 0, area);
-    place_frames(class, free, needs, menu, reserves.behind, &mut placed)?;
+    place_frames(
+        alloc,
+        class,
+        free,
+        needs,
+        menu,
+        reserves.behind,
+        &mut placed,
+    )?;
     Ok(Plan::from_placed(placed))
 }
 

@@ -1,24 +1,23 @@
 //! How many bytes have to be free before and after each frame, from the last frame back to the first.
 ghost use Rattle.std.specs.Prelude.{◌≡◌, ◌+◌, ◌-◌, ◌≤◌, length, IfOk};
 ghost use Rattle.frame_header.specs.Tables.{window_of};
-ghost use Rattle.slot_plan.specs.Parts.{areas_with, AreOfClass};
-ghost use Rattle.slot_plan.specs.Reserve.{greatest};
+ghost use Rattle.slot_plan.specs.Parts.{AreOfClass};
+ghost use Rattle.rate_plan.specs.LargestAreas.{largest_for};
 ghost use Rattle.rate_plan.specs.Menus.{AreAscending};
 ghost use Rattle.rate_plan.specs.Placing.{NeedAtMost, HasReserves};
 
+use crate::largest::Largest;
 use frame_header::{Class, Slot};
-use slot_plan::{Need, Reserves, largest_area_of};
+use slot_plan::{Need, Reserves};
 use std::alloc::{AllocError, Global};
 
 /// How many bytes have to be free before a frame, if `behind` bytes have to be free after it.
-fn needed_before(class: Class, need: &Need, behind: u16, menu: &[Slot]) -> u64
-    requires slots { 1 ≤ length menu.now }
-    requires ascending { AreAscending class menu.now }
+fn needed_before(need: &Need, behind: u16, largest: Largest) -> u64
     ensures { result ≡ (need.now.bytes + behind)
-        - greatest (areas_with class need.now.header.protected menu.now) }
+        - largest_for largest need.now.header.protected }
 {
-    let largest = largest_area_of(class, need.header.protected, menu);
-    (u64::from(need.bytes) + u64::from(behind)).saturating_sub(u64::from(largest))
+    let area = largest.area(need.header.protected);
+    (u64::from(need.bytes) + u64::from(behind)).saturating_sub(u64::from(area))
 }
 
 /// What each frame needs after it, and the first before it.
@@ -37,11 +36,12 @@ pub(crate) fn reserves_of(
     requires most { NeedAtMost (window_of class.version) menu.now needs.now }
     ensures { IfOk result (λ r. HasReserves menu.now needs.now r.behind.items r.before) }
 {
+    let largest = Largest::of_menu(class, menu);
     let mut behind = Vec::with_capacity(alloc, needs.len())?;
     let mut before: u16 = 0;
     for i in (0..needs.len()).rev() {
-        behind.push(before)?;
-        before = needed_before(class, &needs[i], before, menu) as u16;
+        behind.push_reserved(before);
+        before = needed_before(&needs[i], before, largest) as u16;
     }
     Ok(Reserves { behind, before })
 }

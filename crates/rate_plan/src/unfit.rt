@@ -6,8 +6,9 @@ ghost use Rattle.frame_header.specs.Limits.{most_frames};
 ghost use Rattle.slot_plan.specs.Parts.{AreOfClass};
 ghost use Rattle.rate_plan.specs.Menus.{AreAscending, CanBeLaidFrom, IsUnfit};
 
+use crate::largest::Largest;
 use frame_header::{Class, Slot};
-use slot_plan::{Need, free_behind, largest_area_of};
+use slot_plan::{Need, free_behind};
 
 /// The first frame up to which the frames have no layout, even after a lead-in; `None` if all have one.
 pub(crate) fn first_unfit(class: Class, needs: &[Need], menu: &[Slot]) -> Option<u32>
@@ -21,9 +22,10 @@ pub(crate) fn first_unfit(class: Class, needs: &[Need], menu: &[Slot]) -> Option
         (λ i. IsUnfit (window_of class.version) menu.now needs.now i) }
 {
     let window = class.window();
-    let mut free = free_behind(window, 0, 0, largest_area_of(class, false, menu));
+    let largest = Largest::of_menu(class, menu);
+    let mut free = free_behind(window, 0, 0, largest.area(false));
     for (i, need) in needs.iter().enumerate() {
-        let area = largest_area_of(class, need.header.protected, menu);
+        let area = largest.area(need.header.protected);
         if need.bytes > free + area {
             return Some(i as u32);
         }

@@ -1,17 +1,14 @@
 -- Laws of windows: the last bytes of main data, and the bits of a frame's main data among them.
-use Rattle.std.proofs.Common.{◌≡◌, ℕ, zero, suc, min, ◌<◌, inl, inr, ◌+◌, ◌-◌, ◌*◌, ◌/◌, ◌%◌, ◌^◌, ◌≤◌, List, [], ◌∷◌, ◌++◌, length, take, drop, replicate, refl, sym, subst, ap, ap₂, ◌∙◌, append_assoc, append-nil, arith, length-append, Bor}
+use Rattle.std.proofs.Common.{◌≡◌, ℕ, zero, suc, min, ◌<◌, inl, inr, ◌+◌, ◌-◌, ◌*◌, ◌/◌, ◌%◌, ◌^◌, ◌≤◌, List, [], ◌∷◌, ◌++◌, length, take, drop, replicate, refl, sym, subst, ap, ap₂, ◌∙◌, append_assoc, append-nil, arith, length-append}
 use Rattle.std.proofs.lemmas.List.{length-drop, length-take-le, take-append-le, drop-append-le, take-append-drop, drop-drop}
-use Rattle.std.proofs.lemmas.Option.{get_or_from_slice_get, none-some}
 use Rattle.std.proofs.Math.Seq.{drop-append-add, take-append-add, drop-length, take-length, take-add, drop-cons}
-use Rattle.circular_buffer.proofs.Places.{slice_get-some}
 use Rattle.std.proofs.Math.Nat.{min-eq_left, min-eq_right, zero-div}
 use Rattle.std.proofs.lemmas.Bool.{cases_lt}
-use Rattle.std.specs.Prelude.{Option, Some, None, slice_get, option_copied, get_or}
-use Rattle.std.specs.Option.{IsSome}
+use Rattle.std.specs.Prelude.{get_or}
 use Rattle.circular_buffer.specs.Buffer.{keep_last}
 use Rattle.bit_fields.specs.Bits.{bits, bits_of}
 use Rattle.bit_fields.proofs.BitsLaws.{length-bits_of, take-bits, drop-bits, bits_of-mod, bits_of-cat, take-bits_of, bits-nil, bits-one, bits-cons, bits-append}
-use Rattle.reservoir.specs.Window.{IsWindowOver, main_bits, ArePacked}
+use Rattle.reservoir.specs.Window.{IsWindowOver, AreLastOf, main_bits, ArePacked}
 
 -- ---- what is held
 
@@ -37,13 +34,11 @@ window-more held main area is = ap (λ bytes. keep_last 2048 (bytes ++ area)) is
 pub last-few : (bytes : List ℕ) → length (keep_last 2048 bytes) ≤ 2048
 last-few bytes = omega (arith, length-drop (length bytes - 2048) bytes)
 
--- the last bytes of the window are the last of the main data
-held_end : (held main : List ℕ) (reach : ℕ) → IsWindowOver held main → reach ≤ length held → drop (length held - reach) held ≡ drop (length main - reach) main
-held_end held main reach is within =
-    let many : length held ≡ length main - (length main - 2048) = ap length is ∙ length-drop (length main - 2048) main in
-    ap (drop (length held - reach)) (is ∙ sym (append-nil (drop (length main - 2048) main)))
-    ∙ behind (length main - 2048) (length held - reach) (length main - reach) main [] (omega arith) (omega (arith, many, within))
-    ∙ ap (drop (length main - reach)) (append-nil main)
+-- so they are the last of the main data
+pub window-last : (held main : List ℕ) → IsWindowOver held main → AreLastOf held main
+window-last held main is =
+    let least = length main - 2048 in
+    (take least main, sym (take-append-drop least main) ∙ ap (λ (xs : List ℕ). take least main ++ xs) (sym is))
 
 -- ---- the bits of a frame's main data
 
@@ -107,16 +102,25 @@ packed_behind held whole last from count rest n is same long packed =
           ∙ ap₂ (λ (xs : List ℕ) k. xs ++ replicate k 0) all (omega (arith, size, is));
     }
 
--- the main data of a frame, from what the window holds
-pub packed : (held main whole last : List ℕ) (reach count rest n : ℕ) → IsWindowOver held main → reach ≤ length held → n ≡ 8 * count + rest → n ≤ 8 * reach →
-    whole ≡ take count (drop (length held - reach) held) → ArePacked last rest (main_bits held (length held - reach + count) rest) →
-    ArePacked (whole ++ last) n (main_bits main (length main - reach) n)
-packed held main whole last reach count rest n is within all fits same last_is =
-    let from = length held - reach in
-    let long : length whole ≡ count = ap length same ∙ length-take-le count (drop from held) (omega (arith, length-drop from held, within, all, fits)) in
-    let end : main_bits held from n ≡ main_bits main (length main - reach) n =
-    ap (take n) (drop-bits from held ∙ ap bits (held_end held main reach is within) ∙ sym (drop-bits (length main - reach) main)) in
-    subst (ArePacked (whole ++ last) n) end (packed_behind held whole last from count rest n all same long last_is)
+-- bits behind the first bytes
+behind_front : (front bytes : List ℕ) (at from n : ℕ) → at ≡ length front + from → main_bits bytes from n ≡ main_bits (front ++ bytes) at n
+behind_front front bytes at from n is =
+    ap (take n) (drop-bits from bytes)
+    ∙ ap (λ (xs : List ℕ). take n (bits xs)) (sym (drop-append-add front bytes from) ∙ ap (λ k. drop k (front ++ bytes)) (sym is))
+    ∙ ap (take n) (sym (drop-bits at (front ++ bytes)))
+
+-- the main data of a frame, from what the window holds and what is after it
+pub packed : (held main more whole last : List ℕ) (from at count rest n : ℕ) → AreLastOf held main → at + length held ≡ length main + from → n ≡ 8 * count + rest → n + 8 * from ≤ 8 * length (held ++ more)
+    → whole ≡ take count (drop from (held ++ more)) → ArePacked last rest (main_bits (held ++ more) (from + count) rest) → ArePacked (whole ++ last) n (main_bits (main ++ more) at n)
+packed held main more whole last from at count rest n is place all fits same last_is =
+    let bytes = held ++ more in
+    let front = is.0 in
+    let long : length whole ≡ count = ap length same ∙ length-take-le count (drop from bytes) (omega (arith, length-drop from bytes, all, fits)) in
+    let begins : at ≡ length front + from = omega (arith, ap length is.1 ∙ length-append front held, place) in
+    let end : main_bits bytes from n ≡ main_bits (main ++ more) at n =
+    behind_front front bytes at from n begins
+    ∙ ap (λ (xs : List ℕ). main_bits xs at n) (sym (append_assoc front held more) ∙ ap (λ (xs : List ℕ). xs ++ more) (sym is.1)) in
+    subst (ArePacked (whole ++ last) n) end (packed_behind bytes whole last from count rest n all same long last_is)
 
 -- ---- two lists, one after the other
 
@@ -148,12 +152,9 @@ part_of_two from count passed first xs ys front back fronts backs passes firsts 
     rw (firsts, fronts, backs, passes)
     (sym (ap (take count) (drop_two from xs ys) ∙ take_two count (drop (min from (length xs)) xs) (drop (from - min from (length xs)) ys)))
 
--- ---- a byte of a ring
-
--- a byte that is there
-pub found : (r : Option (Bor ℕ)) (xs : List ℕ) (i : ℕ) → option_copied r ≡ slice_get xs i → i < length xs → IsSome r
-found None xs i is within = let some = slice_get-some xs i within in absurd (none-some some.0 (is ∙ some.1))
-found (Some b) xs i is within = refl
-
-pub found-is : (r : Option (Bor ℕ)) (b : Bor ℕ) (xs : List ℕ) (i : ℕ) → option_copied r ≡ slice_get xs i → r ≡ Some b → b.now ≡ get_or xs i 0
-found-is r b xs i is some = sym (get_or_from_slice_get xs i b.now 0 (sym is ∙ ap option_copied some))
+-- the same, where the parts are given, and the place is from the lengths
+pub part_past : (from passed first count : ℕ) (xs ys part more : List ℕ) → passed ≡ min from (length xs) → first ≡ min count (length xs - passed) → part ≡ take first (drop passed xs)
+    → more ≡ take (count - first) (drop (from - passed) ys) → part ++ more ≡ take count (drop from (xs ++ ys))
+part_past from passed first count xs ys part more passes firsts parts mores =
+    ap₂ (λ (ps qs : List ℕ). ps ++ qs) parts mores
+    ∙ part_of_two from count passed first xs ys (drop passed xs) (drop (from - passed) ys) refl refl passes (firsts ∙ ap (min count) (sym (length-drop passed xs)))

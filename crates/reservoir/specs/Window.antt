@@ -8,6 +8,10 @@ use Rattle.bit_fields.specs.Bits.{bits}
 abbrev pub IsWindowOver : List ℕ → List ℕ → Type 0
 IsWindowOver held main = held ≡ keep_last 2048 main
 
+-- the bytes held are the last of all areas, however many
+abbrev pub AreLastOf : List ℕ → List ℕ → Type 0
+AreLastOf held main = (front : List ℕ) × (main ≡ front ++ held)
+
 -- so many bits of all areas, from a byte on
 abbrev pub main_bits : List ℕ → ℕ → ℕ → List ℕ
 main_bits main start count = take count (drop (8 * start) (bits main))

@@ -5,11 +5,14 @@ use arrayvec::ArrayVec;
 use std::marker::Model;
 
 /// The main data of a frame, in as few bytes as hold their bits. Contracts see them as a list of bytes. The
-/// whole bytes are in two slices, one after the other, since a window is a ring.
+/// whole bytes are in four slices, one after the other: two of a window, since it is a ring, and two of areas
+/// that aren't in the window.
 #[derive(Drop)]
 pub struct Payload<'a> {
     front: &'a [u8],
     back: &'a [u8],
+    before: &'a [u8],
+    own: &'a [u8],
     // The byte of the bits after the whole bytes, with zeros after them.
     last: Option<u8>,
 }
@@ -20,7 +23,7 @@ impl<'a> Model for Payload<'a> {
 
     ghost Value = { List ℕ };
 
-    ghost view = { λ p. p.front.now ++ (p.back.now ++ byte_of p.last) };
+    ghost view = { λ p. p.front.now ++ (p.back.now ++ (p.before.now ++ (p.own.now ++ byte_of p.last))) };
 }
 
 impl<'a> Payload<'a> {
@@ -39,18 +42,32 @@ impl<'a> Payload<'a> {
         ensures { result ≡ bytes.now }
     {
         Payload {
-            front: bytes,
+            front: &[],
             back: &[],
+            before: &[],
+            own: bytes,
             last: None,
         }
     }
 
     /// These bytes, and one after them if it is there.
     #[inline]
-    pub(crate) fn new(front: &'a [u8], back: &'a [u8], last: Option<u8>) -> Payload<'a>
-        ensures { result ≡ front.now ++ (back.now ++ byte_of last) }
+    pub(crate) fn new(
+        front: &'a [u8],
+        back: &'a [u8],
+        before: &'a [u8],
+        own: &'a [u8],
+        last: Option<u8>,
+    ) -> Payload<'a>
+        ensures { result ≡ front.now ++ (back.now ++ (before.now ++ (own.now ++ byte_of last))) }
     {
-        Payload { front, back, last }
+        Payload {
+            front,
+            back,
+            before,
+            own,
+            last,
+        }
     }
 
     /// How many bytes these are.
@@ -59,16 +76,18 @@ impl<'a> Payload<'a> {
         requires { length self.now ≤ 2048 }
         ensures { result ≡ length self.now }
     {
-        self.front.len() + self.back.len() + usize::from(self.last.is_some())
+        let areas = self.before.len() + self.own.len();
+        self.front.len() + self.back.len() + areas + usize::from(self.last.is_some())
     }
 
-    /// The whole bytes in two slices, one after the other, and the byte of the bits after them if there are
-    /// any.
+    /// The whole bytes in four slices, one after the other, and the byte of the bits after them if there
+    /// are any.
     #[inline]
-    pub fn pieces(&self) -> (&[u8], &[u8], Option<u8>)
-        ensures { result.0.now ++ (result.1.now ++ byte_of result.2) ≡ self.now }
+    pub fn pieces(&self) -> (&[u8], &[u8], &[u8], &[u8], Option<u8>)
+        ensures { result.0.now ++ (result.1.now ++ (result.2.now ++ (result.3.now ++ byte_of result.4)))
+            ≡ self.now }
     {
-        (self.front, self.back, self.last)
+        (self.front, self.back, self.before, self.own, self.last)
     }
 
     /// Puts them into a list of at most 2,048 bytes, in place of what is in it.
@@ -79,6 +98,8 @@ impl<'a> Payload<'a> {
         into.clear();
         let _ = into.try_extend_from_slice(self.front);
         let _ = into.try_extend_from_slice(self.back);
+        let _ = into.try_extend_from_slice(self.before);
+        let _ = into.try_extend_from_slice(self.own);
         if let Some(last) = self.last {
             let _ = into.try_extend_from_slice(&[last]);
         }

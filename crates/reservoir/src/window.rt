@@ -1,8 +1,8 @@
 //! The window, over a ring that drops its oldest bytes.
-ghost use Rattle.std.specs.Prelude.{◌≡◌, ℕ, ◌+◌, ◌-◌, ◌*◌, ◌/◌, ◌<◌, ◌≤◌, List, [], ◌++◌, length, take, drop, IfOk};
+ghost use Rattle.std.specs.Prelude.{◌≡◌, ℕ, ◌+◌, ◌-◌, ◌*◌, ◌/◌, ◌<◌, ◌≤◌, List, [], ◌++◌, length, take, drop, get_or, IfOk};
 ghost use Rattle.circular_buffer.specs.Buffer.{keep_last};
 ghost use Rattle.bit_fields.specs.Bits.{AreBytes};
-ghost use Rattle.reservoir.specs.Window.{IsWindowOver, main_bits, ArePacked, byte_of};
+ghost use Rattle.reservoir.specs.Window.{IsWindowOver, AreLastOf, main_bits, ArePacked, byte_of};
 
 use crate::payload::Payload;
 use arrayvec::ArrayVec;
@@ -98,28 +98,85 @@ impl Window {
         ensures bytes { AreBytes result }
         ensures few { length result ≤ 2048 }
     {
-        let (front, back) = self.ring.as_slices();
-        let from = self.ring.len() - (area + begin) as usize;
-        let whole = (bits / 8) as usize;
-        let last = self.last_byte(from + whole, bits % 8);
-        let (front, back) = part(front, back, from, whole);
-        Payload::new(front, back, last)
+        let _ = &self.ring;
+        self.main_data_with(&[], &[], area + begin, bits)
     }
 
-    /// The first `bits` bits of byte `at`, fewer than 8, and zeros after them; `None` for no bits.
+    /// The main data of a frame whose area wasn't pushed, and neither was the area `before` it, where there
+    /// is one: what is held, `before` and `area` follow each other. They are lent where they are, `bits`
+    /// bits from `begin` bytes before the area on, as `main_data` lends them.
     #[inline]
-    fn last_byte(&self, at: usize, bits: u32) -> Option<u8>
+    pub fn main_data_with<'a>(
+        &'a self,
+        before: &'a [u8],
+        area: &'a [u8],
+        begin: u32,
+        bits: u32,
+    ) -> Payload<'a>
+        requires held { begin ≤ length self.now + length before.now }
+        requires within { bits ≤ 8 * (begin + length area.now) }
+        requires few { begin + length area.now ≤ 2048 }
+        requires short { length before.now + length area.now ≤ 4096 }
+        ensures payload { (main : List ℕ) → AreLastOf self.now main → ArePacked result bits
+            (main_bits (main ++ (before.now ++ area.now))
+            (length main + length before.now - begin) bits) }
+        ensures bytes { AreBytes result }
+        ensures few { length result ≤ 2048 }
+    {
+        let (front, back) = self.ring.as_slices();
+        let held = self.ring.len();
+        let from = held + before.len() - begin as usize;
+        let whole = (bits / 8) as usize;
+        let last = self.last_byte(before, area, from + whole, bits % 8);
+        let passed = from.min(held);
+        let first = whole.min(held - passed);
+        let (front, back) = part(front, back, passed, first);
+        let (before, own) = part(before, area, from - passed, whole - first);
+        Payload::new(front, back, before, own, last)
+    }
+
+    /// The first `bits` bits of byte `at` of what is held and these areas after it, fewer than 8, and zeros
+    /// after them; `None` for no bits.
+    #[inline]
+    fn last_byte(&self, before: &[u8], area: &[u8], at: usize, bits: u32) -> Option<u8>
         requires few { bits < 8 }
-        requires within { 8 * at + bits ≤ 8 * length self.now }
-        ensures packed { ArePacked (byte_of result) bits (main_bits self.now at bits) }
+        requires within { 8 * at + bits
+            ≤ 8 * (length self.now + length before.now + length area.now) }
+        ensures packed { ArePacked (byte_of result) bits
+            (main_bits (self.now ++ (before.now ++ area.now)) at bits) }
         ensures bytes { AreBytes (byte_of result) }
     {
         if bits == 0 {
             return None;
         }
-        let byte = *self.ring.get(at).unwrap();
+        let byte = self.byte_at(before, area, at);
         let unused = 8 - bits;
         Some(byte >> unused << unused)
+    }
+
+    /// Byte `at` of what is held and these areas after it.
+    #[inline]
+    fn byte_at(&self, before: &[u8], area: &[u8], at: usize) -> u8
+        requires { at < length self.now + length before.now + length area.now }
+        ensures { result ≡ get_or (self.now ++ (before.now ++ area.now)) at 0 }
+    {
+        match self.ring.get(at) {
+            Some(byte) => *byte,
+            None => byte_of_two(before, area, at - self.ring.len()),
+        }
+    }
+}
+
+/// Byte `at` of two slices, one after the other.
+#[inline]
+fn byte_of_two(front: &[u8], back: &[u8], at: usize) -> u8
+    requires { at < length front.now + length back.now }
+    ensures { result ≡ get_or (front.now ++ back.now) at 0 }
+{
+    if at < front.len() {
+        front[at]
+    } else {
+        back[at - front.len()]
     }
 }
 
@@ -127,7 +184,7 @@ impl Window {
 #[inline]
 fn part<'a>(front: &'a [u8], back: &'a [u8], from: usize, count: usize) -> (&'a [u8], &'a [u8])
     requires within { from + count ≤ length front.now + length back.now }
-    requires short { length front.now + length back.now ≤ 2048 }
+    requires short { length front.now + length back.now ≤ 4096 }
     ensures part { result.0.now ++ result.1.now ≡ take count (drop from (front.now ++ back.now)) }
     ensures bytes { AreBytes result.0.now × AreBytes result.1.now }
 {

@@ -5,7 +5,7 @@ use Rattle.std.proofs.lemmas.Bool.{ltb-false, le-ltb, cases_lt, and_parts}
 use Rattle.std.proofs.lemmas.Option.{slice_get_within}
 use Rattle.side_info.specs.Side.{payload_bytes}
 use Rattle.sync_survey.specs.declared.places.Head.{Head}
-use Rattle.sync_survey.specs.declared.rows.Row.{Row}
+use Rattle.sync_survey.specs.Row.{Row}
 use Rattle.sync_survey.specs.declared.rows.Before.{Before}
 use Rattle.sync_survey.specs.MainData.{own_area, head_area, place, is_silent, end_of_data}
 use Rattle.sync_survey.proofs.FaultsLaws.{get_more, get_next, place-more, place-next, place-none, IsRuled, ruled}

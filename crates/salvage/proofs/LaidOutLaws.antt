@@ -1,6 +1,6 @@
 -- What is read of a damaged file is in order within it, by the definition alone.
 use Rattle.std.proofs.Common.{◌≡◌, ℕ, zero, suc, ◌+◌, ◌-◌, ◌<◌, ◌≤◌, Bool, true, false, cond, ltb, List, [], ◌∷◌, ◌++◌, length, drop, Option, Some, None, Ok, Err, Result, inl, inr, refl, sym, ◌∙◌, ap, subst, arith, append_assoc, append-nil}
-use Rattle.std.specs.Prelude.{slice_get, IfSome, option_and_then, option_map}
+use Rattle.std.specs.Prelude.{IfSome, option_and_then, option_map}
 use Rattle.std.specs.Option.{option_or}
 use Rattle.std.specs.List.{cons_option}
 use Rattle.std.proofs.lemmas.Bool.{ltb-true, ltb-false, and_parts}
@@ -15,7 +15,7 @@ use Rattle.sync_survey.specs.declared.places.Head.{Head}
 use Rattle.sync_survey.specs.declared.places.Piece.{Piece}
 use Rattle.sync_survey.specs.declared.places.PlacedFrame.{PlacedFrame}
 use Rattle.sync_survey.specs.declared.rows.Before.{Before}
-use Rattle.sync_survey.specs.declared.rows.Row.{Row}
+use Rattle.sync_survey.specs.Row.{Row}
 use Rattle.sync_survey.specs.declared.runs.Part.{Part}
 use Rattle.sync_survey.specs.declared.runs.Part.TheVariants.{Front, Stream}
 use Rattle.sync_survey.specs.declared.survey_fault.SurveyFault.{SurveyFault}
@@ -28,17 +28,17 @@ use Rattle.sync_survey.specs.Walk.{head_of, numbered_at}
 use Rattle.sync_survey.specs.Faults.{longest_file}
 use Rattle.sync_survey.specs.Survey.{AreLaid, BlocksAreLaid, IsWholeHead}
 use Rattle.sync_survey.proofs.ItemsLaws.{stands-at, header_front-in_range}
-use Rattle.sync_survey.proofs.PlacedRows.{same_class-is}
+use Rattle.frame_header.proofs.ClassLaws.{same_class-is}
 use Rattle.sync_survey.proofs.RunsLaws.{IsItemOf, whole_cases, run-ends}
 use Rattle.salvage.specs.declared.gap.Gap.{Gap}
 use Rattle.salvage.specs.declared.usable.Role.{Role}
 use Rattle.salvage.specs.declared.usable.Role.TheVariants.{First, Later}
 use Rattle.salvage.specs.Usable.{next_usable}
-use Rattle.salvage.specs.Walk.{is_read, if_read, item_read, first_frame, gap_end, Thing, IsItem, IsGap, size_of_thing, thing_by, thing_at, PlacedThing, things_up_to, things, frame_in, frames_in, gaps_of, blocks_in}
+use Rattle.salvage.specs.Walk.{is_read, if_read, item_read, first_frame, Thing, IsItem, IsGap, size_of_thing, thing_by, thing_at, PlacedThing, things_up_to, things, frame_in, frames_in, gaps_of, blocks_in}
 use Rattle.salvage.specs.Sound.{runs_of, judged_runs}
 use Rattle.salvage.specs.Judged.{judged_by, before_next, none_before, rows_here, before_here, rows_left}
 use Rattle.salvage.specs.Kept.{AreKeptWell, AreKeptTo}
-use Rattle.salvage.specs.Damaged.{DamagedFields, things_from, gap_between, damaged_from, unless_too_many, counted, damaged_by, damaged, damaged_of, most_frames}
+use Rattle.salvage.specs.Damaged.{DamagedFields, things_from, damaged_from, unless_too_many, counted, damaged_by, damaged, damaged_of, most_frames}
 use Rattle.salvage.specs.Progress.{GapsAreLaid, AreOfClass, IsLaidOut}
 use Rattle.salvage.proofs.WalkLaws.{item_read-is, IsNext, next_usable-is, IsGapTo, gap_end-is}
 use Rattle.salvage.proofs.SoundLaws.{runs-left}

@@ -7,6 +7,7 @@ pub mod WalkLaws
 pub mod SoundLaws
 pub mod ProgressLaws
 pub mod Results
+pub mod ReadOn
 pub mod KeepsLaws
 pub mod KeptLaws
 pub mod LaidOutLaws

@@ -11,7 +11,7 @@ use Rattle.frame_header.specs.Tables.{class_of, length_of}
 use Rattle.side_info.specs.Side.{no_side, SideFits, payload_bits, payload_bytes}
 use Rattle.side_info.proofs.SideLaws.{SideFits-no_side}
 use Rattle.sync_survey.specs.declared.places.Head.{Head}
-use Rattle.sync_survey.specs.declared.rows.Row.{Row}
+use Rattle.sync_survey.specs.Row.{Row}
 use Rattle.sync_survey.specs.declared.survey_fault.SurveyFault.{SurveyFault}
 use Rattle.sync_survey.specs.MainData.{own_area, head_area, place, is_silent, points_too_far, lacks_data, end_of_data, end_behind, end_before}
 use Rattle.sync_survey.specs.Faults.{overlaps, overruns, data_faults}
@@ -233,3 +233,16 @@ emptied_step rows i d done within is =
 
 pub emptied_end : (rows : List Row) (i : ℕ) (done : List Emptied) → length rows ≤ i → done ++ emptied_from i (drop i rows) ≡ emptied_from 0 rows → done ≡ emptied_from 0 rows
 emptied_end rows i done past is = sym (append-nil done) ∙ ap (λ l. done ++ emptied_from i l) (sym (drop_all i rows past)) ∙ is
+
+-- ---- where none becomes an empty one
+
+none_lost : (number : ℕ) (r : Row) (rest : List Emptied) (b : Bool) → r.lost ≡ b → option_to_list (emptied_as number r) ++ rest ≡ [] → (r.lost ≡ false) × (rest ≡ [])
+none_lost number r rest true is e = let found = ap (λ b. option_to_list (cond b (Some (record { number = number; offset = r.offset })) None) ++ rest) (sym is) ∙ e in absurd cc
+none_lost number r rest false is e = (is, ap (λ b. option_to_list (cond b (Some (record { number = number; offset = r.offset })) None) ++ rest) (sym is) ∙ e)
+
+-- the frames stay
+pub mended_none : (number : ℕ) (rows : List Row) → emptied_from number rows ≡ [] → map mended_row rows ≡ rows
+mended_none number [] none = refl
+mended_none number (r ∷ rows) none =
+    let parts = none_lost number r (emptied_from (number + 1) rows) r.lost refl (sym (cons_list (emptied_as number r) (emptied_from (number + 1) rows)) ∙ none) in
+    ap₂ (λ (x : Row) xs. x ∷ xs) (mended-false r parts.0) (mended_none (number + 1) rows parts.1)

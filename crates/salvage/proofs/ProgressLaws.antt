@@ -9,7 +9,7 @@ use Rattle.side_info.proofs.FrameLaws.{fits-side_in, overhead-few}
 use Rattle.sync_survey.specs.declared.items.Item.{Item}
 use Rattle.sync_survey.specs.declared.items.Item.TheVariants.{Frame, Free, Block, Zero, End, Nothing}
 use Rattle.sync_survey.specs.declared.places.Piece.{Piece}
-use Rattle.sync_survey.specs.declared.rows.Row.{Row}
+use Rattle.sync_survey.specs.Row.{Row}
 use Rattle.sync_survey.specs.declared.rows.Before.{Before}
 use Rattle.sync_survey.specs.Items.{item_front, size_of}
 use Rattle.sync_survey.specs.Runs.{block_as}
@@ -19,7 +19,7 @@ use Rattle.sync_survey.specs.Survey.{AreLaid, BlocksAreLaid}
 use Rattle.sync_survey.proofs.RunsLaws.{kept_more, kept_whole}
 use Rattle.sync_survey.proofs.FrontLaws.{blocks_more, pieces_later}
 use Rattle.sync_survey.proofs.StepLaws.{row_shown, item_header, laid_later, laid_push, area_within}
-use Rattle.sync_survey.proofs.PlacedRows.{same_class-is}
+use Rattle.frame_header.proofs.ClassLaws.{same_class-is}
 use Rattle.sync_survey.specs.declared.survey_fault.SurveyFault.{SurveyFault}
 use Rattle.sync_survey.specs.declared.survey_fault.SurveyFault.TheVariants.{NoFrame, TooManyFrames}
 use Rattle.sync_survey.specs.Faults.{longest_file}

@@ -6,8 +6,7 @@ use Rattle.frame_header.specs.Tables.{class_of, length_of}
 use Rattle.sync_survey.specs.declared.items.Item.{Item}
 use Rattle.sync_survey.specs.declared.items.Item.TheVariants.{Frame, Free, Block, Zero, End, Nothing}
 use Rattle.sync_survey.specs.declared.places.PlacedFrame.{PlacedFrame}
-use Rattle.tag_blocks.specs.Blocks.{block_front}
-use Rattle.sync_survey.specs.Items.{Stands, by_header, by_block, by_byte, header_front, item_front, item_at, fits}
+use Rattle.sync_survey.specs.Items.{Stands, header_front, item_front, item_at, fits}
 use Rattle.sync_survey.specs.Start.{is_anchor, has_anchor, anchored, anchored_frame}
 use Rattle.sync_survey.specs.Looks.{Shows}
 use Rattle.sync_survey.proofs.ItemsLaws.{stands}
@@ -61,10 +60,6 @@ header_same bytes h g read is =
 
 pub header_of : (bytes : List ℕ) (g : HeaderFields) → item_front bytes ≡ Frame g → header_front bytes ≡ Ok g
 header_of bytes g is = subst (Stands bytes) is (stands bytes)
-
-pub frame_of_header : (bytes : List ℕ) (h : HeaderFields) → header_front bytes ≡ Ok h → item_front bytes ≡ Frame h
-unfolding item_front
-frame_of_header bytes h e = ap (λ r. by_header r (by_block (block_front bytes) (by_byte bytes))) e
 
 -- the frame at this place has no anchor, or isn't usable
 module _ (role : Role) (offset : ℕ) (front : List ℕ) (k : ℕ) (g : HeaderFields) (here : header_front (drop k front) ≡ Ok g) (near : k + length_of (class_of g) g.slot ≤ 4064) where

@@ -1,7 +1,7 @@
 -- Where the main data of the frames that are kept are in the areas of all frames, whatever gaps are between.
 use Rattle.std.specs.Prelude.{◌≡◌, ℕ, zero, suc, ◌+◌, ◌≤◌, ◌||◌, if◌then◌else◌, true, false, List, length, slice_get, Option, Some, None}
 use Rattle.sync_survey.specs.declared.places.Head.{Head}
-use Rattle.sync_survey.specs.declared.rows.Row.{Row}
+use Rattle.sync_survey.specs.Row.{Row}
 use Rattle.sync_survey.specs.MainData.{place, is_silent, end_of_data}
 use Rattle.sync_survey.specs.declared.rows.Before.{Before}
 use Rattle.salvage.specs.Sound.{is_sound}

@@ -3,7 +3,7 @@ use Rattle.std.specs.Prelude.{◌≡◌, ℕ, ◌+◌, ◌<◌, ◌≤◌, List,
 use Rattle.frame_header.specs.Fields.{ClassFields, IsHeader}
 use Rattle.frame_header.specs.Tables.{class_of}
 use Rattle.outside.specs.Files.{Files, Holds}
-use Rattle.sync_survey.specs.declared.rows.Row.{Row}
+use Rattle.sync_survey.specs.Row.{Row}
 use Rattle.sync_survey.specs.declared.items.Item.TheVariants.{Frame}
 use Rattle.sync_survey.specs.Items.{size_of}
 use Rattle.sync_survey.specs.Start.{front_end_of}

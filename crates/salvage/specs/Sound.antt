@@ -3,7 +3,7 @@ use Rattle.std.specs.Prelude.{ℕ, zero, suc, ◌&&◌, not, if◌then◌else◌
 use Rattle.std.specs.List.{enumerate_from}
 use Rattle.sync_survey.specs.declared.places.Head.{Head}
 use Rattle.sync_survey.specs.declared.places.PlacedFrame.{PlacedFrame}
-use Rattle.sync_survey.specs.declared.rows.Row.{Row}
+use Rattle.sync_survey.specs.Row.{Row}
 use Rattle.sync_survey.specs.Runs.{frame_as}
 use Rattle.sync_survey.specs.MainData.{rows_of, place, is_silent, points_too_far, end_of_data}
 use Rattle.sync_survey.specs.Faults.{overlaps, overruns}

@@ -1,14 +1,14 @@
 //! What was found so far.
-ghost use Rattle.std.specs.Prelude.{◌≡◌, ◌⊎◌, ◌^◌, ◌≤◌, ◌+◌, false, length, MatchResult, OnOk};
+ghost use Rattle.std.specs.Prelude.{◌≡◌, ◌⊎◌, ◌^◌, ◌≤◌, ◌+◌, false, Ok, length, MatchResult, OnOk};
 ghost use Rattle.frame_header.specs.Fields.{HeaderFields};
 ghost use Rattle.sync_survey.specs.Faults.{longest_file};
+ghost use Rattle.sync_survey.specs.Items.{header_front, item_front};
 ghost use Rattle.sync_survey.specs.Looks.{ReachArea};
 ghost use Rattle.salvage.specs.Damaged.{most_frames};
 ghost use Rattle.salvage.specs.Judged.{judged_by, before_next, AddsItem, AddsGap, IsPastMost};
 
 use crate::gap::Gap;
 use frame_header::Header;
-use side_info::{Side, read_side};
 use std::alloc::AllocError;
 use sync_survey::{Before, Item, Piece, Row, SurveyFault};
 
@@ -28,20 +28,21 @@ pub(crate) struct Found {
 
 /// Marks the row if its frame isn't sound by the areas before it, and answers the areas before the next
 /// frame.
-fn mark(before: &Before, row: &mut Row) -> Before
+// Later frames and all else are kept by ways of their own, and clang doesn't inline what has several callers.
+#[inline(always)]
+fn mark(before: &Before, header: &Header, row: &mut Row) -> Before
+    requires same { header.now ≡ row.old.header }
     requires bound { before.now.place ≤ 2 ^ 62 }
     requires unmarked { row.old.lost ≡ false }
     ensures row { row.new ≡ judged_by before.now row.old }
     ensures before { result ≡ before_next before.now row.old }
 {
-    let area = row.header.area();
-    let behind = before.behind(row, area);
-    match behind {
+    match before.behind(header, row) {
         Ok(behind) if !behind.lost => behind.before,
         _ => {
-            row.lost = true;
+            row.mark(true);
             Before {
-                place: before.place + u64::from(area),
+                place: before.place + u64::from(header.area()),
                 ended: before.ended,
             }
         }
@@ -53,7 +54,9 @@ impl Found {
     ///
     /// # Errors
     /// `TooManyFrames` with the offset of the frame, `Memory`.
+    #[inline(always)]
     fn judge(&mut self, header: Header, bytes: &[u8]) -> Result<(), SurveyFault>
+        requires heads { header_front bytes.now ≡ Ok header }
         requires room { ReachArea header bytes.now }
         requires early { self.old.at ≤ longest_file }
         requires bound { self.old.before.place ≤ 2 ^ 62 }
@@ -64,20 +67,14 @@ impl Found {
         ensures few { OnOk result (length self.old.rows.items ≤ most_frames
             → length self.new.rows.items ≤ most_frames) }
     {
-        let count = self.rows.len();
-        if count == MOST_FRAMES {
+        if self.rows.len() == MOST_FRAMES {
             return Err(SurveyFault::TooManyFrames(self.at));
         }
-        // The row is read and judged where it stays, since copying it takes as long as reading it.
-        self.rows.push(Row {
-            offset: self.at as u32,
-            header,
-            lost: false,
-            side: Side::empty(),
-        })?;
+        let count = self.rows.len();
+        // The row is judged where it stays, so that it is copied once.
+        self.rows.push(Row::read(self.at as u32, &header, bytes))?;
         let row = &mut self.rows[count];
-        read_side(&header, bytes, &mut row.side);
-        self.before = mark(&self.before, row);
+        self.before = mark(&self.before, &header, row);
         Ok(())
     }
 
@@ -85,7 +82,9 @@ impl Found {
     ///
     /// # Errors
     /// `TooManyFrames` with the offset of a frame, `Memory`.
+    #[inline(always)]
     fn keep_item(&mut self, item: &Item, bytes: &[u8]) -> Result<(), SurveyFault>
+        requires heads { item.now ≡ item_front bytes.now }
         requires room { (h : HeaderFields) → item.now ≡ Item.Frame h → ReachArea h bytes.now }
         requires early { self.old.at ≤ longest_file }
         requires bound { self.old.before.place ≤ 2 ^ 62 }
@@ -111,7 +110,9 @@ impl Found {
     ///
     /// # Errors
     /// `TooManyFrames` with the offset of a frame, `Memory`.
+    #[inline(always)]
     pub(crate) fn keep(&mut self, item: &Item, size: u64, bytes: &[u8]) -> Result<(), SurveyFault>
+        requires heads { item.now ≡ item_front bytes.now }
         requires room { (h : HeaderFields) → item.now ≡ Item.Frame h → ReachArea h bytes.now }
         requires bound { self.old.before.place ≤ 2 ^ 62 }
         requires short { self.old.at + size ≤ longest_file }

@@ -6,6 +6,7 @@ mod begun;
 mod damaged;
 mod found;
 mod gap;
+mod later;
 mod laws;
 mod mended;
 mod reading;

@@ -1,5 +1,6 @@
 //! What is read of a damaged file, as it is written: its frames that aren't sound are empty.
-ghost use Rattle.std.specs.Prelude.{◌≡◌, ◌≤◌, ◌++◌, length, map, option_to_list, IfOk, OnOk};
+ghost use Rattle.std.specs.Prelude.{◌≡◌, ◌≤◌, false, ◌++◌, length, map, option_to_list, IfOk, OnOk};
+ghost use Rattle.side_info.specs.Side.{no_side};
 ghost use Rattle.sync_survey.specs.Faults.{tells};
 ghost use Rattle.sync_survey.specs.Survey.{IsLaidOut as IsLaidSurvey};
 ghost use Rattle.salvage.specs.Damaged.{tells_of, most_frames};
@@ -8,7 +9,7 @@ ghost use Rattle.salvage.specs.Mended.{mended_row, mended, emptied_as, emptied_f
 
 use crate::damaged::Damaged;
 use crate::gap::Gap;
-use side_info::Side;
+use side_info::{FrameFront, Side};
 use std::alloc::{AllocError, Global};
 use sync_survey::{Row, Survey};
 
@@ -36,8 +37,8 @@ fn push_emptied(emptied: &mut Vec<Emptied>, number: u32, row: &Row) -> Result<()
     ensures { OnOk result (emptied.new.items ≡ emptied.old.items
         ++ option_to_list (emptied_as number row.now)) }
 {
-    if row.lost {
-        let offset = row.offset;
+    if row.lost() {
+        let offset = row.offset();
         emptied.push(Emptied { number, offset })?;
     }
     Ok(())
@@ -60,13 +61,22 @@ fn emptied_of(alloc: Global, rows: &[Row]) -> Result<Vec<Emptied>, AllocError>
     Ok(emptied)
 }
 
+/// Makes the frame an empty one.
+// It is apart, so that the loop over the frames is short.
+#[inline(never)]
+fn empty_row(row: &mut Row)
+    ensures { row.new ≡ record row.old { side = no_side; lost = false } }
+{
+    let front = FrameFront::new(&row.header(), &Side::empty());
+    *row = Row::new(row.offset(), false, front);
+}
+
 /// Makes the frame an empty one if it isn't sound.
 fn mend_row(row: &mut Row)
     ensures { row.new ≡ mended_row row.old }
 {
-    if row.lost {
-        row.side = Side::empty();
-        row.lost = false;
+    if row.lost() {
+        empty_row(row);
     }
 }
 
@@ -76,6 +86,16 @@ fn mend_rows(rows: &mut [Row])
 {
     for row in rows.iter_mut() {
         mend_row(row);
+    }
+}
+
+/// Makes each frame that isn't sound an empty one. The frames that become empty ones are known.
+fn mend_known(rows: &mut [Row], emptied: &[Emptied])
+    requires { emptied.now ≡ emptied_from 0 rows.old }
+    ensures { rows.new ≡ map mended_row rows.old }
+{
+    if !emptied.is_empty() {
+        mend_rows(rows);
     }
 }
 
@@ -94,7 +114,7 @@ impl Damaged {
     {
         let Damaged { mut survey, gaps } = self;
         let emptied = emptied_of(alloc, &survey.frames)?;
-        mend_rows(survey.frames.as_mut_slice());
+        mend_known(survey.frames.as_mut_slice(), &emptied);
         Ok(Mended {
             survey,
             emptied,

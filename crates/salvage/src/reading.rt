@@ -21,6 +21,7 @@ use crate::begun::Begun;
 use crate::damaged::Damaged;
 use crate::found::Found;
 use crate::gap::Gap;
+use crate::later::later_frame;
 use crate::search::{first_frame, next_usable};
 use crate::usable::Role;
 use outside::{Feed, Folder};
@@ -134,7 +135,9 @@ fn read_gap<D: Folder>(
 ///
 /// # Errors
 /// `TooManyFrames` with the offset of a frame, `Read`, `Shrunk` or `Memory`.
-fn read_thing<D: Folder>(
+// Most of what is read are later frames, which don't come here: it is apart, and looks once more.
+#[inline(never)]
+fn read_other<D: Folder>(
     feed: &mut Feed,
     folder: &mut D,
     name: &str,
@@ -154,10 +157,42 @@ fn read_thing<D: Folder>(
 {
     let left = look(feed, folder, name, begun.size, found.at)?;
     let role = later_role(begun);
-    let Some(step) = role.step(feed.bytes(), found.at, left) else {
+    let front = feed.bytes();
+    let Some(step) = role.step(front, found.at, left) else {
         return read_gap(feed, folder, name, begun, found);
     };
-    found.keep(&step.item, step.size, feed.bytes())
+    found.keep(&step.item, step.size, front)
+}
+
+/// Keeps the item that is read at the offset that was reached, or the gap that begins there.
+///
+/// # Errors
+/// `TooManyFrames` with the offset of a frame, `Read`, `Shrunk` or `Memory`.
+fn read_thing<D: Folder>(
+    feed: &mut Feed,
+    folder: &mut D,
+    name: &str,
+    begun: &Begun,
+    found: &mut Found,
+) -> Result<(), SurveyFault>
+    requires begun { IsBegun (D.files folder.old) name.now begun.now }
+    requires fed { IsFedFrom feed.old (D.files folder.old) name.now }
+    requires before { found.old.at < begun.now.size }
+    requires reading { IsReading (D.files folder.old) name.now begun.now found.old }
+    ensures reading { OnOk result (ReadsOn (D.files folder.old) name.now begun.now
+        found.old found.new) }
+    ensures reads { ReadsBy feed.new name.now result (D.files folder.old) (D.files folder.new)
+        (D.counts folder.old) (D.counts folder.new) }
+    ensures refused { IfErr result (IsReadRefusal name.now (D.files folder.old)
+        (D.counts folder.old) (D.counts folder.new)) }
+{
+    let left = look(feed, folder, name, begun.size, found.at)?;
+    let class = begun.start.first.header.class();
+    let front = feed.bytes();
+    let Some(step) = later_frame(class, front, found.at, left) else {
+        return read_other(feed, folder, name, begun, found);
+    };
+    found.keep(&step.item, step.size, front)
 }
 
 /// Reads on to the end of the file.

@@ -36,14 +36,14 @@ pub(crate) fn length_said(second: u8, third: u8) -> usize
 }
 
 /// The channels that the fourth byte of a header says.
-fn channels_said(fourth: u8) -> u8
+pub(crate) fn channels_said(fourth: u8) -> u8
     ensures { result ≡ channels_said_lem fourth }
 {
     if fourth / 64 == 3 { 1 } else { 2 }
 }
 
 /// Whether the third byte of a header has the bit rate index of a frame.
-fn has_rate(third: u8) -> bool
+pub(crate) fn has_rate(third: u8) -> bool
     ensures { result ≡ has_rate_lem third }
 {
     third / 16 != 0 && third / 16 != 15

@@ -23,19 +23,22 @@ pub(crate) enum Role {
     Later(Class),
 }
 
-/// The check word that is right for the protected frame with which these bytes begin.
-fn right_word(header: &Header, bytes: &[u8]) -> u16
-    requires protected { header.now.protected ≡ true }
-    requires own { header_front bytes.now ≡ Ok header.now }
-    requires room { 6 + side_size_of (class_of header.now) ≤ length bytes.now }
-    ensures { result ≡ word_right header.now bytes.now }
+/// The check word that is right for the protected frame with which these bytes begin, whose side information ends at byte
+/// `side_end`.
+// Few frames are protected: it is apart, and takes no header, which a walk over the others then needn't lay down in memory.
+#[inline(never)]
+fn right_word(side_end: usize, bytes: &[u8]) -> u16
+    requires some { 6 ≤ side_end }
+    requires room { side_end ≤ length bytes.now }
+    ensures { (h : HeaderFields) → header_front bytes.now ≡ Ok h → h.protected ≡ true
+        → side_end ≡ 6 + side_size_of (class_of h) → result ≡ word_right h bytes.now }
 {
-    let side_end = 6 + header.class().side_size() as usize;
     check_word_of_bytes(&bytes[..4], &bytes[6..side_end])
 }
 
 /// Whether the frame with which these bytes begin has no check word, or the right one.
-fn has_right_word(header: &Header, bytes: &[u8]) -> bool
+#[inline(always)]
+pub(crate) fn has_right_word(header: &Header, bytes: &[u8]) -> bool
     requires own { header_front bytes.now ≡ Ok header.now }
     requires room { ReachArea header.now bytes.now }
     ensures { result ≡ has_right_word_lem header.now bytes.now }
@@ -43,7 +46,8 @@ fn has_right_word(header: &Header, bytes: &[u8]) -> bool
     if !header.protected {
         return true;
     }
-    word_said(bytes) == right_word(header, bytes)
+    let side_end = 6 + header.class().side_size() as usize;
+    word_said(bytes) == right_word(side_end, bytes)
 }
 
 /// The frame that the item at the offset is.

@@ -9,7 +9,7 @@ use Rattle.outside.specs.Files.{Contents, Files, Holds, IsThere, IsMissing, Told
 use Rattle.outside.specs.Counts.{Counts, NoneFell}
 use Rattle.outside.proofs.FilesLaws.{there_holds}
 use Rattle.sync_survey.specs.declared.places.PlacedFrame.{PlacedFrame}
-use Rattle.sync_survey.specs.declared.rows.Row.{Row}
+use Rattle.sync_survey.specs.Row.{Row}
 use Rattle.sync_survey.specs.declared.survey_fault.SurveyFault.{SurveyFault}
 use Rattle.sync_survey.specs.declared.survey_fault.SurveyFault.TheVariants.{Absent, TooLong, Read, Shrunk, Memory as NoRoom, NoFrame, LostSync, Truncated, FreeFormat, Mixed, CheckWord, BackPointer, Overlap, Overrun, TooManyFrames}
 use Rattle.sync_survey.specs.Start.{front_end_of}

@@ -11,7 +11,7 @@ use Rattle.sync_survey.specs.declared.items.Item.TheVariants.{Frame, Free, Block
 use Rattle.sync_survey.specs.declared.places.Head.{Head}
 use Rattle.sync_survey.specs.declared.places.Piece.{Piece}
 use Rattle.sync_survey.specs.declared.places.PlacedFrame.{PlacedFrame}
-use Rattle.sync_survey.specs.declared.rows.Row.{Row}
+use Rattle.sync_survey.specs.Row.{Row}
 use Rattle.sync_survey.specs.declared.rows.Before.{Before}
 use Rattle.sync_survey.specs.declared.runs.Part.TheVariants.{Front, Stream}
 use Rattle.sync_survey.specs.Runs.{frame_as, run, blocks_of}

@@ -6,7 +6,7 @@ use Rattle.std.proofs.lemmas.List.{length-map}
 use Rattle.frame_header.specs.Tables.{class_of, length_of}
 use Rattle.offset_order.specs.Order.{RisesBy, merged_by}
 use Rattle.offset_order.proofs.OrderLaws.{rises_from, ordered_both}
-use Rattle.sync_survey.specs.declared.rows.Row.{Row}
+use Rattle.sync_survey.specs.Row.{Row}
 use Rattle.sync_survey.specs.Survey.{AreLaid}
 use Rattle.salvage.specs.declared.gap.Gap.{Gap}
 use Rattle.salvage.specs.declared.mended.Emptied.{Emptied}

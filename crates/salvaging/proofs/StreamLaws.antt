@@ -5,7 +5,7 @@ use Rattle.std.specs.List.{enumerate_from}
 use Rattle.side_info.specs.declared.side.Side.{Side}
 use Rattle.side_info.specs.Side.{no_side}
 use Rattle.sync_survey.specs.declared.places.Head.{Head}
-use Rattle.sync_survey.specs.declared.rows.Row.{Row}
+use Rattle.sync_survey.specs.Row.{Row}
 use Rattle.sync_survey.specs.MainData.{place, start_of_data, side_of, no_slot, area_bytes, head_bytes, main_bytes, payload_at, parts_of, part_lengths, StreamFrame, stream_frame, stream_frames}
 use Rattle.sync_survey.specs.Faults.{SurveyFields, stream_of_survey, HoldsStream}
 use Rattle.sync_survey.proofs.SurveyParts.{stream-length}

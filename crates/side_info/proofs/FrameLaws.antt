@@ -105,31 +105,6 @@ pub frame_with-unprotected : (h : HeaderFields) (s : Side) (frame : List ℕ) �
 unfolding frame_with overhead_of
 frame_with-unprotected h s frame is = rw is refl
 
--- a check word was put after the header, and then the side information after it
-put_both : (frame word part : List ℕ) (size : ℕ) → 6 ≤ length frame → length word ≡ 2
-    → take 6 (take 4 frame ++ (word ++ drop 6 frame)) ++ (part ++ drop (6 + size) (take 4 frame ++ (word ++ drop 6 frame))) ≡ take 4 frame ++ (word ++ (part ++ drop (6 + size) frame))
-put_both frame word part size long two =
-    let front = take 4 frame ++ word in
-    let put = take 4 frame ++ (word ++ drop 6 frame) in
-    let six : length front ≡ 6 = omega (arith, two, long, length-append (take 4 frame) word, length-take 4 frame) in
-    let regrouped : put ≡ front ++ drop 6 frame = sym (append_assoc (take 4 frame) word (drop 6 frame)) in
-    let taken : take 6 put ≡ front = ap (take 6) regrouped ∙ take_at front (drop 6 frame) 6 six in
-    let left : drop 6 put ≡ drop 6 frame = ap (drop 6) regrouped ∙ drop_at front (drop 6 frame) 6 six in
-    let rest : drop (6 + size) put ≡ drop (6 + size) frame = sym (drop-drop size 6 put) ∙ ap (drop size) left ∙ drop-drop size 6 frame in
-    ap₂ (λ (xs ys : List ℕ). xs ++ (part ++ ys)) taken rest ∙ append_assoc (take 4 frame) word (part ++ drop (6 + size) frame)
-
-pub put_protected : (h : HeaderFields) (s : Side) (frame put new : List ℕ) → h.protected ≡ true → HasRoom h frame → put ≡ take 4 frame ++ (bytes (bits_of 16 (check_word_of h s)) ++ drop 6 frame)
-    → new ≡ take 6 put ++ (bytes (side_bits (class_of h) s) ++ drop (6 + side_size_of (class_of h)) put) → new ≡ frame_with h s frame
-put_protected h s frame put new is room first second =
-    let long = room-protected h frame is room in
-    let size = side_size_of (class_of h) in
-    let word = bytes (bits_of 16 (check_word_of h s)) in
-    let part = bytes (side_bits (class_of h) s) in
-    second
-    ∙ ap (λ (l : List ℕ). take 6 l ++ (part ++ drop (6 + size) l)) first
-    ∙ put_both frame word part size long (length-word (check_word_of h s))
-    ∙ sym (frame_with-protected h s frame is)
-
 pub length-word_part : (h : HeaderFields) (s : Side) (b : Bool) → length (cond b (bytes (bits_of 16 (check_word_of h s))) []) + 4 ≡ side_place b
 length-word_part h s true = ap (λ n. n + 4) (length-word (check_word_of h s))
 length-word_part h s false = refl

@@ -7,3 +7,4 @@ mod DivisionLaws
 mod ReadLaws
 mod WriteLaws
 pub mod GainsLaws
+pub mod FrontLaws

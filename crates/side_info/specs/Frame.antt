@@ -4,6 +4,7 @@ use Rattle.std.specs.Prelude.{ℕ, ◌+◌, if◌then◌else◌, Bool, List, [],
 use Rattle.bit_fields.specs.Bits.{bits, bits_of, bytes, number}
 use Rattle.frame_header.specs.Fields.{HeaderFields}
 use Rattle.frame_header.specs.Tables.{class_of, side_size_of, overhead_of}
+use Rattle.frame_header.specs.HeaderBits.{header_bits}
 use Rattle.side_info.specs.declared.side.Side.{Side}
 use Rattle.side_info.specs.Side.{side_at, side_bits}
 use Rattle.side_info.specs.CheckWord.{check_word_of}
@@ -34,3 +35,8 @@ word_part h s = if h.protected then bytes (bits_of 16 (check_word_of h s)) else 
 -- the frame with this side information in place of its own, and with the check word that is right for it
 unfoldable pub frame_with : HeaderFields → Side → List ℕ → List ℕ
 frame_with h s frame = take 4 frame ++ (word_part h s ++ (bytes (side_bits (class_of h) s) ++ drop (overhead_of (class_of h) h.protected) frame))
+
+-- the front of a frame: the header, the check word of a protected frame, which is right for this header and this side information, and the
+-- side information
+unfoldable pub front_of : HeaderFields → Side → List ℕ
+front_of h s = bytes (header_bits h) ++ (word_part h s ++ bytes (side_bits (class_of h) s))

@@ -3,6 +3,8 @@ pub mod Side
 pub mod Parts
 pub mod CheckWord
 pub mod Frame
+pub mod FrameFields
+pub mod FrontBytes
 pub use Rattle.frame_header.specs.Fields
 pub use Rattle.frame_header.specs.Tables
 pub use Rattle.frame_header.specs.Reading

@@ -1,5 +1,5 @@
 //! Gains changed in place in a frame.
-ghost use Rattle.std.specs.Prelude.{◌≡◌, ℕ, ◌+◌, ◌*◌, ◌^◌, ◌≤◌, ◌++◌, List, [], length, take, drop};
+ghost use Rattle.std.specs.Prelude.{◌≡◌, ℕ, ◌+◌, ◌*◌, ◌^◌, ◌≤◌, ◌++◌, List, [], length, take, drop, slice_index_or};
 ghost use Rattle.bit_fields.specs.Bits.{bits, bits_of, bytes};
 ghost use Rattle.frame_header.specs.declared.version.Version.{Version};
 ghost use Rattle.frame_header.specs.Tables.{class_of, granules_of, side_size_of, overhead_of};
@@ -13,6 +13,7 @@ ghost use Rattle.side_info.specs.declared.side.Side.{Side};
 
 use crate::division::check_word_of_bytes;
 use crate::frame::{HEADER_SIZE, PROTECTED_SIZE, put_word};
+use crate::frame_front::FrameFront;
 use crate::granule::Granule;
 use crate::side::Side;
 use crate::widths::{front_size, granule_width};
@@ -73,8 +74,10 @@ fn put_second(pair: &[Granule; 2], version: Version, channels: u8, bytes: &mut [
 #[inline(always)]
 fn put_all(class: Class, side: &Side, bytes: &mut [u8])
     requires size { length bytes.old ≡ side_size_of class }
-    ensures { HasOtherGains (side_at class (bits bytes.old)) side.now
+    ensures put { HasOtherGains (side_at class (bits bytes.old)) side.now
         → bits bytes.new ≡ side_bits class side.now }
+    ensures first { length (slice_index_or side.now.granules 0 []) ≡ 2 }
+    ensures second { length (slice_index_or side.now.granules 1 []) ≡ 2 }
 {
     let begin = front_size(class.version, class.channels);
     let next = begin + granule_width(class.version) * usize::from(class.channels);
@@ -99,8 +102,10 @@ fn put_all(class: Class, side: &Side, bytes: &mut [u8])
 #[inline(always)]
 fn put_by_class(class: Class, side: &Side, bytes: &mut [u8])
     requires size { length bytes.old ≡ side_size_of class }
-    ensures { HasOtherGains (side_at class (bits bytes.old)) side.now →
+    ensures put { HasOtherGains (side_at class (bits bytes.old)) side.now →
         bits bytes.new ≡ side_bits class side.now }
+    ensures first { length (slice_index_or side.now.granules 0 []) ≡ 2 }
+    ensures second { length (slice_index_or side.now.granules 1 []) ≡ 2 }
 {
     match (class.version, class.channels) {
         (Version::One, 2) => {
@@ -145,24 +150,26 @@ fn put_right_word(header: &Header, frame: &mut [u8])
     put_word(word, frame);
 }
 
-/// Writes the gains of `side` into the frame with this header, each into its 8 bits, and into a protected
-/// frame the check word that is then right (ISO/IEC 11172-3 and 13818-3, 2.4.1.7 and 2.4.3.1). If the
-/// frame's own side information differs from `side` in gains alone, the frame then has `side`. The header,
-/// the area and bytes after the frame stay.
+/// Writes the gains of `side` into a frame of this class that has the header of `front`, each into its 8 bits, and into a
+/// protected frame the check word that is then right (ISO/IEC 11172-3 and 13818-3, 2.4.1.7 and 2.4.3.1). If the frame's own
+/// side information differs from `side` in gains alone, the frame then has `side`. The header, the area and bytes after the
+/// frame stay.
 #[inline(always)]
-pub fn put_gains(header: &Header, side: &Side, frame: &mut [u8])
-    requires { overhead_of (class_of header.now) header.now.protected ≤ length frame.old }
+pub fn put_gains(front: &FrameFront, class: Class, side: &Side, frame: &mut [u8])
+    requires class { class ≡ class_of front.now.header }
+    requires room { overhead_of (class_of front.now.header) front.now.header.protected
+        ≤ length frame.old }
     ensures length { length frame.new ≡ length frame.old }
     ensures header { take 4 frame.new ≡ take 4 frame.old }
-    ensures behind { drop (overhead_of (class_of header.now) header.now.protected) frame.new ≡ drop
-        (overhead_of (class_of header.now) header.now.protected) frame.old }
-    ensures gains { HasOtherGains (side_in header.now frame.old) side.now
-        → frame.new ≡ frame_with header.now side.now frame.old }
+    ensures behind { drop (overhead_of (class_of front.now.header) front.now.header.protected)
+        frame.new ≡ drop (overhead_of (class_of front.now.header) front.now.header.protected)
+        frame.old }
+    ensures gains { HasOtherGains (side_in front.now.header frame.old) side.now
+        → frame.new ≡ frame_with front.now.header side.now frame.old }
 {
-    let class = header.class();
-    if header.protected {
+    if front.protected() {
         put_at_place(class, side, PROTECTED_SIZE, frame);
-        put_right_word(header, frame);
+        put_right_word(&front.header(), frame);
     } else {
         put_at_place(class, side, HEADER_SIZE, frame);
     }

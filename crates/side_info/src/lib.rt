@@ -4,6 +4,7 @@
 mod division;
 mod fitting;
 mod frame;
+mod frame_front;
 mod front;
 mod gains;
 mod granule;
@@ -13,7 +14,8 @@ mod widths;
 mod writing;
 
 pub use division::{check_word, check_word_of_bytes, word_of_bytes};
-pub use frame::{put_side, read_side, side_of_frame, word_said};
+pub use frame::word_said;
+pub use frame_front::{Extent, FrameFront};
 pub use gains::put_gains;
 pub use granule::{Granule, NO_GRANULE};
 pub use side::Side;

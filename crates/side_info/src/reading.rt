@@ -13,7 +13,7 @@ use bit_fields::number_at;
 use frame_header::Version;
 
 /// The fields before the granules.
-#[inline]
+#[inline(always)]
 pub(crate) fn read_front(version: Version, channels: u8, bytes: &[u8]) -> Front
     requires enough { front_size_lem version channels ≤ 8 * length bytes.now }
     requires short { length bytes.now ≤ 2 ^ 28 }
@@ -29,7 +29,7 @@ pub(crate) fn read_front(version: Version, channels: u8, bytes: &[u8]) -> Front
 
 /// The fields before the granules, by their widths in bits: of main_data_begin, of the private bits and of
 /// the scfsi of each channel.
-#[inline]
+#[inline(always)]
 fn front_with(bytes: &[u8], begin: u32, private_bits: u32, first: u32, second: u32) -> Front
     requires begin { begin ≤ 9 }
     requires private_bits { private_bits ≤ 5 }
@@ -54,7 +54,7 @@ fn front_with(bytes: &[u8], begin: u32, private_bits: u32, first: u32, second: u
 }
 
 /// Reads the granule and channel whose side information begins at bit `at`.
-#[inline]
+#[inline(always)]
 fn read_granule(version: Version, bytes: &[u8], at: usize) -> Granule
     requires enough { at + granule_size version ≤ 8 * length bytes.now }
     requires short { length bytes.now ≤ 2 ^ 28 }
@@ -83,7 +83,7 @@ fn read_granule(version: Version, bytes: &[u8], at: usize) -> Granule
 
 /// Reads the channels of the granule whose side information begins at bit `at` into the pair.
 // Each field is stored as it is read, so that few of them wait in registers.
-#[inline]
+#[inline(always)]
 pub(crate) fn read_pair(
     version: Version,
     channels: u8,
@@ -106,7 +106,7 @@ pub(crate) fn read_pair(
 }
 
 /// Reads the channels of the second granule into the pair, where the version has one.
-#[inline]
+#[inline(always)]
 pub(crate) fn read_second(
     version: Version,
     channels: u8,

@@ -7,7 +7,7 @@ ghost use Rattle.frame_header.specs.Tables.{side_size_of};
 use frame_header::Version;
 
 /// How many bits scalefac_compress has.
-#[inline]
+#[inline(always)]
 pub(crate) fn compress_width(version: Version) -> u32
     ensures width { result ≡ compress_width_lem version }
     ensures most { result ≤ 9 }
@@ -19,7 +19,7 @@ pub(crate) fn compress_width(version: Version) -> u32
 }
 
 /// How many bits preflag has; MPEG-1 alone has it.
-#[inline]
+#[inline(always)]
 pub(crate) fn preflag_width(version: Version) -> u32
     ensures width { result ≡ preflag_width_lem version }
     ensures most { result ≤ 1 }
@@ -28,7 +28,7 @@ pub(crate) fn preflag_width(version: Version) -> u32
 }
 
 /// How many bits one granule and channel has.
-#[inline]
+#[inline(always)]
 pub(crate) fn granule_width(version: Version) -> usize
     ensures { result ≡ granule_size version }
 {
@@ -39,7 +39,7 @@ pub(crate) fn granule_width(version: Version) -> usize
 }
 
 /// How many bits the fields before the granules have.
-#[inline]
+#[inline(always)]
 pub(crate) fn front_size(version: Version, channels: u8) -> usize
     ensures { result ≡ front_size_lem version channels }
 {
@@ -52,7 +52,7 @@ pub(crate) fn front_size(version: Version, channels: u8) -> usize
 }
 
 /// The length of the side information in bytes.
-#[inline]
+#[inline(always)]
 #[tactic(auto, unfolding(frame_header::specs::Tables::side_size_of))]
 pub(crate) fn side_size(version: Version, channels: u8) -> usize
     ensures { result ≡ side_size_of (class_with version 0 channels) }

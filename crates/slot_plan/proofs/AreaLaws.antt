@@ -29,10 +29,10 @@ greatest-last ns d some ascend =
           e ∙ ap (λ k. get_or ns k 0) (sym same) ∙ at
     ]
 
-area_at : (c : ClassFields) (p : Bool) (slots : List SlotFields) (i n : ℕ) (d : SlotFields) → i < length slots → get_or (areas_with c p slots) i n ≡ area_of c (get_or slots i d) p
-area_at c p slots i n d within = get_or-map (λ s. area_of c s p) slots i d n within
+pub area-at : (c : ClassFields) (p : Bool) (slots : List SlotFields) (i n : ℕ) (d : SlotFields) → i < length slots → get_or (areas_with c p slots) i n ≡ area_of c (get_or slots i d) p
+area-at c p slots i n d within = get_or-map (λ s. area_of c s p) slots i d n within
 
-areas-many : (c : ClassFields) (p : Bool) (slots : List SlotFields) → length (areas_with c p slots) ≡ length slots
+pub areas-many : (c : ClassFields) (p : Bool) (slots : List SlotFields) → length (areas_with c p slots) ≡ length slots
 areas-many c p slots = length-map slots (λ s. area_of c s p)
 
 -- the last slot has the greatest area
@@ -40,7 +40,7 @@ pub area-last : (c : ClassFields) (p : Bool) (slots : List SlotFields) (slot d :
 area-last c p slots slot d some ascend is =
     let many = areas-many c p slots in
     ap (λ s. area_of c s p) is
-    ∙ sym (area_at c p slots (length slots - 1) 0 d (omega arith))
+    ∙ sym (area-at c p slots (length slots - 1) 0 d (omega arith))
     ∙ ap (λ n. get_or (areas_with c p slots) (n - 1) 0) (sym many)
     ∙ greatest-last (areas_with c p slots) 0 (omega arith) ascend
 
@@ -51,18 +51,18 @@ slot-area c p (s ∷ slots) n has =
     let many = areas-many c p (s ∷ slots) in
     let slot : SlotFields = get_or (s ∷ slots) has.0 s in
     let within : has.0 < length (s ∷ slots) = omega (arith, has.1) in
-    (slot, (has.0, within, get_or_default (s ∷ slots) has.0 slot s within), sym (area_at c p (s ∷ slots) has.0 n s within) ∙ has.2)
+    (slot, (has.0, within, get_or_default (s ∷ slots) has.0 slot s within), sym (area-at c p (s ∷ slots) has.0 n s within) ∙ has.2)
 
 pub Contains-area : (c : ClassFields) (p : Bool) (slots : List SlotFields) (slot : SlotFields) → Contains slots slot → Contains (areas_with c p slots) (area_of c slot p)
 Contains-area c p slots slot has =
-    (has.0, omega (arith, has.1, areas-many c p slots), area_at c p slots has.0 (area_of c slot p) slot has.1 ∙ ap (λ s. area_of c s p) has.2)
+    (has.0, omega (arith, has.1, areas-many c p slots), area-at c p slots has.0 (area_of c slot p) slot has.1 ∙ ap (λ s. area_of c s p) has.2)
 
 -- if the areas ascend, slots with equal areas are equal
 pub one-slot : (c : ClassFields) (p : Bool) (slots : List SlotFields) (s t : SlotFields) → Ascend (areas_with c p slots) → Contains slots s → Contains slots t → area_of c s p ≡ area_of c t p → s ≡ t
 one-slot c p slots s t ascend first second same =
     let many = areas-many c p slots in
-    let here = area_at c p slots first.0 0 s first.1 ∙ ap (λ x. area_of c x p) first.2 in
-    let there = area_at c p slots second.0 0 t second.1 ∙ ap (λ x. area_of c x p) second.2 in
+    let here = area-at c p slots first.0 0 s first.1 ∙ ap (λ x. area_of c x p) first.2 in
+    let there = area-at c p slots second.0 0 t second.1 ∙ ap (λ x. area_of c x p) second.2 in
     elim (cases_lt first.0 second.0) as (λ _. s ≡ t) [
       | inl before ↦ let less = ascend first.0 second.0 0 before (omega (arith, many, second.1)) in absurd (omega (arith, less, here, there, same))
       | inr from ↦
@@ -90,8 +90,8 @@ least-first wanted c p slots i slot within is ascend small enough = record {
             elim (cases_lt i has.0) as (λ _. area_of c slot p ≤ area_of c other p) [
               | inl behind ↦
                   let less = ascend i has.0 0 behind (omega (arith, areas-many c p slots, has.1)) in
-                  let first = area_at c p slots i 0 slot within in
-                  let second = area_at c p slots has.0 0 other has.1 in
+                  let first = area-at c p slots i 0 slot within in
+                  let second = area-at c p slots has.0 0 other has.1 in
                   omega (arith, less, first, second, ap (λ s. area_of c s p) is, ap (λ s. area_of c s p) has.2)
               | inr at ↦
                   let same : i ≡ has.0 = omega arith in
@@ -109,7 +109,7 @@ some-enough wanted c p slots d some enough small =
     let first : ℕ = get_or (areas_with c p slots) 0 0 in
     let g = Contains-greatest (areas_with c p slots) first (0, omega arith, get_or_default (areas_with c p slots) 0 first 0 (omega arith)) in
     let within : g.0 < length slots = omega (arith, g.1) in
-    omega (arith, small g.0 within, area_at c p slots g.0 (greatest (areas_with c p slots)) d within, g.2)
+    omega (arith, small g.0 within, area-at c p slots g.0 (greatest (areas_with c p slots)) d within, g.2)
 
 -- ---- the slots of a lead-in
 pub lead-ascend : (c : ClassFields) (slots : List SlotFields) → slots ≡ all_slots → Ascend (areas_of c false) → Ascend (areas_with c false slots)

@@ -1,5 +1,7 @@
 pub mod ReserveLaws
 pub mod AreaLaws
+pub mod LengthLaws
+pub mod TableLaws
 pub mod HalvingLaws
 pub mod PartLaws
 pub mod PlacedLaws

@@ -5,7 +5,7 @@ use Rattle.std.proofs.lemmas.Bool.{cases_lt}
 use Rattle.std.proofs.Math.Seq.{drop-cons}
 use Rattle.std.specs.Prelude.{option_to_list, unwrap_or, slice_range}
 use Rattle.frame_header.specs.Fields.{SlotFields, ClassFields, HeaderFields}
-use Rattle.frame_header.specs.Tables.{class_of, window_of}
+use Rattle.frame_header.specs.Tables.{class_of, area_of, window_of}
 use Rattle.slot_plan.specs.declared.needs.Need.{Need}
 use Rattle.slot_plan.specs.declared.reserves.Reserves.{Reserves}
 use Rattle.slot_plan.specs.Layouts.{IsFeasible}
@@ -168,6 +168,36 @@ unfolding AreOfClass
 class-at class [] i d all within = absurd (omega arith)
 class-at class (need ∷ needs) zero d all within = all.0
 class-at class (need ∷ needs) (suc i) d all within = class-at class needs i d all.1 (omega arith)
+
+-- so it is of a need that the code reads, and of some of the needs
+pub same-class : (class : ClassFields) (needs : List Need) (i : ℕ) (need : Need) → AreOfClass class needs → i < length needs → need ≡ get_or needs i need → class ≡ class_of need.header
+same-class class needs i need all within is = sym (ap (λ n. class_of n.header) is ∙ class-at class needs i need all within)
+
+-- and the area of a slot is that in the class of the need
+pub area-in : (class : ClassFields) (needs : List Need) (i area : ℕ) (need opened : Need) (slot : SlotFields) → AreOfClass class needs → i < length needs → need ≡ get_or needs i need → opened ≡ need
+    → area ≡ area_of class slot opened.header.protected → area ≡ area_of (class_of need.header) slot need.header.protected
+area-in class needs i area need opened slot all within is same gives =
+    gives ∙ ap (λ n. area_of class slot n.header.protected) same ∙ ap (λ k. area_of k slot need.header.protected) (same-class class needs i need all within is)
+
+pub class-take : (class : ClassFields) (needs : List Need) (k : ℕ) → AreOfClass class needs → AreOfClass class (take k needs)
+unfolding AreOfClass
+class-take class needs zero all = tt
+class-take class [] (suc k) all = tt
+class-take class (need ∷ needs) (suc k) all = (all.0, class-take class needs k all.1)
+
+pub class-drop : (class : ClassFields) (needs : List Need) (k : ℕ) → AreOfClass class needs → AreOfClass class (drop k needs)
+unfolding AreOfClass
+class-drop class needs zero all = all
+class-drop class [] (suc k) all = all
+class-drop class (need ∷ needs) (suc k) all = class-drop class needs k all.1
+
+pub class-range : (class : ClassFields) (needs : List Need) (from to : ℕ) → AreOfClass class needs → AreOfClass class (slice_range needs from to)
+class-range class needs from to all = class-take class (drop from needs) (to - from) (class-drop class needs from all)
+
+pub one-class : (class : ClassFields) (needs : List Need) (d : Need) → AreOfOneClass needs → class ≡ class_of (get_or needs 0 d).header → AreOfClass class needs
+unfolding AreOfClass
+one-class class [] d all is = tt
+one-class class (first ∷ needs) d all is = (sym is, subst (λ c. AreOfClass c needs) (sym is) all)
 
 -- the window of a need is that of the first
 window-at : (needs : List Need) (i : ℕ) (d : Need) → AreOfOneClass needs → i < length needs → window_of (get_or needs i d).header.version ≡ window_in needs

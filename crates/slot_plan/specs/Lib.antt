@@ -1,3 +1,4 @@
+pub mod ClassLengths
 pub mod Laws
 pub mod Layouts
 pub mod LeastPlan
@@ -5,6 +6,7 @@ pub mod Lists
 pub mod Parts
 pub mod Plans
 pub mod Reserve
+pub mod SlotTables
 pub use Rattle.frame_header.specs.Fields
 pub use Rattle.frame_header.specs.Tables
 pub use Rattle.frame_header.specs.Slots

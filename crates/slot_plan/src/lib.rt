@@ -4,17 +4,21 @@
 
 mod ascending;
 mod laws;
+mod lengths;
 mod needs;
 mod placing;
 mod plans;
 mod policy;
 mod reserves;
 mod slots;
+mod table;
 
 pub use ascending::{largest_area_of, least_slot_among};
 pub use laws::{lead_ins_come_first, least_plan_is_the_plan, plans_are_unique};
+pub use lengths::Lengths;
 pub use needs::{Need, Placed, Plan};
 pub use plans::{end_of, plan};
 pub use policy::{Keep, Least, Policy};
 pub use reserves::Reserves;
 pub use slots::free_behind;
+pub use table::SlotTable;

@@ -4,18 +4,28 @@ ghost use Rattle.std.specs.Prelude.{◌≡◌, ◌+◌, ◌-◌, ◌<◌, ◌≤
 ghost use Rattle.frame_header.specs.Tables.{class_of, window_of};
 ghost use Rattle.frame_header.specs.Slots.{all_slots};
 ghost use Rattle.slot_plan.specs.Layouts.{IsFeasible};
-ghost use Rattle.slot_plan.specs.Parts.{item_of, open_of, own_frame, window_in};
+ghost use Rattle.slot_plan.specs.Parts.{item_of, open_of, own_frame, window_in, AreOfClass};
 ghost use Rattle.slot_plan.specs.Reserve.{greatest, needed, needed_behind, AllWithin, opens_in, IsLeastSlot, PlacesOn, PlacesPart};
+ghost use Rattle.slot_plan.specs.SlotTables.{IsTableOf};
 
 use crate::needs::{Need, Placed};
 use crate::policy::Policy;
 use crate::reserves::reserves_of;
 use crate::slots::{free_behind, least_slot_of};
+use crate::table::SlotTable;
 use std::alloc::{AllocError, Global};
 
 /// The frame in the slot with the smallest area that leaves `behind` bytes free after it, where `free` are
 /// free before it.
-fn place_frame<P: Policy>(need: &Need, behind: u16, free: u32, policy: &P) -> Placed
+fn place_frame<P: Policy>(
+    need: &Need,
+    behind: u16,
+    free: u32,
+    policy: &P,
+    table: &SlotTable,
+) -> Placed
+    requires class { table.now.lengths ≡ class_of need.now.header }
+    requires table { IsTableOf all_slots table.now }
     requires enough { (need.now.bytes + behind) - greatest
         (open_of (item_of (P.choices_of policy.now) need.now)).areas ≤ free }
     requires free { free ≤ 511 }
@@ -28,7 +38,7 @@ fn place_frame<P: Policy>(need: &Need, behind: u16, free: u32, policy: &P) -> Pl
     let wanted = (u64::from(need.bytes) + u64::from(behind)).saturating_sub(u64::from(free));
     Placed {
         lead_in: false,
-        slot: policy.least_slot(&need.header, wanted),
+        slot: policy.least_slot_by(&need.header, wanted, table),
         begin: free as u16,
     }
 }
@@ -63,9 +73,12 @@ fn place_frames<P: Policy>(
     free: u32,
     part: &[Need],
     policy: &P,
+    table: &SlotTable,
     behind: Vec<u16>,
     placed: &mut Vec<Placed>,
 ) -> Result<u32, AllocError>
+    requires class { AreOfClass table.now.lengths part.now }
+    requires table { IsTableOf all_slots table.now }
     requires window { window ≤ 511 }
     requires free { free ≤ window }
     requires enough { needed (opens_in (P.choices_of policy.now) part.now) ≤ free }
@@ -77,13 +90,13 @@ fn place_frames<P: Policy>(
 {
     let mut behind = behind;
     let mut free = free;
+    placed.reserve(part.len())?;
     for need in part {
         let wanted = behind.pop().unwrap_or(0);
-        let frame = place_frame(need, wanted, free, policy);
-        let class = need.header.class();
-        let area = class.area_of(frame.slot, need.header.protected);
+        let frame = place_frame(need, wanted, free, policy, table);
+        let area = table.lengths.area_of(frame.slot, need.header.protected);
         free = free_behind(window, free, need.bytes, area);
-        placed.push(frame)?;
+        placed.push_reserved(frame);
     }
     Ok(free)
 }
@@ -99,8 +112,11 @@ pub(crate) fn place_part<P: Policy>(
     free: u32,
     part: &[Need],
     policy: &P,
+    table: &SlotTable,
     placed: &mut Vec<Placed>,
 ) -> Result<u32, AllocError>
+    requires class { AreOfClass table.now.lengths part.now }
+    requires table { IsTableOf all_slots table.now }
     requires some { 0 < length part.now }
     requires window { window ≤ 511 }
     requires same { window ≡ window_in part.now }
@@ -110,9 +126,9 @@ pub(crate) fn place_part<P: Policy>(
     ensures placed { IfOk result (λ after. PlacesPart window
         (P.choices_of policy.now) part.now free after placed.old.items placed.new.items) }
 {
-    let reserves = reserves_of(alloc, window, part, policy)?;
+    let reserves = reserves_of(alloc, window, part, policy, table)?;
     if reserves.before == 0 {
-        return place_frames(window, free, part, policy, reserves.behind, placed);
+        return place_frames(window, free, part, policy, table, reserves.behind, placed);
     }
     let first = &part[0];
     let frame = lead_in(first, reserves.before, free);
@@ -120,5 +136,5 @@ pub(crate) fn place_part<P: Policy>(
     let area = class.area_of(frame.slot, false);
     let free = free_behind(window, free, 0, area);
     placed.push(frame)?;
-    place_frames(window, free, part, policy, reserves.behind, placed)
+    place_frames(window, free, part, policy, table, reserves.behind, placed)
 }

@@ -9,6 +9,7 @@ ghost use Rattle.slot_plan.specs.LeastPlan.{least_plan};
 use crate::needs::{Need, Plan};
 use crate::placing::place_part;
 use crate::policy::Policy;
+use crate::table::SlotTable;
 use std::alloc::{AllocError, Global};
 
 /// Where the part at place `at` ends: where the next begins, or after the last of `needs`.
@@ -56,13 +57,15 @@ pub fn plan<P: Policy>(
         → entries p ≡ least_plan (window_in needs.now) (P.choices_of policy.now)
         (parts_of needs.now parts.now)) }
 {
-    let window = needs[0].header.class().window();
+    let class = needs[0].header.class();
+    let window = class.window();
+    let table = SlotTable::of_class(alloc, class)?;
     // Each part has at most one lead-in.
     let mut placed = Vec::with_capacity(alloc, needs.len() + parts.len())?;
     let mut free = 0;
     for (at, from) in parts.iter().enumerate() {
         let part = &needs[*from as usize..end_of(needs, parts, at)];
-        free = place_part(alloc, window, free, part, policy, &mut placed)?;
+        free = place_part(alloc, window, free, part, policy, &table, &mut placed)?;
     }
     Ok(Plan { placed })
 }

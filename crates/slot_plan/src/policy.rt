@@ -5,9 +5,11 @@ ghost use Rattle.frame_header.specs.Tables.{class_of, area_of};
 ghost use Rattle.frame_header.specs.Slots.{all_slots};
 ghost use Rattle.slot_plan.specs.Parts.{areas_for};
 ghost use Rattle.slot_plan.specs.Reserve.{greatest, IsLeastFor};
+ghost use Rattle.slot_plan.specs.SlotTables.{IsTableOf};
 
 use crate::ascending::{largest_area_of, least_slot_among};
 use crate::slots::least_slot_of;
+use crate::table::SlotTable;
 use arrayvec::ArrayVec;
 use frame_header::{Header, Slot};
 
@@ -41,6 +43,25 @@ pub trait Policy {
         let choices = self.choices(header);
         least_slot_among(header.class(), header.protected, choices.as_slice(), wanted)
     }
+
+    /// `largest_area`, where the lengths of the header's class are known.
+    fn largest_area_by(&self, header: &Header, _table: &SlotTable) -> u32
+        requires class { _table.now.lengths ≡ class_of header.now }
+        ensures largest { result ≡ greatest (areas_for (choices_of self.now) header.now) }
+        ensures own { Contains (choices_of self.now header.now) header.now.slot }
+    {
+        self.largest_area(header)
+    }
+
+    /// `least_slot`, where there is a table of all slots of the header's class.
+    fn least_slot_by(&self, header: &Header, wanted: u64, _table: &SlotTable) -> Slot
+        requires class { _table.now.lengths ≡ class_of header.now }
+        requires table { IsTableOf all_slots _table.now }
+        requires enough { wanted ≤ greatest (areas_for (choices_of self.now) header.now) }
+        ensures { IsLeastFor wanted (choices_of self.now) header.now result }
+    {
+        self.least_slot(header, wanted)
+    }
 }
 
 /// Each frame keeps its own slot.
@@ -61,6 +82,14 @@ impl Policy for Keep {
     }
 
     fn least_slot(&self, header: &Header, _wanted: u64) -> Slot {
+        header.slot
+    }
+
+    fn largest_area_by(&self, header: &Header, table: &SlotTable) -> u32 {
+        table.lengths.area_of(header.slot, header.protected)
+    }
+
+    fn least_slot_by(&self, header: &Header, _wanted: u64, _table: &SlotTable) -> Slot {
         header.slot
     }
 }
@@ -90,5 +119,13 @@ impl Policy for Least {
 
     fn least_slot(&self, header: &Header, wanted: u64) -> Slot {
         least_slot_of(header.class(), header.protected, wanted)
+    }
+
+    fn largest_area_by(&self, header: &Header, table: &SlotTable) -> u32 {
+        table.lengths.area_of(LARGEST_SLOT, header.protected)
+    }
+
+    fn least_slot_by(&self, header: &Header, wanted: u64, table: &SlotTable) -> Slot {
+        table.least_slot(header.protected, wanted)
     }
 }

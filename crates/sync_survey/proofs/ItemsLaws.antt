@@ -13,6 +13,7 @@ use Rattle.tag_blocks.proofs.BlocksLaws.{block_front-least}
 use Rattle.sync_survey.specs.declared.items.Item.{Item}
 use Rattle.sync_survey.specs.declared.items.Item.TheVariants.{Frame, Block, Zero, Nothing}
 use Rattle.sync_survey.specs.declared.runs.Part.{Part}
+use Rattle.frame_header.specs.Reading.{header_at}
 use Rattle.sync_survey.specs.Items.{header_front, Stands, by_header, by_block, by_byte, item_front, item_at, size_of}
 use Rattle.sync_survey.specs.Runs.{belongs}
 
@@ -33,6 +34,15 @@ pub stands : (bytes : List ℕ) → Stands bytes (item_front bytes)
 unfolding item_front
 stands bytes = stands_by bytes (header_front bytes) (block_front bytes) refl refl
 
+-- bytes that begin with a header begin with its frame
+pub frame_of_header : (bytes : List ℕ) (h : HeaderFields) → header_front bytes ≡ Ok h → item_front bytes ≡ Frame h
+unfolding item_front
+frame_of_header bytes h e = ap (λ r. by_header r (by_block (block_front bytes) (by_byte bytes))) e
+
+-- an item that is a frame is one by the header with which the bytes begin
+pub header_stands : (bytes : List ℕ) (item : Item) (h : HeaderFields) → item ≡ item_front bytes → item ≡ Frame h → header_front bytes ≡ Ok h
+header_stands bytes item h front is = subst (Stands bytes) (sym front ∙ is) (stands bytes)
+
 pub stands-at : (file : List ℕ) (at : ℕ) (item : Item) → item_at file at ≡ item → Stands (drop at file) item
 unfolding item_at
 stands-at file at item is = subst (Stands (drop at file)) is (stands (drop at file))
@@ -42,6 +52,10 @@ stands-at file at item is = subst (Stands (drop at file)) is (stands (drop at fi
 header_cases : (b : Bool) (r : Result HeaderFields NotHeader) (h : HeaderFields) → cond b r (Err No) ≡ Ok h → r ≡ Ok h
 header_cases true r h e = e
 header_cases false r h e = absurd cc
+
+pub header_at-front : (bytes : List ℕ) (h : HeaderFields) → header_front bytes ≡ Ok h → header_at (take 4 bytes) ≡ Ok h
+unfolding header_front
+header_at-front bytes h e = header_cases _ _ h e
 
 pub header_front-in_range : (bytes : List ℕ) (h : HeaderFields) → header_front bytes ≡ Ok h → IsHeader h
 unfolding header_front

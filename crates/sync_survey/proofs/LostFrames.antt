@@ -4,7 +4,7 @@ use Rattle.std.specs.Prelude.{slice_get}
 use Rattle.std.proofs.lemmas.Bool.{eq-eqb, eqb-true, and_parts}
 use Rattle.side_info.specs.Side.{payload_bits, payload_bytes}
 use Rattle.sync_survey.specs.declared.places.Head.{Head}
-use Rattle.sync_survey.specs.declared.rows.Row.{Row}
+use Rattle.sync_survey.specs.Row.{Row}
 use Rattle.sync_survey.specs.MainData.{is_silent, end_of_data, points_too_far, lacks_data, end_behind, place, end_before, is_lost}
 use Rattle.sync_survey.specs.Laws.{AreSilentOrLost}
 

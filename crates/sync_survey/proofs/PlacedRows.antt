@@ -1,15 +1,14 @@
 -- The main data of the frames so far are where they may be, whatever is told of the file.
-use Rattle.std.proofs.Common.{◌≡◌, ℕ, zero, suc, ◌+◌, ◌<◌, ◌==◌, Bool, true, false, List, [], ◌∷◌, ◌++◌, length, length-append, take, map, Option, Some, None, Ok, refl, sym, ◌∙◌, ap, ap₂, subst, inl, inr, arith}
+use Rattle.std.proofs.Common.{◌≡◌, ℕ, zero, suc, ◌+◌, ◌<◌, Bool, true, false, List, [], ◌∷◌, ◌++◌, length, length-append, take, map, Option, Some, None, Ok, refl, sym, ◌∙◌, ap, ap₂, subst, inl, inr, arith}
 use Rattle.std.specs.Prelude.{not, slice_get, sum_by, option_map}
 use Rattle.std.specs.List.{enumerate_from, cons_option}
-use Rattle.std.proofs.lemmas.Bool.{eqb-true, cases_lt, and_parts}
+use Rattle.std.proofs.lemmas.Bool.{cases_lt}
 use Rattle.std.proofs.lemmas.Option.{slice_get_within}
 use Rattle.std.proofs.lemmas.List.Sums.{sum_by-cons}
-use Rattle.frame_header.specs.declared.version.Version.{Version}
-use Rattle.frame_header.specs.declared.version.Version.TheVariants.{One, Two, TwoFive}
-use Rattle.frame_header.specs.Fields.{ClassFields, IsClass, IsHeader, version_number, same_class}
+use Rattle.frame_header.specs.Fields.{ClassFields, IsClass, IsHeader, same_class}
 use Rattle.frame_header.specs.Tables.{class_of}
 use Rattle.frame_header.proofs.HeaderLaws.{IsClass-class_of}
+use Rattle.frame_header.proofs.ClassLaws.{same_class-is}
 use Rattle.side_info.specs.Side.{SideFits}
 use Rattle.side_info.proofs.FrameLaws.{fits-side_in}
 use Rattle.sync_survey.specs.declared.found.Found.{Found}
@@ -21,7 +20,7 @@ use Rattle.sync_survey.specs.declared.places.Head.{Head}
 use Rattle.sync_survey.specs.declared.places.PlacedFrame.{PlacedFrame}
 use Rattle.sync_survey.specs.declared.places.Start.{Start}
 use Rattle.sync_survey.specs.declared.rows.Before.{Before}
-use Rattle.sync_survey.specs.declared.rows.Row.{Row}
+use Rattle.sync_survey.specs.Row.{Row}
 use Rattle.sync_survey.specs.Items.{item_at, size_of}
 use Rattle.sync_survey.specs.Runs.{Placed, frame_as, frames_of, AreEndToEnd}
 use Rattle.sync_survey.specs.Looks.{KeepsFrame}
@@ -37,30 +36,6 @@ use Rattle.sync_survey.proofs.FaultsLaws.{none-of, get_more, get_next, place-mor
 use Rattle.sync_survey.proofs.SurveyParts.{frames_from, surveyed-parts, IsSound, faults-none_sound, sound-no_data, AreSound, all_faults-none_sound}
 
 -- ---- the same class
-
-version-same : (v w : Version) → version_number v ≡ version_number w → v ≡ w
-version-same One One e = refl
-version-same One Two e = absurd cc
-version-same One TwoFive e = absurd cc
-version-same Two One e = absurd cc
-version-same Two Two e = refl
-version-same Two TwoFive e = absurd cc
-version-same TwoFive One e = absurd cc
-version-same TwoFive Two e = absurd cc
-version-same TwoFive TwoFive e = refl
-
-class-parts : (c d : ClassFields) → c.version ≡ d.version → c.frequency_index ≡ d.frequency_index → c.channels ≡ d.channels → c ≡ d
-class-parts c d version frequency channels =
-    ap (λ v. record { version = v; frequency_index = c.frequency_index; channels = c.channels }) version
-    ∙ ap (λ n. record { version = d.version; frequency_index = n; channels = c.channels }) frequency
-    ∙ ap (λ n. record { version = d.version; frequency_index = d.frequency_index; channels = n }) channels
-
-pub same_class-is : (c d : ClassFields) → same_class c d ≡ true → c ≡ d
-unfolding same_class
-same_class-is c d e =
-    let all = and_parts _ (c.channels == d.channels) e in
-    let front = and_parts _ (c.frequency_index == d.frequency_index) all.0 in
-    class-parts c d (version-same c.version d.version (eqb-true _ _ front.0)) (eqb-true _ _ front.1) (eqb-true _ _ all.1)
 
 not_not : (b : Bool) → not b ≡ false → b ≡ true
 not_not true e = refl

@@ -1,5 +1,5 @@
 -- One item more is judged and kept.
-use Rattle.std.proofs.Common.{◌≡◌, ℕ, ◌+◌, ◌<◌, ◌≤◌, ◌==◌, ◌⊎◌, min, false, List, [], ◌∷◌, ◌++◌, length, drop, Option, Some, None, Err, refl, sym, ◌∙◌, ap, ap₂, subst, inl, inr, arith, append-nil, length-append}
+use Rattle.std.proofs.Common.{◌≡◌, ℕ, ◌+◌, ◌<◌, ◌≤◌, ◌==◌, min, false, List, [], ◌∷◌, ◌++◌, length, drop, Option, Some, None, Err, refl, sym, ◌∙◌, ap, ap₂, subst, inl, inr, arith, append-nil, length-append}
 use Rattle.std.specs.Prelude.{option_to_list}
 use Rattle.std.proofs.lemmas.Bool.{true≢false, eq-eqb, cases_lt}
 use Rattle.frame_header.specs.Fields.{HeaderFields, ClassFields, IsHeader}
@@ -15,13 +15,12 @@ use Rattle.sync_survey.specs.declared.items.Item.TheVariants.{Frame, Free, Block
 use Rattle.sync_survey.specs.declared.places.Piece.{Piece}
 use Rattle.sync_survey.specs.declared.places.Head.{Head}
 use Rattle.sync_survey.specs.declared.places.Start.{Start}
-use Rattle.sync_survey.specs.declared.rows.Row.{Row}
+use Rattle.sync_survey.specs.Row.{Row}
 use Rattle.sync_survey.specs.declared.runs.Part.TheVariants.{Stream}
 use Rattle.sync_survey.specs.declared.survey_fault.SurveyFault.{SurveyFault}
-use Rattle.sync_survey.specs.declared.survey_fault.SurveyFault.TheVariants.{Memory}
 use Rattle.sync_survey.specs.Items.{Stands, item_front, size_of}
 use Rattle.sync_survey.specs.Runs.{run, frame_as, block_as, frames_of, blocks_of}
-use Rattle.sync_survey.specs.Looks.{look_size, Shows, Passes, KeepsFrame, KeepsBlocks, Keeps, IsFrameFault}
+use Rattle.sync_survey.specs.Looks.{look_size, Shows, Passes, KeepsFrame, KeepsBlocks, Keeps, IsFrameFault, PassesFault, StopsThere, IsNotPassed}
 use Rattle.sync_survey.specs.MainData.{row_in, row_of, own_area, lacks_data, end_behind, marked_row, marked}
 use Rattle.sync_survey.specs.Faults.{faults_at, first_of, class_from, surveyed}
 use Rattle.sync_survey.specs.Kinds.{RefusesRightly}
@@ -221,13 +220,15 @@ few_more class allowed at front old new _ keeps few = omega (arith, ap length ke
 
 -- ---- the refusal of one item
 
-pub keep_refusal : (name : List ℕ) (files : Files) (allowed : ℕ) (before after : Counts) (size : ℕ) (fault : SurveyFault) (class : ClassFields) (at : ℕ) (item : Item) (front : List ℕ) (old : Found) → HasLength files name size → after ≡ before
-    → ((bytes : List ℕ) → Holds files name bytes → IsFrameFault class allowed at item front old fault → surveyed bytes allowed ≡ Err fault) → (fault ≡ Memory) ⊎ IsFrameFault class allowed at item front old fault
-    → IsRefusal name files allowed before after fault
-keep_refusal name files allowed before after size fault class at item front old known same refuses (inl memory) =
+pub pass_refusal : (name : List ℕ) (files : Files) (allowed : ℕ) (before after : Counts) (size : ℕ) (fault : SurveyFault) (class : ClassFields) (at : ℕ) (bytes : List ℕ) (left : ℕ) (old : Found) → HasLength files name size → after ≡ before
+    → ((file : List ℕ) → Holds files name file → PassesFault class allowed at bytes left old fault → surveyed file allowed ≡ Err fault) → ((file : List ℕ) → Holds files name file → StopsThere at bytes left fault → surveyed file allowed ≡ Err fault)
+    → IsNotPassed class allowed at bytes left old fault → IsRefusal name files allowed before after fault
+pass_refusal name files allowed before after size fault class at bytes left old known same faulty stops (inl memory) =
     subst (IsRefusal name files allowed before after) (sym memory) (memory_refusal name files allowed before after size known same)
-keep_refusal name files allowed before after size fault class at item front old known same refuses (inr is) =
-    bytes_refusal name files allowed before after size fault known same (fault_rightly class allowed at item front old fault is) (λ bytes holds. refuses bytes holds is)
+pass_refusal name files allowed before after size fault class at bytes left old known same faulty stops (inr (inl is)) =
+    bytes_refusal name files allowed before after size fault known same (fault_rightly class allowed at (item_front bytes) bytes old fault is.faulty) (λ file holds. faulty file holds is)
+pass_refusal name files allowed before after size fault class at bytes left old known same faulty stops (inr (inr is)) =
+    bytes_refusal name files allowed before after size fault known same is.rightly (λ file holds. stops file holds is)
 
 -- rows that follow each other end after they begin
 pub laid_end : (from : ℕ) (rows : List Row) (to : ℕ) → AreLaid from rows to → from ≤ to

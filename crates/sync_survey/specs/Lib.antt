@@ -1,4 +1,5 @@
 -- What the contracts of this crate cite.
+pub mod Row
 pub mod Limits
 pub mod Items
 pub mod Runs

@@ -1,5 +1,5 @@
 -- What a look shows of a file.
-use Rattle.std.specs.Prelude.{◌≡◌, ℕ, ◌+◌, ◌-◌, ◌<◌, ◌≤◌, ◌==◌, List, [], ◌∷◌, ◌++◌, length, take, drop, Option, Some, None, option_to_list}
+use Rattle.std.specs.Prelude.{◌≡◌, ℕ, ◌+◌, ◌-◌, ◌<◌, ◌≤◌, ◌==◌, ◌⊎◌, List, [], ◌∷◌, ◌++◌, length, take, drop, Option, Some, None, option_to_list}
 use Rattle.std.specs.List.{prefix_len}
 use Rattle.frame_header.specs.Fields.{HeaderFields, ClassFields}
 use Rattle.frame_header.specs.Tables.{class_of, overhead_of}
@@ -9,15 +9,19 @@ use Rattle.sync_survey.specs.declared.found.Found.{Found}
 use Rattle.sync_survey.specs.declared.items.Item.{Item}
 use Rattle.sync_survey.specs.declared.items.Item.TheVariants.{Frame, Block, Zero}
 use Rattle.sync_survey.specs.declared.places.Piece.{Piece}
-use Rattle.sync_survey.specs.declared.rows.Row.{Row}
+use Rattle.sync_survey.specs.Row.{Row}
 use Rattle.sync_survey.specs.declared.rows.Before.{Before}
 use Rattle.sync_survey.specs.declared.rows.Behind.{Behind}
 use Rattle.sync_survey.specs.declared.survey_fault.SurveyFault.{SurveyFault}
+use Rattle.sync_survey.specs.declared.survey_fault.SurveyFault.TheVariants.{Memory}
 use Rattle.sync_survey.specs.Items.{size_of, item_front}
 use Rattle.sync_survey.specs.MainData.{row_in, own_area, lacks_data, end_behind}
 use Rattle.sync_survey.specs.Faults.{data_faults, later_faults, faults_at, first_of}
 use Rattle.sync_survey.specs.declared.runs.Part.{Part}
+use Rattle.sync_survey.specs.declared.runs.Part.TheVariants.{Stream}
 use Rattle.sync_survey.specs.declared.runs.Step.{Step}
+use Rattle.sync_survey.specs.Kinds.{RefusesRightly}
+use Rattle.sync_survey.specs.Walk.{fault_at}
 use Rattle.sync_survey.specs.Runs.{item_of, run, frame_as, block_as, frames_of, blocks_of}
 
 -- how many bytes a look shows, if the file has them: more than a frame and the 32 bytes after it, by which the next item is known
@@ -108,3 +112,30 @@ abbrev pub IsFrameFault : ClassFields → ℕ → ℕ → Item → List ℕ → 
 IsFrameFault class allowed offset (Frame h) bytes old fault =
     first_of (faults_at (word_said bytes) class allowed old.before.place old.before.ended (length old.rows.items) (row_in offset h bytes)) ≡ Some fault
 IsFrameFault class allowed offset _ bytes old fault = ⊥
+
+-- ---- an item that is passed
+
+-- A whole item is passed, by the bytes of a look and how many are left: so many bytes, and it is kept if it is a frame without fault or a
+-- block.
+pub record PassesItem (class : ClassFields) (allowed offset : ℕ) (bytes : List ℕ) (left : ℕ) (old new : Found) (size : ℕ) : Type 0 where
+  pub passes : (file : List ℕ) → Shows file offset bytes left → Passes Stream file offset (item_front bytes) size
+  pub front : PassesFront bytes left (record { item = item_front bytes; size = size })
+  pub keeps : Keeps class allowed offset (item_front bytes) bytes old new
+
+-- a frame is passed that has a fault
+pub record PassesFault (class : ClassFields) (allowed offset : ℕ) (bytes : List ℕ) (left : ℕ) (old : Found) (fault : SurveyFault) : Type 0 where
+  pub size : ℕ
+  pub passes : (file : List ℕ) → Shows file offset bytes left → Passes Stream file offset (item_front bytes) size
+  pub front : PassesFront bytes left (record { item = item_front bytes; size = size })
+  pub faulty : IsFrameFault class allowed offset (item_front bytes) bytes old fault
+
+-- no whole item of the stream is there
+pub record StopsThere (offset : ℕ) (bytes : List ℕ) (left : ℕ) (fault : SurveyFault) : Type 0 where
+  pub none : (file : List ℕ) → Shows file offset bytes left → item_of Stream file offset ≡ None
+  pub why : fault_at offset (item_front bytes) ≡ Some fault
+  pub rightly : RefusesRightly fault
+
+-- why an item isn't passed
+abbrev pub IsNotPassed : ClassFields → ℕ → ℕ → List ℕ → ℕ → Found → SurveyFault → Type 0
+IsNotPassed class allowed offset bytes left old fault =
+    (fault ≡ Memory) ⊎ (PassesFault class allowed offset bytes left old fault ⊎ StopsThere offset bytes left fault)

@@ -12,7 +12,7 @@ use Rattle.side_info.specs.Side.{no_side, payload_bits, payload_bytes, granules_
 use Rattle.side_info.specs.Frame.{side_in}
 use Rattle.sync_survey.specs.declared.places.PlacedFrame.{PlacedFrame}
 use Rattle.sync_survey.specs.declared.places.Head.{Head}
-use Rattle.sync_survey.specs.declared.rows.Row.{Row}
+use Rattle.sync_survey.specs.Row.{Row}
 
 -- ---- frames with their side information
 

@@ -13,28 +13,14 @@ ghost use Rattle.sync_survey.specs.Begun.{IsWalk};
 use crate::found::Found;
 use crate::fronts::pass_front;
 use crate::heads::{find_head, head_area, numbered_from};
-use crate::items::item_front;
 use crate::looks::{find_length, look};
 use crate::places::{Head, Piece, Start};
 use crate::rows::Before;
-use crate::runs::{Part, step_at};
 use crate::starts::find_start;
 use crate::survey_fault::SurveyFault;
 use crate::surveys::Survey;
 use outside::{Feed, Folder};
 use std::alloc::Global;
-
-/// Why the walk stops at an offset at which nothing of the stream begins whole. The bytes are those from
-/// there on, at least one.
-fn stop_fault(bytes: &[u8], at: u64) -> SurveyFault
-    requires { 0 < length bytes.now }
-    ensures fault { fault_at at (item_front_lem bytes.now) ≡ Some result }
-    ensures refused { RefusesRightly result }
-{
-    item_front(bytes)
-        .fault(at)
-        .unwrap_or(SurveyFault::LostSync(at))
-}
 
 /// What is known of a file before its frames are judged: its length in bytes, where its stream begins, its
 /// head, and the blocks before the first frame.
@@ -86,11 +72,7 @@ fn judge_frames<D: Folder>(
     };
     while at < size {
         let left = look(feed, folder, name, size, at)?;
-        let Some(step) = step_at(Part::Stream, feed.bytes(), left) else {
-            return Err(stop_fault(feed.bytes(), at));
-        };
-        found.keep(at, &step.item, feed.bytes(), class, allowed)?;
-        at += step.size;
+        at += found.pass(at, feed.bytes(), left, class, allowed)?;
     }
     if found.rows.is_empty() {
         return Err(SurveyFault::NoFrame(size));

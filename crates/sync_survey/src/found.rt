@@ -1,15 +1,16 @@
 //! What was found so far, and judged.
-ghost use Rattle.std.specs.Prelude.{◌≡◌, ◌⊎◌, ◌^◌, ◌≤◌, MatchResult};
+ghost use Rattle.std.specs.Prelude.{◌≡◌, ◌⊎◌, ◌^◌, ◌<◌, ◌≤◌, length, min, Ok, MatchResult};
 ghost use Rattle.frame_header.specs.Fields.{HeaderFields};
 ghost use Rattle.sync_survey.specs.Faults.{longest_file};
-ghost use Rattle.sync_survey.specs.Looks.{ReachArea, Keeps, IsFrameFault};
+ghost use Rattle.sync_survey.specs.Items.{header_front, item_front};
+ghost use Rattle.sync_survey.specs.Looks.{look_size, ReachArea, Keeps, IsFrameFault, PassesItem, IsNotPassed};
 
-use crate::items::{Item, is_same_class};
+use crate::items::{Item, header_of_class, is_same_class, stop_fault};
 use crate::places::Piece;
 use crate::rows::{Before, Row};
+use crate::runs::{Part, step_at};
 use crate::survey_fault::SurveyFault;
 use frame_header::{Class, Header};
-use side_info::Side;
 
 /// The frames that were judged and have no fault, the blocks that were met, and the areas so far.
 #[derive(Drop)]
@@ -35,6 +36,7 @@ impl Found {
         class: Class,
         allowed: u32,
     ) -> Result<(), SurveyFault>
+        requires heads { header_front bytes.now ≡ Ok header }
         requires room { ReachArea header bytes.now }
         requires early { offset ≤ longest_file }
         requires bound { self.old.before.place ≤ 2 ^ 62 }
@@ -47,17 +49,20 @@ impl Found {
             return Err(SurveyFault::Mixed(offset));
         }
         let count = self.rows.len();
-        // The row is read and judged where it stays, since copying it takes as long as reading it.
-        self.rows.push(Row {
-            offset: offset as u32,
-            header,
-            lost: false,
-            side: Side::empty(),
-        })?;
+        // The row is judged where it stays, so that it is copied once.
+        self.rows
+            .push(Row::read_in(class, offset as u32, &header, bytes))?;
         let row = &mut self.rows[count];
-        self.before = self
-            .before
-            .read_row(&header, row, bytes, count as u64, u64::from(allowed))?;
+        let behind = self.before.step(
+            class,
+            &header,
+            row,
+            bytes,
+            count as u64,
+            u64::from(allowed),
+        )?;
+        row.mark(behind.lost);
+        self.before = behind.before;
         Ok(())
     }
 
@@ -75,6 +80,7 @@ impl Found {
         class: Class,
         allowed: u32,
     ) -> Result<(), SurveyFault>
+        requires heads { item.now ≡ item_front bytes.now }
         requires room { (h : HeaderFields) → item.now ≡ Item.Frame h → ReachArea h bytes.now }
         requires early { offset ≤ longest_file }
         requires bound { self.old.before.place ≤ 2 ^ 62 }
@@ -89,5 +95,64 @@ impl Found {
             _ => {}
         }
         Ok(())
+    }
+
+    /// Passes the item of the stream at the offset, of which the bytes of a look there are these, and answers how many bytes
+    /// it has, or how many zero bytes were seen. `left` is how many bytes the file has from there on.
+    ///
+    /// # Errors
+    /// Why the walk stops there, where no whole item is there; else as those of `keep`.
+    #[inline(never)]
+    fn pass_other(
+        &mut self,
+        offset: u64,
+        bytes: &[u8],
+        left: u64,
+        class: Class,
+        allowed: u32,
+    ) -> Result<u64, SurveyFault>
+        requires many { length bytes.now ≡ min look_size left }
+        requires some { 0 < left }
+        requires early { offset ≤ longest_file }
+        requires bound { self.old.before.place ≤ 2 ^ 62 }
+        ensures { MatchResult result
+            (λ size. PassesItem class allowed offset bytes.now left self.old self.new size)
+            (λ fault. IsNotPassed class allowed offset bytes.now left self.old fault) }
+    {
+        let Some(step) = step_at(Part::Stream, bytes, left) else {
+            return Err(stop_fault(bytes, offset));
+        };
+        self.keep(offset, &step.item, bytes, class, allowed)?;
+        Ok(step.size)
+    }
+
+    /// The same, faster for a frame of the class.
+    // The walk is instantiated for each folder, and clang doesn't inline what has several callers. What is read in another way
+    // stays apart, so that no register has to hold either.
+    #[inline(always)]
+    pub(crate) fn pass(
+        &mut self,
+        offset: u64,
+        bytes: &[u8],
+        left: u64,
+        class: Class,
+        allowed: u32,
+    ) -> Result<u64, SurveyFault>
+        requires many { length bytes.now ≡ min look_size left }
+        requires some { 0 < left }
+        requires early { offset ≤ longest_file }
+        requires bound { self.old.before.place ≤ 2 ^ 62 }
+        ensures { MatchResult result
+            (λ size. PassesItem class allowed offset bytes.now left self.old self.new size)
+            (λ fault. IsNotPassed class allowed offset bytes.now left self.old fault) }
+    {
+        if let Some(header) = header_of_class(class, bytes) {
+            let size = u64::from(class.length_of(header.slot));
+            if size <= left {
+                self.judge(offset, header, bytes, class, allowed)?;
+                return Ok(size);
+            }
+        }
+        self.pass_other(offset, bytes, left, class, allowed)
     }
 }

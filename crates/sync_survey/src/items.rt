@@ -1,8 +1,10 @@
 //! What begins at an offset.
-ghost use Rattle.std.specs.Prelude.{◌≡◌, ◌≤◌};
+ghost use Rattle.std.specs.Prelude.{◌≡◌, ◌<◌, ◌≤◌, Some, length};
 ghost use Rattle.frame_header.specs.Fields.{HeaderFields};
+ghost use Rattle.frame_header.specs.Reading.{header_of_class as header_of_class_lem};
 ghost use Rattle.sync_survey.specs.Items.{header_front as header_front_lem, item_front as item_front_lem, size_of, same_class};
 ghost use Rattle.sync_survey.specs.Walk.{fault_at as fault_at_lem};
+ghost use Rattle.sync_survey.specs.Kinds.{RefusesRightly};
 
 use crate::survey_fault::SurveyFault;
 use frame_header::{Class, Header, NotHeader};
@@ -37,6 +39,18 @@ pub fn header_front(bytes: &[u8]) -> Result<Header, NotHeader>
         return Err(NotHeader::No);
     };
     Header::read([*a, *b, *c, *d])
+}
+
+/// The header with which the bytes begin, if it is of this class.
+#[inline(always)]
+#[tactic(auto, unfolding(crate::specs::Items::header_front))]
+pub fn header_of_class(class: Class, bytes: &[u8]) -> Option<Header>
+    ensures { result ≡ header_of_class_lem class (header_front_lem bytes.now) }
+{
+    let [a, b, c, d, ..] = bytes else {
+        return None;
+    };
+    Header::read_of(class, [*a, *b, *c, *d])
 }
 
 /// The item with which the bytes begin.
@@ -93,4 +107,16 @@ pub fn is_same_class(a: Class, b: Class) -> bool
     ensures { result ≡ same_class a b }
 {
     a.is_same(b)
+}
+
+/// Why the walk stops at an offset at which nothing of the stream begins whole. The bytes are those from
+/// there on, at least one.
+pub(crate) fn stop_fault(bytes: &[u8], at: u64) -> SurveyFault
+    requires { 0 < length bytes.now }
+    ensures fault { fault_at_lem at (item_front_lem bytes.now) ≡ Some result }
+    ensures refused { RefusesRightly result }
+{
+    item_front(bytes)
+        .fault(at)
+        .unwrap_or(SurveyFault::LostSync(at))
 }

@@ -19,7 +19,7 @@ mod surveys;
 pub use folders::survey;
 pub use fronts::pass_front;
 pub use heads::{find_head, head_area, head_in, numbered_from};
-pub use items::{Item, header_front, is_same_class, item_front};
+pub use items::{Item, header_front, header_of_class, is_same_class, item_front};
 pub use laws::{
     lost_frames_lead, one_item_stands, runs_are_only, starts_are_least, surveys_are_placed,
     surveys_hold_streams,

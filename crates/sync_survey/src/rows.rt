@@ -1,28 +1,131 @@
 //! The frames of a stream with their side information, and the faults of their main data.
-ghost use Rattle.std.specs.Prelude.{◌≡◌, ◌+◌, ◌^◌, ◌≤◌, false, Some, None, IfOk, IfErr, OnOk};
+ghost use Rattle.std.specs.Prelude.{◌≡◌, ◌+◌, ◌^◌, ◌≤◌, Some, None, Ok, IfOk, IfErr, OnOk};
 ghost use Rattle.frame_header.specs.Tables.{class_of};
-ghost use Rattle.side_info.specs.Side.{SideFits};
+ghost use Rattle.side_info.specs.Side.{payload_bits, payload_bytes, SideFits};
 ghost use Rattle.side_info.specs.Frame.{word_said as word_said_lem};
-ghost use Rattle.sync_survey.specs.MainData.{own_area, lacks_data, end_behind};
+ghost use Rattle.sync_survey.specs.MainData.{row_in, own_area, lacks_data};
 ghost use Rattle.sync_survey.specs.Faults.{word_faults, count_faults, first_of};
-ghost use Rattle.sync_survey.specs.Looks.{ReachArea, row_read, marked_by, data_fault, frame_fault, IsBehind};
+ghost use Rattle.sync_survey.specs.Items.{header_front};
+ghost use Rattle.sync_survey.specs.Looks.{ReachArea, data_fault, frame_fault, IsBehind};
 
 use crate::survey_fault::SurveyFault;
-use frame_header::Header;
-use side_info::{Side, check_word, read_side, word_said};
+use frame_header::{Class, Header};
+use side_info::{Extent, FrameFront, Side, word_said};
+use std::marker::Model;
 
-/// A frame of the stream: the offset of its header in bytes, its header, and its side information. By the
-/// order of its fields it takes 88 bytes.
+/// A frame of the stream: the offset of its header in bytes, its header and its side information as the bytes that stand
+/// in the file, and whether it is lost. It takes 44 bytes.
 #[derive(Clone, Copy, Debug, PartialEq, Eq)]
 pub struct Row {
-    /// Less than 2^30, since a longer file is refused.
-    pub offset: u32,
-    pub header: Header,
-    /// Whether the frame is lost: its main data begin before the stream, and every frame before it is
-    /// silent or lost. They were cut off with earlier frames, so no main data of it are there.
-    pub lost: bool,
-    /// What is in the file, also if the frame is lost.
-    pub side: Side,
+    offset: u32,
+    lost: bool,
+    front: FrameFront,
+}
+
+impl Model for Row {
+    ghost use Rattle.sync_survey.specs.Row.{Row};
+
+    ghost Value = { Row };
+
+    ghost view = { λ r. record { offset = r.offset; header = r.front.header; lost = r.lost; side = r.front.side } };
+
+    ghost inverse = { λ r. record { offset = r.offset; lost = r.lost; front = record { header = r.header; side = r.side } } };
+}
+
+impl Row {
+    /// The frame with this front at this offset, and whether it is lost.
+    #[inline(always)]
+    pub fn new(offset: u32, lost: bool, front: FrameFront) -> Row
+        ensures { result ≡ record { offset = offset; header = front.header; lost = lost; side = front.side } }
+    {
+        Row {
+            offset,
+            lost,
+            front,
+        }
+    }
+
+    /// The frame at this offset whose header is this, as if it weren't lost. The bytes begin with its own.
+    #[inline(always)]
+    pub fn read(offset: u32, header: &Header, bytes: &[u8]) -> Row
+        requires heads { header_front bytes.now ≡ Ok header.now }
+        requires room { ReachArea header.now bytes.now }
+        ensures row { result ≡ row_in offset header.now bytes.now }
+        ensures fits { SideFits (class_of header.now) result.side }
+    {
+        Row::read_in(header.class(), offset, header, bytes)
+    }
+
+    /// The same, where the class of the header is known.
+    #[inline(always)]
+    pub fn read_in(class: Class, offset: u32, header: &Header, bytes: &[u8]) -> Row
+        requires class { class ≡ class_of header.now }
+        requires heads { header_front bytes.now ≡ Ok header.now }
+        requires room { ReachArea header.now bytes.now }
+        ensures row { result ≡ row_in offset header.now bytes.now }
+        ensures fits { SideFits (class_of header.now) result.side }
+    {
+        Row::new(offset, false, FrameFront::read_in(class, header, bytes))
+    }
+
+    /// The offset of its header in bytes. Less than 2^30, since a longer file is refused.
+    #[inline(always)]
+    pub fn offset(&self) -> u32
+        ensures { result ≡ self.now.offset }
+    {
+        self.offset
+    }
+
+    /// The header.
+    #[inline(always)]
+    pub fn header(&self) -> Header
+        ensures { result ≡ self.now.header }
+    {
+        self.front.header()
+    }
+
+    /// Whether the frame is lost: its main data begin before the stream, and every frame before it is silent or lost. They
+    /// were cut off with earlier frames, so no main data of it are there.
+    #[inline(always)]
+    pub fn lost(&self) -> bool
+        ensures { result ≡ self.now.lost }
+    {
+        self.lost
+    }
+
+    /// The side information: what is in the file, also if the frame is lost.
+    #[inline(always)]
+    pub fn side(&self) -> Side
+        ensures side { result ≡ self.now.side }
+        ensures fits { SideFits (class_of self.now.header) self.now.side }
+    {
+        self.front.side()
+    }
+
+    /// The header and the side information as they stand in the file.
+    #[inline(always)]
+    pub fn front(&self) -> &FrameFront
+        ensures { result.now ≡ record { header = self.now.header; side = self.now.side } }
+    {
+        &self.front
+    }
+
+    /// Where its main data begin, and how long they are, as its side information says.
+    #[inline(always)]
+    pub fn extent(&self) -> Extent
+        ensures begin { result.begin ≡ self.now.side.main_data_begin }
+        ensures bits { result.bits ≡ payload_bits self.now.side }
+    {
+        self.front.extent()
+    }
+
+    /// Marks the frame as lost or not.
+    #[inline(always)]
+    pub fn mark(&mut self, lost: bool)
+        ensures { self.new ≡ record self.old { lost = lost } }
+    {
+        self.lost = lost;
+    }
 }
 
 /// The areas before a frame, the head's among them, and the main data in them.
@@ -43,16 +146,16 @@ pub struct Behind {
 }
 
 /// The fault of a protected frame's check word, if it isn't the right one.
-fn word_fault(row: &Row, bytes: &[u8]) -> Option<SurveyFault>
+fn word_fault(header: &Header, row: &Row, bytes: &[u8]) -> Option<SurveyFault>
+    requires same { header.now ≡ row.now.header }
     requires room { ReachArea row.now.header bytes.now }
-    requires fits { SideFits (class_of row.now.header) row.now.side }
     ensures { result ≡ first_of (word_faults (word_said_lem bytes.now) row.now) }
 {
-    if !row.header.protected {
+    if !header.protected {
         return None;
     }
     let said = word_said(bytes);
-    let right = check_word(&row.header, &row.side);
+    let right = row.front.right_word();
     if said == right {
         return None;
     }
@@ -73,26 +176,70 @@ fn count_fault(row: &Row, count: u64, allowed: u64) -> Option<SurveyFault>
 impl Before {
     /// Whether the frame is lost: its main data begin before the stream, and every frame before it is
     /// silent or lost.
-    fn is_lost(&self, row: &Row) -> bool
+    fn is_lost(&self, row: &Row, begin: u16) -> bool
+        requires { begin ≡ row.now.side.main_data_begin }
         ensures { result ≡ lacks_data self.now.place self.now.ended row.now }
     {
-        self.ended == 0 && self.place < u64::from(row.side.main_data_begin)
+        let _ = row;
+        self.ended == 0 && self.place < u64::from(begin)
     }
 
-    /// What is known after the frame, whose own area has `area` bytes.
+    /// What is known after the frame, which has this header.
     ///
     /// # Errors
     /// The first fault of its main data: `BackPointer`, `Overlap` or `Overrun`. A lost frame has none.
-    pub fn behind(&self, row: &Row, area: u32) -> Result<Behind, SurveyFault>
+    #[inline(always)]
+    pub fn behind(&self, header: &Header, row: &Row) -> Result<Behind, SurveyFault>
+        requires same { header.now ≡ row.now.header }
+        requires bound { self.now.place ≤ 2 ^ 62 }
+        ensures fault { IfErr result (λ f. data_fault self.now row.now ≡ Some f) }
+        ensures sound { OnOk result (data_fault self.now row.now ≡ None) }
+        ensures behind { IfOk result (IsBehind self.now.place self.now.ended row.now) }
+    {
+        self.behind_in(header.class(), header, row)
+    }
+
+    /// The same, where the class of the header is known.
+    ///
+    /// # Errors
+    /// As those of `behind`.
+    #[inline(always)]
+    #[tactic(auto, unfolding(side_info::specs::Side::payload_bytes))]
+    pub fn behind_in(&self, class: Class, header: &Header, row: &Row) -> Result<Behind, SurveyFault>
+        requires class { class ≡ class_of header.now }
+        requires same { header.now ≡ row.now.header }
+        requires bound { self.now.place ≤ 2 ^ 62 }
+        ensures fault { IfErr result (λ f. data_fault self.now row.now ≡ Some f) }
+        ensures sound { OnOk result (data_fault self.now row.now ≡ None) }
+        ensures behind { IfOk result (IsBehind self.now.place self.now.ended row.now) }
+    {
+        let extent = row.front.extent_in(class);
+        let area = class.area_of(header.slot, header.protected);
+        self.behind_extent(row, area, &extent, extent.bytes())
+    }
+
+    /// The same, by the length of the frame's own area in bytes, the extent of its main data and their length in bytes.
+    #[inline(always)]
+    fn behind_extent(
+        &self,
+        row: &Row,
+        area: u32,
+        extent: &Extent,
+        bytes: u32,
+    ) -> Result<Behind, SurveyFault>
         requires bound { self.now.place ≤ 2 ^ 62 }
         requires area { area ≡ own_area row.now.header }
         requires few { area ≤ 1441 }
+        requires begin { extent.now.begin ≡ row.now.side.main_data_begin }
+        requires bits { extent.now.bits ≡ payload_bits row.now.side }
+        requires bytes { bytes ≡ payload_bytes row.now.side }
         ensures fault { IfErr result (λ f. data_fault self.now row.now ≡ Some f) }
         ensures sound { OnOk result (data_fault self.now row.now ≡ None) }
         ensures behind { IfOk result (IsBehind self.now.place self.now.ended row.now) }
     {
         let place = self.place + u64::from(area);
-        if self.is_lost(row) {
+        let Extent { begin, bits } = *extent;
+        if self.is_lost(row, begin) {
             let ended = self.ended;
             return Ok(Behind {
                 lost: true,
@@ -100,7 +247,6 @@ impl Before {
             });
         }
         let offset = u64::from(row.offset);
-        let begin = row.side.main_data_begin;
         if self.place < u64::from(begin) {
             return Err(SurveyFault::BackPointer(offset, u32::from(begin), self.place));
         }
@@ -108,8 +254,7 @@ impl Before {
         if start < self.ended {
             return Err(SurveyFault::Overlap(offset));
         }
-        let bits = row.side.bits();
-        let end = start + u64::from(row.side.payload_bytes());
+        let end = start + u64::from(bytes);
         if place < end {
             let room = 8 * (u32::from(begin) + area);
             return Err(SurveyFault::Overrun(offset, bits, room));
@@ -121,72 +266,37 @@ impl Before {
         })
     }
 
-    /// What is known after a frame of the class, whose own area has `area` bytes, where `count` frames are
-    /// before it. The bytes begin with the frame's own.
+    /// What is known after a frame with this header, which is of this class, where `count` frames are before it. The bytes
+    /// begin with the frame's own.
     ///
     /// # Errors
     /// The first fault of the frame.
-    fn step(
+    #[inline(always)]
+    pub(crate) fn step(
         &self,
+        class: Class,
+        header: &Header,
         row: &Row,
-        area: u32,
         bytes: &[u8],
         count: u64,
         allowed: u64,
     ) -> Result<Behind, SurveyFault>
+        requires class { class ≡ class_of header.now }
+        requires same { header.now ≡ row.now.header }
         requires room { ReachArea row.now.header bytes.now }
-        requires fits { SideFits (class_of row.now.header) row.now.side }
         requires bound { self.now.place ≤ 2 ^ 62 }
-        requires area { area ≡ own_area row.now.header }
-        requires few { area ≤ 1441 }
         ensures fault { IfErr result (λ f. frame_fault bytes.now allowed self.now count
             row.now ≡ Some f) }
         ensures sound { OnOk result (frame_fault bytes.now allowed self.now count row.now ≡ None) }
         ensures behind { IfOk result (IsBehind self.now.place self.now.ended row.now) }
     {
-        if let Some(fault) = word_fault(row, bytes) {
+        if let Some(fault) = word_fault(header, row, bytes) {
             return Err(fault);
         }
-        let behind = self.behind(row, area)?;
+        let behind = self.behind_in(class, header, row)?;
         match count_fault(row, count, allowed) {
             Some(fault) => Err(fault),
             None => Ok(behind),
         }
-    }
-
-    /// Reads the side information of a frame of the class into its row, which has this header, and marks
-    /// the row if the frame is lost; answers the areas before the next frame. `count` frames are before it,
-    /// and the bytes begin with its own.
-    ///
-    /// # Errors
-    /// The first fault of the frame.
-    #[inline(always)]
-    pub(crate) fn read_row(
-        &self,
-        header: &Header,
-        row: &mut Row,
-        bytes: &[u8],
-        count: u64,
-        allowed: u64,
-    ) -> Result<Before, SurveyFault>
-        requires same { header.now ≡ row.old.header }
-        requires room { ReachArea row.old.header bytes.now }
-        requires bound { self.now.place ≤ 2 ^ 62 }
-        requires unmarked { row.old.lost ≡ false }
-        ensures fault { IfErr result (λ f. frame_fault bytes.now allowed self.now count
-            (row_read row.old bytes.now) ≡ Some f) }
-        ensures sound { OnOk result (frame_fault bytes.now allowed self.now count
-            (row_read row.old bytes.now) ≡ None) }
-        ensures row { OnOk result (row.new ≡ marked_by self.now (row_read row.old bytes.now)) }
-        ensures fits { SideFits (class_of row.old.header) row.new.side }
-        ensures place { IfOk result (λ b. b.place ≡ self.now.place + own_area row.old.header) }
-        ensures ended { IfOk result (λ b. b.ended ≡ end_behind self.now.place self.now.ended
-            (Some (row_read row.old bytes.now))) }
-    {
-        let area = header.area();
-        read_side(header, bytes, &mut row.side);
-        let behind = self.step(row, area, bytes, count, allowed)?;
-        row.lost = behind.lost;
-        Ok(behind.before)
     }
 }

@@ -1,7 +1,7 @@
 //! Items that follow end to end.
 ghost use Rattle.std.specs.Prelude.{◌≡◌, ℕ, List, ◌≤◌, ◌==◌, length, IfSome};
 ghost use Rattle.std.specs.List.{prefix_len};
-ghost use Rattle.sync_survey.specs.Items.{size_of};
+ghost use Rattle.sync_survey.specs.Items.{size_of, item_front as item_front_lem};
 ghost use Rattle.sync_survey.specs.Runs.{belongs as belongs_lem};
 ghost use Rattle.sync_survey.specs.Looks.{Shows, IsStep, PassesFront};
 

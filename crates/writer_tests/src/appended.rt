@@ -1,10 +1,10 @@
 //! Frames appended to the file `o`.
 
 use frame_header::Header;
-use frame_writer::{Frame, FrameQueue, Kept};
+use frame_writer::{Frame, FrameQueue};
 use outside::{Failed, Folder, WriteBuffer};
 use reservoir::Payload;
-use side_info::Side;
+use side_info::{FrameFront, Side};
 use std::alloc::{AllocError, Global};
 use std::process::Abort;
 
@@ -43,15 +43,10 @@ impl Appending {
         assert!(rt; queue.class().is_same(header.class()) && side.fits(header.class()));
         assert!(rt; queue.is_ready() && u32::from(side.main_data_begin) <= queue.reach());
         assert!(rt; bytes.len() <= 2048);
-        let payload = Payload::whole(bytes);
-        let kept = Kept {
-            header: *header,
-            side: *side,
-        };
-        let frame = Frame { kept, payload };
-        assert!(rt;
-            frame.payload.len() <= usize::from(side.main_data_begin) + header.area() as usize
-        );
+        let area = header.area();
+        assert!(rt; bytes.len() <= usize::from(side.main_data_begin) + area as usize);
+        let front = FrameFront::new(header, side);
+        let frame = Frame::with_area(&front, area, Payload::whole(bytes));
         folder.find("o")?;
         queue.frame(&frame, folder, "o", &mut self.unsent)
     }

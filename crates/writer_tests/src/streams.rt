@@ -80,10 +80,10 @@ fn file_around(alloc: Global, header: &Header, frames: &[u8]) -> Result<Vec<u8>,
 }
 
 fn is_row(row: &Row, offset: u32, begin: u16, bits: u32) -> bool {
-    row.offset == offset
-        && !row.lost
-        && row.side.main_data_begin == begin
-        && row.side.bits() == bits
+    row.offset() == offset
+        && !row.lost()
+        && row.side().main_data_begin == begin
+        && row.extent().bits == bits
 }
 
 fn has_rows(rows: &[Row]) -> bool {

@@ -401,9 +401,9 @@ struct Slow {
 static SLOW: [Slow; 4] = table! {
     Slow { trouble, status, line, written }
     (Trouble::Nothing, 0, "", 76_090)
-    (Trouble::Unread(70_000), 3, "quiet: read fault\n", 65_536)
-    (Trouble::Shorter(70_000), 3, "quiet: shrunk from 76097 to 70000\n", 65_536)
-    (Trouble::Unwritten(70_000), 3, "loud: write fault\n", 70_436)
+    (Trouble::Unread(70_000), 3, "quiet: read fault\n", 65_537)
+    (Trouble::Shorter(70_000), 3, "quiet: shrunk from 76097 to 70000\n", 65_537)
+    (Trouble::Unwritten(70_000), 3, "loud: write fault\n", 70_437)
 };
 
 /// Asserts how the words end, and that as many bytes were written as the case says, which are the first of these.

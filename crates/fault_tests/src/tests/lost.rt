@@ -38,7 +38,7 @@ static CASES: [Lost; 11] = table! {
 /// Whether these frames are lost, and no others.
 fn are_marked(survey: &Survey, lost: &[bool]) -> bool {
     let rows = survey.frames();
-    rows.len() == lost.len() && rows.iter().zip(lost).all(|(row, lost)| row.lost == *lost)
+    rows.len() == lost.len() && rows.iter().zip(lost).all(|(row, lost)| row.lost() == *lost)
 }
 
 /// Whether the survey of the file marks them.

@@ -30,7 +30,7 @@ fn has_frames(survey: &Survey, offsets: &[u64]) -> bool {
         && rows
             .iter()
             .zip(offsets)
-            .all(|(row, offset)| u64::from(row.offset) == *offset)
+            .all(|(row, offset)| u64::from(row.offset()) == *offset)
 }
 
 /// Whether the survey says this of the start.

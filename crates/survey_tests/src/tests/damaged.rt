@@ -240,8 +240,8 @@ fn read(alloc: Global, parts: &[Stretch]) -> Result<Result<Damaged, SurveyFault>
 
 fn same_rows(rows: &[Row], wanted: &[(u64, bool)]) -> bool {
     rows.len() == wanted.len()
-        && rows.iter().zip(wanted).all(|(row, (at, lost))| u64::from(row.offset) == *at
-            && row.lost == *lost)
+        && rows.iter().zip(wanted).all(|(row, (at, lost))| u64::from(row.offset()) == *at
+            && row.lost() == *lost)
 }
 
 fn same_head(head: Option<Head>, wanted: Option<u64>) -> bool {

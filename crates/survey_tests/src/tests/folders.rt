@@ -40,10 +40,10 @@ fn has_places(survey: &Survey) -> bool {
 }
 
 fn is_row(row: &Row, offset: u32, begin: u16, bits: u32) -> bool {
-    row.offset == offset
-        && row.header.bytes() == HEADER
-        && row.side.main_data_begin == begin
-        && row.side.bits() == bits
+    row.offset() == offset
+        && row.header().bytes() == HEADER
+        && row.side().main_data_begin == begin
+        && row.extent().bits == bits
 }
 
 fn has_frames(rows: &[Row]) -> bool {

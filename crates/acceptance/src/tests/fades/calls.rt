@@ -30,9 +30,9 @@ $ fade g o s
 fail Read 7
 $ fade g o s
 ! 3 g: read fault
-> o Z*157 fffb9000 00*63
+> o Z*314
 
-# 480 frames of 417 bytes: 200,160 bytes are written by 65,536.
+# 480 frames of 417 bytes: 200,160 bytes are written by the 157 frames that 65,536 hold whole.
 < g G*480
 < s '0_-5'
 room 200160

@@ -38,6 +38,13 @@ $ gain -s s -g -5 g o
 ! 3 o: write fault
 > o
 
+# What stands before the junk is written by itself.
+< g FILE
+fail Write 2
+$ gain -s s -g -5 g o
+! 3 o: write fault
+> o ID3V2_BLOCK 00*2
+
 # No more calls are made.
 
 < g FILE
@@ -56,7 +63,7 @@ $ gain -s s -g -5 g o
 > o LOWER_FILE
 
 < g FILE
-fail Write 2
+fail Write 3
 $ gain -s s -g -5 g o
 > o LOWER_FILE
 

@@ -3,7 +3,7 @@
 pub static ROWS: &str = "
 # frames/long
 
-# 480 frames of 417 bytes: 200,160 bytes are read twice and written once, by 65,536.
+# 480 frames of 417 bytes: 200,160 bytes, read twice by 65,536 and written once by the 157 frames that these hold whole.
 < g G*480
 room 200160
 $ gain -s s -g -5 g o

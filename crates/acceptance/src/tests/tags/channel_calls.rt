@@ -29,11 +29,11 @@ each Read 3 u: read fault
 each Create 1 o: write fault
 each Write 1 o: write fault
 
-# 480 frames of 417 bytes, read and written by 65,536.
+# 480 frames of 417 bytes, read by 65,536 and written by the 157 frames that these hold whole.
 < u G*480
 room 200160
 $ gain -s s -l 1 1 u o
 > o G_RIGHT_LOUDER*480
 each Read 8 after 65536 u: read fault
-each Write 4 after 196608 o: write fault
+each Write 4 after 196407 o: write fault
 ";

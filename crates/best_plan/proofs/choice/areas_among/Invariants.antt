@@ -6,7 +6,7 @@ use Rattle.best_plan.proofs.choice.areas_among.Given as goal
 
 abbrev pub invariant-loop-slot : goal.invariant-loop-slot
 invariant-loop-slot l = record {
-  items : l.areas.items ≡ map (λ s. area_of l.class s l.protected) (take l.slot-index l.slots);
+  items : l.areas.items ≡ map (λ s. area_of l.lengths s l.protected) (take l.slot-index l.slots);
   count : array_vec_len l.areas ≡ l.slot-index;
   most : All (λ n. n ≤ 1441) l.areas.items;
 }

@@ -4,12 +4,21 @@ use Rattle.slot_plan.specs.Parts.{own_frame}
 use Rattle.slot_plan.specs.Layouts.{IsFeasible}
 use Rattle.slot_plan.specs.Plans.{entries}
 use Rattle.slot_plan.specs.Reserve.{free_behind}
-use Rattle.slot_plan.proofs.PartLaws.{window-first}
+use Rattle.slot_plan.proofs.PartLaws.{one-class, window-first}
 use Rattle.best_plan.specs.Best.{IsBestPlan}
 use Rattle.best_plan.specs.Table.{IsLeadInBy}
 use Rattle.best_plan.proofs.WalkLaws.{table-width}
 use Rattle.best_plan.proofs.PlanLaws.{whole-sum, plan-without, plan-behind, first-sum}
 use Rattle.best_plan.proofs.shortest.best.Goals as goal
+
+pub table_of-requires-clause-class : goal.table_of-requires-clause-class
+table_of-requires-clause-class g c = one-class c.new-lengths.result c.args.needs.now c.index-needs-0.result c.requires.class (c.new-lengths.ensures.class ∙ c.class-class.ensures)
+
+pub walk-requires-clause-class : goal.walk-requires-clause-class
+walk-requires-clause-class g c = one-class c.new-lengths.result c.args.needs.now c.index-needs-0.result c.requires.class (c.new-lengths.ensures.class ∙ c.class-class.ensures)
+
+pub walk-requires-2-clause-class : goal.walk-requires-2-clause-class
+walk-requires-2-clause-class g c = one-class c.new-lengths.result c.args.needs.now c.index-needs-0.result c.requires.class (c.new-lengths.ensures.class ∙ c.class-class.ensures)
 
 pub index-requires : goal.index-requires
 index-requires g c = omega (arith, table-width c.window-window.result (g.P.Policy.choices_of c.args.policy.now) c.args.needs.now c.in_ok-table.table.sums.items c.in_ok-table.table.places.items c.in_ok-table.ensures)

@@ -1,5 +1,6 @@
 -- One frame more, from the last to the first.
 use Rattle.std.proofs.Common.{◌≡◌, ◌+◌, ◌-◌, ◌≤◌, ◌∙◌, drop, All, subst, arith}
+use Rattle.slot_plan.proofs.PartLaws.{same-class}
 use Rattle.best_plan.specs.Rows.{AppendsRow}
 use Rattle.best_plan.specs.Table.{IsTable}
 use Rattle.best_plan.proofs.WalkLaws.{table-none, table-more, table-width}
@@ -10,6 +11,11 @@ loop-i-init g c = record {
   table = table-none c.args.window (g.P.Policy.choices_of c.args.policy.now) c.args.needs.now c.in_ok-by_free.by_free.items c.in_ok-places.places.items c.in_ok-by_free.ensures c.in_ok-places.ensures.items;
   even = λ is. absurd cc;
   near = tt;
+}
+
+pub areas_of-areas-requires : goal.areas_of-areas-requires
+areas_of-areas-requires g c = record {
+  class = same-class c.args.lengths.now c.args.needs.now (c.loop-i.i - 1) c.index-needs-i.result c.requires.class (omega (arith, c.loop-i-test.true, c.loop-i.auto.i)) c.index-needs-i.is;
 }
 
 pub append_frame-requires-clause-width : goal.append_frame-requires-clause-width

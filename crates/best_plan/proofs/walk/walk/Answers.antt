@@ -2,6 +2,7 @@
 use Rattle.std.proofs.Common.{◌≡◌, ◌+◌, ◌-◌, length, take, drop, ap, ◌∙◌, arith}
 use Rattle.slot_plan.specs.Parts.{area_in, item_of}
 use Rattle.slot_plan.specs.Reserve.{free_behind}
+use Rattle.slot_plan.proofs.PartLaws.{same-class}
 use Rattle.best_plan.proofs.WalkLaws.{walk-open, walk-next, goes-begun, goes-more, goes-all, place-is, area-is}
 use Rattle.best_plan.proofs.walk.walk.Goals as goal
 
@@ -27,6 +28,9 @@ frame_at-frame-requires-clause-place g c =
     let front = walk-open c.args.needs.now c.loop-need.need-index c.need-item.result c.loop-need.invariant.free c.loop-need-test.true c.need-item.is c.loop-need.invariant.can in
     let place = place-is front c.loop-need.invariant.free c.len.result c.index-place.result.now (omega (arith, c.len.ensures)) c.index-place.ensures in
     omega (arith, front.choice.within front.some, place)
+
+pub area_with-area-requires : goal.area_with-area-requires
+area_with-area-requires g c = record { class = same-class c.args.lengths.now c.args.needs.now c.loop-need.need-index c.need-item.result c.requires.class c.loop-need-test.true c.need-item.is }
 
 pub free_behind-free-requires-clause-fits : goal.free_behind-free-requires-clause-fits
 free_behind-free-requires-clause-fits g c =

@@ -4,7 +4,7 @@ use Rattle.std.proofs.lemmas.Option.{get_or_from_slice_get}
 use Rattle.frame_header.specs.Fields.{ClassFields}
 use Rattle.info_header.specs.InfoFrame.{info_frame}
 use Rattle.laying.specs.Written.{info_for}
-use Rattle.sync_survey.specs.declared.rows.Row.{Row}
+use Rattle.sync_survey.specs.Row.{Row}
 use Rattle.sync_survey.specs.Faults.{tells}
 use Rattle.frame_edits.proofs.plans.info_bytes.Goals as goal
 
@@ -13,4 +13,4 @@ returns c = λ first frames found slots.
     let chosen = c.args.chosen.now in
     let row = ap (λ (l : List Row). get_or l chosen.from c.index-frames-chosen.result) c.frames.ensures ∙ get_or_from_slice_get (tells c.args.survey.now).frames chosen.from first c.index-frames-chosen.result found in
     c.write_info.ensures
-    ∙ ap₂ info_frame (ap (λ (r : Row). r.header) row) (c.info_of-fields.ensures.info frames slots ∙ ap (λ (k : ClassFields). info_for k frames chosen.kept.quality chosen.kept.extension) c.class.ensures)
+    ∙ ap₂ info_frame (c.header.ensures ∙ ap (λ (r : Row). r.header) (c.index-frames-chosen.is ∙ row)) (c.info_of-fields.ensures.info frames slots ∙ ap (λ (k : ClassFields). info_for k frames chosen.kept.quality chosen.kept.extension) c.class.ensures)

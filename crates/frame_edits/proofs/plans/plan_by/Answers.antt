@@ -5,7 +5,7 @@ use Rattle.std.proofs.lemmas.Result.{IfOk-weaker}
 use Rattle.slot_plan.specs.Plans.{entries}
 use Rattle.part_needs.specs.Needs.{asked_of}
 use Rattle.part_needs.specs.Fit.{CanBePlanned}
-use Rattle.sync_survey.specs.declared.rows.Row.{Row}
+use Rattle.sync_survey.specs.Row.{Row}
 use Rattle.sync_survey.specs.Faults.{tells}
 use Rattle.frame_edits.specs.Chosen.{chosen_in, chosen_rows}
 use Rattle.frame_edits.proofs.ChosenLaws.{rows-fit, plan_is}

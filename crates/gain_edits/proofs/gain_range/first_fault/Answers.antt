@@ -1,5 +1,6 @@
 -- The first stuck gain is found.
-use Rattle.std.proofs.Common.{sym, ◌∙◌, ◌≡◌, ap, arith}
+use Rattle.std.proofs.Common.{length, refl, sym, ◌∙◌, ◌≡◌, ap, ap₂, arith}
+use Rattle.std.proofs.lemmas.Option.{slice_get_read}
 use Rattle.commands.proofs.RefusingLaws.{first-from, first-behind}
 use Rattle.moved_gains.specs.Course.{steps_over}
 use Rattle.moved_gains.specs.Edited.{stuck_of}
@@ -13,7 +14,13 @@ judged : (c : After-fault_at) → range_at (steps_over c.args.course.now c.args.
 judged c =
     let row = c.index-rows-frame.result in
     ap (λ t. stuck_fault row.offset (stuck_of t row)) (frame_steps c.args.course.now c.args.rows.now c.loop-frame.frame row c.requires.numbered (omega (arith, c.loop-frame-test.true)) c.index-rows-frame.is ∙ sym c.steps-steps.ensures)
-    ∙ sym (c.fault_at.ensures ∙ ap (stuck_fault row.offset) c.stuck_of.ensures)
+    ∙ sym (c.fault_at.ensures ∙ ap₂ stuck_fault c.offset.ensures c.stuck_of.ensures)
+
+pub stuck_of-requires : goal.stuck_of-requires
+stuck_of-requires c =
+    let rows = c.args.rows.now in
+    let row = c.index-rows-frame.result in
+    c.requires.classed c.loop-frame.frame row (slice_get_read rows (length rows) c.loop-frame.frame row refl (omega (arith, c.loop-frame-test.true)) c.index-rows-frame.is)
 
 pub returns-in-Some : goal.returns-in-Some
 returns-in-Some c =

@@ -1,10 +1,16 @@
 -- The frames of a survey have their numbers.
 use Rattle.std.proofs.Common.{ap, sym, subst, length, arith, ◌∙◌}
 use Rattle.sync_survey.specs.Faults.{tells}
+use Rattle.moved_gains.specs.Moving.{AreOfClass}
 use Rattle.moved_gains.specs.Course.{AreNumbered, steps_over}
-use Rattle.moved_gains.proofs.CourseLaws.{out_numbered, out_few}
+use Rattle.moved_gains.proofs.CourseLaws.{out_classed, out_numbered, out_few}
 use Rattle.gain_edits.specs.GainRange.{range_fault}
 use Rattle.gain_edits.proofs.gain_range.range_fault.Goals as goal
+
+pub first_fault-requires-clause-classed : goal.first_fault-requires-clause-classed
+first_fault-requires-clause-classed c =
+    let s = tells c.args.survey.now in
+    subst (λ class. AreOfClass class c.frames.result.now) (sym c.class.ensures) (subst (AreOfClass s.class) (sym c.frames.ensures) (out_classed s c.requires))
 
 pub first_fault-requires-clause-numbered : goal.first_fault-requires-clause-numbered
 first_fault-requires-clause-numbered c = subst AreNumbered (sym c.frames.ensures) (out_numbered (tells c.args.survey.now) c.requires)

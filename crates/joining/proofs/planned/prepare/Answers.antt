@@ -7,7 +7,7 @@ use Rattle.info_header.specs.InfoFrame.{info_frame}
 use Rattle.slot_plan.specs.declared.needs.Placed.{Placed}
 use Rattle.laying.specs.declared.info.Kept.{Kept}
 use Rattle.laying.specs.Written.{info_for, plain_info}
-use Rattle.sync_survey.specs.declared.rows.Row.{Row}
+use Rattle.sync_survey.specs.Row.{Row}
 use Rattle.sync_survey.specs.Faults.{SurveyFields, tells}
 use Rattle.joining.proofs.PlanLaws.{alike-first, plan-few, can-some}
 use Rattle.joining.proofs.planned.prepare.Goals as goal
@@ -39,7 +39,7 @@ returns c =
           (λ first found.
           c.write_info.ensures
           ∙ ap₂ info_frame
-          (ap (λ (r : Row). r.header) (row-is c.frames.result.now c.index-frames-0.result first (ap (λ (l : List Row). slice_get l 0) c.frames.ensures ∙ found)))
+          (c.header.ensures ∙ ap (λ (r : Row). r.header) (c.index-frames-0.is ∙ row-is c.frames.result.now c.index-frames-0.result first (ap (λ (l : List Row). slice_get l 0) c.frames.ensures ∙ found)))
           (c.info_of-fields.ensures.info frames (slots ∙ sym (ap (map (λ (p : Placed). p.slot)) c.placed.ensures))
           ∙ ap₂ (λ (k : ClassFields) (n : Kept). info_for k frames n.quality n.extension) c.class.ensures c.none.ensures));
       fresh = rw c.known_at-first.ensures (rw c.class-2.ensures at c.in_ok-buffers.ensures);

@@ -6,11 +6,11 @@ use Rattle.listing.specs.Things.{things_of, in_order, left}
 use Rattle.listing.proofs.ListingLaws.{IsSaidTo}
 use Rattle.listing.proofs.list_file.send_listing.Given as goal
 
-abbrev pub invariant-loop-thing : goal.invariant-loop-thing
-invariant-loop-thing g l = record {
+abbrev pub invariant-loop-things : goal.invariant-loop-things
+invariant-loop-things g l = record {
   done : g.T.Sink.faults l.out ≡ g.T.Sink.faults l.initial.out;
   listed : IsSaidTo line_of (in_order (things_of (tells l.survey))) (left l.things) l.buffer (g.T.Sink.sent l.initial.out) (g.T.Sink.sent l.out);
 }
 
-abbrev pub decreases-loop-thing : goal.decreases-loop-thing
-decreases-loop-thing g l = length (left l.things)
+abbrev pub decreases-loop-things : goal.decreases-loop-things
+decreases-loop-things g l = length (left l.things)

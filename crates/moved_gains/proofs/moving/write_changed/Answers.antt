@@ -5,7 +5,7 @@ use Rattle.std.proofs.lemmas.Result.{err_from_is_err_and, on_ok_weaker}
 use Rattle.outside.specs.Pass.{Writes, route, HasPassCause}
 use Rattle.outside.proofs.PassedLaws.{err_at, err_by}
 use Rattle.outside.proofs.PassLaws.{writes_held, writes_there, writes_then, writes_as, writes_all, writes_end, writes_behind_none, part_behind_none, prefix_as, prefix_then, cause_behind, causes_behind}
-use Rattle.sync_survey.specs.declared.rows.Row.{Row}
+use Rattle.sync_survey.specs.Row.{Row}
 use Rattle.sync_survey.specs.Faults.{SurveyFields, tells}
 use Rattle.sync_survey.specs.Survey.{survey_of}
 use Rattle.moved_gains.specs.declared.shift.Steps.{Steps}
@@ -14,8 +14,8 @@ use Rattle.sync_survey.specs.Limits.{most_frames}
 use Rattle.moved_gains.specs.declared.change.Change.{Change as CodeChange}
 use Rattle.moved_gains.specs.Change.{changed, change_in}
 use Rattle.moved_gains.specs.Course.{AreNumbered, steps_over}
-use Rattle.moved_gains.proofs.CourseLaws.{out_numbered, out_few}
-use Rattle.moved_gains.specs.Moving.{AreRowsOf, copied, written_from, IsNewTag}
+use Rattle.moved_gains.proofs.CourseLaws.{out_classed, out_numbered, out_few}
+use Rattle.moved_gains.specs.Moving.{AreRowsOf, AreOfClass, copied, written_from, IsNewTag}
 use Rattle.moved_gains.proofs.MovingLaws.{survey_of-length, survey_of-rows}
 use Rattle.sync_survey.proofs.SurveyedFiles.{survey_of-parts}
 use Rattle.sync_survey.proofs.StepLaws.{laid_end}
@@ -117,3 +117,8 @@ move_frames-requires-clause-numbered g c = subst AreNumbered (sym c.frames.ensur
 
 pub move_frames-requires-clause-few : goal.move_frames-requires-clause-few
 move_frames-requires-clause-few g c = omega (arith, ap length c.frames.ensures, out_few (tells c.args.survey.now) c.requires.laid, c.requires.laid.few)
+
+pub move_frames-requires-clause-classed : goal.move_frames-requires-clause-classed
+move_frames-requires-clause-classed g c =
+    let s = tells c.args.survey.now in
+    subst (λ class. AreOfClass class c.frames.result.now) (sym c.class.ensures) (subst (AreOfClass s.class) (sym c.frames.ensures) (out_classed s c.requires.laid))

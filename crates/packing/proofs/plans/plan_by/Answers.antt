@@ -8,7 +8,7 @@ use Rattle.slot_plan.specs.Laws.{ChooseInOrder}
 use Rattle.part_needs.specs.Needs.{need_of}
 use Rattle.part_needs.specs.Fit.{any_choice}
 use Rattle.part_needs.proofs.FitLaws.{part-fits}
-use Rattle.sync_survey.specs.declared.rows.Row.{Row}
+use Rattle.sync_survey.specs.Row.{Row}
 use Rattle.sync_survey.specs.Faults.{tells}
 use Rattle.frame_edits.specs.Chosen.{chosen_in}
 use Rattle.packing.specs.Packing.{needs_of}

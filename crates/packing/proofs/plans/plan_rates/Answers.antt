@@ -2,7 +2,7 @@
 use Rattle.std.proofs.Common.{◌≡◌, ◌∙◌, ◌-◌, List, length, map, take, drop, None, sym, ap, subst, arith}
 use Rattle.slot_plan.specs.Parts.{AreOfClass}
 use Rattle.part_needs.specs.Needs.{need_of}
-use Rattle.sync_survey.specs.declared.rows.Row.{Row}
+use Rattle.sync_survey.specs.Row.{Row}
 use Rattle.sync_survey.specs.Faults.{tells}
 use Rattle.packing.specs.Rates.{no_rate, rates_plan, rates_refuse}
 use Rattle.packing.specs.Packing.{needs_of, IsPlanFault}

@@ -1,5 +1,5 @@
 -- The first unfit frame, or the plan.
-use Rattle.rate_plan.proofs.FitLaws.{one-class}
+use Rattle.slot_plan.proofs.PartLaws.{one-class}
 use Rattle.rate_plan.proofs.LeastMenuPlan.{plan-answered, unfit-answered}
 use Rattle.slot_plan.specs.Plans.{entries}
 use Rattle.rate_plan.proofs.planning.rate_plan.Goals as goal

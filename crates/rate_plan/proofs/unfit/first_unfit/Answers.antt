@@ -1,7 +1,7 @@
 -- One frame more, and the first that doesn't fit.
-use Rattle.std.proofs.Common.{◌≡◌, ◌∙◌, true, ap, subst, arith}
-use Rattle.slot_plan.specs.Parts.{areas_with}
-use Rattle.slot_plan.specs.Reserve.{greatest, free_behind}
+use Rattle.std.proofs.Common.{◌≡◌, ◌∙◌, true, false, ap, subst, arith}
+use Rattle.slot_plan.specs.Reserve.{free_behind}
+use Rattle.rate_plan.specs.LargestAreas.{largest_for}
 use Rattle.rate_plan.specs.Menus.{CanBeLaidFrom, IsUnfit}
 use Rattle.rate_plan.proofs.MenuPlan.{most_area}
 use Rattle.rate_plan.proofs.FitLaws.{area-at, to-begun, to-more, to-all, to-unfit}
@@ -11,15 +11,15 @@ pub loop-i-init : goal.loop-i-init
 loop-i-init c = record {
   free = c.free_behind-free.ensures.within;
   fit = to-begun c.window-window.result c.args.class c.args.menu.now c.args.needs.now c.free_behind-free.result
-      (c.free_behind-free.ensures.free ∙ ap (λ n. free_behind c.window-window.result 0 0 n) c.largest_area_of.ensures.largest);
+      (c.free_behind-free.ensures.free ∙ ap (λ n. free_behind c.window-window.result 0 0 n) (c.area.ensures ∙ c.of_menu-largest.ensures.are false));
 }
 
 pub returns-then-need-free : goal.returns-then-need-free
 returns-then-need-free c =
     let need = c.index-needs-i.result in
-    let area : c.largest_area_of-area.result ≡ most_area c.args.menu.now need =
-    c.largest_area_of-area.ensures.largest ∙ ap (λ n. greatest (areas_with c.args.class n.header.protected c.args.menu.now)) c.need.view_is
-    ∙ area-at c.args.class c.args.menu.now c.args.needs.now c.loop-i.i need c.requires.class c.loop-i-test.true c.index-needs-i.is in
+    let area : c.area-area.result ≡ most_area c.args.menu.now need =
+    c.area-area.ensures ∙ ap (λ n. largest_for c.of_menu-largest.result n.header.protected) c.need.view_is
+    ∙ c.of_menu-largest.ensures.are need.header.protected ∙ area-at c.args.class c.args.menu.now c.args.needs.now c.loop-i.i need c.requires.class c.loop-i-test.true c.index-needs-i.is in
     subst (λ n. IsUnfit n c.args.menu.now c.args.needs.now c.loop-i.i) c.window-window.ensures.window
     (to-unfit c.window-window.result c.args.class c.args.menu.now c.args.needs.now c.loop-i.i need c.loop-i.free c.loop-i-test.true c.index-needs-i.is
     (omega (arith, c.if-need-free.true, area, ap (λ n. n.bytes) c.need.view_is)) c.requires.class c.requires.slots c.loop-i.invariant.fit)
@@ -27,15 +27,15 @@ returns-then-need-free c =
 pub loop-i-preserved : goal.loop-i-preserved
 loop-i-preserved c =
     let need = c.index-needs-i.result in
-    let area : c.largest_area_of-area.result ≡ most_area c.args.menu.now need =
-    c.largest_area_of-area.ensures.largest ∙ ap (λ n. greatest (areas_with c.args.class n.header.protected c.args.menu.now)) c.need.view_is
-    ∙ area-at c.args.class c.args.menu.now c.args.needs.now c.loop-i.i need c.requires.class c.loop-i-test.true c.index-needs-i.is in
+    let area : c.area-area.result ≡ most_area c.args.menu.now need =
+    c.area-area.ensures ∙ ap (λ n. largest_for c.of_menu-largest.result n.header.protected) c.need.view_is
+    ∙ c.of_menu-largest.ensures.are need.header.protected ∙ area-at c.args.class c.args.menu.now c.args.needs.now c.loop-i.i need c.requires.class c.loop-i-test.true c.index-needs-i.is in
     record {
       free = c.free_behind-free-in-loop-i.ensures.within;
       fit = to-more c.window-window.result c.args.class c.args.menu.now c.args.needs.now c.loop-i.i need c.loop-i.free c.free_behind-free-in-loop-i.result c.loop-i-test.true c.index-needs-i.is
           (omega (arith, c.if-need-free.false, area, ap (λ n. n.bytes) c.need.view_is))
           (c.free_behind-free-in-loop-i.ensures.free
-          ∙ ap (λ n. free_behind c.window-window.result c.loop-i.free n.bytes c.largest_area_of-area.result) c.need.view_is
+          ∙ ap (λ n. free_behind c.window-window.result c.loop-i.free n.bytes c.area-area.result) c.need.view_is
           ∙ ap (λ n. free_behind c.window-window.result c.loop-i.free need.bytes n) area)
           c.loop-i.invariant.fit;
     }

@@ -8,7 +8,8 @@ use Rattle.sync_survey.specs.Items.{header_front, item_front}
 use Rattle.sync_survey.specs.Start.{is_anchor}
 use Rattle.sync_survey.proofs.StepLaws.{overhead_few}
 use Rattle.salvage.specs.Usable.{is_usable}
-use Rattle.salvage.proofs.SearchLaws.{header_of, frame_of_header, bare_unanchored, bare_unusable}
+use Rattle.sync_survey.proofs.ItemsLaws.{frame_of_header}
+use Rattle.salvage.proofs.SearchLaws.{header_of, bare_unanchored, bare_unusable}
 use Rattle.salvage.proofs.search.may_stand_by_header.Goals as goal
 
 pub returns-in_default : goal.returns-in_default

@@ -4,7 +4,7 @@ use Rattle.outside.specs.Files.{sent_more}
 use Rattle.commands.specs.Left.{seen}
 use Rattle.commands.specs.declared.fault.EditFault.TheVariants.{Sent}
 use Rattle.commands.proofs.MakeLaws.{source_apart, refused_run}
-use Rattle.sync_survey.specs.declared.rows.Row.{Row}
+use Rattle.sync_survey.specs.Row.{Row}
 use Rattle.salvaging.specs.Salvaged.{salvage_command}
 use Rattle.salvaging.specs.Ordered.{text_of}
 use Rattle.salvaging.proofs.CommandLaws.{left-done, left-part, left-streams, numbers-pass, ready-text, ready-order, done-run}

@@ -40,8 +40,8 @@ put_second-requires-clause-room c two =
 pub put_second-requires-clause-short : goal.put_second-requires-clause-short
 put_second-requires-clause-short c = omega (arith, short (goal.at.put_second-requires-clause-short c).After-from, c.put_pair.auto.bytes)
 
-pub returns : goal.returns
-returns c other =
+pub returns-clause-put : goal.returns-clause-put
+returns-clause-put c other =
     let d = c.args.class in
     let t = c.args.side.now in
     let old = bits c.args.bytes.now in

@@ -1,7 +1,8 @@
 -- The side information and the check word, where there is one, are those of the other gains.
-use Rattle.std.proofs.Common.{◌≡◌, ℕ, ◌+◌, List, take, drop, true, false, sym, ap, ap₂, ◌∙◌, subst, arith}
+use Rattle.std.proofs.Common.{◌≡◌, ℕ, ◌+◌, List, ◌++◌, take, drop, true, false, sym, ap, ap₂, ◌∙◌, subst, arith}
 use Rattle.std.proofs.lemmas.List.{drop-drop}
-use Rattle.bit_fields.specs.Bits.{bits, AreBytes}
+use Rattle.bit_fields.specs.Bits.{bits, bits_of, bytes, AreBytes}
+use Rattle.side_info.specs.CheckWord.{check_word_of}
 use Rattle.bit_fields.proofs.BitsLaws.{AreBytes-from_places, AreBelow-drop}
 use Rattle.frame_header.specs.Fields.{ClassFields, HeaderFields}
 use Rattle.frame_header.specs.Tables.{class_of, side_size_of, overhead_of}
@@ -13,28 +14,28 @@ use Rattle.side_info.proofs.gains.put_gains.Goals as goal
 
 pub put_at_place-requires : goal.put_at_place-requires
 put_at_place-requires c =
-    let is : c.args.header.now.protected ≡ true = sym (ap (λ h. h.protected) c.header.view_is) ∙ c.if-header.true in
-    record { room = omega (arith, c.requires, overhead-protected c.args.header.now is, ap side_size_of c.class-class.ensures) }
+    let is : c.args.front.now.header.protected ≡ true = sym c.protected.ensures ∙ c.if-protected.true in
+    record { room = omega (arith, c.requires.room, overhead-protected c.args.front.now.header is, ap side_size_of c.requires.class) }
 
 pub put_right_word-requires : goal.put_right_word-requires
 put_right_word-requires c =
-    let is : c.args.header.now.protected ≡ true = sym (ap (λ h. h.protected) c.header.view_is) ∙ c.if-header.true in
-    omega (arith, c.requires, overhead-protected c.args.header.now is, c.put_at_place.auto.frame)
+    let is : c.args.front.now.header.protected ≡ true = sym c.protected.ensures ∙ c.if-protected.true in
+    omega (arith, c.requires.room, overhead-protected c.args.front.now.header is, c.put_at_place.auto.frame, ap (λ h. side_size_of (class_of h)) c.header.ensures)
 
-pub put_at_place-requires-else-header : goal.put_at_place-requires-else-header
-put_at_place-requires-else-header c =
-    let is : c.args.header.now.protected ≡ false = sym (ap (λ h. h.protected) c.header.view_is) ∙ c.if-header.false in
-    record { room = omega (arith, c.requires, overhead-unprotected c.args.header.now is, ap side_size_of c.class-class.ensures) }
+pub put_at_place-requires-else-protected : goal.put_at_place-requires-else-protected
+put_at_place-requires-else-protected c =
+    let is : c.args.front.now.header.protected ≡ false = sym c.protected.ensures ∙ c.if-protected.false in
+    record { room = omega (arith, c.requires.room, overhead-unprotected c.args.front.now.header is, ap side_size_of c.requires.class) }
 
-pub returns-then-header-clause-behind : goal.returns-then-header-clause-behind
-returns-then-header-clause-behind c =
-    let h = c.args.header.now in
+pub returns-then-protected-clause-behind : goal.returns-then-protected-clause-behind
+returns-then-protected-clause-behind c =
+    let h = c.args.front.now.header in
     let old = c.args.frame.now in
     let middle = c.put_at_place.new.frame in
     let new = c.put_right_word.new.frame in
     let size = side_size_of (class_of h) in
-    let class = c.class-class.ensures in
-    let is : h.protected ≡ true = sym (ap (λ h. h.protected) c.header.view_is) ∙ c.if-header.true in
+    let class = c.requires.class in
+    let is : h.protected ≡ true = sym c.protected.ensures ∙ c.if-protected.true in
     let over : overhead_of (class_of h) h.protected ≡ 6 + size = overhead-protected h is in
     ap (λ n. drop n new) over
     ∙ sym (drop-drop size 6 new)
@@ -43,15 +44,15 @@ returns-then-header-clause-behind c =
     ∙ subst (λ d. drop (6 + side_size_of d) middle ≡ drop (6 + side_size_of d) old) class c.put_at_place.ensures.behind
     ∙ sym (ap (λ n. drop n old) over)
 
-pub returns-else-header-clause-behind : goal.returns-else-header-clause-behind
-returns-else-header-clause-behind c =
-    let h = c.args.header.now in
+pub returns-else-protected-clause-behind : goal.returns-else-protected-clause-behind
+returns-else-protected-clause-behind c =
+    let h = c.args.front.now.header in
     let old = c.args.frame.now in
-    let new = c.put_at_place-else-header.new.frame in
-    let is : h.protected ≡ false = sym (ap (λ h. h.protected) c.header.view_is) ∙ c.if-header.false in
+    let new = c.put_at_place-else-protected.new.frame in
+    let is : h.protected ≡ false = sym c.protected.ensures ∙ c.if-protected.false in
     let over : overhead_of (class_of h) h.protected ≡ 4 + side_size_of (class_of h) = overhead-unprotected h is in
     ap (λ n. drop n new) over
-    ∙ subst (λ d. drop (4 + side_size_of d) new ≡ drop (4 + side_size_of d) old) c.class-class.ensures c.put_at_place-else-header.ensures.behind
+    ∙ subst (λ d. drop (4 + side_size_of d) new ≡ drop (4 + side_size_of d) old) c.requires.class c.put_at_place-else-protected.ensures.behind
     ∙ sym (ap (λ n. drop n old) over)
 
 -- the side information of a frame, read at its place
@@ -59,32 +60,32 @@ side_read : (h : HeaderFields) (d : ClassFields) (place : ℕ) (frame : List ℕ
 unfolding side_in side_part
 side_read h d place frame class at = ap₂ (λ (d : ClassFields) k. side_at d (bits (take (side_size_of d) (drop k frame)))) (sym class) at
 
-pub returns-then-header-clause-gains : goal.returns-then-header-clause-gains
-returns-then-header-clause-gains c other =
-    let h = c.args.header.now in
+pub returns-then-protected-clause-gains : goal.returns-then-protected-clause-gains
+returns-then-protected-clause-gains c other =
+    let h = c.args.front.now.header in
     let t = c.args.side.now in
     let old = c.args.frame.now in
     let middle = c.put_at_place.new.frame in
     let new = c.put_right_word.new.frame in
-    let class = c.class-class.ensures in
-    let is : h.protected ≡ true = sym (ap (λ h. h.protected) c.header.view_is) ∙ c.if-header.true in
-    let same = side_read h c.class-class.result 6 old class (ap side_place is) in
+    let class = c.requires.class in
+    let is : h.protected ≡ true = sym c.protected.ensures ∙ c.if-protected.true in
+    let same = side_read h c.args.class 6 old class (ap side_place is) in
     let side = subst (λ d. bits (take (side_size_of d) (drop 6 middle)) ≡ side_bits d t) class (c.put_at_place.ensures.side (subst (λ s. HasOtherGains s t) same other)) in
     let all : AreBytes (drop 6 middle) = subst AreBytes c.put_right_word.ensures.behind (AreBelow-drop 256 6 new (AreBytes-from_places new (λ i. omega (arith, c.type_inv.frame i)))) in
     gains-protected h t old middle new is all c.put_at_place.ensures.before
     (subst (λ d. drop (6 + side_size_of d) middle ≡ drop (6 + side_size_of d) old) class c.put_at_place.ensures.behind)
-    side (c.put_right_word.ensures.word t side)
+    side (subst (λ k. bits (take (side_size_of (class_of k)) (drop 6 middle)) ≡ side_bits (class_of k) t → new ≡ take 4 middle ++ (bytes (bits_of 16 (check_word_of k t)) ++ drop 6 middle)) c.header.ensures (c.put_right_word.ensures.word t) side)
 
-pub returns-else-header-clause-gains : goal.returns-else-header-clause-gains
-returns-else-header-clause-gains c other =
-    let h = c.args.header.now in
+pub returns-else-protected-clause-gains : goal.returns-else-protected-clause-gains
+returns-else-protected-clause-gains c other =
+    let h = c.args.front.now.header in
     let t = c.args.side.now in
     let old = c.args.frame.now in
-    let new = c.put_at_place-else-header.new.frame in
-    let class = c.class-class.ensures in
-    let is : h.protected ≡ false = sym (ap (λ h. h.protected) c.header.view_is) ∙ c.if-header.false in
-    let same = side_read h c.class-class.result 4 old class (ap side_place is) in
+    let new = c.put_at_place-else-protected.new.frame in
+    let class = c.requires.class in
+    let is : h.protected ≡ false = sym c.protected.ensures ∙ c.if-protected.false in
+    let same = side_read h c.args.class 4 old class (ap side_place is) in
     let all : AreBytes new = AreBytes-from_places new (λ i. omega (arith, c.type_inv.frame i)) in
-    gains-unprotected h t old new is all c.put_at_place-else-header.ensures.before
-    (subst (λ d. drop (4 + side_size_of d) new ≡ drop (4 + side_size_of d) old) class c.put_at_place-else-header.ensures.behind)
-    (subst (λ d. bits (take (side_size_of d) (drop 4 new)) ≡ side_bits d t) class (c.put_at_place-else-header.ensures.side (subst (λ s. HasOtherGains s t) same other)))
+    gains-unprotected h t old new is all c.put_at_place-else-protected.ensures.before
+    (subst (λ d. drop (4 + side_size_of d) new ≡ drop (4 + side_size_of d) old) class c.put_at_place-else-protected.ensures.behind)
+    (subst (λ d. bits (take (side_size_of d) (drop 4 new)) ≡ side_bits d t) class (c.put_at_place-else-protected.ensures.side (subst (λ s. HasOtherGains s t) same other)))

@@ -1,11 +1,13 @@
 -- The frames before were placed, and what those from here on need is free.
-use Rattle.std.proofs.Common.{◌≡◌, ◌≤◌, map, drop}
+use Rattle.std.proofs.Common.{◌≡◌, ◌+◌, ◌≤◌, map, length, drop}
+use Rattle.std.specs.Prelude.{vec_len, vec_capacity}
 use Rattle.slot_plan.specs.Parts.{item_of}
 use Rattle.slot_plan.specs.Reserve.{needed, needed_behind, AllWithin, opens_in, PlacesOn}
 use Rattle.slot_plan.proofs.placing.place_frames.Given as goal
 
 abbrev pub invariant-loop-need : goal.invariant-loop-need
 invariant-loop-need g l = record {
+  room : vec_len l.placed + length (drop l.need-index l.part) ≤ vec_capacity l.placed;
   free : l.free ≤ l.window;
   enough : needed (opens_in (g.P.Policy.choices_of l.policy) (drop l.need-index l.part)) ≤ l.free;
   within : AllWithin l.window (opens_in (g.P.Policy.choices_of l.policy) (drop l.need-index l.part));

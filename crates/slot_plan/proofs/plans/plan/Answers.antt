@@ -1,8 +1,9 @@
 -- One part more.
 use Rattle.std.proofs.Common.{◌+◌, ◌<◌, length, get_or, drop, refl, sym, subst, arith, rules}
-use Rattle.slot_plan.specs.Parts.{ArePartsFeasible, window_in, parts_of}
+use Rattle.std.specs.Prelude.{slice_range}
+use Rattle.slot_plan.specs.Parts.{AreOfClass, ArePartsFeasible, window_in, parts_of}
 use Rattle.slot_plan.specs.Plans.{IsPlan}
-use Rattle.slot_plan.proofs.PartLaws.{window-first, part-ready, parts-cons, parts-none}
+use Rattle.slot_plan.proofs.PartLaws.{one-class, class-range, window-first, part-ready, parts-cons, parts-none}
 use Rattle.slot_plan.proofs.PlacedLaws.{PartsPlaced, parts-begun, parts-more, parts-all}
 use Rattle.slot_plan.proofs.LeastPlan.{plan-least}
 use Rattle.slot_plan.proofs.plans.plan.Goals as goal
@@ -11,7 +12,7 @@ pub loop-at-init : goal.loop-at-init
 loop-at-init g c =
     let needs = c.args.needs.now in
     let some : 0 < length needs = omega (arith, c.requires.within 0 0 c.requires.some) in
-    let window = window-first needs c.index-needs-0.result c.class.result c.window-window.result c.requires.class some c.class.ensures c.window-window.ensures.window in
+    let window = window-first needs c.index-needs-0.result c.class-class.result c.window-window.result c.requires.class some c.class-class.ensures c.window-window.ensures.window in
     record {
       free = omega arith;
       feasible = subst (λ n. ArePartsFeasible n (parts_of needs c.args.parts.now)) (sym window) c.requires.feasible;
@@ -23,9 +24,13 @@ pub place_part-requires : goal.place_part-requires
 place_part-requires g c =
     let needs = c.args.needs.now in
     let some : 0 < length needs = omega (arith, c.requires.within 0 0 c.requires.some) in
-    let window = window-first needs c.index-needs-0.result c.class.result c.window-window.result c.requires.class some c.class.ensures c.window-window.ensures.window in
+    let window = window-first needs c.index-needs-0.result c.class-class.result c.window-window.result c.requires.class some c.class-class.ensures c.window-window.ensures.window in
     let ready = part-ready needs c.args.parts.now c.loop-at.at c.end_of.result c.window-window.result c.requires.class c.requires.ascending c.requires.within c.loop-at-test.true c.end_of.ensures.next c.end_of.ensures.last window c.loop-at.invariant.feasible in
+    let class = one-class c.class-class.result needs c.index-needs-0.result c.requires.class c.class-class.ensures in
     record {
+      class = subst (λ k. AreOfClass k (slice_range needs (get_or c.args.parts.now c.loop-at.at 0) c.end_of.result)) (sym c.in_ok-table.ensures.class)
+          (class-range c.class-class.result needs (get_or c.args.parts.now c.loop-at.at 0) c.end_of.result class);
+      table = c.in_ok-table.ensures.table;
       some = ready.0;
       window = search rules;
       same = ready.1;
@@ -39,7 +44,7 @@ loop-at-preserved g c =
     let parts = c.args.parts.now in
     let choices = g.P.Policy.choices_of c.args.policy.now in
     let some : 0 < length needs = omega (arith, c.requires.within 0 0 c.requires.some) in
-    let window = window-first needs c.index-needs-0.result c.class.result c.window-window.result c.requires.class some c.class.ensures c.window-window.ensures.window in
+    let window = window-first needs c.index-needs-0.result c.class-class.result c.window-window.result c.requires.class some c.class-class.ensures c.window-window.ensures.window in
     let ready = part-ready needs parts c.loop-at.at c.end_of.result c.window-window.result c.requires.class c.requires.ascending c.requires.within c.loop-at-test.true c.end_of.ensures.next c.end_of.ensures.last window c.loop-at.invariant.feasible in
     let here = parts-cons needs parts c.loop-at.at (get_or parts c.loop-at.at 0) c.end_of.result c.loop-at-test.true refl c.end_of.ensures.next c.end_of.ensures.last in
     record {
@@ -55,7 +60,7 @@ returns g c =
     let parts = c.args.parts.now in
     let choices = g.P.Policy.choices_of c.args.policy.now in
     let some : 0 < length needs = omega (arith, c.requires.within 0 0 c.requires.some) in
-    let window = window-first needs c.index-needs-0.result c.class.result c.window-window.result c.requires.class some c.class.ensures c.window-window.ensures.window in
+    let window = window-first needs c.index-needs-0.result c.class-class.result c.window-window.result c.requires.class some c.class-class.ensures c.window-window.ensures.window in
     let all = subst (λ l. PartsPlaced c.window-window.result choices (parts_of needs parts) l c.loop-at.free c.loop-at.placed.items) (parts-none needs parts c.loop-at.at c.loop-at-test.false) c.loop-at.invariant.placed in
     let plan = subst (λ n. IsPlan n choices (parts_of needs parts) c.loop-at.placed.items) window (parts-all c.window-window.result choices (parts_of needs parts) c.loop-at.free c.loop-at.placed.items all) in
     record { plan = plan; least = λ order. plan-least (window_in needs) choices (parts_of needs parts) c.loop-at.placed.items order plan }

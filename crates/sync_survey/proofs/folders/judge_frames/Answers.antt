@@ -2,19 +2,20 @@
 use Rattle.std.proofs.Common.{◌≡◌, ℕ, ◌+◌, ◌<◌, ◌≤◌, List, [], ◌∷◌, length, Ok, Err, Option, Some, None, refl, sym, ◌∙◌, ap, ap₂, subst, arith}
 use Rattle.std.specs.Prelude.{vec_len, IfSome}
 use Rattle.std.proofs.lemmas.Bool.{true≢false, eq-eqb, eqb-true}
-use Rattle.frame_header.specs.Tables.{class_of, overhead_of}
+use Rattle.frame_header.specs.Tables.{class_of}
+use Rattle.outside.specs.Files.{Holds}
 use Rattle.outside.specs.Counts.{OnlyReads}
 use Rattle.outside.proofs.PassedLaws.{err_at}
 use Rattle.sync_survey.specs.declared.items.Item.TheVariants.{Frame}
 use Rattle.sync_survey.specs.declared.places.Head.{Head}
 use Rattle.sync_survey.specs.declared.places.Start.{Start}
-use Rattle.sync_survey.specs.declared.rows.Row.{Row}
+use Rattle.sync_survey.specs.Row.{Row}
 use Rattle.sync_survey.specs.declared.survey_fault.SurveyFault.TheVariants.{NoFrame}
 use Rattle.sync_survey.specs.Items.{item_front, size_of}
 use Rattle.sync_survey.specs.Walk.{fault_at, IsFrameOf}
 use Rattle.sync_survey.specs.MainData.{marked}
 use Rattle.sync_survey.specs.Faults.{class_from}
-use Rattle.sync_survey.specs.Looks.{Shows, Keeps, IsFrameFault}
+use Rattle.sync_survey.specs.Looks.{Shows, PassesItem, IsNotPassed}
 use Rattle.sync_survey.specs.Survey.{AreLaid, IsWholeHead, HasLength}
 use Rattle.sync_survey.proofs.FrontLaws.{pieces_later}
 use Rattle.sync_survey.proofs.FaultsLaws.{marked-length, marked-none}
@@ -22,9 +23,11 @@ use Rattle.sync_survey.proofs.SurveyLaws.{told_by}
 use Rattle.sync_survey.proofs.LooksLaws.{item_at-shown}
 use Rattle.sync_survey.proofs.FoldersLaws.{none_read, read_more, still_held, refusal_after, only_reads_equal, bytes_refusal, survey_of-short}
 use Rattle.sync_survey.proofs.PlacedRows.{ArePlacedTo, placed_none}
-use Rattle.sync_survey.proofs.Progress.{IsSurveyedTo, surveyed_none, stopped_fault, no_frame, whole}
-use Rattle.sync_survey.proofs.StepLaws.{item_header, shown_room, few_by, kept, refused, laid_more, laid_later, few_more, keep_refusal}
+use Rattle.sync_survey.proofs.Progress.{IsBegun, IsSurveyedTo, surveyed_none, stopped_fault, no_frame, whole}
+use Rattle.sync_survey.proofs.StepLaws.{item_header, few_by, kept, refused, laid_more, laid_later, few_more, pass_refusal}
+use Rattle.sync_survey.proofs.folders.judge_frames.Given as given
 use Rattle.sync_survey.proofs.folders.judge_frames.Goals as goal
+use Rattle.sync_survey.proofs.folders.judge_frames.Goals.{After-bytes}
 
 nothing_in : (rows : List Row) → length rows ≡ 0 → rows ≡ []
 nothing_in [] none = refl
@@ -67,57 +70,52 @@ pub returns-in_err-left-clause-refused : goal.returns-in_err-left-clause-refused
 returns-in_err-left-clause-refused g c =
     err_at _ _ c.from_residual.ensures.1 (refusal_after c.loop-at.invariant.read (c.in_err-left.ensures.refused c.args.allowed))
 
-pub returns-in_default-clause-refused : goal.returns-in_default-clause-refused
-returns-in_default-clause-refused g c =
-    bytes_refusal c.args.name.now (g.D.Folder.files c.args.folder.now) c.args.allowed (g.D.Folder.counts c.args.folder.now) (g.D.Folder.counts c.look.new.folder) c.args.walk.size c.stop_fault.result c.requires.walk.known
-    (c.in_ok-left.ensures.reads.done ∙ c.loop-at.invariant.read.counts) c.stop_fault.ensures.refused (λ bytes holds.
-    let now = c.loop-at.found in
-    let so_far = c.loop-at.invariant.surveyed bytes holds in
-    let shows = c.in_ok-left.ensures.shows bytes (still_held c.loop-at.invariant.read bytes holds) in
-    let seen = subst (λ front. Shows bytes c.loop-at.at front c.in_ok-left.left) (sym c.bytes.ensures) shows in
-    stopped_fault bytes c.args.walk.start c.args.walk.head c.args.allowed so_far.frames now.pieces.items now.before.place now.before.ended c.loop-at.at so_far.surveyed
-    (record { start_is = (c.requires.walk.told bytes holds).start; head_is = (c.requires.walk.told bytes holds).head }) c.stop_fault.result (c.in_default.ensures.step bytes c.loop-at.at seen)
-    (ap (fault_at c.loop-at.at) (sym (item_at-shown bytes c.loop-at.at c.look.new.feed.given c.in_ok-left.left shows) ∙ ap item_front (sym c.bytes-in_default.ensures)) ∙ c.stop_fault.ensures.fault))
+-- what the look shows
+shown : (g : given.Over) (c : After-bytes g) (file : List ℕ) → Holds (g.D.Folder.files c.args.folder.now) c.args.name.now file → Shows file c.loop-at.at c.bytes.result.now c.in_ok-left.left
+shown g c file holds = subst (λ front. Shows file c.loop-at.at front c.in_ok-left.left) (sym c.bytes.ensures) (c.in_ok-left.ensures.shows file (still_held c.loop-at.invariant.read file holds))
 
-pub keep-requires-clause-room : goal.keep-requires-clause-room
-keep-requires-clause-room g c = λ h frame.
-    subst (λ front. overhead_of (class_of h) h.protected ≤ length front) (c.bytes.ensures ∙ sym c.bytes-in-loop-at.ensures)
-    (shown_room c.bytes.result.now c.in-Some.step.item h c.in-Some.step.size c.in_ok-left.left c.in-Some.ensures.passes.item frame (c.in-Some.ensures.passes.most h frame) c.in-Some.ensures.passes.least c.in-Some.ensures.passes.within
-    (ap length c.bytes.ensures ∙ c.in_ok-left.ensures.many))
+pub pass-requires-clause-many : goal.pass-requires-clause-many
+pass-requires-clause-many g c = ap length c.bytes.ensures ∙ c.in_ok-left.ensures.many
 
-pub returns-in_err-keep-clause-refused : goal.returns-in_err-keep-clause-refused
-returns-in_err-keep-clause-refused g c =
+pub returns-in_err-at-clause-refused : goal.returns-in_err-at-clause-refused
+returns-in_err-at-clause-refused g c =
     let now = c.loop-at.found in
-    let item = c.in-Some.step.item in
     let front = c.bytes.result.now in
-    err_at _ _ c.from_residual-in_err-keep.ensures.1
-    (keep_refusal c.args.name.now (g.D.Folder.files c.args.folder.now) c.args.allowed (g.D.Folder.counts c.args.folder.now) (g.D.Folder.counts c.look.new.folder) c.args.walk.size c.in_err-keep.field-0.0 c.class-class.result c.loop-at.at
-    item c.bytes-in-loop-at.result.now now c.requires.walk.known (c.in_ok-left.ensures.reads.done ∙ c.loop-at.invariant.read.counts) (λ bytes holds is.
-    let shows = c.in_ok-left.ensures.shows bytes (still_held c.loop-at.invariant.read bytes holds) in
-    let seen = subst (λ l. Shows bytes c.loop-at.at l c.in_ok-left.left) (sym c.bytes.ensures) shows in
-    refused bytes c.args.walk.start c.args.walk.head c.args.allowed now c.loop-at.at (c.loop-at.invariant.surveyed bytes holds) front c.in_ok-left.left seen
-    (record { start_is = (c.requires.walk.told bytes holds).start; head_is = (c.requires.walk.told bytes holds).head }) item c.in-Some.step.size c.in_err-keep.field-0.0 (few_by front item c.in-Some.ensures.passes.item c.in-Some.ensures.passes.most)
-    (c.in-Some.ensures.step bytes c.loop-at.at seen)
-    (subst (λ l. IsFrameFault (class_from c.args.walk.start) c.args.allowed c.loop-at.at item l now c.in_err-keep.field-0.0) (c.bytes-in-loop-at.ensures ∙ sym c.bytes.ensures)
-    (subst (λ class. IsFrameFault class c.args.allowed c.loop-at.at item c.bytes-in-loop-at.result.now now c.in_err-keep.field-0.0) c.class-class.ensures is))) c.in_err-keep.ensures)
+    let at = c.loop-at.at in
+    let left = c.in_ok-left.left in
+    let fault = c.in_err-at.field-0.0 in
+    let start = c.args.walk.start in
+    let seen = shown g (goal.at.returns-in_err-at-clause-refused g c).After-bytes in
+    let begun : (file : List ℕ) → Holds (g.D.Folder.files c.args.folder.now) c.args.name.now file → IsBegun file start c.args.walk.head =
+    λ file holds. record { start_is = (c.requires.walk.told file holds).start; head_is = (c.requires.walk.told file holds).head } in
+    err_at _ _ c.from_residual-in_err-at.ensures.1
+    (pass_refusal c.args.name.now (g.D.Folder.files c.args.folder.now) c.args.allowed (g.D.Folder.counts c.args.folder.now) (g.D.Folder.counts c.look.new.folder) c.args.walk.size fault (class_from start) at front left now c.requires.walk.known
+    (c.in_ok-left.ensures.reads.done ∙ c.loop-at.invariant.read.counts)
+    (λ file holds is.
+    refused file start c.args.walk.head c.args.allowed now at (c.loop-at.invariant.surveyed file holds) front left (seen file holds) (begun file holds) (item_front front) is.size fault (few_by front (item_front front) refl is.front.most)
+    (is.passes file (seen file holds)) is.faulty)
+    (λ file holds is.
+    let so_far = c.loop-at.invariant.surveyed file holds in
+    stopped_fault file start c.args.walk.head c.args.allowed so_far.frames now.pieces.items now.before.place now.before.ended at so_far.surveyed (begun file holds) fault (is.none file (seen file holds))
+    (ap (fault_at at) (sym (item_at-shown file at front left (seen file holds))) ∙ is.why))
+    (subst (λ class. IsNotPassed class c.args.allowed at front left now fault) c.class-class.ensures c.in_err-at.ensures))
 
 pub loop-at-preserved : goal.loop-at-preserved
 loop-at-preserved g c =
     let now = c.loop-at.found in
-    let item = c.in-Some.step.item in
     let front = c.bytes.result.now in
-    let keeps : Keeps (class_from c.args.walk.start) c.args.allowed c.loop-at.at item front now c.keep.new.self =
-    subst (λ l. Keeps (class_from c.args.walk.start) c.args.allowed c.loop-at.at item l now c.keep.new.self) (c.bytes-in-loop-at.ensures ∙ sym c.bytes.ensures)
-    (subst (λ class. Keeps class c.args.allowed c.loop-at.at item c.bytes-in-loop-at.result.now now c.keep.new.self) c.class-class.ensures c.in_ok-keep.ensures) in
+    let item = item_front front in
+    let size = c.in_ok-at.field-0 in
+    let passed : PassesItem (class_from c.args.walk.start) c.args.allowed c.loop-at.at front c.in_ok-left.left now c.pass.new.self size =
+    subst (λ class. PassesItem class c.args.allowed c.loop-at.at front c.in_ok-left.left now c.pass.new.self size) c.class-class.ensures c.in_ok-at.ensures in
+    let seen = shown g (goal.at.loop-at-preserved g c).After-bytes in
     record {
-      surveyed = λ bytes holds.
-          let shows = c.in_ok-left.ensures.shows bytes (still_held c.loop-at.invariant.read bytes holds) in
-          let seen = subst (λ l. Shows bytes c.loop-at.at l c.in_ok-left.left) (sym c.bytes.ensures) shows in
-          kept bytes c.args.walk.start c.args.walk.head c.args.allowed now c.loop-at.at (c.loop-at.invariant.surveyed bytes holds) front c.in_ok-left.left seen item c.keep.new.self c.in-Some.step.size
-          (few_by front item c.in-Some.ensures.passes.item c.in-Some.ensures.passes.most) (c.in-Some.ensures.step bytes c.loop-at.at seen) keeps;
-      laid = laid_more c.args.walk.head c.args.walk.start.first.offset (class_from c.args.walk.start) c.args.allowed c.loop-at.at front now c.keep.new.self c.in-Some.step.size c.loop-at.invariant.laid item (item_header front item c.in-Some.ensures.passes.item) c.in-Some.ensures.passes.least keeps;
-      few = few_more (class_from c.args.walk.start) c.args.allowed c.loop-at.at front now c.keep.new.self item keeps c.loop-at.invariant.few;
-      within = omega (arith, c.in-Some.ensures.passes.within, c.in_ok-left.ensures.left, c.loop-at.invariant.within);
+      surveyed = λ file holds.
+          kept file c.args.walk.start c.args.walk.head c.args.allowed now c.loop-at.at (c.loop-at.invariant.surveyed file holds) front c.in_ok-left.left (seen file holds) item c.pass.new.self size (few_by front item refl passed.front.most)
+          (passed.passes file (seen file holds)) passed.keeps;
+      laid = laid_more c.args.walk.head c.args.walk.start.first.offset (class_from c.args.walk.start) c.args.allowed c.loop-at.at front now c.pass.new.self size c.loop-at.invariant.laid item (item_header front item refl) passed.front.least passed.keeps;
+      few = few_more (class_from c.args.walk.start) c.args.allowed c.loop-at.at front now c.pass.new.self item passed.keeps c.loop-at.invariant.few;
+      within = omega (arith, passed.front.within, c.in_ok-left.ensures.left, c.loop-at.invariant.within);
       read = read_more c.loop-at.invariant.read c.in_ok-left.ensures.reads;
     }
 
@@ -140,17 +138,11 @@ returns-in_err-left-clause-files g c = c.in_err-left.ensures.reads.files ∙ c.l
 pub returns-in_err-left-clause-counts : goal.returns-in_err-left-clause-counts
 returns-in_err-left-clause-counts g c = subst (λ n. OnlyReads n (g.D.Folder.counts c.look.new.folder)) c.loop-at.invariant.read.counts c.in_err-left.ensures.reads.counts
 
-pub returns-in_default-clause-files : goal.returns-in_default-clause-files
-returns-in_default-clause-files g c = c.in_ok-left.ensures.reads.files ∙ c.loop-at.invariant.read.files
+pub returns-in_err-at-clause-files : goal.returns-in_err-at-clause-files
+returns-in_err-at-clause-files g c = c.in_ok-left.ensures.reads.files ∙ c.loop-at.invariant.read.files
 
-pub returns-in_default-clause-counts : goal.returns-in_default-clause-counts
-returns-in_default-clause-counts g c = only_reads_equal (c.in_ok-left.ensures.reads.done ∙ c.loop-at.invariant.read.counts)
-
-pub returns-in_err-keep-clause-files : goal.returns-in_err-keep-clause-files
-returns-in_err-keep-clause-files g c = c.in_ok-left.ensures.reads.files ∙ c.loop-at.invariant.read.files
-
-pub returns-in_err-keep-clause-counts : goal.returns-in_err-keep-clause-counts
-returns-in_err-keep-clause-counts g c = only_reads_equal (c.in_ok-left.ensures.reads.done ∙ c.loop-at.invariant.read.counts)
+pub returns-in_err-at-clause-counts : goal.returns-in_err-at-clause-counts
+returns-in_err-at-clause-counts g c = only_reads_equal (c.in_ok-left.ensures.reads.done ∙ c.loop-at.invariant.read.counts)
 
 head_within : (start : Start) (size : ℕ) → start.first.offset + size_of (Frame start.first.header) ≤ size → (head : Option Head) → IfSome head (IsFrameOf start.first) → IfSome head (IsWholeHead start.first.offset (class_from start) size)
 head_within start size whole None same = tt

@@ -5,4 +5,4 @@ use Rattle.sync_survey.proofs.rows.word_fault.Goals as goal
 
 pub word_said-said-requires : goal.word_said-said-requires
 word_said-said-requires c =
-    room-protected c.args.row.now.header c.args.bytes.now (sym (ap (λ row. row.header.protected) c.row.view_is) ∙ c.if-not-row.false) c.requires.room
+    room-protected c.args.row.now.header c.args.bytes.now (sym (ap (λ h. h.protected) (c.header.view_is ∙ c.requires.same)) ∙ c.if-not-header.false) c.requires.room

@@ -1,15 +1,19 @@
 -- The main data fit into the room for them.
-use Rattle.std.proofs.Common.{◌≡◌, ◌+◌, ◌/◌, ◌≤◌, ◌∙◌, ap, length, arith}
+use Rattle.std.proofs.Common.{◌≡◌, ◌+◌, ◌/◌, ◌≤◌, ◌∙◌, sym, subst, ap, length, arith}
 use Rattle.frame_header.specs.Fields.{HeaderFields}
 use Rattle.frame_header.specs.Tables.{class_of, area_of}
 use Rattle.side_info.specs.declared.side.Side.{Side}
 use Rattle.side_info.specs.Side.{payload_bits}
+use Rattle.side_info.specs.FrameFields.{FrameFields}
+use Rattle.frame_writer.specs.Frames.{Frame, frame_of, EndsInArea}
 use Rattle.drill_stream.specs.Draws.{state_behind}
 use Rattle.drill_stream.specs.Drill.{drawn_side}
 use Rattle.drill_stream.proofs.DrawsLaws.{behind-sum}
 use Rattle.drill_stream.proofs.DrawnSide.{drawn_side-fits, drawn_side-room, drawn_side-begin}
 use Rattle.drill_stream.proofs.MakingLaws.{area-is, reach-most}
+use Rattle.drill_stream.proofs.making.Making.frame.Given as given
 use Rattle.drill_stream.proofs.making.Making.frame.Goals as goal
+use Rattle.drill_stream.proofs.making.Making.frame.Goals.{After-new-frame}
 
 pub draw_payload-payload-requires : goal.draw_payload-payload-requires
 draw_payload-payload-requires g c =
@@ -19,15 +23,20 @@ draw_payload-payload-requires g c =
       few = omega (arith, c.bits.ensures, ap payload_bits c.draw_side-side.ensures.side, drawn_side-room begin m.draws.state, c.reach.ensures, reach-most m.writer c.requires.next.class);
     }
 
-pub frame-requires-clause-fits : goal.frame-requires-clause-fits
-frame-requires-clause-fits g c =
+pub new-front-requires : goal.new-front-requires
+new-front-requires g c =
     let m = c.args.self.now in
     let begin = c.reach.result in
-    rw (c.requires.next.class, c.draw_side-side.ensures.side) (drawn_side-fits begin m.draws.state (omega (arith, c.reach.ensures, reach-most m.writer c.requires.next.class)))
+    rw (c.drill_header.ensures, c.draw_side-side.ensures.side) (drawn_side-fits begin m.draws.state (omega (arith, c.reach.ensures, reach-most m.writer c.requires.next.class)))
+
+-- the frame that the writer gets
+frame_is : (g : given.Over) (c : After-new-frame g) → c.new-frame.result ≡ frame_of c.drill_header.result c.draw_side-side.result c.draw_payload-payload.result
+frame_is g c = c.new-frame.ensures ∙ ap {A = FrameFields} {B = Frame} (λ k. record { kept = k; payload = c.draw_payload-payload.result }) c.new-front.ensures
 
 pub frame-requires-clause-start : goal.frame-requires-clause-start
 frame-requires-clause-start g c =
-    omega (arith, ap (λ (s : Side). s.main_data_begin) c.draw_side-side.ensures.side, drawn_side-begin c.reach.result c.args.self.now.draws.state, c.reach.ensures)
+    let is = frame_is g (goal.at.frame-requires-clause-start g c).After-new-frame in
+    omega (arith, ap (λ (f : Frame). f.kept.side.main_data_begin) is, ap (λ (s : Side). s.main_data_begin) c.draw_side-side.ensures.side, drawn_side-begin c.reach.result c.args.self.now.draws.state, c.reach.ensures)
 
 pub frame-requires-clause-within : goal.frame-requires-clause-within
 frame-requires-clause-within g c =
@@ -46,13 +55,14 @@ frame-requires-clause-within g c =
       ap (λ (s : Side). s.main_data_begin) c.draw_side-side.ensures.side,
       drawn_side-begin begin m.draws.state,
     ) in
-    size
+    subst EndsInArea (sym (frame_is g (goal.at.frame-requires-clause-within g c).After-new-frame)) size
 
 pub frame-requires-clause-few : goal.frame-requires-clause-few
 frame-requires-clause-few g c =
     let m = c.args.self.now in
     let begin = c.reach.result in
-    omega (arith, c.draw_payload-payload.ensures.size, c.bits.ensures, ap payload_bits c.draw_side-side.ensures.side, drawn_side-room begin m.draws.state, c.reach.ensures, reach-most m.writer c.requires.next.class)
+    let is = frame_is g (goal.at.frame-requires-clause-few g c).After-new-frame in
+    omega (arith, ap (λ (f : Frame). length f.payload) is, c.draw_payload-payload.ensures.size, c.bits.ensures, ap payload_bits c.draw_side-side.ensures.side, drawn_side-room begin m.draws.state, c.reach.ensures, reach-most m.writer c.requires.next.class)
 
 pub returns-clause-state : goal.returns-clause-state
 returns-clause-state g c =

@@ -17,3 +17,6 @@ returns-clause-same c four all l is =
     header_bytes-same c.to_be_bytes.result four c.args.self.now
     (ap bits c.to_be_bytes.ensures ∙ bits-to_be_bytes c.word_of.result (omega arith) ∙ c.word_of.ensures.bits)
     (subst AreBytes (sym c.to_be_bytes.ensures) (AreBytes-to_be_bytes c.word_of.result)) all l is
+
+pub returns-clause-octets : goal.returns-clause-octets
+returns-clause-octets c = subst AreBytes (sym c.to_be_bytes.ensures) (AreBytes-to_be_bytes c.word_of.result)

@@ -2,7 +2,10 @@
 use Rattle.std.proofs.Common.{◌≡◌, List, ℕ, [], subst, ap, ap₂, ◌∙◌}
 use Rattle.outside.specs.Passed.{PassedOn, AppendedPrefix}
 use Rattle.outside.proofs.PassedLaws.{on_err, passed_there}
-use Rattle.frame_writer.specs.Frames.{Held, frame_of, held_bytes}
+use Rattle.frame_header.specs.Fields.{HeaderFields}
+use Rattle.side_info.specs.declared.side.Side.{Side}
+use Rattle.side_info.specs.FrameFields.{FrameFields}
+use Rattle.frame_writer.specs.Frames.{Frame, Held, frame_of, held_bytes}
 use Rattle.frame_writer.specs.Writer.{Writer, IsSettled}
 use Rattle.frame_writer.specs.Writing.{Writing, writing, bytes_with, WritesOn, WritesPart}
 use Rattle.frame_writer.specs.declared.writer.State.{State}
@@ -16,6 +19,11 @@ nothing held unsent state now settled view opened =
     ap₂ writing (ap (λ (w : Writer). w.held) view)
     (is-open state held unsent settled (ap (λ (w : Writer). w.state) view ∙ opened)).0
 
+-- the frame that is given
+given_is : (h : HeaderFields) (s : Side) (payload : List ℕ) (front : FrameFields) (whole : List ℕ) (frame : Frame) → frame ≡ record { kept = front; payload = whole } → front ≡ record { header = h; side = s } → whole ≡ payload
+    → frame ≡ frame_of h s payload
+given_is h s payload front whole frame is kept same = is ∙ ap₂ (λ (k : FrameFields) (p : List ℕ). record { kept = k; payload = p }) kept same
+
 pub finish-requires : goal.finish-requires
 finish-requires g c = passed_there c.in_ok-frame.ensures.passed
 
@@ -26,8 +34,8 @@ returns-in_err-finish-clause-part g c =
     on_err c.from_residual-in_err-finish.result
     (subst (λ (w : Writing). WritesPart c.args.name.now (frame_of c.args.header.now c.args.side.now c.args.payload.now) w c.frame.new.self
     (g.D.Folder.files c.args.folder.now) (g.D.Folder.files c.finish.new.folder)) old
-    (subst (λ (p : List ℕ). WritesPart c.args.name.now (frame_of c.args.header.now c.args.side.now p) (writing c.self.inside.queue c.self.inside.unsent) c.frame.new.self
-    (g.D.Folder.files c.args.folder.now) (g.D.Folder.files c.finish.new.folder)) c.whole.ensures
+    (subst (λ (f : Frame). WritesPart c.args.name.now f (writing c.self.inside.queue c.self.inside.unsent) c.frame.new.self
+    (g.D.Folder.files c.args.folder.now) (g.D.Folder.files c.finish.new.folder)) (given_is c.args.header.now c.args.side.now c.args.payload.now c.new-front.result c.whole.result c.new-frame.result c.new-frame.ensures c.new-front.ensures c.whole.ensures)
     (writes-unsent new c.in_ok-frame.ensures.written c.in_err-finish.ensures.prefix)))
 
 pub returns-in_err-finish-clause-prefix : goal.returns-in_err-finish-clause-prefix
@@ -37,8 +45,8 @@ returns-in_err-finish-clause-prefix g c =
     on_err c.from_residual-in_err-finish.result
     (subst (λ (w : Writing). AppendedPrefix c.args.name.now (bytes_with w (frame_of c.args.header.now c.args.side.now c.args.payload.now))
     (g.D.Folder.files c.args.folder.now) (g.D.Folder.files c.finish.new.folder)) old
-    (subst (λ (p : List ℕ). AppendedPrefix c.args.name.now (bytes_with (writing c.self.inside.queue c.self.inside.unsent) (frame_of c.args.header.now c.args.side.now p))
-    (g.D.Folder.files c.args.folder.now) (g.D.Folder.files c.finish.new.folder)) c.whole.ensures
+    (subst (λ (f : Frame). AppendedPrefix c.args.name.now (bytes_with (writing c.self.inside.queue c.self.inside.unsent) f)
+    (g.D.Folder.files c.args.folder.now) (g.D.Folder.files c.finish.new.folder)) (given_is c.args.header.now c.args.side.now c.args.payload.now c.new-front.result c.whole.result c.new-frame.result c.new-frame.ensures c.new-front.ensures c.whole.ensures)
     (unsent-prefix new c.in_ok-frame.ensures.passed c.in_err-finish.ensures.prefix)))
 
 pub returns-clause-written : goal.returns-clause-written
@@ -47,8 +55,8 @@ returns-clause-written g c =
     let new = writing c.frame.new.self c.frame.new.unsent in
     subst (λ (w : Writing). WritesOn c.args.name.now (frame_of c.args.header.now c.args.side.now c.args.payload.now) w (writing c.frame.new.self [])
     (g.D.Folder.files c.args.folder.now) (g.D.Folder.files c.finish.new.folder)) old
-    (subst (λ (p : List ℕ). WritesOn c.args.name.now (frame_of c.args.header.now c.args.side.now p) (writing c.self.inside.queue c.self.inside.unsent) (writing c.frame.new.self [])
-    (g.D.Folder.files c.args.folder.now) (g.D.Folder.files c.finish.new.folder)) c.whole.ensures
+    (subst (λ (f : Frame). WritesOn c.args.name.now f (writing c.self.inside.queue c.self.inside.unsent) (writing c.frame.new.self [])
+    (g.D.Folder.files c.args.folder.now) (g.D.Folder.files c.finish.new.folder)) (given_is c.args.header.now c.args.side.now c.args.payload.now c.new-front.result c.whole.result c.new-frame.result c.new-frame.ensures c.new-front.ensures c.whole.ensures)
     (writes-sent new c.in_ok-frame.ensures.written c.in_ok-finish.ensures.appended))
 
 pub returns-clause-passed : goal.returns-clause-passed
@@ -57,6 +65,6 @@ returns-clause-passed g c =
     let new = writing c.frame.new.self c.frame.new.unsent in
     subst (λ (w : Writing). PassedOn c.args.name.now (bytes_with w (frame_of c.args.header.now c.args.side.now c.args.payload.now)) (held_bytes c.frame.new.self)
     (g.D.Folder.files c.args.folder.now) (g.D.Folder.files c.finish.new.folder)) old
-    (subst (λ (p : List ℕ). PassedOn c.args.name.now (bytes_with (writing c.self.inside.queue c.self.inside.unsent) (frame_of c.args.header.now c.args.side.now p)) (held_bytes c.frame.new.self)
-    (g.D.Folder.files c.args.folder.now) (g.D.Folder.files c.finish.new.folder)) c.whole.ensures
+    (subst (λ (f : Frame). PassedOn c.args.name.now (bytes_with (writing c.self.inside.queue c.self.inside.unsent) f) (held_bytes c.frame.new.self)
+    (g.D.Folder.files c.args.folder.now) (g.D.Folder.files c.finish.new.folder)) (given_is c.args.header.now c.args.side.now c.args.payload.now c.new-front.result c.whole.result c.new-frame.result c.new-frame.ensures c.new-front.ensures c.whole.ensures)
     (passed-sent new c.in_ok-frame.ensures.passed c.in_ok-finish.ensures.appended))

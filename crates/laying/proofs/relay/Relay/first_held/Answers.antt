@@ -2,8 +2,8 @@
 use Rattle.std.proofs.Common.{◌+◌, ◌-◌, ◌≡◌, List, length, get_or, sym, ◌∙◌, ap, arith}
 use Rattle.std.specs.Prelude.{slice_get, Some}
 use Rattle.std.proofs.lemmas.Option.{slice_get-get_or}
-use Rattle.sync_survey.specs.declared.rows.Row.{Row}
-use Rattle.sync_survey.specs.MainData.{place}
+use Rattle.sync_survey.specs.Row.{Row}
+use Rattle.sync_survey.specs.MainData.{own_area, place}
 use Rattle.sync_survey.specs.Faults.{tells}
 use Rattle.laying.proofs.ReadLaws.{place-next}
 use Rattle.laying.proofs.relay.Relay.first_held.Goals as goal
@@ -26,7 +26,7 @@ loop-first-preserved c =
             c.loop-first.invariant.bytes_are,
             c.if-bytes-lt2048.true,
             c.loop-first-test.true,
-            c.area-bytes.ensures.area,
+            c.area-bytes.ensures.area ∙ ap own_area c.header.ensures ∙ ap (λ (r : Row). own_area r.header) c.index-rows-first.is,
             place-next s.head s.frames (first - 1) row found,
             ap (λ n. place s.head s.frames n) before,
           );

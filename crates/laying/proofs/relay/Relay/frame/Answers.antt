@@ -1,86 +1,158 @@
 -- The frame is read, and given to the writer in its slot.
-use Rattle.std.proofs.Common.{◌≡◌, ℕ, ◌+◌, ◌-◌, ◌≤◌, min, List, [], ◌∷◌, length, sym, ◌∙◌, ap, subst, arith}
+use Rattle.std.proofs.Common.{◌≡◌, ℕ, ◌+◌, ◌-◌, ◌<◌, ◌≤◌, ◌^◌, min, List, [], ◌∷◌, ◌++◌, length, take, drop, sym, ◌∙◌, ap, subst, arith}
+use Rattle.std.proofs.lemmas.List.{take_rest}
 use Rattle.frame_header.specs.Fields.{ClassFields, HeaderFields}
 use Rattle.frame_header.specs.Tables.{class_of, area_of, window_of}
-use Rattle.side_info.specs.declared.side.Side.{Side}
-use Rattle.side_info.specs.Side.{SideFits}
-use Rattle.outside.specs.Files.{Holds}
+use Rattle.side_info.specs.Side.{front_width, SideFits}
+use Rattle.side_info.specs.FrameFields.{FrameFields}
+use Rattle.slot_plan.specs.declared.needs.Placed.{Placed as PlacedFields}
+use Rattle.outside.specs.Files.{Files, Holds}
 use Rattle.outside.specs.Pass.{route_of, HasPassCause}
-use Rattle.outside.proofs.PassedLaws.{err_at, err_by}
-use Rattle.frame_writer.specs.Frames.{reach_of}
-use Rattle.frame_writer.proofs.WritingLaws.{ok-map}
+use Rattle.outside.proofs.PassedLaws.{err_at}
+use Rattle.frame_writer.specs.Frames.{Frame, area_in, reach_of, reach_with}
 use Rattle.sync_survey.specs.MainData.{side_of}
-use Rattle.sync_survey.specs.Faults.{tells}
+use Rattle.sync_survey.specs.Row.{Row}
+use Rattle.sync_survey.specs.Faults.{SurveyFields, tells}
 use Rattle.part_needs.specs.Needs.{need_of}
 use Rattle.frame_writer.specs.Writing.{writing}
-use Rattle.laying.specs.Passing.{IsOver, Lays, GivesPart, moved_frame, own_reach, writing_in}
+use Rattle.laying.specs.Passing.{IsAreaOf, HoldsWith, Lays, GivesPart, moved_frame, own_reach, writing_in}
 use Rattle.laying.proofs.PlannedFrames.{begun_fits}
 use Rattle.laying.proofs.ChosenFrames.{side_fits}
-use Rattle.laying.proofs.ReadLaws.{over-next}
-use Rattle.laying.proofs.PassLaws.{ready-later, over-later, lays_one, part_one, part_none}
+use Rattle.laying.proofs.ReadLaws.{main-next}
+use Rattle.laying.proofs.ReachLaws.{IsTaken, holds-next}
+use Rattle.laying.proofs.PassLaws.{ready-later, holds-later, lays_one, part_one, part_none}
 use Rattle.laying.proofs.relay.Relay.frame.Given as given
 use Rattle.laying.proofs.relay.Relay.frame.Goals as goal
-use Rattle.laying.proofs.relay.Relay.frame.Goals.{After-with_begin, After-cut_payload-payload, After-write_frame}
+use Rattle.laying.proofs.relay.Relay.frame.Goals.{Start, After-with_area-frame}
+
+-- header and side information in a place of a plan
+abbrev placed : Row → PlacedFields → FrameFields
+placed r p = record { header = record r.header { slot = p.slot }; side = record (side_of r) { main_data_begin = p.begin } }
 
 -- how far back main data may begin after a frame
 abbrev behind : ClassFields → HeaderFields → ℕ → ℕ → ℕ
 behind c h begin bytes = min (window_of c.version) (begin + area_of (class_of h) h.slot h.protected - bytes)
 
--- once the area was read
-module _ (g : given.Over) (c : After-with_begin g) where
-  -- the window is over all main data up to the end of the frame's own area
-  over : IsOver c.read_area.new.window c.args.self.now.pass.input.now (g.D.Folder.files c.read_area.new.folder) (tells c.args.self.now.survey.now) (c.args.i + 1)
-  over =
-      let input = c.args.self.now.pass.input.now in
-      let s = tells c.args.self.now.survey.now in
-      over-next c.args.buffers.now.window c.read_area.new.window input (g.D.Folder.files c.read_area.new.folder) s c.args.i c.args.row.now c.requires.found
-      (subst (λ f. IsOver c.args.buffers.now.window input f s c.args.i) (sym c.read_area.ensures.files) c.requires.over) c.in_ok-read_area.ensures.area
+-- the front that the writer gets
+front : (g : given.Over) (c : After-with_area-frame g) → c.with_area-frame.result ≡ record { kept = placed c.args.row.now c.args.place.now; payload = c.cut_payload-payload.result }
+front g c = c.with_area-frame.ensures ∙ (λ j. record { kept = c.place_front.ensures j; payload = c.cut_payload-payload.result })
 
-  -- the side information that the writer gets says where the main data begin now
-  side : c.with_begin.result ≡ record (side_of c.args.row.now) { main_data_begin = c.args.place.now.begin }
-  side = c.with_begin.ensures ∙ ap (λ (t : Side). record t { main_data_begin = c.args.place.now.begin }) c.side_of.ensures
+-- the bytes are those that the feed gave
+with-bytes : (window bytes given input : List ℕ) (files : Files) (s : SurveyFields) (i n : ℕ) → bytes ≡ given → HoldsWith window (take n given) input files s i → HoldsWith window (take n bytes) input files s i
+with-bytes window bytes given input files s i n same = subst (λ (l : List ℕ). HoldsWith window (take n l) input files s i) (sym same)
+
+area-bytes : (bytes given input : List ℕ) (files : Files) (r : Row) (n : ℕ) → bytes ≡ given → IsAreaOf (drop n given) input files r → IsAreaOf (take (length bytes - n) (drop n bytes)) input files r
+area-bytes bytes given input files r n same = subst (λ (l : List ℕ). IsAreaOf l input files r) (ap (drop n) (sym same) ∙ sym (take_rest bytes n))
 
 -- the writer gets the frame in its slot
-told : (g : given.Over) (c : After-cut_payload-payload g) → IsOver c.read_area.new.window c.args.self.now.pass.input.now (g.D.Folder.files c.read_area.new.folder) (tells c.args.self.now.survey.now) (c.args.i + 1)
-    → c.with_begin.result ≡ record (side_of c.args.row.now) { main_data_begin = c.args.place.now.begin } → (file : List ℕ) → Holds (g.D.Folder.files c.read_area.new.folder) c.args.self.now.pass.input.now file
-    → (record { kept = record { header = c.with_slot.result; side = c.with_begin.result }; payload = c.cut_payload-payload.result }) ∷ [] ≡ moved_frame c.args.self.now c.args.i c.args.row.now c.args.place.now file
-told g c over_is side_is file holds =
-    let payload = c.cut_payload-payload.ensures.told file over_is.main over_is.held over_is.long (over_is.is file holds) in
-    let header = c.with_slot.ensures in
-    λ j. (record { kept = record { header = header j; side = side_is j }; payload = payload j }) ∷ []
+told : (g : given.Over) (c : After-with_area-frame g) → (file : List ℕ) → Holds (g.D.Folder.files c.fill_frame.new.folder) c.args.self.now.pass.input.now file
+    → c.with_area-frame.result ∷ [] ≡ moved_frame c.args.self.now c.args.reading.now.next c.args.row.now c.args.place.now file
+told g c file holds =
+    let s = tells c.args.self.now.survey.now in
+    let input = c.args.self.now.pass.input.now in
+    let i = c.args.reading.now.next in
+    let span = c.in_ok-span.span in
+    let mid = g.D.Folder.files c.fill_frame.new.folder in
+    let over = with-bytes c.fill_frame.new.window c.bytes-bytes.result.now _ input mid s i span.before c.bytes-bytes.ensures c.in_ok-span.ensures.over in
+    let has = area-bytes c.bytes-bytes.result.now _ input mid c.args.row.now span.skip c.bytes-bytes.ensures c.in_ok-span.ensures.area in
+    let payload = c.cut_payload-payload.ensures.told file over.passed over.long
+    ((λ j. over.is file holds j ++ has.is file holds j) ∙ sym (main-next file s.head s.frames i c.args.row.now c.requires.found)) in
+    ap (λ (f : Frame). f ∷ []) (front g c ∙ (λ j. record { kept = placed c.args.row.now c.args.place.now; payload = payload j }))
 
 -- how far back main data may begin behind it
-writer-reach : (g : given.Over) (c : After-write_frame g) → c.with_begin.result ≡ record (side_of c.args.row.now) { main_data_begin = c.args.place.now.begin }
-    → reach_of c.write_frame.new.writer ≡ own_reach c.args.self.now c.args.row.now c.args.place.now
-writer-reach g c side_is =
-    let header = c.with_slot.ensures in
+writer-reach : (g : given.Over) (c : After-with_area-frame g) (reach : ℕ) → reach ≡ reach_with c.args.buffers.now.writer.class c.with_area-frame.result → reach ≡ own_reach c.args.self.now c.args.row.now c.args.place.now
+writer-reach g c reach is =
+    let h = (placed c.args.row.now c.args.place.now).header in
+    let begin = c.args.place.now.begin in
     let size : length c.cut_payload-payload.result ≡ (need_of c.args.row.now).bytes = c.cut_payload-payload.ensures.size in
-    let begin : c.with_begin.result.main_data_begin ≡ c.args.place.now.begin = ap (λ (t : Side). t.main_data_begin) side_is in
     let class = c.requires.class in
-    c.write_frame.ensures.reach ∙ (λ j. behind (class j) (header j) (begin j) (size j))
+    is ∙ ap (reach_with c.args.buffers.now.writer.class) (front g c) ∙ (λ j. behind (class j) h begin (size j))
 
-pub returns-in_err-read_area-clause-part : goal.returns-in_err-read_area-clause-part
-returns-in_err-read_area-clause-part g c =
+-- the class of the survey is that of the frame
+class : (g : given.Over) (c : Start g) → c.args.class ≡ class_of c.args.row.now.header
+class g c = c.requires.known ∙ sym (c.requires.ready.laid.placed c.args.reading.now.next c.args.row.now c.requires.found).class_is
+
+-- what the writer gets fits the class
+fits : (g : given.Over) (c : Start g) → SideFits c.args.buffers.now.writer.class (placed c.args.row.now c.args.place.now).side
+fits g c =
+    let s = tells c.args.self.now.survey.now in
+    let row = c.args.row.now in
+    let d = c.args.buffers.now.writer.class in
+    let well = c.requires.ready.laid.placed c.args.reading.now.next row c.requires.found in
+    begun_fits d (side_of row) c.args.place.now.begin (subst (λ k. SideFits k (side_of row)) (sym c.requires.class) (side_fits s.class row.lost row.side well.fits)) (omega (arith, c.requires.begin))
+
+pub extent_in-extent-requires : goal.extent_in-extent-requires
+extent_in-extent-requires g c = class g (goal.at.extent_in-extent-requires g c).Start ∙ sym (ap (λ f. class_of f.header) c.front.ensures)
+
+pub place_front-requires-clause-begin : goal.place_front-requires-clause-begin
+place_front-requires-clause-begin g c =
+    let at = (goal.at.place_front-requires-clause-begin g c).Start in
+    let d : c.args.buffers.now.writer.class ≡ class_of c.args.row.now.header = c.requires.class ∙ sym c.requires.known ∙ class g at in
+    subst (λ k. c.args.place.now.begin < 2 ^ front_width k 0) d (fits g at).main_data_begin
+
+pub with_area-frame-requires : goal.with_area-frame-requires
+with_area-frame-requires g c =
+    let at = (goal.at.with_area-frame-requires g c).Start in
+    let protected = c.protected.ensures ∙ ap (λ f. f.header.protected) c.front-3.ensures in
+    c.area_of-area.ensures.area
+    ∙ (λ j. area_of (class g at j) c.args.place.now.slot (protected j))
+    ∙ sym (ap area_in c.place_front.ensures)
+
+pub returns-in_err-span-clause-part : goal.returns-in_err-span-clause-part
+returns-in_err-span-clause-part g c =
     let self = c.args.self.now in
     let old = g.D.Folder.files c.args.folder.now in
-    let made = moved_frame self c.args.i c.args.row.now c.args.place.now in
+    let made = moved_frame self c.args.reading.now.next c.args.row.now c.args.place.now in
     let last = own_reach self c.args.row.now c.args.place.now in
     let near : c.args.place.now.begin ≤ c.args.buffers.now.writer.waiting.free = omega (arith, c.requires.begin) in
     err_at c.from_residual.result _ c.from_residual.ensures.1
-    (subst (λ f. GivesPart self made last c.args.buffers.now old f c.in_err-read_area.field-0.0) (sym c.read_area.ensures.files)
-    (part_none self.pass.input.now self.pass.output.now made last (writing_in c.args.buffers.now) old c.in_err-read_area.ensures.read c.requires.ready.pass.target (λ file holds more begins. near)))
+    (subst (λ f. GivesPart self made last c.args.buffers.now old f c.in_err-span.field-0.0) (sym c.fill_frame.ensures.files)
+    (part_none self.pass.input.now self.pass.output.now made last (writing_in c.args.buffers.now) old c.in_err-span.ensures.read c.requires.ready.pass.target (λ file holds more begins. near)))
 
 pub write_frame-requires-clause-fits : goal.write_frame-requires-clause-fits
 write_frame-requires-clause-fits g c =
-    let s = tells c.args.self.now.survey.now in
-    let row = c.args.row.now in
-    let class = c.args.buffers.now.writer.class in
-    let well = c.requires.ready.laid.placed c.args.i row c.requires.found in
-    subst (SideFits class) (sym (side g (goal.at.write_frame-requires-clause-fits g c).After-with_begin))
-    (begun_fits class (side_of row) c.args.place.now.begin (subst (λ d. SideFits d (side_of row)) (sym c.requires.class) (side_fits s.class row.lost row.side well.fits)) (omega (arith, c.requires.begin)))
+    let at = goal.at.write_frame-requires-clause-fits g c in
+    subst (λ (f : Frame). SideFits c.args.buffers.now.writer.class f.kept.side) (sym (front g at.After-with_area-frame)) (fits g at.Start)
 
 pub write_frame-requires-clause-class : goal.write_frame-requires-clause-class
-write_frame-requires-clause-class g c = ap class_of c.with_slot.ensures ∙ (c.requires.ready.laid.placed c.args.i c.args.row.now c.requires.found).class_is ∙ sym c.requires.class
+write_frame-requires-clause-class g c =
+    let at = goal.at.write_frame-requires-clause-class g c in
+    ap (λ (f : Frame). class_of f.kept.header) (front g at.After-with_area-frame) ∙ sym (class g at.Start) ∙ c.requires.known ∙ sym c.requires.class
+
+pub cut_payload-payload-requires-clause-area : goal.cut_payload-payload-requires-clause-area
+cut_payload-payload-requires-clause-area g c =
+    (area-bytes c.bytes-bytes.result.now _ c.args.self.now.pass.input.now (g.D.Folder.files c.fill_frame.new.folder) c.args.row.now c.in_ok-span.span.skip c.bytes-bytes.ensures c.in_ok-span.ensures.area).long
+
+pub cut_payload-payload-requires-clause-few : goal.cut_payload-payload-requires-clause-few
+cut_payload-payload-requires-clause-few g c =
+    (with-bytes c.fill_frame.new.window c.bytes-bytes.result.now _ c.args.self.now.pass.input.now (g.D.Folder.files c.fill_frame.new.folder) (tells c.args.self.now.survey.now) c.args.reading.now.next c.in_ok-span.span.before
+    c.bytes-bytes.ensures c.in_ok-span.ensures.over).few
+
+pub cut_payload-payload-requires-clause-over : goal.cut_payload-payload-requires-clause-over
+cut_payload-payload-requires-clause-over g c =
+    (with-bytes c.fill_frame.new.window c.bytes-bytes.result.now _ c.args.self.now.pass.input.now (g.D.Folder.files c.fill_frame.new.folder) (tells c.args.self.now.survey.now) c.args.reading.now.next c.in_ok-span.span.before
+    c.bytes-bytes.ensures c.in_ok-span.ensures.over).reaches
+
+pub returns-in_err-write_frame-clause-part : goal.returns-in_err-write_frame-clause-part
+returns-in_err-write_frame-clause-part g c =
+    let at = goal.at.returns-in_err-write_frame-clause-part g c in
+    let self = c.args.self.now in
+    let made = moved_frame self c.args.reading.now.next c.args.row.now c.args.place.now in
+    let last = own_reach self c.args.row.now c.args.place.now in
+    let files = g.D.Folder.files in
+    let reach = writer-reach g at.After-with_area-frame (reach_of c.write_frame.new.writer) c.write_frame.ensures.reach in
+    err_at c.from_residual-in_err-write_frame.result _ c.from_residual-in_err-write_frame.ensures.1
+    (subst (λ f. GivesPart self made last c.args.buffers.now f (files c.write_frame.new.folder) c.in_err-write_frame.field-0.0) c.fill_frame.ensures.files
+    (part_one self.pass.input.now self.pass.output.now made last _ (writing_in c.args.buffers.now) c.write_frame.new.writer (files c.fill_frame.new.folder) (files c.write_frame.new.folder) (told g at.After-with_area-frame) (omega (arith, reach)) c.in_err-write_frame.ensures.part))
+
+pub returns-in_err-write_frame-clause-cause : goal.returns-in_err-write_frame-clause-cause
+returns-in_err-write_frame-clause-cause g c =
+    let way = route_of c.args.self.now.pass in
+    let end = g.D.Folder.counts c.write_frame.new.folder in
+    let fault = c.in_err-write_frame.field-0.0 in
+    err_at c.from_residual-in_err-write_frame.result _ c.from_residual-in_err-write_frame.ensures.1
+    (subst (λ f. HasPassCause way f (g.D.Folder.counts c.args.folder.now) end fault) c.fill_frame.ensures.files
+    (subst (λ n. HasPassCause way (g.D.Folder.files c.fill_frame.new.folder) n end fault) c.in_ok-span.ensures.done c.in_err-write_frame.ensures.cause))
 
 pub returns-clause-lays : goal.returns-clause-lays
 returns-clause-lays g c =
@@ -89,53 +161,40 @@ returns-clause-lays g c =
     let files = g.D.Folder.files in
     let old = writing_in c.args.buffers.now in
     let new = writing c.write_frame.new.writer c.write_frame.new.unsent in
-    let made = moved_frame c.args.self.now c.args.i c.args.row.now c.args.place.now in
-    ok-map c.write_frame.result
-    (λ on. subst (λ f. Lays pass.input.now pass.output.now made old new f (files c.write_frame.new.folder)) c.read_area.ensures.files
-    (lays_one pass.input.now pass.output.now made _ old new (files c.read_area.new.folder) (files c.write_frame.new.folder) (told g at.After-cut_payload-payload (over g at.After-with_begin) (side g at.After-with_begin)) on))
-    c.write_frame.ensures.written
-
-pub returns-clause-part : goal.returns-clause-part
-returns-clause-part g c =
-    let at = goal.at.returns-clause-part g c in
-    let self = c.args.self.now in
-    let made = moved_frame self c.args.i c.args.row.now c.args.place.now in
-    let last = own_reach self c.args.row.now c.args.place.now in
-    let files = g.D.Folder.files in
-    let reach = writer-reach g (goal.at.returns-clause-part g c).After-write_frame (side g at.After-with_begin) in
-    err_by c.write_frame.result
-    (λ fault part. subst (λ f. GivesPart self made last c.args.buffers.now f (files c.write_frame.new.folder) fault) c.read_area.ensures.files
-    (part_one self.pass.input.now self.pass.output.now made last _ (writing_in c.args.buffers.now) c.write_frame.new.writer (files c.read_area.new.folder) (files c.write_frame.new.folder) (told g at.After-cut_payload-payload (over g at.After-with_begin) (side g at.After-with_begin)) (omega (arith, reach)) part))
-    c.write_frame.ensures.part
-
-pub cut_payload-payload-requires-clause-over : goal.cut_payload-payload-requires-clause-over
-cut_payload-payload-requires-clause-over g c =
-    let is = over g (goal.at.cut_payload-payload-requires-clause-over g c).After-with_begin in
-    (is.main, is.held, is.long)
+    let made = moved_frame c.args.self.now c.args.reading.now.next c.args.row.now c.args.place.now in
+    subst (λ f. Lays pass.input.now pass.output.now made old new f (files c.write_frame.new.folder)) c.fill_frame.ensures.files
+    (lays_one pass.input.now pass.output.now made _ old new (files c.fill_frame.new.folder) (files c.write_frame.new.folder) (told g at.After-with_area-frame) c.in_ok-write_frame.ensures.written)
 
 pub returns-clause-over : goal.returns-clause-over
 returns-clause-over g c =
-    ok-map c.write_frame.result
-    (λ on. over-later c.read_area.new.window c.args.self.now.pass.input.now c.args.self.now.pass.output.now (tells c.args.self.now.survey.now) (c.args.i + 1) _ _ on.passed c.requires.ready.pass.apart on.files (over g (goal.at.returns-clause-over g c).After-with_begin))
-    c.write_frame.ensures.written
+    let on = c.in_ok-write_frame.ensures.written in
+    let s = tells c.args.self.now.survey.now in
+    let i = c.args.reading.now.next in
+    let row = c.args.row.now in
+    let span = c.in_ok-span.span in
+    let bytes = c.bytes-bytes.result.now in
+    let input = c.args.self.now.pass.input.now in
+    let mid = g.D.Folder.files c.fill_frame.new.folder in
+    let well = c.requires.ready.laid.placed i row c.requires.found in
+    let over = with-bytes c.fill_frame.new.window bytes _ input mid s i span.before c.bytes-bytes.ensures c.in_ok-span.ensures.over in
+    let own = take (length bytes - span.skip) (drop span.skip bytes) in
+    let has = area-bytes bytes _ input mid row span.skip c.bytes-bytes.ensures c.in_ok-span.ensures.area in
+    let bytes_is : (c.len.result ≡ 0 → c.taken_before-taken.result ≡ 0) × (0 < c.len.result → c.taken_before-taken.result ≡ min (length (take span.before bytes)) (length (take span.before bytes) + c.len.result - c.from.result)) =
+    (c.taken_before-taken.ensures.none, c.taken_before-taken.ensures.some) in
+    let taken_is : IsTaken (length (take span.before bytes)) (need_of row).bytes row.side.main_data_begin c.taken_before-taken.result =
+    subst (λ n. IsTaken (length (take span.before bytes)) n row.side.main_data_begin c.taken_before-taken.result) (c.len.ensures ∙ c.cut_payload-payload.ensures.size)
+    (subst (λ n. IsTaken (length (take span.before bytes)) c.len.result n c.taken_before-taken.result) (c.from.ensures ∙ c.extent_in-extent.ensures.begin ∙ ap (λ f. f.side.main_data_begin) c.front.ensures) bytes_is) in
+    let within : span.at + length own ≤ s.length =
+    subst (λ (l : List ℕ). span.at + length l ≤ s.length) (ap (drop span.skip) (sym c.bytes-bytes.ensures) ∙ sym (take_rest bytes span.skip)) c.in_ok-span.ensures.ends in
+    holds-later c.pass_area.new.window input c.args.self.now.pass.output.now s span.at (length own) (i + 1) mid (g.D.Folder.files c.write_frame.new.folder) on.passed c.requires.ready.pass.apart on.files
+    (holds-next c.fill_frame.new.window c.pass_area.new.window (take span.before bytes) input mid s i over own row c.requires.found has well c.taken_before-taken.result taken_is c.pass_area.ensures span.at c.in_ok-span.ensures.at within)
 
 pub returns-clause-ready : goal.returns-clause-ready
 returns-clause-ready g c =
-    let self = c.args.self.now in
-    ok-map c.write_frame.result
-    (λ on. ready-later self _ _ c.read_area.new.feed on.passed on.files c.in_ok-read_area.ensures.ready)
-    c.write_frame.ensures.written
+    let on = c.in_ok-write_frame.ensures.written in
+    ready-later c.args.self.now _ _ c.fill_frame.new.feed on.passed on.files c.fill_frame.ensures.ready
 
 pub returns-clause-reach : goal.returns-clause-reach
 returns-clause-reach g c =
     let at = goal.at.returns-clause-reach g c in
-    ok-map c.write_frame.result (λ on. writer-reach g at.After-write_frame (side g at.After-with_begin)) c.write_frame.ensures.written
-
-pub returns-clause-cause : goal.returns-clause-cause
-returns-clause-cause g c =
-    let way = route_of c.args.self.now.pass in
-    let end = g.D.Folder.counts c.write_frame.new.folder in
-    err_by c.write_frame.result
-    (λ fault cause. subst (λ f. HasPassCause way f (g.D.Folder.counts c.args.folder.now) end fault) c.read_area.ensures.files
-    (subst (λ n. HasPassCause way (g.D.Folder.files c.read_area.new.folder) n end fault) c.in_ok-read_area.ensures.done cause))
-    c.write_frame.ensures.cause
+    writer-reach g at.After-with_area-frame (reach_of c.write_frame.new.writer) c.write_frame.ensures.reach

@@ -9,7 +9,7 @@ use Rattle.outside.specs.Files.{Holds}
 use Rattle.outside.proofs.PassedLaws.{err_at}
 use Rattle.frame_writer.specs.Laid.{BeginsWithin}
 use Rattle.frame_writer.specs.Frames.{Frame, reach_of, pieces}
-use Rattle.sync_survey.specs.declared.rows.Row.{Row}
+use Rattle.sync_survey.specs.Row.{Row}
 use Rattle.slot_plan.specs.declared.needs.Placed.{Placed}
 use Rattle.sync_survey.specs.Faults.{SurveyFields, tells}
 use Rattle.laying.specs.Relaid.{frame_of, all_frames, placed_as, relaid}
@@ -17,11 +17,12 @@ use Rattle.laying.specs.Fits.{bytes_at, area_at, reach_behind, FitsFrom, last_re
 use Rattle.laying.proofs.HoldLaws.{needs-range}
 use Rattle.outside.proofs.PassLaws.{cause_later}
 use Rattle.laying.specs.Passing.{writing_in}
+use Rattle.laying.proofs.ReachLaws.{over-holds}
 use Rattle.laying.proofs.PassLaws.{lays_none, lays_then, part_then}
 use Rattle.laying.proofs.RelayLaws.{found-at, fits-some, item-next, fits-next, last-next, relaid-next, fits-none, relaid-end, begins-left, part_more, step-most, lays-all}
 use Rattle.laying.proofs.relay.Relay.frames.Given as given
 use Rattle.laying.proofs.relay.Relay.frames.Goals as goal
-use Rattle.laying.proofs.relay.Relay.frames.Goals.{After-place-item, After-index-rows-i}
+use Rattle.laying.proofs.relay.Relay.frames.Goals.{After-place-item, After-index-rows-reading}
 
 pub loop-place-init : goal.loop-place-init
 loop-place-init g c =
@@ -29,7 +30,7 @@ loop-place-init g c =
     record {
       ready = c.requires.ready;
       early = c.requires.ordered;
-      over = c.requires.over;
+      over = over-holds c.args.buffers.now.window self.pass.input.now (g.D.Folder.files c.args.folder.now) (tells self.survey.now) c.args.from c.requires.over;
       class = c.requires.class;
       fits = c.requires.fits;
       reach = refl;
@@ -43,7 +44,7 @@ loop-place-init g c =
     }
 
 -- frame i at the place that is next
-module _ (g : given.Over) (c : After-index-rows-i g) where
+module _ (g : given.Over) (c : After-index-rows-reading g) where
   abbrev s : SurveyFields
   s = tells c.args.self.now.survey.now
 
@@ -51,10 +52,10 @@ module _ (g : given.Over) (c : After-index-rows-i g) where
   p = c.place-item.result
 
   abbrev row : Row
-  row = c.index-rows-i.result
+  row = c.index-rows-reading.result
 
   abbrev i : ℕ
-  i = c.loop-place.i
+  i = c.loop-place.reading.next
 
   abbrev to : ℕ
   to = c.args.to
@@ -78,7 +79,7 @@ module _ (g : given.Over) (c : After-index-rows-i g) where
   some = fits-some window reach s i to p more fits
 
   found : slice_get s.frames i ≡ Some row
-  found = found-at s.frames i row (omega (arith, some, c.requires.within)) (c.index-rows-i.is ∙ ap (λ (l : List Row). get_or l i row) c.frames-rows.ensures)
+  found = found-at s.frames i row (omega (arith, some, c.requires.within)) (c.index-rows-reading.is ∙ ap (λ (l : List Row). get_or l i row) c.frames-rows.ensures)
 
   module _ (next : ℕ) (next_is : next ≡ i + cond p.lead_in 0 1) where
     opened : (p.begin ≤ reach) × (bytes_at p.lead_in (need_of row) ≤ p.begin + area_at p (need_of row)) × FitsFrom window (reach_behind window p (need_of row)) (map need_of (slice_range s.frames next to)) more
@@ -101,30 +102,30 @@ module _ (g : given.Over) (c : After-index-rows-i g) where
         ∙ sym (c.loop-place.invariant.lays.left file holds)
 
 pub place-requires-clause-found : goal.place-requires-clause-found
-place-requires-clause-found g c = found g (goal.at.place-requires-clause-found g c).After-index-rows-i
+place-requires-clause-found g c = found g (goal.at.place-requires-clause-found g c).After-index-rows-reading
 
 pub place-requires-clause-begin : goal.place-requires-clause-begin
-place-requires-clause-begin g c = (opened g (goal.at.place-requires-clause-begin g c).After-index-rows-i _ refl).0
+place-requires-clause-begin g c = (opened g (goal.at.place-requires-clause-begin g c).After-index-rows-reading _ refl).0
 
 pub place-requires-clause-within : goal.place-requires-clause-within
-place-requires-clause-within g c = (opened g (goal.at.place-requires-clause-within g c).After-index-rows-i _ refl).1
+place-requires-clause-within g c = (opened g (goal.at.place-requires-clause-within g c).After-index-rows-reading _ refl).1
 
-pub returns-in_err-i-clause-part : goal.returns-in_err-i-clause-part
-returns-in_err-i-clause-part g c =
-    let at = (goal.at.returns-in_err-i-clause-part g c).After-index-rows-i in
+pub returns-in_err-reading-clause-part : goal.returns-in_err-reading-clause-part
+returns-in_err-reading-clause-part g c =
+    let at = (goal.at.returns-in_err-reading-clause-part g c).After-index-rows-reading in
     let self = c.args.self.now in
     let s = tells self.survey.now in
     let files = g.D.Folder.files in
     let sofar = c.loop-place.invariant.lays in
     let p = c.place-item.result in
-    let row = c.index-rows-i.result in
+    let row = c.index-rows-reading.result in
     let to = c.args.to in
     let placed = c.args.placed.now in
     let window = window_of s.class.version in
     let reach = reach_behind window p (need_of row) in
-    let next = c.loop-place.i + cond p.lead_in 0 1 in
+    let next = c.loop-place.reading.next + cond p.lead_in 0 1 in
     let last = last_reach window (reach_of c.args.buffers.now.writer) (map need_of (slice_range s.frames c.args.from to)) placed in
-    let one = λ (file : List ℕ). placed_as p (frame_of file s c.loop-place.i row) ∷ [] in
+    let one = λ (file : List ℕ). placed_as p (frame_of file s c.loop-place.reading.next row) ∷ [] in
     err_at c.from_residual.result _ c.from_residual.ensures.1
     (part_more self.pass.input.now self.pass.output.now (λ file. sofar.made file ++ one file) (rest g at next refl) (λ file. relaid (slice_range (all_frames file s) c.args.from to) placed) reach last (writing_in c.args.buffers.now) (files c.args.folder.now) (files c.place.new.folder)
     (λ file holds later begins.
@@ -132,44 +133,44 @@ returns-in_err-i-clause-part g c =
     begins-left window reach (map need_of (slice_range s.frames next to)) (slice_range (all_frames file s) next to) (drop (c.loop-place.place-index + 1) placed) later (needs-range file s next to has) (opened g at next refl).2
     (subst (λ n. BeginsWithin n (pieces later)) (sym (last_is g at next refl)) begins))
     (split g at next refl)
-    (part_then self.pass.input.now self.pass.output.now sofar.made one (writing_in c.args.buffers.now) (writing_in c.loop-place.buffers) (files c.args.folder.now) (files c.loop-place.folder) c.requires.ready.pass.apart sofar.lays reach (files c.place.new.folder) c.in_err-i.ensures.part))
+    (part_then self.pass.input.now self.pass.output.now sofar.made one (writing_in c.args.buffers.now) (writing_in c.loop-place.buffers) (files c.args.folder.now) (files c.loop-place.folder) c.requires.ready.pass.apart sofar.lays reach (files c.place.new.folder) c.in_err-reading.ensures.part))
 
-pub returns-in_err-i-clause-cause : goal.returns-in_err-i-clause-cause
-returns-in_err-i-clause-cause g c =
+pub returns-in_err-reading-clause-cause : goal.returns-in_err-reading-clause-cause
+returns-in_err-reading-clause-cause g c =
     let s = tells c.args.self.now.survey.now in
     let sofar = c.loop-place.invariant.lays in
     let q = err_from_is_err_and c.from_residual.result c.from_residual.ensures.1 in
     rw (q.1, q.2)
-    (cause_later _ (g.D.Folder.files c.args.folder.now) (g.D.Folder.files c.loop-place.folder) c.args.self.now.pass.output.now sofar.lays.passed _ _ _ _ sofar.lays.files c.loop-place.invariant.counts c.in_err-i.ensures.cause)
+    (cause_later _ (g.D.Folder.files c.args.folder.now) (g.D.Folder.files c.loop-place.folder) c.args.self.now.pass.output.now sofar.lays.passed _ _ _ _ sofar.lays.files c.loop-place.invariant.counts c.in_err-reading.ensures.cause)
 
 pub loop-place-preserved : goal.loop-place-preserved
 loop-place-preserved g c =
-    let at = (goal.at.loop-place-preserved g c).After-index-rows-i in
+    let at = (goal.at.loop-place-preserved g c).After-index-rows-reading in
     let self = c.args.self.now in
     let s = tells self.survey.now in
     let files = g.D.Folder.files in
     let inv = c.loop-place.invariant in
     let p = c.place-item.result in
-    let next_is = c.in_ok-i.ensures.next in
-    let needs = map need_of (slice_range s.frames c.in_ok-i.i c.args.to) in
+    let next_is = c.in_ok-reading.ensures.next in
+    let needs = map need_of (slice_range s.frames c.in_ok-reading.reading.next c.args.to) in
     let more = drop (c.loop-place.place-index + 1) c.args.placed.now in
     let window = window_of s.class.version in
-    let one = λ (file : List ℕ). placed_as p (frame_of file s c.loop-place.i c.index-rows-i.result) ∷ [] in
+    let one = λ (file : List ℕ). placed_as p (frame_of file s c.loop-place.reading.next c.index-rows-reading.result) ∷ [] in
     record {
-      ready = c.in_ok-i.ensures.ready;
+      ready = c.in_ok-reading.ensures.ready;
       early = omega (arith, next_is, step-most p.lead_in, some g at);
-      over = c.in_ok-i.ensures.over;
-      class = c.in_ok-i.ensures.class;
-      fits = subst (λ n. FitsFrom window n needs more) (sym c.in_ok-i.ensures.reach) (opened g at c.in_ok-i.i next_is).2;
-      reach = ap (λ n. last_reach window n needs more) c.in_ok-i.ensures.reach ∙ last_is g at c.in_ok-i.i next_is;
-      unsettled = c.in_ok-i.ensures.unsettled;
+      over = c.in_ok-reading.ensures.over;
+      class = c.in_ok-reading.ensures.class;
+      fits = subst (λ n. FitsFrom window n needs more) (sym c.in_ok-reading.ensures.reach) (opened g at c.in_ok-reading.reading.next next_is).2;
+      reach = ap (λ n. last_reach window n needs more) c.in_ok-reading.ensures.reach ∙ last_is g at c.in_ok-reading.reading.next next_is;
+      unsettled = c.in_ok-reading.ensures.unsettled;
       lays = record {
         made = λ file. inv.lays.made file ++ one file;
         lays = lays_then self.pass.input.now self.pass.output.now inv.lays.made one (writing_in c.args.buffers.now) (writing_in c.loop-place.buffers) (files c.args.folder.now) (files c.loop-place.folder) c.requires.ready.pass.apart inv.lays.lays (writing_in c.place.new.buffers) (files c.place.new.folder)
-            c.in_ok-i.ensures.lays;
-        left = λ file holds. sym (split g at c.in_ok-i.i next_is file holds);
+            c.in_ok-reading.ensures.lays;
+        left = λ file holds. sym (split g at c.in_ok-reading.reading.next next_is file holds);
       };
-      counts = c.in_ok-i.ensures.done ∙ inv.counts;
+      counts = c.in_ok-reading.ensures.done ∙ inv.counts;
     }
 
 pub returns-clause-lays : goal.returns-clause-lays
@@ -180,7 +181,7 @@ returns-clause-lays g c =
     let k = c.loop-place.place-index in
     let none : drop k placed ≡ [] = drop_all k placed (omega (arith, c.loop-place-test.false)) in
     lays-all self.pass.input.now self.pass.output.now _ _ (writing_in c.args.buffers.now) (writing_in c.loop-place.buffers) _ _ c.loop-place.invariant.lays (λ file holds.
-    let frames = slice_range (all_frames file s) c.loop-place.i c.args.to in
+    let frames = slice_range (all_frames file s) c.loop-place.reading.next c.args.to in
     ap (relaid frames) none ∙ relaid-end frames)
 
 pub returns-clause-reach : goal.returns-clause-reach
@@ -189,7 +190,7 @@ returns-clause-reach g c =
     let s = tells self.survey.now in
     let window = window_of s.class.version in
     let placed = c.args.placed.now in
-    let i = c.loop-place.i in
+    let i = c.loop-place.reading.next in
     let k = c.loop-place.place-index in
     let inv = c.loop-place.invariant in
     let reach = reach_of c.loop-place.buffers.writer in
@@ -198,7 +199,7 @@ returns-clause-reach g c =
     sym (ap (last_reach window reach needs) none ∙ fits-none window reach needs) ∙ inv.reach
 
 -- if there is a place, there is a frame
-bounded : (g : given.Over) (c : After-place-item g) → c.loop-place.i < length c.frames-rows.result.now
+bounded : (g : given.Over) (c : After-place-item g) → c.loop-place.reading.next < length c.frames-rows.result.now
 bounded g c =
     let s = tells c.args.self.now.survey.now in
     let placed = c.args.placed.now in
@@ -207,11 +208,11 @@ bounded g c =
     let window = window_of s.class.version in
     let reach = reach_of c.loop-place.buffers.writer in
     let left : drop k placed ≡ p ∷ drop (k + 1) placed = item-next placed k p (omega (arith, c.loop-place-test.true)) c.place-item.is in
-    let within = fits-some window reach s c.loop-place.i c.args.to p (drop (k + 1) placed) (subst (FitsFrom window reach (map need_of (slice_range s.frames c.loop-place.i c.args.to))) left c.loop-place.invariant.fits) in
+    let within = fits-some window reach s c.loop-place.reading.next c.args.to p (drop (k + 1) placed) (subst (FitsFrom window reach (map need_of (slice_range s.frames c.loop-place.reading.next c.args.to))) left c.loop-place.invariant.fits) in
     omega (arith, within, c.requires.within, ap length c.frames-rows.ensures)
 
-pub offset_bounds-rows-i : goal.offset_bounds-rows-i
-offset_bounds-rows-i g c = let lt = bounded g (goal.at.offset_bounds-rows-i g c).After-place-item in omega (arith, lt)
+pub offset_bounds-rows-reading : goal.offset_bounds-rows-reading
+offset_bounds-rows-reading g c = let lt = bounded g (goal.at.offset_bounds-rows-reading g c).After-place-item in omega (arith, lt)
 
-pub bounds-rows-i : goal.bounds-rows-i
-bounds-rows-i g c = let lt = bounded g (goal.at.bounds-rows-i g c).After-place-item in omega (arith, lt)
+pub bounds-rows-reading : goal.bounds-rows-reading
+bounds-rows-reading g c = let lt = bounded g (goal.at.bounds-rows-reading g c).After-place-item in omega (arith, lt)

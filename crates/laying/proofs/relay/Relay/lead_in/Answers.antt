@@ -1,13 +1,29 @@
 -- What main_data_begin may be fits its bits.
-use Rattle.std.proofs.Common.{ap, ◌∙◌, subst, sym, arith}
+use Rattle.std.proofs.Common.{◌≡◌, ap, ◌∙◌, subst, sym, arith}
+use Rattle.frame_header.specs.Tables.{class_of}
 use Rattle.side_info.specs.declared.side.Side.{Side}
 use Rattle.side_info.specs.Side.{no_side, SideFits}
 use Rattle.side_info.proofs.SideLaws.{SideFits-no_side}
 use Rattle.laying.proofs.PlannedFrames.{begun_fits}
+use Rattle.laying.proofs.relay.Relay.lead_in.Given as given
 use Rattle.laying.proofs.relay.Relay.lead_in.Goals as goal
+use Rattle.laying.proofs.relay.Relay.lead_in.Goals.{After-with_begin-side}
+
+fits : (g : given.Over) (c : After-with_begin-side g) → SideFits c.args.writer.now.class c.with_begin-side.result
+fits g c =
+    let class = c.args.writer.now.class in
+    subst (SideFits class) (sym (c.with_begin-side.ensures ∙ ap (λ (s : Side). record s { main_data_begin = c.args.place.now.begin }) c.empty.ensures))
+    (begun_fits class no_side c.args.place.now.begin (SideFits-no_side class) (omega (arith, c.requires.begin)))
+
+class : (g : given.Over) (c : After-with_begin-side g) → class_of c.unprotected-header.result ≡ c.args.writer.now.class
+class g c = ap class_of c.unprotected-header.ensures ∙ ap class_of c.header.ensures ∙ c.requires.class
+
+pub new-front-requires : goal.new-front-requires
+new-front-requires g c =
+    let at = (goal.at.new-front-requires g c).After-with_begin-side in
+    subst (λ d. SideFits d c.with_begin-side.result) (sym (class g at)) (fits g at)
 
 pub write_frame-requires-clause-fits : goal.write_frame-requires-clause-fits
 write_frame-requires-clause-fits g c =
-    let class = c.args.writer.now.class in
-    subst (SideFits class) (sym (c.with_begin.ensures ∙ ap (λ (s : Side). record s { main_data_begin = c.args.place.now.begin }) c.empty.ensures))
-    (begun_fits class no_side c.args.place.now.begin (SideFits-no_side class) (omega (arith, c.requires.begin)))
+    let at = (goal.at.write_frame-requires-clause-fits g c).After-with_begin-side in
+    subst (SideFits c.args.writer.now.class) (sym (ap (λ f. f.kept.side) c.new-frame.ensures ∙ ap (λ k. k.side) c.new-front.ensures)) (fits g at)

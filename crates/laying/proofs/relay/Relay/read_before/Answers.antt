@@ -2,9 +2,9 @@
 use Rattle.std.proofs.Common.{◌≡◌, ◌<◌, ℕ, List, get_or, length, Option, sym, ◌∙◌, ap, subst, arith}
 use Rattle.std.specs.Prelude.{slice_get, Some}
 use Rattle.std.proofs.lemmas.Option.{slice_get-get_or}
-use Rattle.sync_survey.specs.declared.rows.Row.{Row}
+use Rattle.sync_survey.specs.Row.{Row}
 use Rattle.sync_survey.specs.Faults.{tells}
-use Rattle.laying.specs.Passing.{IsOverLast}
+use Rattle.laying.specs.Passing.{IsAreaOf, IsOverLast}
 use Rattle.laying.proofs.ReadLaws.{last-next, last-whole}
 use Rattle.laying.proofs.relay.Relay.read_before.Goals as goal
 
@@ -15,8 +15,8 @@ some r = Some r
 read-at : (rows frames : List Row) (at : ℕ) (row : Row) → at < length rows → rows ≡ frames → row ≡ get_or rows at row → slice_get frames at ≡ Some row
 read-at rows frames at row within same is = ap (λ (l : List Row). slice_get l at) (sym same) ∙ slice_get-get_or rows at row within ∙ ap some (sym is)
 
-pub read_area-requires-clause-found : goal.read_area-requires-clause-found
-read_area-requires-clause-found g c =
+pub fill_area-requires-clause-found : goal.fill_area-requires-clause-found
+fill_area-requires-clause-found g c =
     read-at c.frames-rows.result.now (tells c.args.self.now.survey.now).frames c.loop-at.at c.index-rows-at.result
     (omega (arith, c.loop-at-test.true, c.requires.within, ap length c.frames-rows.ensures)) c.frames-rows.ensures c.index-rows-at.is
 
@@ -35,11 +35,12 @@ loop-at-preserved g c =
     read-at c.frames-rows.result.now s.frames at row (omega (arith, c.loop-at-test.true, c.requires.within, ap length c.frames-rows.ensures)) c.frames-rows.ensures c.index-rows-at.is in
     record {
       early = omega (arith, c.loop-at-test.true);
-      over = last-next c.loop-at.window c.read_area.new.window self.pass.input.now (files c.read_area.new.folder) s first at row found
-          (subst (λ f. IsOverLast c.loop-at.window self.pass.input.now f s first at) (sym c.read_area.ensures.files) c.loop-at.invariant.over) c.in_ok-read_area.ensures.area;
-      ready = c.read_area.ensures.ready;
-      files = c.read_area.ensures.files ∙ c.loop-at.invariant.files;
-      counts = c.in_ok-read_area.ensures.done ∙ c.loop-at.invariant.counts;
+      over = last-next c.loop-at.window c.push_area.new.self c.bytes.result.now self.pass.input.now (files c.fill_area.new.folder) s first at row found
+          (subst (λ f. IsOverLast c.loop-at.window self.pass.input.now f s first at) (sym c.fill_area.ensures.files) c.loop-at.invariant.over)
+          (subst (λ (l : List ℕ). IsAreaOf l self.pass.input.now (files c.fill_area.new.folder) row) (sym c.bytes.ensures) c.in_ok-fill_area.ensures.area) c.push_area.ensures.main;
+      ready = c.fill_area.ensures.ready;
+      files = c.fill_area.ensures.files ∙ c.loop-at.invariant.files;
+      counts = c.in_ok-fill_area.ensures.done ∙ c.loop-at.invariant.counts;
     }
 
 pub returns-clause-over : goal.returns-clause-over

@@ -1,7 +1,7 @@
 -- The frames are one part of the survey's.
 use Rattle.std.proofs.Common.{List, [], ◌∷◌, sym, ap, ◌∙◌, subst}
 use Rattle.std.specs.Prelude.{slice_range}
-use Rattle.sync_survey.specs.declared.rows.Row.{Row}
+use Rattle.sync_survey.specs.Row.{Row}
 use Rattle.sync_survey.specs.Faults.{tells}
 use Rattle.part_needs.specs.Needs.{asked_of}
 use Rattle.part_needs.specs.Fit.{CanBePlanned}

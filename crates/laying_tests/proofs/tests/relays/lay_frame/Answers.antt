@@ -7,7 +7,7 @@ use Rattle.outside.proofs.FilesLaws.{emptied_there}
 use Rattle.slot_plan.specs.declared.needs.Need.{Need}
 use Rattle.slot_plan.specs.Parts.{window_in, parts_of}
 use Rattle.slot_plan.specs.Plans.{IsPlan}
-use Rattle.sync_survey.specs.declared.rows.Row.{Row}
+use Rattle.sync_survey.specs.Row.{Row}
 use Rattle.sync_survey.specs.Faults.{tells}
 use Rattle.part_needs.specs.Needs.{Asked, need_of, needs_of, asked_of}
 use Rattle.part_needs.specs.Fit.{CanBePlanned}

@@ -1,21 +1,9 @@
 -- A number below 2 ^ 64 has at most 20 digits.
-use Rattle.std.proofs.Common.{ap, length, decimal, drop, ◌≤◌, arith, length-append, length-drop}
-use Rattle.std.proofs.lemmas.Fmt.{length-decimal-le}
+use Rattle.listing.proofs.DecimalLaws.{few_before}
 use Rattle.listing.proofs.line.Line.put_number.Goals as goal
 
-pub write_digits-self-inside-requires : goal.write_digits-self-inside-requires
-write_digits-self-inside-requires c =
-    let few : length (decimal c.args.number) ≤ 20 = length-decimal-le 20 c.args.number (omega arith) (omega arith) (omega arith) in
-    (omega (arith, few, c.requires, ap length c.self.view_is, length-drop c.self.inside.front c.self.inside.room), omega arith)
+pub returns-then-number-lt10000-clause-few : goal.returns-then-number-lt10000-clause-few
+returns-then-number-lt10000-clause-few c = few_before c.args.number c.args.self.now c.ranges.number.fits c.put_short.ensures
 
-pub returns-clause-few : goal.returns-clause-few
-returns-clause-few c =
-    let few : length (decimal c.args.number) ≤ 20 = length-decimal-le 20 c.args.number (omega arith) (omega arith) (omega arith) in
-    omega (
-      arith,
-      few,
-      ap length c.write_digits-self-inside.ensures.written,
-      ap length c.self.view_is,
-      length-append (decimal c.args.number) (drop c.self.inside.front c.self.inside.room),
-      length-drop c.self.inside.front c.self.inside.room,
-    )
+pub returns-else-number-lt10000-clause-few : goal.returns-else-number-lt10000-clause-few
+returns-else-number-lt10000-clause-few c = few_before c.args.number c.args.self.now c.ranges.number.fits c.put_long.ensures

@@ -3,7 +3,7 @@ use Rattle.std.proofs.Common.{◌++◌, List, ℕ, refl}
 use Rattle.std.proofs.lemmas.Result.{err_from_is_err_and, on_ok_weaker}
 use Rattle.outside.specs.Pass.{bytes_between}
 use Rattle.outside.proofs.PassedLaws.{err_at, err_by}
-use Rattle.outside.proofs.PassLaws.{passed_ready, writes_piece, prefix_piece, prefix_as, writes_then, prefix_then, cause_behind, causes_behind}
+use Rattle.outside.proofs.PassLaws.{writes_piece, prefix_piece, prefix_as, writes_then, prefix_then, cause_behind, causes_behind}
 use Rattle.moved_gains.specs.declared.moving.NewTag.{NewTag}
 use Rattle.moved_gains.specs.Moving.{bytes_around}
 use Rattle.moved_gains.proofs.moving.GainPass.copy_around.Goals as goal
@@ -31,9 +31,6 @@ pub returns-in_err-push-clause-cause : goal.returns-in_err-push-clause-cause
 returns-in_err-push-clause-cause g c =
     let p = err_from_is_err_and c.from_residual-in_err-push.result c.from_residual-in_err-push.ensures.1 in
     rw (p.1, p.2) (cause_behind c.in_ok-copy.ensures.written _ _ _ _ c.in_ok-copy.ensures.done _ c.in_err-push.ensures.cause)
-
-pub copy-requires-2-clause-ready : goal.copy-requires-2-clause-ready
-copy-requires-2-clause-ready g c = passed_ready c.args.self.now.pass c.in_ok-push.ensures.passed c.in_ok-copy.ensures.ready
 
 pub returns-clause-written : goal.returns-clause-written
 returns-clause-written g c =

@@ -1,14 +1,42 @@
--- A frame that was read goes on with its gains moved.
-use Rattle.outside.proofs.PassedLaws.{err_at}
-use Rattle.outside.proofs.PassLaws.{prefix_nothing, passed_ready}
-use Rattle.moved_gains.specs.Moving.{moved_row_bytes}
+-- A frame that is held goes on with its gains moved.
+use Rattle.std.proofs.Common.{◌≡◌, ◌++◌, List, ℕ, take, drop, refl, sym, ◌∙◌, ap, ap₂, subst, arith}
+use Rattle.side_info.specs.Frame.{side_in}
+use Rattle.side_info.proofs.FrameLaws.{side_in-take}
+use Rattle.outside.specs.Files.{Holds}
+use Rattle.outside.specs.Passed.{PassedOn}
+use Rattle.outside.proofs.PassedLaws.{err_at, passed_with}
+use Rattle.outside.proofs.PassLaws.{prefix_as, input_holds}
+use Rattle.moved_gains.specs.Moving.{row_length, row_bytes, moved_bytes, moved_row_bytes}
+use Rattle.moved_gains.proofs.BufferLaws.{held_piece, ready_after}
 use Rattle.moved_gains.proofs.moving.GainPass.move_frame.Goals as goal
 
 pub returns-in_err-fill-clause-prefix : goal.returns-in_err-fill-clause-prefix
 returns-in_err-fill-clause-prefix g c =
-    let self = c.args.self.now in
-    err_at c.from_residual.result _ c.from_residual.ensures.1
-    (prefix_nothing self.pass (λ file. moved_row_bytes c.args.moved.now.steps file c.args.moved.now.row.now) c.args.buffers.now.waiting (g.D.Folder.files c.args.folder.now) _ c.in_err-fill.ensures.read c.in_err-fill.ensures.files c.requires.ready.target)
+    let made : List ℕ → List ℕ = λ file. moved_row_bytes c.args.moved.now.steps file c.args.moved.now.row.now in
+    err_at c.from_residual.result _ c.from_residual.ensures.1 (prefix_as c.args.self.now.pass made made (λ file holds. refl) c.in_err-fill.ensures.prefix)
+
+pub returns-clause-written : goal.returns-clause-written
+returns-clause-written g c =
+    let pass = c.args.self.now.pass in
+    let row = c.args.moved.now.row.now in
+    let steps = c.args.moved.now.steps in
+    let old = g.D.Folder.files c.args.folder.now in
+    let mid = g.D.Folder.files c.fill.new.folder in
+    let fed = c.fill.new.self.feed in
+    let passed = c.in_ok-fill.ensures.passed in
+    let n = c.frame_length-length.result in
+    let made = c.pass_moved.ensures.waiting in
+    let same : (file : List ℕ) → Holds mid pass.input.now file → take n fed.held ≡ row_bytes file row = λ file holds.
+    held_piece fed mid pass.input.now c.from-at.result n c.in_ok-fill.ensures.place c.in_ok-fill.ensures.enough c.in_ok-fill.ensures.ready.fed_from file holds
+    ∙ ap₂ (λ m k. take m (drop k file)) c.frame_length-length.ensures.length (c.from-at.ensures ∙ c.offset.ensures) in
+    record {
+      piece = made.0;
+      is = λ file holds.
+          let is = same file (input_holds old mid pass.input.now pass.output.now passed.passed file c.requires.ready.apart passed.files holds) in
+          let side = ap (side_in row.header) is ∙ side_in-take row.header (row_length row) (drop row.offset file) (omega (arith, c.frame_length-length.ensures.room, c.frame_length-length.ensures.length)) ∙ c.requires.told file holds in
+          made.2 side ∙ ap (moved_bytes steps row) is;
+      passed = subst (λ (l : List ℕ). PassedOn pass.output.now (c.args.buffers.now.waiting ++ made.0) l old mid) (sym made.1) (passed_with made.0 passed);
+    }
 
 pub returns-clause-ready : goal.returns-clause-ready
-returns-clause-ready g c = passed_ready c.args.self.now.pass c.in_ok-push_frame.ensures.written.passed c.in_ok-fill.ensures.ready
+returns-clause-ready g c = ready_after c.args.self.now.pass _ c.fill.new.self.feed c.pass_moved.new.self.feed c.frame_length-length.result c.in_ok-fill.ensures.enough c.pass_moved.ensures.place c.pass_moved.ensures.held c.in_ok-fill.ensures.ready

@@ -1,11 +1,13 @@
 -- One frame more, and what is before it, goes on.
 use Rattle.std.proofs.Common.{◌≡◌, ◌+◌, ◌<◌, ◌≤◌, ◌++◌, ◌∷◌, List, ℕ, Option, length, get_or, drop, refl, sym, ◌∙◌, ap, ap₂, subst, arith}
 use Rattle.std.proofs.lemmas.List.{drop_all}
+use Rattle.std.proofs.lemmas.Option.{slice_get_read}
 use Rattle.std.proofs.lemmas.Result.{err_from_is_err_and, on_ok_weaker}
+use Rattle.frame_header.specs.Tables.{class_of}
 use Rattle.outside.specs.Files.{Holds}
 use Rattle.outside.proofs.PassedLaws.{err_at, err_by}
 use Rattle.outside.proofs.PassLaws.{up_to_begun, up_to_held, up_to_more, up_to_prefix, up_to_last, up_to_last_prefix, cause_behind, causes_behind}
-use Rattle.sync_survey.specs.declared.rows.Row.{Row}
+use Rattle.sync_survey.specs.Row.{Row}
 use Rattle.sync_survey.specs.Survey.{AreLaid}
 use Rattle.sync_survey.proofs.StepLaws.{laid_end}
 use Rattle.moved_gains.specs.declared.moving.NewTag.{NewTag}
@@ -78,10 +80,13 @@ module _ (g : given.Over) (c : After-from g) where
   later file = left steps c.args.self.now.tag rows i row file
 
   next : (file : List ℕ) → Holds (g.D.Folder.files c.args.folder.now) c.args.self.now.pass.input.now file → written_from steps c.args.self.now.tag file c.loop-frame.at (drop i rows) ≡ up_to_row file ++ later file
-  next file holds = left_up_to steps c.args.self.now.tag file c.loop-frame.at c.from.result rows i row is c.from.ensures
+  next file holds = left_up_to steps c.args.self.now.tag file c.loop-frame.at c.from.result rows i row is (c.from.ensures ∙ c.offset.ensures)
 
   own : steps row.offset ≡ steps_in c.args.self.now.course.now i
   own = frame_steps c.args.self.now.course.now rows i row c.requires.numbered (omega (arith, c.loop-frame-test.true)) c.index-rows-frame.is
+
+  class : class_of row.header ≡ c.args.self.now.class
+  class = c.requires.classed i row (slice_get_read rows (length rows) i row refl (omega (arith, c.loop-frame-test.true)) c.index-rows-frame.is)
 
 pub copy-requires-clause-within : goal.copy-requires-clause-within
 copy-requires-clause-within g c = omega (arith, within g (goal.at.copy-requires-clause-within g c).After-from)
@@ -95,6 +100,9 @@ pub returns-in_err-copy-clause-cause : goal.returns-in_err-copy-clause-cause
 returns-in_err-copy-clause-cause g c =
     let p = err_from_is_err_and c.from_residual.result c.from_residual.ensures.1 in
     rw (p.1, p.2) (cause_behind c.loop-frame.invariant.up_to.written _ _ _ _ c.loop-frame.invariant.counts _ c.in_err-copy.ensures.cause)
+
+pub move_frame-requires-clause-class : goal.move_frame-requires-clause-class
+move_frame-requires-clause-class g c = class g (goal.at.move_frame-requires-clause-class g c).After-from
 
 pub move_frame-requires-clause-within : goal.move_frame-requires-clause-within
 move_frame-requires-clause-within g c = within g (goal.at.move_frame-requires-clause-within g c).After-from

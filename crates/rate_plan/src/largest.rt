@@ -1,0 +1,39 @@
+//! The largest areas of a menu.
+ghost use Rattle.std.specs.Prelude.{◌≡◌, ◌≤◌, length};
+ghost use Rattle.rate_plan.specs.Menus.{AreAscending};
+ghost use Rattle.rate_plan.specs.LargestAreas.{largest_for, AreLargest};
+
+use frame_header::{Class, Slot};
+use slot_plan::largest_area_of;
+
+/// The largest areas of the slots of a menu, in bytes: those of frames without a check word and with it.
+#[derive(Clone, Copy)]
+pub(crate) struct Largest {
+    pub(crate) unprotected: u32,
+    pub(crate) protected: u32,
+}
+
+impl Largest {
+    /// Those of this menu.
+    pub(crate) fn of_menu(class: Class, menu: &[Slot]) -> Largest
+        requires slots { 1 ≤ length menu.now }
+        requires ascending { AreAscending class menu.now }
+        ensures { AreLargest class menu.now result }
+    {
+        Largest {
+            unprotected: largest_area_of(class, false, menu),
+            protected: largest_area_of(class, true, menu),
+        }
+    }
+
+    /// The largest area of a frame, by whether it has a check word.
+    pub(crate) fn area(self, protected: bool) -> u32
+        ensures { result ≡ largest_for self protected }
+    {
+        if protected {
+            self.protected
+        } else {
+            self.unprotected
+        }
+    }
+}

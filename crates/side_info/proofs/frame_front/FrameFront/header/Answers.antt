@@ -1,0 +1,13 @@
+-- The four bytes are those of the header.
+use Rattle.std.proofs.Common.{◌∙◌, sym, ap}
+use Rattle.std.specs.Result.{is_ok}
+use Rattle.side_info.proofs.FrontLaws.{written, header_read}
+use Rattle.side_info.proofs.frame_front.FrameFront.header.Goals as goal
+
+pub unwrap-requires : goal.unwrap-requires
+unwrap-requires c = ap is_ok (c.read.ensures ∙ (written c.self.inside c.self.invariant).at)
+
+pub returns : goal.returns
+returns c =
+    sym (header_read c.self.inside c.unwrap.result (sym c.read.ensures ∙ c.unwrap.ensures))
+    ∙ ap (λ f. f.header) c.self.view_is

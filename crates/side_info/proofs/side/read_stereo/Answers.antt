@@ -1,0 +1,33 @@
+-- The side information depends on version and channels alone.
+use Rattle.std.proofs.Common.{◌≡◌, ◌*◌, subst, ap, ap₂, sym, ◌∙◌}
+use Rattle.bit_fields.specs.Bits.{bits}
+use Rattle.bit_fields.proofs.BitsLaws.{AreBits-bits, length-bits}
+use Rattle.frame_header.specs.Fields.{IsClass}
+use Rattle.frame_header.specs.Tables.{side_size_of}
+use Rattle.side_info.specs.Parts.{class_with}
+use Rattle.side_info.specs.Side.{side_at, side_bits, SideFits}
+use Rattle.side_info.proofs.SideLaws.{SideFits-side_at, side_bits-side_at}
+use Rattle.side_info.proofs.ReadLaws.{side_at-class, side_size-class}
+use Rattle.side_info.proofs.side.read_stereo.Goals as goal
+
+pub read_parts-requires-clause-size : goal.read_parts-requires-clause-size
+read_parts-requires-clause-size c =
+    c.requires.size ∙ sym (side_size-class c.args.class) ∙ ap₂ (λ v n. side_size_of (class_with v 0 n)) c.requires.version c.requires.channels
+
+side : (c : goal.After-read_parts) → c.read_parts.new.side ≡ side_at c.args.class (bits c.args.bytes.now)
+side c =
+    c.read_parts.ensures
+    ∙ sym (ap₂ (λ v n. side_at (class_with v 0 n) (bits c.args.bytes.now)) c.requires.version c.requires.channels)
+    ∙ side_at-class c.args.class (bits c.args.bytes.now)
+
+pub returns-clause-side : goal.returns-clause-side
+returns-clause-side c = side c
+
+pub returns-clause-fits : goal.returns-clause-fits
+returns-clause-fits c = subst (SideFits c.args.class) (sym (side c)) (SideFits-side_at c.args.class (subst IsClass c.class.view_is c.class.invariant) (bits c.args.bytes.now) (AreBits-bits c.args.bytes.now))
+
+pub returns-clause-back : goal.returns-clause-back
+returns-clause-back c =
+    ap (side_bits c.args.class) (side c)
+    ∙ side_bits-side_at c.args.class (subst IsClass c.class.view_is c.class.invariant) (bits c.args.bytes.now)
+    (AreBits-bits c.args.bytes.now) (length-bits c.args.bytes.now ∙ ap (λ n. 8 * n) c.requires.size)

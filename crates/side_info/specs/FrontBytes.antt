@@ -1,0 +1,58 @@
+-- A frame's header and side information, as the bytes that hold them (ISO/IEC 11172-3 and 13818-3, 2.4.1.3 and 2.4.1.7).
+use Rattle.std.specs.Prelude.{◌≡◌, ℕ, List, ◌++◌, length, take, drop, replicate}
+use Rattle.bit_fields.specs.Bits.{bits, bytes}
+use Rattle.bit_fields.specs.Groups.{group}
+use Rattle.frame_header.specs.declared.version.Version.{Version}
+use Rattle.frame_header.specs.declared.version.Version.TheVariants.{One, Two, TwoFive}
+use Rattle.frame_header.specs.Fields.{HeaderFields, ClassFields, IsHeader}
+use Rattle.frame_header.specs.Tables.{class_of, side_size_of}
+use Rattle.frame_header.specs.Reading.{header_fields}
+use Rattle.frame_header.specs.HeaderBits.{header_bits}
+use Rattle.side_info.specs.declared.side.Side.{Side}
+use Rattle.side_info.specs.declared.frame_front.FrameFront.TheInside.{Inside}
+use Rattle.side_info.specs.Side.{side_at, side_bits}
+use Rattle.side_info.specs.FrameFields.{FrameFields}
+
+-- how many bits main_data_begin has
+abbrev pub begin_width : Version → ℕ
+begin_width One = 9
+begin_width Two = 8
+begin_width TwoFive = 8
+
+-- the bits of two headers are the same but for bitrate_index, padding_bit and mode_extension, the sync bits and the layer
+pub record AreAlike (bs cs : List ℕ) : Type 0 where
+  pub version : group 11 2 bs ≡ group 11 2 cs
+  pub protection : group 15 1 bs ≡ group 15 1 cs
+  pub frequency : group 20 2 bs ≡ group 20 2 cs
+  pub private : group 23 1 bs ≡ group 23 1 cs
+  pub mode : group 24 2 bs ≡ group 24 2 cs
+  pub copyright : group 28 1 bs ≡ group 28 1 cs
+  pub original : group 29 1 bs ≡ group 29 1 cs
+  pub emphasis : group 30 2 bs ≡ group 30 2 cs
+
+-- 32 bytes that begin with these, and are zeros after them
+unfoldable pub padded : List ℕ → List ℕ
+padded side = side ++ drop (length side) (replicate 32 0)
+
+-- the bytes of side information among 32 that begin with it
+unfoldable pub own_side : ClassFields → List ℕ → List ℕ
+own_side c room = take (side_size_of c) room
+
+-- the header that four bytes are, and the side information with which 32 bytes begin
+unfoldable pub header_of : Inside → HeaderFields
+header_of a = header_fields (bits a.header)
+
+unfoldable pub side_of : Inside → Side
+side_of a = side_at (class_of (header_of a)) (bits (own_side (class_of (header_of a)) a.side))
+
+abbrev pub fields_of : Inside → FrameFields
+fields_of a = record { header = header_of a; side = side_of a }
+
+-- the bytes as which these fields are written
+abbrev pub inside_of : FrameFields → Inside
+inside_of f = record { header = bytes (header_bits f.header); side = padded (bytes (side_bits (class_of f.header) f.side)) }
+
+-- the bytes are those of a header of the standard's and of side information, with zeros after it
+pub record AreWritten (a : Inside) : Type 0 where
+  pub known : IsHeader (header_of a)
+  pub same : inside_of (fields_of a) ≡ a

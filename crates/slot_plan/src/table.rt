@@ -1,0 +1,64 @@
+//! Slots of one class whose areas ascend, as a table by the length of a frame.
+ghost use Rattle.std.specs.Prelude.{◌≡◌, ◌+◌, ◌<◌, ◌≤◌, false, List, AllPairs, length, IfOk};
+ghost use Rattle.frame_header.specs.Fields.{SlotFields};
+ghost use Rattle.frame_header.specs.Tables.{overhead_of};
+ghost use Rattle.frame_header.specs.Slots.{all_slots};
+ghost use Rattle.slot_plan.specs.Parts.{areas_with};
+ghost use Rattle.slot_plan.specs.Reserve.{IsLeastSlot};
+ghost use Rattle.slot_plan.specs.SlotTables.{IsTableOf};
+
+use crate::lengths::Lengths;
+use frame_header::{Class, Slot};
+use std::alloc::{AllocError, Global};
+
+/// The lengths of a class, and of some slots the first whose frames have so many bytes.
+#[derive(Drop)]
+pub struct SlotTable {
+    pub lengths: Lengths,
+    /// The first slot with so long a frame, from 0 bytes to the length of the last.
+    pub by_length: Vec<Slot>,
+}
+
+impl SlotTable {
+    /// The table of these slots, at least one, whose areas ascend.
+    ///
+    /// # Errors
+    /// Where there is no memory.
+    pub fn new(alloc: Global, class: Class, slots: &[Slot]) -> Result<SlotTable, AllocError>
+        requires some { 1 ≤ length slots.now }
+        requires ascending { AllPairs (λ m n. m < n) (areas_with class false slots.now) }
+        ensures class { IfOk result (λ table. table.lengths ≡ class) }
+        ensures table { IfOk result (λ table. IsTableOf slots.now table) }
+    {
+        let last = class.length_of(slots[slots.len() - 1]);
+        let mut by_length = Vec::with_capacity(alloc, last as usize + 1)?;
+        for slot in slots {
+            let length = class.length_of(*slot);
+            by_length.resize(length as usize + 1, *slot)?;
+        }
+        let lengths = Lengths::new(class);
+        Ok(SlotTable { lengths, by_length })
+    }
+
+    /// The table of all slots of this class.
+    ///
+    /// # Errors
+    /// Where there is no memory.
+    pub fn of_class(alloc: Global, class: Class) -> Result<SlotTable, AllocError>
+        ensures class { IfOk result (λ table. table.lengths ≡ class) }
+        ensures table { IfOk result (λ table. IsTableOf all_slots table) }
+    {
+        let slots = class.slots();
+        SlotTable::new(alloc, class, slots.as_slice())
+    }
+
+    /// Of the slots, the one with the smallest area of at least `wanted` bytes, which one of them has.
+    pub fn least_slot(&self, protected: bool, wanted: u64) -> Slot
+        requires within { wanted + overhead_of self.now.lengths protected < length self.now.by_length.items }
+        ensures least { (slots : List SlotFields) → IsTableOf slots self.now
+            → IsLeastSlot wanted self.now.lengths protected slots result }
+    {
+        let overhead = self.lengths.overhead_of(protected);
+        self.by_length[wanted as usize + overhead as usize]
+    }
+}
