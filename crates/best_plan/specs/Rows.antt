@@ -1,7 +1,11 @@
 -- How `best` works: for each frame and each number of free bytes before it, the least sum of the areas from it on, and the first area that
 -- has it.
-use Rattle.std.specs.Prelude.{◌≡◌, ℕ, ◌+◌, ◌-◌, ◌<◌, ◌≤◌, List, ◌++◌, All, AllPairs, length, slice_index}
+use Rattle.std.specs.Prelude.{◌≡◌, ℕ, ◌+◌, ◌-◌, ◌<◌, ◌≤◌, List, ◌++◌, All, AllPairs, length, slice_index, IsTrue, IfSome}
 use Rattle.slot_plan.specs.Reserve.{free_behind}
+use Rattle.best_plan.specs.declared.choice.Known.{Known}
+use Rattle.best_plan.specs.declared.choice.Row.{Row}
+use Rattle.best_plan.specs.declared.rows.Sums.{Sums}
+use Rattle.frame_header.specs.Limits.{most_frame_length}
 
 -- the sum if nothing fits, greater than all others
 abbrev pub nothing : ℕ
@@ -28,9 +32,15 @@ pub record IsChoice (window free bytes : ℕ) (areas later : List ℕ) (cost pla
 -- the areas of a frame after so large a window
 pub record AreChoices (window : ℕ) (areas : List ℕ) : Type 0 where
   pub narrow : window ≤ 511
-  pub most : All (λ n. n ≤ 1441) areas
+  pub most : All (λ n. n ≤ most_frame_length) areas
   pub few : length areas ≤ 28
   pub ascending : AllPairs (λ m n. m < n) areas
+
+-- the areas of a frame, and the least sums of the frames after it
+pub record AreBefore (window : ℕ) (areas later : List ℕ) : Type 0 where
+  pub choices : AreChoices window areas
+  -- one for each number of free bytes up to the window
+  pub width : length later ≡ window + 1
 
 -- a row for each number of free bytes up to the window: sums and places
 pub record IsRow (window bytes : ℕ) (areas later row cells : List ℕ) : Type 0 where
@@ -44,10 +54,28 @@ pub record AppendsRow (window bytes : ℕ) (areas later row old new : List ℕ) 
   pub appended : new ≡ old ++ cells
   pub is : IsRow window bytes areas later row cells
 
+-- that of a frame with this row of choices
+abbrev pub AddsRow : Row → List ℕ → List ℕ → List ℕ → Type 0
+AddsRow row sums old new = AppendsRow row.window row.bytes row.areas.now row.later.now sums old new
+
 -- numbers that no sum of a row is less than: by itself, and together with the bytes that are free
 pub record AreBounds (later : List ℕ) (least whole : ℕ) : Type 0 where
   pub alone : (free : ℕ) → free < length later → least ≤ slice_index later free
   pub together : (free : ℕ) → free < length later → whole ≤ slice_index later free + free
+
+-- what is known where so many bytes are free before a frame with these areas
+pub record IsKnown (free bytes : ℕ) (areas later : List ℕ) (known : Known) : Type 0 where
+  -- no later sum is less than the bounds
+  pub bounds : AreBounds later known.alone known.together
+  -- the first areas are too small
+  pub from_within : known.from ≤ length areas
+  pub small : (k : ℕ) → k < known.from → free + slice_index areas k < bytes
+
+-- the areas before this place, which isn't after `from`, are too small; at it the first isn't
+pub record AreTooSmall (free bytes : ℕ) (areas : List ℕ) (from place : ℕ) : Type 0 where
+  pub within : place ≤ from
+  pub small : (k : ℕ) → k < place → free + slice_index areas k < bytes
+  pub large : place < from → bytes ≤ free + slice_index areas place
 
 -- each free byte spares one: the sums together with the bytes that are free are all the same
 abbrev pub IsEven : List ℕ → Type 0
@@ -57,6 +85,19 @@ IsEven sums = (free : ℕ) → free < length sums → slice_index sums free + fr
 pub record IsNear (sums : List ℕ) (least : ℕ) : Type 0 where
   pub none : (free : ℕ) → free < least → free < length sums → nothing ≤ slice_index sums free
   pub near : (free : ℕ) → least ≤ free → free + 1 < length sums → slice_index sums free ≤ slice_index sums (free + 1) + 1
+
+-- what is known of the sums of a row is so
+pub record AreKnown (sums : Sums) : Type 0 where
+  -- whether each free byte spares one
+  pub even : IsTrue sums.even → IsEven sums.by_free.items
+  -- from how many on each spares at most one
+  pub near : IfSome sums.near (λ least. IsNear sums.by_free.items least)
+
+-- two rows of sums
+pub record AreRows (window : ℕ) (later sums : List ℕ) : Type 0 where
+  pub narrow : window ≤ 511
+  pub later_width : length later ≡ window + 1
+  pub width : length sums ≡ window + 1
 
 -- the sums of an area from one number of free bytes on and before another; those of fewer free bytes are as they were
 pub record AreSums (window bytes area : ℕ) (later : List ℕ) (start end : ℕ) (old new : List ℕ) : Type 0 where

@@ -5,13 +5,30 @@ use Rattle.frame_header.specs.Tables.{area_of}
 use Rattle.frame_header.specs.Slots.{all_slots}
 use Rattle.slot_plan.specs.declared.needs.Need.{Need}
 use Rattle.slot_plan.specs.declared.needs.Placed.{Placed}
-use Rattle.slot_plan.specs.Parts.{open_of, item_of, own_area, areas_with}
+use Rattle.slot_plan.specs.Parts.{area_in, open_of, item_of, own_area, areas_with}
 use Rattle.best_plan.specs.Best.{IsBestFor}
 use Rattle.best_plan.specs.Rows.{nothing, IsChoice, IsRow}
+use Rattle.frame_header.specs.Limits.{most_frame_length}
 
 -- the areas among which a frame chooses
 abbrev pub areas_for : (HeaderFields → List SlotFields) → Need → List ℕ
 areas_for choices need = (open_of (item_of choices need)).areas
+
+-- these are the areas among which a frame chooses
+pub record AreAreasOf (choices : HeaderFields → List SlotFields) (need : Need) (items : List ℕ) : Type 0 where
+  pub areas : items ≡ areas_for choices need
+  pub most : All (λ n. n ≤ most_frame_length) items
+  -- that of its own slot is one of them
+  pub own : Contains (areas_for choices need) (own_area need)
+  pub ascending : AllPairs (λ m n. m < n) (areas_for choices need)
+
+-- a frame in the slot at this place of its choices, which ascend
+pub record IsFrameAt (choices : HeaderFields → List SlotFields) (need : Need) (place free : ℕ) (p : Placed) : Type 0 where
+  pub frame : p.lead_in ≡ false
+  pub begin : p.begin ≡ free
+  pub chosen : Contains (choices need.header) p.slot
+  pub area : area_in (item_of choices need) p.slot ≡ slice_index (areas_for choices need) place
+  pub ascending : AllPairs (λ m n. m < n) (areas_for choices need)
 
 -- the row of a frame, which comes before the rows of the frames after it
 pub record IsRowBefore (window : ℕ) (choices : HeaderFields → List SlotFields) (need : Need) (IsBehind : List ℕ → List ℕ → Type 0) (sums places : List ℕ) : Type 0 where
@@ -21,7 +38,7 @@ pub record IsRowBefore (window : ℕ) (choices : HeaderFields → List SlotField
   pub behind : IsBehind later before
   pub appended : places ≡ before ++ cells
   pub row : IsRow window need.bytes (areas_for choices need) later sums cells
-  pub most : All (λ n. n ≤ 1441) (areas_for choices need)
+  pub most : All (λ n. n ≤ most_frame_length) (areas_for choices need)
   pub own : Contains (areas_for choices need) (own_area need)
 
 -- after the last frame there are no areas

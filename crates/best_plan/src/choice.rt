@@ -1,7 +1,8 @@
 //! Of the areas of one frame, the one with which it and all frames after it have the fewest bytes.
-ghost use Rattle.std.specs.Prelude.{◌≡◌, ℕ, ◌+◌, ◌<◌, ◌≤◌, All, AllPairs, length, slice_index};
+ghost use Rattle.std.specs.Prelude.{◌≡◌, ◌+◌, ◌<◌, ◌≤◌, All, AllPairs, length};
 ghost use Rattle.slot_plan.specs.Parts.{areas_with};
-ghost use Rattle.best_plan.specs.Rows.{AreBounds, IsSum, IsChoice};
+ghost use Rattle.best_plan.specs.Rows.{AreBefore, AreBounds, AreTooSmall, IsKnown, IsSum, IsChoice};
+ghost use Rattle.frame_header.specs.Limits.{most_back, most_frame_length};
 
 use arrayvec::ArrayVec;
 use frame_header::Slot;
@@ -42,7 +43,7 @@ pub(crate) struct Known {
 pub(crate) fn areas_among(lengths: &Lengths, protected: bool, slots: &[Slot]) -> ArrayVec<u32, 28>
     requires { length slots.now ≤ 28 }
     ensures areas { result.items ≡ areas_with lengths.now protected slots.now }
-    ensures most { All (λ n. n ≤ 1441) result.items }
+    ensures most { All (λ n. n ≤ most_frame_length) result.items }
 {
     let mut areas = ArrayVec::new();
     for slot in slots {
@@ -53,9 +54,9 @@ pub(crate) fn areas_among(lengths: &Lengths, protected: bool, slots: &[Slot]) ->
 
 /// The sum of an area and of the least sum after it, `NOTHING` if the main data don't fit.
 fn sum_behind(window: u32, free: u32, bytes: u32, area: u32, later: &[u32]) -> u32
-    requires window { window ≤ 511 }
+    requires window { window ≤ most_back }
     requires free { free ≤ window }
-    requires area { area ≤ 1441 }
+    requires area { area ≤ most_frame_length }
     requires later { length later.now ≡ window + 1 }
     ensures { IsSum window free bytes area later.now result }
 {
@@ -90,13 +91,11 @@ pub(crate) fn bounds_of(later: &[u32]) -> Known
 /// The place before which all areas are too small and from which on none is, by one before which all were too small after
 /// fewer free bytes.
 pub(crate) fn too_small(free: u32, bytes: u32, areas: &[u32], from: usize) -> usize
-    requires free { free ≤ 511 }
-    requires areas { All (λ n. n ≤ 1441) areas.now }
+    requires free { free ≤ most_back }
+    requires areas { All (λ n. n ≤ most_frame_length) areas.now }
     requires ascending { AllPairs (λ m n. m < n) areas.now }
     requires from { from ≤ length areas.now }
-    ensures within { result ≤ from }
-    ensures small { (k : ℕ) → k < result → free + slice_index areas.now k < bytes }
-    ensures large { result < from → bytes ≤ free + slice_index areas.now result }
+    ensures { AreTooSmall free bytes areas.now from result }
 {
     for place in (0..from).rev() {
         let area = areas[place];
@@ -118,15 +117,9 @@ pub(crate) fn best_choice(
     later: &[u32],
     known: Known,
 ) -> Choice
-    requires window { window ≤ 511 }
+    requires row { AreBefore window areas.now later.now }
     requires free { free ≤ window }
-    requires areas { All (λ n. n ≤ 1441) areas.now }
-    requires few { length areas.now ≤ 28 }
-    requires ascending { AllPairs (λ m n. m < n) areas.now }
-    requires later { length later.now ≡ window + 1 }
-    requires bounds { AreBounds later.now known.alone known.together }
-    requires from { known.from ≤ length areas.now }
-    requires small { (k : ℕ) → k < known.from → free + slice_index areas.now k < bytes }
+    requires known { IsKnown free bytes areas.now later.now known }
     ensures { IsChoice window free bytes areas.now later.now result.sum result.place }
 {
     let mut choice = Choice {

@@ -2,6 +2,7 @@
 //! best, and the row of the frame with this area is such a row too.
 ghost use Rattle.std.specs.Prelude.{◌≡◌, ◌+◌, ◌-◌, ◌<◌, ◌≤◌, ◌↔◌, All, AllPairs, IsTrue, length, map, slice_index, IfOk};
 ghost use Rattle.best_plan.specs.Rows.{nothing, IsEven, HasRoom, IsEndAt, AppendsFirst};
+ghost use Rattle.frame_header.specs.Limits.{most_back, most_frame_length};
 
 use std::alloc::AllocError;
 
@@ -23,8 +24,8 @@ pub(crate) fn is_even(sums: &[u32]) -> bool
 /// Whether the first area with which so many bytes of main data fit never leaves more than the window,
 /// whatever is free before it.
 pub(crate) fn has_room(window: u32, bytes: u32, areas: &[u32]) -> bool
-    requires window { window ≤ 511 }
-    requires areas { All (λ n. n ≤ 1441) areas.now }
+    requires window { window ≤ most_back }
+    requires areas { All (λ n. n ≤ most_frame_length) areas.now }
     ensures { IsTrue result → HasRoom window bytes areas.now }
 {
     if areas.is_empty() || bytes < areas[0] || areas[areas.len() - 1] < bytes {
@@ -41,7 +42,7 @@ pub(crate) fn has_room(window: u32, bytes: u32, areas: &[u32]) -> bool
 /// Up to which number of free bytes, not included, the areas before this place are too small; at most the
 /// window and 1.
 pub(crate) fn end_at(window: u32, bytes: u32, areas: &[u32], place: usize) -> u32
-    requires window { window ≤ 511 }
+    requires window { window ≤ most_back }
     requires place { place ≤ length areas.now }
     requires ascending { AllPairs (λ m n. m < n) areas.now }
     ensures { IsEndAt window bytes areas.now place result }
@@ -63,7 +64,7 @@ pub(crate) fn append_first(
     areas: &[u32],
     places: &mut Vec<u8>,
 ) -> Result<(), AllocError>
-    requires window { window ≤ 511 }
+    requires window { window ≤ most_back }
     requires few { length areas.now ≤ 28 }
     requires ascending { AllPairs (λ m n. m < n) areas.now }
     requires room { HasRoom window bytes areas.now }

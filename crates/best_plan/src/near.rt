@@ -1,7 +1,8 @@
 //! Rows in which each free byte spares at most one. In front of such a row the first area that leaves enough free bytes for
 //! the frames after it is the best.
 ghost use Rattle.std.specs.Prelude.{◌≡◌, ℕ, ◌+◌, ◌<◌, ◌≤◌, length, slice_index, IfOk, IfSome};
-ghost use Rattle.best_plan.specs.Rows.{nothing, IsNear, AreChoices, AreSums, AppendsRow};
+ghost use Rattle.best_plan.specs.Rows.{nothing, AddsRow, AreBefore, AreRows, AreSums, IsNear};
+ghost use Rattle.frame_header.specs.Limits.{most_back, most_frame_length};
 
 use crate::choice::{NOTHING, Row};
 use crate::even::end_at;
@@ -47,10 +48,8 @@ fn write_none(end: usize, sums: &mut [u32])
 
 /// The sums of an area and of the least sum after it, from so many free bytes on and before as many.
 fn write_sums(row: Row<'_>, area: u32, start: usize, end: usize, sums: &mut [u32])
-    requires window { row.window ≤ 511 }
-    requires area { area ≤ 1441 }
-    requires later { length row.later.now ≡ row.window + 1 }
-    requires width { length sums.old ≡ row.window + 1 }
+    requires rows { AreRows row.window row.later.now sums.old }
+    requires area { area ≤ most_frame_length }
     requires end { end ≤ row.window + 1 }
     requires fits { start < end → row.bytes ≤ start + area }
     ensures { AreSums row.entry.window row.entry.bytes area row.entry.later.now start end sums.old
@@ -83,11 +82,10 @@ pub(crate) fn append_near(
     sums: &mut Vec<u32>,
     places: &mut Vec<u8>,
 ) -> Result<(), AllocError>
-    requires choices { AreChoices row.window row.areas.now }
-    requires later { length row.later.now ≡ row.window + 1 }
+    requires row { AreBefore row.window row.areas.now row.later.now }
     requires near { IsNear row.later.now least }
-    ensures { IfOk result (λ _. AppendsRow row.entry.window row.entry.bytes row.entry.areas.now
-        row.entry.later.now sums.new.items places.old.items places.new.items) }
+    ensures { IfOk result (λ _. AddsRow row.entry sums.new.items places.old.items
+        places.new.items) }
 {
     let Row {
         window,

@@ -1,6 +1,6 @@
 //! The choices of one frame, for each number of free bytes before it.
-ghost use Rattle.std.specs.Prelude.{◌≡◌, ◌+◌, ◌<◌, ◌≤◌, AllPairs, IsTrue, length, slice_index, IfOk, IfSome};
-ghost use Rattle.best_plan.specs.Rows.{nothing, IsEven, IsNear, HasRoom, AreChoices, AppendsRow};
+ghost use Rattle.std.specs.Prelude.{◌+◌, ◌<◌, slice_index, IfOk, IfSome};
+ghost use Rattle.best_plan.specs.Rows.{nothing, AddsRow, AppendsRow, AreBefore, AreKnown, HasRoom, IsEven, IsNear};
 
 use crate::choice::{Known, NOTHING, Row, best_choice, bounds_of, too_small};
 use crate::even::{add_to_all, append_first, has_room, is_even};
@@ -26,10 +26,9 @@ pub(crate) struct Sums {
 /// # Errors
 /// Where there is no memory.
 fn append_row(row: Row<'_>, sums: &mut Vec<u32>, places: &mut Vec<u8>) -> Result<(), AllocError>
-    requires choices { AreChoices row.window row.areas.now }
-    requires later { length row.later.now ≡ row.window + 1 }
-    ensures { IfOk result (λ _. AppendsRow row.entry.window row.entry.bytes row.entry.areas.now
-        row.entry.later.now sums.new.items places.old.items places.new.items) }
+    requires row { AreBefore row.window row.areas.now row.later.now }
+    ensures { IfOk result (λ _. AddsRow row.entry sums.new.items places.old.items
+        places.new.items) }
 {
     let bounds = bounds_of(row.later);
     let mut from = row.areas.len();
@@ -58,11 +57,10 @@ fn append_next(
     sums: &mut Vec<u32>,
     places: &mut Vec<u8>,
 ) -> Result<(), AllocError>
-    requires choices { AreChoices row.window row.areas.now }
-    requires later { length row.later.now ≡ row.window + 1 }
+    requires row { AreBefore row.window row.areas.now row.later.now }
     requires near { IfSome near (λ least. IsNear row.later.now least) }
-    ensures { IfOk result (λ _. AppendsRow row.entry.window row.entry.bytes row.entry.areas.now
-        row.entry.later.now sums.new.items places.old.items places.new.items) }
+    ensures { IfOk result (λ _. AddsRow row.entry sums.new.items places.old.items
+        places.new.items) }
 {
     match near {
         Some(least) => append_near(row, least, sums, places),
@@ -81,10 +79,7 @@ fn append_even(
     sums: &mut [u32],
     places: &mut Vec<u8>,
 ) -> Result<(), AllocError>
-    requires window { window ≤ 511 }
-    requires few { length areas.now ≤ 28 }
-    requires ascending { AllPairs (λ m n. m < n) areas.now }
-    requires width { length sums.old ≡ window + 1 }
+    requires row { AreBefore window areas.now sums.old }
     requires even { IsEven sums.old }
     requires room { HasRoom window bytes areas.now }
     requires small { slice_index sums.old 0 + bytes < nothing }
@@ -108,15 +103,11 @@ pub(crate) fn append_frame(
     sums: &mut Sums,
     places: &mut Vec<u8>,
 ) -> Result<(), AllocError>
-    requires choices { AreChoices window areas.now }
-    requires width { length sums.old.by_free.items ≡ window + 1 }
-    requires even { IsTrue sums.old.even → IsEven sums.old.by_free.items }
-    requires near { IfSome sums.old.near (λ least. IsNear sums.old.by_free.items least) }
+    requires row { AreBefore window areas.now sums.old.by_free.items }
+    requires known { AreKnown sums.old }
     ensures row { IfOk result (λ _. AppendsRow window bytes areas.now sums.old.by_free.items
         sums.new.by_free.items places.old.items places.new.items) }
-    ensures even { IfOk result (λ _. IsTrue sums.new.even → IsEven sums.new.by_free.items) }
-    ensures near { IfOk result (λ _. IfSome sums.new.near
-        (λ least. IsNear sums.new.by_free.items least)) }
+    ensures known { IfOk result (λ _. AreKnown sums.new) }
 {
     if sums.even && sums.by_free[0] < NOTHING - bytes && has_room(window, bytes, areas) {
         append_even(window, bytes, areas, &mut sums.by_free, places)?;

@@ -11,7 +11,7 @@ use crate::choice::{NOTHING, areas_among, best_choice, bounds_of};
 use crate::table::table_of;
 use crate::walk::walk;
 use frame_header::Class;
-use slot_plan::{Lengths, Need, Placed, Plan, Policy, free_behind};
+use slot_plan::{Lengths, Need, Placed, Plan, Policy, Room, free_behind};
 use std::alloc::{AllocError, Global};
 
 /// The lead-in with which all frames have the fewest bytes, where `sums` has those of the frames after it.
@@ -58,29 +58,15 @@ pub fn best<P: Policy>(alloc: Global, needs: &[Need], policy: &P) -> Result<Plan
     let mut placed = Vec::with_capacity(alloc, needs.len() + 1)?;
     let table = table_of(alloc, window, needs, policy, &lengths)?;
     if table.sums[0] < NOTHING {
-        walk(
-            window,
-            0,
-            needs,
-            policy,
-            &lengths,
-            table.places,
-            &mut placed,
-        )?;
+        let room = Room { window, free: 0 };
+        walk(room, needs, policy, &lengths, table.places, &mut placed)?;
         return Ok(Plan::from_placed(placed));
     }
     let frame = lead_in(class, window, table.sums.as_slice());
     let area = class.area_of(frame.slot, false);
     placed.push(frame)?;
     let free = free_behind(window, 0, 0, area);
-    walk(
-        window,
-        free,
-        needs,
-        policy,
-        &lengths,
-        table.places,
-        &mut placed,
-    )?;
+    let room = Room { window, free };
+    walk(room, needs, policy, &lengths, table.places, &mut placed)?;
     Ok(Plan::from_placed(placed))
 }

@@ -1,8 +1,9 @@
 //! The least sums, and the places of the areas that have them, from the last frame back to the first.
-ghost use Rattle.std.specs.Prelude.{◌≡◌, ◌<◌, ◌≤◌, [], All, AllPairs, Contains, length, IfOk};
+ghost use Rattle.std.specs.Prelude.{◌≡◌, ◌≤◌, [], length, IfOk};
 ghost use Rattle.frame_header.specs.Tables.{class_of};
-ghost use Rattle.slot_plan.specs.Parts.{own_area, AreOfClass};
-ghost use Rattle.best_plan.specs.Table.{areas_for, IsEnd, IsTable};
+ghost use Rattle.slot_plan.specs.Parts.{AreOfClass};
+ghost use Rattle.best_plan.specs.Table.{AreAreasOf, IsEnd, IsTable};
+ghost use Rattle.frame_header.specs.Limits.{most_back};
 
 use crate::choice::areas_among;
 use crate::rows::{Sums, append_frame};
@@ -24,7 +25,7 @@ pub(crate) struct Table {
 /// # Errors
 /// Where there is no memory.
 fn no_areas(alloc: Global, window: u32) -> Result<Vec<u32>, AllocError>
-    requires window { window ≤ 511 }
+    requires window { window ≤ most_back }
     ensures { IfOk result (λ sums. IsEnd window sums.items []) }
 {
     let mut sums = Vec::with_capacity(alloc, window as usize + 1)?;
@@ -37,10 +38,7 @@ fn no_areas(alloc: Global, window: u32) -> Result<Vec<u32>, AllocError>
 /// The areas among which a frame chooses, in bytes.
 fn areas_of<P: Policy>(need: &Need, policy: &P, lengths: &Lengths) -> ArrayVec<u32, 28>
     requires class { lengths.now ≡ class_of need.now.header }
-    ensures areas { result.items ≡ areas_for (P.choices_of policy.now) need.now }
-    ensures most { All (λ n. n ≤ 1441) result.items }
-    ensures own { Contains (areas_for (P.choices_of policy.now) need.now) (own_area need.now) }
-    ensures ascending { AllPairs (λ m n. m < n) (areas_for (P.choices_of policy.now) need.now) }
+    ensures { AreAreasOf (P.choices_of policy.now) need.now result.items }
 {
     let choices = policy.choices(&need.header);
     areas_among(lengths, need.header.protected, choices.as_slice())
@@ -58,7 +56,7 @@ pub(crate) fn table_of<P: Policy>(
     lengths: &Lengths,
 ) -> Result<Table, AllocError>
     requires class { AreOfClass lengths.now needs.now }
-    requires window { window ≤ 511 }
+    requires window { window ≤ most_back }
     requires few { length needs.now ≤ 200000 }
     ensures { IfOk result (λ t. IsTable window
         (P.choices_of policy.now) needs.now t.sums.items t.places.items) }

@@ -1,24 +1,20 @@
 //! Places the frames, from the first to the last: each in the area that the table has for the bytes that
 //! are free before it.
-ghost use Rattle.std.specs.Prelude.{◌≡◌, ◌<◌, ◌≤◌, false, AllPairs, Contains, length, slice_index, IfOk};
+ghost use Rattle.std.specs.Prelude.{◌≡◌, ◌<◌, ◌≤◌, length, IfOk};
 ghost use Rattle.frame_header.specs.Tables.{class_of, area_of};
-ghost use Rattle.slot_plan.specs.Parts.{area_in, item_of, AreOfClass};
-ghost use Rattle.best_plan.specs.Table.{areas_for, CanWalk, Walks};
+ghost use Rattle.slot_plan.specs.Parts.{AreOfClass};
+ghost use Rattle.best_plan.specs.Table.{areas_for, CanWalk, IsFrameAt, Walks};
+ghost use Rattle.frame_header.specs.Limits.{most_back, most_frame_length};
 
 use frame_header::Slot;
-use slot_plan::{Lengths, Need, Placed, Policy, free_behind};
+use slot_plan::{Lengths, Need, Placed, Policy, Room, free_behind};
 use std::alloc::AllocError;
 
 /// The frame in the slot at this place of its choices.
 fn frame_at<P: Policy>(need: &Need, place: u8, free: u32, policy: &P) -> Placed
     requires place { place < length (areas_for (P.choices_of policy.now) need.now) }
-    requires free { free ≤ 511 }
-    ensures frame { result.lead_in ≡ false }
-    ensures begin { result.begin ≡ free }
-    ensures chosen { Contains (P.choices_of policy.now need.now.header) result.slot }
-    ensures area { area_in (item_of (P.choices_of policy.now) need.now) result.slot ≡ slice_index
-        (areas_for (P.choices_of policy.now) need.now) place }
-    ensures ascending { AllPairs (λ m n. m < n) (areas_for (P.choices_of policy.now) need.now) }
+    requires free { free ≤ most_back }
+    ensures { IsFrameAt (P.choices_of policy.now) need.now place free result }
 {
     let choices = policy.choices(&need.header);
     Placed {
@@ -32,7 +28,7 @@ fn frame_at<P: Policy>(need: &Need, place: u8, free: u32, policy: &P) -> Placed
 fn area_with(need: &Need, slot: Slot, lengths: &Lengths) -> u32
     requires class { lengths.now ≡ class_of need.now.header }
     ensures area { result ≡ area_of (class_of need.now.header) slot need.now.header.protected }
-    ensures most { result ≤ 1441 }
+    ensures most { result ≤ most_frame_length }
 {
     lengths.area_of(slot, need.header.protected)
 }
@@ -42,8 +38,7 @@ fn area_with(need: &Need, slot: Slot, lengths: &Lengths) -> u32
 /// # Errors
 /// Where there is no memory.
 pub(crate) fn walk<P: Policy>(
-    window: u32,
-    free: u32,
+    room: Room,
     needs: &[Need],
     policy: &P,
     lengths: &Lengths,
@@ -51,15 +46,17 @@ pub(crate) fn walk<P: Policy>(
     placed: &mut Vec<Placed>,
 ) -> Result<(), AllocError>
     requires class { AreOfClass lengths.now needs.now }
-    requires window { window ≤ 511 }
-    requires free { free ≤ window }
-    requires table { CanWalk window (P.choices_of policy.now) free needs.now places.items }
-    ensures { IfOk result (λ _. Walks window
-        (P.choices_of policy.now) free needs.now placed.old.items placed.new.items) }
+    requires window { room.window ≤ most_back }
+    requires free { room.free ≤ room.window }
+    requires table { CanWalk room.window (P.choices_of policy.now) room.free needs.now
+        places.items }
+    ensures { IfOk result (λ _. Walks room.window (P.choices_of policy.now) room.free needs.now
+        placed.old.items placed.new.items) }
 {
+    let window = room.window;
     let width = window as usize + 1;
     let mut places = places;
-    let mut free = free;
+    let mut free = room.free;
     for need in needs {
         let from = places.len() - width;
         let place = places[from + free as usize];

@@ -1,5 +1,6 @@
 -- A place among the bits of bytes.
-use Rattle.std.specs.Prelude.{ℕ, ◌+◌, List, drop}
+use Rattle.std.specs.Prelude.{◌≡◌, ℕ, ◌+◌, ◌^◌, ◌<◌, ◌≤◌, ◌↔◌, List, length, take, drop, Option, IsNone, IsSome, IfNone, IfSome}
+use Rattle.bit_fields.specs.Bits.{number}
 
 -- how many bits were taken, and the bits that are left
 pub record Cursor : Type 0 where
@@ -9,3 +10,14 @@ pub record Cursor : Type 0 where
 -- the same, n bits further on
 abbrev pub advanced : Cursor → ℕ → Cursor
 advanced c n = record { place = c.place + n; left = drop n c.left }
+
+-- the next n bits are taken, or fewer are left
+pub record IsTaken (n : ℕ) (old new : Cursor) (result : Option ℕ) : Type 0 where
+  -- it fails exactly where fewer are left
+  pub short : IsNone result ↔ (length old.left < n)
+  pub enough : n ≤ length old.left → IsSome result
+  pub value : IfSome result (λ v. v ≡ number (take n old.left))
+  pub below : IfSome result (λ v. v < 2 ^ n)
+  pub moves : IfSome result (λ v. new ≡ advanced old n)
+  -- and then stays
+  pub stays : IfNone result (new ≡ old)

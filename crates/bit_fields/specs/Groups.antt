@@ -1,10 +1,27 @@
 -- A format as a list of widths: successive groups of so many bits each, as the tables of a standard give them.
-use Rattle.std.specs.Prelude.{ℕ, ◌+◌, ◌^◌, ◌<◌, List, [], ◌∷◌, ◌++◌, take, drop}
-use Rattle.bit_fields.specs.Bits.{bits_of, number}
+use Rattle.std.specs.Prelude.{◌≡◌, ℕ, ◌+◌, ◌*◌, ◌/◌, ◌^◌, ◌<◌, ◌≤◌, List, [], ◌∷◌, ◌++◌, length, take, drop}
+use Rattle.bit_fields.specs.Bits.{bits, bits_of, number}
 
 -- the number of the group of so many bits that begins at a bit
 unfoldable pub group : ℕ → ℕ → List ℕ → ℕ
 group from width bs = number (take width (drop from bs))
+
+-- up to 32 bits from this one on are bits of these bytes, of which there are at most 2^28
+pub record IsGroupIn (xs : List ℕ) (at n : ℕ) : Type 0 where
+  pub few : n ≤ 32
+  pub room : at + n ≤ 8 * length xs
+  pub short : length xs ≤ 2 ^ 28
+
+-- the number of so many bits of these bytes
+pub record IsNumberOf (xs : List ℕ) (at n v : ℕ) : Type 0 where
+  pub value : v ≡ group at n (bits xs)
+  pub below : v < 2 ^ n
+
+-- the bytes before this one hold the group, which is in the last five of them
+pub record IsReached (at n last : ℕ) : Type 0 where
+  pub reached : at + n ≤ 8 * last
+  pub near : last ≤ at / 8 + 5
+  pub ordered : at / 8 ≤ last
 
 -- the numbers of successive groups
 unfoldable pub numbers_at : List ℕ → List ℕ → List ℕ

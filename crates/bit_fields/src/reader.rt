@@ -1,7 +1,7 @@
 //! Reads successive groups of bits as numbers.
-ghost use Rattle.std.specs.Prelude.{◌≡◌, ◌+◌, ◌*◌, ◌^◌, ◌<◌, ◌≤◌, ◌↔◌, length, take, IsNone, IsSome, IfNone, IfSome};
-ghost use Rattle.bit_fields.specs.Bits.{bits, number};
-ghost use Rattle.bit_fields.specs.Cursor.{advanced};
+ghost use Rattle.std.specs.Prelude.{◌≡◌, ◌^◌, ◌≤◌, length};
+ghost use Rattle.bit_fields.specs.Bits.{bits};
+ghost use Rattle.bit_fields.specs.Cursor.{IsTaken};
 
 use crate::window::number_at;
 use std::marker::Model;
@@ -53,12 +53,7 @@ impl<'a> Bits<'a> {
     /// where fewer are left; the place then stays.
     pub fn take(&mut self, n: u32) -> Option<u32>
         requires { n ≤ 32 }
-        ensures short { IsNone result ↔ (length self.old.left < n) }
-        ensures enough { n ≤ length self.old.left → IsSome result }
-        ensures value { IfSome result (λ v. v ≡ number (take n self.old.left)) }
-        ensures below { IfSome result (λ v. v < 2 ^ n) }
-        ensures moves { IfSome result (λ v. self.new ≡ advanced self.old n) }
-        ensures stays { IfNone result (self.new ≡ self.old) }
+        ensures { IsTaken n self.old self.new result }
     {
         if self.left() < n as usize {
             return None;

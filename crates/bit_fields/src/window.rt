@@ -1,7 +1,7 @@
 //! The few bytes around a group of bits, as one number.
 ghost use Rattle.std.specs.Prelude.{◌≡◌, ◌+◌, ◌*◌, ◌/◌, ◌%◌, ◌^◌, ◌<◌, ◌≤◌, length, take, drop};
 ghost use Rattle.bit_fields.specs.Bits.{bits, bits_of, number};
-ghost use Rattle.bit_fields.specs.Groups.{group};
+ghost use Rattle.bit_fields.specs.Groups.{IsGroupIn, IsNumberOf};
 
 /// The number of at most five bytes, the most significant first.
 pub(crate) fn number_of(bytes: &[u8]) -> u64
@@ -58,12 +58,9 @@ pub(crate) fn word_at(bytes: &[u8], first: usize) -> u64
 #[inline]
 fn number_in_word(bytes: &[u8], at: usize, n: u32) -> u32
     requires some { 1 ≤ n }
-    requires few { n ≤ 32 }
-    requires room { at + n ≤ 8 * length bytes.now }
+    requires group { IsGroupIn bytes.now at n }
     requires long { 8 ≤ length bytes.now }
-    requires short { length bytes.now ≤ 2 ^ 28 }
-    ensures value { result ≡ group at n (bits bytes.now) }
-    ensures below { result < 2 ^ n }
+    ensures { IsNumberOf bytes.now at n result }
 {
     let end = at + n as usize;
     let first = (at / 8).min(bytes.len() - 8);
@@ -73,11 +70,8 @@ fn number_in_word(bytes: &[u8], at: usize, n: u32) -> u32
 
 /// The number of a group of bits, from the one to five bytes that it is in.
 fn number_in_bytes(bytes: &[u8], at: usize, n: u32) -> u32
-    requires few { n ≤ 32 }
-    requires room { at + n ≤ 8 * length bytes.now }
-    requires short { length bytes.now ≤ 2 ^ 28 }
-    ensures value { result ≡ group at n (bits bytes.now) }
-    ensures below { result < 2 ^ n }
+    requires { IsGroupIn bytes.now at n }
+    ensures { IsNumberOf bytes.now at n result }
 {
     let end = at + n as usize;
     let first = at / 8;
@@ -92,8 +86,7 @@ pub fn number_at(bytes: &[u8], at: usize, n: u32) -> u32
     requires few { n ≤ 32 }
     requires room { at + n ≤ 8 * length bytes.now }
     requires short { length bytes.now ≤ 2 ^ 28 }
-    ensures value { result ≡ group at n (bits bytes.now) }
-    ensures below { result < 2 ^ n }
+    ensures { IsNumberOf bytes.now at n result }
 {
     if n > 0 && bytes.len() >= 8 {
         number_in_word(bytes, at, n)

@@ -1,6 +1,7 @@
 //! Writes a group of bits in place.
-ghost use Rattle.std.specs.Prelude.{◌≡◌, ◌+◌, ◌*◌, ◌/◌, ◌^◌, ◌<◌, ◌≤◌, ◌++◌, length, take, drop};
-ghost use Rattle.bit_fields.specs.Bits.{bits, bits_of};
+ghost use Rattle.std.specs.Prelude.{◌≡◌, ◌+◌, ◌*◌, ◌^◌, ◌<◌, ◌≤◌, length};
+ghost use Rattle.bit_fields.specs.Bits.{bits};
+ghost use Rattle.bit_fields.specs.Groups.{with_value, IsGroupIn, IsReached};
 
 use crate::window::{number_of, set_number, with_group, word_at};
 
@@ -11,8 +12,7 @@ pub fn put(bytes: &mut [u8], at: usize, n: u32, value: u32)
     requires room { at + n ≤ 8 * length bytes.old }
     requires fits { value < 2 ^ n }
     requires short { length bytes.old ≤ 2 ^ 28 }
-    ensures { bits bytes.new ≡ take at (bits bytes.old) ++ bits_of n value ++ drop (at + n)
-        (bits bytes.old) }
+    ensures { bits bytes.new ≡ with_value at n value (bits bytes.old) }
 {
     if n > 0 && bytes.len() >= 8 {
         put_in_word(bytes, at, n, value);
@@ -28,8 +28,7 @@ pub fn put(bytes: &mut [u8], at: usize, n: u32, value: u32)
 pub fn put_byte(bytes: &mut [u8], at: usize, value: u8)
     requires room { at + 16 ≤ 8 * length bytes.old }
     requires short { length bytes.old ≤ 2 ^ 28 }
-    ensures { bits bytes.new ≡ take at (bits bytes.old) ++ bits_of 8 value ++ drop (at + 8)
-        (bits bytes.old) }
+    ensures { bits bytes.new ≡ with_value at 8 value (bits bytes.old) }
 {
     put_in_bytes(bytes, at, 8, u32::from(value), at / 8 + 2);
 }
@@ -39,14 +38,11 @@ pub fn put_byte(bytes: &mut [u8], at: usize, value: u8)
 #[inline]
 fn put_in_bytes(bytes: &mut [u8], at: usize, n: u32, value: u32, last: usize)
     requires few { n ≤ 32 }
-    requires reached { at + n ≤ 8 * last }
-    requires near { last ≤ at / 8 + 5 }
-    requires ordered { at / 8 ≤ last }
+    requires reached { IsReached at n last }
     requires room { last ≤ length bytes.old }
     requires fits { value < 2 ^ n }
     requires short { length bytes.old ≤ 2 ^ 28 }
-    ensures { bits bytes.new ≡ take at (bits bytes.old) ++ bits_of n value ++ drop (at + n)
-        (bits bytes.old) }
+    ensures { bits bytes.new ≡ with_value at n value (bits bytes.old) }
 {
     let end = at + n as usize;
     let low = (8 * last - end) as u32;
@@ -59,13 +55,10 @@ fn put_in_bytes(bytes: &mut [u8], at: usize, n: u32, value: u32, last: usize)
 #[inline]
 fn put_in_word(bytes: &mut [u8], at: usize, n: u32, value: u32)
     requires some { 1 ≤ n }
-    requires few { n ≤ 32 }
-    requires room { at + n ≤ 8 * length bytes.old }
+    requires group { IsGroupIn bytes.old at n }
     requires long { 8 ≤ length bytes.old }
     requires fits { value < 2 ^ n }
-    requires short { length bytes.old ≤ 2 ^ 28 }
-    ensures { bits bytes.new ≡ take at (bits bytes.old) ++ bits_of n value ++ drop (at + n)
-        (bits bytes.old) }
+    ensures { bits bytes.new ≡ with_value at n value (bits bytes.old) }
 {
     let end = at + n as usize;
     let first = (at / 8).min(bytes.len() - 8);

@@ -4,6 +4,7 @@ use Rattle.std.specs.Prelude.{Bool, IfErr, unwrap_or}
 use Rattle.bit_fields.specs.Bits.{AreBytes}
 use Rattle.outside.specs.Files.{Contents, Files, Holds, IsThere, Told, Untold, IfTold}
 use Rattle.outside.proofs.FilesLaws.{there_holds}
+use Rattle.outside.specs.Seen.{Seen, seen}
 use Rattle.sync_survey.specs.declared.survey_fault.SurveyFault.{SurveyFault}
 use Rattle.sync_survey.specs.declared.survey_fault.SurveyFault.TheVariants.{Absent, TooLong, Read, Shrunk, Memory as NoRoom}
 use Rattle.sync_survey.specs.MainData.{StreamFrame}
@@ -15,9 +16,10 @@ use Rattle.sync_survey.proofs.FoldersLaws.{survey_of-short}
 use Rattle.commands.specs.declared.fault.EditFault.{EditFault}
 use Rattle.commands.specs.declared.fault.EditFault.TheVariants.{Input, Refused, Memory}
 use Rattle.commands.specs.declared.fault.Refusal.{Refusal}
-use Rattle.commands.specs.One.{Making, most_frames, made_by, made_file, made_where, file_task, Refuses, RefusesInput, IsFileFaultBy, IsFileFault, IsInputFaultBy, IsInputFault, IsEarlyFaultBy, IsEarlyFault, IsOfInputs, IsMaking, IsProper}
+use Rattle.commands.specs.One.{Making, most_frames, made_by, made_file, made_where, file_task, Refuses, RefusesInput, IsFileFault, IsInputFault, IsEarlyFault, IsOfInputs, IsMaking, IsProper}
 use Rattle.commands.specs.Command.{AreSound}
-use Rattle.commands.specs.Left.{Why, Rejected, Missing, Unread, Shorter, Unwritten, Unsent, why_of, Seen, seen, is_before_memory, IsLate, IsOfSurvey, IsOfInput, IsRefusal}
+use Rattle.commands.specs.Left.{why_of, is_before_memory, IsLate, IsOfSurvey, IsOfInput, IsRefusal}
+use Rattle.commands.proofs.WhyLaws.{each_why}
 use Rattle.commands.proofs.NamedLaws.{missed_name, unread_name, lost_name}
 use Rattle.commands.proofs.RefusingLaws.{before_first}
 use Rattle.sync_survey.proofs.SurveyedFiles.{survey_of-parts, survey_of-sound}
@@ -56,15 +58,16 @@ made_parts make file new e = at (survey_of file most_frames) refl e
 
 -- and so one of the only input, whatever the command makes of it
 module _ (make : Making) (name : List ℕ) (old new : Seen) (fault : EditFault) where
-  fault_is_input_by : (why : Why) → IsFileFaultBy 0 most_frames name old new fault why → IsInputFaultBy make name old new fault why
-  fault_is_input_by Rejected h =
-      subst (RefusesInput make name old new) (sym h.1) (record { there = h.2.there; bytes = λ bytes holds. made-fault make bytes h.0 (h.2.bytes bytes holds); stays = h.2.stays })
-  fault_is_input_by (Unwritten k) h = absurd h
-  fault_is_input_by Unsent h = absurd h
-  fault_is_input_by _ h = h
-
   pub fault_is_input : IsFileFault 0 most_frames name old new fault → IsInputFault make name old new fault
-  fault_is_input h = fault_is_input_by (why_of fault) h
+  fault_is_input h = each_why (why_of fault) h (record {
+    rejected = λ r. subst (RefusesInput make name old new) (sym r.1) (record { there = r.2.there; bytes = λ bytes holds. made-fault make bytes r.0 (r.2.bytes bytes holds); stays = r.2.stays });
+    missing = λ m. m;
+    unread = λ u. u;
+    shorter = λ l. l;
+    unwritten = λ k w. w;
+    unsent = λ w. w;
+    no_memory = λ n. n;
+  })
 
 pub of_survey_input : (refuses : Refusal → Bool) (fault : EditFault) → IsOfSurvey 0 fault → IsOfInput refuses fault
 of_survey_input refuses (Input place fault) is = is
@@ -99,17 +102,16 @@ module _ (make : Making) (stream : List ℕ → List StreamFrame) (refuses : Ref
   refuses_held (Told f) fault there is = let held = there_holds f input there in ap (made_where make) held.1 ∙ is held.0 held.1
 
   module _ (old new : Seen) (fault : EditFault) where
-    input_is_early_by : (why : Why) → IsInputFaultBy make input old new fault why → IsEarlyFaultBy (file_task make stream refuses input) old new fault why
-    input_is_early_by Rejected h = record { defined = refuses_held old.files fault h.there h.bytes; stays = h.stays }
-    input_is_early_by Missing h = record { defined = refuses_where old.files fault None h.missing (ap (λ f. Err f) (sym h.is)); rose = missed_name (input ∷ []) 0 refl h; files = h.files }
-    input_is_early_by Unread h = record { before = before_first old.files (file_task make stream refuses input).makes fault h.is; rose = unread_name (input ∷ []) 0 refl h; files = h.files }
-    input_is_early_by Shorter h = record { ended = lost_name (input ∷ []) 0 refl h; files = h.files }
-    input_is_early_by (Unwritten k) h = absurd h
-    input_is_early_by Unsent h = absurd h
-    input_is_early_by _ h = h
-
     pub input_is_early : IsInputFault make input old new fault → IsEarlyFault (file_task make stream refuses input) old new fault
-    input_is_early h = input_is_early_by (why_of fault) h
+    input_is_early h = each_why (why_of fault) h (record {
+      rejected = λ r. record { defined = refuses_held old.files fault r.there r.bytes; stays = r.stays };
+      missing = λ m. record { defined = refuses_where old.files fault None m.missing (ap (λ f. Err f) (sym m.is)); rose = missed_name (input ∷ []) 0 refl m; files = m.files };
+      unread = λ u. record { before = before_first old.files (file_task make stream refuses input).makes fault u.is; rose = unread_name (input ∷ []) 0 refl u; files = u.files };
+      shorter = λ l. record { ended = lost_name (input ∷ []) 0 refl l; files = l.files };
+      unwritten = λ k w. w;
+      unsent = λ w. w;
+      no_memory = λ n. n;
+    })
 
   pub input_numbers : (fault : EditFault) → IsOfInput refuses fault → IsOfInputs (file_task make stream refuses input) fault
   input_numbers (Input place fault) h = (omega (arith, h.0), h.1, h.2, inl h.0)

@@ -1,4 +1,5 @@
 -- The lemmas of this crate.
+pub mod WhyLaws
 pub mod OutputLaws
 pub mod NamedLaws
 pub mod RefusingLaws

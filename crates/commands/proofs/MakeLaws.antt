@@ -9,14 +9,16 @@ use Rattle.sync_survey.specs.Faults.{longest_file, HoldsStream}
 use Rattle.commands.specs.declared.fault.EditFault.{EditFault}
 use Rattle.commands.specs.declared.fault.EditFault.TheVariants.{EqualNames, Input, Refused, Memory}
 use Rattle.commands.specs.declared.inputs.Inputs.{Inputs}
+use Rattle.commands.proofs.WhyLaws.{each_why}
 use Rattle.commands.proofs.NamedLaws.{among_all}
 use Rattle.outside.specs.Counts.{HappenedTo, NoneFell}
 use Rattle.std.specs.Result.{IsErrAnd}
+use Rattle.outside.specs.Seen.{Seen}
 use Rattle.commands.specs.Runs.{IsRunOf}
 use Rattle.commands.specs.Inputs.{names_of}
-use Rattle.commands.specs.One.{Task, first_input, clash_in, made_result, made_of, one_command, holding, Refuses, IsEarlyFaultBy, IsEarlyFault, IsMaking, IsOfInputs, HoldsPrefix, HoldsLess, IsBegun, IsLeftShort, IsPassFaultBy, IsPassFault}
+use Rattle.commands.specs.One.{Task, first_input, clash_in, made_result, made_of, one_command, holding, Refuses, IsEarlyFault, IsMaking, IsOfInputs, HoldsPrefix, HoldsLess, IsBegun, IsLeftShort, IsPassFault}
 use Rattle.commands.specs.Command.{Made, Command, clash_of, clash_from, Gives, written, LacksBytes, written_to, AreSound, MakesStreams, HoldsStreams}
-use Rattle.commands.specs.Left.{Why, Rejected, Missing, Unread, Shorter, Unwritten, NoMemory, why_of, Seen, IsLate, IsOfPass, IsDone, IsWrittenTo, IsUnfinished, IsNotBefore, TakesMemory, LeavesBy, Leaves, HasNumbers}
+use Rattle.commands.specs.Left.{why_of, IsLate, IsOfPass, IsDone, IsWrittenTo, IsUnfinished, IsNotBefore, TakesMemory, Leaves, HasNumbers}
 
 abbrev pub ok_made : Made → Result Made EditFault
 ok_made made = Ok made
@@ -102,16 +104,16 @@ module _ (task : Task) (output : List ℕ) (free : clash_in task output ≡ None
       stays_touched : new.files ≡ old.files → OnlyTouches (output ∷ []) old.files new.files
       stays_touched stays = subst (λ files. OnlyTouches (output ∷ []) old.files files) (sym stays) (touches_none (output ∷ []) old.files)
 
-      early_left_by : (why : Why) → IsEarlyFaultBy task old new fault why → LeavesBy (one_command task output) old new fault why
-      early_left_by Rejected h = record { defined = gives_refused old.files fault h.defined; stays = h.stays }
-      early_left_by Missing h = record { defined = gives_refused old.files fault h.defined; rose = h.rose; files = h.files }
-      early_left_by Unread h = record { names = free; before = all_made old.files (IsNotBefore fault) h.before; rose = h.rose; files = inl h.files }
-      early_left_by Shorter h = record { ended = h.ended; touches = stays_touched h.files }
-      early_left_by NoMemory h = record { names = free; takes = takes_memory old.files h.there h.few; stays = h.stays }
-      early_left_by _ h = absurd h
-
       pub early_left : IsEarlyFault task old new fault → Leaves (one_command task output) old new fault
-      early_left h = early_left_by (why_of fault) h
+      early_left h = each_why (why_of fault) h (record {
+        rejected = λ r. record { defined = gives_refused old.files fault r.defined; stays = r.stays };
+        missing = λ m. record { defined = gives_refused old.files fault m.defined; rose = m.rose; files = m.files };
+        unread = λ u. record { names = free; before = all_made old.files (IsNotBefore fault) u.before; rose = u.rose; files = inl u.files };
+        shorter = λ l. record { ended = l.ended; touches = stays_touched l.files };
+        unwritten = λ k w. absurd w;
+        unsent = λ w. absurd w;
+        no_memory = λ n. record { names = free; takes = takes_memory old.files n.there n.few; stays = n.stays };
+      })
 
   -- ---- the second pass
 
@@ -165,18 +167,23 @@ module _ (task : Task) (output : List ℕ) (free : clash_in task output ≡ None
         record { made = (whole_made gives.0, gives.2, omega arith, begun.0, begun.1, begun.2); touches = touches }
 
     module _ (first : first_input task.inputs ≡ task.source) (old new : Seen) (fault : EditFault) (making : IsMaking task file old.files) (touches : OnlyTouches (output ∷ []) old.files new.files) where
-      pass_left_by : (why : Why) → IsPassFaultBy file task.inputs output old new fault why → LeavesBy (one_command task output) old new fault why
-      pass_left_by Unread h =
-          let begun = subst (λ n. IsBegun file n output old.files new.files) first h.files in
-          record { names = free; before = made_none old.files (IsNotBefore fault) making; rose = h.rose; files = inr (0, written_part old.files new.files making begun touches) }
-      pass_left_by Shorter h = record { ended = h; touches = touches }
-      pass_left_by (Unwritten k) h =
-          let short = subst (λ n. IsLeftShort file n output old.files new.files) first h.1.files in
-          record {
-            rose = subst (λ n. HappenedTo (slice_index_or (output ∷ []) n []) old.counts.write_faults new.counts.write_faults) (sym h.0) h.1.rose;
-            files = subst (λ n. IsUnfinished (one_command task output) n old.files new.files) (sym h.0) (unfinished_part old.files new.files making short touches);
-          }
-      pass_left_by _ h = absurd h
+      pass_left : IsPassFault file task.inputs output old new fault → Leaves (one_command task output) old new fault
+      pass_left h = each_why (why_of fault) h (record {
+        rejected = λ w. absurd w;
+        missing = λ w. absurd w;
+        unread = λ u.
+            let begun = subst (λ n. IsBegun file n output old.files new.files) first u.files in
+            record { names = free; before = made_none old.files (IsNotBefore fault) making; rose = u.rose; files = inr (0, written_part old.files new.files making begun touches) };
+        shorter = λ l. record { ended = l; touches = touches };
+        unwritten = λ k w.
+            let short = subst (λ n. IsLeftShort file n output old.files new.files) first w.1.files in
+            record {
+              rose = subst (λ n. HappenedTo (slice_index_or (output ∷ []) n []) old.counts.write_faults new.counts.write_faults) (sym w.0) w.1.rose;
+              files = subst (λ n. IsUnfinished (one_command task output) n old.files new.files) (sym w.0) (unfinished_part old.files new.files making short touches);
+            };
+        unsent = λ w. absurd w;
+        no_memory = λ w. absurd w;
+      })
 
     -- from where the files and counts were left as they had been
     module _ {T : Type 0} (old mid new : Seen) (stays : mid ≡ old) (making : IsMaking task file old.files) (touches : OnlyTouches (output ∷ []) mid.files new.files) where
@@ -192,7 +199,7 @@ module _ (task : Task) (output : List ℕ) (free : clash_in task output ≡ None
       pub all_left : first_input task.inputs ≡ task.source → (r : Result T EditFault) → IfErr r (IsPassFault file task.inputs output mid new) → IfErr r (Leaves (one_command task output) old new)
       all_left first (Ok x) h = tt
       all_left first (Err fault) h =
-          pass_left_by first old new fault making (subst (λ (m : Seen). OnlyTouches (output ∷ []) m.files new.files) stays touches) (why_of fault) (subst (λ m. IsPassFault file task.inputs output m new fault) stays h)
+          pass_left first old new fault making (subst (λ (m : Seen). OnlyTouches (output ∷ []) m.files new.files) stays touches) (subst (λ m. IsPassFault file task.inputs output m new fault) stays h)
 
       -- the same of a pass over the source alone
       pub one_left : first_input task.inputs ≡ task.source → (r : Result T EditFault) → IfErr r IsOfPass → IfErr r (IsPassFault file (task.source ∷ []) output mid new) → IfErr r (Leaves (one_command task output) old new)

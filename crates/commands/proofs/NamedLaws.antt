@@ -1,10 +1,12 @@
 -- The file that a fault is of, by its place among the inputs.
 use Rattle.std.proofs.Common.{◌≡◌, ℕ, List, [], ◌∷◌, slice_index_or, refl, sym, ◌∙◌, subst}
 use Rattle.outside.specs.Counts.{HappenedTo, EndedAt}
+use Rattle.outside.specs.Seen.{Seen}
 use Rattle.commands.specs.declared.fault.EditFault.{EditFault}
 use Rattle.commands.specs.declared.fault.EditFault.TheVariants.{Input}
-use Rattle.commands.specs.Left.{Why, Unread, Shorter, Unwritten, why_of, Seen, input_of, ended_at, EndsEarly, IsOfPass}
-use Rattle.commands.specs.One.{first_input, MissesAt, ReadsNothing, LosesInput, IsBegun, IsLeftShort, IsPassFaultBy, IsPassFault}
+use Rattle.commands.specs.Left.{why_of, input_of, ended_at, EndsEarly, IsOfPass}
+use Rattle.commands.proofs.WhyLaws.{each_why}
+use Rattle.commands.specs.One.{first_input, MissesAt, ReadsNothing, LosesInput, IsBegun, IsLeftShort, IsPassFault}
 
 module _ (inputs : List (List ℕ)) (place : ℕ) {name : List ℕ} (named : name ≡ slice_index_or inputs place []) {old new : Seen} {fault : EditFault} where
   pub missed_name : MissesAt place name old new fault → HappenedTo (input_of inputs fault) old.counts.misses new.counts.misses
@@ -37,16 +39,17 @@ source_name inputs source first _ is = refl
 
 -- a fault of the pass over this input is one of all inputs
 pub among_all : (made : List ℕ → List ℕ) (inputs : List (List ℕ)) (source : List ℕ) → first_input inputs ≡ source → (output : List ℕ) (old new : Seen) (fault : EditFault) → IsOfPass fault → IsPassFault made (source ∷ []) output old new fault → IsPassFault made inputs output old new fault
-among_all made inputs source first output old new fault numbers h = at (why_of fault) h
-  where
-    named : input_of (source ∷ []) fault ≡ input_of inputs fault
-    named = source_name inputs source first fault numbers
-
-    at : (why : Why) → IsPassFaultBy made (source ∷ []) output old new fault why → IsPassFaultBy made inputs output old new fault why
-    at Unread h = record {
-      rose = subst (λ (n : List ℕ). HappenedTo n old.counts.read_faults new.counts.read_faults) named h.rose;
-      files = subst (λ n. IsBegun made n output old.files new.files) (sym first) h.files;
-    }
-    at Shorter h = record { rose = subst (λ (n : List ℕ). EndedAt n (ended_at fault) old.counts.ends new.counts.ends) named h.rose; counts = h.counts; untold = h.untold }
-    at (Unwritten k) h = (h.0, record { rose = h.1.rose; files = subst (λ n. IsLeftShort made n output old.files new.files) (sym first) h.1.files })
-    at _ h = absurd h
+among_all made inputs source first output old new fault numbers h =
+    let named = source_name inputs source first fault numbers in
+    each_why (why_of fault) h (record {
+      rejected = λ w. w;
+      missing = λ w. w;
+      unread = λ u. record {
+        rose = subst (λ (n : List ℕ). HappenedTo n old.counts.read_faults new.counts.read_faults) named u.rose;
+        files = subst (λ n. IsBegun made n output old.files new.files) (sym first) u.files;
+      };
+      shorter = λ l. record { rose = subst (λ (n : List ℕ). EndedAt n (ended_at fault) old.counts.ends new.counts.ends) named l.rose; counts = l.counts; untold = l.untold };
+      unwritten = λ k w. (w.0, record { rose = w.1.rose; files = subst (λ n. IsLeftShort made n output old.files new.files) (sym first) w.1.files });
+      unsent = λ w. w;
+      no_memory = λ w. w;
+    })

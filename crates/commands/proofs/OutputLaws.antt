@@ -6,8 +6,8 @@ use Rattle.outside.proofs.FilesLaws.{with_file_here, with_file_twice, touch_twic
 use Rattle.outside.specs.declared.pass.PassFault.{PassFault}
 use Rattle.outside.specs.declared.pass.PassFault.TheVariants.{Read, Shrunk, Write}
 use Rattle.commands.specs.One.{holding, first_input, IsBegun, IsLeftShort, IsPassFault}
-use Rattle.commands.specs.Left.{seen}
 use Rattle.outside.specs.Pass.{Appends, AppendsPrefix, route, HasPassCause}
+use Rattle.outside.specs.Seen.{seen}
 use Rattle.commands.specs.PassFaults.{of_pass_over, of_pass}
 
 -- emptied and then appended to, the output holds these bytes

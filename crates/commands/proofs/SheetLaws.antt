@@ -6,12 +6,13 @@ use Rattle.outside.specs.Counts.{Counts, HappenedTo, EndedAt, NothingFailed}
 use Rattle.outside.specs.Exact.{HasReadCause}
 use Rattle.outside.specs.declared.exact.ReadFault.{ReadFault}
 use Rattle.outside.specs.declared.exact.ReadFault.TheVariants.{Failed, Shrunk as ShrunkRead}
+use Rattle.outside.specs.Seen.{seen}
 use Rattle.sync_survey.specs.Kinds.{of_read}
 use Rattle.sync_survey.specs.declared.survey_fault.SurveyFault.TheVariants.{Absent}
 use Rattle.commands.specs.declared.fault.EditFault.{EditFault}
 use Rattle.commands.specs.declared.fault.EditFault.TheVariants.{Input, Refused}
 use Rattle.commands.specs.declared.fault.Refusal.TheVariants.{SheetTooLarge}
-use Rattle.commands.specs.Left.{seen, IsLate}
+use Rattle.commands.specs.Left.{IsLate}
 use Rattle.commands.specs.Sheet.{longest_sheet, sheet_in, IsSheetFault, IsOfSheet}
 
 -- what holds of its refusals

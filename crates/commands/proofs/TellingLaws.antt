@@ -2,10 +2,12 @@
 use Rattle.std.proofs.Common.{◌≡◌, ℕ, List, Result, Ok, Err, refl, sym, ◌∙◌, ap, subst, inl, inr}
 use Rattle.std.specs.Prelude.{◌⊎◌, IfErr}
 use Rattle.outside.specs.Files.{Contents, Files, Told, Untold, IfTold}
+use Rattle.outside.specs.Seen.{Seen}
 use Rattle.commands.specs.declared.fault.EditFault.{EditFault}
 use Rattle.commands.specs.declared.fault.EditFault.TheVariants.{EqualNames, Input, Refused, Write, Sent as NotSent, Memory}
 use Rattle.commands.specs.Command.{Made, Command, Gives, written, MakesStreams, HoldsStreams}
-use Rattle.commands.specs.Left.{Why, Rejected, Missing, Unread, Shorter, Unwritten, Unsent, NoMemory, why_of, Seen, IsDone, IsWrittenTo, IsUnfinished, IsNotBefore, TakesMemory, LeavesBy, Leaves, HasNumbers}
+use Rattle.commands.specs.Left.{why_of, IsDone, IsWrittenTo, IsUnfinished, IsNotBefore, TakesMemory, Leaves, HasNumbers}
+use Rattle.commands.proofs.WhyLaws.{each_why}
 use Rattle.commands.specs.Said.{IsText}
 use Rattle.commands.specs.Telling.{with_text, telling}
 
@@ -58,17 +60,16 @@ module _ (text : Contents → List ℕ) (command : Command) where
     unread-to (inl same) = inl same
     unread-to (inr h) = inr (h.0, written-to h.0 old.files new.files h.1)
 
-    left-by : (why : Why) → LeavesBy command old new fault why → LeavesBy told old new fault why
-    left-by Rejected h = record { defined = telling-gives old.files fault h.defined; stays = h.stays }
-    left-by Missing h = record { defined = telling-gives old.files fault h.defined; rose = h.rose; files = h.files }
-    left-by Unread h = record { names = h.names; before = all-told old.files (IsNotBefore fault) h.before; rose = h.rose; files = unread-to h.files }
-    left-by Shorter h = record { ended = h.ended; touches = h.touches }
-    left-by (Unwritten k) h = record { rose = h.rose; files = unfinished-to k old.files new.files h.files }
-    left-by Unsent h = telling-done old new h
-    left-by NoMemory h = record { names = h.names; takes = takes_memory old.files h.takes; stays = h.stays }
-
     pub telling-left : Leaves command old new fault → Leaves told old new fault
-    telling-left h = left-by (why_of fault) h
+    telling-left h = each_why (why_of fault) h (record {
+      rejected = λ r. record { defined = telling-gives old.files fault r.defined; stays = r.stays };
+      missing = λ m. record { defined = telling-gives old.files fault m.defined; rose = m.rose; files = m.files };
+      unread = λ u. record { names = u.names; before = all-told old.files (IsNotBefore fault) u.before; rose = u.rose; files = unread-to u.files };
+      shorter = λ l. record { ended = l.ended; touches = l.touches };
+      unwritten = λ k w. record { rose = w.rose; files = unfinished-to k old.files new.files w.files };
+      unsent = λ d. telling-done old new d;
+      no_memory = λ n. record { names = n.names; takes = takes_memory old.files n.takes; stays = n.stays };
+    })
 
   pub telling-numbers : (fault : EditFault) → HasNumbers command fault → HasNumbers told fault
   telling-numbers (EqualNames place) h = h

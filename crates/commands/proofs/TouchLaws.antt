@@ -4,9 +4,11 @@ use Rattle.std.proofs.lemmas.List.Elements.{All-take}
 use Rattle.std.specs.Prelude.{◌≡◌, ◌⊎◌}
 use Rattle.outside.specs.Files.{Files, OnlyTouches}
 use Rattle.outside.proofs.FilesLaws.{touches_none, touches_more}
+use Rattle.outside.specs.Seen.{Seen}
+use Rattle.commands.proofs.WhyLaws.{of_why}
 use Rattle.commands.specs.Command.{Command}
 use Rattle.commands.specs.declared.fault.EditFault.{EditFault}
-use Rattle.commands.specs.Left.{Why, Rejected, Missing, Unread, Shorter, Unwritten, Unsent, NoMemory, why_of, Seen, IsWrittenTo, LeavesBy, Leaves}
+use Rattle.commands.specs.Left.{why_of, IsWrittenTo, Leaves}
 
 module _ (command : Command) where
   stays_touched : (old new : Files) → new ≡ old → OnlyTouches command.outputs old new
@@ -21,14 +23,13 @@ module _ (command : Command) where
     unread_touched (inl same) = stays_touched old.files new.files same
     unread_touched (inr wrote) = first_touched wrote.0 old.files new.files wrote.1.touches
 
-    left_touched_by : (why : Why) → LeavesBy command old new fault why → OnlyTouches command.outputs old.files new.files
-    left_touched_by Rejected h = stays_touched old.files new.files (ap (λ (s : Seen). s.files) h.stays)
-    left_touched_by Missing h = stays_touched old.files new.files h.files
-    left_touched_by Unread h = unread_touched h.files
-    left_touched_by Shorter h = h.touches
-    left_touched_by (Unwritten k) h = first_touched k old.files new.files h.files.touches
-    left_touched_by Unsent h = h.touches
-    left_touched_by NoMemory h = stays_touched old.files new.files (ap (λ (s : Seen). s.files) h.stays)
-
     pub left_touched : Leaves command old new fault → OnlyTouches command.outputs old.files new.files
-    left_touched h = left_touched_by (why_of fault) h
+    left_touched h = of_why (why_of fault) h (record {
+      rejected = λ r. stays_touched old.files new.files (ap (λ (s : Seen). s.files) r.stays);
+      missing = λ m. stays_touched old.files new.files m.files;
+      unread = λ u. unread_touched u.files;
+      shorter = λ l. l.touches;
+      unwritten = λ k w. first_touched k old.files new.files w.files.touches;
+      unsent = λ d. d.touches;
+      no_memory = λ n. stays_touched old.files new.files (ap (λ (s : Seen). s.files) n.stays);
+    })

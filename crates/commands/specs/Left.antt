@@ -1,7 +1,8 @@
 -- What a command leaves of the files, by its answer, and the cause of each refusal.
 use Rattle.std.specs.Prelude.{◌≡◌, ◌≢◌, ◌⊎◌, ℕ, ◌+◌, ◌<◌, ◌≤◌, ◌==◌, List, length, take, drop, slice_index_or, Bool, true, false, Option, Some, None, [], Result, Ok, Err, IfErr}
 use Rattle.outside.specs.Files.{Files, Told, IfTold, is_told, OnlyTouches}
-use Rattle.outside.specs.Counts.{Counts, HappenedTo, EndedAt, NothingFailed}
+use Rattle.outside.specs.Counts.{HappenedTo, EndedAt, NothingFailed}
+use Rattle.outside.specs.Seen.{Seen}
 use Rattle.sync_survey.specs.declared.survey_fault.SurveyFault.{SurveyFault}
 use Rattle.sync_survey.specs.declared.survey_fault.SurveyFault.TheVariants.{Absent, TooLong, Memory as NoRoom}
 use Rattle.commands.specs.Kinds.{kind_of, by_kind, end_of, HasRightNumbers, IsFromOutside}
@@ -10,14 +11,6 @@ use Rattle.commands.specs.declared.fault.Refusal.{Refusal}
 use Rattle.commands.specs.declared.fault.Refusal.TheVariants.{Differ}
 use Rattle.commands.specs.declared.fault.EditFault.TheVariants.{EqualNames, Input, Refused, Write, Sent, Memory}
 use Rattle.commands.specs.Command.{Made, Command, clash_of, written, LacksBytes, written_to, Gives}
-
--- what can be seen of a folder at a moment: the files, where they are told, and the counts
-pub record Seen : Type 0 where
-  pub files : Files
-  pub counts : Counts
-
-abbrev pub seen : Files → Counts → Seen
-seen files counts = record { files = files; counts = counts }
 
 -- ---- what a refusal comes from
 
@@ -36,6 +29,29 @@ pub data Why : Type 0 where
   Unsent : Why
   -- want of memory
   NoMemory : Why
+
+-- what there is for each of these
+pub record ByWhy {ℓ} (A : Type ℓ) : Type ℓ where
+  pub rejected : A
+  pub missing : A
+  pub unread : A
+  pub shorter : A
+  pub unwritten : ℕ → A
+  pub unsent : A
+  pub no_memory : A
+
+abbrev pub by_why {ℓ} : {A : Type ℓ} → ByWhy A → Why → A
+by_why w Rejected = w.rejected
+by_why w Missing = w.missing
+by_why w Unread = w.unread
+by_why w Shorter = w.shorter
+by_why w (Unwritten k) = w.unwritten k
+by_why w Unsent = w.unsent
+by_why w NoMemory = w.no_memory
+
+-- none of them is met
+abbrev pub never : ByWhy (Type 0)
+never = record { rejected = ⊥; missing = ⊥; unread = ⊥; shorter = ⊥; unwritten = λ k. ⊥; unsent = ⊥; no_memory = ⊥ }
 
 abbrev pub why_of : EditFault → Why
 why_of (Input place fault) = by_kind (record { absent = Missing; unread = Unread; shorter = Shorter; too_much = NoMemory; refused = Rejected }) (kind_of fault)
@@ -139,18 +155,21 @@ pub record IsOutOfMemory (command : Command) (old new : Seen) : Type 0 where
   pub takes : IfTold old.files (λ f. TakesMemory (command.makes f))
   pub stays : new ≡ old
 
-abbrev pub LeavesBy : Command → Seen → Seen → EditFault → Why → Type 0
-LeavesBy command old new fault Rejected = IsRefused command old new fault
-LeavesBy command old new fault Missing = IsMissing command old new fault
-LeavesBy command old new fault Unread = IsUnread command old new fault
-LeavesBy command old new fault Shorter = IsShorter command old new fault
-LeavesBy command old new fault (Unwritten k) = IsUnwritten command k old new
-LeavesBy command old new fault Unsent = IsDone command old new
-LeavesBy command old new fault NoMemory = IsOutOfMemory command old new
+-- what is left, by the cause; the text is sent last, so if sending failed all of the command's files were written
+abbrev pub left_by : Command → Seen → Seen → EditFault → ByWhy (Type 0)
+left_by command old new fault = record {
+  rejected = IsRefused command old new fault;
+  missing = IsMissing command old new fault;
+  unread = IsUnread command old new fault;
+  shorter = IsShorter command old new fault;
+  unwritten = λ k. IsUnwritten command k old new;
+  unsent = IsDone command old new;
+  no_memory = IsOutOfMemory command old new;
+}
 
--- what a fault of the command leaves, and its cause; the text is sent last, so if sending failed all of the command's files were written
+-- what a fault of the command leaves, and its cause
 abbrev pub Leaves : Command → Seen → Seen → EditFault → Type 0
-Leaves command old new fault = LeavesBy command old new fault (why_of fault)
+Leaves command old new fault = by_why (left_by command old new fault) (why_of fault)
 
 -- ---- what the numbers of a fault say over every folder, told or not
 

@@ -10,3 +10,4 @@ pub mod Runs
 pub mod Said
 pub mod Telling
 pub mod Sheet
+pub mod Answers

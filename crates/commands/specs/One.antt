@@ -4,6 +4,7 @@ use Rattle.std.specs.Prelude.{◌≡◌, ◌≢◌, ◌⊎◌, ℕ, ◌<◌, ◌
 use Rattle.bit_fields.specs.Bits.{AreBytes}
 use Rattle.outside.specs.Files.{Contents, Files, Told, Untold, is_told, with_file, with_touch, Holds, IsThere, IsMissing, IfTold}
 use Rattle.outside.specs.Counts.{HappenedTo, EndedAt, NothingFailed}
+use Rattle.outside.specs.Seen.{Seen}
 use Rattle.sync_survey.specs.declared.survey_fault.SurveyFault.{SurveyFault}
 use Rattle.sync_survey.specs.declared.survey_fault.SurveyFault.TheVariants.{Absent, Read, Shrunk, Memory as NoRoom}
 use Rattle.sync_survey.specs.MainData.{StreamFrame}
@@ -14,7 +15,7 @@ use Rattle.commands.specs.declared.fault.EditFault.TheVariants.{EqualNames, Inpu
 use Rattle.commands.specs.declared.fault.Refusal.{Refusal}
 use Rattle.commands.specs.Kinds.{HasRightNumbers}
 use Rattle.commands.specs.Command.{Made, Command, clash_from, AreSound}
-use Rattle.commands.specs.Left.{Why, Rejected, Missing, Unread, Shorter, Unwritten, Unsent, NoMemory, why_of, Seen, input_of, EndsEarly, IsLate, IsNotBefore, IsOfPlace}
+use Rattle.commands.specs.Left.{by_why, never, why_of, input_of, EndsEarly, IsLate, IsNotBefore, IsOfPlace}
 
 -- what it makes of a file with this survey, or why it refuses it
 abbrev pub Making : Type 0
@@ -147,31 +148,29 @@ pub record NeedsMemory (name : List ℕ) (old new : Seen) : Type 0 where
   pub few : (bytes : List ℕ) → Holds old.files name bytes → length bytes ≤ longest_file
   pub stays : new ≡ old
 
-abbrev pub IsFileFaultBy : ℕ → ℕ → List ℕ → Seen → Seen → EditFault → Why → Type 0
-IsFileFaultBy place allowed name old new fault Rejected = (f : SurveyFault) × (fault ≡ Input place f) × RefusesFile allowed name old new f
-IsFileFaultBy place allowed name old new fault Missing = MissesAt place name old new fault
-IsFileFaultBy place allowed name old new fault Unread = ReadsNothing place name old new fault
-IsFileFaultBy place allowed name old new fault Shorter = LosesInput place name old new fault
-IsFileFaultBy place allowed name old new fault (Unwritten k) = ⊥
-IsFileFaultBy place allowed name old new fault Unsent = ⊥
-IsFileFaultBy place allowed name old new fault NoMemory = NeedsMemory name old new
-
 -- what a fault of the survey of an input says of it; the input is counted from 0, and so many frames are allowed
 abbrev pub IsFileFault : ℕ → ℕ → List ℕ → Seen → Seen → EditFault → Type 0
-IsFileFault place allowed name old new fault = IsFileFaultBy place allowed name old new fault (why_of fault)
-
-abbrev pub IsInputFaultBy : Making → List ℕ → Seen → Seen → EditFault → Why → Type 0
-IsInputFaultBy make name old new fault Rejected = RefusesInput make name old new fault
-IsInputFaultBy make name old new fault Missing = MissesInput name old new fault
-IsInputFaultBy make name old new fault Unread = ReadsNothing 0 name old new fault
-IsInputFaultBy make name old new fault Shorter = LosesInput 0 name old new fault
-IsInputFaultBy make name old new fault (Unwritten k) = ⊥
-IsInputFaultBy make name old new fault Unsent = ⊥
-IsInputFaultBy make name old new fault NoMemory = NeedsMemory name old new
+IsFileFault place allowed name old new fault = by_why
+    (record never {
+      rejected = (f : SurveyFault) × (fault ≡ Input place f) × RefusesFile allowed name old new f;
+      missing = MissesAt place name old new fault;
+      unread = ReadsNothing place name old new fault;
+      shorter = LosesInput place name old new fault;
+      no_memory = NeedsMemory name old new;
+    })
+    (why_of fault)
 
 -- what a fault that was met before the output is created says of the input
 abbrev pub IsInputFault : Making → List ℕ → Seen → Seen → EditFault → Type 0
-IsInputFault make name old new fault = IsInputFaultBy make name old new fault (why_of fault)
+IsInputFault make name old new fault = by_why
+    (record never {
+      rejected = RefusesInput make name old new fault;
+      missing = MissesInput name old new fault;
+      unread = ReadsNothing 0 name old new fault;
+      shorter = LosesInput 0 name old new fault;
+      no_memory = NeedsMemory name old new;
+    })
+    (why_of fault)
 
 -- ---- before the output is created
 
@@ -200,18 +199,17 @@ pub record LosesFile (task : Task) (old new : Seen) (fault : EditFault) : Type 0
   pub ended : EndsEarly task.inputs old new fault
   pub files : new.files ≡ old.files
 
-abbrev pub IsEarlyFaultBy : Task → Seen → Seen → EditFault → Why → Type 0
-IsEarlyFaultBy task old new fault Rejected = RefusesFiles task old new fault
-IsEarlyFaultBy task old new fault Missing = MissesFile task old new fault
-IsEarlyFaultBy task old new fault Unread = ReadsNoFile task old new fault
-IsEarlyFaultBy task old new fault Shorter = LosesFile task old new fault
-IsEarlyFaultBy task old new fault (Unwritten k) = ⊥
-IsEarlyFaultBy task old new fault Unsent = ⊥
-IsEarlyFaultBy task old new fault NoMemory = NeedsMemory task.source old new
-
 -- what a fault says that was met before the output was created
 abbrev pub IsEarlyFault : Task → Seen → Seen → EditFault → Type 0
-IsEarlyFault task old new fault = IsEarlyFaultBy task old new fault (why_of fault)
+IsEarlyFault task old new fault = by_why
+    (record never {
+      rejected = RefusesFiles task old new fault;
+      missing = MissesFile task old new fault;
+      unread = ReadsNoFile task old new fault;
+      shorter = LosesFile task old new fault;
+      no_memory = NeedsMemory task.source old new;
+    })
+    (why_of fault)
 
 -- the fault is one of the inputs, a refusal that the command can give, or want of memory
 abbrev pub IsOfInputs : Task → EditFault → Type 0
@@ -252,12 +250,12 @@ pub record StopsWriting (made : List ℕ → List ℕ) (input output : List ℕ)
   pub rose : HappenedTo output old.counts.write_faults new.counts.write_faults
   pub files : IsLeftShort made input output old.files new.files
 
-abbrev pub IsPassFaultBy : (List ℕ → List ℕ) → List (List ℕ) → List ℕ → Seen → Seen → EditFault → Why → Type 0
-IsPassFaultBy made inputs output old new fault Unread = StopsReading made inputs output old new fault
-IsPassFaultBy made inputs output old new fault Shorter = EndsEarly inputs old new fault
-IsPassFaultBy made inputs output old new fault (Unwritten k) = (k ≡ 0) × StopsWriting made (first_input inputs) output old new
-IsPassFaultBy made inputs output old new fault _ = ⊥
-
 -- what a fault leaves that was met while the output was written
 abbrev pub IsPassFault : (List ℕ → List ℕ) → List (List ℕ) → List ℕ → Seen → Seen → EditFault → Type 0
-IsPassFault made inputs output old new fault = IsPassFaultBy made inputs output old new fault (why_of fault)
+IsPassFault made inputs output old new fault = by_why
+    (record never {
+      unread = StopsReading made inputs output old new fault;
+      shorter = EndsEarly inputs old new fault;
+      unwritten = λ k. (k ≡ 0) × StopsWriting made (first_input inputs) output old new;
+    })
+    (why_of fault)

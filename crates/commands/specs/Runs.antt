@@ -1,10 +1,11 @@
 -- What the call of a command that makes files says, whatever its answer.
 use Rattle.std.specs.Prelude.{◌≡◌, ◌↔◌, ℕ, Some, Result, IfErr, OnOk, IsErrOf}
 use Rattle.outside.specs.Counts.{NoneFell}
+use Rattle.outside.specs.Seen.{Seen}
 use Rattle.commands.specs.declared.fault.EditFault.{EditFault}
 use Rattle.commands.specs.declared.fault.EditFault.TheVariants.{EqualNames}
 use Rattle.commands.specs.Command.{Command, clash_of, HoldsStreams}
-use Rattle.commands.specs.Left.{Seen, IsDone, Leaves, HasNumbers}
+use Rattle.commands.specs.Left.{IsDone, Leaves, HasNumbers}
 
 -- from one moment to another the command ran, with this answer
 pub record IsRunOf (command : Command) (old new : Seen) (answer : Result (Unit {0}) EditFault) : Type 0 where

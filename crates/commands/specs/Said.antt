@@ -1,18 +1,11 @@
 -- What a command sends to standard output.
 use Rattle.std.specs.Prelude.{◌≡◌, ◌⊎◌, ℕ, ◌≤◌, List, length, take, Option, Some, None, Result, Ok, Err}
-use Rattle.outside.specs.Files.{Contents, Files, Sent, sent_more, Told}
+use Rattle.outside.specs.Files.{Contents, Files, sent_more, Told}
 use Rattle.outside.specs.Counts.{Rose}
+use Rattle.outside.specs.Seen.{Heard}
 use Rattle.commands.specs.declared.fault.EditFault.{EditFault}
 use Rattle.commands.specs.declared.fault.EditFault.TheVariants.{Sent as NotSent}
 use Rattle.commands.specs.Command.{Made, Command}
-
--- what can be seen of a sink at a moment: the bytes that it got, if they are told, and how often a write failed
-pub record Heard : Type 0 where
-  pub sent : Sent
-  pub faults : ℕ
-
-abbrev pub heard : Sent → ℕ → Heard
-heard sent faults = record { sent = sent; faults = faults }
 
 -- the text that the command makes of these files; over files that aren't told, one that it makes of all
 abbrev pub IsText : Command → Files → List ℕ → Type 0

@@ -1,13 +1,14 @@
 -- A sheet, the second input of a command: its bytes, and why they aren't read.
 use Rattle.std.specs.Prelude.{◌≡◌, ◌≢◌, ℕ, nat_lt, if◌then◌else◌, Bool, true, false, List, length, Option, Some, None, Result, Ok, Err}
 use Rattle.outside.specs.Files.{Holds, IsThere}
+use Rattle.outside.specs.Seen.{Seen}
 use Rattle.sync_survey.specs.declared.survey_fault.SurveyFault.TheVariants.{Absent, Memory as NoRoom}
 use Rattle.commands.specs.declared.fault.EditFault.{EditFault}
 use Rattle.commands.specs.declared.fault.EditFault.TheVariants.{Input, Refused, Memory}
 use Rattle.commands.specs.declared.fault.Refusal.{Refusal}
 use Rattle.commands.specs.declared.fault.Refusal.TheVariants.{SheetTooLarge}
 use Rattle.commands.specs.Kinds.{HasRightNumbers, IsFromOutside}
-use Rattle.commands.specs.Left.{Why, Rejected, Missing, Unread, Shorter, NoMemory, why_of, Seen}
+use Rattle.commands.specs.Left.{by_why, never, why_of}
 use Rattle.commands.specs.One.{MissesAt, ReadsNothing, LosesInput}
 
 -- the greatest length of a sheet in bytes
@@ -32,17 +33,17 @@ pub record RefusesSheet (name : List ℕ) (old new : Seen) (fault : EditFault) :
 abbrev pub MissesSheet : List ℕ → Seen → Seen → EditFault → Type 0
 MissesSheet name old new fault = MissesAt 1 name old new fault
 
-abbrev pub IsSheetFaultBy : List ℕ → Seen → Seen → EditFault → Why → Type 0
-IsSheetFaultBy name old new fault Rejected = RefusesSheet name old new fault
-IsSheetFaultBy name old new fault Missing = MissesSheet name old new fault
-IsSheetFaultBy name old new fault Unread = ReadsNothing 1 name old new fault
-IsSheetFaultBy name old new fault Shorter = LosesInput 1 name old new fault
-IsSheetFaultBy name old new fault NoMemory = new ≡ old
-IsSheetFaultBy name old new fault _ = ⊥
-
 -- what a fault says that was met while the sheet was read
 abbrev pub IsSheetFault : List ℕ → Seen → Seen → EditFault → Type 0
-IsSheetFault name old new fault = IsSheetFaultBy name old new fault (why_of fault)
+IsSheetFault name old new fault = by_why
+    (record never {
+      rejected = RefusesSheet name old new fault;
+      missing = MissesSheet name old new fault;
+      unread = ReadsNothing 1 name old new fault;
+      shorter = LosesInput 1 name old new fault;
+      no_memory = new ≡ old;
+    })
+    (why_of fault)
 
 -- the refusals for its length
 abbrev pub sheet_refuses : Refusal → Bool

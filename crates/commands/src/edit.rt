@@ -1,7 +1,6 @@
 //! The one body of all commands that make one file.
 ghost use Rattle.std.specs.Prelude.{◌≡◌, IfOk, IfErr, OnOk};
 ghost use Rattle.outside.specs.Counts.{OnlyReads};
-ghost use Rattle.commands.specs.Left.{seen};
 ghost use Rattle.commands.specs.Runs.{IsRunOf};
 ghost use Rattle.commands.specs.Inputs.{names_of};
 ghost use Rattle.commands.specs.One.{Task, one_command, IsEarlyFault, IsOfInputs, IsMaking, IsProper};
@@ -36,16 +35,16 @@ pub trait Edit {
     fn prepare<D: Folder>(&self, alloc: Global, folder: &mut D) -> Result<Self::Work, EditFault>
         requires { IsLegal self.now }
         ensures ready { IfOk result (λ work. Self.Work.IsReady work (task self.now).source
-            (D.files folder.old)) }
+            (D.seen folder.old).files) }
         ensures making { IfOk result (λ work. IsMaking (task self.now) (Self.Work.file_of work)
-            (D.files folder.old)) }
+            (D.seen folder.old).files) }
         ensures refused { IfErr result (IsEarlyFault (task self.now)
-            (seen (D.files folder.old) (D.counts folder.old))
-            (seen (D.files folder.new) (D.counts folder.new))) }
+            (D.seen folder.old)
+            (D.seen folder.new)) }
         ensures numbers { IfErr result (IsOfInputs (task self.now)) }
-        ensures done { OnOk result (D.counts folder.new ≡ D.counts folder.old) }
-        ensures files { D.files folder.new ≡ D.files folder.old }
-        ensures counts { OnlyReads (D.counts folder.old) (D.counts folder.new) };
+        ensures done { OnOk result ((D.seen folder.new).counts ≡ (D.seen folder.old).counts) }
+        ensures files { (D.seen folder.new).files ≡ (D.seen folder.old).files }
+        ensures counts { OnlyReads (D.seen folder.old).counts (D.seen folder.new).counts };
 }
 
 /// Makes the one file of a command.
@@ -69,8 +68,8 @@ pub fn make_one<E: Edit, D: Folder>(
     requires proper { IsProper (E.task edit.now) }
     // The sources are well-formed, and the output holds its stream.
     ensures { IsRunOf (one_command (E.task edit.now) output.now)
-        (seen (D.files folder.old) (D.counts folder.old))
-        (seen (D.files folder.new) (D.counts folder.new)) result }
+        (D.seen folder.old)
+        (D.seen folder.new) result }
 {
     let inputs = edit.inputs();
     if let Some(place) = inputs.clash(output) {

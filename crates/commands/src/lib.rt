@@ -5,7 +5,6 @@
 mod edit;
 mod fault;
 mod inputs;
-mod limits;
 mod output;
 mod sheet;
 mod surveys;
@@ -14,7 +13,8 @@ pub use edit::{Edit, make_one};
 pub use fault::{EditFault, Refusal};
 pub use frame_header::MOST_FRAMES;
 pub use inputs::Inputs;
-pub use limits::{LONGEST_FILE, LONGEST_TAG};
 pub use output::{OutputPass, write_output};
-pub use sheet::sheet_bytes;
+pub use sheet::{SHEET, sheet_bytes};
 pub use surveys::survey_at;
+pub use sync_survey::LONGEST_FILE;
+pub use tag_blocks::LONGEST_TAG;

@@ -1,9 +1,10 @@
 //! The output of a command that makes one file: it is created, and written by a second pass over the source.
 ghost use Rattle.std.specs.Prelude.{◌≡◌, ◌≢◌, List, [], ◌∷◌, ℕ, IfErr, OnOk};
-ghost use Rattle.outside.specs.Files.{Files, emptied, Holds, OnlyTouches};
+ghost use Rattle.outside.specs.Files.{Files, emptied, OnlyTouches};
 ghost use Rattle.outside.specs.Counts.{NoneFell};
+ghost use Rattle.outside.specs.Seen.{OnFile};
 ghost use Rattle.outside.specs.Pass.{Appends, AppendsPrefix, route, HasPassCause};
-ghost use Rattle.commands.specs.Left.{seen, IsOfPass};
+ghost use Rattle.commands.specs.Left.{IsOfPass};
 ghost use Rattle.commands.specs.One.{holding, IsPassFault};
 
 use crate::fault::EditFault;
@@ -31,15 +32,15 @@ pub trait OutputPass: Drop {
     ) -> Result<(), PassFault>
         requires apart { input.now ≢ output.now }
         requires created { (old : Files) × IsReady self.old input.now old
-            × (D.files folder.old ≡ emptied old output.now) }
+            × ((D.seen folder.old).files ≡ emptied old output.now) }
         ensures written { OnOk result (Appends input.now output.now (file_of self.old)
-            (D.files folder.old) (D.files folder.new)) }
+            (D.seen folder.old).files (D.seen folder.new).files) }
         ensures prefix { IfErr result (AppendsPrefix input.now output.now (file_of self.old)
-            (D.files folder.old) (D.files folder.new)) }
-        ensures done { OnOk result (D.counts folder.new ≡ D.counts folder.old) }
+            (D.seen folder.old).files (D.seen folder.new).files) }
+        ensures done { OnOk result ((D.seen folder.new).counts ≡ (D.seen folder.old).counts) }
         ensures cause { IfErr result (λ fault. (size : ℕ) × HasPassCause
-            (route input.now output.now size) (D.files folder.old)
-            (D.counts folder.old) (D.counts folder.new) fault) };
+            (route input.now output.now size) (D.seen folder.old).files
+            (D.seen folder.old).counts (D.seen folder.new).counts fault) };
 }
 
 /// Creates the output and writes it. All memory was taken before.
@@ -54,18 +55,18 @@ pub fn write_output<W: OutputPass, D: Folder>(
     work: &mut W,
 ) -> Result<(), EditFault>
     requires apart { input.now ≢ output.now }
-    requires ready { W.IsReady work.old input.now (D.files folder.old) }
-    ensures written { OnOk result ((bytes : List ℕ)
-        → Holds (D.files folder.old) input.now bytes
-        → D.files folder.new ≡ holding (D.files folder.old) output.now
-        (W.file_of work.old bytes)) }
-    ensures touches { OnlyTouches (output.now ∷ []) (D.files folder.old) (D.files folder.new) }
-    ensures done { OnOk result (D.counts folder.new ≡ D.counts folder.old) }
+    requires ready { W.IsReady work.old input.now (D.seen folder.old).files }
+    ensures written { OnOk result (OnFile (D.seen folder.old) input.now
+        (λ bytes. (D.seen folder.new).files ≡ holding (D.seen folder.old).files output.now
+        (W.file_of work.old bytes))) }
+    ensures touches { OnlyTouches (output.now ∷ []) (D.seen folder.old).files
+        (D.seen folder.new).files }
+    ensures done { OnOk result ((D.seen folder.new).counts ≡ (D.seen folder.old).counts) }
     ensures left { IfErr result (IsPassFault (W.file_of work.old) (input.now ∷ []) output.now
-        (seen (D.files folder.old) (D.counts folder.old))
-        (seen (D.files folder.new) (D.counts folder.new))) }
+        (D.seen folder.old)
+        (D.seen folder.new)) }
     ensures numbers { IfErr result IsOfPass }
-    ensures counts { NoneFell (D.counts folder.old) (D.counts folder.new) }
+    ensures counts { NoneFell (D.seen folder.old).counts (D.seen folder.new).counts }
 {
     let Ok(()) = folder.create(output) else {
         return Err(EditFault::Write(0));

@@ -1,9 +1,8 @@
 //! The bytes of a sheet.
-ghost use Rattle.std.specs.Prelude.{◌≡◌, ◌≤◌, List, ℕ, length, Some, IfOk, IfErr, OnOk};
-ghost use Rattle.outside.specs.Files.{Holds, IsThere};
-ghost use Rattle.outside.specs.Counts.{OnlyReads};
-ghost use Rattle.commands.specs.Left.{seen};
-ghost use Rattle.commands.specs.Sheet.{longest_sheet, IsSheetFault, IsOfSheet};
+ghost use Rattle.std.specs.Prelude.{◌≡◌, ◌≤◌, List, ℕ, length, IfOk};
+ghost use Rattle.outside.specs.Seen.{OnFile};
+ghost use Rattle.commands.specs.Sheet.{longest_sheet};
+ghost use Rattle.commands.specs.Answers.{SheetAnswer};
 
 use crate::fault::{EditFault, Refusal};
 use outside::{FindFault, Folder, read_exact};
@@ -14,24 +13,17 @@ use sync_survey::SurveyFault;
 const LONGEST_SHEET: u64 = 65_536;
 
 /// The number of the sheet among the inputs, counted from 0.
-const SHEET: u32 = 1;
+pub const SHEET: u32 = 1;
 
 /// The length of the sheet in bytes.
 ///
 /// # Errors
 /// `Input(1, ..)` with `Absent` or `Read`; `SheetTooLarge`.
 fn sheet_length<D: Folder>(folder: &mut D, sheet: &str) -> Result<u64, EditFault>
-    ensures there { OnOk result (IsThere (D.files folder.old) sheet.now) }
-    ensures length { IfOk result (λ n. (bytes : List ℕ) → Holds (D.files folder.old) sheet.now bytes
-        → n ≡ length bytes) }
+    ensures length { IfOk result (λ n. OnFile (D.seen folder.old) sheet.now
+        (λ bytes. n ≡ length bytes)) }
     ensures most { IfOk result (λ n. n ≤ longest_sheet) }
-    ensures refused { IfErr result (IsSheetFault sheet.now
-        (seen (D.files folder.old) (D.counts folder.old))
-        (seen (D.files folder.new) (D.counts folder.new))) }
-    ensures numbers { IfErr result IsOfSheet }
-    ensures done { OnOk result (D.counts folder.new ≡ D.counts folder.old) }
-    ensures files { D.files folder.new ≡ D.files folder.old }
-    ensures counts { OnlyReads (D.counts folder.old) (D.counts folder.new) }
+    ensures sheet { SheetAnswer sheet.now (D.seen folder.old) (D.seen folder.new) result }
 {
     match folder.find(sheet) {
         Ok(length) if length > LONGEST_SHEET => Err(Refusal::SheetTooLarge(length).into()),
@@ -54,17 +46,10 @@ pub fn sheet_bytes<D: Folder>(
     folder: &mut D,
     sheet: &str,
 ) -> Result<Vec<u8>, EditFault>
-    ensures there { OnOk result (IsThere (D.files folder.old) sheet.now) }
     ensures most { IfOk result (λ read. length read.items ≤ longest_sheet) }
-    ensures bytes { IfOk result (λ read. (bytes : List ℕ)
-        → Holds (D.files folder.old) sheet.now bytes → read.items ≡ bytes) }
-    ensures refused { IfErr result (IsSheetFault sheet.now
-        (seen (D.files folder.old) (D.counts folder.old))
-        (seen (D.files folder.new) (D.counts folder.new))) }
-    ensures numbers { IfErr result IsOfSheet }
-    ensures done { OnOk result (D.counts folder.new ≡ D.counts folder.old) }
-    ensures files { D.files folder.new ≡ D.files folder.old }
-    ensures counts { OnlyReads (D.counts folder.old) (D.counts folder.new) }
+    ensures bytes { IfOk result (λ read. OnFile (D.seen folder.old) sheet.now
+        (λ bytes. read.items ≡ bytes)) }
+    ensures sheet { SheetAnswer sheet.now (D.seen folder.old) (D.seen folder.new) result }
 {
     let length = sheet_length(folder, sheet)?;
     let mut bytes = vec![in alloc; 0; length as usize]?;

@@ -2,6 +2,7 @@
 ghost use Rattle.std.specs.Prelude.{◌≡◌, ◌≤◌, ◌++◌, ◌⊎◌, ◌∷◌, [], length, IfOk, OnOk, MatchResult, Ok, Err};
 ghost use Rattle.cue_sheet.specs.declared.cue_fault.CueFault.TheVariants.{Memory};
 ghost use Rattle.cue_sheet.specs.Cues.{places_of, entries_from, cue_in, cue_of, AreStarts};
+ghost use Rattle.cue_sheet.specs.Limits.{longest_sheet};
 
 use crate::cue_fault::CueFault;
 use crate::entry::{Entry, read_entry};
@@ -27,7 +28,7 @@ fn keep_start(starts: &mut Vec<Place>, entry: Entry) -> Result<(), AllocError>
 
 /// The starts of the tracks of a sheet without a byte order mark, or the first fault.
 fn read_lines(alloc: Global, text: &[u8]) -> Result<Vec<Place>, CueFault>
-    requires { length text.now ≤ 65536 }
+    requires { length text.now ≤ longest_sheet }
     ensures cue { MatchResult result
         (λ starts. cue_in (entries_from text.now 0) ≡ Ok starts.items)
         (λ fault. (fault ≡ Memory) ⊎ (cue_in (entries_from text.now 0) ≡ Err fault)) }
@@ -94,7 +95,7 @@ impl Cue {
     /// start. `Memory` where there is no memory.
     #[tactic(auto, unfolding(crate::specs::Cues::cue_of))]
     pub fn read(alloc: Global, bytes: &[u8]) -> Result<Cue, CueFault>
-        requires { length bytes.now ≤ 65536 }
+        requires { length bytes.now ≤ longest_sheet }
         ensures cue { MatchResult result
             (λ cue. cue_of bytes.now ≡ Ok cue)
             (λ fault. (fault ≡ Memory) ⊎ (cue_of bytes.now ≡ Err fault)) }

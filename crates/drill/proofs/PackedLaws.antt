@@ -9,6 +9,7 @@ use Rattle.outside.specs.Files.{Contents, Files, sent_more, Holds, Told}
 use Rattle.outside.specs.Passed.{SentPrefix}
 use Rattle.outside.specs.Counts.{Rose}
 use Rattle.outside.proofs.FilesLaws.{with_file_here}
+use Rattle.outside.specs.Seen.{Heard}
 use Rattle.sync_survey.specs.Row.{Row}
 use Rattle.sync_survey.specs.MainData.{StreamFrame}
 use Rattle.sync_survey.specs.Faults.{SurveyFields, surveyed, stream_of_survey, HoldsStream}
@@ -32,7 +33,7 @@ use Rattle.laying.proofs.PlacesLaws.{range-whole}
 use Rattle.commands.specs.declared.fault.EditFault.{EditFault}
 use Rattle.commands.specs.Command.{Output, Made, written}
 use Rattle.commands.specs.One.{most_frames, made_where, unless_clash, clash_in, made_result, made_of}
-use Rattle.commands.specs.Said.{Heard, IsText, SaysAll, SaysPrefix}
+use Rattle.commands.specs.Said.{IsText, SaysAll, SaysPrefix}
 use Rattle.commands.proofs.InputLaws.{made-survey}
 use Rattle.frame_edits.specs.declared.chosen.Slots.TheVariants.{Least}
 use Rattle.frame_edits.specs.Chosen.{Chosen, chosen_rows, plan_of, part_of, chosen_file, chosen_stream, laid_with, choosing, chosen_with, all_choice, chosen_task, pack_refuses, pack_command}

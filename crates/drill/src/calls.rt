@@ -4,18 +4,15 @@ ghost use Rattle.outside.specs.Files.{Files};
 ghost use Rattle.sync_survey.specs.Faults.{tells};
 ghost use Rattle.sync_survey.specs.Survey.{survey_of};
 ghost use Rattle.commands.specs.One.{most_frames};
-ghost use Rattle.commands.specs.Said.{heard, Says, fault_of};
+ghost use Rattle.commands.specs.Said.{Says, fault_of};
 ghost use Rattle.drill.specs.Drilled.{packed_file, drill_summary, drill_command, IsDrillFault};
 
 use commands::{EditFault, MOST_FRAMES};
-use drill_stream::{Summary, send_summary, stream_folder, streams_are_long};
+use drill_stream::{FRAME_LENGTH, Summary, send_summary, stream_folder, streams_are_long};
 use frame_edits::pack;
 use outside::{Failed, Sink};
 use std::alloc::{AllocError, Global};
 use sync_survey::{Survey, survey};
-
-/// The length in bytes of each frame of the stream: 128 kbit/s at 44.1 kHz, without padding.
-const FRAME: u64 = 417;
 
 /// Makes the stream of this seed, of `count` frames, in a folder of its own, packs it there, and surveys the packed file.
 ///
@@ -57,7 +54,7 @@ fn summary_of(alloc: Global, seed: u32, count: u32) -> Result<Summary, AllocErro
     streams_are_long();
     Ok(Summary {
         frames,
-        bytes_in: FRAME * frames,
+        bytes_in: FRAME_LENGTH * frames,
         bytes_out: survey.length(),
         lead_ins: survey.frames().len() as u64 - frames,
     })
@@ -76,7 +73,7 @@ pub fn drill<T: Sink>(alloc: Global, seed: u32, count: u32, out: &mut T) -> Resu
     requires few { count ≤ 20000 }
     // Whatever files there are: none is read.
     ensures says { (files : Files) → Says (drill_command seed count) files
-        (heard (T.sent out.old) (T.faults out.old)) (heard (T.sent out.new) (T.faults out.new))
+        (T.heard out.old) (T.heard out.new)
         (fault_of result) }
     ensures fault { IfErr result IsDrillFault }
 {

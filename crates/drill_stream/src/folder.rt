@@ -2,13 +2,14 @@
 ghost use Rattle.std.specs.Prelude.{◌≡◌, ◌+◌, ◌*◌, ◌≤◌, Some, IfOk};
 ghost use Rattle.outside.specs.Memory.{contents_of, room_of};
 ghost use Rattle.drill_stream.specs.Drill.{drill_stream};
+ghost use Rattle.frame_header.specs.Limits.{most_frame_length};
 
 use crate::stream::write_stream;
 use outside::MemFolder;
 use std::alloc::{AllocError, Global};
 
-/// The length of a frame of the stream in bytes.
-const FRAME: u64 = 417;
+/// The length in bytes of each frame of the stream: 128 kbit/s at 44,100 Hz, without padding.
+pub const FRAME_LENGTH: u64 = 417;
 
 /// The greatest length of a frame that is written, in bytes: one of 320 kbit/s at 32,000 Hz, or of 160
 /// kbit/s at 8,000 Hz, padded.
@@ -29,11 +30,12 @@ pub fn stream_folder(
 ) -> Result<MemFolder, AllocError>
     ensures stream { IfOk result (λ folder. contents_of folder stream.now
         ≡ Some (drill_stream seed count)) }
-    ensures room { IfOk result (λ folder. (count + 2) * 1441 ≤ room_of folder packed.now) }
+    ensures room { IfOk result (λ folder. (count + 2) * most_frame_length ≤ room_of folder
+        packed.now) }
 {
     let count_of = u64::from(count);
     let mut folder = MemFolder::new(alloc);
-    folder.reserve(stream, FRAME * count_of)?;
+    folder.reserve(stream, FRAME_LENGTH * count_of)?;
     let Ok(()) = write_stream(alloc, seed, count, &mut folder, stream) else {
         return Err(AllocError);
     };

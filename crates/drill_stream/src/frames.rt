@@ -2,6 +2,7 @@
 ghost use Rattle.std.specs.Prelude.{◌≡◌, ◌+◌, ◌*◌, ◌/◌, ◌%◌, ◌≤◌, length, map};
 ghost use Rattle.drill_stream.specs.Draws.{state_behind};
 ghost use Rattle.drill_stream.specs.Drill.{drill_header as drill_header_lem, room_of, granule_with, granules_with, first_bits, drawn_side, drawn_payload};
+ghost use Rattle.frame_header.specs.Limits.{most_back};
 
 use crate::draws::Draws;
 use frame_header::{Header, Slot, Version};
@@ -58,7 +59,7 @@ fn granule(bits: u16, gain: u8) -> Granule
 /// length and one for the gain of each granule and channel. Each has at most twice as many bits as there
 /// are bytes for the main data, so that all four fit, and a gain from 100 to 199.
 fn granules(begin: u16, lengths: &[u16; 4], gains: &[u16; 4]) -> [[Granule; 2]; 2]
-    requires few { begin ≤ 511 }
+    requires few { begin ≤ most_back }
     requires four { (length lengths.now ≡ 4) × (length gains.now ≡ 4) }
     ensures { result ≡ granules_with
         (map (λ draw. draw % (2 * room_of begin + 1)) lengths.now)
@@ -72,7 +73,7 @@ fn granules(begin: u16, lengths: &[u16; 4], gains: &[u16; 4]) -> [[Granule; 2]; 
 /// Draws the side information of a frame whose main data begin `begin` bytes before its own area. The main data fit
 /// into the own area and these bytes.
 pub(crate) fn draw_side(draws: &mut Draws, begin: u16) -> Side
-    requires few { begin ≤ 511 }
+    requires few { begin ≤ most_back }
     ensures side { result ≡ drawn_side begin draws.old.state }
     ensures state { draws.new.state ≡ state_behind 8 draws.old.state }
 {

@@ -14,7 +14,7 @@ mod stream;
 mod summary;
 
 pub use fault::StreamFault;
-pub use folder::stream_folder;
+pub use folder::{FRAME_LENGTH, stream_folder};
 pub use laws::{streams_are_long, streams_are_surveyed, streams_hold, streams_need_no_lead_in};
 pub use stream::write_stream;
 pub use summary::{Summary, send_summary};

@@ -51,22 +51,22 @@ impl Making {
     /// # Errors
     /// Where a write failed.
     fn frame<D: Folder>(&mut self, folder: &mut D, name: &str) -> Result<(), Failed>
-        requires there { IsThere (D.files folder.old) name.now }
+        requires there { IsThere (D.seen folder.old).files name.now }
         requires next { IsNext self.old }
         ensures written { OnOk result (WritesOn name.now (next_frame self.old) (writing_in self.old)
-            (writing_in self.new) (D.files folder.old) (D.files folder.new)) }
+            (writing_in self.new) (D.seen folder.old).files (D.seen folder.new).files) }
         ensures part { OnErr result (WritesPart name.now (next_frame self.old) (writing_in self.old)
-            self.new.writer (D.files folder.old) (D.files folder.new)) }
+            self.new.writer (D.seen folder.old).files (D.seen folder.new).files) }
         ensures next { OnOk result (IsNext self.new) }
         ensures state { self.new.draws.state ≡
             state_behind (draws_of (reach_of self.old.writer) self.old.draws.state)
             self.old.draws.state }
         ensures reach { reach_of self.new.writer ≡
             reach_with (class_of drill_header_lem) (next_frame self.old) }
-        ensures failed { OnErr result (WriteFailed name.now (D.counts folder.old)
-            (D.counts folder.new)) }
-        ensures done { OnOk result (D.counts folder.new ≡ D.counts folder.old) }
-        ensures counts { OnlyWrites (D.counts folder.old) (D.counts folder.new) }
+        ensures failed { OnErr result (WriteFailed name.now (D.seen folder.old).counts
+            (D.seen folder.new).counts) }
+        ensures done { OnOk result ((D.seen folder.new).counts ≡ (D.seen folder.old).counts) }
+        ensures counts { OnlyWrites (D.seen folder.old).counts (D.seen folder.new).counts }
     {
         let side = draw_side(&mut self.draws, self.writer.reach() as u16);
         let front = FrameFront::new(&drill_header(), &side);
@@ -80,17 +80,19 @@ impl Making {
     /// # Errors
     /// Where a write failed. Then a prefix of the stream of these frames was appended.
     fn frames<D: Folder>(&mut self, count: u32, folder: &mut D, name: &str) -> Result<(), Failed>
-        requires there { IsThere (D.files folder.old) name.now }
+        requires there { IsThere (D.seen folder.old).files name.now }
         requires new { IsNew (class_of drill_header_lem) self.old.writer }
         requires none { self.old.unsent ≡ [] }
         ensures made { OnOk result (HasMade name.now (writing_in self.new)
-            (drill_frames self.old.draws.state count) (D.files folder.old) (D.files folder.new)) }
+            (drill_frames self.old.draws.state count) (D.seen folder.old).files
+            (D.seen folder.new).files) }
         ensures prefix { OnErr result (AppendedPrefix name.now
-            (drill_stream self.old.draws.state count) (D.files folder.old) (D.files folder.new)) }
-        ensures failed { OnErr result (WriteFailed name.now (D.counts folder.old)
-            (D.counts folder.new)) }
-        ensures done { OnOk result (D.counts folder.new ≡ D.counts folder.old) }
-        ensures counts { OnlyWrites (D.counts folder.old) (D.counts folder.new) }
+            (drill_stream self.old.draws.state count) (D.seen folder.old).files
+            (D.seen folder.new).files) }
+        ensures failed { OnErr result (WriteFailed name.now (D.seen folder.old).counts
+            (D.seen folder.new).counts) }
+        ensures done { OnOk result ((D.seen folder.new).counts ≡ (D.seen folder.old).counts) }
+        ensures counts { OnlyWrites (D.seen folder.old).counts (D.seen folder.new).counts }
     {
         for _i in 0..count {
             self.frame(folder, name)?;
@@ -108,17 +110,19 @@ impl Making {
         folder: &mut D,
         name: &str,
     ) -> Result<(), Failed>
-        requires there { IsThere (D.files folder.old) name.now }
+        requires there { IsThere (D.seen folder.old).files name.now }
         requires new { IsNew (class_of drill_header_lem) self.old.writer }
         requires none { self.old.unsent ≡ [] }
-        ensures written { OnOk result (D.files folder.new ≡ appended (D.files folder.old) name.now
+        ensures written { OnOk result ((D.seen folder.new).files
+            ≡ appended (D.seen folder.old).files name.now
             (drill_stream self.old.draws.state count)) }
         ensures prefix { OnErr result (AppendedPrefix name.now
-            (drill_stream self.old.draws.state count) (D.files folder.old) (D.files folder.new)) }
-        ensures failed { OnErr result (WriteFailed name.now (D.counts folder.old)
-            (D.counts folder.new)) }
-        ensures done { OnOk result (D.counts folder.new ≡ D.counts folder.old) }
-        ensures counts { OnlyWrites (D.counts folder.old) (D.counts folder.new) }
+            (drill_stream self.old.draws.state count) (D.seen folder.old).files
+            (D.seen folder.new).files) }
+        ensures failed { OnErr result (WriteFailed name.now (D.seen folder.old).counts
+            (D.seen folder.new).counts) }
+        ensures done { OnOk result ((D.seen folder.new).counts ≡ (D.seen folder.old).counts) }
+        ensures counts { OnlyWrites (D.seen folder.old).counts (D.seen folder.new).counts }
     {
         self.frames(count, folder, name)?;
         self.writer.finish(folder, name, &mut self.unsent)?;

@@ -24,18 +24,20 @@ pub fn write_stream<D: Folder>(
     folder: &mut D,
     name: &str,
 ) -> Result<(), StreamFault>
-    ensures written { OnOk result (D.files folder.new ≡
-        appended (emptied (D.files folder.old) name.now) name.now (drill_stream seed count)) }
+    ensures written { OnOk result ((D.seen folder.new).files ≡
+        appended (emptied (D.seen folder.old).files name.now) name.now (drill_stream seed count)) }
     ensures part { IsErrOf result StreamFault.Write
-        → FailsToCreate name.now (D.files folder.old) (D.files folder.new)
+        → FailsToCreate name.now (D.seen folder.old).files (D.seen folder.new).files
         ⊎ AppendedPrefix name.now (drill_stream seed count)
-        (emptied (D.files folder.old) name.now) (D.files folder.new) }
+        (emptied (D.seen folder.old).files name.now) (D.seen folder.new).files }
     ensures failed { IsErrOf result StreamFault.Write →
-        WriteFailed name.now (D.counts folder.old) (D.counts folder.new) }
-    ensures kept { IsErrOf result StreamFault.Memory → D.files folder.new ≡ D.files folder.old }
-    ensures none { IsErrOf result StreamFault.Memory → D.counts folder.new ≡ D.counts folder.old }
-    ensures done { OnOk result (D.counts folder.new ≡ D.counts folder.old) }
-    ensures counts { OnlyWrites (D.counts folder.old) (D.counts folder.new) }
+        WriteFailed name.now (D.seen folder.old).counts (D.seen folder.new).counts }
+    ensures kept { IsErrOf result StreamFault.Memory → (D.seen folder.new).files
+        ≡ (D.seen folder.old).files }
+    ensures none { IsErrOf result StreamFault.Memory → (D.seen folder.new).counts
+        ≡ (D.seen folder.old).counts }
+    ensures done { OnOk result ((D.seen folder.new).counts ≡ (D.seen folder.old).counts) }
+    ensures counts { OnlyWrites (D.seen folder.old).counts (D.seen folder.new).counts }
 {
     let Ok(mut making) = Making::new(alloc, seed) else {
         return Err(StreamFault::Memory);

@@ -53,11 +53,11 @@ fn line_of(summary: &Summary) -> ArrayVec<u8, ROOM>
 /// # Errors
 /// Where a write failed. Then a prefix of the line was sent.
 pub fn send_summary<T: Sink>(sink: &mut T, summary: &Summary) -> Result<(), Failed>
-    ensures sent { OnOk result (T.sent sink.new ≡
-        sent_more (T.sent sink.old) (summary_text summary.now)) }
+    ensures sent { OnOk result ((T.heard sink.new).sent ≡
+        sent_more (T.heard sink.old).sent (summary_text summary.now)) }
     ensures prefix { OnErr result (SentPrefix (summary_text summary.now)
-        (T.sent sink.old) (T.sent sink.new)) }
-    ensures cause { HasCause (T.faults sink.old) (T.faults sink.new) result }
+        (T.heard sink.old).sent (T.heard sink.new).sent) }
+    ensures cause { HasCause (T.heard sink.old).faults (T.heard sink.new).faults result }
 {
     let line = line_of(summary);
     send_all(sink, line.as_slice())

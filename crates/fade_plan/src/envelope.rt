@@ -5,6 +5,7 @@ ghost use Rattle.fade_plan.specs.declared.envelope_fault.EnvelopeFault.TheVarian
 ghost use Rattle.fade_plan.specs.Sheets.{IsEntry, is_at_fault as is_at_fault_lem, point_at, entries_from, envelope_in, envelope_of};
 ghost use Rattle.fade_plan.specs.Points.{IsKept, in_envelope};
 ghost use Rattle.fade_plan.specs.Curves.{curve_of};
+ghost use Rattle.cue_sheet.specs.Limits.{longest_sheet};
 
 use crate::curve::Curve;
 use crate::entry::{Entry, read_entry};
@@ -53,7 +54,7 @@ fn keep(points: &mut Vec<Point>, line: u32, entry: Entry) -> Result<(), AllocErr
 
 /// The points of a sheet without a byte order mark, or its fault.
 fn read_points(alloc: Global, text: &[u8]) -> Result<Vec<Point>, EnvelopeFault>
-    requires { length text.now ≤ 65536 }
+    requires { length text.now ≤ longest_sheet }
     ensures envelope { MatchResult result
         (λ points. envelope_in (entries_from text.now 0) ≡ Ok (map in_envelope points.items))
         (λ fault. (fault ≡ Memory) ⊎ (envelope_in (entries_from text.now 0) ≡ Err fault)) }
@@ -114,7 +115,7 @@ impl Envelope {
     /// memory.
     #[tactic(auto, unfolding(crate::specs::Sheets::envelope_of))]
     pub fn read(alloc: Global, bytes: &[u8]) -> Result<Envelope, EnvelopeFault>
-        requires { length bytes.now ≤ 65536 }
+        requires { length bytes.now ≤ longest_sheet }
         ensures { MatchResult result
             (λ envelope. envelope_of bytes.now ≡ Ok envelope)
             (λ fault. (fault ≡ Memory) ⊎ (envelope_of bytes.now ≡ Err fault)) }

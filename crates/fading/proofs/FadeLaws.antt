@@ -4,6 +4,7 @@ use Rattle.std.specs.Prelude.{◌⊎◌, MatchResult, IfSome, IfErr, length}
 use Rattle.bit_fields.specs.Bits.{AreBytes}
 use Rattle.outside.specs.Files.{Contents, Files, Holds, IsThere, Told, Untold, IfTold}
 use Rattle.outside.proofs.FilesLaws.{there_holds}
+use Rattle.outside.specs.Seen.{Seen}
 use Rattle.sync_survey.specs.declared.survey_fault.SurveyFault.TheVariants.{Absent, Read}
 use Rattle.sync_survey.specs.Faults.{SurveyFields}
 use Rattle.sync_survey.specs.Survey.{survey_of}
@@ -13,8 +14,9 @@ use Rattle.commands.specs.declared.fault.EditFault.TheVariants.{Input, Refused, 
 use Rattle.commands.specs.declared.fault.Refusal.{Refusal}
 use Rattle.commands.specs.declared.fault.Refusal.TheVariants.{Differ}
 use Rattle.commands.specs.Refusing.{unless, then_made}
-use Rattle.commands.specs.Left.{Why, Rejected, Missing, Unread, Shorter, Unwritten, Unsent, NoMemory, why_of, Seen, IsNotBefore, IsRefusal, IsOfInput}
-use Rattle.commands.specs.One.{Making, most_frames, made_where, file_task, Refuses, IsEarlyFaultBy, IsEarlyFault, IsOfInputs, IsInputFaultBy, IsInputFault, IsMaking}
+use Rattle.commands.proofs.WhyLaws.{each_why, each_why_of}
+use Rattle.commands.specs.Left.{why_of, IsNotBefore, IsRefusal, IsOfInput}
+use Rattle.commands.specs.One.{Making, most_frames, made_where, file_task, Refuses, IsEarlyFault, IsOfInputs, IsInputFault, IsMaking}
 use Rattle.commands.specs.Sheet.{sheet_in}
 use Rattle.commands.proofs.InputLaws.{made-survey, input_is_early}
 use Rattle.commands.proofs.NamedLaws.{missed_name, unread_name, lost_name}
@@ -34,7 +36,7 @@ use Rattle.gain_edits.proofs.Refusals.{range_may}
 use Rattle.gain_edits.proofs.Proper.{changed_all}
 use Rattle.gain_edits.specs.Change.{changed_with, changing}
 use Rattle.fading.specs.Fade.{points_read, points_in, curve_read, curve_on, curve_by, faded_by, faded, fade_in, fade_of, fade_change, faded_stream, choice_refuses, fade_refuses, fade_task}
-use Rattle.fading.specs.Steps.{IsChangeFaultBy, IsChangeFault, IsOfChange}
+use Rattle.fading.specs.Steps.{IsChangeFault, IsOfChange}
 
 -- ---- the change
 
@@ -120,18 +122,16 @@ module _ (sheet : List ℕ) (back : Bool) (input : List ℕ) where
   before_same (Told f) P is = is
 
   module _ (old new : Seen) (fault : EditFault) where
-    early_by : (why : Why) → IsInputFaultBy (making_in old.files) input old new fault why → IsEarlyFaultBy (file_task (making_in old.files) (faded_stream None back) fade_refuses input) old new fault why
-        → IsEarlyFaultBy (fade_task sheet back input) old new fault why
-    early_by Rejected i h = record { defined = refuses_same old.files fault h.defined; stays = h.stays }
-    early_by Missing i h = record { defined = refuses_same old.files fault h.defined; rose = missed_name (fade_task sheet back input).inputs 0 refl i; files = h.files }
-    early_by Unread i h = record { before = before_same old.files (IsNotBefore fault) h.before; rose = unread_name (fade_task sheet back input).inputs 0 refl i; files = h.files }
-    early_by Shorter i h = record { ended = lost_name (fade_task sheet back input).inputs 0 refl i; files = h.files }
-    early_by (Unwritten k) i h = absurd h
-    early_by Unsent i h = absurd h
-    early_by _ i h = h
-
     pub input_early : IsInputFault (making_in old.files) input old new fault → IsEarlyFault (fade_task sheet back input) old new fault
-    input_early h = early_by (why_of fault) h (input_is_early (making_in old.files) (faded_stream None back) fade_refuses input old new fault h)
+    input_early h = each_why_of (why_of fault) h (input_is_early (making_in old.files) (faded_stream None back) fade_refuses input old new fault h) (record {
+      rejected = λ i e. record { defined = refuses_same old.files fault e.defined; stays = e.stays };
+      missing = λ i e. record { defined = refuses_same old.files fault e.defined; rose = missed_name (fade_task sheet back input).inputs 0 refl i; files = e.files };
+      unread = λ i e. record { before = before_same old.files (IsNotBefore fault) e.before; rose = unread_name (fade_task sheet back input).inputs 0 refl i; files = e.files };
+      shorter = λ i e. record { ended = lost_name (fade_task sheet back input).inputs 0 refl i; files = e.files };
+      unwritten = λ k i e. absurd e;
+      unsent = λ i e. absurd e;
+      no_memory = λ i e. e;
+    })
 
   -- the input was surveyed
   module _ (s : SurveyFields) where
@@ -163,17 +163,16 @@ module _ (sheet : List ℕ) (back : Bool) (input : List ℕ) where
     without_sheet (Told f) fault missing is = ap (λ o. fade_of o back s) missing ∙ ap (λ e. Err e) (sym is)
 
     module _ (old new : Seen) (there : IsThere old.files input) (surveyed : (bytes : List ℕ) → Holds old.files input bytes → survey_of bytes most_frames ≡ Ok s) where
-      change_by : (fault : EditFault) (why : Why) → IsChangeFaultBy sheet back s old new fault why → IsEarlyFaultBy (fade_task sheet back input) old new fault why
-      change_by fault Rejected h = record { defined = refuses_by old.files fault there surveyed (with_sheet old.files (Err fault) h.there h.bytes); stays = h.stays }
-      change_by fault Missing h = record { defined = refuses_by old.files fault there surveyed (without_sheet old.files fault h.missing h.is); rose = missed_name (fade_task sheet back input).inputs 1 refl h; files = h.files }
-      change_by fault Unread h = record { before = sheet_before old.files fault there surveyed h.is; rose = unread_name (fade_task sheet back input).inputs 1 refl h; files = h.files }
-      change_by fault Shorter h = record { ended = lost_name (fade_task sheet back input).inputs 1 refl h; files = h.files }
-      change_by fault (Unwritten k) h = absurd h
-      change_by fault Unsent h = absurd h
-      change_by fault NoMemory h = record { there = there; few = λ bytes holds. (survey_of-parts bytes most_frames s (surveyed bytes holds)).0; stays = h }
-
       pub change_early : (fault : EditFault) → IsChangeFault sheet back s old new fault → IsEarlyFault (fade_task sheet back input) old new fault
-      change_early fault h = change_by fault (why_of fault) h
+      change_early fault h = each_why (why_of fault) h (record {
+        rejected = λ r. record { defined = refuses_by old.files fault there surveyed (with_sheet old.files (Err fault) r.there r.bytes); stays = r.stays };
+        missing = λ m. record { defined = refuses_by old.files fault there surveyed (without_sheet old.files fault m.missing m.is); rose = missed_name (fade_task sheet back input).inputs 1 refl m; files = m.files };
+        unread = λ u. record { before = sheet_before old.files fault there surveyed u.is; rose = unread_name (fade_task sheet back input).inputs 1 refl u; files = u.files };
+        shorter = λ l. record { ended = lost_name (fade_task sheet back input).inputs 1 refl l; files = l.files };
+        unwritten = λ k w. absurd w;
+        unsent = λ w. absurd w;
+        no_memory = λ same. record { there = there; few = λ bytes holds. (survey_of-parts bytes most_frames s (surveyed bytes holds)).0; stays = same };
+      })
 
       -- after the survey, by which nothing changed
       pub change_early_behind : (fault : EditFault) (mid : Seen) → mid ≡ old → IsChangeFault sheet back s mid new fault → IsEarlyFault (fade_task sheet back input) old new fault

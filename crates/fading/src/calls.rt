@@ -1,5 +1,4 @@
 //! The command `fade` over a folder.
-ghost use Rattle.commands.specs.Left.{seen};
 ghost use Rattle.commands.specs.Runs.{IsRunOf};
 ghost use Rattle.fading.specs.Fade.{fade_command};
 
@@ -36,8 +35,8 @@ pub fn fade<D: Folder>(
 ) -> Result<(), EditFault>
     // The input is well-formed, and the output holds its stream with each frame's gains moved by its steps.
     ensures { IsRunOf (fade_command sheet.now back input.now output.now)
-        (seen (D.files folder.old) (D.counts folder.old))
-        (seen (D.files folder.new) (D.counts folder.new)) result }
+        (D.seen folder.old)
+        (D.seen folder.new) result }
 {
     make_one(alloc, folder, &FadeEdit { input, sheet, back }, output)
 }

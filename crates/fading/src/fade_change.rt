@@ -1,11 +1,11 @@
 //! What a sheet changes in a file.
 ghost use Rattle.std.specs.Prelude.{◌≡◌, ◌⊎◌, ◌≤◌, List, ℕ, length, Some, Ok, Err, MatchResult, IfOk, IfErr, OnOk};
-ghost use Rattle.outside.specs.Files.{Holds, IsThere};
-ghost use Rattle.outside.specs.Counts.{OnlyReads};
+ghost use Rattle.outside.specs.Files.{IsThere};
+ghost use Rattle.outside.specs.Seen.{OnFile, OnlyRead};
 ghost use Rattle.sync_survey.specs.Faults.{tells};
 ghost use Rattle.sync_survey.specs.Survey.{IsLaidOut};
 ghost use Rattle.commands.specs.declared.fault.EditFault.TheVariants.{Memory};
-ghost use Rattle.commands.specs.Left.{seen, IsRefusal};
+ghost use Rattle.commands.specs.Left.{IsRefusal};
 ghost use Rattle.commands.specs.Sheet.{longest_sheet};
 ghost use Rattle.moved_gains.specs.Course.{steps_over};
 ghost use Rattle.moved_gains.specs.Change.{change_in};
@@ -95,18 +95,15 @@ pub(crate) fn fade_change<D: Folder>(
     survey: &Survey,
 ) -> Result<Change, EditFault>
     requires laid { IsLaidOut (tells survey.now) }
-    ensures there { OnOk result (IsThere (D.files folder.old) sheet.now) }
-    ensures change { IfOk result (λ change. (bytes : List ℕ)
-        → Holds (D.files folder.old) sheet.now bytes
-        → fade_of (Some bytes) back (tells survey.now)
-        ≡ Ok (change_in change (tells survey.now))) }
+    ensures there { OnOk result (IsThere (D.seen folder.old).files sheet.now) }
+    ensures change { IfOk result (λ change. OnFile (D.seen folder.old) sheet.now
+        (λ bytes. fade_of (Some bytes) back (tells survey.now)
+        ≡ Ok (change_in change (tells survey.now)))) }
     ensures refused { IfErr result (IsChangeFault sheet.now back (tells survey.now)
-        (seen (D.files folder.old) (D.counts folder.old))
-        (seen (D.files folder.new) (D.counts folder.new))) }
+        (D.seen folder.old)
+        (D.seen folder.new)) }
     ensures numbers { IfErr result IsOfChange }
-    ensures done { OnOk result (D.counts folder.new ≡ D.counts folder.old) }
-    ensures files { D.files folder.new ≡ D.files folder.old }
-    ensures counts { OnlyReads (D.counts folder.old) (D.counts folder.new) }
+    ensures reads { OnlyRead result (D.seen folder.old) (D.seen folder.new) }
 {
     let bytes = sheet_bytes(alloc, folder, sheet)?;
     fade_in(alloc, bytes.as_slice(), back, survey)

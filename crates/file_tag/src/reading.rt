@@ -1,7 +1,7 @@
 //! The tag of a file, read.
 ghost use Rattle.std.specs.Prelude.{◌≡◌, ℕ, ◌+◌, ◌^◌, ◌≤◌, ◌<◌, List, length, take, drop, Some, None, Ok, Err, IfOk, IfErr, OnOk};
-ghost use Rattle.outside.specs.Files.{Holds};
 ghost use Rattle.outside.specs.Counts.{OnlyReads};
+ghost use Rattle.outside.specs.Seen.{OnFile};
 ghost use Rattle.sync_survey.specs.Faults.{tells};
 ghost use Rattle.tag_blocks.specs.declared.block.Kind.TheVariants.{Ape};
 ghost use Rattle.tag_blocks.specs.Blocks.{block_front};
@@ -13,10 +13,7 @@ use crate::places::first_tag;
 use outside::{Folder, read_exact};
 use std::alloc::Global;
 use sync_survey::{Piece, Survey};
-use tag_blocks::{Kind, Tag, TagFault, block_at};
-
-/// The greatest length of a tag that is read, in bytes.
-const LONGEST_TAG: u64 = 1_048_576;
+use tag_blocks::{Kind, LONGEST_TAG, Tag, TagFault, block_at};
 
 /// The bytes of the block of the file's tag.
 ///
@@ -29,17 +26,16 @@ fn read_block<D: Folder>(
     survey: &Survey,
     piece: &Piece,
 ) -> Result<Vec<u8>, FileTagFault>
-    requires found { HasTagBlock name.now (D.files folder.old) (tells survey.now) piece.now }
+    requires found { HasTagBlock name.now (D.seen folder.old).files (tells survey.now) piece.now }
     requires few { piece.now.block.length ≤ longest_tag }
     ensures length { IfOk result (λ block. length block.items ≡ piece.now.block.length) }
-    ensures bytes { IfOk result (λ block. (bytes : List ℕ)
-        → Holds (D.files folder.old) name.now bytes
-        → block.items ≡ take piece.now.block.length (drop piece.now.offset bytes)) }
-    ensures done { OnOk result (D.counts folder.new ≡ D.counts folder.old) }
-    ensures cause { IfErr result (IsTagCause name.now (D.files folder.old) (tells survey.now)
-        (D.counts folder.old) (D.counts folder.new)) }
-    ensures files { D.files folder.new ≡ D.files folder.old }
-    ensures counts { OnlyReads (D.counts folder.old) (D.counts folder.new) }
+    ensures bytes { IfOk result (λ block. OnFile (D.seen folder.old) name.now
+        (λ bytes. block.items ≡ take piece.now.block.length (drop piece.now.offset bytes))) }
+    ensures done { OnOk result ((D.seen folder.new).counts ≡ (D.seen folder.old).counts) }
+    ensures cause { IfErr result (IsTagCause name.now (D.seen folder.old).files (tells survey.now)
+        (D.seen folder.old).counts (D.seen folder.new).counts) }
+    ensures files { (D.seen folder.new).files ≡ (D.seen folder.old).files }
+    ensures counts { OnlyReads (D.seen folder.old).counts (D.seen folder.new).counts }
 {
     let mut block = vec![in alloc; 0; piece.block.length as usize]?;
     read_exact(folder, name, survey.length(), piece.offset, &mut block)?;
@@ -86,16 +82,16 @@ fn read_piece<D: Folder>(
     survey: &Survey,
     piece: &Piece,
 ) -> Result<Tag, FileTagFault>
-    requires { HasTagBlock name.now (D.files folder.old) (tells survey.now) piece.now }
-    ensures exact { IfOk result (λ tag. (bytes : List ℕ) → Holds (D.files folder.old) name.now bytes
-        → file_tag bytes (tells survey.now) ≡ Ok tag) }
+    requires { HasTagBlock name.now (D.seen folder.old).files (tells survey.now) piece.now }
+    ensures exact { IfOk result (λ tag. OnFile (D.seen folder.old) name.now
+        (λ bytes. file_tag bytes (tells survey.now) ≡ Ok tag)) }
     ensures large { longest_tag < piece.now.block.length
         → result ≡ Err (FileTagFault.TooLarge piece.now.block.length) }
-    ensures done { OnOk result (D.counts folder.new ≡ D.counts folder.old) }
-    ensures cause { IfErr result (IsTagCause name.now (D.files folder.old) (tells survey.now)
-        (D.counts folder.old) (D.counts folder.new)) }
-    ensures files { D.files folder.new ≡ D.files folder.old }
-    ensures counts { OnlyReads (D.counts folder.old) (D.counts folder.new) }
+    ensures done { OnOk result ((D.seen folder.new).counts ≡ (D.seen folder.old).counts) }
+    ensures cause { IfErr result (IsTagCause name.now (D.seen folder.old).files (tells survey.now)
+        (D.seen folder.old).counts (D.seen folder.new).counts) }
+    ensures files { (D.seen folder.new).files ≡ (D.seen folder.old).files }
+    ensures counts { OnlyReads (D.seen folder.old).counts (D.seen folder.new).counts }
 {
     if piece.block.length > LONGEST_TAG {
         return Err(FileTagFault::TooLarge(piece.block.length));
@@ -123,18 +119,18 @@ pub fn read_tag<D: Folder>(
     name: &str,
     survey: &Survey,
 ) -> Result<Tag, FileTagFault>
-    requires { IsSurveyed name.now (D.files folder.old) (tells survey.now) }
-    ensures exact { IfOk result (λ tag. (bytes : List ℕ) → Holds (D.files folder.old) name.now bytes
-        → file_tag bytes (tells survey.now) ≡ Ok tag) }
+    requires { IsSurveyed name.now (D.seen folder.old).files (tells survey.now) }
+    ensures exact { IfOk result (λ tag. OnFile (D.seen folder.old) name.now
+        (λ bytes. file_tag bytes (tells survey.now) ≡ Ok tag)) }
     // Whether the files are told or not.
     ensures none { tag_block (tells survey.now) ≡ None → result ≡ Ok empty_tag }
     ensures large { longest_tag < tag_length (tells survey.now)
         → result ≡ Err (FileTagFault.TooLarge (tag_length (tells survey.now))) }
-    ensures done { OnOk result (D.counts folder.new ≡ D.counts folder.old) }
-    ensures cause { IfErr result (IsTagCause name.now (D.files folder.old) (tells survey.now)
-        (D.counts folder.old) (D.counts folder.new)) }
-    ensures files { D.files folder.new ≡ D.files folder.old }
-    ensures counts { OnlyReads (D.counts folder.old) (D.counts folder.new) }
+    ensures done { OnOk result ((D.seen folder.new).counts ≡ (D.seen folder.old).counts) }
+    ensures cause { IfErr result (IsTagCause name.now (D.seen folder.old).files (tells survey.now)
+        (D.seen folder.old).counts (D.seen folder.new).counts) }
+    ensures files { (D.seen folder.new).files ≡ (D.seen folder.old).files }
+    ensures counts { OnlyReads (D.seen folder.old).counts (D.seen folder.new).counts }
 {
     match first_tag(survey) {
         Some(piece) => read_piece(alloc, folder, name, survey, &piece),

@@ -1,5 +1,5 @@
 -- Frames that a command chooses from a surveyed file: they have a plan, and the file of them holds the stream that the command says.
-use Rattle.std.proofs.Common.{◌≡◌, ℕ, ◌+◌, ◌&&◌, Bool, true, false, cond, List, [], ◌∷◌, ◌++◌, length, map, drop, take, Option, Some, None, Result, Ok, Err, refl, sym, ◌∙◌, ap, subst, arith, rules, append-nil, length-append}
+use Rattle.std.proofs.Common.{◌≡◌, ℕ, ◌&&◌, Bool, true, false, cond, List, [], ◌∷◌, ◌++◌, length, map, drop, take, Option, Some, None, Result, Ok, Err, refl, sym, ◌∙◌, ap, subst, arith, rules, append-nil, length-append}
 use Rattle.std.specs.Prelude.{◌↔◌, ◌<◌, ◌≤◌, nat_lt, nat_le, IfErr, replicate}
 use Rattle.std.proofs.lemmas.List.{length-take}
 use Rattle.frame_header.specs.Fields.{SlotFields, HeaderFields, ClassFields, IsSlot}

@@ -1,7 +1,6 @@
 //! The commands `cut` and `pack` over a folder.
 ghost use Rattle.std.specs.Prelude.{◌≡◌};
 ghost use Rattle.cue_sheet.specs.Places.{IsPlace};
-ghost use Rattle.commands.specs.Left.{seen};
 ghost use Rattle.commands.specs.Runs.{IsRunOf};
 ghost use Rattle.frame_edits.specs.Chosen.{slots_of as slots_of_lem, cut_command, pack_command};
 
@@ -47,8 +46,8 @@ pub fn cut<D: Folder>(
     requires to { IsPlace to.now }
     // The input is well-formed, and the output holds at most one lead-in and then exactly the chosen frames of its stream.
     ensures { IsRunOf (cut_command from.now to.now least input.now output.now)
-        (seen (D.files folder.old) (D.counts folder.old))
-        (seen (D.files folder.new) (D.counts folder.new)) result }
+        (D.seen folder.old)
+        (D.seen folder.new) result }
 {
     let choice = Choice::Between(from, to, slots_of(least));
     make_one(alloc, folder, &FrameEdit { input, choice }, output)
@@ -69,8 +68,8 @@ pub fn pack<D: Folder>(
 ) -> Result<(), EditFault>
     // The input is well-formed, and the output holds its stream.
     ensures { IsRunOf (pack_command input.now output.now)
-        (seen (D.files folder.old) (D.counts folder.old))
-        (seen (D.files folder.new) (D.counts folder.new)) result }
+        (D.seen folder.old)
+        (D.seen folder.new) result }
 {
     let choice = Choice::All(Slots::Least);
     make_one(alloc, folder, &FrameEdit { input, choice }, output)

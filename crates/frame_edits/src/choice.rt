@@ -1,11 +1,11 @@
 //! Which frames of a file the commands of this crate choose.
 ghost use Rattle.std.specs.Prelude.{◌≡◌, ◌<◌, ◌≤◌, Bool, ℕ, List, length, Ok, Err, MatchResult, IfOk, IfErr, OnOk};
-ghost use Rattle.outside.specs.Files.{Holds, IsThere};
-ghost use Rattle.outside.specs.Counts.{OnlyReads};
+ghost use Rattle.outside.specs.Files.{IsThere};
+ghost use Rattle.outside.specs.Seen.{OnFile, OnlyRead};
 ghost use Rattle.cue_sheet.specs.Places.{IsPlace};
 ghost use Rattle.sync_survey.specs.Faults.{tells};
 ghost use Rattle.sync_survey.specs.Survey.{survey_of, IsLaidOut};
-ghost use Rattle.commands.specs.Left.{seen, IsOfInput, IsRefusal};
+ghost use Rattle.commands.specs.Left.{IsOfInput, IsRefusal};
 ghost use Rattle.commands.specs.One.{most_frames, IsInputFault, Making};
 ghost use Rattle.commands.specs.declared.fault.Refusal.{Refusal};
 ghost use Rattle.frame_edits.specs.Chosen.{chosen_in, choosing, cut_choice as cut_choice_lem, all_choice as all_choice_lem, cut_refuses};
@@ -59,25 +59,22 @@ pub fn all_choice<D: Folder>(
     survey: &Survey,
     slots: Slots,
 ) -> Result<Chosen, EditFault>
-    requires there { IsThere (D.files folder.old) name.now }
+    requires there { IsThere (D.seen folder.old).files name.now }
     requires laid { IsLaidOut (tells survey.now) }
     requires few { length (tells survey.now).frames ≤ most_frames }
-    requires surveyed { (bytes : List ℕ) → Holds (D.files folder.old) name.now bytes
-        → survey_of bytes most_frames ≡ Ok (tells survey.now) }
-    ensures chosen { IfOk result (λ chosen. (bytes : List ℕ)
-        → Holds (D.files folder.old) name.now bytes
-        → all_choice_lem slots bytes (tells survey.now) ≡ Ok (chosen_in chosen)) }
+    requires surveyed { OnFile (D.seen folder.old) name.now
+        (λ bytes. survey_of bytes most_frames ≡ Ok (tells survey.now)) }
+    ensures chosen { IfOk result (λ chosen. OnFile (D.seen folder.old) name.now
+        (λ bytes. all_choice_lem slots bytes (tells survey.now) ≡ Ok (chosen_in chosen))) }
     ensures some { IfOk result (λ chosen. chosen.from < chosen.to) }
     ensures within { IfOk result (λ chosen. chosen.to ≤ length (tells survey.now).frames) }
     // Whatever the command makes of them.
     ensures refused { IfErr result (λ fault. (make : Making)
-        → IsInputFault make name.now (seen (D.files folder.old) (D.counts folder.old))
-        (seen (D.files folder.new) (D.counts folder.new)) fault) }
+        → IsInputFault make name.now (D.seen folder.old)
+        (D.seen folder.new) fault) }
     ensures numbers { IfErr result (λ fault. (refuses : Refusal → Bool)
         → IsOfInput refuses fault) }
-    ensures done { OnOk result (D.counts folder.new ≡ D.counts folder.old) }
-    ensures files { D.files folder.new ≡ D.files folder.old }
-    ensures counts { OnlyReads (D.counts folder.old) (D.counts folder.new) }
+    ensures reads { OnlyRead result (D.seen folder.old) (D.seen folder.new) }
 {
     let kept = match kept_fields(folder, name, survey) {
         Ok(kept) => kept,
@@ -101,23 +98,20 @@ impl<'a> Choice<'a> {
         survey: &Survey,
     ) -> Result<Chosen, EditFault>
         requires choice { IsChoice self.now }
-        requires there { IsThere (D.files folder.old) name.now }
+        requires there { IsThere (D.seen folder.old).files name.now }
         requires laid { IsLaidOut (tells survey.now) }
         requires few { length (tells survey.now).frames ≤ most_frames }
-        requires surveyed { (bytes : List ℕ) → Holds (D.files folder.old) name.now bytes
-            → survey_of bytes most_frames ≡ Ok (tells survey.now) }
-        ensures chosen { IfOk result (λ chosen. (bytes : List ℕ)
-            → Holds (D.files folder.old) name.now bytes
-            → choosing_by self.now bytes (tells survey.now) ≡ Ok (chosen_in chosen)) }
+        requires surveyed { OnFile (D.seen folder.old) name.now
+            (λ bytes. survey_of bytes most_frames ≡ Ok (tells survey.now)) }
+        ensures chosen { IfOk result (λ chosen. OnFile (D.seen folder.old) name.now
+            (λ bytes. choosing_by self.now bytes (tells survey.now) ≡ Ok (chosen_in chosen))) }
         ensures some { IfOk result (λ chosen. chosen.from < chosen.to) }
         ensures within { IfOk result (λ chosen. chosen.to ≤ length (tells survey.now).frames) }
         ensures refused { IfErr result (IsInputFault (choosing (choosing_by self.now)) name.now
-            (seen (D.files folder.old) (D.counts folder.old))
-            (seen (D.files folder.new) (D.counts folder.new))) }
+            (D.seen folder.old)
+            (D.seen folder.new)) }
         ensures numbers { IfErr result (IsOfInput (refused_by self.now)) }
-        ensures done { OnOk result (D.counts folder.new ≡ D.counts folder.old) }
-        ensures files { D.files folder.new ≡ D.files folder.old }
-        ensures counts { OnlyReads (D.counts folder.old) (D.counts folder.new) }
+        ensures reads { OnlyRead result (D.seen folder.old) (D.seen folder.new) }
     {
         match *self {
             Choice::Between(from, to, slots) => cut_choice(survey, from, to, slots),

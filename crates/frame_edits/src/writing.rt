@@ -2,12 +2,12 @@
 ghost use Rattle.std.specs.Prelude.{◌≡◌, ◌≢◌, List, ℕ, [], is_some, IfErr, OnOk};
 ghost use Rattle.outside.specs.Files.{Holds, IsThere};
 ghost use Rattle.outside.specs.Counts.{NoneFell};
-ghost use Rattle.outside.specs.Pass.{Appends, AppendsPrefix, route_of, HasPassCause};
 ghost use Rattle.laying.specs.Passing.{IsReady};
+ghost use Rattle.laying.specs.Calls.{AppendsMade};
 ghost use Rattle.sync_survey.specs.Faults.{tells};
 ghost use Rattle.sync_survey.specs.Survey.{IsLaidOut};
 ghost use Rattle.commands.specs.One.{holding, IsPassFault};
-ghost use Rattle.commands.specs.Left.{seen, IsOfPass};
+ghost use Rattle.commands.specs.Left.{IsOfPass};
 ghost use Rattle.frame_edits.specs.Selected.{laid_in, IsSelected, IsWritable, selected_file};
 ghost use Rattle.frame_edits.specs.Laid.{file_laid};
 
@@ -27,21 +27,12 @@ pub fn write_laid<D: Folder>(
     selection: &Selection,
     buffers: &mut Buffers,
 ) -> Result<(), PassFault>
-    requires ready { IsReady relay.now (D.files folder.old) buffers.old.feed }
+    requires ready { IsReady relay.now (D.seen folder.old).files buffers.old.feed }
     requires writable { IsWritable (tells relay.now.survey.now) selection.now }
     requires unsent { buffers.old.waiting ≡ [] }
-    ensures written { OnOk result (Appends relay.now.pass.input.now relay.now.pass.output.now
+    ensures { AppendsMade relay.now
         (λ file. file_laid (laid_in selection.now) file (tells relay.now.survey.now))
-        (D.files folder.old) (D.files folder.new)) }
-    ensures prefix { IfErr result (AppendsPrefix relay.now.pass.input.now relay.now.pass.output.now
-        (λ file. file_laid (laid_in selection.now) file (tells relay.now.survey.now))
-        (D.files folder.old) (D.files folder.new)) }
-    ensures done { OnOk result (D.counts folder.new ≡ D.counts folder.old) }
-    ensures cause { IfErr result (HasPassCause (route_of relay.now.pass) (D.files folder.old)
-        (D.counts folder.old) (D.counts folder.new)) }
-    // What another file of chosen frames may be written with.
-    ensures ready { OnOk result (IsReady relay.now (D.files folder.new) buffers.new.feed) }
-    ensures unsent { OnOk result (buffers.new.waiting ≡ []) }
+        buffers.new (D.seen folder.old) (D.seen folder.new) result }
 {
     let chosen = &selection.chosen;
     let section = Section {
@@ -65,21 +56,11 @@ pub fn write_selection<D: Folder>(
     selection: &Selection,
     buffers: &mut Buffers,
 ) -> Result<(), PassFault>
-    requires ready { IsReady relay.now (D.files folder.old) buffers.old.feed }
+    requires ready { IsReady relay.now (D.seen folder.old).files buffers.old.feed }
     requires selected { IsSelected (tells relay.now.survey.now) selection.now }
     requires unsent { buffers.old.waiting ≡ [] }
-    ensures written { OnOk result (Appends relay.now.pass.input.now relay.now.pass.output.now
-        (selected_file (tells relay.now.survey.now) selection.now)
-        (D.files folder.old) (D.files folder.new)) }
-    ensures prefix { IfErr result (AppendsPrefix relay.now.pass.input.now relay.now.pass.output.now
-        (selected_file (tells relay.now.survey.now) selection.now)
-        (D.files folder.old) (D.files folder.new)) }
-    ensures done { OnOk result (D.counts folder.new ≡ D.counts folder.old) }
-    ensures cause { IfErr result (HasPassCause (route_of relay.now.pass) (D.files folder.old)
-        (D.counts folder.old) (D.counts folder.new)) }
-    // What another file of chosen frames may be written with.
-    ensures ready { OnOk result (IsReady relay.now (D.files folder.new) buffers.new.feed) }
-    ensures unsent { OnOk result (buffers.new.waiting ≡ []) }
+    ensures { AppendsMade relay.now (selected_file (tells relay.now.survey.now) selection.now)
+        buffers.new (D.seen folder.old) (D.seen folder.new) result }
 {
     write_laid(folder, relay, selection, buffers)
 }

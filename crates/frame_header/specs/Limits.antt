@@ -1,4 +1,4 @@
--- The greatest numbers of frames.
+-- The greatest numbers of frames, and lengths of their parts.
 use Rattle.std.specs.Prelude.{ℕ}
 
 -- of an input, not counting its head, and of all inputs of a command together
@@ -8,3 +8,15 @@ most_frames = 2900000
 -- of an output: these, and a lead-in before the frames of each of at most 64 inputs
 abbrev pub most_placed : ℕ
 most_placed = 2900064
+
+-- the greatest length of a frame in bytes
+abbrev pub most_frame_length : ℕ
+most_frame_length = 1441
+
+-- the greatest main_data_begin: how many bytes before its frame's own area main data may begin
+abbrev pub most_back : ℕ
+most_back = 511
+
+-- the greatest length in bytes of what is before the area of a frame: header, check word and side information
+abbrev pub most_front : ℕ
+most_front = 38

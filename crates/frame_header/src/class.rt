@@ -3,6 +3,7 @@ ghost use Rattle.std.specs.Prelude.{◌≡◌, ◌+◌, ◌<◌, ◌≤◌, ◌�
 ghost use Rattle.frame_header.specs.Fields.{SlotFields, IsSlot, same_class};
 ghost use Rattle.frame_header.specs.Tables.{rate_of, frequency_of, samples_of, side_size_of, window_of, version_place as version_place_lem, length_of, overhead_of, area_of};
 ghost use Rattle.frame_header.specs.Slots.{all_slots, areas_of, largest_slot};
+ghost use Rattle.frame_header.specs.Limits.{most_frame_length};
 
 use crate::slot::Slot;
 use crate::version::Version;
@@ -79,7 +80,8 @@ impl Class {
     /// main_data_begin: 511 in MPEG-1, 255 in MPEG-2 and MPEG-2.5 (ISO/IEC 11172-3 and 13818-3, 2.4.2.7).
     pub fn window(&self) -> u32
         ensures window { result ≡ window_of self.now.version }
-        // The largest frame without a check word has room for so many bytes of main data.
+        // The largest frame without a check word has room for so many bytes of main data. Said here, where the class is known
+        // to be one of the standard's.
         ensures spanned { result ≤ area_of self.now largest_slot false }
     {
         match self.version {
@@ -105,7 +107,7 @@ impl Class {
     /// The length of a frame in bytes, at most 1,441 (ISO/IEC 11172-3 and 13818-3, 2.4.3.1).
     pub fn length_of(&self, slot: Slot) -> u32
         ensures length { result ≡ length_of self.now slot }
-        ensures most { result ≤ 1441 }
+        ensures most { result ≤ most_frame_length }
         // Header, check word and side information leave room for main data.
         ensures room { 6 + side_size_of self.now < result }
     {
@@ -119,7 +121,7 @@ impl Class {
     pub fn area_of(&self, slot: Slot, protected: bool) -> u32
         ensures area { result ≡ area_of self.now slot protected }
         ensures some { 1 ≤ result }
-        ensures most { result ≤ 1441 }
+        ensures most { result ≤ most_frame_length }
         // Area and what is before it add up to the frame.
         ensures whole { overhead_of self.now protected + result ≡ length_of self.now slot }
     {

@@ -6,6 +6,7 @@ ghost use Rattle.frame_header.specs.Tables.{class_of, length_of, overhead_of, ar
 ghost use Rattle.frame_header.specs.Reading.{header_at, header_in, rate_bits, frequency_bits, header_of_class, is_readable as is_readable_lem, version_of as version_of_lem};
 ghost use Rattle.frame_header.specs.Fields.{HeaderFields, version_number};
 ghost use Rattle.frame_header.specs.HeaderBits.{header_bits};
+ghost use Rattle.frame_header.specs.Limits.{most_frame_length};
 
 use crate::class::Class;
 use crate::slot::Slot;
@@ -274,7 +275,7 @@ impl Header {
     /// The length of the frame in bytes, at most 1,441.
     pub fn length(&self) -> u32
         ensures length { result ≡ length_of (class_of self.now) self.now.slot }
-        ensures most { result ≤ 1441 }
+        ensures most { result ≤ most_frame_length }
     {
         self.class().length_of(self.slot)
     }
@@ -283,7 +284,7 @@ impl Header {
     pub fn area(&self) -> u32
         ensures area { result ≡ area_of (class_of self.now) self.now.slot self.now.protected }
         ensures some { 1 ≤ result }
-        ensures most { result ≤ 1441 }
+        ensures most { result ≤ most_frame_length }
         ensures whole { overhead_of (class_of self.now) self.now.protected + result ≡ length_of
             (class_of self.now) self.now.slot }
     {

@@ -2,6 +2,10 @@
 -- areas, one after the other.
 use Rattle.std.specs.Prelude.{◌≡◌, ℕ, ◌+◌, ◌-◌, ◌≤◌, List, [], ◌∷◌, ◌++◌, length, take, drop, replicate}
 
+-- how many bytes of areas may wait
+abbrev pub most_waiting : ℕ
+most_waiting = 8192
+
 -- a frame's main data, its main_data_begin, and how many bytes its own area has
 pub record Piece : Type 0 where
   pub payload : List ℕ

@@ -1,6 +1,8 @@
 -- Laws of frames that are written.
 use Rattle.std.specs.Prelude.{◌≡◌, ℕ, ◌+◌, ◌<◌, ◌≤◌, List, ◌++◌, length}
 use Rattle.frame_writer.specs.Frames.{Frame, Held, AreOf, areas_in, held_bytes, frame_bytes, IsNextSettled, AreWritten}
+use Rattle.frame_header.specs.Limits.{most_frame_length}
+use Rattle.frame_writer.specs.Laid.{most_waiting}
 
 -- what was taken, and then what waits, are the bytes of all frames that were given
 abbrev pub LaidSteps : Type 0
@@ -9,7 +11,7 @@ LaidSteps = (taken : List ℕ) (held : Held) (fs : List Frame) → AreWritten ta
 -- there is room for one frame more
 pub record HaveRoom (held : Held) : Type 0 where
   pub few : length held.kept < 256
-  pub room : length held.waiting.bytes + 1441 ≤ 8192
+  pub room : length held.waiting.bytes + most_frame_length ≤ most_waiting
 
 -- if later main data can reach the area of the first frame that waits, there is room for one more
 abbrev pub FewWait : Type 0

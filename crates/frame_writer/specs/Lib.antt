@@ -1,6 +1,7 @@
 pub mod Laid
 pub mod Frames
 pub mod Writing
+pub mod Answers
 pub mod Writer
 pub mod Laws
 pub use Rattle.bit_fields.specs.Bits

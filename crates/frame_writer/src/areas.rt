@@ -3,8 +3,10 @@ ghost use Rattle.std.specs.Prelude.{◌≡◌, ℕ, ◌+◌, ◌-◌, ◌≤◌,
 ghost use Rattle.outside.specs.Files.{IsThere};
 ghost use Rattle.outside.specs.Passed.{PassedOn, AppendedPrefix};
 ghost use Rattle.outside.specs.Counts.{OnlyWrites};
-ghost use Rattle.frame_writer.specs.Laid.{Piece, Waiting, zeros, laid_behind, AreLaid};
+ghost use Rattle.frame_writer.specs.Laid.{Piece, Waiting, zeros, laid_behind, AreLaid, most_waiting};
 ghost use Rattle.frame_writer.specs.Writing.{WriteFailed};
+ghost use Rattle.outside.specs.Answers.{PassAnswer};
+ghost use Rattle.reservoir.specs.Window.{window_size};
 
 use crate::bytes::ByteQueue;
 use outside::{Failed, Folder, WriteBuffer};
@@ -57,7 +59,7 @@ impl Areas {
     /// How many bytes wait, at most 8,192.
     pub fn waiting(&self) -> usize
         ensures count { result ≡ length self.now.bytes }
-        ensures most { result ≤ 8192 }
+        ensures most { result ≤ most_waiting }
     {
         self.queue.len() + self.free as usize
     }
@@ -86,8 +88,8 @@ impl Areas {
     pub fn push(&mut self, begin: u32, area: u32, payload: &Payload<'_>)
         requires start { begin ≤ self.old.free }
         requires within { length payload.now ≤ begin + area }
-        requires room { length self.old.bytes + area ≤ 8192 }
-        requires few { length payload.now ≤ 2048 }
+        requires room { length self.old.bytes + area ≤ most_waiting }
+        requires few { length payload.now ≤ window_size }
         ensures put { self.new.bytes ≡ laid_behind self.old payload.now begin area }
         ensures free { self.new.free + length payload.now ≡ begin + area }
         ensures long { length self.new.bytes ≡ length self.old.bytes + area }
@@ -113,16 +115,10 @@ impl Areas {
         name: &str,
         unsent: &mut WriteBuffer,
     ) -> Result<(), Failed>
-        requires there { IsThere (D.files folder.old) name.now }
+        requires there { IsThere (D.seen folder.old).files name.now }
         requires within { count ≤ length self.now.bytes }
-        ensures passed { OnOk result (PassedOn name.now (unsent.old ++ take count self.now.bytes)
-            unsent.new (D.files folder.old) (D.files folder.new)) }
-        ensures prefix { OnErr result (AppendedPrefix name.now
-            (unsent.old ++ take count self.now.bytes) (D.files folder.old) (D.files folder.new)) }
-        ensures failed { OnErr result (WriteFailed name.now (D.counts folder.old)
-            (D.counts folder.new)) }
-        ensures done { OnOk result (D.counts folder.new ≡ D.counts folder.old) }
-        ensures counts { OnlyWrites (D.counts folder.old) (D.counts folder.new) }
+        ensures { PassAnswer name.now unsent.old (take count self.now.bytes) unsent.new
+            (D.seen folder.old) (D.seen folder.new) result }
     {
         let bytes = self.queue.bytes();
         let stored = count.min(bytes.len());
@@ -157,7 +153,7 @@ impl Areas {
 
 /// `count` zeros.
 fn zeros_of(count: usize) -> &'static [u8]
-    requires { count ≤ 8192 }
+    requires { count ≤ most_waiting }
     ensures { result.now ≡ zeros count }
 {
     &ZEROS[..count]
@@ -166,7 +162,7 @@ fn zeros_of(count: usize) -> &'static [u8]
 /// Adds main data to a queue.
 #[inline]
 fn push_payload(queue: &mut ByteQueue, payload: &Payload<'_>)
-    requires { length queue.old + length payload.now ≤ 8192 }
+    requires { length queue.old + length payload.now ≤ most_waiting }
     ensures { queue.new ≡ queue.old ++ payload.now }
 {
     let (front, back, before, own, last) = payload.pieces();
@@ -182,7 +178,7 @@ fn push_payload(queue: &mut ByteQueue, payload: &Payload<'_>)
 /// Adds bytes to a queue, of which there are often none.
 #[inline]
 fn push_some(queue: &mut ByteQueue, bytes: &[u8])
-    requires { length queue.old + length bytes.now ≤ 8192 }
+    requires { length queue.old + length bytes.now ≤ most_waiting }
     ensures { queue.new ≡ queue.old ++ bytes.now }
 {
     if !bytes.is_empty() {
@@ -193,7 +189,7 @@ fn push_some(queue: &mut ByteQueue, bytes: &[u8])
 /// Adds `count` zeros to a queue.
 #[inline]
 fn push_zeros(queue: &mut ByteQueue, count: usize)
-    requires { length queue.old + count ≤ 8192 }
+    requires { length queue.old + count ≤ most_waiting }
     ensures { queue.new ≡ queue.old ++ zeros count }
 {
     if count > 0 {
@@ -212,16 +208,10 @@ fn add_zeros<D: Folder>(
     name: &str,
     unsent: &mut WriteBuffer,
 ) -> Result<(), Failed>
-    requires there { IsThere (D.files folder.old) name.now }
-    requires few { count ≤ 8192 }
-    ensures passed { OnOk result (PassedOn name.now (unsent.old ++ zeros count)
-        unsent.new (D.files folder.old) (D.files folder.new)) }
-    ensures prefix { OnErr result (AppendedPrefix name.now (unsent.old ++ zeros count)
-        (D.files folder.old) (D.files folder.new)) }
-    ensures failed { OnErr result (WriteFailed name.now (D.counts folder.old)
-        (D.counts folder.new)) }
-    ensures done { OnOk result (D.counts folder.new ≡ D.counts folder.old) }
-    ensures counts { OnlyWrites (D.counts folder.old) (D.counts folder.new) }
+    requires there { IsThere (D.seen folder.old).files name.now }
+    requires few { count ≤ most_waiting }
+    ensures { PassAnswer name.now unsent.old (zeros count) unsent.new (D.seen folder.old)
+        (D.seen folder.new) result }
 {
     if count == 0 {
         return Ok(());

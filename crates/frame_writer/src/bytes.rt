@@ -1,5 +1,6 @@
 //! A queue of bytes that are next to each other in memory.
 ghost use Rattle.std.specs.Prelude.{◌≡◌, ◌+◌, ◌-◌, ◌≤◌, [], ◌++◌, length, take, drop, IfOk};
+ghost use Rattle.frame_writer.specs.Laid.{most_waiting};
 
 use std::alloc::{AllocError, Global};
 use std::marker::Model;
@@ -54,7 +55,7 @@ impl ByteQueue {
     #[inline]
     pub fn len(&self) -> usize
         ensures count { result ≡ length self.now }
-        ensures most { result ≤ 8192 }
+        ensures most { result ≤ most_waiting }
     {
         self.to - self.from
     }
@@ -62,7 +63,7 @@ impl ByteQueue {
     /// Adds bytes at the end.
     #[inline]
     pub fn push(&mut self, bytes: &[u8])
-        requires { length self.old + length bytes.now ≤ 8192 }
+        requires { length self.old + length bytes.now ≤ most_waiting }
         ensures { self.new ≡ self.old ++ bytes.now }
     {
         let count = self.to - self.from;

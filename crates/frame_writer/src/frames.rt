@@ -9,6 +9,8 @@ ghost use Rattle.outside.specs.Passed.{PassedOn, AppendedPrefix};
 ghost use Rattle.outside.specs.Counts.{OnlyWrites};
 ghost use Rattle.frame_writer.specs.Frames.{area_in, first_bytes};
 ghost use Rattle.frame_writer.specs.Writing.{WriteFailed};
+ghost use Rattle.outside.specs.Answers.{PassAnswer};
+ghost use Rattle.frame_header.specs.Limits.{most_frame_length, most_front};
 
 use crate::areas::Areas;
 use frame_header::Class;
@@ -64,7 +66,7 @@ impl SizedFront {
     pub fn area(&self) -> u32
         ensures area { result ≡ area_in self.now }
         ensures some { 1 ≤ result }
-        ensures most { result ≤ 1441 }
+        ensures most { result ≤ most_frame_length }
         ensures header { IsHeader self.now.header }
     {
         u32::from(self.area)
@@ -85,8 +87,8 @@ impl SizedFront {
     #[inline(always)]
     fn put_in(&self, class: Class, room: &mut [u8]) -> usize
         requires class { class ≡ class_of self.now.header }
-        requires room { 38 ≤ length room.old }
-        ensures size { result ≤ 38 }
+        requires room { most_front ≤ length room.old }
+        ensures size { result ≤ most_front }
         ensures front { take result room.new ≡ front_of self.now.header self.now.side }
     {
         self.front.put_in(class, room)
@@ -156,19 +158,11 @@ pub(crate) fn add_frame<D: Folder>(
     name: &str,
     unsent: &mut WriteBuffer,
 ) -> Result<(), Failed>
-    requires there { IsThere (D.files folder.old) name.now }
+    requires there { IsThere (D.seen folder.old).files name.now }
     requires class { class ≡ class_of first.now.header }
     requires within { area_in first.now ≤ length areas.now.bytes }
-    ensures passed { OnOk result (PassedOn name.now
-        (unsent.old ++ first_bytes first.now areas.now.bytes)
-        unsent.new (D.files folder.old) (D.files folder.new)) }
-    ensures prefix { OnErr result (AppendedPrefix name.now
-        (unsent.old ++ first_bytes first.now areas.now.bytes)
-        (D.files folder.old) (D.files folder.new)) }
-    ensures failed { OnErr result (WriteFailed name.now (D.counts folder.old)
-        (D.counts folder.new)) }
-    ensures done { OnOk result (D.counts folder.new ≡ D.counts folder.old) }
-    ensures counts { OnlyWrites (D.counts folder.old) (D.counts folder.new) }
+    ensures { PassAnswer name.now unsent.old (first_bytes first.now areas.now.bytes) unsent.new
+        (D.seen folder.old) (D.seen folder.new) result }
 {
     let mut room = [0; FRONT];
     let size = first.put_in(class, &mut room);

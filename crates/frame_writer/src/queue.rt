@@ -6,6 +6,8 @@ ghost use Rattle.outside.specs.Passed.{PassedOn, AppendedPrefix};
 ghost use Rattle.outside.specs.Counts.{OnlyWrites};
 ghost use Rattle.frame_writer.specs.Frames.{held_bytes, first_area, area_in, areas_with, Frame, EndsInArea, IsNextSettled, reach_of, reach_with, AreWritten};
 ghost use Rattle.frame_writer.specs.Writing.{writing, waiting_bytes, bytes_with, IsNew, HandedOn, HandedPart, WritesOn, WritesPart, GoesOn, WriteFailed};
+ghost use Rattle.frame_writer.specs.Answers.{FrameAnswer, QueueFinish, HandOn, TakeFirst};
+ghost use Rattle.reservoir.specs.Window.{window_size};
 
 use crate::areas::Areas;
 use crate::frames::{Frame, SizedFront, add_frame};
@@ -106,30 +108,15 @@ impl FrameQueue {
         name: &str,
         unsent: &mut WriteBuffer,
     ) -> Result<(), Failed>
-        requires there { IsThere (D.files folder.old) name.now }
+        requires there { IsThere (D.seen folder.old).files name.now }
         requires class { class_of frame.now.kept.header ≡ self.old.class }
         requires start { frame.now.kept.side.main_data_begin ≤ self.old.waiting.free }
         requires within { EndsInArea frame.now }
-        requires few { length frame.now.payload ≤ 2048 }
+        requires few { length frame.now.payload ≤ window_size }
         requires unsettled { IsNextSettled self.old → ⊥ }
-        ensures written { OnOk result (WritesOn name.now frame.now (writing self.old unsent.old)
-            (writing self.new unsent.new) (D.files folder.old) (D.files folder.new)) }
-        ensures passed { OnOk result (PassedOn name.now
-            (bytes_with (writing self.old unsent.old) frame.now)
-            (waiting_bytes (writing self.new unsent.new))
-            (D.files folder.old) (D.files folder.new)) }
-        ensures part { OnErr result (WritesPart name.now frame.now (writing self.old unsent.old)
-            self.new (D.files folder.old) (D.files folder.new)) }
-        ensures prefix { OnErr result (AppendedPrefix name.now
-            (bytes_with (writing self.old unsent.old) frame.now)
-            (D.files folder.old) (D.files folder.new)) }
-        ensures class { self.new.class ≡ self.old.class }
-        ensures reach { reach_of self.new ≡ reach_with self.old.class frame.now }
+        ensures answer { FrameAnswer name.now frame.now (writing self.old unsent.old)
+            (writing self.new unsent.new) (D.seen folder.old) (D.seen folder.new) result }
         ensures unsettled { OnOk result (IsNextSettled self.new → ⊥) }
-        ensures failed { OnErr result (WriteFailed name.now (D.counts folder.old)
-            (D.counts folder.new)) }
-        ensures done { OnOk result (D.counts folder.new ≡ D.counts folder.old) }
-        ensures counts { OnlyWrites (D.counts folder.old) (D.counts folder.new) }
     {
         self.push(frame);
         self.hand_on(folder, name, unsent)
@@ -145,16 +132,9 @@ impl FrameQueue {
         name: &str,
         unsent: &mut WriteBuffer,
     ) -> Result<(), Failed>
-        requires there { IsThere (D.files folder.old) name.now }
-        ensures passed { OnOk result (PassedOn name.now (unsent.old ++ held_bytes self.old)
-            unsent.new (D.files folder.old) (D.files folder.new)) }
-        ensures none { OnOk result (self.new.kept ≡ []) }
-        ensures prefix { OnErr result (AppendedPrefix name.now (unsent.old ++ held_bytes self.old)
-            (D.files folder.old) (D.files folder.new)) }
-        ensures failed { OnErr result (WriteFailed name.now (D.counts folder.old)
-            (D.counts folder.new)) }
-        ensures done { OnOk result (D.counts folder.new ≡ D.counts folder.old) }
-        ensures counts { OnlyWrites (D.counts folder.old) (D.counts folder.new) }
+        requires there { IsThere (D.seen folder.old).files name.now }
+        ensures { QueueFinish name.now (writing self.old unsent.old) (writing self.new unsent.new)
+            (D.seen folder.old) (D.seen folder.new) result }
     {
         while self.count() > 0 {
             self.take_first(folder, name, unsent)?;
@@ -170,21 +150,9 @@ impl FrameQueue {
         name: &str,
         unsent: &mut WriteBuffer,
     ) -> Result<(), Failed>
-        requires there { IsThere (D.files folder.old) name.now }
-        ensures passed { OnOk result (GoesOn name.now (writing self.old unsent.old)
-            (writing self.new unsent.new) (D.files folder.old) (D.files folder.new)) }
-        ensures moved { OnOk result (HandedOn self.old self.new) }
-        ensures part { OnErr result (HandedPart name.now (writing self.old unsent.old)
-            self.new (D.files folder.old) (D.files folder.new)) }
-        ensures class { self.new.class ≡ self.old.class }
-        ensures reach { reach_of self.new ≡ reach_of self.old }
-        ensures unsettled { OnOk result (IsNextSettled self.new → ⊥) }
-        ensures prefix { OnErr result (AppendedPrefix name.now (unsent.old ++ held_bytes self.old)
-            (D.files folder.old) (D.files folder.new)) }
-        ensures failed { OnErr result (WriteFailed name.now (D.counts folder.old)
-            (D.counts folder.new)) }
-        ensures done { OnOk result (D.counts folder.new ≡ D.counts folder.old) }
-        ensures counts { OnlyWrites (D.counts folder.old) (D.counts folder.new) }
+        requires there { IsThere (D.seen folder.old).files name.now }
+        ensures { HandOn name.now (writing self.old unsent.old) (writing self.new unsent.new)
+            (D.seen folder.old) (D.seen folder.new) result }
     {
         while self.is_next_settled() {
             self.take_first(folder, name, unsent)?;
@@ -200,7 +168,7 @@ impl FrameQueue {
         requires class { class_of frame.now.kept.header ≡ self.old.class }
         requires start { frame.now.kept.side.main_data_begin ≤ self.old.waiting.free }
         requires within { EndsInArea frame.now }
-        requires few { length frame.now.payload ≤ 2048 }
+        requires few { length frame.now.payload ≤ window_size }
         requires unsettled { IsNextSettled self.old → ⊥ }
         ensures class { self.new.class ≡ self.old.class }
         ensures kept { self.new.kept ≡ self.old.kept ++ frame.now.kept ∷ [] }
@@ -230,26 +198,10 @@ impl FrameQueue {
         name: &str,
         unsent: &mut WriteBuffer,
     ) -> Result<(), Failed>
-        requires there { IsThere (D.files folder.old) name.now }
+        requires there { IsThere (D.seen folder.old).files name.now }
         requires some { 0 < length self.old.kept }
-        ensures passed { OnOk result (GoesOn name.now (writing self.old unsent.old)
-            (writing self.new unsent.new) (D.files folder.old) (D.files folder.new)) }
-        ensures moved { HandedOn self.old self.new }
-        ensures part { OnErr result (HandedPart name.now (writing self.old unsent.old)
-            self.new (D.files folder.old) (D.files folder.new)) }
-        ensures prefix { OnErr result (AppendedPrefix name.now (unsent.old ++ held_bytes self.old)
-            (D.files folder.old) (D.files folder.new)) }
-        ensures class { self.new.class ≡ self.old.class }
-        ensures kept { self.new.kept ≡ drop 1 self.old.kept }
-        ensures left { self.new.waiting.bytes ≡ drop
-            (first_area self.old.kept) self.old.waiting.bytes }
-        ensures free { self.new.waiting.free ≡ min self.old.waiting.free
-            (length self.new.waiting.bytes) }
-        ensures reach { IsNextSettled self.old → reach_of self.new ≡ reach_of self.old }
-        ensures failed { OnErr result (WriteFailed name.now (D.counts folder.old)
-            (D.counts folder.new)) }
-        ensures done { OnOk result (D.counts folder.new ≡ D.counts folder.old) }
-        ensures counts { OnlyWrites (D.counts folder.old) (D.counts folder.new) }
+        ensures { TakeFirst name.now (writing self.old unsent.old) (writing self.new unsent.new)
+            (D.seen folder.old) (D.seen folder.new) result }
     {
         let first = self.kept.front().unwrap();
         let area = first.area() as usize;

@@ -7,6 +7,8 @@ ghost use Rattle.outside.specs.Passed.{PassedOn, AppendedPrefix};
 ghost use Rattle.outside.specs.Counts.{OnlyWrites};
 ghost use Rattle.frame_writer.specs.Frames.{held_bytes, frame_of, EndsInArea, reach_of, reach_with};
 ghost use Rattle.frame_writer.specs.Writing.{writing, bytes_with, IsNew, WritesOn, WritesPart, WriteFailed};
+ghost use Rattle.frame_writer.specs.Answers.{FrameAnswer, WriterFinish, Takes};
+ghost use Rattle.reservoir.specs.Window.{window_size};
 
 use crate::frames::Frame;
 use crate::queue::FrameQueue;
@@ -111,33 +113,15 @@ impl Writer {
         folder: &mut D,
         name: &str,
     ) -> Result<(), Failed>
-        requires there { IsThere (D.files folder.old) name.now }
+        requires there { IsThere (D.seen folder.old).files name.now }
         requires ready { self.old.state ≡ State.Open }
-        requires class { class_of header.now ≡ self.old.held.class }
+        requires takes { Takes self.old.held (frame_of header.now side.now payload.now) }
         requires fits { SideFits self.old.held.class side.now }
-        requires start { side.now.main_data_begin ≤ self.old.held.waiting.free }
-        requires within { EndsInArea (frame_of header.now side.now payload.now) }
-        requires few { length payload.now ≤ 2048 }
-        ensures written { OnOk result (WritesOn name.now (frame_of header.now side.now payload.now)
-            (writing self.old.held []) (writing self.new.held [])
-            (D.files folder.old) (D.files folder.new)) }
-        ensures passed { OnOk result (PassedOn name.now (bytes_with (writing self.old.held [])
-            (frame_of header.now side.now payload.now)) (held_bytes self.new.held)
-            (D.files folder.old) (D.files folder.new)) }
-        ensures part { OnErr result (WritesPart name.now (frame_of header.now side.now payload.now)
-            (writing self.old.held []) self.new.held (D.files folder.old) (D.files folder.new)) }
-        ensures prefix { OnErr result (AppendedPrefix name.now (bytes_with
-            (writing self.old.held []) (frame_of header.now side.now payload.now))
-            (D.files folder.old) (D.files folder.new)) }
-        ensures class { self.new.held.class ≡ self.old.held.class }
-        ensures reach { reach_of self.new.held ≡
-            reach_with self.old.held.class (frame_of header.now side.now payload.now) }
+        ensures answer { FrameAnswer name.now (frame_of header.now side.now payload.now)
+            (writing self.old.held []) (writing self.new.held []) (D.seen folder.old)
+            (D.seen folder.new) result }
         ensures ready { OnOk result (self.new.state ≡ State.Open) }
         ensures ended { OnErr result (self.new.state ≡ State.Failed) }
-        ensures failed { OnErr result (WriteFailed name.now (D.counts folder.old)
-            (D.counts folder.new)) }
-        ensures done { OnOk result (D.counts folder.new ≡ D.counts folder.old) }
-        ensures counts { OnlyWrites (D.counts folder.old) (D.counts folder.new) }
     {
         let front = FrameFront::new(header, side);
         let frame = Frame::new(&front, Payload::whole(payload));
@@ -153,19 +137,10 @@ impl Writer {
     /// # Errors
     /// Where a write failed. Then a prefix of what waited was appended, and the writer has failed.
     pub fn finish<D: Folder>(&mut self, folder: &mut D, name: &str) -> Result<(), Failed>
-        requires there { IsThere (D.files folder.old) name.now }
+        requires there { IsThere (D.seen folder.old).files name.now }
         requires ready { self.old.state ≡ State.Open }
-        ensures appended { OnOk result (D.files folder.new ≡
-            appended (D.files folder.old) name.now (held_bytes self.old.held)) }
-        ensures none { OnOk result (self.new.held.kept ≡ []) }
-        ensures finished { OnOk result (self.new.state ≡ State.Finished) }
-        ensures prefix { OnErr result (AppendedPrefix name.now (held_bytes self.old.held)
-            (D.files folder.old) (D.files folder.new)) }
-        ensures ended { OnErr result (self.new.state ≡ State.Failed) }
-        ensures failed { OnErr result (WriteFailed name.now (D.counts folder.old)
-            (D.counts folder.new)) }
-        ensures done { OnOk result (D.counts folder.new ≡ D.counts folder.old) }
-        ensures counts { OnlyWrites (D.counts folder.old) (D.counts folder.new) }
+        ensures { WriterFinish name.now self.old.held self.new.held self.new.state
+            (D.seen folder.old) (D.seen folder.new) result }
     {
         self.state = State::Failed;
         self.queue.finish(folder, name, &mut self.unsent)?;

@@ -21,7 +21,7 @@ use Rattle.commands.specs.declared.fault.EditFault.TheVariants.{Refused, Memory}
 use Rattle.commands.specs.declared.fault.Refusal.{Refusal}
 use Rattle.commands.specs.declared.fault.Refusal.TheVariants.{GainRange, Mono, Joint, UndoRange}
 use Rattle.commands.specs.Refusing.{or_else, first_refusal, unless, then_made}
-use Rattle.commands.specs.Left.{IsLate, IsRefusal, Seen, seen, IsOfInput}
+use Rattle.commands.specs.Left.{IsLate, IsRefusal, IsOfInput}
 use Rattle.commands.proofs.RefusingLaws.{then_all, unless_late, then_late, of_err}
 use Rattle.moved_gains.specs.Course.{even}
 use Rattle.moved_gains.specs.declared.gains.Stuck.{Stuck}
@@ -39,6 +39,7 @@ use Rattle.gain_edits.specs.declared.changes.Changes.TheVariants.{Move, Undo as 
 use Rattle.gain_edits.specs.Changes.{changing_by, are_noted, decided_by, refused_by, IsDecision}
 use Rattle.outside.specs.Files.{Holds, IsThere}
 use Rattle.outside.specs.Counts.{OnlyReads}
+use Rattle.outside.specs.Seen.{Seen, seen}
 use Rattle.sync_survey.specs.Survey.{survey_of}
 use Rattle.commands.specs.One.{most_frames, IsInputFault}
 use Rattle.commands.proofs.InputLaws.{refused_is_input, memory_is_input, refusal_numbers}

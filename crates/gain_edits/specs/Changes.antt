@@ -2,13 +2,14 @@
 use Rattle.std.specs.Prelude.{◌≡◌, ℕ, Bool, true, List, Option, Some, None, Result, Ok, Err, IfOk, IfErr, OnOk}
 use Rattle.outside.specs.Files.{Holds}
 use Rattle.outside.specs.Counts.{OnlyReads}
+use Rattle.outside.specs.Seen.{Seen}
 use Rattle.tag_blocks.specs.Tags.{TagFields}
 use Rattle.sync_survey.specs.Faults.{SurveyFields}
 use Rattle.commands.specs.declared.fault.EditFault.{EditFault}
 use Rattle.commands.specs.declared.fault.EditFault.TheVariants.{Refused}
 use Rattle.commands.specs.declared.fault.Refusal.{Refusal}
 use Rattle.commands.specs.declared.fault.Refusal.TheVariants.{NoUndo}
-use Rattle.commands.specs.Left.{Seen, IsOfInput}
+use Rattle.commands.specs.Left.{IsOfInput}
 use Rattle.commands.specs.One.{Task, IsInputFault}
 use Rattle.moved_gains.specs.declared.shift.Steps.{Steps}
 use Rattle.moved_gains.specs.Gains.{steps_of}

@@ -1,5 +1,4 @@
 //! The commands `gain` and `undo` over a folder.
-ghost use Rattle.commands.specs.Left.{seen};
 ghost use Rattle.commands.specs.Runs.{IsRunOf};
 ghost use Rattle.gain_edits.specs.Gain.{gain_command};
 ghost use Rattle.gain_edits.specs.Undo.{undo_command};
@@ -42,8 +41,8 @@ pub fn gain<D: Folder>(
 ) -> Result<(), EditFault>
     // The input is well-formed, and the output holds its stream with each gain moved.
     ensures { IsRunOf (gain_command shift.now tags input.now output.now)
-        (seen (D.files folder.old) (D.counts folder.old))
-        (seen (D.files folder.new) (D.counts folder.new)) result }
+        (D.seen folder.old)
+        (D.seen folder.new) result }
 {
     let changes = Changes::Move(shift, tags);
     make_one(alloc, folder, &GainEdit { input, changes }, output)
@@ -69,8 +68,8 @@ pub fn undo<D: Folder>(
 ) -> Result<(), EditFault>
     // The input is well-formed, and the output holds its stream with each gain moved back.
     ensures { IsRunOf (undo_command input.now output.now)
-        (seen (D.files folder.old) (D.counts folder.old))
-        (seen (D.files folder.new) (D.counts folder.new)) result }
+        (D.seen folder.old)
+        (D.seen folder.new) result }
 {
     let changes = Changes::Undo;
     make_one(alloc, folder, &GainEdit { input, changes }, output)

@@ -1,9 +1,9 @@
 //! What the commands of this crate change in a file.
 ghost use Rattle.std.specs.Prelude.{◌≡◌, List, ℕ, Ok};
-ghost use Rattle.outside.specs.Files.{Holds, IsThere};
+ghost use Rattle.outside.specs.Files.{IsThere};
+ghost use Rattle.outside.specs.Seen.{OnFile};
 ghost use Rattle.sync_survey.specs.Faults.{tells};
 ghost use Rattle.sync_survey.specs.Survey.{survey_of, IsLaidOut};
-ghost use Rattle.commands.specs.Left.{seen};
 ghost use Rattle.commands.specs.One.{most_frames};
 ghost use Rattle.gain_edits.specs.Change.{IsDecided};
 ghost use Rattle.gain_edits.specs.Changes.{are_noted, decided_by, IsDecision};
@@ -63,12 +63,12 @@ impl<'a> Changes<'a> {
         name: &str,
         survey: &Survey,
     ) -> Result<Change, EditFault>
-        requires there { IsThere (D.files folder.old) name.now }
+        requires there { IsThere (D.seen folder.old).files name.now }
         requires laid { IsLaidOut (tells survey.now) }
-        requires surveyed { (bytes : List ℕ) → Holds (D.files folder.old) name.now bytes
-            → survey_of bytes most_frames ≡ Ok (tells survey.now) }
-        ensures { IsDecision self.now name.now (seen (D.files folder.old) (D.counts folder.old))
-            (seen (D.files folder.new) (D.counts folder.new)) (tells survey.now) result }
+        requires surveyed { OnFile (D.seen folder.old) name.now
+            (λ bytes. survey_of bytes most_frames ≡ Ok (tells survey.now)) }
+        ensures { IsDecision self.now name.now (D.seen folder.old)
+            (D.seen folder.new) (tells survey.now) result }
     {
         let noted = self.are_noted();
         if !noted {

@@ -2,7 +2,7 @@
 ghost use Rattle.std.specs.Prelude.{◌≡◌, ◌*◌, ◌<◌, ◌≤◌, ◌==◌, length};
 ghost use Rattle.std.specs.List.{list_all};
 ghost use Rattle.frame_header.specs.Fields.{SlotFields};
-ghost use Rattle.frame_header.specs.Limits.{most_placed};
+ghost use Rattle.frame_header.specs.Limits.{most_placed, most_frame_length};
 ghost use Rattle.info_header.specs.Over.{bytes_of, rate_in, has_one_rate as has_one_rate_lem, IsTableOver, IsInfoOver};
 
 use crate::fields::{Info, entry};
@@ -30,7 +30,7 @@ impl InSlot for Slot {
 fn bytes_in<F: InSlot>(class: Class, frames: &[F]) -> u32
     requires few { length frames.now ≤ most_placed }
     ensures bytes { result ≡ bytes_of class F.slot_of frames.now }
-    ensures most { result ≤ 1441 * length frames.now }
+    ensures most { result ≤ most_frame_length * length frames.now }
 {
     let mut bytes = 0;
     for frame in frames {
@@ -65,7 +65,7 @@ fn has_one_rate<F: InSlot>(class: Class, frames: &[F]) -> bool
 /// frame `i * n / 100`, rounded down.
 fn table_over<F: InSlot>(class: Class, frames: &[F], before: u32, bytes: u32) -> [u8; 100]
     requires few { length frames.now ≤ most_placed }
-    requires short { before ≤ 1441 }
+    requires short { before ≤ most_frame_length }
     requires some { 0 < bytes }
     ensures { IsTableOver class F.slot_of frames.now before bytes result }
 {

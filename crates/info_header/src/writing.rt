@@ -5,6 +5,7 @@ ghost use Rattle.frame_header.specs.Fields.{SlotFields, IsSlot};
 ghost use Rattle.frame_header.specs.Tables.{class_of, area_of};
 ghost use Rattle.info_header.specs.Info.{text_of, number_or_zero, table_or_zeros, info_bytes};
 ghost use Rattle.info_header.specs.InfoFrame.{first_with_room as first_with_room_lem, info_slot_of, info_frame};
+ghost use Rattle.frame_header.specs.Limits.{most_frame_length};
 
 use crate::fields::Info;
 use arrayvec::ArrayVec;
@@ -34,7 +35,7 @@ pub fn info_slot(class: Class) -> Slot
 
 /// Appends bytes for which there is room.
 fn append(into: &mut ArrayVec<u8, 1441>, bytes: &[u8])
-    requires { length into.old.items + length bytes.now ≤ 1441 }
+    requires { length into.old.items + length bytes.now ≤ most_frame_length }
     ensures bytes { into.new.items ≡ into.old.items ++ bytes.now }
     ensures length { length into.new.items ≡ length into.old.items + length bytes.now }
 {
@@ -43,7 +44,7 @@ fn append(into: &mut ArrayVec<u8, 1441>, bytes: &[u8])
 
 /// Appends a number of 32 bits, the most significant byte first.
 fn append_number(into: &mut ArrayVec<u8, 1441>, number: u32)
-    requires { length into.old.items + 4 ≤ 1441 }
+    requires { length into.old.items + 4 ≤ most_frame_length }
     ensures bytes { into.new.items ≡ into.old.items ++ big_bytes 4 number }
     ensures length { length into.new.items ≡ length into.old.items + 4 }
 {
@@ -54,7 +55,7 @@ fn append_number(into: &mut ArrayVec<u8, 1441>, number: u32)
 
 /// Appends a field that is a number, 0 where there is none.
 fn append_field(into: &mut ArrayVec<u8, 1441>, number: Option<u32>)
-    requires { length into.old.items + 4 ≤ 1441 }
+    requires { length into.old.items + 4 ≤ most_frame_length }
     ensures bytes { into.new.items ≡ into.old.items ++ big_bytes 4 (number_or_zero number) }
     ensures length { length into.new.items ≡ length into.old.items + 4 }
 {
@@ -66,7 +67,7 @@ fn append_field(into: &mut ArrayVec<u8, 1441>, number: Option<u32>)
 
 /// Appends `count` zeros.
 fn append_zeros(into: &mut ArrayVec<u8, 1441>, count: usize)
-    requires { length into.old.items + count ≤ 1441 }
+    requires { length into.old.items + count ≤ most_frame_length }
     ensures bytes { into.new.items ≡ into.old.items ++ replicate count 0 }
     ensures length { length into.new.items ≡ length into.old.items + count }
 {
@@ -75,7 +76,7 @@ fn append_zeros(into: &mut ArrayVec<u8, 1441>, count: usize)
 
 /// Appends the table, zeros where there is none.
 fn append_table(into: &mut ArrayVec<u8, 1441>, table: &Option<[u8; 100]>)
-    requires { length into.old.items + 100 ≤ 1441 }
+    requires { length into.old.items + 100 ≤ most_frame_length }
     ensures bytes { into.new.items ≡ into.old.items ++ table_or_zeros table.now }
     ensures length { length into.new.items ≡ length into.old.items + 100 }
 {
@@ -87,7 +88,7 @@ fn append_table(into: &mut ArrayVec<u8, 1441>, table: &Option<[u8; 100]>)
 
 /// Appends the text.
 fn append_text(into: &mut ArrayVec<u8, 1441>, vbr: bool)
-    requires { length into.old.items + 4 ≤ 1441 }
+    requires { length into.old.items + 4 ≤ most_frame_length }
     ensures bytes { into.new.items ≡ into.old.items ++ text_of vbr }
     ensures length { length into.new.items ≡ length into.old.items + 4 }
 {
@@ -101,7 +102,7 @@ fn append_text(into: &mut ArrayVec<u8, 1441>, vbr: bool)
 /// Appends text, flags, fields and extension: 156 bytes.
 #[tactic(auto, unfolding(crate::specs::Info::info_bytes))]
 fn append_info(into: &mut ArrayVec<u8, 1441>, info: &Info)
-    requires { length into.old.items + 156 ≤ 1441 }
+    requires { length into.old.items + 156 ≤ most_frame_length }
     ensures bytes { into.new.items ≡ into.old.items ++ info_bytes info.now }
     ensures length { length into.new.items ≡ length into.old.items + 156 }
 {

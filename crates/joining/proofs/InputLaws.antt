@@ -6,6 +6,7 @@ use Rattle.std.proofs.lemmas.List.{get_or_at}
 use Rattle.outside.specs.Files.{Contents, Files, Told, Untold, IfTold}
 use Rattle.outside.proofs.FilesLaws.{there_holds}
 use Rattle.frame_header.specs.Fields.{ClassFields, same_class}
+use Rattle.outside.specs.Seen.{Seen}
 use Rattle.laid_files.proofs.LaidFrames.{same-class}
 use Rattle.laying.specs.Relaid.{Part}
 use Rattle.sync_survey.specs.declared.survey_fault.SurveyFault.{SurveyFault}
@@ -19,13 +20,14 @@ use Rattle.commands.specs.declared.fault.EditFault.{EditFault}
 use Rattle.commands.specs.declared.fault.EditFault.TheVariants.{Input, Refused}
 use Rattle.commands.specs.declared.fault.Refusal.TheVariants.{Differ}
 use Rattle.commands.specs.Refusing.{then_made}
-use Rattle.commands.specs.One.{most_frames, NeedsMemory, Refuses, IsEarlyFaultBy, IsEarlyFault, first_input}
-use Rattle.commands.specs.Left.{Why, Rejected, Missing, Unread, Shorter, Unwritten, Unsent, NoMemory, why_of, Seen, IsLate, IsNotBefore}
+use Rattle.commands.specs.One.{most_frames, NeedsMemory, Refuses, IsEarlyFault, first_input}
+use Rattle.commands.proofs.WhyLaws.{each_why}
+use Rattle.commands.specs.Left.{why_of, IsLate, IsNotBefore}
 use Rattle.commands.proofs.InputLaws.{of_bytes_behind}
 use Rattle.commands.proofs.NamedLaws.{missed_name, unread_name, lost_name}
 use Rattle.commands.proofs.RefusingLaws.{then_all}
 use Rattle.joining.specs.Join.{whole_part, may_follow, part_by, part_of, parts_from, parts_of, joined_file, join_task}
-use Rattle.joining.specs.Inputs.{IsInput, IsPartFaultBy, IsPartFault, Follows, AreInputs, AreAlike, CanBeJoined, class_in, frames_of, parts_in}
+use Rattle.joining.specs.Inputs.{IsInput, IsPartFault, Follows, AreInputs, AreAlike, CanBeJoined, class_in, frames_of, parts_in}
 
 -- ---- one more
 
@@ -185,22 +187,27 @@ module _ (before : List (List ℕ)) (name : List ℕ) (after : List (List ℕ)) 
       (λ parts. tt)
 
   module _ (old new : Seen) (fault : EditFault) (are : AreInputs None most_frames old.files before ss) where
-    early-by : (why : Why) → IsPartFaultBy (length before) (class_after None ss) (most_frames - frames_of ss) name old new fault why → IsEarlyFaultBy (join_task (before ++ name ∷ after)) old new fault why
-    early-by Rejected h = record { defined = refuses-by old.files fault are h.0; stays = h.1 }
-    early-by Missing h = record { defined = refuses-by old.files fault are h.0; rose = missed_name (before ++ name ∷ after) (length before) named h.1; files = h.1.files }
-    early-by Unread h = record { before = rw h.is (unread-by old.files are); rose = unread_name (before ++ name ∷ after) (length before) named h; files = h.files }
-    early-by Shorter h = record { ended = lost_name (before ++ name ∷ after) (length before) named h; files = h.files }
-    early-by (Unwritten k) h = absurd h
-    early-by Unsent h = absurd h
-    early-by NoMemory h = first before ss are
+    needs-first : NeedsMemory name old new → NeedsMemory (first_input (before ++ name ∷ after)) old new
+    needs-first n = first before ss are
       where
         first : (bs : List (List ℕ)) (ts : List SurveyFields) → AreInputs None most_frames old.files bs ts → NeedsMemory (first_input (bs ++ name ∷ after)) old new
-        first [] ts are = h
-        first (b ∷ bs) ts are = found-input most_frames (b ∷ bs) (name ∷ after) ts old new are (omega arith) h.stays
+        first [] ts are = n
+        first (b ∷ bs) ts are = found-input most_frames (b ∷ bs) (name ∷ after) ts old new are (omega arith) n.stays
+
+    early-here : IsPartFault (length before) (class_after None ss) (most_frames - frames_of ss) name old new fault → IsEarlyFault (join_task (before ++ name ∷ after)) old new fault
+    early-here h = each_why (why_of fault) h (record {
+      rejected = λ r. record { defined = refuses-by old.files fault are r.0; stays = r.1 };
+      missing = λ m. record { defined = refuses-by old.files fault are m.0; rose = missed_name (before ++ name ∷ after) (length before) named m.1; files = m.1.files };
+      unread = λ u. record { before = rw u.is (unread-by old.files are); rose = unread_name (before ++ name ∷ after) (length before) named u; files = u.files };
+      shorter = λ l. record { ended = lost_name (before ++ name ∷ after) (length before) named l; files = l.files };
+      unwritten = λ k w. absurd w;
+      unsent = λ w. absurd w;
+      no_memory = needs-first;
+    })
 
 -- the same by the numbers of the code
 pub part-early : (names before : List (List ℕ)) (name : List ℕ) (after : List (List ℕ)) (ss : List SurveyFields) (place allowed : ℕ) (first : Option ClassFields) (old mid new : Seen) (fault : EditFault) → before ++ name ∷ after ≡ names → length before ≡ place → first ≡ class_in ss
     → allowed + frames_of ss ≡ most_frames → mid ≡ old → AreInputs None most_frames old.files before ss → IsPartFault place first allowed name mid new fault → IsEarlyFault (join_task names) old new fault
 part-early names before name after ss place allowed first old mid new fault is long class many stays are h =
     let left : allowed ≡ most_frames - frames_of ss = omega (arith, many) in
-    rw (← is) (early-by before name after ss old new fault are (why_of fault) (rw (← long, class, ← after-none ss, left, stays) at h))
+    rw (← is) (early-here before name after ss old new fault are (rw (← long, class, ← after-none ss, left, stays) at h))

@@ -1,5 +1,5 @@
 -- What an input of a join is, where it isn't refused.
-use Rattle.std.proofs.Common.{◌≡◌, ℕ, Bool, true, false, cond, List, length, Option, Some, None, Result, Ok, Err, refl}
+use Rattle.std.proofs.Common.{◌≡◌, ℕ, Bool, true, false, cond, List, Option, Some, None, Result, Ok, Err, refl}
 use Rattle.frame_header.specs.Fields.{ClassFields}
 use Rattle.laying.specs.Relaid.{Part}
 use Rattle.sync_survey.specs.declared.survey_fault.SurveyFault.{SurveyFault}

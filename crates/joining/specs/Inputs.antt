@@ -2,6 +2,7 @@
 use Rattle.std.specs.Prelude.{◌≡◌, ◌≢◌, true, ℕ, ◌+◌, ◌-◌, ◌<◌, ◌≤◌, List, [], ◌∷◌, length, map, unwrap_or, Option, Some, None, Ok, Err}
 use Rattle.outside.specs.Files.{Contents, Files, Holds, IsThere, IfTold, Told, Untold}
 use Rattle.frame_header.specs.Fields.{ClassFields}
+use Rattle.outside.specs.Seen.{Seen}
 use Rattle.sync_survey.specs.Row.{Row}
 use Rattle.sync_survey.specs.declared.survey_fault.SurveyFault.TheVariants.{Memory as NoRoom}
 use Rattle.sync_survey.specs.Faults.{SurveyFields}
@@ -10,7 +11,7 @@ use Rattle.laying.specs.Relaid.{Part}
 use Rattle.commands.specs.declared.fault.EditFault.{EditFault}
 use Rattle.commands.specs.declared.fault.EditFault.TheVariants.{Input, Refused, Write, Memory}
 use Rattle.commands.specs.Kinds.{HasRightNumbers}
-use Rattle.commands.specs.Left.{Why, Rejected, Missing, Unread, Shorter, Unwritten, Unsent, NoMemory, why_of, Seen}
+use Rattle.commands.specs.Left.{by_why, never, why_of}
 use Rattle.commands.specs.One.{most_frames, MissesAt, ReadsNothing, LosesInput, NeedsMemory}
 use Rattle.joining.specs.Join.{whole_part, part_of, join_refuses}
 
@@ -29,18 +30,17 @@ pub record IsInput (allowed : ℕ) (files : Files) (name : List ℕ) (s : Survey
 abbrev pub GivesFault : ℕ → Option ClassFields → ℕ → List ℕ → Files → EditFault → Type 0
 GivesFault place first allowed name files fault = IfTold files (λ f. part_of place first allowed (f name) ≡ Err fault)
 
-abbrev pub IsPartFaultBy : ℕ → Option ClassFields → ℕ → List ℕ → Seen → Seen → EditFault → Why → Type 0
-IsPartFaultBy place first allowed name old new fault Rejected = GivesFault place first allowed name old.files fault × (new ≡ old)
-IsPartFaultBy place first allowed name old new fault Missing = GivesFault place first allowed name old.files fault × MissesAt place name old new fault
-IsPartFaultBy place first allowed name old new fault Unread = ReadsNothing place name old new fault
-IsPartFaultBy place first allowed name old new fault Shorter = LosesInput place name old new fault
-IsPartFaultBy place first allowed name old new fault (Unwritten k) = ⊥
-IsPartFaultBy place first allowed name old new fault Unsent = ⊥
-IsPartFaultBy place first allowed name old new fault NoMemory = NeedsMemory name old new
-
 -- what the fault of an input says of its cause
 abbrev pub IsPartFault : ℕ → Option ClassFields → ℕ → List ℕ → Seen → Seen → EditFault → Type 0
-IsPartFault place first allowed name old new fault = IsPartFaultBy place first allowed name old new fault (why_of fault)
+IsPartFault place first allowed name old new fault = by_why
+    (record never {
+      rejected = GivesFault place first allowed name old.files fault × (new ≡ old);
+      missing = GivesFault place first allowed name old.files fault × MissesAt place name old new fault;
+      unread = ReadsNothing place name old new fault;
+      shorter = LosesInput place name old new fault;
+      no_memory = NeedsMemory name old new;
+    })
+    (why_of fault)
 
 -- the fault is one of `count` inputs, of the output, or want of memory; the class of the first input can't differ
 abbrev pub IsOfJoin : ℕ → EditFault → Type 0

@@ -1,5 +1,5 @@
 -- The second pass over the inputs.
-use Rattle.std.specs.Prelude.{◌≡◌, ◌≢◌, ℕ, ◌<◌, List, [], length, slice_index_or, map, flat_map, slice_get, Option, Some, None, IfSome}
+use Rattle.std.specs.Prelude.{◌≡◌, ◌≢◌, ℕ, ◌<◌, List, [], ◌∷◌, length, drop, slice_index_or, map, flat_map, slice_get, Option, Some, None, IfSome, Result, IfErr, OnOk}
 use Rattle.std.specs.List.{AllZip}
 use Rattle.outside.specs.Files.{Files, Holds, IsThere}
 use Rattle.outside.specs.Counts.{Counts}
@@ -13,19 +13,22 @@ use Rattle.part_needs.specs.Needs.{need_of, needs_of}
 use Rattle.part_needs.specs.Fit.{own_choice}
 use Rattle.frame_writer.specs.Frames.{Frame}
 use Rattle.outside.specs.declared.pass.PassFault.{PassFault}
-use Rattle.outside.specs.Pass.{route, HasPassCause}
+use Rattle.outside.specs.Pass.{Writes, WritesPrefix, Appends, AppendsPrefix, route, HasPassCause}
+use Rattle.outside.specs.Seen.{Seen}
+use Rattle.laying.specs.declared.relay.Relay.{Relay}
 use Rattle.laying.specs.Relaid.{frames_in, relaid}
 use Rattle.laying.specs.Fits.{FitsFrom}
 use Rattle.laying.specs.Written.{slot_in, plain_info}
 use Rattle.laying.specs.Surveys.{HasSurvey}
 use Rattle.laying.specs.Passing.{IsFresh}
 use Rattle.sync_survey.specs.Row.{Row}
-use Rattle.sync_survey.specs.Faults.{SurveyFields}
+use Rattle.sync_survey.specs.Faults.{SurveyFields, tells}
 use Rattle.sync_survey.specs.Survey.{IsLaidOut}
 use Rattle.commands.specs.declared.fault.EditFault.{EditFault}
 use Rattle.commands.specs.PassFaults.{of_pass_over}
 use Rattle.joining.specs.declared.stopped.Stopped.{Stopped}
 use Rattle.joining.specs.declared.planned.Work.{Work}
+use Rattle.joining.specs.Join.{joined_file}
 use Rattle.joining.specs.Inputs.{class_in, rows_of, CanBeJoined, told_parts}
 
 -- ---- the plan
@@ -77,6 +80,19 @@ pub record IsSource (output : List ℕ) (files : Files) (name : List ℕ) (s : S
 abbrev pub AreSources : ClassFields → List ℕ → Files → List (List ℕ) → List SurveyFields → Type 0
 AreSources class output files names ss = AllZip (λ name s. IsSource output files name s × (s.class ≡ class)) names ss
 
+-- The inputs are joined: this pass is over the first of them, whose survey is the first, and writes another file that is there.
+pub record IsJoin (first : Relay) (inputs : List (List ℕ)) (surveys : List SurveyFields) (files : Files) : Type 0 where
+  pub names : inputs ≡ first.pass.input.now ∷ drop 1 inputs
+  pub known : surveys ≡ tells first.survey.now ∷ drop 1 surveys
+  pub length : first.pass.length ≡ (tells first.survey.now).length
+  pub apart : first.pass.input.now ≢ first.pass.output.now
+  pub sources : AreSources (tells first.survey.now).class first.pass.output.now files inputs surveys
+  pub target : IsThere files first.pass.output.now
+
+-- the joined file, by what the folder tells
+abbrev pub joined_of : Files → List (List ℕ) → List SurveyFields → List ℕ → List ℕ
+joined_of files names ss _ = joined_file (told_parts files names ss)
+
 -- ---- why it ends early
 
 -- the fault of the pass over an input, counted from 0
@@ -88,3 +104,19 @@ pub record HasJoinCause (inputs : List (List ℕ)) (output : List ℕ) (files : 
   pub within : stopped.place < length inputs
   pub size : ℕ
   pub cause : HasPassCause (route (slice_index_or inputs stopped.place []) output size) files before after stopped.fault
+
+-- ---- what a step answers
+
+-- What is made of the inputs was added to what waits for the output, or only a prefix was appended.
+pub record AddsJoined (first : Relay) (inputs : List (List ℕ)) (made : List ℕ → List ℕ) (before after : List ℕ) (old new : Seen) (result : Result (Unit {0}) Stopped) : Type 0 where
+  pub written : OnOk result (Writes first.pass made before after old.files new.files)
+  pub prefix : IfErr result (λ stopped. WritesPrefix first.pass made before old.files new.files stopped.fault)
+  pub done : OnOk result (new.counts ≡ old.counts)
+  pub cause : IfErr result (HasJoinCause inputs first.pass.output.now old.files old.counts new.counts)
+
+-- What is made of the inputs was appended to the output, or only a prefix.
+pub record AppendsJoined (first : Relay) (inputs : List (List ℕ)) (made : List ℕ → List ℕ) (old new : Seen) (result : Result (Unit {0}) Stopped) : Type 0 where
+  pub written : OnOk result (Appends first.pass.input.now first.pass.output.now made old.files new.files)
+  pub prefix : IfErr result (λ stopped. AppendsPrefix first.pass.input.now first.pass.output.now made old.files new.files stopped.fault)
+  pub done : OnOk result (new.counts ≡ old.counts)
+  pub cause : IfErr result (HasJoinCause inputs first.pass.output.now old.files old.counts new.counts)

@@ -1,7 +1,6 @@
 //! The join command over a folder.
 ghost use Rattle.std.specs.Prelude.{◌≡◌, ◌≤◌, [], ◌∷◌, length, map, string_bytes};
 ghost use Rattle.commands.specs.Command.{clash_from};
-ghost use Rattle.commands.specs.Left.{seen};
 ghost use Rattle.commands.specs.Runs.{IsRunOf};
 ghost use Rattle.joining.specs.Join.{join_command};
 
@@ -52,8 +51,8 @@ pub fn join<D: Folder>(
     requires few { length inputs.now ≤ 64 }
     // The inputs are well-formed, and the output holds the lead-ins and exactly the frames of their streams.
     ensures { IsRunOf (join_command output.now (map string_bytes inputs.now))
-        (seen (D.files folder.old) (D.counts folder.old))
-        (seen (D.files folder.new) (D.counts folder.new)) result }
+        (D.seen folder.old)
+        (D.seen folder.new) result }
 {
     if let Some(place) = clash(output, inputs) {
         return Err(EditFault::EqualNames(place));

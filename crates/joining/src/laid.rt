@@ -1,15 +1,13 @@
 //! The frames of all inputs, read one input after the other and given to one writer.
-ghost use Rattle.std.specs.Prelude.{◌≡◌, ◌≢◌, ◌≤◌, ◌∷◌, length, map, drop, string_bytes, IfErr, OnOk};
+ghost use Rattle.std.specs.Prelude.{◌≤◌, length, map, string_bytes};
 ghost use Rattle.frame_header.specs.Tables.{window_of};
-ghost use Rattle.outside.specs.Files.{IsThere};
-ghost use Rattle.outside.specs.Pass.{Writes, WritesPrefix};
 ghost use Rattle.part_needs.specs.Needs.{needs_of};
 ghost use Rattle.frame_writer.specs.Frames.{frame_bytes, reach_of};
 ghost use Rattle.frame_writer.specs.Writing.{IsNew};
 ghost use Rattle.sync_survey.specs.Faults.{tells};
 ghost use Rattle.laying.specs.Fits.{FitsFrom};
 ghost use Rattle.joining.specs.Inputs.{rows_of};
-ghost use Rattle.joining.specs.Laying.{all_laid, AreSources, HasJoinCause};
+ghost use Rattle.joining.specs.Laying.{all_laid, IsJoin, AddsJoined};
 
 use crate::inputs::{known_at, name_at};
 use crate::stopped::Stopped;
@@ -32,30 +30,17 @@ pub(crate) fn lay_all<'a, D: Folder>(
     placed: &[Placed],
     buffers: &mut Buffers,
 ) -> Result<(), Stopped>
-    requires some { 1 ≤ length inputs.now }
     requires few { length inputs.now ≤ 64 }
-    requires names { map string_bytes inputs.now
-        ≡ first.now.pass.input.now ∷ drop 1 (map string_bytes inputs.now) }
-    requires apart { first.now.pass.input.now ≢ first.now.pass.output.now }
-    requires sources { AreSources (tells first.now.survey.now).class first.now.pass.output.now
-        (D.files folder.old) (map string_bytes inputs.now) (map tells surveys.now) }
-    requires target { IsThere (D.files folder.old) first.now.pass.output.now }
+    requires join { IsJoin first.now (map string_bytes inputs.now) (map tells surveys.now)
+        (D.seen folder.old).files }
     requires new { IsNew (tells first.now.survey.now).class buffers.old.writer }
     requires fits { FitsFrom (window_of (tells first.now.survey.now).class.version)
         (reach_of buffers.old.writer)
         (needs_of (rows_of (map tells surveys.now))) placed.now }
-    ensures written { OnOk result (Writes first.now.pass
-        (λ file. frame_bytes (all_laid (D.files folder.old) (map string_bytes inputs.now)
+    ensures { AddsJoined first.now (map string_bytes inputs.now)
+        (λ file. frame_bytes (all_laid (D.seen folder.old).files (map string_bytes inputs.now)
         (map tells surveys.now) placed.now file))
-        buffers.old.waiting buffers.new.waiting (D.files folder.old) (D.files folder.new)) }
-    ensures prefix { IfErr result (λ stopped. WritesPrefix first.now.pass
-        (λ file. frame_bytes (all_laid (D.files folder.old) (map string_bytes inputs.now)
-        (map tells surveys.now) placed.now file))
-        buffers.old.waiting (D.files folder.old) (D.files folder.new) stopped.fault) }
-    ensures done { OnOk result (D.counts folder.new ≡ D.counts folder.old) }
-    ensures cause { IfErr result (HasJoinCause (map string_bytes inputs.now)
-        first.now.pass.output.now (D.files folder.old)
-        (D.counts folder.old) (D.counts folder.new)) }
+        buffers.old.waiting buffers.new.waiting (D.seen folder.old) (D.seen folder.new) result }
 {
     let mut at = 0;
     for i in 0..inputs.len() {

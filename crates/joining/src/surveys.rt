@@ -1,9 +1,8 @@
 //! The surveys of all inputs.
 ghost use Rattle.std.specs.Prelude.{◌≡◌, ◌≤◌, ◌<◌, ◌+◌, true, None, length, map, string_bytes, is_some, IfOk, IfErr, OnOk};
-ghost use Rattle.outside.specs.Counts.{OnlyReads};
+ghost use Rattle.outside.specs.Seen.{OnlyRead};
 ghost use Rattle.sync_survey.specs.Faults.{tells};
 ghost use Rattle.commands.specs.One.{most_frames, IsEarlyFault};
-ghost use Rattle.commands.specs.Left.{seen};
 ghost use Rattle.joining.specs.Join.{may_follow as may_follow_lem, join_task};
 ghost use Rattle.joining.specs.Inputs.{IsInput, IsPartFault, IsOfJoin, Follows, AreInputs, class_in};
 
@@ -41,15 +40,13 @@ fn survey_part<D: Folder>(
 ) -> Result<Survey, EditFault>
     requires behind { is_some first ≡ true → 0 < place }
     ensures input { OnOk result (IfOk result
-        (λ s. IsInput allowed (D.files folder.old) name.now (tells s))) }
+        (λ s. IsInput allowed (D.seen folder.old).files name.now (tells s))) }
     ensures follows { IfOk result (λ s. Follows first (tells s).class) }
     ensures refused { IfErr result (IsPartFault place first allowed name.now
-        (seen (D.files folder.old) (D.counts folder.old))
-        (seen (D.files folder.new) (D.counts folder.new))) }
+        (D.seen folder.old)
+        (D.seen folder.new)) }
     ensures numbers { IfErr result (IsOfJoin (place + 1)) }
-    ensures done { OnOk result (D.counts folder.new ≡ D.counts folder.old) }
-    ensures files { D.files folder.new ≡ D.files folder.old }
-    ensures counts { OnlyReads (D.counts folder.old) (D.counts folder.new) }
+    ensures reads { OnlyRead result (D.seen folder.old) (D.seen folder.new) }
 {
     let survey = survey_at(alloc, folder, name, place, allowed)?;
     if may_follow(first, survey.class()) {
@@ -79,15 +76,13 @@ pub(crate) fn survey_all<D: Folder>(
     inputs: &[String],
 ) -> Result<Vec<Survey>, EditFault>
     requires few { length inputs.now ≤ 64 }
-    ensures inputs { IfOk result (λ surveys. AreInputs None most_frames (D.files folder.old)
+    ensures inputs { IfOk result (λ surveys. AreInputs None most_frames (D.seen folder.old).files
         (map string_bytes inputs.now) (map tells surveys.items)) }
     ensures refused { IfErr result (IsEarlyFault (join_task (map string_bytes inputs.now))
-        (seen (D.files folder.old) (D.counts folder.old))
-        (seen (D.files folder.new) (D.counts folder.new))) }
+        (D.seen folder.old)
+        (D.seen folder.new)) }
     ensures numbers { IfErr result (IsOfJoin (length inputs.now)) }
-    ensures done { OnOk result (D.counts folder.new ≡ D.counts folder.old) }
-    ensures files { D.files folder.new ≡ D.files folder.old }
-    ensures counts { OnlyReads (D.counts folder.old) (D.counts folder.new) }
+    ensures reads { OnlyRead result (D.seen folder.old) (D.seen folder.new) }
 {
     let mut surveys = Vec::new(alloc);
     let mut left = MOST_FRAMES;

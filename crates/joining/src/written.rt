@@ -1,7 +1,7 @@
 //! The second pass of a join.
-ghost use Rattle.std.specs.Prelude.{◌≡◌, ◌≤◌, ◌++◌, List, ℕ, [], ◌∷◌, length, map, drop, string_bytes, None, IfErr, OnOk};
+ghost use Rattle.std.specs.Prelude.{◌≡◌, ◌≤◌, ◌++◌, List, ℕ, [], ◌∷◌, length, map, string_bytes, None, IfErr, OnOk};
 ghost use Rattle.std.specs.List.{concat};
-ghost use Rattle.outside.specs.Files.{IsThere, Holds, OnlyTouches};
+ghost use Rattle.outside.specs.Files.{Holds, OnlyTouches};
 ghost use Rattle.outside.specs.Counts.{NoneFell};
 ghost use Rattle.outside.specs.Pass.{Appends, AppendsPrefix, route_of, HasPassCause};
 ghost use Rattle.laying.specs.Written.{front_blocks};
@@ -9,10 +9,8 @@ ghost use Rattle.laying.specs.Passing.{IsReady as IsReadyToPass};
 ghost use Rattle.sync_survey.specs.Faults.{tells};
 ghost use Rattle.commands.specs.One.{most_frames, holding, IsPassFault, first_input};
 ghost use Rattle.commands.specs.Command.{clash_from};
-ghost use Rattle.commands.specs.Left.{seen};
-ghost use Rattle.joining.specs.Join.{joined_file};
-ghost use Rattle.joining.specs.Inputs.{IsOfJoin, AreInputs, told_parts};
-ghost use Rattle.joining.specs.Laying.{IsReady, AreSources, HasJoinCause};
+ghost use Rattle.joining.specs.Inputs.{IsOfJoin, AreInputs};
+ghost use Rattle.joining.specs.Laying.{IsReady, IsJoin, AppendsJoined, joined_of};
 
 use crate::inputs::{known_at, name_at};
 use crate::laid::lay_all;
@@ -30,19 +28,19 @@ fn append_front<D: Folder>(
     info: &[u8],
     buffers: &mut Buffers,
 ) -> Result<(), PassFault>
-    requires ready { IsReadyToPass relay.now (D.files folder.old) buffers.old.feed }
+    requires ready { IsReadyToPass relay.now (D.seen folder.old).files buffers.old.feed }
     requires none { buffers.old.waiting ≡ [] }
     ensures written { OnOk result (Appends relay.now.pass.input.now relay.now.pass.output.now
         (λ file. concat (front_blocks file (tells relay.now.survey.now)) ++ info.now)
-        (D.files folder.old) (D.files folder.new)) }
+        (D.seen folder.old).files (D.seen folder.new).files) }
     ensures prefix { IfErr result (AppendsPrefix relay.now.pass.input.now relay.now.pass.output.now
         (λ file. concat (front_blocks file (tells relay.now.survey.now)) ++ info.now)
-        (D.files folder.old) (D.files folder.new)) }
+        (D.seen folder.old).files (D.seen folder.new).files) }
     ensures none { OnOk result (buffers.new.waiting ≡ []) }
     ensures writer { buffers.new.writer ≡ buffers.old.writer }
-    ensures done { OnOk result (D.counts folder.new ≡ D.counts folder.old) }
-    ensures cause { IfErr result (HasPassCause (route_of relay.now.pass) (D.files folder.old)
-        (D.counts folder.old) (D.counts folder.new)) }
+    ensures done { OnOk result ((D.seen folder.new).counts ≡ (D.seen folder.old).counts) }
+    ensures cause { IfErr result (HasPassCause (route_of relay.now.pass) (D.seen folder.old).files
+        (D.seen folder.old).counts (D.seen folder.new).counts) }
 {
     relay.write_front(folder, info, &mut buffers.feed, &mut buffers.waiting)
 }
@@ -60,28 +58,12 @@ fn append_joined<'a, D: Folder>(
     work: &mut Work,
 ) -> Result<(), Stopped>
     requires few { length inputs.now ≤ 64 }
-    requires names { map string_bytes inputs.now
-        ≡ first.now.pass.input.now ∷ drop 1 (map string_bytes inputs.now) }
-    requires known { map tells surveys.now
-        ≡ tells first.now.survey.now ∷ drop 1 (map tells surveys.now) }
-    requires length { first.now.pass.length ≡ (tells first.now.survey.now).length }
+    requires join { IsJoin first.now (map string_bytes inputs.now) (map tells surveys.now)
+        (D.seen folder.old).files }
     requires ready { IsReady (map tells surveys.now) work.old }
-    requires sources { AreSources (tells first.now.survey.now).class first.now.pass.output.now
-        (D.files folder.old) (map string_bytes inputs.now) (map tells surveys.now) }
-    requires target { IsThere (D.files folder.old) first.now.pass.output.now }
-    ensures written { OnOk result (Appends first.now.pass.input.now first.now.pass.output.now
-        (λ _. joined_file (told_parts (D.files folder.old) (map string_bytes inputs.now)
-        (map tells surveys.now)))
-        (D.files folder.old) (D.files folder.new)) }
-    ensures prefix { IfErr result (λ stopped. AppendsPrefix first.now.pass.input.now
-        first.now.pass.output.now
-        (λ _. joined_file (told_parts (D.files folder.old) (map string_bytes inputs.now)
-        (map tells surveys.now)))
-        (D.files folder.old) (D.files folder.new) stopped.fault) }
-    ensures done { OnOk result (D.counts folder.new ≡ D.counts folder.old) }
-    ensures cause { IfErr result (HasJoinCause (map string_bytes inputs.now)
-        first.now.pass.output.now (D.files folder.old)
-        (D.counts folder.old) (D.counts folder.new)) }
+    ensures { AppendsJoined first.now (map string_bytes inputs.now)
+        (joined_of (D.seen folder.old).files (map string_bytes inputs.now) (map tells surveys.now))
+        (D.seen folder.old) (D.seen folder.new) result }
 {
     let Work { planned, buffers } = work;
     let info = planned.info.as_slice();
@@ -116,24 +98,23 @@ pub(crate) fn write_joined<D: Folder>(
 ) -> Result<(), EditFault>
     requires some { 1 ≤ length inputs.now }
     requires few { length inputs.now ≤ 64 }
-    requires inputs { AreInputs None most_frames (D.files folder.old) (map string_bytes inputs.now)
-        (map tells surveys.now) }
+    requires inputs { AreInputs None most_frames (D.seen folder.old).files
+        (map string_bytes inputs.now) (map tells surveys.now) }
     requires apart { clash_from (output.now ∷ []) 0 (map string_bytes inputs.now) ≡ None }
     requires ready { IsReady (map tells surveys.now) work.old }
     ensures written { OnOk result ((bytes : List ℕ)
-        → Holds (D.files folder.old) (first_input (map string_bytes inputs.now)) bytes
-        → D.files folder.new ≡ holding (D.files folder.old) output.now
-        (joined_file (told_parts (D.files folder.old) (map string_bytes inputs.now)
-        (map tells surveys.now)))) }
-    ensures touches { OnlyTouches (output.now ∷ []) (D.files folder.old) (D.files folder.new) }
-    ensures done { OnOk result (D.counts folder.new ≡ D.counts folder.old) }
-    ensures left { IfErr result (IsPassFault (λ _. joined_file (told_parts (D.files folder.old)
-        (map string_bytes inputs.now) (map tells surveys.now)))
-        (map string_bytes inputs.now) output.now
-        (seen (D.files folder.old) (D.counts folder.old))
-        (seen (D.files folder.new) (D.counts folder.new))) }
+        → Holds (D.seen folder.old).files (first_input (map string_bytes inputs.now)) bytes
+        → (D.seen folder.new).files ≡ holding (D.seen folder.old).files output.now
+        (joined_of (D.seen folder.old).files (map string_bytes inputs.now)
+        (map tells surveys.now) bytes)) }
+    ensures touches { OnlyTouches (output.now ∷ []) (D.seen folder.old).files
+        (D.seen folder.new).files }
+    ensures done { OnOk result ((D.seen folder.new).counts ≡ (D.seen folder.old).counts) }
+    ensures left { IfErr result (IsPassFault (joined_of (D.seen folder.old).files
+        (map string_bytes inputs.now) (map tells surveys.now))
+        (map string_bytes inputs.now) output.now (D.seen folder.old) (D.seen folder.new)) }
     ensures numbers { IfErr result (IsOfJoin (length inputs.now)) }
-    ensures counts { NoneFell (D.counts folder.old) (D.counts folder.new) }
+    ensures counts { NoneFell (D.seen folder.old).counts (D.seen folder.new).counts }
 {
     let survey = known_at(surveys, 0);
     let pass = Pass {

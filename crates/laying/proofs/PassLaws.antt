@@ -1,5 +1,6 @@
 -- Steps of a pass, one after the other.
 use Rattle.std.proofs.Common.{◌≡◌, ◌≢◌, ℕ, ◌+◌, ◌≤◌, List, [], ◌∷◌, ◌++◌, length, take, refl, sym, ◌∙◌, ap, subst, arith, append_assoc, append-nil, length-append}
+use Rattle.std.specs.Prelude.{Result, Ok, Err, IsErrAnd, OnOk}
 use Rattle.std.proofs.Math.Seq.{take-append-add}
 use Rattle.outside.specs.Files.{Files, appended, Holds, IsThere}
 use Rattle.outside.specs.Feed.{Fed}
@@ -145,3 +146,8 @@ module _ (input output : List ℕ) where
             found.2,
           );
     }
+
+-- a call that failed didn't succeed
+pub ok_never : {T E : Type 0} (P : Type 0) (Q : E → Type 0) (r : Result T E) → IsErrAnd r Q → OnOk r P
+ok_never P Q (Ok x) is = absurd is
+ok_never P Q (Err e) is = tt

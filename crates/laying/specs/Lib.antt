@@ -3,7 +3,9 @@ pub mod Relaid
 pub mod Written
 pub mod Fits
 pub mod Passing
+pub mod Calls
 pub mod Copying
 pub mod Laws
 pub mod InfoLaws
+pub mod KeptFields
 pub mod Places

@@ -4,6 +4,7 @@ ghost use Rattle.outside.specs.Pass.{Writes, WritesPrefix, route_of, HasPassCaus
 ghost use Rattle.sync_survey.specs.Faults.{tells};
 ghost use Rattle.laying.specs.Written.{goes_in_front as goes_in_front_lem};
 ghost use Rattle.laying.specs.Copying.{chosen_bytes};
+ghost use Rattle.laying.specs.Calls.{AddsMade};
 ghost use Rattle.laying.specs.Passing.{IsReady};
 
 use crate::relay::Relay;
@@ -32,19 +33,12 @@ impl<'a> Relay<'a> {
         feed: &mut Feed,
         waiting: &mut WriteBuffer,
     ) -> Result<(), PassFault>
-        requires ready { IsReady self.now (D.files folder.old) feed.old }
+        requires ready { IsReady self.now (D.seen folder.old).files feed.old }
         requires within { block.now.offset + block.now.block.length
             ≤ (tells self.now.survey.now).length }
-        ensures written { OnOk result (Writes self.now.pass
-            (chosen_bytes in_front (tells self.now.survey.now) (block.now ∷ []))
-            waiting.old waiting.new (D.files folder.old) (D.files folder.new)) }
-        ensures prefix { IfErr result (WritesPrefix self.now.pass
-            (chosen_bytes in_front (tells self.now.survey.now) (block.now ∷ []))
-            waiting.old (D.files folder.old) (D.files folder.new)) }
-        ensures done { OnOk result (D.counts folder.new ≡ D.counts folder.old) }
-        ensures cause { IfErr result (HasPassCause (route_of self.now.pass) (D.files folder.old)
-            (D.counts folder.old) (D.counts folder.new)) }
-        ensures ready { OnOk result (IsReady self.now (D.files folder.new) feed.new) }
+        ensures { AddsMade self.now (chosen_bytes in_front (tells self.now.survey.now)
+            (block.now ∷ [])) waiting.old waiting.new feed.new (D.seen folder.old)
+            (D.seen folder.new) result }
     {
         if self.goes_in_front(block) == in_front {
             let end = block.offset + block.block.length;
@@ -66,17 +60,10 @@ impl<'a> Relay<'a> {
         feed: &mut Feed,
         waiting: &mut WriteBuffer,
     ) -> Result<(), PassFault>
-        requires ready { IsReady self.now (D.files folder.old) feed.old }
-        ensures written { OnOk result (Writes self.now.pass
-            (chosen_bytes in_front (tells self.now.survey.now) (tells self.now.survey.now).blocks)
-            waiting.old waiting.new (D.files folder.old) (D.files folder.new)) }
-        ensures prefix { IfErr result (WritesPrefix self.now.pass
-            (chosen_bytes in_front (tells self.now.survey.now) (tells self.now.survey.now).blocks)
-            waiting.old (D.files folder.old) (D.files folder.new)) }
-        ensures done { OnOk result (D.counts folder.new ≡ D.counts folder.old) }
-        ensures cause { IfErr result (HasPassCause (route_of self.now.pass) (D.files folder.old)
-            (D.counts folder.old) (D.counts folder.new)) }
-        ensures ready { OnOk result (IsReady self.now (D.files folder.new) feed.new) }
+        requires ready { IsReady self.now (D.seen folder.old).files feed.old }
+        ensures { AddsMade self.now (chosen_bytes in_front (tells self.now.survey.now)
+            (tells self.now.survey.now).blocks) waiting.old waiting.new feed.new (D.seen folder.old)
+            (D.seen folder.new) result }
     {
         for block in self.survey.blocks() {
             self.copy_chosen(folder, in_front, block, feed, waiting)?;

@@ -6,6 +6,7 @@ ghost use Rattle.std.specs.List.{concat};
 ghost use Rattle.outside.specs.Pass.{Writes, WritesPrefix, Appends, AppendsPrefix, route_of, HasPassCause};
 ghost use Rattle.sync_survey.specs.Faults.{tells};
 ghost use Rattle.laying.specs.Written.{front_blocks};
+ghost use Rattle.laying.specs.Calls.{HandsOn, AddsMade, AppendsMade};
 ghost use Rattle.laying.specs.Passing.{IsReady, IsSection, section_front, section_file};
 
 use crate::buffers::Buffers;
@@ -24,15 +25,10 @@ impl<'a> Relay<'a> {
         bytes: &[u8],
         waiting: &mut WriteBuffer,
     ) -> Result<(), PassFault>
-        requires { IsThere (D.files folder.old) self.now.pass.output.now }
-        ensures passed { OnOk result (PassedOn self.now.pass.output.now (waiting.old ++ bytes.now)
-            waiting.new (D.files folder.old) (D.files folder.new)) }
-        ensures prefix { OnErr result (AppendedPrefix self.now.pass.output.now
-            (waiting.old ++ bytes.now) (D.files folder.old) (D.files folder.new)) }
+        requires { IsThere (D.seen folder.old).files self.now.pass.output.now }
+        ensures hands { HandsOn self.now (waiting.old ++ bytes.now) waiting.new (D.seen folder.old)
+            (D.seen folder.new) result }
         ensures none { OnOk result (waiting.new ≡ []) }
-        ensures done { OnOk result (D.counts folder.new ≡ D.counts folder.old) }
-        ensures cause { IfErr result (HasPassCause (route_of self.now.pass) (D.files folder.old)
-            (D.counts folder.old) (D.counts folder.new)) }
     {
         self.pass.push(folder, bytes, waiting)?;
         self.pass.finish(folder, waiting)
@@ -50,18 +46,11 @@ impl<'a> Relay<'a> {
         feed: &mut Feed,
         waiting: &mut WriteBuffer,
     ) -> Result<(), PassFault>
-        requires ready { IsReady self.now (D.files folder.old) feed.old }
-        ensures written { OnOk result (Writes self.now.pass
-            (λ file. concat (front_blocks file (tells self.now.survey.now)) ++ info.now)
-            waiting.old waiting.new (D.files folder.old) (D.files folder.new)) }
-        ensures prefix { IfErr result (WritesPrefix self.now.pass
-            (λ file. concat (front_blocks file (tells self.now.survey.now)) ++ info.now)
-            waiting.old (D.files folder.old) (D.files folder.new)) }
+        requires ready { IsReady self.now (D.seen folder.old).files feed.old }
+        ensures adds { AddsMade self.now (λ file. concat
+            (front_blocks file (tells self.now.survey.now)) ++ info.now) waiting.old waiting.new
+            feed.new (D.seen folder.old) (D.seen folder.new) result }
         ensures none { OnOk result (waiting.new ≡ []) }
-        ensures done { OnOk result (D.counts folder.new ≡ D.counts folder.old) }
-        ensures cause { IfErr result (HasPassCause (route_of self.now.pass) (D.files folder.old)
-            (D.counts folder.old) (D.counts folder.new)) }
-        ensures ready { OnOk result (IsReady self.now (D.files folder.new) feed.new) }
     {
         self.copy_blocks(folder, true, feed, waiting)?;
         self.send(folder, info, waiting)
@@ -77,18 +66,11 @@ impl<'a> Relay<'a> {
         section: &Section<'_>,
         buffers: &mut Buffers,
     ) -> Result<(), PassFault>
-        requires ready { IsReady self.now (D.files folder.old) buffers.old.feed }
+        requires ready { IsReady self.now (D.seen folder.old).files buffers.old.feed }
         requires section { IsSection (tells self.now.survey.now) section.now }
-        ensures written { OnOk result (Writes self.now.pass
-            (section_front (tells self.now.survey.now) section.now)
-            buffers.old.waiting buffers.new.waiting (D.files folder.old) (D.files folder.new)) }
-        ensures prefix { IfErr result (WritesPrefix self.now.pass
-            (section_front (tells self.now.survey.now) section.now)
-            buffers.old.waiting (D.files folder.old) (D.files folder.new)) }
-        ensures done { OnOk result (D.counts folder.new ≡ D.counts folder.old) }
-        ensures cause { IfErr result (HasPassCause (route_of self.now.pass) (D.files folder.old)
-            (D.counts folder.old) (D.counts folder.new)) }
-        ensures ready { OnOk result (IsReady self.now (D.files folder.new) buffers.new.feed) }
+        ensures { AddsMade self.now (section_front (tells self.now.survey.now) section.now)
+            buffers.old.waiting buffers.new.waiting buffers.new.feed (D.seen folder.old)
+            (D.seen folder.new) result }
     {
         self.write_front(
             folder,
@@ -115,20 +97,11 @@ impl<'a> Relay<'a> {
         section: &Section<'_>,
         buffers: &mut Buffers,
     ) -> Result<(), PassFault>
-        requires ready { IsReady self.now (D.files folder.old) buffers.old.feed }
+        requires ready { IsReady self.now (D.seen folder.old).files buffers.old.feed }
         requires section { IsSection (tells self.now.survey.now) section.now }
         requires none { buffers.old.waiting ≡ [] }
-        ensures written { OnOk result (Appends self.now.pass.input.now self.now.pass.output.now
-            (section_file (tells self.now.survey.now) section.now)
-            (D.files folder.old) (D.files folder.new)) }
-        ensures prefix { IfErr result (AppendsPrefix self.now.pass.input.now
-            self.now.pass.output.now (section_file (tells self.now.survey.now) section.now)
-            (D.files folder.old) (D.files folder.new)) }
-        ensures none { OnOk result (buffers.new.waiting ≡ []) }
-        ensures done { OnOk result (D.counts folder.new ≡ D.counts folder.old) }
-        ensures cause { IfErr result (HasPassCause (route_of self.now.pass) (D.files folder.old)
-            (D.counts folder.old) (D.counts folder.new)) }
-        ensures ready { OnOk result (IsReady self.now (D.files folder.new) buffers.new.feed) }
+        ensures { AppendsMade self.now (section_file (tells self.now.survey.now) section.now)
+            buffers.new (D.seen folder.old) (D.seen folder.new) result }
     {
         self.write_frames(folder, section, buffers)?;
         self.copy_blocks(folder, false, &mut buffers.feed, &mut buffers.waiting)?;

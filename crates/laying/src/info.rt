@@ -1,8 +1,9 @@
 //! The fields of the Info frame before the frames of a plan.
 ghost use Rattle.std.specs.Prelude.{◌≡◌, ◌≤◌, List, ℕ, length, drop, map, replicate, None, Some, Ok, IfOk, IfErr, OnOk, IsErrOf};
 ghost use Rattle.frame_header.specs.Limits.{most_placed};
-ghost use Rattle.outside.specs.Files.{Holds, IsThere};
+ghost use Rattle.outside.specs.Files.{IsThere};
 ghost use Rattle.outside.specs.Counts.{OnlyReads};
+ghost use Rattle.outside.specs.Seen.{OnFile};
 ghost use Rattle.outside.specs.Pass.{HasInputCause};
 ghost use Rattle.info_header.specs.Info.{info_in};
 ghost use Rattle.frame_writer.specs.Frames.{Frame};
@@ -11,6 +12,7 @@ ghost use Rattle.sync_survey.specs.Survey.{IsLaidOut};
 ghost use Rattle.slot_plan.specs.declared.needs.Placed.{Placed as PlacedFields};
 ghost use Rattle.laid_files.specs.LaidFiles.{HasInfoSizes};
 ghost use Rattle.laying.specs.Written.{slot_in, info_for, head_info};
+ghost use Rattle.laying.specs.KeptFields.{KeptAnswer};
 ghost use Rattle.laying.specs.Surveys.{HasSurvey};
 
 use frame_header::Class;
@@ -52,14 +54,14 @@ impl Kept {
     }
 }
 
-/// The seek table has 100 entries.
+/// The seek table has 100 entries. It runs nothing: the type says so, and its contract hands that to a proof.
 fn has_all(table: &[u8; 100])
     ensures { length table.now ≡ 100 }
 {
     let _ = table;
 }
 
-/// The sizes of fields are those of their types.
+/// The sizes of fields are those of their types. As `has_all`, it stands for its contract.
 fn are_sized(info: &Info)
     ensures { HasInfoSizes info.now }
 {
@@ -100,22 +102,12 @@ pub fn kept_fields<D: Folder>(
     name: &str,
     survey: &Survey,
 ) -> Result<Kept, PassFault>
-    requires there { IsThere (D.files folder.old) name.now }
+    requires there { IsThere (D.seen folder.old).files name.now }
     requires laid { IsLaidOut (tells survey.now) }
-    requires exact { (file : List ℕ) → Holds (D.files folder.old) name.now file
-        → HasSurvey file (tells survey.now) }
-    ensures kept { IfOk result (λ kept. (file : List ℕ) → Holds (D.files folder.old) name.now file
-        → (kept.quality ≡ (head_info file (tells survey.now).head).quality)
-        × (kept.extension ≡ (head_info file (tells survey.now).head).extension)) }
-    // Whether the files are told or not.
-    ensures none { (tells survey.now).head ≡ None
-        → result ≡ Ok (record { quality = None; extension = replicate 36 0 }) }
-    ensures done { OnOk result (D.counts folder.new ≡ D.counts folder.old) }
-    ensures cause { IfErr result (HasInputCause name.now (tells survey.now).length
-        (D.files folder.old) (D.counts folder.old) (D.counts folder.new)) }
-    ensures reads { IsErrOf result PassFault.Write → ⊥ }
-    ensures files { D.files folder.new ≡ D.files folder.old }
-    ensures counts { OnlyReads (D.counts folder.old) (D.counts folder.new) }
+    requires exact { OnFile (D.seen folder.old) name.now
+        (λ file. HasSurvey file (tells survey.now)) }
+    ensures { KeptAnswer name.now (tells survey.now) (D.seen folder.old)
+        (D.seen folder.new) result }
 {
     let Some(head) = survey.head() else {
         return Ok(Kept::none());

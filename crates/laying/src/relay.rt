@@ -11,11 +11,15 @@ ghost use Rattle.frame_writer.specs.Writing.{writing, IsNew, WritesOn, WritesPar
 ghost use Rattle.sync_survey.specs.Faults.{tells};
 ghost use Rattle.sync_survey.specs.MainData.{own_area, place, main_bytes, side_of as side_of_lem};
 ghost use Rattle.sync_survey.specs.Survey.{AreWellPlaced};
-ghost use Rattle.reservoir.specs.Window.{IsWindowOver};
+ghost use Rattle.reservoir.specs.Window.{IsWindowOver, window_size};
 ghost use Rattle.part_needs.specs.Needs.{need_of};
 ghost use Rattle.laying.specs.Relaid.{payload_of, lead_in_before};
 ghost use Rattle.laying.specs.Fits.{bytes_at, area_at};
+ghost use Rattle.laying.specs.Calls.{Stands, StandsBefore, IsNext, Follows, ReadsOn, GivesArea, CanCut, TakesFrame, Gives, HandsOn, AddsMade};
 ghost use Rattle.laying.specs.Passing.{Reaches, IsReady, IsAreaOf, KeepsReach, IsOver, HoldsLast, HoldsWith, IsOverLast, moved_frame, placed_frame, planned_frames, own_reach, reach_at, reach_behind_all, FitsBehind, GivesFrames, GivesPart, IsSection, section_frames};
+ghost use Rattle.frame_header.specs.Limits.{most_back, most_frame_length, most_front};
+ghost use Rattle.outside.specs.Feed.{most_given};
+ghost use Rattle.frame_writer.specs.Laid.{most_waiting};
 
 use crate::buffers::Buffers;
 use crate::section::Section;
@@ -45,6 +49,13 @@ struct Reading {
     count: usize,
 }
 
+/// What the survey says of the next frame: its class, which is that of all, and its row.
+#[derive(Clone, Copy)]
+struct Known<'r> {
+    class: Class,
+    row: &'r Row,
+}
+
 /// Where a feed gives the bytes for a frame: `before` bytes of the area before it, and its own area from
 /// byte `skip` on, which is in the input at the offset `at`.
 #[derive(Clone, Copy)]
@@ -54,10 +65,19 @@ struct Span {
     at: u64,
 }
 
+/// The bytes in which the main data of a frame are: its own area, the area before it if the window doesn't have
+/// it, and the window before these.
+#[derive(Clone, Copy)]
+struct Held<'w> {
+    window: &'w Window,
+    before: &'w [u8],
+    own: &'w [u8],
+}
+
 /// How many bytes of a frame are before its area: header, check word and side information.
 fn overhead(header: &Header) -> u32
     ensures overhead { result ≡ overhead_of (class_of header.now) header.now.protected }
-    ensures most { result ≤ 38 }
+    ensures most { result ≤ most_front }
 {
     overhead_in(header.class(), header.protected)
 }
@@ -67,7 +87,7 @@ fn overhead(header: &Header) -> u32
 #[tactic(auto, unfolding(frame_header::specs::Tables::overhead_of))]
 fn overhead_in(class: Class, protected: bool) -> u32
     ensures overhead { result ≡ overhead_of class protected }
-    ensures most { result ≤ 38 }
+    ensures most { result ≤ most_front }
 {
     let word = if protected { 2 } else { 0 };
     4 + word + class.side_size()
@@ -87,7 +107,7 @@ fn area_place(class: Class, row: &Row) -> AreaPlace
     ensures at { result.at
         ≡ row.now.offset + overhead_of (class_of row.now.header) row.now.header.protected }
     ensures size { result.size ≡ own_area row.now.header }
-    ensures most { result.size ≤ 1441 }
+    ensures most { result.size ≤ most_frame_length }
     ensures whole { result.at + result.size
         ≡ row.now.offset + length_of (class_of row.now.header) row.now.header.slot }
 {
@@ -131,24 +151,10 @@ impl<'a> Relay<'a> {
         writer: &mut FrameQueue,
         unsent: &mut WriteBuffer,
     ) -> Result<(), PassFault>
-        requires there { IsThere (D.files folder.old) self.now.pass.output.now }
-        requires class { class_of frame.now.kept.header ≡ writer.old.class }
-        requires fits { SideFits writer.old.class frame.now.kept.side }
-        requires begin { frame.now.kept.side.main_data_begin ≤ reach_of writer.old }
-        requires within { EndsInArea frame.now }
-        requires few { length frame.now.payload ≤ 2048 }
-        requires unsettled { IsNextSettled writer.old → ⊥ }
-        ensures written { OnOk result (WritesOn self.now.pass.output.now frame.now
-            (writing writer.old unsent.old) (writing writer.new unsent.new)
-            (D.files folder.old) (D.files folder.new)) }
-        ensures part { OnErr result (WritesPart self.now.pass.output.now frame.now
-            (writing writer.old unsent.old) writer.new (D.files folder.old) (D.files folder.new)) }
-        ensures reach { reach_of writer.new ≡ reach_with writer.old.class frame.now }
-        ensures class { OnOk result (writer.new.class ≡ writer.old.class) }
-        ensures unsettled { OnOk result (IsNextSettled writer.new → ⊥) }
-        ensures done { OnOk result (D.counts folder.new ≡ D.counts folder.old) }
-        ensures cause { IfErr result (HasPassCause (route_of self.now.pass) (D.files folder.old)
-            (D.counts folder.old) (D.counts folder.new)) }
+        requires there { IsThere (D.seen folder.old).files self.now.pass.output.now }
+        requires next { Follows writer.old frame.now }
+        ensures { TakesFrame self.now frame.now (writing writer.old unsent.old)
+            (writing writer.new unsent.new) (D.seen folder.old) (D.seen folder.new) result }
     {
         match writer.frame(frame, folder, self.pass.output, unsent) {
             Ok(()) => Ok(()),
@@ -169,24 +175,13 @@ impl<'a> Relay<'a> {
         writer: &mut FrameQueue,
         unsent: &mut WriteBuffer,
     ) -> Result<(), PassFault>
-        requires there { IsThere (D.files folder.old) self.now.pass.output.now }
+        requires there { IsThere (D.seen folder.old).files self.now.pass.output.now }
         requires class { class_of row.now.header ≡ writer.old.class }
         requires begin { place.now.begin ≤ reach_of writer.old }
         requires unsettled { IsNextSettled writer.old → ⊥ }
-        ensures written { OnOk result (WritesOn self.now.pass.output.now
-            (lead_in_before place.now row.now.header)
-            (writing writer.old unsent.old) (writing writer.new unsent.new)
-            (D.files folder.old) (D.files folder.new)) }
-        ensures part { OnErr result (WritesPart self.now.pass.output.now
-            (lead_in_before place.now row.now.header)
-            (writing writer.old unsent.old) writer.new (D.files folder.old) (D.files folder.new)) }
-        ensures reach { reach_of writer.new ≡ min (window_of writer.old.class.version)
-            (place.now.begin + area_of (class_of row.now.header) place.now.slot false) }
-        ensures class { OnOk result (writer.new.class ≡ writer.old.class) }
-        ensures unsettled { OnOk result (IsNextSettled writer.new → ⊥) }
-        ensures done { OnOk result (D.counts folder.new ≡ D.counts folder.old) }
-        ensures cause { IfErr result (HasPassCause (route_of self.now.pass) (D.files folder.old)
-            (D.counts folder.old) (D.counts folder.new)) }
+        ensures { TakesFrame self.now (lead_in_before place.now row.now.header)
+            (writing writer.old unsent.old) (writing writer.new unsent.new) (D.seen folder.old)
+            (D.seen folder.new) result }
     {
         let header = row.header().unprotected(place.slot);
         let side = Side::empty().with_begin(place.begin);
@@ -207,16 +202,11 @@ impl<'a> Relay<'a> {
         row: &Row,
         feed: &mut Feed,
     ) -> Result<(), PassFault>
-        requires ready { IsReady self.now (D.files folder.old) feed.old }
+        requires ready { IsReady self.now (D.seen folder.old).files feed.old }
         requires found { slice_get (tells self.now.survey.now).frames i ≡ Some row.now }
         ensures area { OnOk result (IsAreaOf feed.new.given self.now.pass.input.now
-            (D.files folder.new) row.now) }
-        ensures done { OnOk result (D.counts folder.new ≡ D.counts folder.old) }
-        ensures cause { IfErr result (HasPassCause (route_of self.now.pass) (D.files folder.old)
-            (D.counts folder.old) (D.counts folder.new)) }
-        ensures read { IfErr result IsOfRead }
-        ensures files { D.files folder.new ≡ D.files folder.old }
-        ensures ready { IsReady self.now (D.files folder.new) feed.new }
+            (D.seen folder.new).files row.now) }
+        ensures reads { ReadsOn self.now feed.new (D.seen folder.old) (D.seen folder.new) result }
     {
         let own = area_place(self.survey.class(), row);
         self.pass.fill(folder, own.at, own.size, feed)
@@ -232,16 +222,11 @@ impl<'a> Relay<'a> {
         feed: &mut Feed,
         window: &mut Window,
     ) -> Result<(), PassFault>
-        requires ready { IsReady self.now (D.files folder.old) feed.old }
+        requires ready { IsReady self.now (D.seen folder.old).files feed.old }
         requires none { IsWindowOver window.old [] }
-        ensures over { OnOk result (IsOver window.new self.now.pass.input.now (D.files folder.new)
-            (tells self.now.survey.now) 0) }
-        ensures done { OnOk result (D.counts folder.new ≡ D.counts folder.old) }
-        ensures cause { IfErr result (HasPassCause (route_of self.now.pass) (D.files folder.old)
-            (D.counts folder.old) (D.counts folder.new)) }
-        ensures read { IfErr result IsOfRead }
-        ensures files { D.files folder.new ≡ D.files folder.old }
-        ensures ready { IsReady self.now (D.files folder.new) feed.new }
+        ensures over { OnOk result (IsOver window.new self.now.pass.input.now
+            (D.seen folder.new).files (tells self.now.survey.now) 0) }
+        ensures reads { ReadsOn self.now feed.new (D.seen folder.old) (D.seen folder.new) result }
     {
         let Some(head) = self.survey.head() else {
             return Ok(());
@@ -259,7 +244,7 @@ impl<'a> Relay<'a> {
         requires within { i ≤ length (tells self.now.survey.now).frames }
         ensures before { result ≤ i }
         ensures held { (result ≡ 0) ⊎ (place (tells self.now.survey.now).head
-            (tells self.now.survey.now).frames result + 2048
+            (tells self.now.survey.now).frames result + window_size
             ≤ place (tells self.now.survey.now).head (tells self.now.survey.now).frames i) }
     {
         let rows = self.survey.frames();
@@ -284,16 +269,11 @@ impl<'a> Relay<'a> {
         feed: &mut Feed,
         window: &mut Window,
     ) -> Result<(), PassFault>
-        requires ready { IsReady self.now (D.files folder.old) feed.old }
+        requires ready { IsReady self.now (D.seen folder.old).files feed.old }
         requires none { IsWindowOver window.old [] }
         ensures over { OnOk result (IsOverLast window.new self.now.pass.input.now
-            (D.files folder.new) (tells self.now.survey.now) first first) }
-        ensures done { OnOk result (D.counts folder.new ≡ D.counts folder.old) }
-        ensures cause { IfErr result (HasPassCause (route_of self.now.pass) (D.files folder.old)
-            (D.counts folder.old) (D.counts folder.new)) }
-        ensures read { IfErr result IsOfRead }
-        ensures files { D.files folder.new ≡ D.files folder.old }
-        ensures ready { IsReady self.now (D.files folder.new) feed.new }
+            (D.seen folder.new).files (tells self.now.survey.now) first first) }
+        ensures reads { ReadsOn self.now feed.new (D.seen folder.old) (D.seen folder.new) result }
     {
         if first == 0 {
             self.read_head(folder, feed, window)
@@ -314,16 +294,11 @@ impl<'a> Relay<'a> {
         feed: &mut Feed,
         window: &mut Window,
     ) -> Result<(), PassFault>
-        requires ready { IsReady self.now (D.files folder.old) feed.old }
+        requires ready { IsReady self.now (D.seen folder.old).files feed.old }
         requires within { i ≤ length (tells self.now.survey.now).frames }
-        ensures over { OnOk result (IsOver window.new self.now.pass.input.now (D.files folder.new)
-            (tells self.now.survey.now) i) }
-        ensures done { OnOk result (D.counts folder.new ≡ D.counts folder.old) }
-        ensures cause { IfErr result (HasPassCause (route_of self.now.pass) (D.files folder.old)
-            (D.counts folder.old) (D.counts folder.new)) }
-        ensures read { IfErr result IsOfRead }
-        ensures files { D.files folder.new ≡ D.files folder.old }
-        ensures ready { IsReady self.now (D.files folder.new) feed.new }
+        ensures over { OnOk result (IsOver window.new self.now.pass.input.now
+            (D.seen folder.new).files (tells self.now.survey.now) i) }
+        ensures reads { ReadsOn self.now feed.new (D.seen folder.old) (D.seen folder.new) result }
     {
         window.clear();
         let first = self.first_held(i);
@@ -350,18 +325,13 @@ impl<'a> Relay<'a> {
         feed: &mut Feed,
         window: &mut Window,
     ) -> Result<(), PassFault>
-        requires ready { IsReady self.now (D.files folder.old) feed.old }
-        requires over { HoldsLast window.old self.now.pass.input.now (D.files folder.old)
+        requires ready { IsReady self.now (D.seen folder.old).files feed.old }
+        requires over { HoldsLast window.old self.now.pass.input.now (D.seen folder.old).files
             (tells self.now.survey.now) reading.now.at reading.now.count reading.now.next }
         ensures over { OnOk result ((at : ℕ) → at ≤ (tells self.now.survey.now).length
-            → HoldsLast window.new self.now.pass.input.now (D.files folder.new)
+            → HoldsLast window.new self.now.pass.input.now (D.seen folder.new).files
             (tells self.now.survey.now) at 0 reading.now.next) }
-        ensures done { OnOk result (D.counts folder.new ≡ D.counts folder.old) }
-        ensures cause { IfErr result (HasPassCause (route_of self.now.pass) (D.files folder.old)
-            (D.counts folder.old) (D.counts folder.new)) }
-        ensures read { IfErr result IsOfRead }
-        ensures files { D.files folder.new ≡ D.files folder.old }
-        ensures ready { IsReady self.now (D.files folder.new) feed.new }
+        ensures reads { ReadsOn self.now feed.new (D.seen folder.old) (D.seen folder.new) result }
     {
         self.pass.fill(folder, reading.at, reading.count, feed)?;
         window.push_area(feed.bytes());
@@ -369,8 +339,7 @@ impl<'a> Relay<'a> {
     }
 
     /// The offset of the first byte that a frame needs, and how many bytes of the area before it: that area
-    /// is read into the window first, if the feed can't give it together with the frame's own, which has
-    /// `area` bytes and is at the offset `at`.
+    /// is read into the window first, if the feed can't give it together with the frame's `own`.
     ///
     /// # Errors
     /// `Read` or `Shrunk` where the input can't be read.
@@ -379,32 +348,28 @@ impl<'a> Relay<'a> {
         &self,
         folder: &mut D,
         reading: &Reading,
-        at: u64,
-        area: usize,
+        own: AreaPlace,
         feed: &mut Feed,
         window: &mut Window,
     ) -> Result<(u64, usize), PassFault>
-        requires ready { IsReady self.now (D.files folder.old) feed.old }
-        requires over { HoldsLast window.old self.now.pass.input.now (D.files folder.old)
+        requires ready { IsReady self.now (D.seen folder.old).files feed.old }
+        requires over { HoldsLast window.old self.now.pass.input.now (D.seen folder.old).files
             (tells self.now.survey.now) reading.now.at reading.now.count reading.now.next }
-        requires within { at + area ≤ (tells self.now.survey.now).length }
-        requires few { area ≤ 1441 }
+        requires within { own.at + own.size ≤ (tells self.now.survey.now).length }
+        requires few { own.size ≤ most_frame_length }
         ensures over { IfOk result (λ first. HoldsLast window.new self.now.pass.input.now
-            (D.files folder.new) (tells self.now.survey.now) first.0 first.1 reading.now.next) }
-        ensures near { IfOk result (λ first. (first.0 + first.1 ≤ at) × (at + area ≤ first.0 + 4096)) }
-        ensures done { OnOk result (D.counts folder.new ≡ D.counts folder.old) }
-        ensures cause { IfErr result (HasPassCause (route_of self.now.pass) (D.files folder.old)
-            (D.counts folder.old) (D.counts folder.new)) }
-        ensures read { IfErr result IsOfRead }
-        ensures files { D.files folder.new ≡ D.files folder.old }
-        ensures ready { IsReady self.now (D.files folder.new) feed.new }
+            (D.seen folder.new).files (tells self.now.survey.now) first.0 first.1
+            reading.now.next) }
+        ensures near { IfOk result (λ first. (first.0 + first.1 ≤ own.at)
+            × (own.at + own.size ≤ first.0 + most_given)) }
+        ensures reads { ReadsOn self.now feed.new (D.seen folder.old) (D.seen folder.new) result }
     {
         let end = reading.at + reading.count as u64;
-        if reading.count > 0 && end <= at && at + area as u64 <= reading.at + 4096 {
+        if reading.count > 0 && end <= own.at && own.at + own.size as u64 <= reading.at + 4096 {
             return Ok((reading.at, reading.count));
         }
         self.push_last(folder, reading, feed, window)?;
-        Ok((at, 0))
+        Ok((own.at, 0))
     }
 
     /// Gives by the feed the area of a frame, and with it that of the frame before it if this isn't in the
@@ -416,40 +381,28 @@ impl<'a> Relay<'a> {
     fn fill_frame<D: Folder>(
         &self,
         folder: &mut D,
-        class: Class,
         reading: &Reading,
-        row: &Row,
+        known: &Known<'_>,
         feed: &mut Feed,
         window: &mut Window,
     ) -> Result<Span, PassFault>
-        requires ready { IsReady self.now (D.files folder.old) feed.old }
-        requires known { class ≡ (tells self.now.survey.now).class }
-        requires found { slice_get (tells self.now.survey.now).frames reading.now.next ≡ Some row.now }
-        requires over { HoldsLast window.old self.now.pass.input.now (D.files folder.old)
+        requires ready { IsReady self.now (D.seen folder.old).files feed.old }
+        requires next { IsNext self.now reading.now known.now }
+        requires over { HoldsLast window.old self.now.pass.input.now (D.seen folder.old).files
             (tells self.now.survey.now) reading.now.at reading.now.count reading.now.next }
-        ensures over { IfOk result (λ span. HoldsWith window.new (take span.before feed.new.given)
-            self.now.pass.input.now (D.files folder.new) (tells self.now.survey.now)
-            reading.now.next) }
-        ensures area { IfOk result (λ span. IsAreaOf (drop span.skip feed.new.given)
-            self.now.pass.input.now (D.files folder.new) row.now) }
-        ensures within { IfOk result (λ span. (span.before ≤ length feed.new.given)
-            × (span.skip ≤ length feed.new.given)) }
-        ensures at { IfOk result (λ span. span.at
-            ≡ row.now.offset + overhead_of (class_of row.now.header) row.now.header.protected) }
-        ensures ends { IfOk result (λ span. span.at + length (drop span.skip feed.new.given)
-            ≤ (tells self.now.survey.now).length) }
-        ensures done { OnOk result (D.counts folder.new ≡ D.counts folder.old) }
-        ensures cause { IfErr result (HasPassCause (route_of self.now.pass) (D.files folder.old)
-            (D.counts folder.old) (D.counts folder.new)) }
-        ensures read { IfErr result IsOfRead }
-        ensures files { D.files folder.new ≡ D.files folder.old }
-        ensures ready { IsReady self.now (D.files folder.new) feed.new }
+        ensures given { IfOk result (GivesArea self.now reading.now known.now.row.now
+            (D.seen folder.new).files window.new feed.new.given) }
+        ensures reads { ReadsOn self.now feed.new (D.seen folder.old) (D.seen folder.new) result }
     {
-        let AreaPlace { at, size: area } = area_place(class, row);
-        let (first, before) = self.first_byte(folder, reading, at, area, feed, window)?;
-        let skip = (at - first) as usize;
-        self.pass.fill(folder, first, skip + area, feed)?;
-        Ok(Span { before, skip, at })
+        let own = area_place(known.class, known.row);
+        let (first, before) = self.first_byte(folder, reading, own, feed, window)?;
+        let skip = (own.at - first) as usize;
+        self.pass.fill(folder, first, skip + own.size, feed)?;
+        Ok(Span {
+            before,
+            skip,
+            at: own.at,
+        })
     }
 
     /// Reads the next frame and gives it to the writer.
@@ -459,68 +412,46 @@ impl<'a> Relay<'a> {
     fn frame<D: Folder>(
         &self,
         folder: &mut D,
-        class: Class,
         reading: &Reading,
-        row: &Row,
+        known: &Known<'_>,
         place: &Placed,
         buffers: &mut Buffers,
     ) -> Result<Reading, PassFault>
-        requires ready { IsReady self.now (D.files folder.old) buffers.old.feed }
-        requires known { class ≡ (tells self.now.survey.now).class }
+        requires stands { StandsBefore self.now (D.seen folder.old).files buffers.old reading.now }
         requires few { reading.now.next < 2 ^ 62 }
-        requires found { slice_get (tells self.now.survey.now).frames reading.now.next ≡ Some row.now }
-        requires over { HoldsLast buffers.old.window self.now.pass.input.now (D.files folder.old)
-            (tells self.now.survey.now) reading.now.at reading.now.count reading.now.next }
-        requires class { buffers.old.writer.class ≡ (tells self.now.survey.now).class }
+        requires next { IsNext self.now reading.now known.now }
         requires begin { place.now.begin ≤ reach_of buffers.old.writer }
-        requires within { (need_of row.now).bytes ≤
-            place.now.begin
-            + area_of (class_of row.now.header) place.now.slot row.now.header.protected }
-        requires unsettled { IsNextSettled buffers.old.writer → ⊥ }
+        requires within { (need_of known.now.row.now).bytes ≤ place.now.begin
+            + area_of (class_of known.now.row.now.header) place.now.slot
+            known.now.row.now.header.protected }
         ensures next { IfOk result (λ behind. behind.next ≡ reading.now.next + 1) }
-        ensures lays { OnOk result (GivesFrames self.now
-            (moved_frame self.now reading.now.next row.now place.now)
-            buffers.old buffers.new (D.files folder.old) (D.files folder.new)) }
-        ensures part { IfErr result (GivesPart self.now
-            (moved_frame self.now reading.now.next row.now place.now)
-            (own_reach self.now row.now place.now)
-            buffers.old (D.files folder.old) (D.files folder.new)) }
-        ensures reach { OnOk result (reach_of buffers.new.writer
-            ≡ own_reach self.now row.now place.now) }
-        ensures class { OnOk result (buffers.new.writer.class ≡ (tells self.now.survey.now).class) }
-        ensures unsettled { OnOk result (IsNextSettled buffers.new.writer → ⊥) }
-        ensures over { IfOk result (λ behind. HoldsLast buffers.new.window self.now.pass.input.now
-            (D.files folder.new) (tells self.now.survey.now) behind.at behind.count behind.next) }
-        ensures ready { OnOk result (IsReady self.now (D.files folder.new) buffers.new.feed) }
-        ensures done { OnOk result (D.counts folder.new ≡ D.counts folder.old) }
-        ensures cause { IfErr result (HasPassCause (route_of self.now.pass) (D.files folder.old)
-            (D.counts folder.old) (D.counts folder.new)) }
+        ensures gives { Gives self.now (moved_frame self.now reading.now.next known.now.row.now
+            place.now) (own_reach self.now known.now.row.now place.now) buffers.old buffers.new
+            (D.seen folder.old) (D.seen folder.new) result }
+        ensures stands { IfOk result (StandsBefore self.now (D.seen folder.new).files buffers.new) }
     {
         let span = self.fill_frame(
             folder,
-            class,
             reading,
-            row,
+            known,
             &mut buffers.feed,
             &mut buffers.window,
         )?;
         let bytes = buffers.feed.bytes();
         let before = &bytes[..span.before];
         let own = &bytes[span.skip..];
-        let extent = row.front().extent_in(class);
-        let payload = cut_payload(
-            self.survey,
-            reading.next,
-            row,
-            &extent,
+        let held = Held {
+            window: &buffers.window,
             before,
             own,
-            &buffers.window,
-        );
+        };
+        let row = known.row;
+        let extent = row.front().extent_in(known.class);
+        let payload = cut_payload(self.survey, reading.next, row, &extent, &held);
         let taken = taken_before(before.len(), payload.len(), usize::from(extent.begin));
         let mut front = *row.front();
         place_front(row, place, &mut front);
-        let area = class.area_of(place.slot, row.front().protected());
+        let area = known.class.area_of(place.slot, row.front().protected());
         let frame = Frame::with_area(&front, area, payload);
         self.write_frame(folder, &frame, &mut buffers.writer, &mut buffers.waiting)?;
         pass_area(&mut buffers.window, before, own.len(), taken);
@@ -539,54 +470,35 @@ impl<'a> Relay<'a> {
     fn place<D: Folder>(
         &self,
         folder: &mut D,
-        class: Class,
         reading: &Reading,
-        row: &Row,
+        known: &Known<'_>,
         place: &Placed,
         buffers: &mut Buffers,
     ) -> Result<Reading, PassFault>
-        requires ready { IsReady self.now (D.files folder.old) buffers.old.feed }
-        requires known { class ≡ (tells self.now.survey.now).class }
+        requires stands { StandsBefore self.now (D.seen folder.old).files buffers.old reading.now }
         requires few { reading.now.next < 2 ^ 62 }
-        requires found { slice_get (tells self.now.survey.now).frames reading.now.next ≡ Some row.now }
-        requires over { HoldsLast buffers.old.window self.now.pass.input.now (D.files folder.old)
-            (tells self.now.survey.now) reading.now.at reading.now.count reading.now.next }
-        requires class { buffers.old.writer.class ≡ (tells self.now.survey.now).class }
+        requires next { IsNext self.now reading.now known.now }
         requires begin { place.now.begin ≤ reach_of buffers.old.writer }
-        requires within { bytes_at place.now.lead_in (need_of row.now) ≤
-            place.now.begin + area_at place.now (need_of row.now) }
-        requires unsettled { IsNextSettled buffers.old.writer → ⊥ }
+        requires within { bytes_at place.now.lead_in (need_of known.now.row.now) ≤
+            place.now.begin + area_at place.now (need_of known.now.row.now) }
         ensures next { IfOk result (λ behind. behind.next
             ≡ reading.now.next + (if place.now.lead_in then 0 else 1)) }
-        ensures lays { OnOk result (GivesFrames self.now
-            (placed_frame self.now reading.now.next row.now place.now)
-            buffers.old buffers.new (D.files folder.old) (D.files folder.new)) }
-        ensures part { IfErr result (GivesPart self.now
-            (placed_frame self.now reading.now.next row.now place.now)
-            (reach_at self.now row.now place.now)
-            buffers.old (D.files folder.old) (D.files folder.new)) }
-        ensures reach { OnOk result (reach_of buffers.new.writer ≡
-            reach_at self.now row.now place.now) }
-        ensures class { OnOk result (buffers.new.writer.class ≡ (tells self.now.survey.now).class) }
-        ensures unsettled { OnOk result (IsNextSettled buffers.new.writer → ⊥) }
-        ensures over { IfOk result (λ behind. HoldsLast buffers.new.window self.now.pass.input.now
-            (D.files folder.new) (tells self.now.survey.now) behind.at behind.count behind.next) }
-        ensures ready { OnOk result (IsReady self.now (D.files folder.new) buffers.new.feed) }
-        ensures done { OnOk result (D.counts folder.new ≡ D.counts folder.old) }
-        ensures cause { IfErr result (HasPassCause (route_of self.now.pass) (D.files folder.old)
-            (D.counts folder.old) (D.counts folder.new)) }
+        ensures gives { Gives self.now (placed_frame self.now reading.now.next known.now.row.now
+            place.now) (reach_at self.now known.now.row.now place.now) buffers.old buffers.new
+            (D.seen folder.old) (D.seen folder.new) result }
+        ensures stands { IfOk result (StandsBefore self.now (D.seen folder.new).files buffers.new) }
     {
         if place.lead_in {
             self.lead_in(
                 folder,
-                row,
+                known.row,
                 place,
                 &mut buffers.writer,
                 &mut buffers.waiting,
             )?;
             Ok(*reading)
         } else {
-            self.frame(folder, class, reading, row, place, buffers)
+            self.frame(folder, reading, known, place, buffers)
         }
     }
 
@@ -603,28 +515,16 @@ impl<'a> Relay<'a> {
         placed: &[Placed],
         buffers: &mut Buffers,
     ) -> Result<(), PassFault>
-        requires ready { IsReady self.now (D.files folder.old) buffers.old.feed }
+        requires stands { Stands self.now (D.seen folder.old).files buffers.old }
         requires ordered { from ≤ to }
         requires within { to ≤ length (tells self.now.survey.now).frames }
-        requires over { IsOver buffers.old.window self.now.pass.input.now (D.files folder.old)
+        requires over { IsOver buffers.old.window self.now.pass.input.now (D.seen folder.old).files
             (tells self.now.survey.now) from }
-        requires class { buffers.old.writer.class ≡ (tells self.now.survey.now).class }
         requires fits { FitsBehind (reach_of buffers.old.writer) self.now from to placed.now }
-        requires unsettled { IsNextSettled buffers.old.writer → ⊥ }
-        ensures lays { OnOk result (GivesFrames self.now
-            (planned_frames self.now from to placed.now) buffers.old buffers.new
-            (D.files folder.old) (D.files folder.new)) }
-        ensures part { IfErr result (GivesPart self.now (planned_frames self.now from to placed.now)
-            (reach_behind_all (reach_of buffers.old.writer) self.now from to placed.now)
-            buffers.old (D.files folder.old) (D.files folder.new)) }
-        ensures reach { OnOk result (reach_of buffers.new.writer ≡
-            reach_behind_all (reach_of buffers.old.writer) self.now from to placed.now) }
-        ensures class { OnOk result (buffers.new.writer.class ≡ (tells self.now.survey.now).class) }
-        ensures unsettled { OnOk result (IsNextSettled buffers.new.writer → ⊥) }
-        ensures ready { OnOk result (IsReady self.now (D.files folder.new) buffers.new.feed) }
-        ensures done { OnOk result (D.counts folder.new ≡ D.counts folder.old) }
-        ensures cause { IfErr result (HasPassCause (route_of self.now.pass) (D.files folder.old)
-            (D.counts folder.old) (D.counts folder.new)) }
+        ensures gives { Gives self.now (planned_frames self.now from to placed.now)
+            (reach_behind_all (reach_of buffers.old.writer) self.now from to placed.now) buffers.old
+            buffers.new (D.seen folder.old) (D.seen folder.new) result }
+        ensures stands { OnOk result (Stands self.now (D.seen folder.new).files buffers.new) }
     {
         let rows = self.survey.frames();
         let mut reading = Reading {
@@ -635,8 +535,11 @@ impl<'a> Relay<'a> {
         // Outside the loop, so that what depends on it alone is computed once.
         let class = self.survey.class();
         for place in placed {
-            let row = &rows[reading.next];
-            reading = self.place(folder, class, &reading, row, place, buffers)?;
+            let known = Known {
+                class,
+                row: &rows[reading.next],
+            };
+            reading = self.place(folder, &reading, &known, place, buffers)?;
         }
         Ok(())
     }
@@ -651,15 +554,9 @@ impl<'a> Relay<'a> {
         writer: &mut FrameQueue,
         unsent: &mut WriteBuffer,
     ) -> Result<(), PassFault>
-        requires { IsThere (D.files folder.old) self.now.pass.output.now }
-        ensures passed { OnOk result (PassedOn self.now.pass.output.now
-            (unsent.old ++ held_bytes writer.old) unsent.new
-            (D.files folder.old) (D.files folder.new)) }
-        ensures prefix { OnErr result (AppendedPrefix self.now.pass.output.now
-            (unsent.old ++ held_bytes writer.old) (D.files folder.old) (D.files folder.new)) }
-        ensures done { OnOk result (D.counts folder.new ≡ D.counts folder.old) }
-        ensures cause { IfErr result (HasPassCause (route_of self.now.pass) (D.files folder.old)
-            (D.counts folder.old) (D.counts folder.new)) }
+        requires { IsThere (D.seen folder.old).files self.now.pass.output.now }
+        ensures { HandsOn self.now (unsent.old ++ held_bytes writer.old) unsent.new
+            (D.seen folder.old) (D.seen folder.new) result }
     {
         match writer.finish(folder, self.pass.output, unsent) {
             Ok(()) => Ok(()),
@@ -681,19 +578,12 @@ impl<'a> Relay<'a> {
         section: &Section<'_>,
         buffers: &mut Buffers,
     ) -> Result<(), PassFault>
-        requires ready { IsReady self.now (D.files folder.old) buffers.old.feed }
+        requires ready { IsReady self.now (D.seen folder.old).files buffers.old.feed }
         requires section { IsSection (tells self.now.survey.now) section.now }
         requires new { IsNew (tells self.now.survey.now).class buffers.old.writer }
-        ensures written { OnOk result (Writes self.now.pass
-            (λ file. frame_bytes (section_frames (tells self.now.survey.now) section.now file))
-            buffers.old.waiting buffers.new.waiting (D.files folder.old) (D.files folder.new)) }
-        ensures prefix { IfErr result (WritesPrefix self.now.pass
-            (λ file. frame_bytes (section_frames (tells self.now.survey.now) section.now file))
-            buffers.old.waiting (D.files folder.old) (D.files folder.new)) }
-        ensures ready { OnOk result (IsReady self.now (D.files folder.new) buffers.new.feed) }
-        ensures done { OnOk result (D.counts folder.new ≡ D.counts folder.old) }
-        ensures cause { IfErr result (HasPassCause (route_of self.now.pass) (D.files folder.old)
-            (D.counts folder.old) (D.counts folder.new)) }
+        ensures { AddsMade self.now (λ file. frame_bytes
+            (section_frames (tells self.now.survey.now) section.now file)) buffers.old.waiting
+            buffers.new.waiting buffers.new.feed (D.seen folder.old) (D.seen folder.new) result }
     {
         self.read_before(folder, section.from, &mut buffers.feed, &mut buffers.window)?;
         self.frames(folder, section.from, section.to, section.placed, buffers)?;
@@ -701,40 +591,31 @@ impl<'a> Relay<'a> {
     }
 }
 
-/// The main data of frame `i`, from its own area, the area `before` it and the window before that, in as few
-/// bytes as hold them. A lost frame has none.
+/// The main data of frame `i`, in as few bytes as hold them. A lost frame has none.
 #[inline]
 fn cut_payload<'w>(
     survey: &Survey,
     i: usize,
     row: &Row,
     extent: &Extent,
-    before: &'w [u8],
-    own: &'w [u8],
-    window: &'w Window,
+    held: &Held<'w>,
 ) -> Payload<'w>
-    requires placed { AreWellPlaced (tells survey.now).head (tells survey.now).class
-        (tells survey.now).frames }
-    requires found { slice_get (tells survey.now).frames i ≡ Some row.now }
-    requires begin { extent.now.begin ≡ row.now.side.main_data_begin }
-    requires bits { extent.now.bits ≡ payload_bits row.now.side }
-    requires area { length own.now ≡ own_area row.now.header }
-    requires few { length before.now ≤ 1939 }
-    requires over { Reaches (length window.now + length before.now) (tells survey.now) i }
+    requires { CanCut (tells survey.now) i row.now extent.now held.now }
     ensures size { length result ≡ (need_of row.now).bytes }
     ensures told { (file passed : List ℕ)
-        → length passed + length window.now + length before.now
+        → length passed + length held.now.window.now + length held.now.before.now
         ≡ place (tells survey.now).head (tells survey.now).frames i
-        → ((passed ++ window.now) ++ before.now) ++ own.now
+        → ((passed ++ held.now.window.now) ++ held.now.before.now) ++ held.now.own.now
         ≡ main_bytes file (tells survey.now).head (take (i + 1) (tells survey.now).frames)
         → result ≡ payload_of file (tells survey.now) i row.now }
-    ensures few { length result ≤ 2048 }
+    ensures few { length result ≤ window_size }
 {
     if row.lost() {
         Payload::empty()
     } else {
         let begin = u32::from(extent.begin);
-        window.main_data_with(before, own, begin, extent.bits)
+        held.window
+            .main_data_with(held.before, held.own, begin, extent.bits)
     }
 }
 
@@ -742,7 +623,7 @@ fn cut_payload<'w>(
 /// `bytes` bytes, and begin `begin` bytes before that area; where there are none they end nowhere.
 #[inline]
 fn taken_before(before: usize, bytes: usize, begin: usize) -> usize
-    requires few { (before ≤ 1939) × (bytes ≤ 2048) }
+    requires few { (before ≤ 1939) × (bytes ≤ window_size) }
     ensures none { bytes ≡ 0 → result ≡ 0 }
     ensures some { 0 < bytes → result ≡ min before (before + bytes - begin) }
 {
@@ -760,9 +641,9 @@ fn taken_before(before: usize, bytes: usize, begin: usize) -> usize
 #[inline]
 fn first_kept(area: usize, own: usize, taken: usize) -> usize
     requires within { taken ≤ area }
-    requires few { area ≤ 4096 }
+    requires few { area ≤ most_given }
     ensures within { result ≤ area }
-    ensures many { min (511 - own) (area - taken) ≤ area - result }
+    ensures many { min (most_back - own) (area - taken) ≤ area - result }
 {
     let reach = (area - taken).min(511usize.saturating_sub(own));
     area - reach.next_multiple_of(32).min(area)
@@ -772,7 +653,7 @@ fn first_kept(area: usize, own: usize, taken: usize) -> usize
 /// was taken or is left out.
 #[inline]
 fn forget_before(window: &mut Window, taken: usize, first: usize)
-    requires few { taken + first ≤ 8192 }
+    requires few { taken + first ≤ most_waiting }
     ensures none { taken + first ≡ 0 → window.new ≡ window.old }
     ensures some { 0 < taken + first → window.new ≡ [] }
 {
@@ -786,7 +667,7 @@ fn forget_before(window: &mut Window, taken: usize, first: usize)
 #[inline]
 fn pass_area(window: &mut Window, area: &[u8], own: usize, taken: usize)
     requires within { taken ≤ length area.now }
-    requires few { length area.now ≤ 4096 }
+    requires few { length area.now ≤ most_given }
     ensures { KeepsReach window.old window.new area.now own taken }
 {
     let first = first_kept(area.len(), own, taken);

@@ -6,6 +6,7 @@ ghost use Rattle.part_needs.specs.Needs.{need_of};
 ghost use Rattle.frame_writer.specs.Frames.{reach_of, IsNextSettled};
 ghost use Rattle.sync_survey.specs.Faults.{tells};
 ghost use Rattle.laying.specs.Fits.{FitsFrom};
+ghost use Rattle.laying.specs.Calls.{Stands, Gives};
 ghost use Rattle.laying.specs.Passing.{IsReady, GivesFrames, GivesPart};
 ghost use Rattle.laying.specs.Places.{places_for as places_for_lem, own_places, whole_frames, whole_reach};
 
@@ -45,29 +46,17 @@ impl<'a> Relay<'a> {
         placed: &[Placed],
         buffers: &mut Buffers,
     ) -> Result<usize, PassFault>
-        requires ready { IsReady self.now (D.files folder.old) buffers.old.feed }
-        requires class { buffers.old.writer.class ≡ (tells self.now.survey.now).class }
+        requires stands { Stands self.now (D.seen folder.old).files buffers.old }
         requires fits { FitsFrom (window_of (tells self.now.survey.now).class.version)
             (reach_of buffers.old.writer) (map need_of (tells self.now.survey.now).frames)
             (own_places (length (tells self.now.survey.now).frames) placed.now) }
-        requires unsettled { IsNextSettled buffers.old.writer → ⊥ }
-        ensures lays { OnOk result (GivesFrames self.now
-            (whole_frames (tells self.now.survey.now) placed.now)
-            buffers.old buffers.new (D.files folder.old) (D.files folder.new)) }
-        ensures part { IfErr result (GivesPart self.now
-            (whole_frames (tells self.now.survey.now) placed.now)
+        ensures gives { Gives self.now (whole_frames (tells self.now.survey.now) placed.now)
             (whole_reach (reach_of buffers.old.writer) (tells self.now.survey.now) placed.now)
-            buffers.old (D.files folder.old) (D.files folder.new)) }
+            buffers.old buffers.new (D.seen folder.old) (D.seen folder.new) result }
         ensures count { IfOk result (λ count. count ≡ places_for_lem
             (length (tells self.now.survey.now).frames) placed.now) }
         ensures within { IfOk result (λ count. count ≤ length placed.now) }
-        ensures reach { OnOk result (reach_of buffers.new.writer ≡
-            whole_reach (reach_of buffers.old.writer) (tells self.now.survey.now) placed.now) }
-        ensures class { OnOk result (buffers.new.writer.class ≡ (tells self.now.survey.now).class) }
-        ensures unsettled { OnOk result (IsNextSettled buffers.new.writer → ⊥) }
-        ensures done { OnOk result (D.counts folder.new ≡ D.counts folder.old) }
-        ensures cause { IfErr result (HasPassCause (route_of self.now.pass) (D.files folder.old)
-            (D.counts folder.old) (D.counts folder.new)) }
+        ensures stands { OnOk result (Stands self.now (D.seen folder.new).files buffers.new) }
     {
         self.read_before(folder, 0, &mut buffers.feed, &mut buffers.window)?;
         let rows = self.survey.frames();

@@ -5,6 +5,7 @@ use Rattle.outside.specs.Files.{sent_more, Contents, Files, Holds, IsThere, IsMi
 use Rattle.outside.specs.Counts.{Counts, HasCause}
 use Rattle.outside.specs.Passed.{SentPrefix}
 use Rattle.outside.proofs.FilesLaws.{there_holds, touches_none}
+use Rattle.outside.specs.Seen.{Heard, Seen, seen}
 use Rattle.sync_survey.specs.declared.survey_fault.SurveyFault.{SurveyFault}
 use Rattle.sync_survey.specs.declared.survey_fault.SurveyFault.TheVariants.{Absent}
 use Rattle.sync_survey.specs.Faults.{SurveyFields, surveyed, longest_file, IsWellFormed}
@@ -14,10 +15,11 @@ use Rattle.sync_survey.proofs.FoldersLaws.{survey_of-short}
 use Rattle.sync_survey.proofs.SurveyParts.{surveyed-allowed}
 use Rattle.commands.specs.declared.fault.EditFault.{EditFault}
 use Rattle.commands.specs.declared.fault.EditFault.TheVariants.{Input, Sent as NotSent}
-use Rattle.commands.specs.One.{most_frames, IsFileFaultBy, IsFileFault}
+use Rattle.commands.specs.One.{most_frames, IsFileFault}
 use Rattle.commands.specs.Command.{Made, Gives, written, MakesStreams, HoldsStreams}
-use Rattle.commands.specs.Left.{Why, Rejected, Missing, Unread, Shorter, NoMemory, why_of, Seen, seen, IsDone, TakesMemory, LeavesBy, Leaves}
-use Rattle.commands.specs.Said.{Heard, IsText, Says, fault_of}
+use Rattle.commands.proofs.WhyLaws.{each_why}
+use Rattle.commands.specs.Left.{why_of, IsDone, TakesMemory, Leaves}
+use Rattle.commands.specs.Said.{IsText, Says, fault_of}
 use Rattle.listing.specs.Listing.{listed_by, listed_where, listing, list_command}
 use Rattle.commands.proofs.InputLaws.{of_bytes_behind}
 use Rattle.commands.proofs.MakeLaws.{ok_made, made-same}
@@ -52,16 +54,16 @@ module _ (input : List ℕ) where
       subst TakesMemory (sym (gives_survey f held.0 (surveyed held.0 most_frames) held.1 (survey_of-short held.0 most_frames (few held.0 held.1)))) (survey_takes (surveyed held.0 most_frames) (surveyed_of_bytes held.0 most_frames))
 
   module _ (old new : Seen) (fault : EditFault) where
-    survey_left_by : (why : Why) → IsFileFaultBy 0 most_frames input old new fault why → LeavesBy (list_command input) old new fault why
-    survey_left_by Rejected h = record { defined = subst (λ e. Gives (list_command input) old.files (Err e)) (sym h.1) (gives_bytes old.files (Err h.0) h.2.there h.2.bytes); stays = h.2.stays }
-    survey_left_by Missing h = record { defined = subst (λ e. Gives (list_command input) old.files (Err e)) (sym h.is) (gives_absent old.files h.missing); rose = missed_name (input ∷ []) 0 refl h; files = h.files }
-    survey_left_by Unread h = record { names = refl; before = before_first old.files (list_command input).makes fault h.is; rose = unread_name (input ∷ []) 0 refl h; files = inl h.files }
-    survey_left_by Shorter h = record { ended = lost_name (input ∷ []) 0 refl h; touches = subst (λ files. OnlyTouches [] old.files files) (sym h.files) (touches_none [] old.files) }
-    survey_left_by NoMemory h = record { names = refl; takes = takes_memory old.files h.there h.few; stays = h.stays }
-    survey_left_by _ h = absurd h
-
     pub survey_left : IsFileFault 0 most_frames input old new fault → Leaves (list_command input) old new fault
-    survey_left h = survey_left_by (why_of fault) h
+    survey_left h = each_why (why_of fault) h (record {
+      rejected = λ r. record { defined = subst (λ e. Gives (list_command input) old.files (Err e)) (sym r.1) (gives_bytes old.files (Err r.0) r.2.there r.2.bytes); stays = r.2.stays };
+      missing = λ m. record { defined = subst (λ e. Gives (list_command input) old.files (Err e)) (sym m.is) (gives_absent old.files m.missing); rose = missed_name (input ∷ []) 0 refl m; files = m.files };
+      unread = λ u. record { names = refl; before = before_first old.files (list_command input).makes fault u.is; rose = unread_name (input ∷ []) 0 refl u; files = inl u.files };
+      shorter = λ l. record { ended = lost_name (input ∷ []) 0 refl l; touches = subst (λ files. OnlyTouches [] old.files files) (sym l.files) (touches_none [] old.files) };
+      unwritten = λ k w. absurd w;
+      unsent = λ w. absurd w;
+      no_memory = λ n. record { names = refl; takes = takes_memory old.files n.there n.few; stays = n.stays };
+    })
 
   -- ---- a file without fault
 

@@ -6,9 +6,9 @@ ghost use Rattle.outside.specs.Counts.{HasCause, OnlyReads};
 ghost use Rattle.sync_survey.specs.Faults.{tells};
 ghost use Rattle.sync_survey.specs.Survey.{IsLaidOut};
 ghost use Rattle.commands.specs.Command.{HoldsStreams};
-ghost use Rattle.commands.specs.Left.{seen, IsDone, Leaves, HasNumbers};
+ghost use Rattle.commands.specs.Left.{IsDone, Leaves, HasNumbers};
 ghost use Rattle.listing.specs.Listing.{listing, list_command};
-ghost use Rattle.commands.specs.Said.{heard, Says, fault_of};
+ghost use Rattle.commands.specs.Said.{Says, fault_of};
 
 use crate::line::Line;
 use crate::lines::{Common, set_next_line, set_summary};
@@ -25,11 +25,11 @@ use sync_survey::Survey;
 fn send_listing<T: Sink>(survey: &Survey, mut buffer: SendBuffer, out: &mut T) -> Result<(), Failed>
     requires laid { IsLaidOut (tells survey.now) }
     requires empty { buffer ≡ [] }
-    ensures sent { OnOk result (T.sent out.new ≡ sent_more (T.sent out.old)
+    ensures sent { OnOk result ((T.heard out.new).sent ≡ sent_more (T.heard out.old).sent
         (listing (tells survey.now))) }
-    ensures prefix { OnErr result (SentPrefix (listing (tells survey.now)) (T.sent out.old)
-        (T.sent out.new)) }
-    ensures cause { HasCause (T.faults out.old) (T.faults out.new) result }
+    ensures prefix { OnErr result (SentPrefix (listing (tells survey.now)) (T.heard out.old).sent
+        (T.heard out.new).sent) }
+    ensures cause { HasCause (T.heard out.old).faults (T.heard out.new).faults result }
 {
     let mut line = Line::new();
     let mut common = Common::new();
@@ -50,11 +50,11 @@ fn send_listing<T: Sink>(survey: &Survey, mut buffer: SendBuffer, out: &mut T) -
 fn tell<T: Sink>(survey: &Survey, buffer: SendBuffer, out: &mut T) -> Result<(), EditFault>
     requires laid { IsLaidOut (tells survey.now) }
     requires empty { buffer ≡ [] }
-    ensures sent { OnOk result (T.sent out.new ≡ sent_more (T.sent out.old)
+    ensures sent { OnOk result ((T.heard out.new).sent ≡ sent_more (T.heard out.old).sent
         (listing (tells survey.now))) }
-    ensures prefix { OnErr result (SentPrefix (listing (tells survey.now)) (T.sent out.old)
-        (T.sent out.new)) }
-    ensures cause { HasCause (T.faults out.old) (T.faults out.new) result }
+    ensures prefix { OnErr result (SentPrefix (listing (tells survey.now)) (T.heard out.old).sent
+        (T.heard out.new).sent) }
+    ensures cause { HasCause (T.heard out.old).faults (T.heard out.new).faults result }
     ensures fault { IfErr result (λ fault. fault ≡ EditFault.Sent) }
 {
     match send_listing(survey, buffer, out) {
@@ -90,21 +90,22 @@ pub fn list<D: Folder, T: Sink>(
     out: &mut T,
 ) -> Result<(), EditFault>
     ensures done { OnOk result (IsDone (list_command input.now)
-        (seen (D.files folder.old) (D.counts folder.old))
-        (seen (D.files folder.new) (D.counts folder.new))) }
+        (D.seen folder.old)
+        (D.seen folder.new)) }
     ensures left { IfErr result (Leaves (list_command input.now)
-        (seen (D.files folder.old) (D.counts folder.old))
-        (seen (D.files folder.new) (D.counts folder.new))) }
+        (D.seen folder.old)
+        (D.seen folder.new)) }
     // The text, of which a prefix was sent where a write failed.
-    ensures says { Says (list_command input.now) (D.files folder.old)
-        (heard (T.sent out.old) (T.faults out.old)) (heard (T.sent out.new) (T.faults out.new))
+    ensures says { Says (list_command input.now) (D.seen folder.old).files
+        (T.heard out.old) (T.heard out.new)
         (fault_of result) }
     // Over a folder that tells nothing too.
     ensures numbers { IfErr result (HasNumbers (list_command input.now)) }
     // The input is well-formed.
-    ensures streams { OnOk result (HoldsStreams (list_command input.now) (D.files folder.old)) }
-    ensures files { D.files folder.new ≡ D.files folder.old }
-    ensures counts { OnlyReads (D.counts folder.old) (D.counts folder.new) }
+    ensures streams { OnOk result (HoldsStreams (list_command input.now)
+        (D.seen folder.old).files) }
+    ensures files { (D.seen folder.new).files ≡ (D.seen folder.old).files }
+    ensures counts { OnlyReads (D.seen folder.old).counts (D.seen folder.new).counts }
 {
     let survey = survey_at(alloc, folder, input, 0, MOST_FRAMES)?;
     let buffer = SendBuffer::new(alloc)?;

@@ -134,8 +134,8 @@ static MPEG_2_TEXTS: [RateText; 14] = [
 // The text of the bit rate for this index.
 #[inline]
 fn spaced_text(version: Version, slot: Slot) -> &'static RateText
-    ensures text { drop result.now.spaces result.now.text ≡ rate_text_lem (slice_index (rates version)
-        (slot.rate_index - 1)) }
+    ensures text { drop result.now.spaces result.now.text
+        ≡ rate_text_lem (slice_index (rates version) (slot.rate_index - 1)) }
     ensures few { result.now.spaces ≤ 16 }
     ensures size { length result.now.text ≡ 16 }
 {

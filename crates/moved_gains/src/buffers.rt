@@ -3,22 +3,20 @@ ghost use Rattle.std.specs.Prelude.{◌≡◌, ◌≢◌, ◌+◌, ◌-◌, ◌^
 ghost use Rattle.frame_header.specs.Tables.{class_of};
 ghost use Rattle.side_info.specs.Frame.{side_in};
 ghost use Rattle.outside.specs.Files.{Files, Holds, IsThere, appended};
+ghost use Rattle.outside.specs.Seen.{OnFile};
 ghost use Rattle.outside.specs.Passed.{PassedOn, AppendedPrefix};
 ghost use Rattle.outside.specs.Pass.{IsReady, IsOfRead, bytes_at, bytes_between, Writes, WritesPrefix, route_of, HasPassCause};
 ghost use Rattle.moved_gains.specs.Buffers.{AreFresh};
 ghost use Rattle.moved_gains.specs.Moving.{row_overhead, moved_bytes};
+ghost use Rattle.outside.specs.Pass.{PassMakes};
+ghost use Rattle.moved_gains.specs.Passing.{BuffersFill, HasInput, ReadBehind};
+ghost use Rattle.outside.specs.Feed.{buffer_size, most_given};
 
 use crate::front::{MovedRow, move_front};
 use frame_header::Class;
-use outside::{Folder, Pass, PassFault, read_exact, write_all};
+use outside::{BUFFER_SIZE, Folder, PIECE_SIZE, Pass, PassFault, read_exact, write_all};
 use std::alloc::{AllocError, Global};
 use std::marker::Model;
-
-// The size of the buffer in bytes.
-const SIZE: usize = 65_536;
-
-/// How many bytes are copied at once.
-const PIECE: u64 = 4096;
 
 /// What waits for the output of a pass, and what is held of its input after that, in one buffer of 65,536 bytes: so a byte
 /// that goes on isn't copied. Contracts see both.
@@ -48,14 +46,14 @@ impl Model for Buffers {
 /// # Errors
 /// `Write` where a write failed.
 fn hand_on<D: Folder>(folder: &mut D, pass: &Pass, bytes: &[u8]) -> Result<(), PassFault>
-    requires { IsThere (D.files folder.old) pass.now.output.now }
-    ensures appended { OnOk result (D.files folder.new ≡ appended (D.files folder.old)
+    requires { IsThere (D.seen folder.old).files pass.now.output.now }
+    ensures appended { OnOk result ((D.seen folder.new).files ≡ appended (D.seen folder.old).files
         pass.now.output.now bytes.now) }
     ensures prefix { OnErr result (AppendedPrefix pass.now.output.now bytes.now
-        (D.files folder.old) (D.files folder.new)) }
-    ensures done { OnOk result (D.counts folder.new ≡ D.counts folder.old) }
-    ensures cause { IfErr result (HasPassCause (route_of pass.now) (D.files folder.old)
-        (D.counts folder.old) (D.counts folder.new)) }
+        (D.seen folder.old).files (D.seen folder.new).files) }
+    ensures done { OnOk result ((D.seen folder.new).counts ≡ (D.seen folder.old).counts) }
+    ensures cause { IfErr result (HasPassCause (route_of pass.now) (D.seen folder.old).files
+        (D.seen folder.old).counts (D.seen folder.new).counts) }
 {
     match write_all(folder, pass.output, bytes) {
         Ok(()) => Ok(()),
@@ -76,30 +74,19 @@ fn read_behind<D: Folder>(
     kept: usize,
     n: usize,
 ) -> Result<usize, PassFault>
-    requires there { IsThere (D.files folder.old) pass.now.input.now }
-    requires found { (file : List ℕ) → Holds (D.files folder.old) pass.now.input.now file
-        → length file ≡ pass.now.length }
-    requires short { pass.now.length ≤ 2 ^ 32 }
-    requires size { length room.old ≡ 65536 }
-    requires few { n ≤ 4096 }
-    requires kept { kept ≤ 65536 }
+    requires input { HasInput pass.now (D.seen folder.old) }
+    requires size { length room.old ≡ buffer_size }
+    requires few { n ≤ most_given }
+    requires kept { kept ≤ buffer_size }
     requires within { at + n ≤ pass.now.length }
-    ensures enough { IfOk result (λ end. n ≤ end) }
-    ensures most { IfOk result (λ end. end ≤ 65536) }
-    ensures bytes { IfOk result (λ end. (file : List ℕ) → Holds (D.files folder.old)
-        pass.now.input.now file → take kept room.old ≡ take kept (drop at file)
-        → take end room.new ≡ take end (drop at file)) }
-    ensures done { OnOk result (D.counts folder.new ≡ D.counts folder.old) }
-    ensures cause { IfErr result (HasPassCause (route_of pass.now) (D.files folder.old)
-        (D.counts folder.old) (D.counts folder.new)) }
-    ensures read { IfErr result IsOfRead }
-    ensures files { D.files folder.new ≡ D.files folder.old }
+    ensures { ReadBehind pass.now at kept n room.old room.new (D.seen folder.old)
+        (D.seen folder.new) result }
 {
     let from = at + kept as u64;
     if pass.length <= from {
         return Ok(kept);
     }
-    let more = (pass.length - from).min((SIZE - kept) as u64);
+    let more = (pass.length - from).min((BUFFER_SIZE - kept) as u64);
     let end = kept + more as usize;
     read_exact(folder, pass.input, pass.length, from, &mut room[kept..end])?;
     Ok(end)
@@ -133,7 +120,7 @@ impl Buffers {
             AreFresh buffers files input) }
     {
         Ok(Buffers {
-            room: vec![in alloc; 0; SIZE]?,
+            room: vec![in alloc; 0; BUFFER_SIZE]?,
             place: 0,
             done: 0,
             end: 0,
@@ -152,19 +139,11 @@ impl Buffers {
         at: u64,
         n: usize,
     ) -> Result<(), PassFault>
-        requires ready { IsReady pass.now (D.files folder.old) self.old.feed }
-        requires few { n ≤ 4096 }
+        requires ready { IsReady pass.now (D.seen folder.old).files self.old.feed }
+        requires few { n ≤ most_given }
         requires within { at + n ≤ pass.now.length }
-        ensures passed { OnOk result (PassedOn pass.now.output.now self.old.waiting
-            self.new.waiting (D.files folder.old) (D.files folder.new)) }
-        ensures place { OnOk result (self.new.feed.place ≡ at) }
-        ensures enough { OnOk result (n ≤ length self.new.feed.held) }
-        ensures prefix { IfErr result (WritesPrefix pass.now (λ file. []) self.old.waiting
-            (D.files folder.old) (D.files folder.new)) }
-        ensures done { OnOk result (D.counts folder.new ≡ D.counts folder.old) }
-        ensures cause { IfErr result (HasPassCause (route_of pass.now) (D.files folder.old)
-            (D.counts folder.old) (D.counts folder.new)) }
-        ensures ready { OnOk result (IsReady pass.now (D.files folder.new) self.new.feed) }
+        ensures { BuffersFill pass.now at n self.old self.new (D.seen folder.old)
+            (D.seen folder.new) result }
     {
         if at == self.place && n <= self.end - self.done {
             return Ok(());
@@ -181,19 +160,11 @@ impl Buffers {
         at: u64,
         n: usize,
     ) -> Result<(), PassFault>
-        requires ready { IsReady pass.now (D.files folder.old) self.old.feed }
-        requires few { n ≤ 4096 }
+        requires ready { IsReady pass.now (D.seen folder.old).files self.old.feed }
+        requires few { n ≤ most_given }
         requires within { at + n ≤ pass.now.length }
-        ensures passed { OnOk result (PassedOn pass.now.output.now self.old.waiting
-            self.new.waiting (D.files folder.old) (D.files folder.new)) }
-        ensures place { OnOk result (self.new.feed.place ≡ at) }
-        ensures enough { OnOk result (n ≤ length self.new.feed.held) }
-        ensures prefix { IfErr result (WritesPrefix pass.now (λ file. []) self.old.waiting
-            (D.files folder.old) (D.files folder.new)) }
-        ensures done { OnOk result (D.counts folder.new ≡ D.counts folder.old) }
-        ensures cause { IfErr result (HasPassCause (route_of pass.now) (D.files folder.old)
-            (D.counts folder.old) (D.counts folder.new)) }
-        ensures ready { OnOk result (IsReady pass.now (D.files folder.new) self.new.feed) }
+        ensures { BuffersFill pass.now at n self.old self.new (D.seen folder.old)
+            (D.seen folder.new) result }
     {
         hand_on(folder, pass, &self.room[..self.done])?;
         let room = self.room.as_mut_slice();
@@ -254,16 +225,16 @@ impl Buffers {
         pass: &Pass,
         piece: &[u8],
     ) -> Result<(), PassFault>
-        requires ready { IsReady pass.now (D.files folder.old) self.old.feed }
+        requires ready { IsReady pass.now (D.seen folder.old).files self.old.feed }
         ensures passed { OnOk result (PassedOn pass.now.output.now
-            (self.old.waiting ++ piece.now) self.new.waiting (D.files folder.old)
-            (D.files folder.new)) }
+            (self.old.waiting ++ piece.now) self.new.waiting (D.seen folder.old).files
+            (D.seen folder.new).files) }
         ensures prefix { OnErr result (AppendedPrefix pass.now.output.now
-            (self.old.waiting ++ piece.now) (D.files folder.old) (D.files folder.new)) }
-        ensures done { OnOk result (D.counts folder.new ≡ D.counts folder.old) }
-        ensures cause { IfErr result (HasPassCause (route_of pass.now) (D.files folder.old)
-            (D.counts folder.old) (D.counts folder.new)) }
-        ensures ready { OnOk result (IsReady pass.now (D.files folder.new) self.new.feed) }
+            (self.old.waiting ++ piece.now) (D.seen folder.old).files (D.seen folder.new).files) }
+        ensures done { OnOk result ((D.seen folder.new).counts ≡ (D.seen folder.old).counts) }
+        ensures cause { IfErr result (HasPassCause (route_of pass.now) (D.seen folder.old).files
+            (D.seen folder.old).counts (D.seen folder.new).counts) }
+        ensures ready { OnOk result (IsReady pass.now (D.seen folder.new).files self.new.feed) }
     {
         hand_on(folder, pass, &self.room[..self.done])?;
         // What is held comes again where it is needed.
@@ -277,14 +248,14 @@ impl Buffers {
     /// # Errors
     /// `Write` where a write failed.
     pub(crate) fn finish<D: Folder>(&mut self, folder: &mut D, pass: &Pass) -> Result<(), PassFault>
-        requires { IsThere (D.files folder.old) pass.now.output.now }
-        ensures appended { OnOk result (D.files folder.new ≡ appended (D.files folder.old)
-            pass.now.output.now self.old.waiting) }
+        requires { IsThere (D.seen folder.old).files pass.now.output.now }
+        ensures appended { OnOk result ((D.seen folder.new).files
+            ≡ appended (D.seen folder.old).files pass.now.output.now self.old.waiting) }
         ensures prefix { OnErr result (AppendedPrefix pass.now.output.now self.old.waiting
-            (D.files folder.old) (D.files folder.new)) }
-        ensures done { OnOk result (D.counts folder.new ≡ D.counts folder.old) }
-        ensures cause { IfErr result (HasPassCause (route_of pass.now) (D.files folder.old)
-            (D.counts folder.old) (D.counts folder.new)) }
+            (D.seen folder.old).files (D.seen folder.new).files) }
+        ensures done { OnOk result ((D.seen folder.new).counts ≡ (D.seen folder.old).counts) }
+        ensures cause { IfErr result (HasPassCause (route_of pass.now) (D.seen folder.old).files
+            (D.seen folder.old).counts (D.seen folder.new).counts) }
     {
         let waits = self.done;
         self.done = 0;
@@ -304,21 +275,15 @@ impl Buffers {
         from: u64,
         to: u64,
     ) -> Result<(), PassFault>
-        requires ready { IsReady pass.now (D.files folder.old) self.old.feed }
+        requires ready { IsReady pass.now (D.seen folder.old).files self.old.feed }
         requires ordered { from ≤ to }
         requires within { to ≤ pass.now.length }
-        ensures written { OnOk result (Writes pass.now (λ file. bytes_between file from to)
-            self.old.waiting self.new.waiting (D.files folder.old) (D.files folder.new)) }
-        ensures prefix { IfErr result (WritesPrefix pass.now (λ file. bytes_between file from to)
-            self.old.waiting (D.files folder.old) (D.files folder.new)) }
-        ensures done { OnOk result (D.counts folder.new ≡ D.counts folder.old) }
-        ensures cause { IfErr result (HasPassCause (route_of pass.now) (D.files folder.old)
-            (D.counts folder.old) (D.counts folder.new)) }
-        ensures ready { OnOk result (IsReady pass.now (D.files folder.new) self.new.feed) }
+        ensures { PassMakes pass.now (λ file. bytes_between file from to) self.old.waiting
+            self.new.waiting self.new.feed (D.seen folder.old) (D.seen folder.new) result }
     {
         let mut at = from;
         while at < to {
-            let n = (to - at).min(PIECE);
+            let n = (to - at).min(PIECE_SIZE);
             self.copy_piece(folder, pass, at, n as usize)?;
             at += n;
         }
@@ -334,17 +299,11 @@ impl Buffers {
         at: u64,
         n: usize,
     ) -> Result<(), PassFault>
-        requires ready { IsReady pass.now (D.files folder.old) self.old.feed }
-        requires few { n ≤ 4096 }
+        requires ready { IsReady pass.now (D.seen folder.old).files self.old.feed }
+        requires few { n ≤ most_given }
         requires within { at + n ≤ pass.now.length }
-        ensures written { OnOk result (Writes pass.now (bytes_at at n)
-            self.old.waiting self.new.waiting (D.files folder.old) (D.files folder.new)) }
-        ensures prefix { IfErr result (WritesPrefix pass.now (bytes_at at n)
-            self.old.waiting (D.files folder.old) (D.files folder.new)) }
-        ensures done { OnOk result (D.counts folder.new ≡ D.counts folder.old) }
-        ensures cause { IfErr result (HasPassCause (route_of pass.now) (D.files folder.old)
-            (D.counts folder.old) (D.counts folder.new)) }
-        ensures ready { OnOk result (IsReady pass.now (D.files folder.new) self.new.feed) }
+        ensures { PassMakes pass.now (bytes_at at n) self.old.waiting self.new.waiting self.new.feed
+            (D.seen folder.old) (D.seen folder.new) result }
     {
         self.fill(folder, pass, at, n)?;
         self.pass_on(n);

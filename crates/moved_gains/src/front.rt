@@ -4,6 +4,7 @@ ghost use Rattle.frame_header.specs.Tables.{class_of};
 ghost use Rattle.side_info.specs.Frame.{side_in, frame_with};
 ghost use Rattle.moved_gains.specs.Gains.{moved_side as moved_side_lem};
 ghost use Rattle.moved_gains.specs.Moving.{row_length, row_overhead, moved_bytes};
+ghost use Rattle.frame_header.specs.Limits.{most_frame_length};
 
 use crate::gains::moved_side;
 use crate::shift::Steps;
@@ -23,7 +24,7 @@ pub(crate) struct MovedRow<'a> {
 pub(crate) fn frame_length(class: Class, row: &Row) -> u32
     requires { class_of row.now.header ≡ class }
     ensures length { result ≡ row_length row.now }
-    ensures most { result ≤ 1441 }
+    ensures most { result ≤ most_frame_length }
     ensures room { row_overhead row.now ≤ result }
 {
     class.length_of(row.front().slot())

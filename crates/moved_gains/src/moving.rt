@@ -2,7 +2,8 @@
 //! its frames moved, except those of lost ones, and with another tag if that changes.
 ghost use Rattle.std.specs.Prelude.{◌≡◌, ◌≢◌, ◌+◌, ◌<◌, ◌≤◌, ◌^◌, List, ℕ, length, IfOk, IfErr, OnOk, Ok};
 ghost use Rattle.frame_header.specs.Tables.{class_of};
-ghost use Rattle.outside.specs.Files.{Holds, IsThere};
+ghost use Rattle.outside.specs.Files.{IsThere};
+ghost use Rattle.outside.specs.Seen.{OnFile};
 ghost use Rattle.outside.specs.Pass.{IsReady, Writes, WritesPrefix, Appends, AppendsPrefix, route, route_of, HasPassCause};
 ghost use Rattle.sync_survey.specs.Faults.{tells};
 ghost use Rattle.sync_survey.specs.Survey.{survey_of, AreLaid, IsLaidOut};
@@ -11,6 +12,8 @@ ghost use Rattle.sync_survey.specs.Limits.{most_frames};
 ghost use Rattle.moved_gains.specs.Change.{changed, change_in};
 ghost use Rattle.moved_gains.specs.Course.{steps_over, AreNumbered};
 ghost use Rattle.moved_gains.specs.Moving.{row_end, IsRowOf, AreRowsOf, AreOfClass, moved_row_bytes, bytes_around, copied, written_from, IsNewTag};
+ghost use Rattle.outside.specs.Pass.{PassMakes};
+ghost use Rattle.moved_gains.specs.Passing.{MoveAnswer, MovesAnswer, ChangedAnswer};
 
 use crate::buffers::Buffers;
 use crate::change::Change;
@@ -53,19 +56,12 @@ impl<'a> GainPass<'a> {
         to: u64,
         buffers: &mut Buffers,
     ) -> Result<(), PassFault>
-        requires ready { IsReady self.now.pass (D.files folder.old) buffers.old.feed }
+        requires ready { IsReady self.now.pass (D.seen folder.old).files buffers.old.feed }
         requires ordered { from ≤ to }
         requires within { to ≤ self.now.pass.length }
-        ensures written { OnOk result (Writes self.now.pass
-            (λ file. copied self.now.tag file from to)
-            buffers.old.waiting buffers.new.waiting (D.files folder.old) (D.files folder.new)) }
-        ensures prefix { IfErr result (WritesPrefix self.now.pass
-            (λ file. copied self.now.tag file from to)
-            buffers.old.waiting (D.files folder.old) (D.files folder.new)) }
-        ensures done { OnOk result (D.counts folder.new ≡ D.counts folder.old) }
-        ensures cause { IfErr result (HasPassCause (route_of self.now.pass) (D.files folder.old)
-            (D.counts folder.old) (D.counts folder.new)) }
-        ensures ready { OnOk result (IsReady self.now.pass (D.files folder.new) buffers.new.feed) }
+        ensures { PassMakes self.now.pass (λ file. copied self.now.tag file from to)
+            buffers.old.waiting buffers.new.waiting buffers.new.feed (D.seen folder.old)
+            (D.seen folder.new) result }
     {
         match &self.tag {
             Some(tag) if from <= tag.at && tag.at <= tag.end && tag.end <= to => {
@@ -88,19 +84,13 @@ impl<'a> GainPass<'a> {
         to: u64,
         buffers: &mut Buffers,
     ) -> Result<(), PassFault>
-        requires ready { IsReady self.now.pass (D.files folder.old) buffers.old.feed }
+        requires ready { IsReady self.now.pass (D.seen folder.old).files buffers.old.feed }
         requires ordered { from ≤ tag.now.at }
         requires around { tag.now.at ≤ tag.now.end }
         requires behind { tag.now.end ≤ to }
         requires within { to ≤ self.now.pass.length }
-        ensures written { OnOk result (Writes self.now.pass (bytes_around tag.now from to)
-            buffers.old.waiting buffers.new.waiting (D.files folder.old) (D.files folder.new)) }
-        ensures prefix { IfErr result (WritesPrefix self.now.pass (bytes_around tag.now from to)
-            buffers.old.waiting (D.files folder.old) (D.files folder.new)) }
-        ensures done { OnOk result (D.counts folder.new ≡ D.counts folder.old) }
-        ensures cause { IfErr result (HasPassCause (route_of self.now.pass) (D.files folder.old)
-            (D.counts folder.old) (D.counts folder.new)) }
-        ensures ready { OnOk result (IsReady self.now.pass (D.files folder.new) buffers.new.feed) }
+        ensures { PassMakes self.now.pass (bytes_around tag.now from to) buffers.old.waiting
+            buffers.new.waiting buffers.new.feed (D.seen folder.old) (D.seen folder.new) result }
     {
         buffers.copy(folder, &self.pass, from, tag.at)?;
         buffers.push(folder, &self.pass, tag.bytes)?;
@@ -118,22 +108,14 @@ impl<'a> GainPass<'a> {
         moved: &MovedRow,
         buffers: &mut Buffers,
     ) -> Result<u64, PassFault>
-        requires ready { IsReady self.now.pass (D.files folder.old) buffers.old.feed }
+        requires ready { IsReady self.now.pass (D.seen folder.old).files buffers.old.feed }
         requires class { class_of moved.now.row.now.header ≡ self.now.class }
         requires within { row_end moved.now.row.now ≤ self.now.pass.length }
-        requires told { (file : List ℕ) → Holds (D.files folder.old) self.now.pass.input.now file →
-            IsRowOf file moved.now.row.now }
-        ensures written { OnOk result (Writes self.now.pass
-            (λ file. moved_row_bytes moved.now.steps file moved.now.row.now)
-            buffers.old.waiting buffers.new.waiting (D.files folder.old) (D.files folder.new)) }
-        ensures prefix { IfErr result (WritesPrefix self.now.pass
-            (λ file. moved_row_bytes moved.now.steps file moved.now.row.now)
-            buffers.old.waiting (D.files folder.old) (D.files folder.new)) }
-        ensures end { IfOk result (λ end. end ≡ row_end moved.now.row.now) }
-        ensures done { OnOk result (D.counts folder.new ≡ D.counts folder.old) }
-        ensures cause { IfErr result (HasPassCause (route_of self.now.pass) (D.files folder.old)
-            (D.counts folder.old) (D.counts folder.new)) }
-        ensures ready { OnOk result (IsReady self.now.pass (D.files folder.new) buffers.new.feed) }
+        requires told { OnFile (D.seen folder.old) self.now.pass.input.now
+            (λ file. IsRowOf file moved.now.row.now) }
+        ensures { MoveAnswer self.now.pass (λ file. moved_row_bytes moved.now.steps file
+            moved.now.row.now) (row_end moved.now.row.now) buffers.old buffers.new
+            (D.seen folder.old) (D.seen folder.new) result }
     {
         let row = moved.row;
         let length = frame_length(self.class, row);
@@ -155,24 +137,16 @@ impl<'a> GainPass<'a> {
         rows: &[Row],
         buffers: &mut Buffers,
     ) -> Result<(), PassFault>
-        requires ready { IsReady self.now.pass (D.files folder.old) buffers.old.feed }
+        requires ready { IsReady self.now.pass (D.seen folder.old).files buffers.old.feed }
         requires laid { AreLaid from rows.now self.now.pass.length }
         requires classed { AreOfClass self.now.class rows.now }
         requires numbered { AreNumbered rows.now }
         requires few { length rows.now < 2 ^ 32 }
-        requires told { (file : List ℕ) → Holds (D.files folder.old) self.now.pass.input.now file →
-            AreRowsOf file rows.now }
-        ensures written { OnOk result (Writes self.now.pass
-            (λ file. written_from (steps_over self.now.course.now rows.now) self.now.tag file from
-            rows.now)
-            buffers.old.waiting buffers.new.waiting (D.files folder.old) (D.files folder.new)) }
-        ensures prefix { IfErr result (WritesPrefix self.now.pass
-            (λ file. written_from (steps_over self.now.course.now rows.now) self.now.tag file from
-            rows.now)
-            buffers.old.waiting (D.files folder.old) (D.files folder.new)) }
-        ensures done { OnOk result (D.counts folder.new ≡ D.counts folder.old) }
-        ensures cause { IfErr result (HasPassCause (route_of self.now.pass) (D.files folder.old)
-            (D.counts folder.old) (D.counts folder.new)) }
+        requires told { OnFile (D.seen folder.old) self.now.pass.input.now
+            (λ file. AreRowsOf file rows.now) }
+        ensures { MovesAnswer self.now.pass (λ file. written_from
+            (steps_over self.now.course.now rows.now) self.now.tag file from rows.now) buffers.old
+            buffers.new (D.seen folder.old) (D.seen folder.new) result }
     {
         let mut at = from;
         let mut near = 0;
@@ -215,22 +189,15 @@ pub fn write_changed<D: Folder>(
     buffers: &mut Buffers,
 ) -> Result<(), PassFault>
     requires apart { input.now ≢ output.now }
-    requires source { IsThere (D.files folder.old) input.now }
-    requires target { IsThere (D.files folder.old) output.now }
+    requires source { IsThere (D.seen folder.old).files input.now }
+    requires target { IsThere (D.seen folder.old).files output.now }
     requires laid { IsLaidOut (tells survey.now) }
-    requires exact { (file : List ℕ) → Holds (D.files folder.old) input.now file →
-        survey_of file most_frames ≡ Ok (tells survey.now) }
-    requires fresh { AreFresh buffers.old (D.files folder.old) input.now }
-    ensures written { OnOk result (Appends input.now output.now
+    requires exact { OnFile (D.seen folder.old) input.now
+        (λ file. survey_of file most_frames ≡ Ok (tells survey.now)) }
+    requires fresh { AreFresh buffers.old (D.seen folder.old).files input.now }
+    ensures { ChangedAnswer (route input.now output.now (tells survey.now).length)
         (λ file. changed (change_in change.now (tells survey.now)) file (tells survey.now))
-        (D.files folder.old) (D.files folder.new)) }
-    ensures prefix { IfErr result (AppendsPrefix input.now output.now
-        (λ file. changed (change_in change.now (tells survey.now)) file (tells survey.now))
-        (D.files folder.old) (D.files folder.new)) }
-    ensures done { OnOk result (D.counts folder.new ≡ D.counts folder.old) }
-    ensures cause { IfErr result (HasPassCause
-        (route input.now output.now (tells survey.now).length) (D.files folder.old)
-        (D.counts folder.old) (D.counts folder.new)) }
+        (D.seen folder.old) (D.seen folder.new) result }
 {
     let pass = Pass {
         input,

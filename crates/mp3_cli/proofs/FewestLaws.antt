@@ -1,10 +1,10 @@
 -- What was packed into the fewest bytes has the fewest.
 use Rattle.std.proofs.Common.{◌≡◌, ℕ, List, Result, Ok, sym, subst}
 use Rattle.std.specs.Prelude.{IfOk}
+use Rattle.outside.specs.Seen.{Heard, Seen}
 use Rattle.job_words.specs.Asked.{Asked, Help, Version, ListFile, Gain, Undo, Cut, Pack, SplitAt, SplitBy, Join, Drill, Fade, Salvage}
 use Rattle.job_words.specs.Words.{job_of}
-use Rattle.commands.specs.Left.{Seen, IsDone}
-use Rattle.commands.specs.Said.{Heard}
+use Rattle.commands.specs.Left.{IsDone}
 use Rattle.packing.proofs.PackedLengths.{done-fewest}
 use Rattle.mp3_cli.proofs.RunLaws.{is_done}
 use Rattle.mp3_cli.specs.Run.{command_of, world, Answers, HasFewest, HasFewestBytes}

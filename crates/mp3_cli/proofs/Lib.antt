@@ -3,3 +3,4 @@ pub mod LegalLaws
 pub mod RunLaws
 pub mod WrittenLaws
 pub mod FewestLaws
+pub mod ProgramRuns

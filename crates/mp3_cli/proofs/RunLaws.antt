@@ -6,6 +6,7 @@ use Rattle.std.specs.Prelude.{IfSome, IfErr, IsErrOf, OnOk}
 use Rattle.outside.specs.Files.{Contents, Files, Sent, sent_more, Told, Untold, IfTold, is_told, OnlyTouches}
 use Rattle.outside.specs.Counts.{Rose}
 use Rattle.outside.proofs.FilesLaws.{sent_nothing, touches_none}
+use Rattle.outside.specs.Seen.{Heard, Seen}
 use Rattle.commands.specs.declared.fault.EditFault.{EditFault}
 use Rattle.commands.specs.declared.fault.EditFault.TheVariants.{EqualNames, Input, Sent as NotSent, Memory}
 use Rattle.commands.specs.Kinds.{InputKind, IsAbsent, kind_of, by_kind}
@@ -14,8 +15,8 @@ use Rattle.commands.specs.Command.{Made, Command, clash_of, written, Gives}
 use Rattle.splitting.specs.Split.{Placing, split_command}
 use Rattle.splitting.proofs.PartsLaws.{split-parts}
 use Rattle.drill.specs.Drilled.{IsDrillFault}
-use Rattle.commands.specs.Said.{Heard, IsText, Says, fault_of}
-use Rattle.commands.specs.Left.{Why, Rejected, Missing, Unread, Shorter, Unwritten, Unsent, NoMemory, why_of, Seen, IsDone, IsRefused, LeavesBy, Leaves, HasNumbers}
+use Rattle.commands.specs.Said.{IsText, Says, fault_of}
+use Rattle.commands.specs.Left.{Why, Rejected, Missing, Unread, Shorter, Unwritten, Unsent, NoMemory, why_of, IsDone, IsRefused, by_why, left_by, Leaves, HasNumbers}
 use Rattle.commands.specs.Runs.{IsRunOf}
 use Rattle.commands.proofs.TouchLaws.{left_touched}
 use Rattle.job_words.specs.Asked.{Asked}
@@ -64,7 +65,7 @@ got_nothing old new line = at line.got
 module _ (command : Command) (old new : Seen) (out_old out_new err_old err_new : Heard) (status : ℕ) (all : Answers command (world old out_old err_old) (world new out_new err_new) status) where
   -- what follows where it was done, and where there is a fault of this kind
   by_case : {P : Type 0} → (status ≡ 0 → all.fault ≡ None → P)
-      → ((fault : EditFault) (why : Why) → all.fault ≡ Some fault → status ≡ status_by why → why_of fault ≡ why → LeavesBy command old new fault why → P) → P
+      → ((fault : EditFault) (why : Why) → all.fault ≡ Some fault → status ≡ status_by why → why_of fault ≡ why → by_why (left_by command old new fault) why → P) → P
   by_case {P = P} done failed = at all.fault refl all.status_is all.ends.left
     where
       at : (o : Option EditFault) → all.fault ≡ o → status ≡ fault_status o → IfSome o (Leaves command old new) → P
@@ -73,7 +74,7 @@ module _ (command : Command) (old new : Seen) (out_old out_new err_old err_new :
 
   -- no name but those of its outputs was touched
   pub touched : OnlyTouches command.outputs old.files new.files
-  touched = by_case (λ is e. (all.ends.done e).touches) (λ fault why e is w left. left_touched command old new fault (subst (LeavesBy command old new fault) (sym w) left))
+  touched = by_case (λ is e. (all.ends.done e).touches) (λ fault why e is w left. left_touched command old new fault (subst (by_why (left_by command old new fault)) (sym w) left))
 
   done_at : status ≡ 0 → all.fault ≡ None
   done_at zero_is = by_case (λ is e. e) (λ fault why e is w left. absurd (omega (arith, is, zero_is, (by_status why).0)))
@@ -103,7 +104,7 @@ module _ (command : Command) (old new : Seen) (out_old out_new err_old err_new :
   not_two two = by_case (λ is e. absurd (omega (arith, is, two))) (λ fault why e is w left. (by_status why).2 (sym is ∙ two))
 
   -- what is refused, and want of memory, leave all as it was
-  stays_by : (fault : EditFault) (why : Why) → status ≡ status_by why → status ≢ 3 → LeavesBy command old new fault why → new ≡ old
+  stays_by : (fault : EditFault) (why : Why) → status ≡ status_by why → status ≢ 3 → by_why (left_by command old new fault) why → new ≡ old
   stays_by fault Rejected is other left = left.stays
   stays_by fault NoMemory is other left = left.stays
   stays_by fault _ is other left = absurd (other is)
@@ -146,7 +147,7 @@ module _ (command : Command) (old new : Seen) (out_old out_new err_old err_new :
           line_is = line_here (Some fault) e;
         })
 
-    failed_here : (fault : EditFault) (why : Why) → all.fault ≡ Some fault → status ≡ status_by why → status ≤ 2 → why_of fault ≡ why → LeavesBy command old new fault why → IsAsDefinedBy (command.makes f)
+    failed_here : (fault : EditFault) (why : Why) → all.fault ≡ Some fault → status ≡ status_by why → status ≤ 2 → why_of fault ≡ why → by_why (left_by command old new fault) why → IsAsDefinedBy (command.makes f)
     failed_here fault Rejected e is low w left = refused_here fault e is w left
     failed_here fault _ e is low w left = absurd (omega (arith, is, low))
 
@@ -169,7 +170,7 @@ module _ (command : Command) (old new : Seen) (out_old out_new err_old err_new :
         absurd cc
 
     not_failed : (made : Made) (fault : EditFault) (why : Why) → command.makes f ≡ Ok made → (Rose old.counts.read_faults.times new.counts.read_faults.times → ⊥) → (Rose old.counts.write_faults.times new.counts.write_faults.times → ⊥) → (Rose out_old.faults out_new.faults → ⊥) → status ≢ 4
-        → all.fault ≡ Some fault → why_of fault ≡ why → status ≡ status_by why → LeavesBy command old new fault why → ⊥
+        → all.fault ≡ Some fault → why_of fault ≡ why → status ≡ status_by why → by_why (left_by command old new fault) why → ⊥
     not_failed made fault Unread ok reads writes sends found e w is left = reads left.rose.0
     not_failed made fault Shorter ok reads writes sends found e w is left = told_twice left.ended.untold
     not_failed made fault (Unwritten k) ok reads writes sends found e w is left = writes left.rose.0

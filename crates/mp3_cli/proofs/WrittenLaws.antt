@@ -7,6 +7,7 @@ use Rattle.std.proofs.lemmas.List.{length-map}
 use Rattle.outside.specs.Files.{Contents, Files, with_file, IfTold}
 use Rattle.outside.proofs.FilesLaws.{with_file_here, with_file_other}
 use Rattle.frame_header.specs.Fields.{ClassFields}
+use Rattle.outside.specs.Seen.{Heard, Seen}
 use Rattle.cue_sheet.specs.declared.place.Place.{Place}
 use Rattle.cue_sheet.specs.declared.place.Place.TheVariants.{End}
 use Rattle.cue_sheet.specs.Places.{frame_at}
@@ -26,8 +27,6 @@ use Rattle.job_words.specs.Words.{job_of, IsSound}
 use Rattle.joining.specs.Join.{join_task}
 use Rattle.fading.specs.Fade.{fade_task}
 use Rattle.packing.specs.Modes.{pack_task}
-use Rattle.commands.specs.Left.{Seen}
-use Rattle.commands.specs.Said.{Heard}
 use Rattle.piece_names.specs.Names.{piece_name, piece_names}
 use Rattle.splitting.specs.Split.{frames_between, with_first, chosen_from, chosen_at, pieces_from, places_where, Placing, split_command, given, told_by}
 use Rattle.splitting.proofs.PartsLaws.{split-parts, cue-parts}

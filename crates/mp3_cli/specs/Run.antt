@@ -1,11 +1,13 @@
 -- What the program does, from its words and the files that are there.
-use Rattle.std.specs.Prelude.{◌≡◌, ◌↔◌, ℕ, List, [], ◌∷◌, Option, Some, None, Result, Ok, Err, IfOk, IfSome}
-use Rattle.outside.specs.Files.{Contents, Files, sent_more, Told, IfTold}
+use Rattle.std.specs.Prelude.{◌≡◌, ◌≢◌, ◌↔◌, ◌≤◌, ℕ, List, [], ◌∷◌, Option, Some, None, Result, Ok, Err, IfOk, IfSome, IsErr}
+use Rattle.outside.specs.Files.{Contents, Files, sent_more, Told, IfTold, OnlyTouches}
+use Rattle.outside.specs.Counts.{Rose, NoneFell}
+use Rattle.outside.specs.Seen.{Heard, Seen}
 use Rattle.commands.specs.declared.fault.EditFault.{EditFault}
 use Rattle.commands.specs.declared.fault.EditFault.TheVariants.{EqualNames}
 use Rattle.commands.specs.Command.{Made, Command, clash_of, written, AreSound}
-use Rattle.commands.specs.Left.{Seen, IsDone, Leaves, HasNumbers}
-use Rattle.commands.specs.Said.{Heard, Says}
+use Rattle.commands.specs.Left.{IsDone, Leaves, HasNumbers}
+use Rattle.commands.specs.Said.{Says}
 use Rattle.gain_edits.specs.Gain.{gain_command}
 use Rattle.gain_edits.specs.Undo.{undo_command}
 use Rattle.fading.specs.Fade.{fade_command}
@@ -188,3 +190,49 @@ HasFewest _ old new = Unit {0}
 -- so it is of what the words ask for
 abbrev pub HasFewestBytes : List (List ℕ) → Files → Files → Type 0
 HasFewestBytes words old new = IfOk (job_of words) (λ asked. HasFewest asked old new)
+
+-- ---- the run
+
+-- no call of the folder failed, and no write to standard output
+abbrev pub NoCallFailed : World → World → Type 0
+NoCallFailed old new =
+    (Rose old.folder.counts.read_faults.times new.folder.counts.read_faults.times → ⊥)
+    × (Rose old.folder.counts.write_faults.times new.folder.counts.write_faults.times → ⊥)
+    × (Rose old.out.faults new.out.faults → ⊥)
+
+-- what a run of the program with these words is, by the world before and after it, and its status
+pub record ProgramRun (words : List (List ℕ)) (old new : World) (status : ℕ) : Type 0 where
+  -- the statuses are 0 to 4
+  pub statuses : status ≤ 4
+  -- refused words give status 2, and nothing else does
+  pub bad_word : (status ≡ 2) ↔ IsErr (job_of words)
+  -- over every folder, also one that doesn't tell its files: the command was done, or there is a fault with its status, its line with its
+  -- numbers, its cause and what it leaves
+  pub answers : AnswersWords old new status (job_of words)
+  -- with status 0, 1 or 2 all is as defined, whether or not a call failed
+  pub defined : status ≤ 2 → IfTold old.folder.files (λ files. IsOutcome (outcome words files) old new status)
+  -- Where no call of the folder failed, nor a write to standard output, and memory was found, exactly what is legal is done: the words ask for
+  -- a command, no input is an output, each input that is read as a stream is there, no longer than allowed and well-formed, and the choices
+  -- are legal.
+  pub accepted : (files : Contents) → old.folder.files ≡ Told files → NoCallFailed old new → status ≢ 4 → ((status ≡ 0) ↔ IsLegal words files)
+  -- each output is there, by its name, well-formed, and its stream is exactly the frames that the job chooses of its inputs: part by part at
+  -- most one silent lead-in and then the frames, or the input's frames alone where only gains move
+  pub streams : status ≡ 0 → HoldsAllStreams words old.folder.files new.folder.files
+  -- with `pack --best`, and where the folder tells its files, no file of the same frames in other slots, with a lead-in where this one has one
+  -- or with none, has fewer bytes
+  pub fewest : status ≡ 0 → HasFewestBytes words old.folder.files new.folder.files
+  -- over every folder, told or not, no name but those of the outputs was touched: created, or written to
+  pub touches : OnlyTouches (outputs_asked (job_of words)) old.folder.files new.folder.files
+  -- a refusal and want of memory leave the files, and touch no name
+  pub kept : status ≢ 0 → status ≢ 3 → new.folder.files ≡ old.folder.files
+  -- no other status hides an absent input, a failed call of the folder or a file that became shorter
+  pub failed : status ≢ 3 → new.folder.counts ≡ old.folder.counts
+  -- a command that was done sends no line
+  pub quiet : status ≡ 0 → new.err.sent ≡ old.err.sent
+  -- standard output gets a text only where the command was done, or a write there failed
+  pub silent : status ≢ 0 → status ≢ 3 → new.out.sent ≡ old.out.sent
+  -- some texts are the same whatever the files are, and are sent over every folder: those of `--help`, `--version` and `drill`, and the empty
+  -- ones of the commands that write files, except `salvage`
+  pub text : status ≡ 0 → IfSome (always_of (job_of words)) (λ text. new.out.sent ≡ sent_more old.out.sent text)
+  -- the counts of what failed don't fall
+  pub counts : NoneFell old.folder.counts new.folder.counts

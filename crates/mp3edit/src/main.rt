@@ -1,15 +1,10 @@
 //! The program.
 #![tactic(auto)]
 
-ghost use Rattle.std.specs.Prelude.{◌≡◌, ◌≢◌, ◌↔◌, map, string_bytes, IfOk, IfErr, IfSome, OnErr};
+ghost use Rattle.std.specs.Prelude.{◌≡◌, ◌≢◌, map, string_bytes, IfOk, IfErr, OnErr};
 ghost use Rattle.std.specs.IoError.{error_kind};
 ghost use Rattle.std.specs.declared.io.ErrorKind.TheVariants.{OutOfMemory};
-ghost use Rattle.outside.specs.Counts.{Rose};
-ghost use Rattle.outside.specs.Files.{Contents, Told, OnlyTouches, sent_more};
-ghost use Rattle.commands.specs.Left.{seen};
-ghost use Rattle.commands.specs.Said.{heard};
-ghost use Rattle.job_words.specs.Words.{job_of};
-ghost use Rattle.mp3_cli.specs.Run.{always_of, world, AnswersWords, IsLegal, HoldsAllStreams, outputs_asked};
+ghost use Rattle.mp3_cli.specs.Run.{world, ProgramRun};
 
 use mp3_cli::run;
 use on_disk::{DiskFolder, StdSink};
@@ -45,39 +40,19 @@ fn answer<D: Folder, T: Sink, E: Sink>(
     out: &mut T,
     err: &mut E,
 ) -> u8
-    // Clauses of `run`.
-    ensures answers { IfOk words (λ v. AnswersWords
-        (world (seen (D.files folder.old) (D.counts folder.old))
-        (heard (T.sent out.old) (T.faults out.old)) (heard (E.sent err.old) (E.faults err.old)))
-        (world (seen (D.files folder.new) (D.counts folder.new))
-        (heard (T.sent out.new) (T.faults out.new)) (heard (E.sent err.new) (E.faults err.new)))
-        result (job_of (map string_bytes v.items))) }
-    ensures accepted { IfOk words (λ v. (files : Contents) → D.files folder.old ≡ Told files
-        → (Rose (D.counts folder.old).read_faults.times
-        (D.counts folder.new).read_faults.times → ⊥)
-        → (Rose (D.counts folder.old).write_faults.times
-        (D.counts folder.new).write_faults.times → ⊥)
-        → (Rose (T.faults out.old) (T.faults out.new) → ⊥) → result ≢ 4
-        → ((result ≡ 0) ↔ IsLegal (map string_bytes v.items) files)) }
-    ensures streams { IfOk words (λ v. result ≡ 0
-        → HoldsAllStreams (map string_bytes v.items) (D.files folder.old) (D.files folder.new)) }
-    ensures text { IfOk words (λ v. result ≡ 0
-        → IfSome (always_of (job_of (map string_bytes v.items)))
-        (λ text. T.sent out.new ≡ sent_more (T.sent out.old) text)) }
-
-    ensures touches { IfOk words (λ v. OnlyTouches
-        (outputs_asked (job_of (map string_bytes v.items)))
-        (D.files folder.old) (D.files folder.new)) }
-    ensures kept { IfOk words (λ v. result ≢ 0 → result ≢ 3
-        → D.files folder.new ≡ D.files folder.old) }
+    ensures run { IfOk words (λ v. ProgramRun (map string_bytes v.items)
+        (world (D.seen folder.old)
+        (T.heard out.old) (E.heard err.old))
+        (world (D.seen folder.new)
+        (T.heard out.new) (E.heard err.new))
+        result) }
 
     // The clauses of `status_without_words`.
     ensures memory { IfErr words (λ error. error_kind error ≡ OutOfMemory → result ≡ 4) }
     ensures other { IfErr words (λ error. error_kind error ≢ OutOfMemory → result ≡ 3) }
-    ensures untouched { OnErr words (seen (D.files folder.new) (D.counts folder.new) ≡ seen
-        (D.files folder.old) (D.counts folder.old)) }
-    ensures silent { OnErr words ((T.sent out.new ≡ T.sent out.old)
-        × (E.sent err.new ≡ E.sent err.old)) }
+    ensures untouched { OnErr words (D.seen folder.new ≡ D.seen folder.old) }
+    ensures silent { OnErr words (((T.heard out.new).sent ≡ (T.heard out.old).sent)
+        × ((E.heard err.new).sent ≡ (E.heard err.old).sent)) }
 {
     match words {
         Ok(words) => run(alloc, &words, folder, out, err),

@@ -8,7 +8,8 @@ use Rattle.on_disk.specs.declared.disk.Opened.{Opened}
 use Rattle.on_disk.specs.declared.noted.FileId.{FileId}
 use Rattle.on_disk.specs.declared.stream.StdSink.{StdSink}
 use Rattle.outside.specs.Counts.{Counts}
-use Rattle.outside.specs.Files.{Files, Untold}
+use Rattle.outside.specs.Files.{untold_bytes, Files, Untold}
+use Rattle.outside.specs.Seen.{Seen, seen, Heard, heard}
 use Rattle.on_disk.specs.Names.{touched_in}
 use Rattle.on_disk.specs.Opening.{is_noted}
 
@@ -18,6 +19,10 @@ disk_counts folder = folder.tally
 -- nothing is told of real files but which names may have been touched
 abbrev pub disk_files : {R File Dir : Type 0} → DiskFolder R File Dir → Files
 disk_files folder = Untold (touched_in folder.touched)
+
+-- what is seen of the folder
+abbrev pub disk_seen : {R File Dir : Type 0} → DiskFolder R File Dir → Seen
+disk_seen folder = seen (disk_files folder) (disk_counts folder)
 
 -- the name that an open file was opened by
 abbrev pub open_name : {File : Type 0} → Option (Opened File) → Option (List ℕ)
@@ -95,8 +100,27 @@ pub record EndsAt {File : Type 0} (position : File → Option ℕ) (bytes : File
 abbrev pub stream_faults : {W : Type 0} → StdSink W → ℕ
 stream_faults sink = sink.faults
 
+-- what is heard of the sink, which tells no bytes
+abbrev pub stream_heard : {W : Type 0} → StdSink W → Heard
+stream_heard sink = heard untold_bytes (stream_faults sink)
+
 -- known bytes grew by a prefix of these
 pub record GrewByPrefix (old new : Option (List ℕ)) (bytes : List ℕ) : Type 0 where
   pub count : ℕ
   pub within : count ≤ length bytes
   pub grew : Appends old new (take count bytes)
+
+-- Nothing of the folder changed but which file is open for reading.
+pub record OnlyFound {R File Dir : Type 0} (was now : DiskFolder R File Dir) : Type 0 where
+  pub tally : disk_counts now ≡ disk_counts was
+  pub touched : now.touched ≡ was.touched
+  pub noted : now.noted ≡ was.noted
+  pub created : now.created ≡ was.created
+
+-- Nothing of the folder changed but the bytes of the file that is open for writing.
+pub record OnlyWrote {R File Dir : Type 0} (was now : DiskFolder R File Dir) : Type 0 where
+  pub tally : disk_counts now ≡ disk_counts was
+  pub touched : now.touched ≡ was.touched
+  pub opened : created_name now ≡ created_name was
+  pub found : now.found ≡ was.found
+  pub noted : now.noted ≡ was.noted

@@ -4,9 +4,10 @@ ghost use Rattle.std.specs.Fs.{new_options};
 ghost use Rattle.std.specs.Io.KnownBytes.{Keeps, WriteAppends};
 ghost use Rattle.on_disk.specs.Names.{touched_in};
 ghost use Rattle.on_disk.specs.Opening.{is_noted};
-ghost use Rattle.on_disk.specs.Real.{open_name, TellsBytes, ReadsOn};
+ghost use Rattle.on_disk.specs.Real.{open_name, TellsBytes, ReadsOn, OnlyFound, OnlyWrote};
 ghost use Rattle.outside.specs.Files.{Untold, emptied, appended, FailsToCreate, Holds, IsThere, IsMissing, AreOctets};
 ghost use Rattle.outside.specs.Counts.{none_counted, with_miss, with_end, with_read_fault, with_write_fault, OnlyReads, OnlyWrites, NothingFailed, HappenedTo, EndedAt};
+ghost use Rattle.outside.specs.Answers.{FindAnswer, ReadAnswer, CreateAnswer, WriteAnswer};
 
 use crate::noted::{FileId, Noted, Opening, opening_of};
 use crate::reading::{length_of, read_part};
@@ -165,10 +166,7 @@ impl<'a, R: Files> DiskFolder<'a, R> {
     fn read_there(&mut self, name: &str, at: u64, into: &mut [u8]) -> Result<usize, Failed>
         ensures bound { IfOk result (λ k. k ≤ length into.old) }
         ensures rest { IfOk result (λ k. drop k into.new ≡ drop k into.old) }
-        ensures tally { disk_counts self.new ≡ disk_counts self.old }
-        ensures touched { self.new.touched ≡ self.old.touched }
-        ensures noted { self.new.noted ≡ self.old.noted }
-        ensures created { self.new.created ≡ self.old.created }
+        ensures aside { OnlyFound self.old self.new }
         ensures opened { OnOk result (found_name self.new ≡ Some name.now) }
         ensures whole { ReadsWhole R.File.stream_position R.File.stream_bytes self.old name.now at
             (length into.old) result }
@@ -223,15 +221,11 @@ impl<'a, R: Files> DiskFolder<'a, R> {
     fn append(&mut self, name: &str, bytes: &[u8]) -> Result<usize, Failed>
         ensures bound { IfOk result (λ k. k ≤ length bytes.now) }
         ensures some { IfOk result (λ k. 0 < length bytes.now → 0 < k) }
-        ensures tally { disk_counts self.new ≡ disk_counts self.old }
-        ensures touched { self.new.touched ≡ self.old.touched }
+        ensures rest { OnlyWrote self.old self.new }
         ensures kept { OnErr result (Keeps (created_bytes R.File.contents self.old)
             (created_bytes R.File.contents self.new)) }
         ensures appended { AppendsOpen R.File.contents self.old self.new name.now bytes.now result }
         ensures aside { LeavesOthers self.old self.new name.now }
-        ensures opened { created_name self.new ≡ created_name self.old }
-        ensures found { self.new.found ≡ self.old.found }
-        ensures noted { self.new.noted ≡ self.old.noted }
     {
         if !is_open(&self.created, name) {
             return append_anew(self.rt, name, bytes);
@@ -291,11 +285,9 @@ fn open_regular<R: Files>(rt: &R, name: &str) -> Result<(R::File, FileId), FindF
 }
 
 impl<'a, R: Files> Folder for DiskFolder<'a, R> {
-    ghost use Rattle.on_disk.specs.Real.{disk_counts, disk_files, found_name, found_file, created_name, created_bytes, EndsAt, ReadsWhole, ReadsOpen, AppendsOpen, LeavesOthers, FoundIsNoted, CreatedIsNotNoted, StayNoted};
+    ghost use Rattle.on_disk.specs.Real.{disk_seen, disk_counts, disk_files, found_name, found_file, created_name, created_bytes, EndsAt, ReadsWhole, ReadsOpen, AppendsOpen, LeavesOthers, FoundIsNoted, CreatedIsNotNoted, StayNoted};
 
-    ghost files = { λ folder. disk_files folder };
-
-    ghost counts = { λ folder. disk_counts folder };
+    ghost seen = { λ folder. disk_seen folder };
 
     /// The length of a regular file in bytes. The file is kept open for `read`.
     ///
@@ -304,22 +296,7 @@ impl<'a, R: Files> Folder for DiskFolder<'a, R> {
     /// Anything but a regular file, such as a directory or a pipe, is a fault, and nothing blocks on it. So
     /// is a file that this folder finds after 65 others.
     fn find(&mut self, name: &str) -> Result<u64, FindFault>
-        ensures found { IfOk result (λ n. (bytes : List ℕ)
-            → Holds (disk_files self.old) name.now bytes → n ≡ length bytes) }
-        ensures there { OnOk result (IsThere (disk_files self.old) name.now) }
-        ensures octets { OnOk result ((bytes : List ℕ) → Holds (disk_files self.old) name.now bytes
-            → AreOctets bytes) }
-        ensures missing { IsErrOf result FindFault.Absent
-            → IsMissing (disk_files self.old) name.now }
-        ensures absent { IsErrOf result FindFault.Absent
-            → HappenedTo name.now (disk_counts self.old).misses (disk_counts self.new).misses }
-        ensures failed { IsErrOf result FindFault.Failed
-            → HappenedTo name.now (disk_counts self.old).read_faults
-            (disk_counts self.new).read_faults }
-        ensures files { disk_files self.new ≡ disk_files self.old }
-        ensures ends { (disk_counts self.new).ends ≡ (disk_counts self.old).ends }
-        ensures done { OnOk result (disk_counts self.new ≡ disk_counts self.old) }
-        ensures counts { OnlyReads (disk_counts self.old) (disk_counts self.new) }
+        ensures answer { FindAnswer name.now (disk_seen self.old) (disk_seen self.new) result }
         // What the library knows of the open file.
         ensures opened { OnOk result (found_name self.new ≡ Some name.now) }
         ensures length { IfOk result (λ n. IfSome (found_file self.new)
@@ -351,25 +328,8 @@ impl<'a, R: Files> Folder for DiskFolder<'a, R> {
     /// # Errors
     /// Where the system gives an error, and where the file is cut short while it is read.
     fn read(&mut self, name: &str, at: u64, into: &mut [u8]) -> Result<usize, Failed>
-        ensures bound { IfOk result (λ k. k ≤ length into.old) }
-        ensures bytes { IfOk result (λ k. (bytes : List ℕ)
-            → Holds (disk_files self.old) name.now bytes
-            → take k into.new ≡ take k (drop at bytes)) }
-        ensures rest { IfOk result (λ k. drop k into.new ≡ drop k into.old) }
-        ensures end { IfOk result (λ k. (bytes : List ℕ)
-            → Holds (disk_files self.old) name.now bytes → k ≡ 0
-            → (length into.old ≡ 0) ⊎ (length bytes ≤ at)) }
-        ensures within { IfOk result (λ k. (bytes : List ℕ)
-            → Holds (disk_files self.old) name.now bytes → k ≤ length bytes - at) }
-        ensures ended { IfOk result (λ k. k ≡ 0 → 0 < length into.old
-            → EndedAt name.now at (disk_counts self.old).ends (disk_counts self.new).ends) }
-        ensures failed { OnErr result (HappenedTo name.now (disk_counts self.old).read_faults
-            (disk_counts self.new).read_faults) }
-        ensures files { disk_files self.new ≡ disk_files self.old }
-        ensures got { IfOk result (λ k. (0 < k) ⊎ (length into.old ≡ 0)
-            → disk_counts self.new ≡ disk_counts self.old) }
-        ensures done { OnOk result (NothingFailed (disk_counts self.old) (disk_counts self.new)) }
-        ensures counts { OnlyReads (disk_counts self.old) (disk_counts self.new) }
+        ensures answer { ReadAnswer name.now at into.old into.new (disk_seen self.old)
+            (disk_seen self.new) result }
         // What the library knows of the open file: its own bytes were read, as many as there are and fit.
         ensures opened { OnOk result (found_name self.new ≡ Some name.now) }
         ensures whole { ReadsWhole R.File.stream_position R.File.stream_bytes self.old name.now at
@@ -399,14 +359,7 @@ impl<'a, R: Files> Folder for DiskFolder<'a, R> {
     /// folder found. That file is left as it is.
     #[tactic(auto, unfolding(outside::specs::Files::emptied))]
     fn create(&mut self, name: &str) -> Result<(), Failed>
-        ensures created { OnOk result (disk_files self.new
-            ≡ emptied (disk_files self.old) name.now) }
-        ensures kept { OnErr result (FailsToCreate name.now (disk_files self.old)
-            (disk_files self.new)) }
-        ensures failed { OnErr result (HappenedTo name.now (disk_counts self.old).write_faults
-            (disk_counts self.new).write_faults) }
-        ensures done { OnOk result (disk_counts self.new ≡ disk_counts self.old) }
-        ensures counts { OnlyWrites (disk_counts self.old) (disk_counts self.new) }
+        ensures answer { CreateAnswer name.now (disk_seen self.old) (disk_seen self.new) result }
         ensures opened { OnOk result (created_name self.new ≡ Some name.now) }
         // Its device and inode are those of no file that was found.
         ensures unfound { OnOk result (CreatedIsNotNoted self.new) }
@@ -429,15 +382,8 @@ impl<'a, R: Files> Folder for DiskFolder<'a, R> {
     /// though there are some.
     #[tactic(auto, unfolding(outside::specs::Files::appended))]
     fn write(&mut self, name: &str, bytes: &[u8]) -> Result<usize, Failed>
-        ensures bound { IfOk result (λ k. k ≤ length bytes.now) }
-        ensures some { IfOk result (λ k. 0 < length bytes.now → 0 < k) }
-        ensures written { IfOk result (λ k. disk_files self.new
-            ≡ appended (disk_files self.old) name.now (take k bytes.now)) }
-        ensures kept { OnErr result (disk_files self.new ≡ disk_files self.old) }
-        ensures failed { OnErr result (HappenedTo name.now (disk_counts self.old).write_faults
-            (disk_counts self.new).write_faults) }
-        ensures done { OnOk result (disk_counts self.new ≡ disk_counts self.old) }
-        ensures counts { OnlyWrites (disk_counts self.old) (disk_counts self.new) }
+        ensures answer { WriteAnswer name.now bytes.now (disk_seen self.old) (disk_seen self.new)
+            result }
         // What the library knows of the open file: exactly these bytes came to its end, and none in a call that
         // fails.
         ensures appended { AppendsOpen R.File.contents self.old self.new name.now bytes.now result }

@@ -2,6 +2,7 @@
 ghost use Rattle.std.specs.Prelude.{◌≡◌, ◌<◌, ◌≤◌, length, take, IfOk, OnOk, OnErr};
 ghost use Rattle.outside.specs.Files.{untold_bytes, sent_more};
 ghost use Rattle.outside.specs.Counts.{HasCause, one_more};
+ghost use Rattle.outside.specs.Answers.{SendAnswer};
 ghost use Rattle.std.specs.Io.KnownBytes.{Appends};
 
 use crate::writing::write_some;
@@ -43,11 +44,9 @@ impl<W: Write + Drop> StdSink<W> {
 }
 
 impl<W: Write + Drop> Sink for StdSink<W> {
-    ghost use Rattle.on_disk.specs.Real.{stream_faults, GrewByPrefix};
+    ghost use Rattle.on_disk.specs.Real.{stream_heard, stream_faults, GrewByPrefix};
 
-    ghost sent = { λ _. untold_bytes };
-
-    ghost faults = { λ sink. stream_faults sink };
+    ghost heard = { λ sink. stream_heard sink };
 
     /// Writes a prefix of the bytes, and flushes the writer.
     ///
@@ -55,12 +54,8 @@ impl<W: Write + Drop> Sink for StdSink<W> {
     /// Where the writer fails, and where it takes none of the bytes though there are some.
     #[tactic(auto, unfolding(outside::specs::Files::sent_more))]
     fn write(&mut self, bytes: &[u8]) -> Result<usize, Failed>
-        ensures bound { IfOk result (λ k. k ≤ length bytes.now) }
-        ensures some { IfOk result (λ k. 0 < length bytes.now → 0 < k) }
-        ensures written { IfOk result (λ k. untold_bytes ≡ sent_more untold_bytes
-            (take k bytes.now)) }
-        ensures kept { OnErr result (untold_bytes ≡ untold_bytes) }
-        ensures cause { HasCause (stream_faults self.old) (stream_faults self.new) result }
+        ensures answer { SendAnswer bytes.now (stream_heard self.old)
+            (stream_heard self.new) result }
         // Where the library knows what the writer holds, exactly these bytes came to it, or in a call that
         // fails a prefix of them.
         ensures passed { IfOk result (λ k. Appends (W.contents self.old.writer)

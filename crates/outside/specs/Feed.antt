@@ -2,6 +2,14 @@
 use Rattle.std.specs.Prelude.{◌≡◌, ℕ, ◌^◌, ◌≤◌, List, length, take, drop}
 use Rattle.outside.specs.Files.{Files, Holds}
 
+-- the size of a buffer in bytes
+abbrev pub buffer_size : ℕ
+buffer_size = 65536
+
+-- how many bytes a feed gives at once, at most
+abbrev pub most_given : ℕ
+most_given = 4096
+
 pub record Fed : Type 0 where
   -- the offset in the file of the first byte that is held
   pub place : ℕ
@@ -15,8 +23,8 @@ pub record IsFedFrom (fed : Fed) (files : Files) (name : List ℕ) : Type 0 wher
 
 -- the buffer of a feed, and the bounds of what is held and given
 pub record IsWithin (room : List ℕ) (place held from to : ℕ) : Type 0 where
-  pub size : length room ≡ 65536
-  pub few : held ≤ 65536
+  pub size : length room ≡ buffer_size
+  pub few : held ≤ buffer_size
   pub among : to ≤ held
   pub ordered : from ≤ to
   pub early : place ≤ 2 ^ 32

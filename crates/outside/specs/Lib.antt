@@ -10,3 +10,5 @@ pub mod Plan
 pub mod Slots
 pub mod Memory
 pub mod Short
+pub mod Seen
+pub mod Answers

@@ -1,5 +1,5 @@
 -- What a folder and a sink in memory show.
-use Rattle.std.specs.Prelude.{◌≡◌, ◌≢◌, ℕ, ◌+◌, List, [], length, Bool, ◌||◌, not, nat_lt, Option, None, Some, Result, Ok, Err, if◌then◌else◌, max, is_some, unwrap_or, bytes_eq}
+use Rattle.std.specs.Prelude.{◌≡◌, ◌≢◌, ℕ, ◌+◌, List, [], length, Bool, ◌||◌, not, nat_lt, Option, None, Some, Result, Ok, Err, if◌then◌else◌, max, is_some, unwrap_or, bytes_eq, ◌==◌, ◌&&◌, ◌-◌, min, is_err, IfOk, OnOk, OnErr, IsErrOf}
 use Rattle.std.specs.Map.{update}
 use Rattle.outside.specs.declared.folder.FindFault.{FindFault}
 use Rattle.outside.specs.declared.folder.FindFault.TheVariants.{Absent, Failed}
@@ -7,10 +7,12 @@ use Rattle.outside.specs.declared.memory.folder.Call.{Call}
 use Rattle.outside.specs.declared.memory.folder.Call.TheVariants.{Find, Read, Create, Write}
 use Rattle.outside.specs.declared.memory.folder.MemFolder.{MemFolder}
 use Rattle.outside.specs.declared.memory.sink.MemSink.{MemSink}
-use Rattle.outside.specs.Counts.{Counts, one_more}
-use Rattle.outside.specs.Files.{Contents}
+use Rattle.outside.specs.Counts.{Counts, one_more, with_miss, with_end, with_read_fault, with_write_fault}
+use Rattle.outside.specs.Files.{Contents, Told}
 use Rattle.outside.specs.Plan.{Plan, is_next_to_fail}
 use Rattle.outside.specs.Slots.{contents_in, rooms_in}
+use Rattle.outside.specs.Seen.{Seen, seen, Heard, heard}
+use Rattle.outside.specs.declared.folder.Failed.{Failed as FailedCall}
 
 -- the files of a folder
 abbrev pub contents_of : MemFolder → Contents
@@ -103,3 +105,51 @@ writes_to_fail sink = sink.writes.failing
 -- a `write` of these bytes to the sink fails
 abbrev pub send_fails : MemSink → List ℕ → Bool
 send_fails sink bytes = is_next_to_fail sink.writes || nat_lt (sink_room sink) (length (bytes_sent sink) + length bytes)
+
+-- what is seen of the folder
+abbrev pub seen_of : MemFolder → Seen
+seen_of folder = seen (Told (contents_of folder)) (counts_of folder)
+
+-- what is heard of the sink
+abbrev pub sink_heard : MemSink → Heard
+sink_heard sink = heard (Some (bytes_sent sink)) (sink_faults sink)
+
+-- A folder in memory finds what it has, or fails as it was told to; each is counted.
+pub record MemFinds (name : List ℕ) (was now : MemFolder) (result : Result ℕ FindFault) : Type 0 where
+  pub exact : result ≡ find_answer was name
+  pub called : Called was now Find
+  pub absent_counts : IsErrOf result Absent → counts_of now ≡ with_miss name (counts_of was)
+  pub failed_counts : IsErrOf result Failed → counts_of now ≡ with_read_fault name (counts_of was)
+
+-- It gives all that there is and fits, or fails as it was told to; each is counted.
+pub record MemReads (name : List ℕ) (at : ℕ) (before after : List ℕ) (was now : MemFolder) (result : Result ℕ FailedCall) : Type 0 where
+  pub fails : is_err result ≡ is_to_fail was Read
+  pub whole : IfOk result (λ k. k ≡ min (length before) (length (bytes_of was name) - at))
+  pub called : Called was now Read
+  pub kept : OnErr result (after ≡ before)
+  pub read_counts : IfOk result (λ k. counts_of now ≡ (if k == 0 && nat_lt 0 (length before) then with_end name at (counts_of was) else counts_of was))
+  pub failed_counts : OnErr result (counts_of now ≡ with_read_fault name (counts_of was))
+
+-- It makes a name hold no bytes where it has room for it, or fails as it was told to.
+pub record MemCreates (name : List ℕ) (was now : MemFolder) (result : Result (Unit {0}) FailedCall) : Type 0 where
+  pub stays : OnErr result (contents_of now ≡ contents_of was)
+  pub fails : is_err result ≡ create_fails was name
+  pub called : Called was now Create
+  pub failed_counts : OnErr result (counts_of now ≡ with_write_fault name (counts_of was))
+
+-- It takes all bytes where it has room for them, or fails as it was told to.
+pub record MemWrites (name bytes : List ℕ) (was now : MemFolder) (result : Result ℕ FailedCall) : Type 0 where
+  pub fails : is_err result ≡ write_fails was name bytes
+  pub whole : IfOk result (λ k. k ≡ length bytes)
+  pub called : Called was now Write
+  pub failed_counts : OnErr result (counts_of now ≡ with_write_fault name (counts_of was))
+
+-- A sink in memory takes all bytes where it has room for them, or fails as it was told to; each is counted.
+pub record MemSends (bytes : List ℕ) (was now : MemSink) (result : Result ℕ FailedCall) : Type 0 where
+  pub fails : is_err result ≡ send_fails was bytes
+  pub whole : IfOk result (λ k. k ≡ length bytes)
+  pub room : sink_room now ≡ sink_room was
+  pub made : writes_made now ≡ one_more (writes_made was)
+  pub failing : writes_to_fail now ≡ writes_to_fail was
+  pub written_faults : OnOk result (sink_faults now ≡ sink_faults was)
+  pub failed_faults : OnErr result (sink_faults now ≡ one_more (sink_faults was))

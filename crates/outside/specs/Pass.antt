@@ -1,8 +1,9 @@
 -- What a pass over an input makes of its output, and why it ends early.
-use Rattle.std.specs.Prelude.{◌≡◌, ◌≢◌, ℕ, ◌-◌, ◌^◌, ◌<◌, ◌≤◌, List, [], ◌++◌, length, take, drop}
+use Rattle.std.specs.Prelude.{◌≡◌, ◌≢◌, ℕ, ◌-◌, ◌^◌, ◌<◌, ◌≤◌, List, [], ◌++◌, length, take, drop, Result, IfErr, OnOk, OnErr}
 use Rattle.outside.specs.Files.{Files, appended, Holds, IsThere}
 use Rattle.outside.specs.Counts.{Counts, HappenedTo, OnlyWrites}
-use Rattle.outside.specs.Passed.{PassedOn}
+use Rattle.outside.specs.Passed.{PassedOn, AppendedPrefix}
+use Rattle.outside.specs.Seen.{Seen}
 use Rattle.outside.specs.Feed.{Fed, IsFedFrom}
 use Rattle.outside.specs.Exact.{HasReadCause}
 use Rattle.outside.specs.declared.exact.ReadFault.{ReadFault}
@@ -94,3 +95,39 @@ HasPassCause way files before after Write = HappenedTo way.output before.write_f
 -- that of a fault that comes before there is an output
 abbrev pub HasInputCause : List ℕ → ℕ → Files → Counts → Counts → PassFault → Type 0
 HasInputCause name size files before after fault = HasPassCause (route name [] size) files before after fault
+
+-- ---- what the calls of a pass answer
+
+-- What is made of the input was added to what waits for the output, or a call failed.
+pub record PassMakes {T : Type 0} (pass : Pass) (made : List ℕ → List ℕ) (before after : List ℕ) (fed : Fed) (old new : Seen) (result : Result T PassFault) : Type 0 where
+  pub written : OnOk result (Writes pass made before after old.files new.files)
+  pub prefix : IfErr result (WritesPrefix pass made before old.files new.files)
+  pub done : OnOk result (new.counts ≡ old.counts)
+  pub cause : IfErr result (HasPassCause (route_of pass) old.files old.counts new.counts)
+  pub ready : OnOk result (IsReady pass new.files fed)
+
+-- These bytes were added to what waits for the output, or a write failed, after which nothing waits.
+pub record PassPushes (pass : Pass) (before bytes after : List ℕ) (old new : Seen) (result : Result (Unit {0}) PassFault) : Type 0 where
+  pub passed : OnOk result (PassedOn pass.output.now (before ++ bytes) after old.files new.files)
+  pub prefix : OnErr result (AppendedPrefix pass.output.now (before ++ bytes) old.files new.files)
+  pub none : OnErr result (after ≡ [])
+  pub done : OnOk result (new.counts ≡ old.counts)
+  pub cause : IfErr result (HasPassCause (route_of pass) old.files old.counts new.counts)
+
+-- A feed gave so many bytes of the input, or a read failed.
+pub record PassFills (pass : Pass) (at n : ℕ) (fed : Fed) (old new : Seen) (result : Result (Unit {0}) PassFault) : Type 0 where
+  pub given : OnOk result (length fed.given ≡ n)
+  pub bytes : OnOk result (AreMade old.files pass.input.now (bytes_at at n) fed.given)
+  pub done : OnOk result (new.counts ≡ old.counts)
+  pub cause : IfErr result (HasPassCause (route_of pass) old.files old.counts new.counts)
+  pub read : IfErr result IsOfRead
+  pub files : new.files ≡ old.files
+  pub ready : IsReady pass new.files fed
+
+-- What waits was appended to the output, or a write failed.
+pub record PassFinishes (pass : Pass) (before after : List ℕ) (old new : Seen) (result : Result (Unit {0}) PassFault) : Type 0 where
+  pub appended : OnOk result (new.files ≡ appended old.files pass.output.now before)
+  pub prefix : OnErr result (AppendedPrefix pass.output.now before old.files new.files)
+  pub none : after ≡ []
+  pub done : OnOk result (new.counts ≡ old.counts)
+  pub cause : IfErr result (HasPassCause (route_of pass) old.files old.counts new.counts)

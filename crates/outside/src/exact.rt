@@ -1,9 +1,11 @@
 //! Reads bytes that a file had when it was found, all of them or none.
 ghost use Rattle.std.specs.Prelude.{◌≡◌, ◌+◌, ◌^◌, ◌<◌, ◌≤◌, List, ℕ, length, take, drop, IfErr, OnOk};
-ghost use Rattle.outside.specs.Files.{Holds, IsThere};
-ghost use Rattle.outside.specs.Feed.{IsFedFrom};
+ghost use Rattle.outside.specs.Files.{IsThere};
+ghost use Rattle.outside.specs.Feed.{IsFedFrom, most_given};
 ghost use Rattle.outside.specs.Counts.{OnlyReads};
+ghost use Rattle.outside.specs.Seen.{OnFile};
 ghost use Rattle.outside.specs.Exact.{HasReadCause};
+ghost use Rattle.outside.specs.Answers.{ReadExact, FillExact};
 
 use crate::feed::Feed;
 use crate::folder::Folder;
@@ -31,18 +33,12 @@ pub fn read_exact<D: Folder>(
     at: u64,
     into: &mut [u8],
 ) -> Result<(), ReadFault>
-    requires there { IsThere (D.files folder.old) name.now }
-    requires found { (bytes : List ℕ) → Holds (D.files folder.old) name.now bytes
-        → length bytes ≡ size }
+    requires there { IsThere (D.seen folder.old).files name.now }
+    requires found { OnFile (D.seen folder.old) name.now (λ bytes. length bytes ≡ size) }
     requires few { size < 2 ^ 63 }
     requires within { at + length into.old ≤ size }
-    ensures bytes { OnOk result ((bytes : List ℕ) → Holds (D.files folder.old) name.now bytes
-        → into.new ≡ take (length into.old) (drop at bytes)) }
-    ensures done { OnOk result (D.counts folder.new ≡ D.counts folder.old) }
-    ensures cause { IfErr result (HasReadCause name.now size (D.files folder.old)
-        (D.counts folder.old) (D.counts folder.new)) }
-    ensures files { D.files folder.new ≡ D.files folder.old }
-    ensures counts { OnlyReads (D.counts folder.old) (D.counts folder.new) }
+    ensures { ReadExact name.now size at into.old into.new (D.seen folder.old)
+        (D.seen folder.new) result }
 {
     match read_full(folder, name, at, into) {
         Ok(got) if got < into.len() => Err(ReadFault::Shrunk(size, at + got as u64)),
@@ -66,22 +62,14 @@ impl Feed {
         at: u64,
         n: usize,
     ) -> Result<(), ReadFault>
-        requires there { IsThere (D.files folder.old) name.now }
-        requires found { (bytes : List ℕ) → Holds (D.files folder.old) name.now bytes
-            → length bytes ≡ size }
-        requires few { n ≤ 4096 }
+        requires there { IsThere (D.seen folder.old).files name.now }
+        requires found { OnFile (D.seen folder.old) name.now (λ bytes. length bytes ≡ size) }
+        requires few { n ≤ most_given }
         requires short { size ≤ 2 ^ 32 }
         requires within { at + n ≤ size }
-        requires fed { IsFedFrom self.old (D.files folder.old) name.now }
-        ensures given { OnOk result (length self.new.given ≡ n) }
-        ensures bytes { OnOk result ((bytes : List ℕ) → Holds (D.files folder.old) name.now bytes
-            → self.new.given ≡ take n (drop at bytes)) }
-        ensures done { OnOk result (D.counts folder.new ≡ D.counts folder.old) }
-        ensures cause { IfErr result (HasReadCause name.now size (D.files folder.old)
-            (D.counts folder.old) (D.counts folder.new)) }
-        ensures fed { IsFedFrom self.new (D.files folder.new) name.now }
-        ensures files { D.files folder.new ≡ D.files folder.old }
-        ensures counts { OnlyReads (D.counts folder.old) (D.counts folder.new) }
+        requires fed { IsFedFrom self.old (D.seen folder.old).files name.now }
+        ensures { FillExact name.now size at n self.new (D.seen folder.old)
+            (D.seen folder.new) result }
     {
         match self.fill(folder, name, at, n) {
             Ok(got) if got < n => Err(ReadFault::Shrunk(size, at + got as u64)),

@@ -1,16 +1,16 @@
 //! The bytes of a file, through one buffer.
 ghost use Rattle.std.specs.Prelude.{◌≡◌, ◌+◌, ◌-◌, ◌^◌, ◌<◌, ◌≤◌, List, ℕ, [], length, take, drop, IfOk, OnOk, OnErr};
-ghost use Rattle.outside.specs.Files.{Files, Holds, IsThere};
-ghost use Rattle.outside.specs.Feed.{IsFedFrom};
+ghost use Rattle.outside.specs.Files.{Files, IsThere};
+ghost use Rattle.outside.specs.Feed.{IsFedFrom, buffer_size, most_given};
 ghost use Rattle.outside.specs.Counts.{OnlyReads, NothingFailed, HappenedTo, EndedAt};
+ghost use Rattle.outside.specs.Seen.{OnFile};
+ghost use Rattle.outside.specs.Answers.{FillAnswer};
 
 use crate::folder::{Failed, Folder};
 use crate::helpers::read_on;
+use crate::sizes::BUFFER_SIZE;
 use std::alloc::{AllocError, Global};
 use std::marker::Model;
-
-// The size of the buffer in bytes.
-const SIZE: usize = 65_536;
 
 /// A view of one file through a buffer of 65,536 bytes. Contracts see it as the bytes that it holds, their
 /// offset in the file, and the bytes that the last `fill` gave.
@@ -46,7 +46,7 @@ impl Feed {
             → IsFedFrom feed files name) }
     {
         Ok(Feed {
-            room: vec![in alloc; 0; SIZE]?,
+            room: vec![in alloc; 0; BUFFER_SIZE]?,
             place: 0,
             held: 0,
             from: 0,
@@ -91,24 +91,11 @@ impl Feed {
         at: u64,
         n: usize,
     ) -> Result<usize, Failed>
-        requires there { IsThere (D.files folder.old) name.now }
-        requires few { n ≤ 4096 }
+        requires there { IsThere (D.seen folder.old).files name.now }
+        requires few { n ≤ most_given }
         requires short { at + n ≤ 2 ^ 32 }
-        requires fed { IsFedFrom self.old (D.files folder.old) name.now }
-        ensures bound { IfOk result (λ k. k ≤ n) }
-        ensures given { IfOk result (λ k. length self.new.given ≡ k) }
-        ensures bytes { IfOk result (λ k. (bytes : List ℕ)
-            → Holds (D.files folder.old) name.now bytes → self.new.given ≡ take n (drop at bytes)) }
-        ensures whole { IfOk result (λ k. k ≡ n → D.counts folder.new ≡ D.counts folder.old) }
-        ensures ended { IfOk result (λ k. k < n
-            → EndedAt name.now (at + k) (D.counts folder.old).ends (D.counts folder.new).ends) }
-        ensures failed { OnErr result (HappenedTo name.now (D.counts folder.old).read_faults
-            (D.counts folder.new).read_faults) }
-        ensures none { OnErr result (self.new.given ≡ []) }
-        ensures fed { IsFedFrom self.new (D.files folder.new) name.now }
-        ensures files { D.files folder.new ≡ D.files folder.old }
-        ensures done { OnOk result (NothingFailed (D.counts folder.old) (D.counts folder.new)) }
-        ensures counts { OnlyReads (D.counts folder.old) (D.counts folder.new) }
+        requires fed { IsFedFrom self.old (D.seen folder.old).files name.now }
+        ensures { FillAnswer name.now at n self.new (D.seen folder.old) (D.seen folder.new) result }
     {
         let held_to = self.place + self.held as u64;
         if self.place <= at && at + n as u64 <= held_to {
@@ -128,24 +115,11 @@ impl Feed {
         at: u64,
         n: usize,
     ) -> Result<usize, Failed>
-        requires there { IsThere (D.files folder.old) name.now }
-        requires few { n ≤ 4096 }
+        requires there { IsThere (D.seen folder.old).files name.now }
+        requires few { n ≤ most_given }
         requires short { at + n ≤ 2 ^ 32 }
-        requires fed { IsFedFrom self.old (D.files folder.old) name.now }
-        ensures bound { IfOk result (λ k. k ≤ n) }
-        ensures given { IfOk result (λ k. length self.new.given ≡ k) }
-        ensures bytes { IfOk result (λ k. (bytes : List ℕ)
-            → Holds (D.files folder.old) name.now bytes → self.new.given ≡ take n (drop at bytes)) }
-        ensures whole { IfOk result (λ k. k ≡ n → D.counts folder.new ≡ D.counts folder.old) }
-        ensures ended { IfOk result (λ k. k < n
-            → EndedAt name.now (at + k) (D.counts folder.old).ends (D.counts folder.new).ends) }
-        ensures failed { OnErr result (HappenedTo name.now (D.counts folder.old).read_faults
-            (D.counts folder.new).read_faults) }
-        ensures none { OnErr result (self.new.given ≡ []) }
-        ensures fed { IsFedFrom self.new (D.files folder.new) name.now }
-        ensures files { D.files folder.new ≡ D.files folder.old }
-        ensures done { OnOk result (NothingFailed (D.counts folder.old) (D.counts folder.new)) }
-        ensures counts { OnlyReads (D.counts folder.old) (D.counts folder.new) }
+        requires fed { IsFedFrom self.old (D.seen folder.old).files name.now }
+        ensures { FillAnswer name.now at n self.new (D.seen folder.old) (D.seen folder.new) result }
     {
         let room = self.room.as_mut_slice();
         let kept = keep_from(room, self.place, self.held, at);
@@ -164,7 +138,7 @@ impl Feed {
 fn keep_from(room: &mut [u8], place: u64, held: usize, at: u64) -> usize
     requires early { place ≤ 2 ^ 32 }
     requires within { held ≤ length room.old }
-    requires few { held ≤ 65536 }
+    requires few { held ≤ buffer_size }
     ensures fewer { result ≤ held }
     ensures kept { (bytes : List ℕ) → take held (drop place bytes) ≡ take held room.old
         → take result room.new ≡ take result (drop at bytes) }

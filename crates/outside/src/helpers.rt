@@ -1,7 +1,9 @@
 //! Bytes read, appended and sent whole, in as many calls as it takes.
 ghost use Rattle.std.specs.Prelude.{◌≡◌, ◌+◌, ◌-◌, ◌^◌, ◌<◌, ◌≤◌, List, ℕ, length, take, drop, IfOk, OnOk, OnErr};
-ghost use Rattle.outside.specs.Files.{appended, sent_more, Holds, IsThere};
+ghost use Rattle.outside.specs.Files.{appended, sent_more, IsThere};
 ghost use Rattle.outside.specs.Counts.{OnlyReads, OnlyWrites, NothingFailed, HasCause, HappenedTo, EndedAt};
+ghost use Rattle.outside.specs.Seen.{OnFile};
+ghost use Rattle.outside.specs.Answers.{ReadFull, ReadOn, WriteAllAnswer};
 
 use crate::folder::{Failed, Folder};
 use crate::sink::Sink;
@@ -11,15 +13,8 @@ use crate::sink::Sink;
 /// # Errors
 /// Where a write failed. Then a prefix of the bytes, and not all of them, was appended.
 pub fn write_all<D: Folder>(folder: &mut D, name: &str, bytes: &[u8]) -> Result<(), Failed>
-    requires { IsThere (D.files folder.old) name.now }
-    ensures written { OnOk result (D.files folder.new ≡ appended
-        (D.files folder.old) name.now bytes.now) }
-    ensures front { OnErr result ((k : ℕ) × (k < length bytes.now)
-        × (D.files folder.new ≡ appended (D.files folder.old) name.now (take k bytes.now))) }
-    ensures failed { OnErr result (HappenedTo name.now (D.counts folder.old).write_faults
-        (D.counts folder.new).write_faults) }
-    ensures done { OnOk result (D.counts folder.new ≡ D.counts folder.old) }
-    ensures counts { OnlyWrites (D.counts folder.old) (D.counts folder.new) }
+    requires { IsThere (D.seen folder.old).files name.now }
+    ensures { WriteAllAnswer name.now bytes.now (D.seen folder.old) (D.seen folder.new) result }
 {
     let mut done = 0;
     while done < bytes.len() {
@@ -33,10 +28,11 @@ pub fn write_all<D: Folder>(folder: &mut D, name: &str, bytes: &[u8]) -> Result<
 /// # Errors
 /// Where a write failed. Then a prefix of the bytes, none to all of them, was sent.
 pub fn send_all<T: Sink>(sink: &mut T, bytes: &[u8]) -> Result<(), Failed>
-    ensures written { OnOk result (T.sent sink.new ≡ sent_more (T.sent sink.old) bytes.now) }
+    ensures written { OnOk result ((T.heard sink.new).sent
+        ≡ sent_more (T.heard sink.old).sent bytes.now) }
     ensures front { OnErr result ((k : ℕ) × (k ≤ length bytes.now)
-        × (T.sent sink.new ≡ sent_more (T.sent sink.old) (take k bytes.now))) }
-    ensures cause { HasCause (T.faults sink.old) (T.faults sink.new) result }
+        × ((T.heard sink.new).sent ≡ sent_more (T.heard sink.old).sent (take k bytes.now))) }
+    ensures cause { HasCause (T.heard sink.old).faults (T.heard sink.new).faults result }
 {
     let mut done = 0;
     while done < bytes.len() {
@@ -56,23 +52,10 @@ pub fn read_full<D: Folder>(
     at: u64,
     into: &mut [u8],
 ) -> Result<usize, Failed>
-    requires there { IsThere (D.files folder.old) name.now }
+    requires there { IsThere (D.seen folder.old).files name.now }
     requires short { at + length into.old < 2 ^ 63 }
-    ensures bound { IfOk result (λ k. k ≤ length into.old) }
-    ensures bytes { IfOk result (λ k. (bytes : List ℕ) → Holds (D.files folder.old) name.now bytes
-        → take k into.new ≡ take k (drop at bytes)) }
-    ensures rest { IfOk result (λ k. drop k into.new ≡ drop k into.old) }
-    ensures end { IfOk result (λ k. (bytes : List ℕ) → Holds (D.files folder.old) name.now bytes
-        → k < length into.old → k ≡ length bytes - at) }
-    ensures ended { IfOk result (λ k. k < length into.old
-        → EndedAt name.now (at + k) (D.counts folder.old).ends (D.counts folder.new).ends) }
-    ensures failed { OnErr result (HappenedTo name.now (D.counts folder.old).read_faults
-        (D.counts folder.new).read_faults) }
-    ensures files { D.files folder.new ≡ D.files folder.old }
-    ensures filled { IfOk result (λ k. k ≡ length into.old
-        → D.counts folder.new ≡ D.counts folder.old) }
-    ensures done { OnOk result (NothingFailed (D.counts folder.old) (D.counts folder.new)) }
-    ensures counts { OnlyReads (D.counts folder.old) (D.counts folder.new) }
+    ensures { ReadFull name.now at into.old into.new (D.seen folder.old)
+        (D.seen folder.new) result }
 {
     let enough = into.len();
     read_on(folder, name, at, into, 0, enough)
@@ -92,28 +75,12 @@ pub fn read_on<D: Folder>(
     have: usize,
     enough: usize,
 ) -> Result<usize, Failed>
-    requires there { IsThere (D.files folder.old) name.now }
+    requires there { IsThere (D.seen folder.old).files name.now }
     requires short { at + length into.old < 2 ^ 63 }
     requires room { have ≤ length into.old }
     requires enough { enough ≤ length into.old }
-    ensures bound { IfOk result (λ k. k ≤ length into.old) }
-    ensures more { IfOk result (λ k. have ≤ k) }
-    ensures bytes { IfOk result (λ k. (bytes : List ℕ) → Holds (D.files folder.old) name.now bytes
-        → take have into.old ≡ take have (drop at bytes)
-        → take k into.new ≡ take k (drop at bytes)) }
-    ensures rest { IfOk result (λ k. drop k into.new ≡ drop k into.old) }
-    ensures end { IfOk result (λ k. (bytes : List ℕ) → Holds (D.files folder.old) name.now bytes
-        → k < enough → length bytes - at ≤ k) }
-    ensures within { IfOk result (λ k. (bytes : List ℕ) → Holds (D.files folder.old) name.now bytes
-        → have ≤ length bytes - at → k ≤ length bytes - at) }
-    ensures ended { IfOk result (λ k. k < enough
-        → EndedAt name.now (at + k) (D.counts folder.old).ends (D.counts folder.new).ends) }
-    ensures filled { IfOk result (λ k. enough ≤ k → D.counts folder.new ≡ D.counts folder.old) }
-    ensures failed { OnErr result (HappenedTo name.now (D.counts folder.old).read_faults
-        (D.counts folder.new).read_faults) }
-    ensures files { D.files folder.new ≡ D.files folder.old }
-    ensures done { OnOk result (NothingFailed (D.counts folder.old) (D.counts folder.new)) }
-    ensures counts { OnlyReads (D.counts folder.old) (D.counts folder.new) }
+    ensures { ReadOn name.now at have enough into.old into.new (D.seen folder.old)
+        (D.seen folder.new) result }
 {
     let mut done = have;
     while done < enough {

@@ -11,6 +11,7 @@ mod occurrences;
 mod pass;
 mod send_buffer;
 mod sink;
+mod sizes;
 mod tally;
 mod write_buffer;
 
@@ -22,5 +23,6 @@ pub use memory::{Call, MemFolder, MemSink, ShortFolder};
 pub use pass::{Pass, PassFault};
 pub use send_buffer::SendBuffer;
 pub use sink::Sink;
+pub use sizes::{BUFFER_SIZE, PIECE_SIZE};
 pub use tally::Tally;
 pub use write_buffer::WriteBuffer;

@@ -1,6 +1,7 @@
 //! How often something happened, and to which file last.
 ghost use Rattle.std.specs.Prelude.{◌≡◌, ◌≤◌, length};
 ghost use Rattle.outside.specs.Counts.{never, once_more, noted};
+ghost use Rattle.outside.specs.Feed.{most_given};
 
 use std::marker::Model;
 
@@ -54,7 +55,7 @@ impl Occurrences {
 #[tactic(auto, using(std::proofs::lemmas::List::take_min))]
 fn front_of(name: &str) -> &[u8]
     ensures front { result.now ≡ noted name.now }
-    ensures few { length result.now ≤ 4096 }
+    ensures few { length result.now ≤ most_given }
 {
     let bytes = name.as_bytes();
     &bytes[..LONGEST.min(bytes.len())]

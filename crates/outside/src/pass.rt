@@ -3,14 +3,14 @@ ghost use Rattle.std.specs.Prelude.{◌≡◌, ◌+◌, ◌≤◌, ◌++◌, [],
 ghost use Rattle.outside.specs.Files.{appended, IsThere};
 ghost use Rattle.outside.specs.Passed.{PassedOn, AppendedPrefix};
 ghost use Rattle.outside.specs.Pass.{IsReady, AreMade, bytes_at, bytes_between, Writes, WritesPrefix, IsOfRead, route_of, HasPassCause};
+ghost use Rattle.outside.specs.Pass.{PassMakes, PassPushes, PassFills, PassFinishes};
+ghost use Rattle.outside.specs.Feed.{most_given};
 
 use crate::exact::ReadFault;
 use crate::feed::Feed;
 use crate::folder::Folder;
+use crate::sizes::PIECE_SIZE;
 use crate::write_buffer::WriteBuffer;
-
-/// How many bytes are copied at once.
-const PIECE: u64 = 4096;
 
 /// Why a pass ended early.
 #[derive(Clone, Copy, Debug, PartialEq, Eq)]
@@ -60,18 +60,10 @@ impl<'a> Pass<'a> {
         n: usize,
         feed: &mut Feed,
     ) -> Result<(), PassFault>
-        requires ready { IsReady self.now (D.files folder.old) feed.old }
-        requires few { n ≤ 4096 }
+        requires ready { IsReady self.now (D.seen folder.old).files feed.old }
+        requires few { n ≤ most_given }
         requires within { at + n ≤ self.now.length }
-        ensures given { OnOk result (length feed.new.given ≡ n) }
-        ensures bytes { OnOk result (AreMade (D.files folder.old) self.now.input.now (bytes_at at n)
-            feed.new.given) }
-        ensures done { OnOk result (D.counts folder.new ≡ D.counts folder.old) }
-        ensures cause { IfErr result (HasPassCause (route_of self.now) (D.files folder.old)
-            (D.counts folder.old) (D.counts folder.new)) }
-        ensures read { IfErr result IsOfRead }
-        ensures files { D.files folder.new ≡ D.files folder.old }
-        ensures ready { IsReady self.now (D.files folder.new) feed.new }
+        ensures { PassFills self.now at n feed.new (D.seen folder.old) (D.seen folder.new) result }
     {
         feed.fill_exact(folder, self.input, self.length, at, n)?;
         Ok(())
@@ -88,15 +80,9 @@ impl<'a> Pass<'a> {
         piece: &[u8],
         waiting: &mut WriteBuffer,
     ) -> Result<(), PassFault>
-        requires { IsThere (D.files folder.old) self.now.output.now }
-        ensures passed { OnOk result (PassedOn self.now.output.now (waiting.old ++ piece.now)
-            waiting.new (D.files folder.old) (D.files folder.new)) }
-        ensures prefix { OnErr result (AppendedPrefix self.now.output.now (waiting.old ++ piece.now)
-            (D.files folder.old) (D.files folder.new)) }
-        ensures none { OnErr result (waiting.new ≡ []) }
-        ensures done { OnOk result (D.counts folder.new ≡ D.counts folder.old) }
-        ensures cause { IfErr result (HasPassCause (route_of self.now) (D.files folder.old)
-            (D.counts folder.old) (D.counts folder.new)) }
+        requires { IsThere (D.seen folder.old).files self.now.output.now }
+        ensures { PassPushes self.now waiting.old piece.now waiting.new (D.seen folder.old)
+            (D.seen folder.new) result }
     {
         match waiting.push(folder, self.output, piece) {
             Ok(()) => Ok(()),
@@ -116,16 +102,9 @@ impl<'a> Pass<'a> {
         rest: &[u8],
         waiting: &mut WriteBuffer,
     ) -> Result<(), PassFault>
-        requires { IsThere (D.files folder.old) self.now.output.now }
-        ensures passed { OnOk result (PassedOn self.now.output.now
-            (waiting.old ++ (front.now ++ rest.now))
-            waiting.new (D.files folder.old) (D.files folder.new)) }
-        ensures prefix { OnErr result (AppendedPrefix self.now.output.now
-            (waiting.old ++ (front.now ++ rest.now)) (D.files folder.old) (D.files folder.new)) }
-        ensures none { OnErr result (waiting.new ≡ []) }
-        ensures done { OnOk result (D.counts folder.new ≡ D.counts folder.old) }
-        ensures cause { IfErr result (HasPassCause (route_of self.now) (D.files folder.old)
-            (D.counts folder.old) (D.counts folder.new)) }
+        requires { IsThere (D.seen folder.old).files self.now.output.now }
+        ensures { PassPushes self.now waiting.old (front.now ++ rest.now) waiting.new
+            (D.seen folder.old) (D.seen folder.new) result }
     {
         self.push(folder, front, waiting)?;
         self.push(folder, rest, waiting)
@@ -144,21 +123,15 @@ impl<'a> Pass<'a> {
         feed: &mut Feed,
         waiting: &mut WriteBuffer,
     ) -> Result<(), PassFault>
-        requires ready { IsReady self.now (D.files folder.old) feed.old }
+        requires ready { IsReady self.now (D.seen folder.old).files feed.old }
         requires ordered { from ≤ to }
         requires within { to ≤ self.now.length }
-        ensures written { OnOk result (Writes self.now (λ file. bytes_between file from to)
-            waiting.old waiting.new (D.files folder.old) (D.files folder.new)) }
-        ensures prefix { IfErr result (WritesPrefix self.now (λ file. bytes_between file from to)
-            waiting.old (D.files folder.old) (D.files folder.new)) }
-        ensures done { OnOk result (D.counts folder.new ≡ D.counts folder.old) }
-        ensures cause { IfErr result (HasPassCause (route_of self.now) (D.files folder.old)
-            (D.counts folder.old) (D.counts folder.new)) }
-        ensures ready { OnOk result (IsReady self.now (D.files folder.new) feed.new) }
+        ensures { PassMakes self.now (λ file. bytes_between file from to) waiting.old waiting.new
+            feed.new (D.seen folder.old) (D.seen folder.new) result }
     {
         let mut at = from;
         while at < to {
-            let n = (to - at).min(PIECE);
+            let n = (to - at).min(PIECE_SIZE);
             self.copy_piece(folder, at, n as usize, feed, waiting)?;
             at += n;
         }
@@ -175,17 +148,11 @@ impl<'a> Pass<'a> {
         feed: &mut Feed,
         waiting: &mut WriteBuffer,
     ) -> Result<(), PassFault>
-        requires ready { IsReady self.now (D.files folder.old) feed.old }
-        requires few { n ≤ 4096 }
+        requires ready { IsReady self.now (D.seen folder.old).files feed.old }
+        requires few { n ≤ most_given }
         requires within { at + n ≤ self.now.length }
-        ensures written { OnOk result (Writes self.now (bytes_at at n)
-            waiting.old waiting.new (D.files folder.old) (D.files folder.new)) }
-        ensures prefix { IfErr result (WritesPrefix self.now (bytes_at at n)
-            waiting.old (D.files folder.old) (D.files folder.new)) }
-        ensures done { OnOk result (D.counts folder.new ≡ D.counts folder.old) }
-        ensures cause { IfErr result (HasPassCause (route_of self.now) (D.files folder.old)
-            (D.counts folder.old) (D.counts folder.new)) }
-        ensures ready { OnOk result (IsReady self.now (D.files folder.new) feed.new) }
+        ensures { PassMakes self.now (bytes_at at n) waiting.old waiting.new feed.new
+            (D.seen folder.old) (D.seen folder.new) result }
     {
         self.fill(folder, at, n, feed)?;
         self.push(folder, feed.bytes(), waiting)
@@ -200,15 +167,9 @@ impl<'a> Pass<'a> {
         folder: &mut D,
         waiting: &mut WriteBuffer,
     ) -> Result<(), PassFault>
-        requires { IsThere (D.files folder.old) self.now.output.now }
-        ensures appended { OnOk result (D.files folder.new ≡
-            appended (D.files folder.old) self.now.output.now waiting.old) }
-        ensures prefix { OnErr result (AppendedPrefix self.now.output.now waiting.old
-            (D.files folder.old) (D.files folder.new)) }
-        ensures none { waiting.new ≡ [] }
-        ensures done { OnOk result (D.counts folder.new ≡ D.counts folder.old) }
-        ensures cause { IfErr result (HasPassCause (route_of self.now) (D.files folder.old)
-            (D.counts folder.old) (D.counts folder.new)) }
+        requires { IsThere (D.seen folder.old).files self.now.output.now }
+        ensures { PassFinishes self.now waiting.old waiting.new (D.seen folder.old)
+            (D.seen folder.new) result }
     {
         match waiting.finish(folder, self.output) {
             Ok(()) => Ok(()),

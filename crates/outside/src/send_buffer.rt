@@ -3,16 +3,16 @@ ghost use Rattle.std.specs.Prelude.{◌≡◌, ◌+◌, ◌<◌, ◌≤◌, [], 
 ghost use Rattle.outside.specs.Files.{sent_more};
 ghost use Rattle.outside.specs.Passed.{SentOn, SentPrefix};
 ghost use Rattle.outside.specs.Counts.{HasCause};
+ghost use Rattle.outside.specs.Feed.{buffer_size};
 
 use crate::folder::Failed;
 use crate::helpers::send_all;
 use crate::sink::Sink;
+use crate::sizes::BUFFER_SIZE;
 use std::alloc::{AllocError, Global};
 use std::marker::Model;
 
 // How many bytes may wait.
-const SIZE: usize = 65_536;
-
 /// A buffer of 65,536 bytes before a sink, each write of which may cost much: that to standard output is
 /// followed by a flush. Contracts see it as the bytes that wait.
 #[derive(Drop)]
@@ -40,7 +40,7 @@ impl SendBuffer {
         ensures { IfOk result (λ buffer. buffer ≡ []) }
     {
         Ok(SendBuffer {
-            room: vec![in alloc; 0; SIZE]?,
+            room: vec![in alloc; 0; BUFFER_SIZE]?,
             waiting: 0,
         })
     }
@@ -52,14 +52,14 @@ impl SendBuffer {
     /// Where a write failed. Then a prefix of what waited and the piece was sent, and nothing waits.
     #[inline]
     pub fn push<T: Sink>(&mut self, sink: &mut T, piece: &[u8]) -> Result<(), Failed>
-        ensures passed { OnOk result (SentOn (self.old ++ piece.now) self.new (T.sent sink.old)
-            (T.sent sink.new)) }
-        ensures prefix { OnErr result (SentPrefix (self.old ++ piece.now) (T.sent sink.old)
-            (T.sent sink.new)) }
+        ensures passed { OnOk result (SentOn (self.old ++ piece.now) self.new
+            (T.heard sink.old).sent (T.heard sink.new).sent) }
+        ensures prefix { OnErr result (SentPrefix (self.old ++ piece.now) (T.heard sink.old).sent
+            (T.heard sink.new).sent) }
         ensures none { OnErr result (self.new ≡ []) }
-        ensures cause { HasCause (T.faults sink.old) (T.faults sink.new) result }
+        ensures cause { HasCause (T.heard sink.old).faults (T.heard sink.new).faults result }
     {
-        if piece.len() <= SIZE - self.waiting {
+        if piece.len() <= BUFFER_SIZE - self.waiting {
             self.add(piece);
             return Ok(());
         }
@@ -71,10 +71,12 @@ impl SendBuffer {
     /// # Errors
     /// Where a write failed. Then a prefix of what waited was sent, and nothing waits.
     pub fn finish<T: Sink>(&mut self, sink: &mut T) -> Result<(), Failed>
-        ensures sent { OnOk result (T.sent sink.new ≡ sent_more (T.sent sink.old) self.old) }
-        ensures prefix { OnErr result (SentPrefix self.old (T.sent sink.old) (T.sent sink.new)) }
+        ensures sent { OnOk result ((T.heard sink.new).sent
+            ≡ sent_more (T.heard sink.old).sent self.old) }
+        ensures prefix { OnErr result (SentPrefix self.old (T.heard sink.old).sent
+            (T.heard sink.new).sent) }
         ensures none { self.new ≡ [] }
-        ensures cause { HasCause (T.faults sink.old) (T.faults sink.new) result }
+        ensures cause { HasCause (T.heard sink.old).faults (T.heard sink.new).faults result }
     {
         let waiting = self.waiting;
         self.waiting = 0;
@@ -84,7 +86,7 @@ impl SendBuffer {
     // Adds a piece that fits.
     #[inline]
     fn add(&mut self, piece: &[u8])
-        requires { length self.old + length piece.now ≤ 65536 }
+        requires { length self.old + length piece.now ≤ buffer_size }
         ensures { self.new ≡ self.old ++ piece.now }
     {
         let end = self.waiting + piece.len();
@@ -95,15 +97,15 @@ impl SendBuffer {
     // Sends what waits, and then adds bytes that didn't fit after it, or sends them too.
     #[inline(never)]
     fn push_over<T: Sink>(&mut self, sink: &mut T, piece: &[u8]) -> Result<(), Failed>
-        ensures passed { OnOk result (SentOn (self.old ++ piece.now) self.new (T.sent sink.old)
-            (T.sent sink.new)) }
-        ensures prefix { OnErr result (SentPrefix (self.old ++ piece.now) (T.sent sink.old)
-            (T.sent sink.new)) }
+        ensures passed { OnOk result (SentOn (self.old ++ piece.now) self.new
+            (T.heard sink.old).sent (T.heard sink.new).sent) }
+        ensures prefix { OnErr result (SentPrefix (self.old ++ piece.now) (T.heard sink.old).sent
+            (T.heard sink.new).sent) }
         ensures none { OnErr result (self.new ≡ []) }
-        ensures cause { HasCause (T.faults sink.old) (T.faults sink.new) result }
+        ensures cause { HasCause (T.heard sink.old).faults (T.heard sink.new).faults result }
     {
         self.finish(sink)?;
-        if piece.len() > SIZE {
+        if piece.len() > BUFFER_SIZE {
             return send_all(sink, piece);
         }
         self.add(piece);

@@ -59,8 +59,8 @@ impl Tally {
     /// gave none though there was room.
     #[inline]
     pub fn count_read(&mut self, name: &str, at: u64, count: usize, room: usize)
-        ensures counted { self.new ≡ (if count == 0 && nat_lt 0 room then with_end name.now at self.old
-            else self.old) }
+        ensures counted { self.new ≡ (if count == 0 && nat_lt 0 room then with_end name.now at
+            self.old else self.old) }
         ensures ended { count ≡ 0 → 0 < room → EndedAt name.now at self.old.ends self.new.ends }
         ensures got { (0 < count) ⊎ (room ≡ 0) → self.new ≡ self.old }
         ensures done { NothingFailed self.old self.new }

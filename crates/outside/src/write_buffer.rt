@@ -3,15 +3,16 @@ ghost use Rattle.std.specs.Prelude.{◌≡◌, ◌+◌, ◌-◌, ◌<◌, ◌≤
 ghost use Rattle.outside.specs.Files.{appended, IsThere};
 ghost use Rattle.outside.specs.Passed.{PassedOn, AppendedPrefix};
 ghost use Rattle.outside.specs.Counts.{OnlyWrites, HappenedTo};
+ghost use Rattle.outside.specs.Answers.{PushAnswer, FinishAnswer, WholeAnswer};
+ghost use Rattle.outside.specs.Feed.{buffer_size};
 
 use crate::folder::{Failed, Folder};
 use crate::helpers::write_all;
+use crate::sizes::BUFFER_SIZE;
 use std::alloc::{AllocError, Global};
 use std::marker::Model;
 
 // How many bytes may wait.
-const SIZE: usize = 65_536;
-
 /// A buffer of 65,536 bytes before one file. Contracts see it as the bytes that wait.
 #[derive(Drop)]
 pub struct WriteBuffer {
@@ -38,7 +39,7 @@ impl WriteBuffer {
         ensures { IfOk result (λ buffer. buffer ≡ []) }
     {
         Ok(WriteBuffer {
-            room: vec![in alloc; 0; SIZE]?,
+            room: vec![in alloc; 0; BUFFER_SIZE]?,
             waiting: 0,
         })
     }
@@ -56,19 +57,11 @@ impl WriteBuffer {
         name: &str,
         piece: &[u8],
     ) -> Result<(), Failed>
-        requires { IsThere (D.files folder.old) name.now }
-        ensures passed { OnOk result (PassedOn name.now (self.old ++ piece.now) self.new
-            (D.files folder.old) (D.files folder.new)) }
-        ensures prefix { OnErr result (AppendedPrefix name.now (self.old ++ piece.now)
-            (D.files folder.old) (D.files folder.new)) }
-        ensures none { OnErr result (self.new ≡ []) }
-        ensures few { length self.new ≤ 65536 }
-        ensures failed { OnErr result (HappenedTo name.now (D.counts folder.old).write_faults
-            (D.counts folder.new).write_faults) }
-        ensures done { OnOk result (D.counts folder.new ≡ D.counts folder.old) }
-        ensures counts { OnlyWrites (D.counts folder.old) (D.counts folder.new) }
+        requires { IsThere (D.seen folder.old).files name.now }
+        ensures { PushAnswer name.now self.old piece.now self.new (D.seen folder.old)
+            (D.seen folder.new) result }
     {
-        if piece.len() <= SIZE - self.waiting {
+        if piece.len() <= BUFFER_SIZE - self.waiting {
             self.add(piece);
             return Ok(());
         }
@@ -89,20 +82,12 @@ impl WriteBuffer {
         piece: &[u8],
         count: usize,
     ) -> Result<(), Failed>
-        requires there { IsThere (D.files folder.old) name.now }
+        requires there { IsThere (D.seen folder.old).files name.now }
         requires within { count ≤ length piece.now }
-        ensures passed { OnOk result (PassedOn name.now (self.old ++ take count piece.now) self.new
-            (D.files folder.old) (D.files folder.new)) }
-        ensures prefix { OnErr result (AppendedPrefix name.now (self.old ++ take count piece.now)
-            (D.files folder.old) (D.files folder.new)) }
-        ensures none { OnErr result (self.new ≡ []) }
-        ensures few { length self.new ≤ 65536 }
-        ensures failed { OnErr result (HappenedTo name.now (D.counts folder.old).write_faults
-            (D.counts folder.new).write_faults) }
-        ensures done { OnOk result (D.counts folder.new ≡ D.counts folder.old) }
-        ensures counts { OnlyWrites (D.counts folder.old) (D.counts folder.new) }
+        ensures { PushAnswer name.now self.old (take count piece.now) self.new (D.seen folder.old)
+            (D.seen folder.new) result }
     {
-        if piece.len() <= SIZE - self.waiting {
+        if piece.len() <= BUFFER_SIZE - self.waiting {
             self.add_first(piece, count);
             return Ok(());
         }
@@ -114,16 +99,9 @@ impl WriteBuffer {
     /// # Errors
     /// Where a write failed. Then a prefix of what waited, and not all, was appended, and nothing waits.
     pub fn finish<D: Folder>(&mut self, folder: &mut D, name: &str) -> Result<(), Failed>
-        requires { IsThere (D.files folder.old) name.now }
-        ensures appended { OnOk result (D.files folder.new ≡ appended
-            (D.files folder.old) name.now self.old) }
-        ensures prefix { OnErr result (AppendedPrefix name.now self.old (D.files folder.old)
-            (D.files folder.new)) }
-        ensures none { self.new ≡ [] }
-        ensures failed { OnErr result (HappenedTo name.now (D.counts folder.old).write_faults
-            (D.counts folder.new).write_faults) }
-        ensures done { OnOk result (D.counts folder.new ≡ D.counts folder.old) }
-        ensures counts { OnlyWrites (D.counts folder.old) (D.counts folder.new) }
+        requires { IsThere (D.seen folder.old).files name.now }
+        ensures { FinishAnswer name.now self.old self.new (D.seen folder.old)
+            (D.seen folder.new) result }
     {
         let waiting = self.waiting;
         self.waiting = 0;
@@ -133,7 +111,7 @@ impl WriteBuffer {
     // Adds a piece that fits.
     #[inline]
     fn add(&mut self, piece: &[u8])
-        requires { length self.old + length piece.now ≤ 65536 }
+        requires { length self.old + length piece.now ≤ buffer_size }
         ensures { self.new ≡ self.old ++ piece.now }
     {
         let end = self.waiting + piece.len();
@@ -144,7 +122,7 @@ impl WriteBuffer {
     // Adds the first bytes of a piece that fits.
     #[inline(always)]
     fn add_first(&mut self, piece: &[u8], count: usize)
-        requires room { length self.old + length piece.now ≤ 65536 }
+        requires room { length self.old + length piece.now ≤ buffer_size }
         requires within { count ≤ length piece.now }
         ensures { self.new ≡ self.old ++ take count piece.now }
     {
@@ -162,20 +140,12 @@ impl WriteBuffer {
         name: &str,
         piece: &[u8],
     ) -> Result<(), Failed>
-        requires there { IsThere (D.files folder.old) name.now }
-        requires over { 65536 < length self.old + length piece.now }
-        ensures passed { OnOk result (PassedOn name.now (self.old ++ piece.now) self.new
-            (D.files folder.old) (D.files folder.new)) }
-        ensures prefix { OnErr result (AppendedPrefix name.now (self.old ++ piece.now)
-            (D.files folder.old) (D.files folder.new)) }
-        ensures none { OnErr result (self.new ≡ []) }
-        ensures few { length self.new ≤ 65536 }
-        ensures failed { OnErr result (HappenedTo name.now (D.counts folder.old).write_faults
-            (D.counts folder.new).write_faults) }
-        ensures done { OnOk result (D.counts folder.new ≡ D.counts folder.old) }
-        ensures counts { OnlyWrites (D.counts folder.old) (D.counts folder.new) }
+        requires there { IsThere (D.seen folder.old).files name.now }
+        requires over { buffer_size < length self.old + length piece.now }
+        ensures { PushAnswer name.now self.old piece.now self.new (D.seen folder.old)
+            (D.seen folder.new) result }
     {
-        let free = SIZE - self.waiting;
+        let free = BUFFER_SIZE - self.waiting;
         self.add(&piece[..free]);
         self.finish(folder, name)?;
         let done = write_whole(folder, name, &piece[free..])?;
@@ -187,19 +157,10 @@ impl WriteBuffer {
 // Appends as many times 65,536 of the bytes as there are, in one write where the folder takes them, and
 // answers how many bytes these are.
 fn write_whole<D: Folder>(folder: &mut D, name: &str, bytes: &[u8]) -> Result<usize, Failed>
-    requires { IsThere (D.files folder.old) name.now }
-    ensures within { IfOk result (λ k. k ≤ length bytes.now) }
-    ensures few { IfOk result (λ k. length bytes.now - k < 65536) }
-    ensures written { IfOk result (λ k. D.files folder.new ≡ appended (D.files folder.old) name.now
-        (take k bytes.now)) }
-    ensures prefix { OnErr result (AppendedPrefix name.now bytes.now (D.files folder.old)
-        (D.files folder.new)) }
-    ensures failed { OnErr result (HappenedTo name.now (D.counts folder.old).write_faults
-        (D.counts folder.new).write_faults) }
-    ensures done { OnOk result (D.counts folder.new ≡ D.counts folder.old) }
-    ensures counts { OnlyWrites (D.counts folder.old) (D.counts folder.new) }
+    requires { IsThere (D.seen folder.old).files name.now }
+    ensures { WholeAnswer name.now bytes.now (D.seen folder.old) (D.seen folder.new) result }
 {
-    let whole = bytes.len() - bytes.len() % SIZE;
+    let whole = bytes.len() - bytes.len() % BUFFER_SIZE;
     write_all(folder, name, &bytes[..whole])?;
     Ok(whole)
 }

@@ -7,6 +7,7 @@ use Rattle.bit_fields.specs.Bits.{AreBytes}
 use Rattle.frame_header.specs.Fields.{ClassFields}
 use Rattle.outside.specs.Files.{Files, Holds, IsThere, IsMissing, Told, Untold, IfTold}
 use Rattle.outside.proofs.FilesLaws.{there_holds}
+use Rattle.outside.specs.Seen.{Seen}
 use Rattle.sync_survey.specs.declared.places.Head.{Head}
 use Rattle.sync_survey.specs.Row.{Row}
 use Rattle.sync_survey.specs.declared.survey_fault.SurveyFault.{SurveyFault}
@@ -22,8 +23,9 @@ use Rattle.sync_survey.proofs.FoldersLaws.{survey_of-short}
 use Rattle.commands.specs.declared.fault.EditFault.{EditFault}
 use Rattle.commands.specs.declared.fault.EditFault.TheVariants.{Input, Refused, Memory}
 use Rattle.commands.specs.declared.fault.Refusal.{Refusal}
-use Rattle.commands.specs.Left.{Why, Rejected, Missing, Unread, Shorter, Unwritten, Unsent, NoMemory, why_of, Seen, IsLate, IsNotBefore}
-use Rattle.commands.specs.One.{Making, made_where, Task, file_task, Refuses, IsFileFaultBy, IsFileFault, IsEarlyFaultBy, IsEarlyFault, IsOfInputs, IsMaking, IsProper}
+use Rattle.commands.proofs.WhyLaws.{each_why}
+use Rattle.commands.specs.Left.{why_of, IsLate, IsNotBefore}
+use Rattle.commands.specs.One.{Making, made_where, Task, file_task, Refuses, IsFileFault, IsEarlyFault, IsOfInputs, IsMaking, IsProper}
 use Rattle.commands.proofs.InputLaws.{of_bytes_behind}
 use Rattle.commands.proofs.NamedLaws.{missed_name, unread_name, lost_name}
 use Rattle.commands.proofs.RefusingLaws.{before_first}
@@ -97,17 +99,16 @@ module _ (allowed : ℕ) (task : Task) where
   limited-before (Told f) P sound is = subst (λ r. IfErr r P) (sym (limited-sound allowed (f task.source) (task.makes f) sound)) is
 
   module _ (old new : Seen) (fault : EditFault) (sound : IsFaultless old.files) where
-    early-by : (why : Why) → IsEarlyFaultBy task old new fault why → IsEarlyFaultBy (limited (Some allowed) task) old new fault why
-    early-by Rejected h = record { defined = limited-refuses old.files fault sound h.defined; stays = h.stays }
-    early-by Missing h = record { defined = limited-refuses old.files fault sound h.defined; rose = h.rose; files = h.files }
-    early-by Unread h = record { before = limited-before old.files (IsNotBefore fault) sound h.before; rose = h.rose; files = h.files }
-    early-by Shorter h = record { ended = h.ended; files = h.files }
-    early-by (Unwritten k) h = absurd h
-    early-by Unsent h = absurd h
-    early-by NoMemory h = h
-
     pub limited-early : IsEarlyFault task old new fault → IsEarlyFault (limited (Some allowed) task) old new fault
-    limited-early h = early-by (why_of fault) h
+    limited-early h = each_why (why_of fault) h (record {
+      rejected = λ r. record { defined = limited-refuses old.files fault sound r.defined; stays = r.stays };
+      missing = λ m. record { defined = limited-refuses old.files fault sound m.defined; rose = m.rose; files = m.files };
+      unread = λ u. record { before = limited-before old.files (IsNotBefore fault) sound u.before; rose = u.rose; files = u.files };
+      shorter = λ l. record { ended = l.ended; files = l.files };
+      unwritten = λ k w. absurd w;
+      unsent = λ w. absurd w;
+      no_memory = λ n. n;
+    })
 
   pub limited-numbers : (fault : EditFault) → IsOfInputs task fault → IsOfInputs (limited (Some allowed) task) fault
   limited-numbers (Input place fault) h = h
@@ -148,14 +149,13 @@ module _ (allowed : ℕ) (make : Making) (stream : List ℕ → List StreamFrame
   file-missing (Told f) missing = ap (λ o. limited_by (Some allowed) o (made_where make o)) missing
 
   module _ (old new : Seen) (fault : EditFault) where
-    survey-by : (why : Why) → IsFileFaultBy 0 allowed input old new fault why → IsEarlyFaultBy (limited (Some allowed) of_file) old new fault why
-    survey-by Rejected h = record { defined = subst (Refuses (limited (Some allowed) of_file) old.files) (sym h.1) (file-refused old.files h.0 h.2.there h.2.bytes); stays = h.2.stays }
-    survey-by Missing h = record { defined = subst (Refuses (limited (Some allowed) of_file) old.files) (sym h.is) (file-missing old.files h.missing); rose = missed_name (input ∷ []) 0 refl h; files = h.files }
-    survey-by Unread h = record { before = before_first old.files (limited (Some allowed) of_file).makes fault h.is; rose = unread_name (input ∷ []) 0 refl h; files = h.files }
-    survey-by Shorter h = record { ended = lost_name (input ∷ []) 0 refl h; files = h.files }
-    survey-by (Unwritten k) h = absurd h
-    survey-by Unsent h = absurd h
-    survey-by NoMemory h = h
-
     pub survey-early : IsFileFault 0 allowed input old new fault → IsEarlyFault (limited (Some allowed) of_file) old new fault
-    survey-early h = survey-by (why_of fault) h
+    survey-early h = each_why (why_of fault) h (record {
+      rejected = λ r. record { defined = subst (Refuses (limited (Some allowed) of_file) old.files) (sym r.1) (file-refused old.files r.0 r.2.there r.2.bytes); stays = r.2.stays };
+      missing = λ m. record { defined = subst (Refuses (limited (Some allowed) of_file) old.files) (sym m.is) (file-missing old.files m.missing); rose = missed_name (input ∷ []) 0 refl m; files = m.files };
+      unread = λ u. record { before = before_first old.files (limited (Some allowed) of_file).makes fault u.is; rose = unread_name (input ∷ []) 0 refl u; files = u.files };
+      shorter = λ l. record { ended = lost_name (input ∷ []) 0 refl l; files = l.files };
+      unwritten = λ k w. absurd w;
+      unsent = λ w. absurd w;
+      no_memory = λ n. n;
+    })

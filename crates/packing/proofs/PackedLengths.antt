@@ -4,6 +4,7 @@ use Rattle.std.proofs.Common.{◌≡◌, ℕ, ◌≤◌, List, [], ◌∷◌, le
 use Rattle.outside.specs.Files.{Contents, Files, Told, Untold, with_file, Holds, IfTold}
 use Rattle.outside.proofs.FilesLaws.{with_file_here}
 use Rattle.frame_header.specs.Tables.{window_of}
+use Rattle.outside.specs.Seen.{Seen}
 use Rattle.slot_plan.specs.declared.needs.Placed.{Placed}
 use Rattle.slot_plan.specs.Plans.{IsPlan}
 use Rattle.best_plan.specs.Best.{IsBestPlan}
@@ -17,7 +18,7 @@ use Rattle.laying.specs.Fits.{IsFitting}
 use Rattle.laying.proofs.ChosenFrames.{survey-had}
 use Rattle.commands.specs.declared.fault.EditFault.{EditFault}
 use Rattle.commands.specs.Command.{Made, clash_from, written}
-use Rattle.commands.specs.Left.{Seen, IsDone}
+use Rattle.commands.specs.Left.{IsDone}
 use Rattle.commands.specs.Runs.{IsRunOf}
 use Rattle.commands.specs.One.{most_frames, made_by, made_file, made_where, unless_clash, made_result, made_of}
 use Rattle.commands.proofs.RefusingLaws.{unless_ok, then_ok}

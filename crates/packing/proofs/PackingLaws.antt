@@ -5,6 +5,7 @@ use Rattle.bit_fields.specs.Bits.{AreBytes}
 use Rattle.frame_header.specs.Fields.{ClassFields}
 use Rattle.frame_header.specs.Tables.{window_of}
 use Rattle.outside.specs.Files.{Files, Holds, IsThere}
+use Rattle.outside.specs.Seen.{Seen}
 use Rattle.slot_plan.specs.declared.needs.Need.{Need}
 use Rattle.slot_plan.specs.declared.needs.Placed.{Placed}
 use Rattle.part_needs.specs.Fit.{IsPlaced}
@@ -18,7 +19,7 @@ use Rattle.sync_survey.proofs.SurveyedFiles.{survey_of-parts}
 use Rattle.commands.specs.declared.fault.EditFault.{EditFault}
 use Rattle.commands.specs.declared.fault.Refusal.{Refusal}
 use Rattle.commands.specs.declared.fault.EditFault.TheVariants.{Refused, Memory}
-use Rattle.commands.specs.Left.{Seen, IsLate, IsOfInput}
+use Rattle.commands.specs.Left.{IsLate, IsOfInput}
 use Rattle.commands.specs.Refusing.{then_made}
 use Rattle.commands.specs.One.{Making, most_frames, IsInputFault, IsMaking, IsProper}
 use Rattle.commands.proofs.RefusingLaws.{then_late, then_ok}

@@ -3,12 +3,13 @@ use Rattle.std.proofs.Common.{◌≡◌, ℕ, ◌<◌, ◌≤◌, List, length, 
 use Rattle.bit_fields.specs.Bits.{AreBytes}
 use Rattle.frame_header.specs.Tables.{window_of}
 use Rattle.outside.specs.Files.{Files, Holds, IsThere}
+use Rattle.outside.specs.Seen.{Seen}
 use Rattle.slot_plan.specs.declared.needs.Placed.{Placed}
 use Rattle.part_needs.specs.Fit.{IsPlaced}
 use Rattle.sync_survey.specs.Faults.{SurveyFields}
 use Rattle.sync_survey.specs.Survey.{survey_of}
 use Rattle.commands.specs.declared.fault.EditFault.{EditFault}
-use Rattle.commands.specs.Left.{Seen, IsOfSurvey, IsOfInput}
+use Rattle.commands.specs.Left.{IsOfSurvey, IsOfInput}
 use Rattle.commands.specs.One.{most_frames, IsFileFault, IsInputFault, IsEarlyFault, IsOfInputs, IsMaking, IsProper}
 use Rattle.commands.proofs.InputLaws.{fault_is_input, of_survey_input, input_is_early, input_numbers}
 use Rattle.frame_edits.specs.Chosen.{Chosen, pack_refuses}

@@ -5,3 +5,4 @@ pub mod Rules
 pub mod Modes
 pub mod Fewest
 pub mod Laws
+pub mod Answers

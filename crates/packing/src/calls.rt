@@ -1,6 +1,5 @@
 //! The command `pack` over a folder, in each of its modes.
 ghost use Rattle.std.specs.Prelude.{◌≡◌, ℕ, List, None, IfSome, OnOk};
-ghost use Rattle.commands.specs.Left.{seen};
 ghost use Rattle.commands.specs.Runs.{IsRunOf};
 ghost use Rattle.commands.specs.One.{one_command};
 ghost use Rattle.pack_mode.specs.declared.mode.PackMode.TheVariants.{Least};
@@ -25,8 +24,8 @@ fn pack_by<D: Folder>(
     rule: Rule,
 ) -> Result<(), EditFault>
     ensures { IsRunOf (one_command (rule_task rule input.now) output.now)
-        (seen (D.files folder.old) (D.counts folder.old))
-        (seen (D.files folder.new) (D.counts folder.new)) result }
+        (D.seen folder.old)
+        (D.seen folder.new) result }
 {
     make_one(alloc, folder, &PackEdit { input, rule }, output)
 }
@@ -72,12 +71,12 @@ pub fn pack_with<D: Folder>(
 ) -> Result<(), EditFault>
     // The input is well-formed, and the output holds its stream.
     ensures run { IsRunOf (pack_mode_command mode.now input.now output.now)
-        (seen (D.files folder.old) (D.counts folder.old))
-        (seen (D.files folder.new) (D.counts folder.new)) result }
+        (D.seen folder.old)
+        (D.seen folder.new) result }
     // With `PackMode::Best`, and where the folder tells its files, no file of the same frames in other slots, with a lead-in
     // where this one has one or with none, has fewer bytes.
     ensures fewest { OnOk result (WritesFewest mode.now input.now output.now
-        (D.files folder.old) (D.files folder.new)) }
+        (D.seen folder.old).files (D.seen folder.new).files) }
 {
     match rule_of(mode) {
         None => pack(alloc, folder, input, output),

@@ -1,12 +1,12 @@
--- Parts of streams, and what `plan` asks of them.
-use Rattle.std.specs.Prelude.{◌≡◌, ℕ, ◌<◌, ◌≤◌, List, [], ◌∷◌, length, slice_index, slice_range, All, AllPairs}
+-- Parts of streams, and that they can be planned.
+use Rattle.std.specs.Prelude.{◌≡◌, ℕ, ◌<◌, ◌≤◌, List, [], ◌∷◌, length, slice_range, All}
 use Rattle.frame_header.specs.Fields.{SlotFields, ClassFields, HeaderFields}
 use Rattle.frame_header.specs.Tables.{window_of}
 use Rattle.frame_header.specs.Slots.{all_slots}
 use Rattle.sync_survey.specs.Row.{Row}
 use Rattle.sync_survey.specs.Faults.{SurveyFields}
 use Rattle.sync_survey.specs.Survey.{AreWellPlaced}
-use Rattle.slot_plan.specs.Parts.{parts_of, window_in, AreOfClass, AreOfOneClass, ArePartsFeasible}
+use Rattle.slot_plan.specs.Parts.{parts_of, window_in, AreOfClass, CanBePlanned}
 use Rattle.slot_plan.specs.Laws.{ChooseInOrder}
 use Rattle.part_needs.specs.Needs.{Asked}
 
@@ -26,15 +26,6 @@ pub record IsPartOf (class : ClassFields) (rows : List Row) : Type 0 where
   pub within : to ≤ length survey.frames
   pub are : rows ≡ slice_range survey.frames from to
 
--- what `plan` asks for, except the numbers of frames and parts
-pub record CanBePlanned (asked : Asked) : Type 0 where
-  pub class : AreOfOneClass asked.needs
-  pub some : 1 ≤ length asked.places
-  pub first : slice_index asked.places 0 ≡ 0
-  pub ascending : AllPairs (λ m n. m < n) asked.places
-  pub within : All (λ place. place < length asked.needs) asked.places
-  pub feasible : ArePartsFeasible (window_in asked.needs) (parts_of asked.needs asked.places)
-
 -- a frame keeps its own slot, or may have any
 abbrev pub own_choice : HeaderFields → List SlotFields
 own_choice h = h.slot ∷ []
@@ -49,4 +40,4 @@ pub record AreFit (class : ClassFields) (asked : Asked) : Type 0 where
   pub kept : ChooseInOrder own_choice (parts_of asked.needs asked.places)
   pub least : ChooseInOrder any_choice (parts_of asked.needs asked.places)
   pub window : window_in asked.needs ≡ window_of class.version
-  pub planned : CanBePlanned asked
+  pub planned : CanBePlanned asked.needs asked.places

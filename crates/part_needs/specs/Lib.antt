@@ -2,3 +2,4 @@
 pub mod Needs
 pub mod Fit
 pub mod Laws
+pub mod Answers

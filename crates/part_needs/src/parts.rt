@@ -2,14 +2,14 @@
 ghost use Rattle.std.specs.Prelude.{◌≡◌, ◌↔◌, ◌+◌, ◌<◌, ◌≤◌, List, [], ◌∷◌, ◌++◌, length, map, vec_len, vec_capacity, IsTrue, IfOk, OnOk, OnErr};
 ghost use Rattle.frame_header.specs.Tables.{class_of};
 ghost use Rattle.frame_header.specs.Limits.{most_frames};
-ghost use Rattle.slot_plan.specs.Parts.{window_in, parts_of};
+ghost use Rattle.slot_plan.specs.Parts.{window_in, parts_of, CanBePlanned};
 ghost use Rattle.slot_plan.specs.Plans.{IsPlan, entries};
 ghost use Rattle.slot_plan.specs.LeastPlan.{least_plan};
 ghost use Rattle.slot_plan.specs.Laws.{ChooseInOrder};
 ghost use Rattle.side_info.specs.FrameFields.{header_like};
 ghost use Rattle.sync_survey.specs.Row.{Row as RowFields};
 ghost use Rattle.part_needs.specs.Needs.{Asked, need_of as need_of_lem, asked_of, IsUsual};
-ghost use Rattle.part_needs.specs.Fit.{CanBePlanned};
+ghost use Rattle.part_needs.specs.Answers.{IsPushed, PushAnswer, PlanAnswer};
 
 use frame_header::Class;
 use side_info::FrameFront;
@@ -54,10 +54,8 @@ fn need_of(row: &Row) -> Need
 #[inline(always)]
 fn push_like(like: &Need, front: &FrameFront, bytes: u32, needs: &mut Vec<Need>)
     requires { vec_len needs.old < vec_capacity needs.old }
-    ensures pushed { needs.new.items ≡ needs.old.items
-        ++ record { header = header_like like.now.header front.now.header; bytes = bytes } ∷ [] }
-    ensures len { vec_len needs.new ≡ vec_len needs.old + 1 }
-    ensures capacity { vec_capacity needs.new ≡ vec_capacity needs.old }
+    ensures { IsPushed needs.old needs.new (record
+        { header = header_like like.now.header front.now.header; bytes = bytes }) }
 {
     let place = needs.len();
     needs.push_reserved(*like);
@@ -86,9 +84,7 @@ fn push_usual(class: Class, like: &Need, row: &Row, needs: &mut Vec<Need>)
     requires class { class ≡ class_of like.now.header }
     requires usual { IsUsual like.now.header row.now }
     requires room { vec_len needs.old < vec_capacity needs.old }
-    ensures pushed { needs.new.items ≡ needs.old.items ++ need_of_lem row.now ∷ [] }
-    ensures len { vec_len needs.new ≡ vec_len needs.old + 1 }
-    ensures capacity { vec_capacity needs.new ≡ vec_capacity needs.old }
+    ensures { IsPushed needs.old needs.new (need_of_lem row.now) }
 {
     let front = row.front();
     push_like(like, front, front.extent_in(class).bytes(), needs);
@@ -167,12 +163,7 @@ impl Parts {
     /// Where there is no memory. Then nothing is added.
     pub fn push(&mut self, rows: &[Row]) -> Result<(), AllocError>
         requires few { length self.old.needs ≤ 4294967295 }
-        ensures added { (parts : List (List RowFields)) → self.old ≡ asked_of parts
-            → OnOk result (self.new ≡ asked_of (parts ++ rows.now ∷ [])) }
-        ensures needs { OnOk result (length self.new.needs
-            ≡ length self.old.needs + length rows.now) }
-        ensures places { OnOk result (length self.new.places ≡ length self.old.places + 1) }
-        ensures stays { OnErr result (self.new ≡ self.old) }
+        ensures { PushAnswer rows.now self.old self.new result }
     {
         let place = self.needs.len() as u32;
         self.places.reserve(1)?;
@@ -187,15 +178,10 @@ impl Parts {
     /// # Errors
     /// Where there is no memory.
     pub fn plan<P: Policy>(&self, alloc: Global, policy: &P) -> Result<Plan, AllocError>
-        requires planned { CanBePlanned self.now }
+        requires planned { CanBePlanned self.now.needs self.now.places }
         requires needs { length self.now.needs ≤ most_frames }
         requires few { length self.now.places ≤ 64 }
-        ensures plan { IfOk result (λ p. IsPlan (window_in self.now.needs)
-            (P.choices_of policy.now) (parts_of self.now.needs self.now.places) (entries p)) }
-        ensures least { IfOk result (λ p.
-            ChooseInOrder (P.choices_of policy.now) (parts_of self.now.needs self.now.places)
-            → entries p ≡ least_plan (window_in self.now.needs) (P.choices_of policy.now)
-            (parts_of self.now.needs self.now.places)) }
+        ensures { PlanAnswer self.now (P.choices_of policy.now) result }
     {
         plan(alloc, self.needs(), self.places(), policy)
     }

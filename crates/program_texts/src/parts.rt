@@ -81,11 +81,13 @@ pub(crate) fn named_line<'a>(name: &'a str, text: &'a str, number: u64, end: &'a
 
 /// Sends the texts one after another, and stops at the first write that fails.
 pub(crate) fn send_text<T: Sink>(sink: &mut T, pieces: &[&str]) -> Result<(), Failed>
-    ensures whole { OnOk result (GotWhole (T.sent sink.old) (T.sent sink.new) (T.faults sink.old)
-        (T.faults sink.new) (flat_map (λ piece. piece.now) pieces.now)) }
-    ensures front { OnErr result (GotFront (T.sent sink.old) (T.sent sink.new) (T.faults sink.old)
-        (T.faults sink.new) (flat_map (λ piece. piece.now) pieces.now)) }
-    ensures later { T.faults sink.old ≤ T.faults sink.new }
+    ensures whole { OnOk result (GotWhole (T.heard sink.old).sent (T.heard sink.new).sent
+        (T.heard sink.old).faults (T.heard sink.new).faults
+        (flat_map (λ piece. piece.now) pieces.now)) }
+    ensures front { OnErr result (GotFront (T.heard sink.old).sent (T.heard sink.new).sent
+        (T.heard sink.old).faults (T.heard sink.new).faults
+        (flat_map (λ piece. piece.now) pieces.now)) }
+    ensures later { (T.heard sink.old).faults ≤ (T.heard sink.new).faults }
 {
     for piece in pieces {
         send_all(sink, piece.as_bytes())?;
@@ -139,11 +141,11 @@ fn piece_name<'a>(prefix: &'a str, number: u32) -> [&'a str; 4]
 
 // Sends a part.
 fn send_part<T: Sink>(sink: &mut T, part: &Part) -> Result<(), Failed>
-    ensures whole { OnOk result (GotWhole (T.sent sink.old) (T.sent sink.new) (T.faults sink.old)
-        (T.faults sink.new) (spelled_part (part_of part.now))) }
-    ensures front { OnErr result (GotFront (T.sent sink.old) (T.sent sink.new) (T.faults sink.old)
-        (T.faults sink.new) (spelled_part (part_of part.now))) }
-    ensures later { T.faults sink.old ≤ T.faults sink.new }
+    ensures whole { OnOk result (GotWhole (T.heard sink.old).sent (T.heard sink.new).sent
+        (T.heard sink.old).faults (T.heard sink.new).faults (spelled_part (part_of part.now))) }
+    ensures front { OnErr result (GotFront (T.heard sink.old).sent (T.heard sink.new).sent
+        (T.heard sink.old).faults (T.heard sink.new).faults (spelled_part (part_of part.now))) }
+    ensures later { (T.heard sink.old).faults ≤ (T.heard sink.new).faults }
 {
     match *part {
         Part::Text(text) | Part::Name(text) => send_text(sink, &[text]),
@@ -156,11 +158,13 @@ fn send_part<T: Sink>(sink: &mut T, part: &Part) -> Result<(), Failed>
 
 // Sends the parts one after another, and stops at the first write that fails.
 fn send_parts<T: Sink>(sink: &mut T, parts: &[Part]) -> Result<(), Failed>
-    ensures whole { OnOk result (GotWhole (T.sent sink.old) (T.sent sink.new) (T.faults sink.old)
-        (T.faults sink.new) (flat_map (λ part. spelled_part (part_of part)) parts.now)) }
-    ensures front { OnErr result (GotFront (T.sent sink.old) (T.sent sink.new) (T.faults sink.old)
-        (T.faults sink.new) (flat_map (λ part. spelled_part (part_of part)) parts.now)) }
-    ensures later { T.faults sink.old ≤ T.faults sink.new }
+    ensures whole { OnOk result (GotWhole (T.heard sink.old).sent (T.heard sink.new).sent
+        (T.heard sink.old).faults (T.heard sink.new).faults
+        (flat_map (λ part. spelled_part (part_of part)) parts.now)) }
+    ensures front { OnErr result (GotFront (T.heard sink.old).sent (T.heard sink.new).sent
+        (T.heard sink.old).faults (T.heard sink.new).faults
+        (flat_map (λ part. spelled_part (part_of part)) parts.now)) }
+    ensures later { (T.heard sink.old).faults ≤ (T.heard sink.new).faults }
 {
     for part in parts {
         send_part(sink, part)?;
@@ -170,8 +174,8 @@ fn send_parts<T: Sink>(sink: &mut T, parts: &[Part]) -> Result<(), Failed>
 
 /// Sends the parts of a line. It stops at the first write that fails, and doesn't answer that one did.
 pub(crate) fn send_line<E: Sink>(err: &mut E, parts: &[Part])
-    ensures { GotLine (E.sent err.old) (E.sent err.new) (E.faults err.old) (E.faults err.new)
-        (spelled (map part_of parts.now)) }
+    ensures { GotLine (E.heard err.old).sent (E.heard err.new).sent (E.heard err.old).faults
+        (E.heard err.new).faults (spelled (map part_of parts.now)) }
 {
     let _ = send_parts(err, parts);
 }

@@ -4,13 +4,13 @@ ghost use Rattle.program_texts.specs.Lines.{Name, part_of};
 ghost use Rattle.program_texts.specs.Texts.{status_of, input_parts as input_parts_lem, sheet_parts as sheet_parts_lem, curve_parts as curve_parts_lem, refusal_parts as refusal_parts_lem, fault_parts as fault_parts_lem, fault_line, bad_word_line, help_text, version_text, said_command, GotLine};
 ghost use Rattle.program_texts.specs.Names.{name_in as name_in_lem, names_in};
 ghost use Rattle.outside.specs.Files.{Files};
-ghost use Rattle.commands.specs.Said.{heard, Says, fault_of};
+ghost use Rattle.commands.specs.Said.{Says, fault_of};
 
 use crate::output_names::Outputs;
 use crate::parts::{
     Line, Part, line, name_line, named_line, number_line, send_line, send_text, text_line,
 };
-use commands::{EditFault, Refusal};
+use commands::{EditFault, Refusal, SHEET};
 use cue_sheet::CueFault;
 use fade_plan::EnvelopeFault;
 use outside::{Failed, Sink};
@@ -83,7 +83,7 @@ static HELP: [&str; 35] = [
 fn say<T: Sink>(out: &mut T, pieces: &[&str]) -> Result<(), EditFault>
     ensures says { (files : Files) → Says
         (said_command (flat_map (λ piece. piece.now) pieces.now)) files
-        (heard (T.sent out.old) (T.faults out.old)) (heard (T.sent out.new) (T.faults out.new))
+        (T.heard out.old) (T.heard out.new)
         (fault_of result) }
     ensures fault { IfErr result (λ fault. fault ≡ EditFault.Sent) }
 {
@@ -100,7 +100,7 @@ fn say<T: Sink>(out: &mut T, pieces: &[&str]) -> Result<(), EditFault>
 #[tactic(auto, unfolding(crate::specs::Texts::help_text))]
 pub fn say_help<T: Sink>(out: &mut T) -> Result<(), EditFault>
     ensures says { (files : Files) → Says (said_command help_text) files
-        (heard (T.sent out.old) (T.faults out.old)) (heard (T.sent out.new) (T.faults out.new))
+        (T.heard out.old) (T.heard out.new)
         (fault_of result) }
     ensures fault { IfErr result (λ fault. fault ≡ EditFault.Sent) }
 {
@@ -114,7 +114,7 @@ pub fn say_help<T: Sink>(out: &mut T) -> Result<(), EditFault>
 #[tactic(auto, unfolding(crate::specs::Texts::version_text))]
 pub fn say_version<T: Sink>(out: &mut T) -> Result<(), EditFault>
     ensures says { (files : Files) → Says (said_command version_text) files
-        (heard (T.sent out.old) (T.faults out.old)) (heard (T.sent out.new) (T.faults out.new))
+        (T.heard out.old) (T.heard out.new)
         (fault_of result) }
     ensures fault { IfErr result (λ fault. fault ≡ EditFault.Sent) }
 {
@@ -218,9 +218,6 @@ fn name_in<'a>(names: &[&'a str], place: u32) -> &'a str
 {
     names.get(place as usize).copied().unwrap_or("")
 }
-
-/// The place of a sheet among the inputs.
-const SHEET: u32 = 1;
 
 // The line of a gain that would leave its range.
 fn gain_line<'a>(offset: u64, granule: u8, channel: u8, gain: u8) -> Line<'a>
@@ -391,8 +388,9 @@ fn fault_parts<'a>(fault: &EditFault, inputs: &[&'a str], outputs: Outputs<'a>) 
 /// | Sent | `standard output: write fault` |
 /// | Memory | `out of memory` |
 pub fn send_fault<E: Sink>(err: &mut E, fault: &EditFault, inputs: &[&str], outputs: &Outputs)
-    ensures { GotLine (E.sent err.old) (E.sent err.new) (E.faults err.old) (E.faults err.new)
-        (fault_line fault.now (map (λ name. name.now) inputs.now) (names_in outputs.now)) }
+    ensures { GotLine (E.heard err.old).sent (E.heard err.new).sent (E.heard err.old).faults
+        (E.heard err.new).faults (fault_line fault.now (map (λ name. name.now) inputs.now)
+        (names_in outputs.now)) }
 {
     send_line(err, fault_parts(fault, inputs, *outputs).as_slice());
 }
@@ -400,8 +398,8 @@ pub fn send_fault<E: Sink>(err: &mut E, fault: &EditFault, inputs: &[&str], outp
 /// Sends the line `bad word K`, K the place of the word counted from 1, without taking memory.
 /// It stops at the first write that fails, and doesn't answer that one did.
 pub fn send_bad_word<E: Sink>(err: &mut E, word: u32)
-    ensures { GotLine (E.sent err.old) (E.sent err.new) (E.faults err.old) (E.faults err.new)
-        (bad_word_line word) }
+    ensures { GotLine (E.heard err.old).sent (E.heard err.new).sent (E.heard err.old).faults
+        (E.heard err.new).faults (bad_word_line word) }
 {
     send_line(
         err,

@@ -4,6 +4,7 @@ use Rattle.frame_header.specs.Fields.{SlotFields, ClassFields}
 use Rattle.slot_plan.specs.Parts.{areas_with}
 use Rattle.slot_plan.specs.Reserve.{greatest}
 use Rattle.rate_plan.specs.declared.largest.Largest.{Largest}
+use Rattle.frame_header.specs.Limits.{most_frame_length}
 
 -- that of a frame, by whether it has a check word
 abbrev pub largest_for : Largest → Bool → ℕ
@@ -12,4 +13,4 @@ largest_for largest protected = if protected then largest.protected else largest
 -- these are the largest areas, of which none is above 1,441
 pub record AreLargest (class : ClassFields) (menu : List SlotFields) (largest : Largest) : Type 0 where
   pub are : (protected : Bool) → largest_for largest protected ≡ greatest (areas_with class protected menu)
-  pub most : (protected : Bool) → largest_for largest protected ≤ 1441
+  pub most : (protected : Bool) → largest_for largest protected ≤ most_frame_length

@@ -1,15 +1,18 @@
 -- The plan from a menu as a value: of all lists of slots from it the first, in the order of their areas, for which there is a layout; and
 -- the first unfit frame where there is none.
-use Rattle.std.specs.Prelude.{ℕ, ◌+◌, ◌≡◌, is_none, Bool, true, false, List, length, take, find, unwrap_or, ok_or, Option, Result, Err}
+use Rattle.std.specs.Prelude.{ℕ, ◌+◌, ◌≡◌, is_none, Bool, true, false, List, length, take, find, unwrap_or, ok_or, Option, Result, Ok, Err, IfOk, IfErr, MatchResult}
 use Rattle.std.specs.List.{range_with_len}
 use Rattle.std.specs.Option.{option_or}
 use Rattle.frame_header.specs.Fields.{SlotFields}
 use Rattle.slot_plan.specs.declared.needs.Need.{Need}
 use Rattle.slot_plan.specs.declared.needs.Placed.{Placed}
+use Rattle.slot_plan.specs.declared.needs.Plan.{Plan}
 use Rattle.slot_plan.specs.LeastPlan.{first_list, least_of}
+use Rattle.slot_plan.specs.Parts.{window_in}
+use Rattle.slot_plan.specs.Plans.{entries}
 use Rattle.rate_plan.specs.declared.fault.RateFault.{RateFault}
 use Rattle.rate_plan.specs.declared.fault.RateFault.TheVariants.{Unfit, Memory}
-use Rattle.rate_plan.specs.Menus.{items_from}
+use Rattle.rate_plan.specs.Menus.{items_from, IsMenuPlan, Refuses}
 
 -- the first list without a lead-in, or else the first with one
 abbrev pub least_from : ℕ → List SlotFields → List Need → Option (List Placed)
@@ -31,3 +34,12 @@ least_menu_plan window menu needs = ok_or (least_from window menu needs) (first_
 abbrev pub IsMenuFault : Result (List Placed) ℕ → RateFault → Type 0
 IsMenuFault plan (Unfit i) = plan ≡ Err i
 IsMenuFault plan Memory = Unit {0}
+
+-- what is answered for a menu and these frames
+pub record IsMenuAnswer (menu : List SlotFields) (needs : List Need) (result : Result Plan RateFault) : Type 0 where
+  -- a plan is that of the menu
+  pub plan : IfOk result (λ plan. IsMenuPlan (window_in needs) menu needs (entries plan))
+  -- a refusal names the first unfit frame
+  pub refusal : IfErr result (Refuses (window_in needs) menu needs)
+  -- both are those of the first list
+  pub least : MatchResult result (λ plan. least_menu_plan (window_in needs) menu needs ≡ Ok (entries plan)) (IsMenuFault (least_menu_plan (window_in needs) menu needs))

@@ -1,11 +1,12 @@
 -- The plan of one part whose frames, and whose lead-in, have slots of one menu.
-use Rattle.std.specs.Prelude.{◌≡◌, ℕ, ◌+◌, ◌<◌, ◌↔◌, Bool, true, false, List, [], ◌∷◌, map, length, take, AllPairs}
+use Rattle.std.specs.Prelude.{◌≡◌, ℕ, ◌+◌, ◌<◌, ◌≤◌, ◌↔◌, Bool, true, false, List, [], ◌∷◌, map, length, take, AllPairs}
 use Rattle.frame_header.specs.Fields.{SlotFields, ClassFields, HeaderFields}
+use Rattle.frame_header.specs.Limits.{most_frames}
 use Rattle.frame_header.specs.Tables.{class_of}
 use Rattle.slot_plan.specs.declared.needs.Need.{Need}
 use Rattle.slot_plan.specs.declared.needs.Placed.{Placed}
 use Rattle.slot_plan.specs.Lists.{CanBeLaid}
-use Rattle.slot_plan.specs.Parts.{Item, open_of, item_of, lead_in_of, areas_with}
+use Rattle.slot_plan.specs.Parts.{Item, open_of, item_of, lead_in_of, areas_with, AreOfClass}
 use Rattle.slot_plan.specs.Plans.{IsPlanFor}
 use Rattle.rate_plan.specs.declared.fault.RateFault.{RateFault}
 use Rattle.rate_plan.specs.declared.fault.RateFault.TheVariants.{Unfit, Memory}
@@ -17,6 +18,20 @@ from_menu menu header = menu
 -- in this class the areas of the slots ascend, whether or not the frames have check words
 abbrev pub AreAscending : ClassFields → List SlotFields → Type 0
 AreAscending class menu = (protected : Bool) → AllPairs (λ m n. m < n) (areas_with class protected menu)
+
+-- a menu for frames of this class
+pub record IsMenuOf (class : ClassFields) (menu : List SlotFields) : Type 0 where
+  -- it has a slot
+  pub slots : 1 ≤ length menu
+  pub ascending : AreAscending class menu
+
+-- frames of this class that can be planned together
+pub record AreNeedsOf (class : ClassFields) (needs : List Need) : Type 0 where
+  pub class_is : AreOfClass class needs
+  -- there is one
+  pub some : 1 ≤ length needs
+  -- and no more than a stream may have
+  pub few : length needs ≤ most_frames
 
 -- they ascend in the class of the first frame
 abbrev pub IsMenu : List SlotFields → List Need → Type 0

@@ -1,6 +1,6 @@
 //! The largest areas of a menu.
-ghost use Rattle.std.specs.Prelude.{◌≡◌, ◌≤◌, length};
-ghost use Rattle.rate_plan.specs.Menus.{AreAscending};
+ghost use Rattle.std.specs.Prelude.{◌≡◌};
+ghost use Rattle.rate_plan.specs.Menus.{IsMenuOf};
 ghost use Rattle.rate_plan.specs.LargestAreas.{largest_for, AreLargest};
 
 use frame_header::{Class, Slot};
@@ -16,8 +16,7 @@ pub(crate) struct Largest {
 impl Largest {
     /// Those of this menu.
     pub(crate) fn of_menu(class: Class, menu: &[Slot]) -> Largest
-        requires slots { 1 ≤ length menu.now }
-        requires ascending { AreAscending class menu.now }
+        requires { IsMenuOf class menu.now }
         ensures { AreLargest class menu.now result }
     {
         Largest {

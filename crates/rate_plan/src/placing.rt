@@ -4,23 +4,21 @@ ghost use Rattle.std.specs.Prelude.{◌≡◌, ◌+◌, ◌-◌, ◌<◌, ◌≤
 ghost use Rattle.frame_header.specs.Fields.{SlotFields};
 ghost use Rattle.frame_header.specs.Tables.{window_of, overhead_of};
 ghost use Rattle.slot_plan.specs.Parts.{areas_with, item_of, AreOfClass};
-ghost use Rattle.slot_plan.specs.Reserve.{greatest, needed, needed_behind, opens_in, AllWithin, IsLeastSlot};
+ghost use Rattle.slot_plan.specs.Reserve.{greatest, opens_in, CanBePlaced, IsLeastSlot, IsPlacedIn};
 ghost use Rattle.slot_plan.specs.SlotTables.{IsTableOf};
-ghost use Rattle.rate_plan.specs.Menus.{from_menu, AreAscending};
+ghost use Rattle.rate_plan.specs.Menus.{from_menu, IsMenuOf};
 ghost use Rattle.rate_plan.specs.Placing.{Places};
+ghost use Rattle.frame_header.specs.Limits.{most_back};
 
 use frame_header::{Class, Slot};
 use slot_plan::{Need, Placed, SlotTable, free_behind, least_slot_among};
-use std::alloc::{AllocError, Global};
+use std::alloc::AllocError;
 
 /// The lead-in with the smallest area that leaves `behind` bytes free after it, where nothing is before it.
 pub(crate) fn lead_in(class: Class, behind: u16, menu: &[Slot]) -> Placed
-    requires slots { 1 ≤ length menu.now }
-    requires ascending { AreAscending class menu.now }
+    requires menu { IsMenuOf class menu.now }
     requires enough { behind ≤ greatest (areas_with class false menu.now) }
-    ensures lead_in { result.lead_in ≡ true }
-    ensures begin { result.begin ≡ 0 }
-    ensures least { IsLeastSlot behind class false menu.now result.slot }
+    ensures { IsPlacedIn true 0 behind class false menu.now result }
 {
     let slot = least_slot_among(class, false, menu, u64::from(behind));
     Placed {
@@ -36,7 +34,7 @@ fn place_frame(need: &Need, behind: u16, free: u32, table: &SlotTable) -> Placed
     requires enough { ((need.now.bytes + behind) - free)
         + overhead_of table.now.lengths need.now.header.protected
         < length table.now.by_length.items }
-    requires free { free ≤ 511 }
+    requires free { free ≤ most_back }
     ensures frame { result.lead_in ≡ false }
     ensures begin { result.begin ≡ free }
     ensures least { (menu : List SlotFields) → IsTableOf menu table.now
@@ -58,7 +56,6 @@ fn place_frame(need: &Need, behind: u16, free: u32, table: &SlotTable) -> Placed
 /// # Errors
 /// Where there is no memory.
 pub(crate) fn place_frames(
-    alloc: Global,
     class: Class,
     free: u32,
     needs: &[Need],
@@ -67,18 +64,14 @@ pub(crate) fn place_frames(
     placed: &mut Vec<Placed>,
 ) -> Result<(), AllocError>
     requires class { AreOfClass class needs.now }
-    requires slots { 1 ≤ length menu.now }
-    requires ascending { AreAscending class menu.now }
-    requires free { free ≤ window_of class.version }
-    requires enough { needed (opens_in (from_menu menu.now) needs.now) ≤ free }
-    requires within { AllWithin (window_of class.version)
-        (opens_in (from_menu menu.now) needs.now) }
-    requires behind { behind.items ≡ needed_behind (opens_in (from_menu menu.now) needs.now) }
+    requires menu { IsMenuOf class menu.now }
+    requires ready { CanBePlaced (window_of class.version) free
+        (opens_in (from_menu menu.now) needs.now) behind.items }
     ensures { IfOk result (λ _. Places (window_of class.version) free
         (map (item_of (from_menu menu.now)) needs.now) placed.old.items placed.new.items) }
 {
     let window = class.window();
-    let table = SlotTable::new(alloc, class, menu)?;
+    let table = SlotTable::new(*placed.allocator(), class, menu)?;
     let mut behind = behind;
     let mut free = free;
     placed.reserve(needs.len())?;

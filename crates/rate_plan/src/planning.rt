@@ -1,11 +1,11 @@
 //! The plan from a menu.
-ghost use Rattle.std.specs.Prelude.{◌≡◌, ◌≤◌, true, length, Ok, IfOk, IfErr, MatchResult};
+ghost use Rattle.std.specs.Prelude.{◌≤◌, true, length, IfOk};
 ghost use Rattle.frame_header.specs.Tables.{window_of};
 ghost use Rattle.frame_header.specs.Limits.{most_frames};
-ghost use Rattle.slot_plan.specs.Parts.{window_in, AreOfClass, AreOfOneClass};
+ghost use Rattle.slot_plan.specs.Parts.{AreOfOneClass};
 ghost use Rattle.slot_plan.specs.Plans.{entries};
-ghost use Rattle.rate_plan.specs.LeastMenuPlan.{least_menu_plan, IsMenuFault};
-ghost use Rattle.rate_plan.specs.Menus.{AreAscending, IsMenu, CanBeLaidFrom, IsMenuPlan, Refuses};
+ghost use Rattle.rate_plan.specs.LeastMenuPlan.{IsMenuAnswer};
+ghost use Rattle.rate_plan.specs.Menus.{IsMenuOf, AreNeedsOf, IsMenu, CanBeLaidFrom, IsMenuPlan};
 
 use crate::fault::RateFault;
 use crate::placing::{lead_in, place_frames};
@@ -20,11 +20,8 @@ use std::alloc::{AllocError, Global};
 /// # Errors
 /// Where there is no memory.
 fn fit_plan(alloc: Global, class: Class, needs: &[Need], menu: &[Slot]) -> Result<Plan, AllocError>
-    requires class { AreOfClass class needs.now }
-    requires some { 1 ≤ length needs.now }
-    requires few { length needs.now ≤ most_frames }
-    requires slots { 1 ≤ length menu.now }
-    requires ascending { AreAscending class menu.now }
+    requires needs { AreNeedsOf class needs.now }
+    requires menu { IsMenuOf class menu.now }
     requires fits { CanBeLaidFrom (window_of class.version) true menu.now needs.now }
     ensures { IfOk result (λ plan.
         IsMenuPlan (window_of class.version) menu.now needs.now (entries plan)) }
@@ -33,22 +30,14 @@ fn fit_plan(alloc: Global, class: Class, needs: &[Need], menu: &[Slot]) -> Resul
     let mut placed = Vec::with_capacity(alloc, needs.len() + 1)?;
     let reserves = reserves_of(alloc, class, needs, menu)?;
     if reserves.before == 0 {
-        place_frames(alloc, class, 0, needs, menu, reserves.behind, &mut placed)?;
+        place_frames(class, 0, needs, menu, reserves.behind, &mut placed)?;
         return Ok(Plan::from_placed(placed));
     }
     let frame = lead_in(class, reserves.before, menu);
     let area = class.area_of(frame.slot, false);
     placed.push(frame)?;
     let free = free_behind(class.window(), 0, 0, area);
-    place_frames(
-        alloc,
-        class,
-        free,
-        needs,
-        menu,
-        reserves.behind,
-        &mut placed,
-    )?;
+    place_frames(class, free, needs, menu, reserves.behind, &mut placed)?;
     Ok(Plan::from_placed(placed))
 }
 
@@ -66,12 +55,7 @@ pub fn rate_plan(alloc: Global, needs: &[Need], menu: &[Slot]) -> Result<Plan, R
     requires few { length needs.now ≤ most_frames }
     requires slots { 1 ≤ length menu.now }
     requires ascending { IsMenu menu.now needs.now }
-    ensures plan { IfOk result (λ plan.
-        IsMenuPlan (window_in needs.now) menu.now needs.now (entries plan)) }
-    ensures refusal { IfErr result (Refuses (window_in needs.now) menu.now needs.now) }
-    ensures least { MatchResult result
-        (λ plan. least_menu_plan (window_in needs.now) menu.now needs.now ≡ Ok (entries plan))
-        (IsMenuFault (least_menu_plan (window_in needs.now) menu.now needs.now)) }
+    ensures { IsMenuAnswer menu.now needs.now result }
 {
     let class = needs[0].header.class();
     if let Some(i) = first_unfit(class, needs, menu) {

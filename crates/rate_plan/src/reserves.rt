@@ -1,9 +1,9 @@
 //! How many bytes have to be free before and after each frame, from the last frame back to the first.
-ghost use Rattle.std.specs.Prelude.{◌≡◌, ◌+◌, ◌-◌, ◌≤◌, length, IfOk};
+ghost use Rattle.std.specs.Prelude.{◌≡◌, ◌+◌, ◌-◌, IfOk};
 ghost use Rattle.frame_header.specs.Tables.{window_of};
 ghost use Rattle.slot_plan.specs.Parts.{AreOfClass};
 ghost use Rattle.rate_plan.specs.LargestAreas.{largest_for};
-ghost use Rattle.rate_plan.specs.Menus.{AreAscending};
+ghost use Rattle.rate_plan.specs.Menus.{IsMenuOf};
 ghost use Rattle.rate_plan.specs.Placing.{NeedAtMost, HasReserves};
 
 use crate::largest::Largest;
@@ -31,8 +31,7 @@ pub(crate) fn reserves_of(
     menu: &[Slot],
 ) -> Result<Reserves, AllocError>
     requires class { AreOfClass class needs.now }
-    requires slots { 1 ≤ length menu.now }
-    requires ascending { AreAscending class menu.now }
+    requires menu { IsMenuOf class menu.now }
     requires most { NeedAtMost (window_of class.version) menu.now needs.now }
     ensures { IfOk result (λ r. HasReserves menu.now needs.now r.behind.items r.before) }
 {

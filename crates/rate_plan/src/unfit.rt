@@ -1,10 +1,8 @@
 //! Whether all frames fit, from the first to the last, each in the largest slot after a lead-in of that
 //! slot.
-ghost use Rattle.std.specs.Prelude.{◌≤◌, true, length, MatchOption};
+ghost use Rattle.std.specs.Prelude.{true, MatchOption};
 ghost use Rattle.frame_header.specs.Tables.{window_of};
-ghost use Rattle.frame_header.specs.Limits.{most_frames};
-ghost use Rattle.slot_plan.specs.Parts.{AreOfClass};
-ghost use Rattle.rate_plan.specs.Menus.{AreAscending, CanBeLaidFrom, IsUnfit};
+ghost use Rattle.rate_plan.specs.Menus.{IsMenuOf, AreNeedsOf, CanBeLaidFrom, IsUnfit};
 
 use crate::largest::Largest;
 use frame_header::{Class, Slot};
@@ -12,11 +10,8 @@ use slot_plan::{Need, free_behind};
 
 /// The first frame up to which the frames have no layout, even after a lead-in; `None` if all have one.
 pub(crate) fn first_unfit(class: Class, needs: &[Need], menu: &[Slot]) -> Option<u32>
-    requires class { AreOfClass class needs.now }
-    requires some { 1 ≤ length needs.now }
-    requires few { length needs.now ≤ most_frames }
-    requires slots { 1 ≤ length menu.now }
-    requires ascending { AreAscending class menu.now }
+    requires needs { AreNeedsOf class needs.now }
+    requires menu { IsMenuOf class menu.now }
     ensures { MatchOption result
         (CanBeLaidFrom (window_of class.version) true menu.now needs.now)
         (λ i. IsUnfit (window_of class.version) menu.now needs.now i) }

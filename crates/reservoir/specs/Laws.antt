@@ -5,7 +5,7 @@ use Rattle.frame_header.specs.Fields.{HeaderFields, IsHeader}
 use Rattle.frame_header.specs.Tables.{class_of, area_of}
 use Rattle.side_info.specs.declared.side.Side.{Side}
 use Rattle.side_info.specs.Side.{SideFits}
-use Rattle.reservoir.specs.Window.{IsWindowOver}
+use Rattle.reservoir.specs.Window.{IsWindowOver, window_size}
 
 -- all areas, one after the other
 abbrev pub joined : List (List ℕ) → List ℕ
@@ -15,7 +15,7 @@ joined (area ∷ areas) = area ++ joined areas
 -- what is held after these areas, pushed one after another
 abbrev pub held_behind : List ℕ → List (List ℕ) → List ℕ
 held_behind held [] = held
-held_behind held (area ∷ areas) = held_behind (keep_last 2048 (held ++ area)) areas
+held_behind held (area ∷ areas) = held_behind (keep_last window_size (held ++ area)) areas
 
 abbrev pub AreasAreHeld : Type 0
 AreasAreHeld = (areas : List (List ℕ)) → IsWindowOver (held_behind [] areas) (joined areas)

@@ -4,9 +4,13 @@ use Rattle.std.specs.Prelude.{◌≡◌, ℕ, ◌+◌, ◌-◌, ◌*◌, ◌/◌
 use Rattle.circular_buffer.specs.Buffer.{keep_last}
 use Rattle.bit_fields.specs.Bits.{bits}
 
+-- how many bytes a window holds
+abbrev pub window_size : ℕ
+window_size = 2048
+
 -- the bytes held are the last 2,048 of all areas, or all where there are fewer
 abbrev pub IsWindowOver : List ℕ → List ℕ → Type 0
-IsWindowOver held main = held ≡ keep_last 2048 main
+IsWindowOver held main = held ≡ keep_last window_size main
 
 -- the bytes held are the last of all areas, however many
 abbrev pub AreLastOf : List ℕ → List ℕ → Type 0

@@ -1,5 +1,6 @@
 //! The main data of a frame, read where they are.
 ghost use Rattle.std.specs.Prelude.{◌≡◌, ◌≤◌, ◌++◌, [], length};
+ghost use Rattle.reservoir.specs.Window.{window_size};
 
 use arrayvec::ArrayVec;
 use std::marker::Model;
@@ -73,7 +74,7 @@ impl<'a> Payload<'a> {
     /// How many bytes these are.
     #[inline]
     pub fn len(&self) -> usize
-        requires { length self.now ≤ 2048 }
+        requires { length self.now ≤ window_size }
         ensures { result ≡ length self.now }
     {
         let areas = self.before.len() + self.own.len();
@@ -84,15 +85,15 @@ impl<'a> Payload<'a> {
     /// are any.
     #[inline]
     pub fn pieces(&self) -> (&[u8], &[u8], &[u8], &[u8], Option<u8>)
-        ensures { result.0.now ++ (result.1.now ++ (result.2.now ++ (result.3.now ++ byte_of result.4)))
-            ≡ self.now }
+        ensures { result.0.now ++ (result.1.now ++
+            (result.2.now ++ (result.3.now ++ byte_of result.4))) ≡ self.now }
     {
         (self.front, self.back, self.before, self.own, self.last)
     }
 
     /// Puts them into a list of at most 2,048 bytes, in place of what is in it.
     pub fn copy_to(&self, into: &mut ArrayVec<u8, 2048>)
-        requires { length self.now ≤ 2048 }
+        requires { length self.now ≤ window_size }
         ensures { into.new.items ≡ self.now }
     {
         into.clear();

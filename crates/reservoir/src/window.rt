@@ -2,7 +2,7 @@
 ghost use Rattle.std.specs.Prelude.{◌≡◌, ℕ, ◌+◌, ◌-◌, ◌*◌, ◌/◌, ◌<◌, ◌≤◌, List, [], ◌++◌, length, take, drop, get_or, IfOk};
 ghost use Rattle.circular_buffer.specs.Buffer.{keep_last};
 ghost use Rattle.bit_fields.specs.Bits.{AreBytes};
-ghost use Rattle.reservoir.specs.Window.{IsWindowOver, AreLastOf, main_bits, ArePacked, byte_of};
+ghost use Rattle.reservoir.specs.Window.{IsWindowOver, AreLastOf, main_bits, ArePacked, byte_of, window_size};
 
 use crate::payload::Payload;
 use arrayvec::ArrayVec;
@@ -56,7 +56,7 @@ impl Window {
     /// How many bytes it holds, at most 2,048.
     pub fn held(&self) -> usize
         ensures count { result ≡ length self.now }
-        ensures most { result ≤ 2048 }
+        ensures most { result ≤ window_size }
     {
         self.ring.len()
     }
@@ -65,7 +65,7 @@ impl Window {
     /// held and this area, the last 2,048 bytes stay.
     #[inline]
     pub fn push_area(&mut self, area: &[u8])
-        ensures held { self.new ≡ keep_last 2048 (self.old ++ area.now) }
+        ensures held { self.new ≡ keep_last window_size (self.old ++ area.now) }
         ensures main { (main : List ℕ) → IsWindowOver self.old main
             → IsWindowOver self.new (main ++ area.now) }
     {
@@ -80,7 +80,7 @@ impl Window {
         ensures payload { (main : List ℕ) → IsWindowOver self.now main → ArePacked into.new.items
             bits (main_bits main (length main - area - begin) bits) }
         ensures bytes { AreBytes into.new.items }
-        ensures few { length into.new.items ≤ 2048 }
+        ensures few { length into.new.items ≤ window_size }
     {
         self.main_data(area, begin, bits).copy_to(into);
     }
@@ -96,7 +96,7 @@ impl Window {
         ensures payload { (main : List ℕ) → IsWindowOver self.now main
             → ArePacked result bits (main_bits main (length main - area - begin) bits) }
         ensures bytes { AreBytes result }
-        ensures few { length result ≤ 2048 }
+        ensures few { length result ≤ window_size }
     {
         let _ = &self.ring;
         self.main_data_with(&[], &[], area + begin, bits)
@@ -115,13 +115,13 @@ impl Window {
     ) -> Payload<'a>
         requires held { begin ≤ length self.now + length before.now }
         requires within { bits ≤ 8 * (begin + length area.now) }
-        requires few { begin + length area.now ≤ 2048 }
+        requires few { begin + length area.now ≤ window_size }
         requires short { length before.now + length area.now ≤ 4096 }
         ensures payload { (main : List ℕ) → AreLastOf self.now main → ArePacked result bits
             (main_bits (main ++ (before.now ++ area.now))
             (length main + length before.now - begin) bits) }
         ensures bytes { AreBytes result }
-        ensures few { length result ≤ 2048 }
+        ensures few { length result ≤ window_size }
     {
         let (front, back) = self.ring.as_slices();
         let held = self.ring.len();

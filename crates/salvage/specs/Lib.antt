@@ -7,6 +7,7 @@ pub mod Judged
 pub mod Steps
 pub mod Said
 pub mod Progress
+pub mod Answers
 pub mod Text
 pub mod Stream
 pub mod Laws

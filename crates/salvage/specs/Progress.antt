@@ -17,6 +17,7 @@ use Rattle.salvage.specs.Walk.{things, gaps_of, blocks_in, first_frame}
 use Rattle.salvage.specs.Damaged.{DamagedFields, damaged_from, most_frames}
 use Rattle.salvage.specs.Judged.{rows_left}
 use Rattle.salvage.specs.Kept.{AreKeptWell, AreKeptTo}
+use Rattle.frame_header.specs.Limits.{most_frame_length}
 
 -- the class of the first frame
 abbrev pub class_in : Begun → ClassFields
@@ -84,7 +85,7 @@ pub record IsLaidTo (b : Begun) (found : Found) : Type 0 where
   pub class : AreOfClass (class_in b) found.rows.items
   pub pieces : BlocksAreLaid 0 found.pieces.items found.at
   pub gaps : GapsAreLaid 0 found.gaps.items found.at
-  pub low : found.before.place ≤ 1441 + found.at
+  pub low : found.before.place ≤ most_frame_length + found.at
   pub within : found.at ≤ b.size
   pub few : length found.rows.items ≤ most_frames
   pub kept : AreKeptTo b.head found.rows.items found.before

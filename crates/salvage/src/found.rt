@@ -8,12 +8,9 @@ ghost use Rattle.salvage.specs.Damaged.{most_frames};
 ghost use Rattle.salvage.specs.Judged.{judged_by, before_next, AddsItem, AddsGap, IsPastMost};
 
 use crate::gap::Gap;
-use frame_header::Header;
+use frame_header::{Header, MOST_FRAMES};
 use std::alloc::AllocError;
 use sync_survey::{Before, Item, Piece, Row, SurveyFault};
-
-/// The greatest number of frames of a file.
-const MOST_FRAMES: usize = 2_900_000;
 
 /// The frames that were found and judged, the blocks, the gaps, the areas since the last gap, and the
 /// offset up to which the file was read.
@@ -67,7 +64,7 @@ impl Found {
         ensures few { OnOk result (length self.old.rows.items ≤ most_frames
             → length self.new.rows.items ≤ most_frames) }
     {
-        if self.rows.len() == MOST_FRAMES {
+        if self.rows.len() == MOST_FRAMES as usize {
             return Err(SurveyFault::TooManyFrames(self.at));
         }
         let count = self.rows.len();

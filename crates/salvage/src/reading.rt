@@ -1,7 +1,8 @@
 //! Reads a damaged file of a folder.
 ghost use Rattle.std.specs.Prelude.{◌≡◌, ◌+◌, ◌<◌, ◌≤◌, ℕ, List, [], None, length, IfOk, IfErr, IfSome, OnOk, ◌^◌};
-ghost use Rattle.outside.specs.Files.{Holds, IsThere};
+ghost use Rattle.outside.specs.Files.{IsThere};
 ghost use Rattle.outside.specs.Counts.{OnlyReads};
+ghost use Rattle.outside.specs.Seen.{OnFile};
 ghost use Rattle.outside.specs.Feed.{IsFedFrom};
 ghost use Rattle.sync_survey.specs.declared.runs.Part.TheVariants.{Front};
 ghost use Rattle.sync_survey.specs.declared.survey_fault.SurveyFault.TheVariants.{NoFrame};
@@ -15,7 +16,9 @@ ghost use Rattle.sync_survey.specs.Survey.{HasLength, IsWholeFrom, ReadsBy, Hold
 ghost use Rattle.salvage.specs.declared.usable.Role.TheVariants.{Later};
 ghost use Rattle.salvage.specs.Walk.{item_read, end_by};
 ghost use Rattle.salvage.specs.Damaged.{tells_of, IsReadOf, IsReadFault, IsReadRefusal, gap_between};
+ghost use Rattle.salvage.specs.Answers.{ThingAnswer, ThingsAnswer, WalkAnswer, FileAnswer, DamagedAnswer};
 ghost use Rattle.salvage.specs.Progress.{class_in, told_of, IsBegun, IsReading, ReadsOn, IsLaidOut};
+ghost use Rattle.frame_header.specs.Limits.{most_frame_length};
 
 use crate::begun::Begun;
 use crate::damaged::Damaged;
@@ -66,7 +69,7 @@ fn found_first(alloc: Global, begun: &Begun, pieces: Vec<Piece>) -> Result<Found
       ended = 0;
     }) }
     ensures at { IfOk result (λ f. f.at ≡ numbered_at begun.now.start.first begun.now.head) }
-    ensures low { IfOk result (λ f. f.before.place ≤ 1441) }
+    ensures low { IfOk result (λ f. f.before.place ≤ most_frame_length) }
     ensures behind { IfOk result (λ f. begun.now.start.first.offset ≤ f.at) }
     ensures within { IfOk result (λ f. f.at ≤ begun.now.start.first.offset
         + size_of (Frame begun.now.start.first.header)) }
@@ -111,18 +114,14 @@ fn read_gap<D: Folder>(
     begun: &Begun,
     found: &mut Found,
 ) -> Result<(), SurveyFault>
-    requires begun { IsBegun (D.files folder.old) name.now begun.now }
-    requires fed { IsFedFrom feed.old (D.files folder.old) name.now }
+    requires begun { IsBegun (D.seen folder.old).files name.now begun.now }
+    requires fed { IsFedFrom feed.old (D.seen folder.old).files name.now }
     requires before { found.old.at < begun.now.size }
-    requires none { (bytes : List ℕ) → Holds (D.files folder.old) name.now bytes
-        → item_read bytes (Later (class_in begun.now)) found.old.at ≡ None }
-    requires reading { IsReading (D.files folder.old) name.now begun.now found.old }
-    ensures reading { OnOk result (ReadsOn (D.files folder.old) name.now begun.now
-        found.old found.new) }
-    ensures reads { ReadsBy feed.new name.now result (D.files folder.old) (D.files folder.new)
-        (D.counts folder.old) (D.counts folder.new) }
-    ensures refused { IfErr result (IsReadRefusal name.now (D.files folder.old)
-        (D.counts folder.old) (D.counts folder.new)) }
+    requires none { OnFile (D.seen folder.old) name.now
+        (λ bytes. item_read bytes (Later (class_in begun.now)) found.old.at ≡ None) }
+    requires reading { IsReading (D.seen folder.old).files name.now begun.now found.old }
+    ensures { ThingAnswer name.now begun.now found.old found.new feed.new (D.seen folder.old)
+        (D.seen folder.new) result }
 {
     let role = later_role(begun);
     let next = next_usable(feed, folder, name, begun.size, found.at + 1, role)?;
@@ -144,16 +143,12 @@ fn read_other<D: Folder>(
     begun: &Begun,
     found: &mut Found,
 ) -> Result<(), SurveyFault>
-    requires begun { IsBegun (D.files folder.old) name.now begun.now }
-    requires fed { IsFedFrom feed.old (D.files folder.old) name.now }
+    requires begun { IsBegun (D.seen folder.old).files name.now begun.now }
+    requires fed { IsFedFrom feed.old (D.seen folder.old).files name.now }
     requires before { found.old.at < begun.now.size }
-    requires reading { IsReading (D.files folder.old) name.now begun.now found.old }
-    ensures reading { OnOk result (ReadsOn (D.files folder.old) name.now begun.now
-        found.old found.new) }
-    ensures reads { ReadsBy feed.new name.now result (D.files folder.old) (D.files folder.new)
-        (D.counts folder.old) (D.counts folder.new) }
-    ensures refused { IfErr result (IsReadRefusal name.now (D.files folder.old)
-        (D.counts folder.old) (D.counts folder.new)) }
+    requires reading { IsReading (D.seen folder.old).files name.now begun.now found.old }
+    ensures { ThingAnswer name.now begun.now found.old found.new feed.new (D.seen folder.old)
+        (D.seen folder.new) result }
 {
     let left = look(feed, folder, name, begun.size, found.at)?;
     let role = later_role(begun);
@@ -175,16 +170,12 @@ fn read_thing<D: Folder>(
     begun: &Begun,
     found: &mut Found,
 ) -> Result<(), SurveyFault>
-    requires begun { IsBegun (D.files folder.old) name.now begun.now }
-    requires fed { IsFedFrom feed.old (D.files folder.old) name.now }
+    requires begun { IsBegun (D.seen folder.old).files name.now begun.now }
+    requires fed { IsFedFrom feed.old (D.seen folder.old).files name.now }
     requires before { found.old.at < begun.now.size }
-    requires reading { IsReading (D.files folder.old) name.now begun.now found.old }
-    ensures reading { OnOk result (ReadsOn (D.files folder.old) name.now begun.now
-        found.old found.new) }
-    ensures reads { ReadsBy feed.new name.now result (D.files folder.old) (D.files folder.new)
-        (D.counts folder.old) (D.counts folder.new) }
-    ensures refused { IfErr result (IsReadRefusal name.now (D.files folder.old)
-        (D.counts folder.old) (D.counts folder.new)) }
+    requires reading { IsReading (D.seen folder.old).files name.now begun.now found.old }
+    ensures { ThingAnswer name.now begun.now found.old found.new feed.new (D.seen folder.old)
+        (D.seen folder.new) result }
 {
     let left = look(feed, folder, name, begun.size, found.at)?;
     let class = begun.start.first.header.class();
@@ -206,16 +197,11 @@ fn read_things<D: Folder>(
     begun: &Begun,
     found: &mut Found,
 ) -> Result<(), SurveyFault>
-    requires begun { IsBegun (D.files folder.old) name.now begun.now }
-    requires fed { IsFedFrom feed.old (D.files folder.old) name.now }
-    requires reading { IsReading (D.files folder.old) name.now begun.now found.old }
-    ensures reading { OnOk result (IsReading (D.files folder.old) name.now begun.now found.new) }
-    ensures end { OnOk result (begun.now.size ≤ found.new.at) }
-    ensures done { OnOk result (D.counts folder.new ≡ D.counts folder.old) }
-    ensures refused { IfErr result (IsReadRefusal name.now (D.files folder.old)
-        (D.counts folder.old) (D.counts folder.new)) }
-    ensures files { D.files folder.new ≡ D.files folder.old }
-    ensures counts { OnlyReads (D.counts folder.old) (D.counts folder.new) }
+    requires begun { IsBegun (D.seen folder.old).files name.now begun.now }
+    requires fed { IsFedFrom feed.old (D.seen folder.old).files name.now }
+    requires reading { IsReading (D.seen folder.old).files name.now begun.now found.old }
+    ensures { ThingsAnswer name.now begun.now found.new (D.seen folder.old)
+        (D.seen folder.new) result }
 {
     while found.at < begun.size {
         read_thing(feed, folder, name, begun, found)?;
@@ -260,17 +246,16 @@ fn begin<D: Folder>(
     size: u64,
     pieces: &mut Vec<Piece>,
 ) -> Result<Begun, SurveyFault>
-    requires known { HasLength (D.files folder.old) name.now size }
-    requires fed { IsFedFrom feed.old (D.files folder.old) name.now }
+    requires known { HasLength (D.seen folder.old).files name.now size }
+    requires fed { IsFedFrom feed.old (D.seen folder.old).files name.now }
     requires none { pieces.old.items ≡ [] }
-    ensures begun { IfOk result (IsBegun (D.files folder.old) name.now) }
-    ensures blocks { OnOk result ((bytes : List ℕ) → Holds (D.files folder.old) name.now bytes
-        → pieces.new.items ≡ blocks_of (run Front bytes 0).items) }
+    ensures begun { IfOk result (IsBegun (D.seen folder.old).files name.now) }
+    ensures blocks { OnOk result (OnFile (D.seen folder.old) name.now
+        (λ bytes. pieces.new.items ≡ blocks_of (run Front bytes 0).items)) }
     ensures laid { IfOk result (λ b. BlocksAreLaid 0 pieces.new.items b.start.front_end) }
-    ensures reads { ReadsBy feed.new name.now result (D.files folder.old) (D.files folder.new)
-        (D.counts folder.old) (D.counts folder.new) }
-    ensures refused { IfErr result (IsReadRefusal name.now (D.files folder.old)
-        (D.counts folder.old) (D.counts folder.new)) }
+    ensures reads { ReadsBy feed.new name.now result (D.seen folder.old) (D.seen folder.new) }
+    ensures refused { IfErr result (IsReadRefusal name.now (D.seen folder.old).files
+        (D.seen folder.old).counts (D.seen folder.new).counts) }
 {
     let front_end = pass_front(feed, folder, name, size, pieces)?;
     let Some(first) = first_frame(feed, folder, name, size, front_end)? else {
@@ -293,18 +278,12 @@ fn read_on<D: Folder>(
     begun: &Begun,
     pieces: Vec<Piece>,
 ) -> Result<Damaged, SurveyFault>
-    requires begun { IsBegun (D.files folder.old) name.now begun.now }
-    requires fed { IsFedFrom feed.old (D.files folder.old) name.now }
-    requires blocks { (bytes : List ℕ) → Holds (D.files folder.old) name.now bytes
-        → pieces.items ≡ blocks_of (run Front bytes 0).items }
+    requires begun { IsBegun (D.seen folder.old).files name.now begun.now }
+    requires fed { IsFedFrom feed.old (D.seen folder.old).files name.now }
+    requires blocks { OnFile (D.seen folder.old) name.now
+        (λ bytes. pieces.items ≡ blocks_of (run Front bytes 0).items) }
     requires laid { BlocksAreLaid 0 pieces.items begun.now.start.front_end }
-    ensures exact { IfOk result (λ d. IsReadOf name.now (D.files folder.old) (tells_of d)) }
-    ensures laid { IfOk result (λ d. IsLaidOut (tells_of d)) }
-    ensures done { OnOk result (D.counts folder.new ≡ D.counts folder.old) }
-    ensures refused { IfErr result (IsReadRefusal name.now (D.files folder.old)
-        (D.counts folder.old) (D.counts folder.new)) }
-    ensures files { D.files folder.new ≡ D.files folder.old }
-    ensures counts { OnlyReads (D.counts folder.old) (D.counts folder.new) }
+    ensures { WalkAnswer name.now (D.seen folder.old) (D.seen folder.new) result }
 {
     let Ok(mut found) = found_first(alloc, begun, pieces) else {
         return Err(SurveyFault::Memory);
@@ -315,15 +294,7 @@ fn read_on<D: Folder>(
 
 /// What is read of a damaged file, as `read_damaged` has it.
 fn read_file<D: Folder>(alloc: Global, folder: &mut D, name: &str) -> Result<Damaged, SurveyFault>
-    ensures exact { IfOk result (λ d. IsReadOf name.now (D.files folder.old) (tells_of d)) }
-    ensures laid { IfOk result (λ d. IsLaidOut (tells_of d)) }
-    ensures there { OnOk result (IsThere (D.files folder.old) name.now) }
-    ensures octets { OnOk result (HoldsOctets name.now (D.files folder.old)) }
-    ensures done { OnOk result (D.counts folder.new ≡ D.counts folder.old) }
-    ensures refused { IfErr result (IsReadRefusal name.now (D.files folder.old)
-        (D.counts folder.old) (D.counts folder.new)) }
-    ensures files { D.files folder.new ≡ D.files folder.old }
-    ensures counts { OnlyReads (D.counts folder.old) (D.counts folder.new) }
+    ensures { FileAnswer name.now (D.seen folder.old) (D.seen folder.new) result }
 {
     let size = find_length(folder, name)?;
     let mut feed = Feed::new(alloc)?;
@@ -350,18 +321,7 @@ pub fn read_damaged<D: Folder>(
     folder: &mut D,
     name: &str,
 ) -> Result<Damaged, SurveyFault>
-    ensures exact { IfOk result (λ d. IsReadOf name.now (D.files folder.old) (tells_of d)) }
-    // Whether the files are told or not: where head, frames, blocks and gaps are, and that there is a
-    // frame.
-    ensures laid { IfOk result (λ d. IsLaidOut (tells_of d)) }
-    ensures there { OnOk result (IsThere (D.files folder.old) name.now) }
-    ensures octets { OnOk result (HoldsOctets name.now (D.files folder.old)) }
-    ensures done { OnOk result (D.counts folder.new ≡ D.counts folder.old) }
-    ensures refused { IfErr result (IsReadFault name.now (D.files folder.old)
-        (D.counts folder.old) (D.counts folder.new)) }
-    ensures numbers { IfErr result HasRightNumbers }
-    ensures files { D.files folder.new ≡ D.files folder.old }
-    ensures counts { OnlyReads (D.counts folder.old) (D.counts folder.new) }
+    ensures { DamagedAnswer name.now (D.seen folder.old) (D.seen folder.new) result }
 {
     read_file(alloc, folder, name)
 }

@@ -1,6 +1,6 @@
 //! Finds the next usable frame.
 ghost use Rattle.std.specs.Prelude.{◌≡◌, ◌+◌, ◌^◌, ◌<◌, ◌≤◌, ℕ, List, true, false, length, IfOk, IfErr, IfSome};
-ghost use Rattle.outside.specs.Files.{Holds};
+ghost use Rattle.outside.specs.Seen.{OnFile};
 ghost use Rattle.outside.specs.Feed.{IsFedFrom};
 ghost use Rattle.sync_survey.specs.Survey.{HasLength, IsWholeFrom, ReadsBy};
 ghost use Rattle.salvage.specs.Usable.{next_usable as next_usable_lem};
@@ -124,16 +124,15 @@ pub(crate) fn next_usable<D: Folder>(
     from: u64,
     role: Role,
 ) -> Result<Option<PlacedFrame>, SurveyFault>
-    requires known { HasLength (D.files folder.old) name.now size }
-    requires fed { IsFedFrom feed.old (D.files folder.old) name.now }
+    requires known { HasLength (D.seen folder.old).files name.now size }
+    requires fed { IsFedFrom feed.old (D.seen folder.old).files name.now }
     requires early { from ≤ size + 1 }
-    ensures next { IfOk result (λ o. (bytes : List ℕ) → Holds (D.files folder.old) name.now bytes
-        → o ≡ next_usable_lem bytes role from) }
+    ensures next { IfOk result (λ o. OnFile (D.seen folder.old) name.now
+        (λ bytes. o ≡ next_usable_lem bytes role from)) }
     ensures placed { IfOk result (λ o. IfSome o (IsWholeFrom from size)) }
-    ensures reads { ReadsBy feed.new name.now result (D.files folder.old) (D.files folder.new)
-        (D.counts folder.old) (D.counts folder.new) }
-    ensures refused { IfErr result (IsReadRefusal name.now (D.files folder.old)
-        (D.counts folder.old) (D.counts folder.new)) }
+    ensures reads { ReadsBy feed.new name.now result (D.seen folder.old) (D.seen folder.new) }
+    ensures refused { IfErr result (IsReadRefusal name.now (D.seen folder.old).files
+        (D.seen folder.old).counts (D.seen folder.new).counts) }
 {
     let mut at = from;
     while at < size {
@@ -157,16 +156,15 @@ pub(crate) fn first_frame<D: Folder>(
     size: u64,
     front_end: u64,
 ) -> Result<Option<PlacedFrame>, SurveyFault>
-    requires known { HasLength (D.files folder.old) name.now size }
-    requires fed { IsFedFrom feed.old (D.files folder.old) name.now }
+    requires known { HasLength (D.seen folder.old).files name.now size }
+    requires fed { IsFedFrom feed.old (D.seen folder.old).files name.now }
     requires within { front_end ≤ size }
-    ensures first { IfOk result (λ o. (bytes : List ℕ) → Holds (D.files folder.old) name.now bytes
-        → o ≡ first_frame_lem bytes front_end) }
+    ensures first { IfOk result (λ o. OnFile (D.seen folder.old) name.now
+        (λ bytes. o ≡ first_frame_lem bytes front_end)) }
     ensures placed { IfOk result (λ o. IfSome o (IsWholeFrom front_end size)) }
-    ensures reads { ReadsBy feed.new name.now result (D.files folder.old) (D.files folder.new)
-        (D.counts folder.old) (D.counts folder.new) }
-    ensures refused { IfErr result (IsReadRefusal name.now (D.files folder.old)
-        (D.counts folder.old) (D.counts folder.new)) }
+    ensures reads { ReadsBy feed.new name.now result (D.seen folder.old) (D.seen folder.new) }
+    ensures refused { IfErr result (IsReadRefusal name.now (D.seen folder.old).files
+        (D.seen folder.old).counts (D.seen folder.new).counts) }
 {
     let left = look(feed, folder, name, size, front_end)?;
     if let Some(frame) = Role::First.whole(feed.bytes(), front_end, left) {

@@ -8,6 +8,7 @@ use Rattle.bit_fields.specs.Bits.{AreBytes}
 use Rattle.outside.specs.Files.{Contents, Files, Holds, IsThere, IsMissing, Told, Untold, IfTold, OnlyTouches}
 use Rattle.outside.specs.Counts.{Counts, NoneFell}
 use Rattle.outside.proofs.FilesLaws.{there_holds}
+use Rattle.outside.specs.Seen.{Seen, seen}
 use Rattle.sync_survey.specs.declared.places.PlacedFrame.{PlacedFrame}
 use Rattle.sync_survey.specs.Row.{Row}
 use Rattle.sync_survey.specs.declared.survey_fault.SurveyFault.{SurveyFault}
@@ -32,7 +33,7 @@ use Rattle.commands.proofs.TellingLaws.{telling-text, telling-done, telling-left
 use Rattle.commands.proofs.MakeLaws.{clash_left, early_left, one_done, one_left, one_streams}
 use Rattle.commands.proofs.RefusingLaws.{before_first}
 use Rattle.commands.specs.Kinds.{of_input}
-use Rattle.commands.specs.Left.{Seen, seen, IsLate, IsDone, Leaves, IsOfPass, HasNumbers}
+use Rattle.commands.specs.Left.{IsLate, IsDone, Leaves, IsOfPass, HasNumbers}
 use Rattle.commands.specs.One.{Refuses, NeedsMemory, IsEarlyFault, IsOfInputs, IsMaking, IsPassFault, clash_in, holding, one_command}
 use Rattle.frame_edits.specs.declared.plans.Selection.{Selection}
 use Rattle.frame_edits.specs.Chosen.{Chosen, chosen_in, chosen_file, plan_of}

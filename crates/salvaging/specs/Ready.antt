@@ -2,6 +2,7 @@
 use Rattle.std.specs.Prelude.{◌≡◌, ℕ, List, [], Result, OnOk, IfErr}
 use Rattle.outside.specs.Files.{Files}
 use Rattle.outside.specs.Counts.{OnlyReads}
+use Rattle.outside.specs.Seen.{Seen}
 use Rattle.slot_plan.specs.Plans.{entries}
 use Rattle.sync_survey.specs.Faults.{tells}
 use Rattle.sync_survey.specs.Survey.{HoldsOctets}
@@ -10,7 +11,6 @@ use Rattle.salvage.specs.Damaged.{DamagedFields, IsReadOf}
 use Rattle.salvage.specs.Progress.{IsLaidOut}
 use Rattle.salvage.specs.Mended.{mended, emptied_from}
 use Rattle.commands.specs.declared.fault.EditFault.{EditFault}
-use Rattle.commands.specs.Left.{Seen}
 use Rattle.commands.specs.One.{IsEarlyFault, IsOfInputs}
 use Rattle.frame_edits.specs.Chosen.{chosen_in, plan_of}
 use Rattle.frame_edits.specs.Layable.{IsLayable}

@@ -3,7 +3,6 @@ ghost use Rattle.std.specs.Prelude.{◌≡◌, ◌≤◌, List, ℕ, length, IfO
 ghost use Rattle.outside.specs.Files.{Files, IsThere};
 ghost use Rattle.sync_survey.specs.Faults.{tells};
 ghost use Rattle.sync_survey.specs.Survey.{HoldsOctets, IsLaidOut as IsLaidSurvey};
-ghost use Rattle.commands.specs.Left.{seen};
 ghost use Rattle.commands.specs.One.{most_frames};
 ghost use Rattle.frame_edits.specs.Chosen.{chosen_in};
 ghost use Rattle.salvaging.specs.Salvaged.{all_of};
@@ -24,14 +23,14 @@ use sync_survey::Survey;
 /// # Errors
 /// `Input` with the fault of the reading; `Memory`. The files stay.
 fn read_input<D: Folder>(alloc: Global, folder: &mut D, input: &str) -> Result<Mended, EditFault>
-    ensures mended { IfOk result (IsMended input.now (D.files folder.old)) }
+    ensures mended { IfOk result (IsMended input.now (D.seen folder.old).files) }
     ensures laid { IfOk result (λ m. IsLaidSurvey (tells m.survey)) }
     ensures few { IfOk result (λ m. length (tells m.survey).frames ≤ most_frames) }
-    ensures there { OnOk result (IsThere (D.files folder.old) input.now) }
-    ensures octets { OnOk result (HoldsOctets input.now (D.files folder.old)) }
+    ensures there { OnOk result (IsThere (D.seen folder.old).files input.now) }
+    ensures octets { OnOk result (HoldsOctets input.now (D.seen folder.old).files) }
     ensures reads { ReadsInput input.now result
-        (seen (D.files folder.old) (D.counts folder.old))
-        (seen (D.files folder.new) (D.counts folder.new)) }
+        (D.seen folder.old)
+        (D.seen folder.new) }
 {
     let damaged = match read_damaged(alloc, folder, input) {
         Ok(damaged) => damaged,
@@ -90,10 +89,10 @@ pub(crate) fn prepare<D: Folder>(
     folder: &mut D,
     input: &str,
 ) -> Result<Work, EditFault>
-    ensures ready { IfOk result (IsReady input.now (D.files folder.old)) }
+    ensures ready { IfOk result (IsReady input.now (D.seen folder.old).files) }
     ensures reads { ReadsInput input.now result
-        (seen (D.files folder.old) (D.counts folder.old))
-        (seen (D.files folder.new) (D.counts folder.new)) }
+        (D.seen folder.old)
+        (D.seen folder.new) }
 {
     let mended = read_input(alloc, folder, input)?;
     let work = make_ready(alloc, mended)?;

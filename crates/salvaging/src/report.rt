@@ -30,11 +30,11 @@ pub(crate) fn send_report<T: Sink>(
 ) -> Result<(), Failed>
     requires order { IsInOrder report.now }
     requires empty { buffer.old ≡ [] }
-    ensures sent { OnOk result (T.sent out.new ≡ sent_more (T.sent out.old)
+    ensures sent { OnOk result ((T.heard out.new).sent ≡ sent_more (T.heard out.old).sent
         (text_of frames report.now)) }
-    ensures prefix { OnErr result (SentPrefix (text_of frames report.now) (T.sent out.old)
-        (T.sent out.new)) }
-    ensures cause { HasCause (T.faults out.old) (T.faults out.new) result }
+    ensures prefix { OnErr result (SentPrefix (text_of frames report.now) (T.heard out.old).sent
+        (T.heard out.new).sent) }
+    ensures cause { HasCause (T.heard out.old).faults (T.heard out.new).faults result }
 {
     let mut line = Line::new();
     let mut lines = Lines::of(report);

@@ -2,9 +2,9 @@
 ghost use Rattle.std.specs.Prelude.{◌≡◌, ◌↔◌, ℕ, None, Some, IfErr, OnOk, IsErrOf};
 ghost use Rattle.outside.specs.Counts.{NoneFell};
 ghost use Rattle.commands.specs.Command.{HoldsStreams, clash_of};
-ghost use Rattle.commands.specs.Left.{seen, IsDone, Leaves, HasNumbers};
+ghost use Rattle.commands.specs.Left.{IsDone, Leaves, HasNumbers};
 ghost use Rattle.commands.specs.Runs.{IsRunOf};
-ghost use Rattle.commands.specs.Said.{heard, Says, fault_of};
+ghost use Rattle.commands.specs.Said.{Says, fault_of};
 ghost use Rattle.salvaging.specs.Ready.{IsReady};
 ghost use Rattle.salvaging.specs.Salvaged.{salvage_command};
 
@@ -27,12 +27,12 @@ fn write_and_tell<D: Folder, T: Sink>(
     out: &mut T,
 ) -> Result<(), EditFault>
     requires free { clash_of (salvage_command input.now output.now) ≡ None }
-    requires ready { IsReady input.now (D.files folder.old) work.old }
+    requires ready { IsReady input.now (D.seen folder.old).files work.old }
     ensures run { IsRunOf (salvage_command input.now output.now)
-        (seen (D.files folder.old) (D.counts folder.old))
-        (seen (D.files folder.new) (D.counts folder.new)) result }
-    ensures says { Says (salvage_command input.now output.now) (D.files folder.old)
-        (heard (T.sent out.old) (T.faults out.old)) (heard (T.sent out.new) (T.faults out.new))
+        (D.seen folder.old)
+        (D.seen folder.new) result }
+    ensures says { Says (salvage_command input.now output.now) (D.seen folder.old).files
+        (T.heard out.old) (T.heard out.new)
         (fault_of result) }
 {
     let count = work.laid.survey.frames().len() as u64;
@@ -71,14 +71,14 @@ pub fn salvage<D: Folder, T: Sink>(
     out: &mut T,
 ) -> Result<(), EditFault>
     ensures done { OnOk result (IsDone (salvage_command input.now output.now)
-        (seen (D.files folder.old) (D.counts folder.old))
-        (seen (D.files folder.new) (D.counts folder.new))) }
+        (D.seen folder.old)
+        (D.seen folder.new)) }
     ensures left { IfErr result (Leaves (salvage_command input.now output.now)
-        (seen (D.files folder.old) (D.counts folder.old))
-        (seen (D.files folder.new) (D.counts folder.new))) }
+        (D.seen folder.old)
+        (D.seen folder.new)) }
     // The text, of which a prefix was sent where a write failed.
-    ensures says { Says (salvage_command input.now output.now) (D.files folder.old)
-        (heard (T.sent out.old) (T.faults out.old)) (heard (T.sent out.new) (T.faults out.new))
+    ensures says { Says (salvage_command input.now output.now) (D.seen folder.old).files
+        (T.heard out.old) (T.heard out.new)
         (fault_of result) }
     // Over a folder that tells nothing too.
     ensures numbers { IfErr result (HasNumbers (salvage_command input.now output.now)) }
@@ -86,8 +86,8 @@ pub fn salvage<D: Folder, T: Sink>(
         ↔ (clash_of (salvage_command input.now output.now) ≡ Some place) }
     // The output is well-formed, and holds what is left of the input, after at most one lead-in.
     ensures streams { OnOk result (HoldsStreams (salvage_command input.now output.now)
-        (D.files folder.old)) }
-    ensures counts { NoneFell (D.counts folder.old) (D.counts folder.new) }
+        (D.seen folder.old).files) }
+    ensures counts { NoneFell (D.seen folder.old).counts (D.seen folder.new).counts }
 {
     let inputs = Inputs {
         source: input,

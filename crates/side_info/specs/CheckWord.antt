@@ -1,11 +1,13 @@
 -- The check word (ISO/IEC 11172-3, 2.4.3.1): the remainder of the bits that it covers in a division by x^16 + x^15 + x^2 + 1.
-use Rattle.std.specs.Prelude.{ℕ, ◌*◌, ◌%◌, ◌==◌, if◌then◌else◌, List, [], ◌∷◌, ◌++◌, drop, bit_xor}
+use Rattle.std.specs.Prelude.{◌≡◌, ℕ, ◌*◌, ◌%◌, ◌==◌, if◌then◌else◌, List, [], ◌∷◌, ◌++◌, length, drop, bit_xor, Ok}
 use Rattle.std.specs.Int.{bit_at}
+use Rattle.bit_fields.specs.Bits.{bits}
 use Rattle.frame_header.specs.Fields.{HeaderFields}
-use Rattle.frame_header.specs.Tables.{class_of}
+use Rattle.frame_header.specs.Tables.{class_of, side_size_of}
 use Rattle.frame_header.specs.HeaderBits.{header_bits}
+use Rattle.frame_header.specs.Reading.{header_at}
 use Rattle.side_info.specs.declared.side.Side.{Side}
-use Rattle.side_info.specs.Side.{side_bits}
+use Rattle.side_info.specs.Side.{side_at, side_bits}
 
 -- x^15 + x^2 + 1, the divisor below its highest power
 abbrev pub polynomial : ℕ
@@ -27,3 +29,9 @@ start_word = 0xffff
 -- the check word of a frame: over the last 16 bits of the header and the side bits
 unfoldable pub check_word_of : HeaderFields → Side → ℕ
 check_word_of h s = remainder start_word (drop 16 (header_bits h) ++ side_bits (class_of h) s)
+
+-- the check word of these four bytes and of the side bytes after them
+pub record IsWordOf (header part : List ℕ) (word : ℕ) : Type 0 where
+  pub bytes : word ≡ remainder start_word (bits (drop 2 header ++ part))
+  -- it is that of the header and of the side fields that these bytes are
+  pub read : (h : HeaderFields) → header_at header ≡ Ok h → length part ≡ side_size_of (class_of h) → word ≡ check_word_of h (side_at (class_of h) (bits part))

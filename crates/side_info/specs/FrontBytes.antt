@@ -1,16 +1,18 @@
 -- A frame's header and side information, as the bytes that hold them (ISO/IEC 11172-3 and 13818-3, 2.4.1.3 and 2.4.1.7).
-use Rattle.std.specs.Prelude.{◌≡◌, ℕ, List, ◌++◌, length, take, drop, replicate}
-use Rattle.bit_fields.specs.Bits.{bits, bytes}
+use Rattle.std.specs.Prelude.{◌≡◌, ℕ, ◌+◌, ◌≤◌, List, ◌++◌, length, take, drop, replicate}
+use Rattle.bit_fields.specs.Bits.{bits, bytes, AreBytes}
 use Rattle.bit_fields.specs.Groups.{group}
 use Rattle.frame_header.specs.declared.version.Version.{Version}
 use Rattle.frame_header.specs.declared.version.Version.TheVariants.{One, Two, TwoFive}
-use Rattle.frame_header.specs.Fields.{HeaderFields, ClassFields, IsHeader}
+use Rattle.frame_header.specs.Fields.{HeaderFields, ClassFields, SlotFields, IsHeader, IsSlot}
 use Rattle.frame_header.specs.Tables.{class_of, side_size_of}
 use Rattle.frame_header.specs.Reading.{header_fields}
 use Rattle.frame_header.specs.HeaderBits.{header_bits}
 use Rattle.side_info.specs.declared.side.Side.{Side}
 use Rattle.side_info.specs.declared.frame_front.FrameFront.TheInside.{Inside}
-use Rattle.side_info.specs.Side.{side_at, side_bits}
+use Rattle.side_info.specs.declared.frame_front.Extent.{Extent}
+use Rattle.side_info.specs.Side.{side_at, side_bits, payload_bits, SideFits}
+use Rattle.side_info.specs.Frame.{side_in, side_place, word_part}
 use Rattle.side_info.specs.FrameFields.{FrameFields}
 
 -- how many bits main_data_begin has
@@ -29,6 +31,12 @@ pub record AreAlike (bs cs : List ℕ) : Type 0 where
   pub copyright : group 28 1 bs ≡ group 28 1 cs
   pub original : group 29 1 bs ≡ group 29 1 cs
   pub emphasis : group 30 2 bs ≡ group 30 2 cs
+
+-- up to four bits of a header from this one on
+pub record AreInHeader (at n : ℕ) : Type 0 where
+  pub some : 1 ≤ n
+  pub within : at + n ≤ 32
+  pub few : n ≤ 4
 
 -- 32 bytes that begin with these, and are zeros after them
 unfoldable pub padded : List ℕ → List ℕ
@@ -56,3 +64,35 @@ inside_of f = record { header = bytes (header_bits f.header); side = padded (byt
 pub record AreWritten (a : Inside) : Type 0 where
   pub known : IsHeader (header_of a)
   pub same : inside_of (fields_of a) ≡ a
+
+-- where the main data of a frame begin, and how long they are
+pub record IsExtent (s : Side) (e : Extent) : Type 0 where
+  pub begin : e.begin ≡ s.main_data_begin
+  pub bits : e.bits ≡ payload_bits s
+
+-- the front of this frame, which begins with this header
+pub record IsFrontOf (h : HeaderFields) (frame : List ℕ) (f : FrameFields) : Type 0 where
+  pub front : f ≡ record { header = h; side = side_in h frame }
+  pub fits : SideFits (class_of h) f.side
+
+-- the bytes of side information, and zeros after them
+pub record IsRoomOf (c : ClassFields) (s : Side) (all : List ℕ) : Type 0 where
+  pub room : all ≡ padded (bytes (side_bits c s))
+  pub size : length (bytes (side_bits c s)) ≡ side_size_of c
+  pub back : side_at c (bits (bytes (side_bits c s))) ≡ s
+
+-- a header gets this slot
+pub record PutsSlot (slot : SlotFields) (old new : List ℕ) : Type 0 where
+  pub bits : (h : HeaderFields) → bits old ≡ header_bits h → bits new ≡ header_bits (record h { slot = slot })
+  pub octets : AreBytes new
+  pub known : IsSlot slot
+
+-- so many bytes are the header and the check word of a protected frame
+pub record HasHead (f : FrameFields) (n : ℕ) (room : List ℕ) : Type 0 where
+  pub place : n ≡ side_place f.header.protected
+  pub head : take n room ≡ bytes (header_bits f.header) ++ word_part f.header f.side
+
+-- 32 zeros, over which these bytes may be written
+pub record AreZerosFor (part room : List ℕ) : Type 0 where
+  pub short : length part ≤ 32
+  pub zeros : room ≡ replicate 32 0

@@ -3,6 +3,7 @@ pub mod Side
 pub mod Parts
 pub mod CheckWord
 pub mod Frame
+pub mod Gains
 pub mod FrameFields
 pub mod FrontBytes
 pub use Rattle.frame_header.specs.Fields

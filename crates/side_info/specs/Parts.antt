@@ -1,5 +1,5 @@
 -- The parts of the side information that are read and written in turn (ISO/IEC 11172-3 and 13818-3, 2.4.1.7 and 2.4.2.7).
-use Rattle.std.specs.Prelude.{◌≡◌, ℕ, ◌==◌, if◌then◌else◌, List, [], ◌∷◌, ◌++◌, length, take, drop, slice_index, slice_index_or, sum, flat_map}
+use Rattle.std.specs.Prelude.{◌≡◌, ℕ, ◌+◌, ◌*◌, ◌<◌, ◌≤◌, ◌==◌, if◌then◌else◌, List, [], ◌∷◌, ◌++◌, length, take, drop, slice_index, slice_index_or, sum, flat_map}
 use Rattle.bit_fields.specs.Groups.{numbers_at, spelled}
 use Rattle.frame_header.specs.declared.version.Version.{Version}
 use Rattle.frame_header.specs.Fields.{ClassFields}
@@ -7,7 +7,7 @@ use Rattle.frame_header.specs.Tables.{granules_of}
 use Rattle.side_info.specs.declared.front.Front.{Front}
 use Rattle.side_info.specs.declared.granule.Granule.{Granule}
 use Rattle.side_info.specs.declared.side.Side.{Side}
-use Rattle.side_info.specs.Granule.{no_granule, granule_at, granule_bits, granule_size, AreAlike}
+use Rattle.side_info.specs.Granule.{no_granule, granule_at, granule_bits, granule_size, GranuleFits, AreAlike}
 use Rattle.side_info.specs.Side.{front_widths_of}
 
 -- the fields before the granules, from their numbers
@@ -21,6 +21,13 @@ front_of front = record {
 -- the fields before the granules, with which these bits begin; one that the class lacks is 0
 abbrev pub front_at : Version → ℕ → List ℕ → Front
 front_at version channels bs = front_of (numbers_at (front_widths_of version channels) bs)
+
+-- widths of these fields, none wider than in any class
+pub record AreFrontWidths (begin private_bits first second : ℕ) : Type 0 where
+  pub begin_is : begin ≤ 9
+  pub private_is : private_bits ≤ 5
+  pub first_is : first ≤ 4
+  pub second_is : second ≤ 4
 
 -- how many bits these fields take
 abbrev pub front_size : Version → ℕ → ℕ
@@ -47,6 +54,18 @@ second_at version channels bs = if granules_of version == 1 then no_pair else pa
 abbrev pub class_with : Version → ℕ → ℕ → ClassFields
 class_with version frequency_index channels = record { version = version; frequency_index = frequency_index; channels = channels }
 
+-- one channel, or two
+pub record AreChannels (channels : ℕ) : Type 0 where
+  pub some : 1 ≤ channels
+  pub few : channels ≤ 2
+
+-- the fields of both granules are within their bits, in each channel that there is
+pub record PairsFit (version : Version) (channels : ℕ) (gs hs : List Granule) : Type 0 where
+  pub left : GranuleFits version (slice_index_or gs 0 no_granule)
+  pub right : channels ≡ 2 → GranuleFits version (slice_index_or gs 1 no_granule)
+  pub second_left : granules_of version ≡ 2 → GranuleFits version (slice_index_or hs 0 no_granule)
+  pub second_right : granules_of version ≡ 2 → channels ≡ 2 → GranuleFits version (slice_index_or hs 1 no_granule)
+
 -- the bits of a granule's channels
 abbrev pub pair_bits : Version → ℕ → List Granule → List ℕ
 pair_bits version channels gs = flat_map (granule_bits version) (take channels gs)
@@ -64,3 +83,10 @@ abbrev pub PutsPair : (List Granule → List ℕ) → List Granule → ℕ → L
 PutsPair bits_of_pair hs at old new =
     (gs : List Granule) (before after : List ℕ) → length gs ≡ 2 → length before ≡ at → old ≡ before ++ (bits_of_pair gs ++ after)
     → AllAlike gs hs → new ≡ before ++ (bits_of_pair hs ++ after)
+
+-- fields of so many bits, and two granules of so many after them, together 17 bytes: the first granule ends in the second eight bytes
+pub record AreWidths (width size : ℕ) : Type 0 where
+  pub some : 1 ≤ width
+  pub few : width < 64
+  pub long : 64 ≤ size + width
+  pub whole : width + 2 * size ≡ 136

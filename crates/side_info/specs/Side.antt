@@ -1,5 +1,6 @@
 -- The side information of a frame (ISO/IEC 11172-3 and 13818-3, 2.4.1.7 and 2.4.2.7).
 use Rattle.std.specs.Prelude.{◌≡◌, ℕ, ◌+◌, ◌*◌, ◌/◌, ◌^◌, ◌<◌, ◌==◌, ◌&&◌, nat_lt, if◌then◌else◌, Bool, List, [], ◌∷◌, ◌++◌, take, drop, slice_index, slice_index_or, sum, sum_by, flat_map, MatchBool}
+use Rattle.bit_fields.specs.Bits.{bits}
 use Rattle.bit_fields.specs.Groups.{numbers_at, spelled}
 use Rattle.frame_header.specs.declared.version.Version.{Version}
 use Rattle.frame_header.specs.declared.version.Version.TheVariants.{One, Two, TwoFive}
@@ -71,6 +72,24 @@ pub record SideFits (c : ClassFields) (s : Side) : Type 0 where
   pub scfsi : (channel : ℕ) → slice_index s.scfsi channel < 2 ^ front_width c (2 + channel)
   pub granules : (granule channel : ℕ) → MatchBool (has_granule c granule channel) (GranuleFits c.version (granule_in s granule channel)) (granule_in s granule channel ≡ no_granule)
 
+-- the fields before the granules are within the bits that a class of this version with so many channels has for them
+pub record FrontFits (version : Version) (channels : ℕ) (s : Side) : Type 0 where
+  pub begin : s.main_data_begin < 2 ^ slice_index (front_widths_of version channels) 0
+  pub private_bits : s.private_bits < 2 ^ slice_index (front_widths_of version channels) 1
+  pub scfsi : (channel : ℕ) → slice_index s.scfsi channel < 2 ^ slice_index (front_widths_of version channels) (2 + channel)
+
+-- the same, as each is tested
+abbrev pub FieldsWithin : ClassFields → Side → Type 0
+FieldsWithin c s =
+    (s.main_data_begin < 2 ^ front_width c 0) × (s.private_bits < 2 ^ front_width c 1)
+    × (slice_index s.scfsi 0 < 2 ^ front_width c 2) × (slice_index s.scfsi 1 < 2 ^ front_width c 3)
+
+-- the fields of both channels of a granule are within their bits, or all 0 where the class lacks the channel
+abbrev pub PairFits : ClassFields → ℕ → List Granule → Type 0
+PairFits c granule gs =
+    MatchBool (has_granule c granule 0) (GranuleFits c.version (slice_index_or gs 0 no_granule)) (slice_index_or gs 0 no_granule ≡ no_granule)
+    × MatchBool (has_granule c granule 1) (GranuleFits c.version (slice_index_or gs 1 no_granule)) (slice_index_or gs 1 no_granule ≡ no_granule)
+
 -- the two differ in no field but the gains
 pub record HasOtherGains (s t : Side) : Type 0 where
   pub main_data_begin : t.main_data_begin ≡ s.main_data_begin
@@ -85,3 +104,10 @@ payload_bits s = sum_by (λ (channels : List Granule). sum_by (λ (g : Granule).
 -- the same in bytes, rounded up
 unfoldable pub payload_bytes : Side → ℕ
 payload_bytes s = (payload_bits s + 7) / 8
+
+-- the side information that these bytes are
+pub record IsSideOf (c : ClassFields) (part : List ℕ) (s : Side) : Type 0 where
+  pub side : s ≡ side_at c (bits part)
+  pub fits : SideFits c s
+  -- what is written back is what was read
+  pub back : side_bits c s ≡ bits part

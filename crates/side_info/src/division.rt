@@ -1,11 +1,9 @@
 //! The check word of a frame (ISO/IEC 11172-3 and 13818-3, 2.4.3.1).
-ghost use Rattle.std.specs.Prelude.{◌≡◌, ℕ, ◌*◌, ◌<◌, ◌≤◌, [], ◌++◌, length, take, drop, slice_index_or};
+ghost use Rattle.std.specs.Prelude.{◌≡◌, ◌*◌, ◌<◌, ◌≤◌, [], length, take, slice_index_or};
 ghost use Rattle.bit_fields.specs.Bits.{bits, bits_of};
-ghost use Rattle.frame_header.specs.Fields.{HeaderFields};
-ghost use Rattle.frame_header.specs.Reading.{header_at};
-ghost use Rattle.frame_header.specs.Tables.{class_of, side_size_of};
-ghost use Rattle.side_info.specs.CheckWord.{remainder, start_word, check_word_of};
-ghost use Rattle.side_info.specs.Side.{side_at, SideFits};
+ghost use Rattle.frame_header.specs.Tables.{class_of};
+ghost use Rattle.side_info.specs.CheckWord.{remainder, start_word, check_word_of, IsWordOf};
+ghost use Rattle.side_info.specs.Side.{SideFits};
 ghost use Rattle.side_info.specs.declared.division.TheConstants.{REMAINDERS as remainders};
 
 use crate::side::Side;
@@ -122,11 +120,7 @@ pub fn word_of_bytes(bytes: &[u8]) -> u16
 /// 13818-3, 2.4.3.1).
 pub fn check_word_of_bytes(header: &[u8], side: &[u8]) -> u16
     requires { length header.now ≡ 4 }
-    ensures bytes { result ≡ remainder start_word (bits (drop 2 header.now ++ side.now)) }
-    // It is that of the header and of the side fields that these bytes are.
-    ensures read { (h : HeaderFields) → header_at header.now ≡ Ok h
-        → length side.now ≡ side_size_of (class_of h)
-        → result ≡ check_word_of h (side_at (class_of h) (bits side.now)) }
+    ensures { IsWordOf header.now side.now result }
 {
     word_behind(two_step(START, header[2], header[3]), side)
 }

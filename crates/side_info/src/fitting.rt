@@ -1,7 +1,7 @@
 //! Whether the fields of side information are within the bits that a class has for them.
-ghost use Rattle.std.specs.Prelude.{◌≡◌, ℕ, ◌+◌, ◌^◌, ◌<◌, ◌↔◌, IsTrue, MatchBool, length, slice_index, slice_index_or};
+ghost use Rattle.std.specs.Prelude.{◌≡◌, ℕ, ◌^◌, ◌<◌, ◌↔◌, IsTrue, MatchBool, length, slice_index};
 ghost use Rattle.side_info.specs.Granule.{no_granule, GranuleFits};
-ghost use Rattle.side_info.specs.Side.{front_width, has_granule as has_granule_lem};
+ghost use Rattle.side_info.specs.Side.{front_width, has_granule as has_granule_lem, FieldsWithin, PairFits};
 
 use crate::granule::{Granule, NO_GRANULE};
 use crate::side::Side;
@@ -21,10 +21,7 @@ fn front_limits(class: Class) -> [u16; 4]
 
 /// Whether the fields before the granules are within their bits.
 pub(crate) fn front_fits(side: &Side, class: Class) -> bool
-    ensures { IsTrue result ↔ (side.now.main_data_begin < 2 ^ front_width class 0)
-        × (side.now.private_bits < 2 ^ front_width class 1)
-        × (slice_index side.now.scfsi 0 < 2 ^ front_width class 2)
-        × (slice_index side.now.scfsi 1 < 2 ^ front_width class 3) }
+    ensures { IsTrue result ↔ FieldsWithin class side.now }
 {
     let limits = front_limits(class);
     side.main_data_begin < limits[0]
@@ -58,13 +55,9 @@ fn granule_fits(granule: &Granule, version: Version, has: bool) -> bool
 
 /// The same for the channels of one granule.
 pub(crate) fn pair_fits(pair: &[Granule; 2], class: Class, granule: u8) -> bool
+    // Said of an array in an array, whose length the caller doesn't know.
     ensures two { length pair.now ≡ 2 }
-    ensures fits { IsTrue result ↔ (MatchBool (has_granule_lem class granule 0)
-        (GranuleFits class.version (slice_index_or pair.now 0 no_granule))
-        (slice_index_or pair.now 0 no_granule ≡ no_granule))
-        × (MatchBool (has_granule_lem class granule 1)
-        (GranuleFits class.version (slice_index_or pair.now 1 no_granule))
-        (slice_index_or pair.now 1 no_granule ≡ no_granule)) }
+    ensures fits { IsTrue result ↔ PairFits class granule pair.now }
 {
     granule_fits(&pair[0], class.version, has_granule(class, granule, 0))
         && granule_fits(&pair[1], class.version, has_granule(class, granule, 1))

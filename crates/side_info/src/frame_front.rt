@@ -10,8 +10,9 @@ ghost use Rattle.frame_header.specs.Tables.{class_of, side_size_of, overhead_of}
 ghost use Rattle.frame_header.specs.Reading.{header_at, header_fields};
 ghost use Rattle.side_info.specs.Side.{no_side, side_at, side_bits, front_width, payload_bits, payload_bytes, SideFits};
 ghost use Rattle.side_info.specs.Frame.{side_in, side_part, side_place, word_part, front_of};
-ghost use Rattle.side_info.specs.FrameFields.{header_like};
-ghost use Rattle.side_info.specs.FrontBytes.{padded, begin_width, AreAlike};
+ghost use Rattle.side_info.specs.FrameFields.{header_like, with_begin};
+ghost use Rattle.side_info.specs.FrontBytes.{padded, begin_width, AreAlike, AreInHeader, AreZerosFor, HasHead, IsExtent, IsFrontOf, IsRoomOf, PutsSlot};
+ghost use Rattle.frame_header.specs.Limits.{most_front};
 
 use crate::division::check_word_of_bytes;
 use crate::frame::{HEADER_SIZE, PROTECTED_SIZE, put_word};
@@ -71,8 +72,7 @@ impl Extent {
 /// Writes these bytes over the first of 32 zeros.
 #[inline(never)]
 fn fill_short(part: &[u8], room: &mut [u8; 32])
-    requires short { length part.now ≤ 32 }
-    requires zeros { room.old ≡ replicate 32 0 }
+    requires { AreZerosFor part.now room.old }
     ensures { room.new ≡ padded part.now }
 {
     room[..part.len()].copy_from_slice(part);
@@ -82,8 +82,7 @@ fn fill_short(part: &[u8], room: &mut [u8; 32])
 // In place, since the compiler copies an answer byte by byte here. Copying is fastest if the number of bytes is a constant.
 #[inline(always)]
 fn fill(part: &[u8], room: &mut [u8; 32])
-    requires short { length part.now ≤ 32 }
-    requires zeros { room.old ≡ replicate 32 0 }
+    requires { AreZerosFor part.now room.old }
     ensures { room.new ≡ padded part.now }
 {
     if part.len() == MOST {
@@ -196,9 +195,7 @@ fn write_side(class: Class, side: &Side, room: &mut [u8])
 /// The bytes of side information, and zeros after them.
 fn room_of(class: Class, side: &Side) -> [u8; 32]
     requires { SideFits class side.now }
-    ensures room { result ≡ padded (bytes (side_bits class side.now)) }
-    ensures size { length (bytes (side_bits class side.now)) ≡ side_size_of class }
-    ensures back { side_at class (bits (bytes (side_bits class side.now))) ≡ side.now }
+    ensures { IsRoomOf class side.now result }
 {
     let mut room = [0; MOST];
     write_side(class, side, &mut room[..class.side_size() as usize]);
@@ -209,10 +206,7 @@ fn room_of(class: Class, side: &Side) -> [u8; 32]
 #[inline(always)]
 fn put_slot(slot: Slot, four: &mut [u8])
     requires { length four.old ≡ 4 }
-    ensures bits { (h : HeaderFields) → bits four.old ≡ header_bits h
-        → bits four.new ≡ header_bits (record h { slot = slot }) }
-    ensures octets { AreBytes four.new }
-    ensures known { IsSlot slot }
+    ensures { PutsSlot slot four.old four.new }
 {
     put(four, 16, 4, u32::from(slot.rate_index));
     put(four, 22, 1, u32::from(slot.padding));
@@ -241,9 +235,7 @@ fn channels_of(mode: u32) -> u8
 /// The number of a group of bits of a header, counted from the most significant.
 #[inline(always)]
 fn group_of(word: u32, at: u32, n: u32) -> u32
-    requires some { 1 ≤ n }
-    requires within { at + n ≤ 32 }
-    requires few { n ≤ 4 }
+    requires { AreInHeader at n }
     ensures { result ≡ group at n (bits_of 32 word) }
 {
     (word >> (32 - at - n)) % (1 << n)
@@ -252,9 +244,7 @@ fn group_of(word: u32, at: u32, n: u32) -> u32
 /// Whether a group of bits is the same in two headers.
 #[inline(always)]
 fn same_group(word: u32, other: u32, at: u32, n: u32) -> bool
-    requires some { 1 ≤ n }
-    requires within { at + n ≤ 32 }
-    requires few { n ≤ 4 }
+    requires { AreInHeader at n }
     ensures { IsTrue result ↔ (group at n (bits_of 32 word) ≡ group at n (bits_of 32 other)) }
 {
     group_of(word, at, n) == group_of(other, at, n)
@@ -282,8 +272,7 @@ impl FrameFront {
     pub fn read(header: &Header, frame: &[u8]) -> FrameFront
         requires heads { header_at (take 4 frame.now) ≡ Ok header.now }
         requires room { overhead_of (class_of header.now) header.now.protected ≤ length frame.now }
-        ensures front { result ≡ record { header = header.now; side = side_in header.now frame.now } }
-        ensures fits { SideFits (class_of header.now) result.side }
+        ensures { IsFrontOf header.now frame.now result }
     {
         FrameFront::read_in(header.class(), header, frame)
     }
@@ -294,8 +283,7 @@ impl FrameFront {
         requires class { class ≡ class_of header.now }
         requires heads { header_at (take 4 frame.now) ≡ Ok header.now }
         requires room { overhead_of (class_of header.now) header.now.protected ≤ length frame.now }
-        ensures front { result ≡ record { header = header.now; side = side_in header.now frame.now } }
-        ensures fits { SideFits (class_of header.now) result.side }
+        ensures { IsFrontOf header.now frame.now result }
     {
         FrameFront {
             header: first_four(frame),
@@ -413,8 +401,7 @@ impl FrameFront {
     /// Where the main data begin, and how long they are.
     #[inline(always)]
     pub fn extent(&self) -> Extent
-        ensures begin { result.begin ≡ self.now.side.main_data_begin }
-        ensures bits { result.bits ≡ payload_bits self.now.side }
+        ensures { IsExtent self.now.side result }
     {
         self.extent_in(self.class())
     }
@@ -424,8 +411,7 @@ impl FrameFront {
     #[inline(always)]
     pub fn extent_in(&self, class: Class) -> Extent
         requires { class ≡ class_of self.now.header }
-        ensures begin { result.begin ≡ self.now.side.main_data_begin }
-        ensures bits { result.bits ≡ payload_bits self.now.side }
+        ensures { IsExtent self.now.side result }
     {
         match (class.version, class.channels) {
             (Version::One, 2) => {
@@ -444,8 +430,7 @@ impl FrameFront {
     #[inline(always)]
     fn extent_by(&self, class: Class) -> Extent
         requires { class ≡ class_of self.now.header }
-        ensures begin { result.begin ≡ self.now.side.main_data_begin }
-        ensures bits { result.bits ≡ payload_bits self.now.side }
+        ensures { IsExtent self.now.side result }
     {
         let side = self.side_in(class);
         Extent {
@@ -485,7 +470,7 @@ impl FrameFront {
     #[inline(always)]
     pub fn set_begin(&mut self, begin: u16)
         requires { begin < 2 ^ front_width (class_of self.old.header) 0 }
-        ensures { self.new ≡ record self.old { side = record self.old.side { main_data_begin = begin } } }
+        ensures { self.new ≡ with_begin self.old begin }
     {
         let class = self.class();
         let size = class.side_size() as usize;
@@ -513,9 +498,7 @@ impl FrameFront {
     #[inline(always)]
     fn put_head(&self, room: &mut [u8]) -> usize
         requires { 6 ≤ length room.old }
-        ensures place { result ≡ side_place self.now.header.protected }
-        ensures head { take result room.new ≡ bytes (header_bits self.now.header)
-            ++ word_part self.now.header self.now.side }
+        ensures { HasHead self.now result room.new }
     {
         room[..HEADER_SIZE].copy_from_slice(&self.four());
         if self.protected() {
@@ -544,8 +527,8 @@ impl FrameFront {
     #[tactic(auto, unfolding(crate::specs::Frame::front_of))]
     pub fn put_in(&self, class: Class, room: &mut [u8]) -> usize
         requires class { class ≡ class_of self.now.header }
-        requires room { 38 ≤ length room.old }
-        ensures size { result ≤ 38 }
+        requires room { most_front ≤ length room.old }
+        ensures size { result ≤ most_front }
         ensures front { take result room.new ≡ front_of self.now.header self.now.side }
     {
         let place = self.put_head(room);

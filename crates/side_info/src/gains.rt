@@ -1,15 +1,12 @@
 //! Gains changed in place in a frame.
-ghost use Rattle.std.specs.Prelude.{◌≡◌, ℕ, ◌+◌, ◌*◌, ◌^◌, ◌≤◌, ◌++◌, List, [], length, take, drop, slice_index_or};
-ghost use Rattle.bit_fields.specs.Bits.{bits, bits_of, bytes};
+ghost use Rattle.std.specs.Prelude.{◌≡◌, ℕ, ◌+◌, ◌*◌, ◌^◌, ◌≤◌, ◌++◌, List, length};
+ghost use Rattle.bit_fields.specs.Bits.{bits};
 ghost use Rattle.frame_header.specs.declared.version.Version.{Version};
 ghost use Rattle.frame_header.specs.Tables.{class_of, granules_of, side_size_of, overhead_of};
 ghost use Rattle.side_info.specs.declared.granule.Granule.{Granule};
 ghost use Rattle.side_info.specs.Granule.{granule_bits, granule_size};
-ghost use Rattle.side_info.specs.Parts.{pair_bits, second_bits, PutsPair};
-ghost use Rattle.side_info.specs.Side.{side_at, side_bits, HasOtherGains};
-ghost use Rattle.side_info.specs.CheckWord.{check_word_of};
-ghost use Rattle.side_info.specs.Frame.{side_in, frame_with};
-ghost use Rattle.side_info.specs.declared.side.Side.{Side};
+ghost use Rattle.side_info.specs.Parts.{pair_bits, second_bits, AreChannels, PutsPair};
+ghost use Rattle.side_info.specs.Gains.{PutsSide, PutsSideAt, PutsWord, PutsGains};
 
 use crate::division::check_word_of_bytes;
 use crate::frame::{HEADER_SIZE, PROTECTED_SIZE, put_word};
@@ -37,10 +34,11 @@ fn put_gain(gain: u8, bytes: &mut [u8], at: usize)
 /// Writes the gains of the channels of a granule whose side information begins at bit `at`.
 #[inline]
 fn put_pair(pair: &[Granule; 2], version: Version, channels: u8, bytes: &mut [u8], at: usize)
-    requires some { 1 ≤ channels }
-    requires few { channels ≤ 2 }
+    requires channels { AreChannels channels }
     requires room { at + channels * granule_size version ≤ 8 * length bytes.old }
     requires short { length bytes.old ≤ 2 ^ 28 }
+    // Said of an array in an array, whose length the caller doesn't know.
+    // The type says so; a proof that cites this call needs it as a fact.
     ensures two { length pair.now ≡ 2 }
     ensures put { PutsPair (pair_bits version channels) pair.now at (bits bytes.old)
         (bits bytes.new) }
@@ -55,11 +53,12 @@ fn put_pair(pair: &[Granule; 2], version: Version, channels: u8, bytes: &mut [u8
 /// The same of the second granule, where the version has one.
 #[inline]
 fn put_second(pair: &[Granule; 2], version: Version, channels: u8, bytes: &mut [u8], at: usize)
-    requires some { 1 ≤ channels }
-    requires few { channels ≤ 2 }
+    requires channels { AreChannels channels }
     requires room { granules_of version ≡ 2
         → at + channels * granule_size version ≤ 8 * length bytes.old }
     requires short { length bytes.old ≤ 2 ^ 28 }
+    // Said of an array in an array, whose length the caller doesn't know.
+    // The type says so; a proof that cites this call needs it as a fact.
     ensures two { length pair.now ≡ 2 }
     ensures put { PutsPair (second_bits version channels) pair.now at (bits bytes.old)
         (bits bytes.new) }
@@ -74,10 +73,7 @@ fn put_second(pair: &[Granule; 2], version: Version, channels: u8, bytes: &mut [
 #[inline(always)]
 fn put_all(class: Class, side: &Side, bytes: &mut [u8])
     requires size { length bytes.old ≡ side_size_of class }
-    ensures put { HasOtherGains (side_at class (bits bytes.old)) side.now
-        → bits bytes.new ≡ side_bits class side.now }
-    ensures first { length (slice_index_or side.now.granules 0 []) ≡ 2 }
-    ensures second { length (slice_index_or side.now.granules 1 []) ≡ 2 }
+    ensures { PutsSide class side.now bytes.old bytes.new }
 {
     let begin = front_size(class.version, class.channels);
     let next = begin + granule_width(class.version) * usize::from(class.channels);
@@ -102,10 +98,7 @@ fn put_all(class: Class, side: &Side, bytes: &mut [u8])
 #[inline(always)]
 fn put_by_class(class: Class, side: &Side, bytes: &mut [u8])
     requires size { length bytes.old ≡ side_size_of class }
-    ensures put { HasOtherGains (side_at class (bits bytes.old)) side.now →
-        bits bytes.new ≡ side_bits class side.now }
-    ensures first { length (slice_index_or side.now.granules 0 []) ≡ 2 }
-    ensures second { length (slice_index_or side.now.granules 1 []) ≡ 2 }
+    ensures { PutsSide class side.now bytes.old bytes.new }
 {
     match (class.version, class.channels) {
         (Version::One, 2) => {
@@ -124,12 +117,7 @@ fn put_by_class(class: Class, side: &Side, bytes: &mut [u8])
 #[inline(always)]
 fn put_at_place(class: Class, side: &Side, place: usize, frame: &mut [u8])
     requires room { place + side_size_of class ≤ length frame.old }
-    ensures before { take place frame.new ≡ take place frame.old }
-    ensures behind { drop (place + side_size_of class) frame.new ≡ drop
-        (place + side_size_of class) frame.old }
-    ensures side { HasOtherGains (side_at class
-        (bits (take (side_size_of class) (drop place frame.old)))) side.now
-        → bits (take (side_size_of class) (drop place frame.new)) ≡ side_bits class side.now }
+    ensures { PutsSideAt class place side.now frame.old frame.new }
 {
     let end = place + class.side_size() as usize;
     put_by_class(class, side, &mut frame[place..end]);
@@ -138,12 +126,7 @@ fn put_at_place(class: Class, side: &Side, place: usize, frame: &mut [u8])
 /// Writes the check word that is right for the side bytes that are in the frame.
 fn put_right_word(header: &Header, frame: &mut [u8])
     requires { 6 + side_size_of (class_of header.now) ≤ length frame.old }
-    ensures before { take 4 frame.new ≡ take 4 frame.old }
-    ensures behind { drop 6 frame.new ≡ drop 6 frame.old }
-    ensures word { (s : Side) → bits (take (side_size_of (class_of header.now)) (drop 6 frame.old))
-        ≡ side_bits (class_of header.now) s
-        → frame.new ≡ take 4 frame.old ++ (bytes
-        (bits_of 16 (check_word_of header.now s)) ++ drop 6 frame.old) }
+    ensures { PutsWord header.now frame.old frame.new }
 {
     let end = PROTECTED_SIZE + header.class().side_size() as usize;
     let word = check_word_of_bytes(&header.bytes(), &frame[PROTECTED_SIZE..end]);
@@ -159,13 +142,7 @@ pub fn put_gains(front: &FrameFront, class: Class, side: &Side, frame: &mut [u8]
     requires class { class ≡ class_of front.now.header }
     requires room { overhead_of (class_of front.now.header) front.now.header.protected
         ≤ length frame.old }
-    ensures length { length frame.new ≡ length frame.old }
-    ensures header { take 4 frame.new ≡ take 4 frame.old }
-    ensures behind { drop (overhead_of (class_of front.now.header) front.now.header.protected)
-        frame.new ≡ drop (overhead_of (class_of front.now.header) front.now.header.protected)
-        frame.old }
-    ensures gains { HasOtherGains (side_in front.now.header frame.old) side.now
-        → frame.new ≡ frame_with front.now.header side.now frame.old }
+    ensures { PutsGains front.now.header side.now frame.old frame.new }
 {
     if front.protected() {
         put_at_place(class, side, PROTECTED_SIZE, frame);

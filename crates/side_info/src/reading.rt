@@ -4,7 +4,7 @@ ghost use Rattle.bit_fields.specs.Bits.{bits};
 ghost use Rattle.bit_fields.specs.Groups.{numbers_at};
 ghost use Rattle.frame_header.specs.Tables.{granules_of};
 ghost use Rattle.side_info.specs.Granule.{granule_at, granule_size};
-ghost use Rattle.side_info.specs.Parts.{front_of, front_at, front_size as front_size_lem, pair_at, second_at};
+ghost use Rattle.side_info.specs.Parts.{AreChannels, AreFrontWidths, front_of, front_at, front_size as front_size_lem, pair_at, second_at};
 
 use crate::front::Front;
 use crate::granule::{Granule, NO_GRANULE};
@@ -31,10 +31,7 @@ pub(crate) fn read_front(version: Version, channels: u8, bytes: &[u8]) -> Front
 /// the scfsi of each channel.
 #[inline(always)]
 fn front_with(bytes: &[u8], begin: u32, private_bits: u32, first: u32, second: u32) -> Front
-    requires begin { begin ≤ 9 }
-    requires private_bits { private_bits ≤ 5 }
-    requires first { first ≤ 4 }
-    requires second { second ≤ 4 }
+    requires widths { AreFrontWidths begin private_bits first second }
     requires enough { begin + private_bits + first + second ≤ 8 * length bytes.now }
     requires short { length bytes.now ≤ 2 ^ 28 }
     ensures { result ≡ front_of (numbers_at (begin ∷ private_bits ∷ first ∷ second ∷ [])
@@ -91,8 +88,7 @@ pub(crate) fn read_pair(
     at: usize,
     pair: &mut [Granule; 2],
 )
-    requires some { 1 ≤ channels }
-    requires few { channels ≤ 2 }
+    requires channels { AreChannels channels }
     requires enough { at + channels * granule_size version ≤ 8 * length bytes.now }
     requires short { length bytes.now ≤ 2 ^ 28 }
     ensures { pair.new ≡ pair_at version channels (drop at (bits bytes.now)) }
@@ -114,8 +110,7 @@ pub(crate) fn read_second(
     at: usize,
     pair: &mut [Granule; 2],
 )
-    requires some { 1 ≤ channels }
-    requires few { channels ≤ 2 }
+    requires channels { AreChannels channels }
     requires enough { granules_of version ≡ 2
         → at + channels * granule_size version ≤ 8 * length bytes.now }
     requires short { length bytes.now ≤ 2 ^ 28 }

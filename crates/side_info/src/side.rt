@@ -3,8 +3,8 @@ ghost use Rattle.std.specs.Prelude.{◌≡◌, ◌↔◌, IsTrue, ◌^◌, ◌<�
 ghost use Rattle.bit_fields.specs.Bits.{bits};
 ghost use Rattle.frame_header.specs.Tables.{side_size_of};
 ghost use Rattle.frame_header.specs.declared.version.Version.TheVariants.{One};
-ghost use Rattle.side_info.specs.Parts.{class_with};
-ghost use Rattle.side_info.specs.Side.{no_side, side_at, side_bits, payload_bits, payload_bytes, SideFits};
+ghost use Rattle.side_info.specs.Parts.{class_with, AreChannels};
+ghost use Rattle.side_info.specs.Side.{no_side, side_at, side_bits, payload_bits, payload_bytes, IsSideOf, SideFits};
 
 use crate::fitting::{front_fits, pair_fits};
 use crate::granule::{Granule, NO_GRANULE};
@@ -40,8 +40,7 @@ fn pair_bits(pair: &[Granule; 2]) -> u32
 /// over what was in `side`.
 #[inline(always)]
 fn read_parts(version: Version, channels: u8, bytes: &[u8], side: &mut Side)
-    requires some { 1 ≤ channels }
-    requires few { channels ≤ 2 }
+    requires channels { AreChannels channels }
     requires size { length bytes.now ≡ side_size_of (class_with version 0 channels) }
     ensures { side.new ≡ side_at (class_with version 0 channels) (bits bytes.now) }
 {
@@ -62,8 +61,7 @@ fn read_parts(version: Version, channels: u8, bytes: &[u8], side: &mut Side)
 /// most arms version and channels are constants, so that the compiler knows the places of the fields.
 #[inline(always)]
 fn read_shape(version: Version, channels: u8, bytes: &[u8], side: &mut Side)
-    requires some { 1 ≤ channels }
-    requires few { channels ≤ 2 }
+    requires channels { AreChannels channels }
     requires size { length bytes.now ≡ side_size_of (class_with version 0 channels) }
     ensures { side.new ≡ side_at (class_with version 0 channels) (bits bytes.now) }
 {
@@ -80,9 +78,7 @@ fn read_shape(version: Version, channels: u8, bytes: &[u8], side: &mut Side)
 #[inline(never)]
 fn read_new(class: Class, bytes: &[u8]) -> Side
     requires { length bytes.now ≡ side_size_of class }
-    ensures side { result ≡ side_at class (bits bytes.now) }
-    ensures fits { SideFits class result }
-    ensures back { side_bits class result ≡ bits bytes.now }
+    ensures { IsSideOf class bytes.now result }
 {
     let mut side = Side::empty();
     side.read_over(class, bytes);
@@ -95,9 +91,7 @@ fn read_stereo(class: Class, bytes: &[u8]) -> Side
     requires size { length bytes.now ≡ side_size_of class }
     requires version { class.version ≡ One }
     requires channels { class.channels ≡ 2 }
-    ensures side { result ≡ side_at class (bits bytes.now) }
-    ensures fits { SideFits class result }
-    ensures back { side_bits class result ≡ bits bytes.now }
+    ensures { IsSideOf class bytes.now result }
 {
     // A look inside gives the proof the invariant of the class.
     let _ = &class.version;
@@ -147,10 +141,7 @@ impl Side {
     #[inline(always)]
     pub fn read(class: Class, bytes: &[u8]) -> Side
         requires size { length bytes.now ≡ side_size_of class }
-        ensures side { result ≡ side_at class (bits bytes.now) }
-        ensures fits { SideFits class result }
-        // What is written back is what was read.
-        ensures back { side_bits class result ≡ bits bytes.now }
+        ensures { IsSideOf class bytes.now result }
     {
         match (class.version, class.channels) {
             (Version::One, 2) => read_stereo(class, bytes),
@@ -161,10 +152,7 @@ impl Side {
     /// The same, over what was in `self`.
     pub fn read_over(&mut self, class: Class, bytes: &[u8])
         requires size { length bytes.now ≡ side_size_of class }
-        ensures side { self.new ≡ side_at class (bits bytes.now) }
-        ensures fits { SideFits class self.new }
-        // What is written back is what was read.
-        ensures back { side_bits class self.new ≡ bits bytes.now }
+        ensures { IsSideOf class bytes.now self.new }
     {
         read_shape(class.version, class.channels, bytes, self);
     }

@@ -1,10 +1,10 @@
 //! Joins the fields of side information to words, and writes these.
-ghost use Rattle.std.specs.Prelude.{◌≡◌, ℕ, ◌+◌, ◌*◌, ◌^◌, ◌<◌, ◌≤◌, ◌++◌, All, length, flat_map, slice_index, slice_index_or};
+ghost use Rattle.std.specs.Prelude.{◌≡◌, ◌^◌, ◌<◌, ◌++◌, All, length, flat_map};
 ghost use Rattle.bit_fields.specs.Bits.{bits, bits_of};
-ghost use Rattle.frame_header.specs.Tables.{granules_of, side_size_of};
-ghost use Rattle.side_info.specs.Granule.{no_granule, granule_bits, granule_size, GranuleFits};
-ghost use Rattle.side_info.specs.Parts.{class_with, front_size as front_size_lem, front_bits, pair_bits, second_bits};
-ghost use Rattle.side_info.specs.Side.{front_widths_of};
+ghost use Rattle.frame_header.specs.Tables.{side_size_of};
+ghost use Rattle.side_info.specs.Granule.{granule_bits, granule_size, GranuleFits};
+ghost use Rattle.side_info.specs.Parts.{AreChannels, AreWidths, PairsFit, class_with, front_size as front_size_lem, front_bits, pair_bits, second_bits};
+ghost use Rattle.side_info.specs.Side.{FrontFits};
 
 use crate::granule::Granule;
 use crate::side::Side;
@@ -15,12 +15,7 @@ use frame_header::Version;
 /// The fields before the granules as one number.
 #[inline]
 pub(crate) fn front_word(side: &Side, version: Version, channels: u8) -> u64
-    requires begin { side.now.main_data_begin < 2 ^ slice_index
-        (front_widths_of version channels) 0 }
-    requires private_bits { side.now.private_bits < 2 ^ slice_index
-        (front_widths_of version channels) 1 }
-    requires scfsi { (channel : ℕ) → slice_index side.now.scfsi channel
-        < 2 ^ slice_index (front_widths_of version channels) (2 + channel) }
+    requires { FrontFits version channels side.now }
     ensures { bits_of (front_size_lem version channels) result
         ≡ front_bits version channels side.now }
 {
@@ -70,12 +65,9 @@ fn put_one(front: u64, granule: u64, bytes: &mut [u8])
 /// Writes the fields before the granules, of `width` bits, and two granules of `size` bits.
 #[inline]
 fn put_two(front: u64, width: u32, first: u64, second: u64, size: u32, bytes: &mut [u8])
-    requires some { 1 ≤ width }
-    requires few { width < 64 }
+    requires widths { AreWidths width size }
     requires first { first < 2 ^ size }
     requires second { second < 2 ^ size }
-    requires long { 64 ≤ size + width }
-    requires whole { width + 2 * size ≡ 136 }
     requires room { length bytes.old ≡ 17 }
     ensures { bits bytes.new ≡ bits_of width front ++ (bits_of size first ++ bits_of size second) }
 {
@@ -112,15 +104,10 @@ pub(crate) fn write_granules(
     channels: u8,
     bytes: &mut [u8],
 )
-    requires some { 1 ≤ channels }
-    requires few { channels ≤ 2 }
-    requires left { GranuleFits version (slice_index_or first.now 0 no_granule) }
-    requires right { channels ≡ 2 → GranuleFits version (slice_index_or first.now 1 no_granule) }
-    requires second_left { granules_of version ≡ 2
-        → GranuleFits version (slice_index_or second.now 0 no_granule) }
-    requires second_right { granules_of version ≡ 2 → channels ≡ 2
-        → GranuleFits version (slice_index_or second.now 1 no_granule) }
+    requires channels { AreChannels channels }
+    requires fits { PairsFit version channels first.now second.now }
     requires size { length bytes.old ≡ side_size_of (class_with version 0 channels) }
+    // Said of arrays in an array, whose lengths the caller doesn't know.
     ensures two { length first.now ≡ 2 }
     ensures second_two { length second.now ≡ 2 }
     ensures written { bits bytes.new

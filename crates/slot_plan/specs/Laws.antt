@@ -6,7 +6,7 @@ use Rattle.frame_header.specs.Slots.{all_slots}
 use Rattle.slot_plan.specs.declared.needs.Need.{Need}
 use Rattle.slot_plan.specs.declared.needs.Placed.{Placed}
 use Rattle.slot_plan.specs.Lists.{Open, CanBeLaid, IsLeast}
-use Rattle.slot_plan.specs.Parts.{open_of, item_of, lead_in_of, items_of, areas_with, AreOfClass, ArePartsFeasible, IsLeadIn}
+use Rattle.slot_plan.specs.Parts.{open_of, item_of, lead_in_of, items_of, areas_with, window_in, parts_of, AreOfClass, ArePartsFeasible, IsLeadIn}
 use Rattle.slot_plan.specs.Plans.{IsPlan}
 use Rattle.slot_plan.specs.LeastPlan.{least_plan}
 
@@ -32,6 +32,13 @@ pub record ChoosesInOrder (choices : HeaderFields → List SlotFields) (need : N
 -- so does each frame of each part
 abbrev pub ChooseInOrder : (HeaderFields → List SlotFields) → List (List Need) → Type 0
 ChooseInOrder choices parts = All (λ part. All (ChoosesInOrder choices) part) parts
+
+-- what the planner answers for parts
+pub record IsThePlan (choices : HeaderFields → List SlotFields) (needs : List Need) (places : List ℕ) (placed : List Placed) : Type 0 where
+  -- the plan of the parts
+  pub plan : IsPlan (window_in needs) choices (parts_of needs places) placed
+  -- where the areas among which each frame chooses ascend, it is that of the first list
+  pub least : ChooseInOrder choices (parts_of needs places) → placed ≡ least_plan (window_in needs) choices (parts_of needs places)
 
 -- parts have no two plans
 abbrev pub PlansAreUnique : Type 0

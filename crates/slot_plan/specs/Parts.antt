@@ -1,5 +1,5 @@
 -- The frames of each part, with the slots among which they choose, and the lead-in of a part.
-use Rattle.std.specs.Prelude.{◌≡◌, ℕ, ◌<◌, Bool, true, false, List, [], ◌∷◌, ◌++◌, map, length, slice_range, Contains, Option, Some, None}
+use Rattle.std.specs.Prelude.{◌≡◌, ℕ, ◌<◌, ◌≤◌, Bool, true, false, List, [], ◌∷◌, ◌++◌, map, length, slice_index, slice_range, All, AllPairs, Contains, Option, Some, None}
 use Rattle.frame_header.specs.Fields.{SlotFields, ClassFields, HeaderFields}
 use Rattle.frame_header.specs.Tables.{class_of, area_of, window_of}
 use Rattle.frame_header.specs.Slots.{all_slots}
@@ -25,6 +25,11 @@ areas_with class protected slots = map (λ s. area_of class s protected) slots
 -- the areas of the slots that a frame with this header may have
 abbrev pub areas_for : (HeaderFields → List SlotFields) → HeaderFields → List ℕ
 areas_for choices h = areas_with (class_of h) h.protected (choices h)
+
+-- slots of which there is one, their areas ascending
+pub record AreRising (class : ClassFields) (protected : Bool) (slots : List SlotFields) : Type 0 where
+  pub some : 1 ≤ length slots
+  pub ascending : AllPairs (λ m n. m < n) (areas_with class protected slots)
 
 abbrev pub open_of : Item → Open
 open_of item = record { bytes = item.bytes; areas = areas_with item.class item.protected item.choices }
@@ -81,6 +86,21 @@ unfoldable pub parts_of : List Need → List ℕ → List (List Need)
 parts_of needs [] = []
 parts_of needs (from ∷ []) = slice_range needs from (length needs) ∷ []
 parts_of needs (from ∷ to ∷ places) = slice_range needs from to ∷ parts_of needs (to ∷ places)
+
+-- parts that can be planned: the needs of their frames, and the place among these of each part's first
+pub record CanBePlanned (needs : List Need) (places : List ℕ) : Type 0 where
+  -- all frames are of one class
+  pub class : AreOfOneClass needs
+  -- there is a part
+  pub some : 1 ≤ length places
+  -- the first begins with the first frame
+  pub first : slice_index places 0 ≡ 0
+  -- each begins after the one before
+  pub ascending : AllPairs (λ m n. m < n) places
+  -- and with a frame
+  pub within : All (λ place. place < length needs) places
+  -- each has a layout in its own slots after a whole window
+  pub feasible : ArePartsFeasible (window_in needs) (parts_of needs places)
 
 -- a part's frames, after its lead-in if it has one
 unfoldable pub items_of : (HeaderFields → List SlotFields) → List Need → Option SlotFields → List Item

@@ -1,13 +1,14 @@
 -- How `plan` works: the bytes that have to be free before a frame, and the choice by them. What the plan is, is said without them
 -- (`Plans`, `LeastPlan`).
-use Rattle.std.specs.Prelude.{◌≡◌, ℕ, ◌+◌, ◌-◌, ◌≤◌, max, Bool, List, [], ◌∷◌, ◌++◌, map, Contains, Option}
+use Rattle.std.specs.Prelude.{◌≡◌, ℕ, ◌+◌, ◌-◌, ◌<◌, ◌≤◌, max, Bool, List, [], ◌∷◌, ◌++◌, map, length, Contains, Option}
 use Rattle.frame_header.specs.Fields.{SlotFields, ClassFields, HeaderFields}
 use Rattle.frame_header.specs.Tables.{class_of, area_of}
 use Rattle.slot_plan.specs.declared.needs.Placed.{Placed}
 use Rattle.slot_plan.specs.declared.needs.Need.{Need}
 use Rattle.slot_plan.specs.declared.reserves.Reserves.{Reserves}
+use Rattle.slot_plan.specs.Layouts.{IsFeasible}
 use Rattle.slot_plan.specs.Lists.{Open, AreChosen}
-use Rattle.slot_plan.specs.Parts.{Item, area_in, open_of, item_of, items_of, own_area, IsLeadIn}
+use Rattle.slot_plan.specs.Parts.{Item, area_in, areas_for, open_of, item_of, items_of, own_area, own_frame, window_in, IsLeadIn}
 
 -- the greatest number of a list
 unfoldable pub greatest : List ℕ → ℕ
@@ -38,6 +39,17 @@ pub record IsLeastSlot (wanted : ℕ) (class : ClassFields) (protected : Bool) (
 abbrev pub IsLeastFor : ℕ → (HeaderFields → List SlotFields) → HeaderFields → SlotFields → Type 0
 IsLeastFor wanted choices h slot = IsLeastSlot wanted (class_of h) h.protected (choices h) slot
 
+-- the largest area that a frame with this header may have, and its own slot is one that it may have
+pub record IsLargestFor (choices : HeaderFields → List SlotFields) (h : HeaderFields) (area : ℕ) : Type 0 where
+  pub largest : area ≡ greatest (areas_for choices h)
+  pub own : Contains (choices h) h.slot
+
+-- a frame, or a lead-in, is placed where so many bytes are free, in the smallest of some slots that has so many
+pub record IsPlacedIn (lead_in : Bool) (free wanted : ℕ) (class : ClassFields) (protected : Bool) (slots : List SlotFields) (p : Placed) : Type 0 where
+  pub frame : p.lead_in ≡ lead_in
+  pub begin : p.begin ≡ free
+  pub least : IsLeastSlot wanted class protected slots p.slot
+
 -- each frame has the smallest area that leaves what is needed after it
 unfoldable pub ArePlaced : ℕ → ℕ → List Item → List Placed → Type 0
 ArePlaced window free [] [] = Unit {0}
@@ -55,6 +67,28 @@ AllWithin window (o ∷ opens) = (needed opens ≤ window) × AllWithin window o
 -- the frames of a part with the choices of a policy
 abbrev pub opens_in : (HeaderFields → List SlotFields) → List Need → List Open
 opens_in choices part = map open_of (map (item_of choices) part)
+
+-- frames can be placed where so many bytes are free, by what is needed after each, the last frame's first
+pub record CanBePlaced (window free : ℕ) (opens : List Open) (needs : List ℕ) : Type 0 where
+  -- no more is free than the window
+  pub most : free ≤ window
+  -- what all need is free
+  pub enough : needed opens ≤ free
+  -- none needs more after it than the window
+  pub within : AllWithin window opens
+  -- these are what they need
+  pub behind : needs ≡ needed_behind opens
+
+-- a part that can be placed with this window
+pub record IsPlaceable (window : ℕ) (part : List Need) : Type 0 where
+  -- it has a frame
+  pub some : 0 < length part
+  -- no window is larger
+  pub most : window ≤ 511
+  -- it is that of the part
+  pub same : window ≡ window_in part
+  -- there is a layout in its own slots after a whole window
+  pub feasible : IsFeasible window window (map own_frame part)
 
 -- what the frames of a part need
 pub record AreReserves (window : ℕ) (choices : HeaderFields → List SlotFields) (part : List Need) (reserves : Reserves) : Type 0 where

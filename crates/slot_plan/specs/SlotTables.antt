@@ -1,8 +1,11 @@
 -- The first of some slots that is long enough, by the length that is wanted.
-use Rattle.std.specs.Prelude.{ℕ, ◌+◌, ◌<◌, ◌≤◌, List, length, slice_index_or, Contains}
+use Rattle.std.specs.Prelude.{◌≡◌, ℕ, ◌+◌, ◌<◌, ◌≤◌, List, length, slice_index_or, Contains}
 use Rattle.frame_header.specs.Fields.{SlotFields, ClassFields}
 use Rattle.frame_header.specs.Tables.{length_of, side_size_of}
+use Rattle.frame_header.specs.Slots.{all_slots}
+use Rattle.slot_plan.specs.declared.needs.Need.{Need}
 use Rattle.slot_plan.specs.declared.table.SlotTable.{SlotTable}
+use Rattle.slot_plan.specs.Parts.{AreOfClass}
 
 -- of some slots, the one with the shortest frame of at least so many bytes
 pub record IsShortest (class : ClassFields) (slots : List SlotFields) (wanted : ℕ) (slot : SlotFields) : Type 0 where
@@ -17,3 +20,15 @@ pub record IsTableOf (slots : List SlotFields) (table : SlotTable) : Type 0 wher
   pub all : (slot : SlotFields) → Contains slots slot → length_of table.lengths slot < length table.by_length.items
   pub least : (wanted : ℕ) (d : SlotFields) → wanted < length table.by_length.items
       → IsShortest table.lengths slots wanted (slice_index_or table.by_length.items wanted d)
+
+-- the table of these slots of a class
+pub record IsTableWith (class : ClassFields) (slots : List SlotFields) (table : SlotTable) : Type 0 where
+  pub class_is : table.lengths ≡ class
+  pub of_slots : IsTableOf slots table
+
+-- the table of all slots of these frames' class
+pub record IsTableFor (needs : List Need) (table : SlotTable) : Type 0 where
+  -- they are of its class
+  pub class : AreOfClass table.lengths needs
+  -- it has all slots
+  pub slots : IsTableOf all_slots table

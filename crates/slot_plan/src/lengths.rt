@@ -1,6 +1,7 @@
 //! What decides the areas of a class, computed once for all frames of a plan.
 ghost use Rattle.std.specs.Prelude.{◌≡◌, ◌≤◌};
 ghost use Rattle.frame_header.specs.Tables.{overhead_of, area_of};
+ghost use Rattle.frame_header.specs.Limits.{most_frame_length, most_front};
 
 use frame_header::{Class, Slot};
 use std::marker::Model;
@@ -58,7 +59,7 @@ impl Lengths {
     /// How many bytes are before the area of a frame: header, check word and side information.
     pub fn overhead_of(&self, protected: bool) -> u32
         ensures overhead { result ≡ overhead_of self.now protected }
-        ensures most { result ≤ 38 }
+        ensures most { result ≤ most_front }
     {
         if protected {
             self.protected
@@ -70,7 +71,7 @@ impl Lengths {
     /// The length of a frame's area in bytes. From 1 to 1,441.
     pub fn area_of(&self, slot: Slot, protected: bool) -> u32
         ensures area { result ≡ area_of self.now slot protected }
-        ensures most { result ≤ 1441 }
+        ensures most { result ≤ most_frame_length }
     {
         let length = self.by_index[slot.rate_index as usize - 1];
         let overhead = self.overhead_of(protected);

@@ -17,6 +17,7 @@ pub use ascending::{largest_area_of, least_slot_among};
 pub use laws::{lead_ins_come_first, least_plan_is_the_plan, plans_are_unique};
 pub use lengths::Lengths;
 pub use needs::{Need, Placed, Plan};
+pub use placing::Room;
 pub use plans::{end_of, plan};
 pub use policy::{Keep, Least, Policy};
 pub use reserves::Reserves;

@@ -1,12 +1,12 @@
 //! Gives each frame of a part, from the first to the last, the slot with the smallest area that leaves what
 //! is needed after it.
-ghost use Rattle.std.specs.Prelude.{◌≡◌, ◌+◌, ◌-◌, ◌<◌, ◌≤◌, true, false, [], ◌∷◌, map, length, IfOk};
+ghost use Rattle.std.specs.Prelude.{◌+◌, ◌-◌, ◌≤◌, true, false, [], map, IfOk};
 ghost use Rattle.frame_header.specs.Tables.{class_of, window_of};
 ghost use Rattle.frame_header.specs.Slots.{all_slots};
-ghost use Rattle.slot_plan.specs.Layouts.{IsFeasible};
-ghost use Rattle.slot_plan.specs.Parts.{item_of, open_of, own_frame, window_in, AreOfClass};
-ghost use Rattle.slot_plan.specs.Reserve.{greatest, needed, needed_behind, AllWithin, opens_in, IsLeastSlot, PlacesOn, PlacesPart};
-ghost use Rattle.slot_plan.specs.SlotTables.{IsTableOf};
+ghost use Rattle.slot_plan.specs.Parts.{item_of, open_of};
+ghost use Rattle.slot_plan.specs.Reserve.{greatest, opens_in, CanBePlaced, IsPlaceable, IsPlacedIn, PlacesOn, PlacesPart};
+ghost use Rattle.slot_plan.specs.SlotTables.{IsTableFor, IsTableWith};
+ghost use Rattle.frame_header.specs.Limits.{most_back};
 
 use crate::needs::{Need, Placed};
 use crate::policy::Policy;
@@ -24,16 +24,12 @@ fn place_frame<P: Policy>(
     policy: &P,
     table: &SlotTable,
 ) -> Placed
-    requires class { table.now.lengths ≡ class_of need.now.header }
-    requires table { IsTableOf all_slots table.now }
+    requires table { IsTableWith (class_of need.now.header) all_slots table.now }
     requires enough { (need.now.bytes + behind) - greatest
         (open_of (item_of (P.choices_of policy.now) need.now)).areas ≤ free }
-    requires free { free ≤ 511 }
-    ensures frame { result.lead_in ≡ false }
-    ensures begin { result.begin ≡ free }
-    ensures least { IsLeastSlot ((need.now.bytes + behind) - free)
-        (class_of need.now.header) need.now.header.protected
-        (P.choices_of policy.now need.now.header) result.slot }
+    requires free { free ≤ most_back }
+    ensures { IsPlacedIn false free ((need.now.bytes + behind) - free) (class_of need.now.header)
+        need.now.header.protected (P.choices_of policy.now need.now.header) result }
 {
     let wanted = (u64::from(need.bytes) + u64::from(behind)).saturating_sub(u64::from(free));
     Placed {
@@ -47,10 +43,8 @@ fn place_frame<P: Policy>(
 /// free before it.
 fn lead_in(need: &Need, behind: u16, free: u32) -> Placed
     requires enough { behind ≤ window_of need.now.header.version }
-    requires free { free ≤ 511 }
-    ensures lead_in { result.lead_in ≡ true }
-    ensures begin { result.begin ≡ free }
-    ensures least { IsLeastSlot behind (class_of need.now.header) false all_slots result.slot }
+    requires free { free ≤ most_back }
+    ensures { IsPlacedIn true free behind (class_of need.now.header) false all_slots result }
 {
     let class = need.header.class();
     // The largest slot has room for a whole window.
@@ -63,33 +57,37 @@ fn lead_in(need: &Need, behind: u16, free: u32) -> Placed
     }
 }
 
+/// What is free before a frame: so many bytes, and at most the window.
+#[derive(Clone, Copy)]
+pub struct Room {
+    pub window: u32,
+    pub free: u32,
+}
+
 /// Places the frames of a part, and answers how many bytes are free after them. `behind` has what is needed
 /// after each, the last frame's first.
 ///
 /// # Errors
 /// Where there is no memory.
 fn place_frames<P: Policy>(
-    window: u32,
-    free: u32,
+    room: Room,
     part: &[Need],
     policy: &P,
     table: &SlotTable,
     behind: Vec<u16>,
     placed: &mut Vec<Placed>,
 ) -> Result<u32, AllocError>
-    requires class { AreOfClass table.now.lengths part.now }
-    requires table { IsTableOf all_slots table.now }
-    requires window { window ≤ 511 }
-    requires free { free ≤ window }
-    requires enough { needed (opens_in (P.choices_of policy.now) part.now) ≤ free }
-    requires within { AllWithin window (opens_in (P.choices_of policy.now) part.now) }
-    requires behind { behind.items ≡ needed_behind (opens_in (P.choices_of policy.now) part.now) }
-    ensures within { IfOk result (λ after. after ≤ window) }
-    ensures placed { IfOk result (λ after. PlacesOn window free after
+    requires table { IsTableFor part.now table.now }
+    requires window { room.window ≤ most_back }
+    requires ready { CanBePlaced room.window room.free (opens_in (P.choices_of policy.now) part.now)
+        behind.items }
+    ensures within { IfOk result (λ after. after ≤ room.window) }
+    ensures placed { IfOk result (λ after. PlacesOn room.window room.free after
         (map (item_of (P.choices_of policy.now)) part.now) [] placed.old.items placed.new.items) }
 {
+    let window = room.window;
     let mut behind = behind;
-    let mut free = free;
+    let mut free = room.free;
     placed.reserve(part.len())?;
     for need in part {
         let wanted = behind.pop().unwrap_or(0);
@@ -108,33 +106,30 @@ fn place_frames<P: Policy>(
 /// Where there is no memory.
 pub(crate) fn place_part<P: Policy>(
     alloc: Global,
-    window: u32,
-    free: u32,
+    room: Room,
     part: &[Need],
     policy: &P,
     table: &SlotTable,
     placed: &mut Vec<Placed>,
 ) -> Result<u32, AllocError>
-    requires class { AreOfClass table.now.lengths part.now }
-    requires table { IsTableOf all_slots table.now }
-    requires some { 0 < length part.now }
-    requires window { window ≤ 511 }
-    requires same { window ≡ window_in part.now }
-    requires free { free ≤ window }
-    requires feasible { IsFeasible window window (map own_frame part.now) }
-    ensures within { IfOk result (λ after. after ≤ window) }
-    ensures placed { IfOk result (λ after. PlacesPart window
-        (P.choices_of policy.now) part.now free after placed.old.items placed.new.items) }
+    requires table { IsTableFor part.now table.now }
+    requires part { IsPlaceable room.window part.now }
+    requires free { room.free ≤ room.window }
+    ensures within { IfOk result (λ after. after ≤ room.window) }
+    ensures placed { IfOk result (λ after. PlacesPart room.window
+        (P.choices_of policy.now) part.now room.free after placed.old.items placed.new.items) }
 {
+    let window = room.window;
     let reserves = reserves_of(alloc, window, part, policy, table)?;
     if reserves.before == 0 {
-        return place_frames(window, free, part, policy, table, reserves.behind, placed);
+        return place_frames(room, part, policy, table, reserves.behind, placed);
     }
     let first = &part[0];
-    let frame = lead_in(first, reserves.before, free);
+    let frame = lead_in(first, reserves.before, room.free);
     let class = first.header.class();
     let area = class.area_of(frame.slot, false);
-    let free = free_behind(window, free, 0, area);
+    let free = free_behind(window, room.free, 0, area);
     placed.push(frame)?;
-    place_frames(window, free, part, policy, table, reserves.behind, placed)
+    let room = Room { window, free };
+    place_frames(room, part, policy, table, reserves.behind, placed)
 }

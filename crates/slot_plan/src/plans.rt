@@ -1,13 +1,12 @@
 //! The plan of several parts.
-ghost use Rattle.std.specs.Prelude.{◌≡◌, ◌<◌, ◌≤◌, ◌+◌, AllPairs, All, length, slice_index, IfOk};
+ghost use Rattle.std.specs.Prelude.{◌≡◌, ◌<◌, ◌≤◌, ◌+◌, length, slice_index, IfOk};
 ghost use Rattle.frame_header.specs.Limits.{most_frames};
-ghost use Rattle.slot_plan.specs.Parts.{AreOfOneClass, ArePartsFeasible, window_in, parts_of};
-ghost use Rattle.slot_plan.specs.Plans.{IsPlan, entries};
-ghost use Rattle.slot_plan.specs.Laws.{ChooseInOrder};
-ghost use Rattle.slot_plan.specs.LeastPlan.{least_plan};
+ghost use Rattle.slot_plan.specs.Parts.{CanBePlanned};
+ghost use Rattle.slot_plan.specs.Plans.{entries};
+ghost use Rattle.slot_plan.specs.Laws.{IsThePlan};
 
 use crate::needs::{Need, Plan};
-use crate::placing::place_part;
+use crate::placing::{Room, place_part};
 use crate::policy::Policy;
 use crate::table::SlotTable;
 use std::alloc::{AllocError, Global};
@@ -42,20 +41,11 @@ pub fn plan<P: Policy>(
     parts: &[u32],
     policy: &P,
 ) -> Result<Plan, AllocError>
-    requires class { AreOfOneClass needs.now }
+    requires planned { CanBePlanned needs.now parts.now }
     requires needs { length needs.now ≤ most_frames }
-    requires some { 1 ≤ length parts.now }
     requires few { length parts.now ≤ 64 }
-    requires first { slice_index parts.now 0 ≡ 0 }
-    requires ascending { AllPairs (λ m n. m < n) parts.now }
-    requires within { All (λ place. place < length needs.now) parts.now }
-    requires feasible { ArePartsFeasible (window_in needs.now) (parts_of needs.now parts.now) }
-    ensures plan { IfOk result (λ p. IsPlan (window_in needs.now) (P.choices_of policy.now)
-        (parts_of needs.now parts.now) (entries p)) }
-    ensures least { IfOk result (λ p.
-        ChooseInOrder (P.choices_of policy.now) (parts_of needs.now parts.now)
-        → entries p ≡ least_plan (window_in needs.now) (P.choices_of policy.now)
-        (parts_of needs.now parts.now)) }
+    ensures { IfOk result (λ p. IsThePlan (P.choices_of policy.now) needs.now parts.now
+        (entries p)) }
 {
     let class = needs[0].header.class();
     let window = class.window();
@@ -65,7 +55,8 @@ pub fn plan<P: Policy>(
     let mut free = 0;
     for (at, from) in parts.iter().enumerate() {
         let part = &needs[*from as usize..end_of(needs, parts, at)];
-        free = place_part(alloc, window, free, part, policy, &table, &mut placed)?;
+        let room = Room { window, free };
+        free = place_part(alloc, room, part, policy, &table, &mut placed)?;
     }
     Ok(Plan { placed })
 }

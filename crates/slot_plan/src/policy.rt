@@ -4,8 +4,8 @@ ghost use Rattle.frame_header.specs.Fields.{SlotFields, HeaderFields};
 ghost use Rattle.frame_header.specs.Tables.{class_of, area_of};
 ghost use Rattle.frame_header.specs.Slots.{all_slots};
 ghost use Rattle.slot_plan.specs.Parts.{areas_for};
-ghost use Rattle.slot_plan.specs.Reserve.{greatest, IsLeastFor};
-ghost use Rattle.slot_plan.specs.SlotTables.{IsTableOf};
+ghost use Rattle.slot_plan.specs.Reserve.{greatest, IsLargestFor, IsLeastFor};
+ghost use Rattle.slot_plan.specs.SlotTables.{IsTableWith};
 
 use crate::ascending::{largest_area_of, least_slot_among};
 use crate::slots::least_slot_of;
@@ -27,8 +27,7 @@ pub trait Policy {
 
     /// The largest area that a frame with this header may have, in bytes: that of the last of the choices.
     fn largest_area(&self, header: &Header) -> u32
-        ensures largest { result ≡ greatest (areas_for (choices_of self.now) header.now) }
-        ensures own { Contains (choices_of self.now header.now) header.now.slot }
+        ensures { IsLargestFor (choices_of self.now) header.now result }
     {
         let choices = self.choices(header);
         largest_area_of(header.class(), header.protected, choices.as_slice())
@@ -47,16 +46,14 @@ pub trait Policy {
     /// `largest_area`, where the lengths of the header's class are known.
     fn largest_area_by(&self, header: &Header, _table: &SlotTable) -> u32
         requires class { _table.now.lengths ≡ class_of header.now }
-        ensures largest { result ≡ greatest (areas_for (choices_of self.now) header.now) }
-        ensures own { Contains (choices_of self.now header.now) header.now.slot }
+        ensures { IsLargestFor (choices_of self.now) header.now result }
     {
         self.largest_area(header)
     }
 
     /// `least_slot`, where there is a table of all slots of the header's class.
     fn least_slot_by(&self, header: &Header, wanted: u64, _table: &SlotTable) -> Slot
-        requires class { _table.now.lengths ≡ class_of header.now }
-        requires table { IsTableOf all_slots _table.now }
+        requires table { IsTableWith (class_of header.now) all_slots _table.now }
         requires enough { wanted ≤ greatest (areas_for (choices_of self.now) header.now) }
         ensures { IsLeastFor wanted (choices_of self.now) header.now result }
     {

@@ -5,6 +5,7 @@ ghost use Rattle.frame_header.specs.Tables.{class_of};
 ghost use Rattle.slot_plan.specs.Parts.{item_of, open_of, own_frame, own_area, AreOfClass};
 ghost use Rattle.slot_plan.specs.Layouts.{IsFeasible};
 ghost use Rattle.slot_plan.specs.Reserve.{greatest, AreReserves};
+ghost use Rattle.frame_header.specs.Limits.{most_back};
 
 use crate::needs::Need;
 use crate::policy::Policy;
@@ -44,7 +45,7 @@ pub(crate) fn reserves_of<P: Policy>(
     table: &SlotTable,
 ) -> Result<Reserves, AllocError>
     requires class { AreOfClass table.now.lengths part.now }
-    requires window { window ≤ 511 }
+    requires window { window ≤ most_back }
     requires feasible { IsFeasible window window (map own_frame part.now) }
     ensures { IfOk result (λ r. AreReserves window (P.choices_of policy.now) part.now r) }
 {

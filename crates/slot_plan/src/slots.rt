@@ -3,6 +3,7 @@ ghost use Rattle.std.specs.Prelude.{◌≡◌, ◌+◌, ◌≤◌, false};
 ghost use Rattle.frame_header.specs.Slots.{all_slots, largest_slot};
 ghost use Rattle.frame_header.specs.Tables.{area_of};
 ghost use Rattle.slot_plan.specs.Reserve.{IsLeastSlot, free_behind as free_behind_lem};
+ghost use Rattle.frame_header.specs.Limits.{most_back, most_frame_length};
 
 use frame_header::{Class, Slot};
 
@@ -47,9 +48,9 @@ pub(crate) fn least_slot_of(class: Class, protected: bool, wanted: u64) -> Slot
 /// The free bytes after a frame: what it leaves of those before it and of its own area, but no more than
 /// the window.
 pub fn free_behind(window: u32, free: u32, bytes: u32, area: u32) -> u32
-    requires window { window ≤ 511 }
+    requires window { window ≤ most_back }
     requires free { free ≤ window }
-    requires area { area ≤ 1441 }
+    requires area { area ≤ most_frame_length }
     requires fits { bytes ≤ free + area }
     ensures free { result ≡ free_behind_lem window free bytes area }
     ensures within { result ≤ window }

@@ -1,11 +1,11 @@
 //! Slots of one class whose areas ascend, as a table by the length of a frame.
-ghost use Rattle.std.specs.Prelude.{◌≡◌, ◌+◌, ◌<◌, ◌≤◌, false, List, AllPairs, length, IfOk};
+ghost use Rattle.std.specs.Prelude.{◌+◌, ◌<◌, false, List, length, IfOk};
 ghost use Rattle.frame_header.specs.Fields.{SlotFields};
 ghost use Rattle.frame_header.specs.Tables.{overhead_of};
 ghost use Rattle.frame_header.specs.Slots.{all_slots};
-ghost use Rattle.slot_plan.specs.Parts.{areas_with};
+ghost use Rattle.slot_plan.specs.Parts.{AreRising};
 ghost use Rattle.slot_plan.specs.Reserve.{IsLeastSlot};
-ghost use Rattle.slot_plan.specs.SlotTables.{IsTableOf};
+ghost use Rattle.slot_plan.specs.SlotTables.{IsTableOf, IsTableWith};
 
 use crate::lengths::Lengths;
 use frame_header::{Class, Slot};
@@ -25,10 +25,8 @@ impl SlotTable {
     /// # Errors
     /// Where there is no memory.
     pub fn new(alloc: Global, class: Class, slots: &[Slot]) -> Result<SlotTable, AllocError>
-        requires some { 1 ≤ length slots.now }
-        requires ascending { AllPairs (λ m n. m < n) (areas_with class false slots.now) }
-        ensures class { IfOk result (λ table. table.lengths ≡ class) }
-        ensures table { IfOk result (λ table. IsTableOf slots.now table) }
+        requires { AreRising class false slots.now }
+        ensures { IfOk result (IsTableWith class slots.now) }
     {
         let last = class.length_of(slots[slots.len() - 1]);
         let mut by_length = Vec::with_capacity(alloc, last as usize + 1)?;
@@ -45,8 +43,7 @@ impl SlotTable {
     /// # Errors
     /// Where there is no memory.
     pub fn of_class(alloc: Global, class: Class) -> Result<SlotTable, AllocError>
-        ensures class { IfOk result (λ table. table.lengths ≡ class) }
-        ensures table { IfOk result (λ table. IsTableOf all_slots table) }
+        ensures { IfOk result (IsTableWith class all_slots) }
     {
         let slots = class.slots();
         SlotTable::new(alloc, class, slots.as_slice())
@@ -54,7 +51,8 @@ impl SlotTable {
 
     /// Of the slots, the one with the smallest area of at least `wanted` bytes, which one of them has.
     pub fn least_slot(&self, protected: bool, wanted: u64) -> Slot
-        requires within { wanted + overhead_of self.now.lengths protected < length self.now.by_length.items }
+        requires within { wanted + overhead_of self.now.lengths protected < length
+            self.now.by_length.items }
         ensures least { (slots : List SlotFields) → IsTableOf slots self.now
             → IsLeastSlot wanted self.now.lengths protected slots result }
     {

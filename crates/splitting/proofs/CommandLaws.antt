@@ -27,8 +27,9 @@ use Rattle.commands.specs.Refusing.{then_made}
 use Rattle.commands.specs.Sheet.{sheet_in}
 use Rattle.frame_edits.specs.Chosen.{Chosen, cut_refuses, chosen_file, chosen_stream, cut_choice, laid_with}
 use Rattle.commands.specs.Command.{Output, Made, Command, clash_of, Gives, written, AreStreams, HoldsStreams}
-use Rattle.commands.specs.Left.{Why, Rejected, Missing, Unread, Shorter, Unwritten, NoMemory, why_of, Seen, IsNotBefore, IsLate, IsDone, IsWrittenTo, IsUnfinished, TakesMemory, LeavesBy, Leaves, IsRefusal, IsOfSurvey, HasNumbers, input_of, ended_at}
-use Rattle.commands.specs.One.{most_frames, IsFileFaultBy, IsFileFault}
+use Rattle.commands.proofs.WhyLaws.{each_why}
+use Rattle.commands.specs.Left.{why_of, IsNotBefore, IsLate, IsDone, IsWrittenTo, IsUnfinished, TakesMemory, Leaves, IsRefusal, IsOfSurvey, HasNumbers, input_of, ended_at}
+use Rattle.commands.specs.One.{most_frames, IsFileFault}
 use Rattle.sync_survey.proofs.SurveyedFiles.{survey_of-sound}
 use Rattle.frame_edits.proofs.ChosenLaws.{cut_proper}
 use Rattle.piece_names.specs.Names.{piece_names}
@@ -36,10 +37,11 @@ use Rattle.splitting.specs.Split.{frames_between, with_first, chosen_from, chose
 use Rattle.splitting.specs.declared.piece.Piece.{Piece}
 use Rattle.splitting.specs.declared.split_file.Points.{Points}
 use Rattle.splitting.specs.declared.split_file.Points.TheVariants.{Places, Sheet as InSheet}
-use Rattle.splitting.specs.Steps.{Says, IsPlacesFaultBy, IsPlacesFault, ArePieces, chosen_of, outputs_of, names_of, with_outputs, with_part, IsWrittenPart, IsUnfinishedPart, IsPiecesFaultBy, IsPiecesFault, IsOfPieces, StopsShort, IsOfPlaces}
+use Rattle.splitting.specs.Steps.{Says, IsPlacesFault, ArePieces, chosen_of, outputs_of, names_of, pieces_of, with_outputs, with_part, IsWrittenPart, IsUnfinishedPart, IsPiecesFault, IsOfPieces, StopsShort, IsOfPlaces}
 use Rattle.piece_names.proofs.NamesLaws.{names-length}
 use Rattle.commands.proofs.NamedLaws.{first_at, missed_name, unread_name, lost_name}
 use Rattle.outside.specs.Counts.{HappenedTo, EndedAt}
+use Rattle.outside.specs.Seen.{Seen}
 use Rattle.splitting.proofs.PiecesLaws.{outputs-are, names-first, names-all, name-here}
 
 -- ---- what holds of every refusal once the input was surveyed
@@ -190,16 +192,16 @@ module _ (points : Points) (input prefix : List ℕ) where
         rw (makes-where f (Some held.0) held.1) (takes (made_where prefix (placing.places f) (Some held.0)) (short-late prefix held.0 (placing.places f) (points-late points f) (few held.0 held.1)))
 
     module _ (old new : Seen) (fault : EditFault) where
-      input-left-by : (why : Why) → IsFileFaultBy 0 most_frames input old new fault why → LeavesBy command old new fault why
-      input-left-by Rejected h = record { defined = rw h.1 (input-refused old.files h.0 h.2.there h.2.bytes); stays = h.2.stays }
-      input-left-by Missing h = record { defined = rw h.is (input-missing old.files h.missing); rose = missed_name command.inputs 0 refl h; files = h.files }
-      input-left-by Unread h = record { names = apart; before = before_first old.files command.makes fault h.is; rose = unread_name command.inputs 0 refl h; files = inl h.files }
-      input-left-by Shorter h = record { ended = lost_name command.inputs 0 refl h; touches = stays-touched old.files new.files h.files }
-      input-left-by NoMemory h = record { names = apart; takes = input-takes old.files h.there h.few; stays = h.stays }
-      input-left-by _ h = absurd h
-
       pub input-left : IsFileFault 0 most_frames input old new fault → Leaves command old new fault
-      input-left h = input-left-by (why_of fault) h
+      input-left h = each_why (why_of fault) h (record {
+        rejected = λ r. record { defined = rw r.1 (input-refused old.files r.0 r.2.there r.2.bytes); stays = r.2.stays };
+        missing = λ m. record { defined = rw m.is (input-missing old.files m.missing); rose = missed_name command.inputs 0 refl m; files = m.files };
+        unread = λ u. record { names = apart; before = before_first old.files command.makes fault u.is; rose = unread_name command.inputs 0 refl u; files = inl u.files };
+        shorter = λ l. record { ended = lost_name command.inputs 0 refl l; touches = stays-touched old.files new.files l.files };
+        unwritten = λ k w. absurd w;
+        unsent = λ w. absurd w;
+        no_memory = λ n. record { names = apart; takes = input-takes old.files n.there n.few; stays = n.stays };
+      })
 
     -- ---- a surveyed input
 
@@ -225,13 +227,16 @@ module _ (points : Points) (input prefix : List ℕ) where
           made.3 ∙ ap (λ p. then_made p (made_at prefix made.0 s)) (rw told at none))
 
       module _ (new : Seen) (fault : EditFault) where
-        places-left-by : (why : Why) → IsPlacesFaultBy placing more old new fault why → LeavesBy command old new fault why
-        places-left-by Rejected h = record { defined = places-refused fault h.0; stays = h.1 }
-        places-left-by Missing h = record { defined = places-refused fault h.0; rose = missed_name (input ∷ more) 1 (first_at more) h.1; files = h.1.files }
-        places-left-by Unread h = record { names = apart; before = rw h.is behind-before; rose = unread_name (input ∷ more) 1 (first_at more) h; files = inl h.files }
-        places-left-by Shorter h = record { ended = lost_name (input ∷ more) 1 (first_at more) h; touches = stays-touched old.files new.files h.files }
-        places-left-by NoMemory h = record { names = apart; takes = behind-takes; stays = h }
-        places-left-by _ h = absurd h
+        places-left-here : IsPlacesFault placing more old new fault → Leaves command old new fault
+        places-left-here h = each_why (why_of fault) h (record {
+          rejected = λ r. record { defined = places-refused fault r.0; stays = r.1 };
+          missing = λ m. record { defined = places-refused fault m.0; rose = missed_name (input ∷ more) 1 (first_at more) m.1; files = m.1.files };
+          unread = λ u. record { names = apart; before = rw u.is behind-before; rose = unread_name (input ∷ more) 1 (first_at more) u; files = inl u.files };
+          shorter = λ l. record { ended = lost_name (input ∷ more) 1 (first_at more) l; touches = stays-touched old.files new.files l.files };
+          unwritten = λ k w. absurd w;
+          unsent = λ w. absurd w;
+          no_memory = λ same. record { names = apart; takes = behind-takes; stays = same };
+        })
 
       -- ---- these positions
 
@@ -283,14 +288,14 @@ module _ (points : Points) (input prefix : List ℕ) where
           first-touched : (k : ℕ) (new : Files) → OnlyTouches (take (k + 1) (names_of pieces)) old.files new → OnlyTouches (take (k + 1) (piece_names prefix)) old.files new
           first-touched k new touches = touches_more (take (k + 1) (names_of pieces)) (take (k + 1) (piece_names prefix)) old.files new (λ other. names-first prefix s pieces (λ name. other ≢ name) k few named) touches
 
-          part : (k : ℕ) (new : Files) → IsWrittenPart (outputs_of s pieces) (names_of pieces) input k old.files new → IsWrittenTo command k old.files new
+          part : (k : ℕ) (new : Files) → IsWrittenPart (pieces_of input s pieces) k old.files new → IsWrittenTo command k old.files new
           unfolding with_part
           part k new h = record {
             made = if-told old.files (λ f told. let makes = makes-pieces f told in let part = h.files makes.0 makes.1 in (made makes.0, makes.2, part.0, part.1, subst (λ fs. new ≡ with_part k part.1 (outputs_of s pieces makes.0) fs) told part.2));
             touches = first-touched k new h.touches;
           }
 
-          unfinished : (k : ℕ) (new : Files) → IsUnfinishedPart (outputs_of s pieces) (names_of pieces) input k old.files new → IsUnfinished command k old.files new
+          unfinished : (k : ℕ) (new : Files) → IsUnfinishedPart (pieces_of input s pieces) k old.files new → IsUnfinished command k old.files new
           unfolding with_part
           unfinished k new h = record {
             made = if-told old.files (λ f told. let makes = makes-pieces f told in let part = h.files makes.0 makes.1 in (made makes.0, makes.2, part.0, part.1, part.2, subst (λ fs. new ≡ with_part k part.1 (outputs_of s pieces makes.0) fs) told part.3));
@@ -302,21 +307,26 @@ module _ (points : Points) (input prefix : List ℕ) where
               subst (λ e. EndedAt (input_of (input ∷ more) e) (ended_at e) old.counts.ends new.counts.ends) (sym h.is)
               (subst (λ e. EndedAt (input_of (input ∷ []) e) (ended_at e) old.counts.ends new.counts.ends) h.is h.ended.rose)
 
-          split-left-by : (new : Seen) (fault : EditFault) (why : Why) → OnlyTouches (names_of pieces) old.files new.files → IsPiecesFaultBy (outputs_of s pieces) (names_of pieces) input old new fault why → LeavesBy command old new fault why
-          split-left-by new fault Unread only h = record { names = apart; before = none-before (IsNotBefore fault); rose = subst (λ e. HappenedTo (input_of (input ∷ more) e) old.counts.read_faults new.counts.read_faults) (sym h.is) h.rose; files = inr (h.place, part h.place new.files h.files) }
-          split-left-by new fault Shorter only h = record {
-            ended = record { rose = ended-name new fault h; counts = h.ended.counts; untold = h.ended.untold };
-            touches = names-touched old.files new.files only;
-          }
-          split-left-by new fault (Unwritten k) only h = record { rose = subst (λ n. HappenedTo n old.counts.write_faults new.counts.write_faults) (name-here prefix s pieces k few h.within named) h.rose; files = unfinished k new.files h.files }
-          split-left-by new fault _ only h = absurd h
+          split-left-here : (new : Seen) (fault : EditFault) → OnlyTouches (names_of pieces) old.files new.files → IsPiecesFault (pieces_of input s pieces) old new fault → Leaves command old new fault
+          split-left-here new fault only h = each_why (why_of fault) h (record {
+            rejected = λ w. absurd w;
+            missing = λ w. absurd w;
+            unread = λ u. record { names = apart; before = none-before (IsNotBefore fault); rose = subst (λ e. HappenedTo (input_of (input ∷ more) e) old.counts.read_faults new.counts.read_faults) (sym u.is) u.rose; files = inr (u.place, part u.place new.files u.files) };
+            shorter = λ l. record {
+              ended = record { rose = ended-name new fault l; counts = l.ended.counts; untold = l.ended.untold };
+              touches = names-touched old.files new.files only;
+            };
+            unwritten = λ k w. record { rose = subst (λ n. HappenedTo n old.counts.write_faults new.counts.write_faults) (name-here prefix s pieces k few w.within named) w.rose; files = unfinished k new.files w.files };
+            unsent = λ w. absurd w;
+            no_memory = λ w. absurd w;
+          })
 
       -- ---- what is left by a step after those that left all as it was
 
       module _ (mid new : Seen) (stays : mid ≡ old) where
         -- where there are no positions
         pub places-left : (fault : EditFault) → IsPlacesFault placing more mid new fault → Leaves command old new fault
-        places-left fault h = places-left-by new fault (why_of fault) (rw stays at h)
+        places-left fault h = places-left-here new fault (rw stays at h)
 
         pub memory-left : new ≡ mid → Leaves command old new Memory
         memory-left same = record { names = apart; takes = behind-takes; stays = same ∙ stays }
@@ -337,8 +347,8 @@ module _ (points : Points) (input prefix : List ℕ) where
             }
 
             -- a fault of the second pass
-            pub split-left : OnlyTouches (names_of pieces) mid.files new.files → (fault : EditFault) → IsPiecesFault (outputs_of s pieces) (names_of pieces) input mid new fault → Leaves command old new fault
-            split-left touches fault h = split-left-by places are pieces named chosen few new fault (why_of fault) (rw stays at touches) (rw stays at h)
+            pub split-left : OnlyTouches (names_of pieces) mid.files new.files → (fault : EditFault) → IsPiecesFault (pieces_of input s pieces) mid new fault → Leaves command old new fault
+            split-left touches fault h = split-left-here places are pieces named chosen few new fault (rw stays at touches) (rw stays at h)
 
 -- ---- the numbers of a fault, whatever is told of the files
 

@@ -10,13 +10,13 @@ use Rattle.outside.proofs.FilesLaws.{touches_none, touches_both, touches_more, t
 use Rattle.sync_survey.specs.Faults.{SurveyFields}
 use Rattle.outside.specs.declared.pass.PassFault.{PassFault}
 use Rattle.outside.specs.declared.pass.PassFault.TheVariants.{Read, Shrunk, Write}
+use Rattle.outside.specs.Seen.{seen}
 use Rattle.commands.specs.Command.{Output, begun, LacksBytes, written}
 use Rattle.frame_edits.specs.Chosen.{chosen_in, chosen_file}
 use Rattle.commands.specs.One.{holding, HoldsPrefix, HoldsLess, IsPassFault}
-use Rattle.commands.specs.Left.{seen}
 use Rattle.commands.specs.PassFaults.{of_pass}
 use Rattle.splitting.specs.declared.piece.Piece.{Piece}
-use Rattle.splitting.specs.Steps.{output_of, outputs_of, names_of, with_outputs, with_part, IsWrittenPart, IsUnfinishedPart, IsPiecesFault, of_piece}
+use Rattle.splitting.specs.Steps.{output_of, outputs_of, names_of, pieces_of, with_outputs, with_part, IsWrittenPart, IsUnfinishedPart, IsPiecesFault, of_piece}
 
 -- ---- one output more
 
@@ -138,20 +138,20 @@ module _ (s : SurveyFields) (input : List ℕ) (all : List Piece) (k : ℕ) (pie
       ∙ sym (get_or-drop k (names_of all) 0 [])
       ∙ ap (λ (l : List (List ℕ)). slice_index_or l 0 []) (drop-map (λ (p : Piece). string_bytes p.name) k all ∙ ap names_of next)
 
-  part-written : ((bytes : List ℕ) → Holds now input bytes → HoldsPrefix (string_bytes piece.name) (piece_made s piece bytes) now new) → (place : ℕ) → place ≡ length done → IsWrittenPart (outputs_of s all) (names_of all) input place old new
+  part-written : ((bytes : List ℕ) → Holds now input bytes → HoldsPrefix (string_bytes piece.name) (piece_made s piece bytes) now new) → (place : ℕ) → place ≡ length done → IsWrittenPart (pieces_of input s all) place old new
   part-written begun place is = rw (place-is place is) (record {
     files = λ bytes holds. let part = part-of k _ _ (output_of bytes s piece) now new input bytes (out bytes) old holds (now-is bytes holds) (begun bytes (wrote.stands.after bytes holds)) in (few bytes, part.0, part.1);
     touches = touched-here;
   })
 
-  part-unfinished : ((bytes : List ℕ) → Holds now input bytes → HoldsLess (string_bytes piece.name) (piece_made s piece bytes) now new) → (place : ℕ) → place ≡ length done → IsUnfinishedPart (outputs_of s all) (names_of all) input place old new
+  part-unfinished : ((bytes : List ℕ) → Holds now input bytes → HoldsLess (string_bytes piece.name) (piece_made s piece bytes) now new) → (place : ℕ) → place ≡ length done → IsUnfinishedPart (pieces_of input s all) place old new
   part-unfinished begun place is = rw (place-is place is) (record {
     files = λ bytes holds. let part = less-of k _ _ (output_of bytes s piece) now new input bytes (out bytes) old holds (now-is bytes holds) (begun bytes (wrote.stands.after bytes holds)) in (few bytes, part.0, part.1, part.2);
     touches = touched-here;
   })
 
   pub pieces-fault : (fault : PassFault) (place : ℕ) (before between after : Counts) → place ≡ length done → between ≡ before
-      → IsPassFault (piece_made s piece) (input ∷ []) (string_bytes piece.name) (seen now between) (seen new after) (of_pass fault) → IsPiecesFault (outputs_of s all) (names_of all) input (seen old before) (seen new after) (of_piece place fault)
+      → IsPassFault (piece_made s piece) (input ∷ []) (string_bytes piece.name) (seen now between) (seen new after) (of_pass fault) → IsPiecesFault (pieces_of input s all) (seen old before) (seen new after) (of_piece place fault)
   pieces-fault Read place before between after is same h =
       record { is = refl; rose = subst (λ c. HappenedTo input c.read_faults after.read_faults) same h.rose; place = place; files = part-written h.files place is }
   pieces-fault (Shrunk first second) place before between after is same h = record {

@@ -1,20 +1,22 @@
 -- The steps of a command that cuts a file.
-use Rattle.std.specs.Prelude.{◌≡◌, ◌≢◌, ℕ, ◌+◌, ◌<◌, true, List, [], ◌∷◌, length, map, take, drop, slice_index_or, string_bytes, Option, Some, Result, Err}
+use Rattle.std.specs.Prelude.{◌≡◌, ◌≢◌, ℕ, ◌+◌, ◌<◌, ◌≤◌, true, List, [], ◌∷◌, length, map, take, drop, slice_index_or, string_bytes, Option, Some, Result, Ok, Err, IfErr, OnOk}
 use Rattle.std.specs.List.{All}
 use Rattle.outside.specs.Files.{Files, Holds, IsThere, IfTold, Told, Untold, OnlyTouches}
-use Rattle.outside.specs.Counts.{HappenedTo}
+use Rattle.outside.specs.Counts.{HappenedTo, NoneFell}
 use Rattle.sync_survey.specs.declared.survey_fault.SurveyFault.TheVariants.{Read, Shrunk, Memory as NoRoom}
 use Rattle.sync_survey.specs.Faults.{SurveyFields}
+use Rattle.sync_survey.specs.Survey.{survey_of, IsLaidOut}
 use Rattle.commands.specs.declared.fault.EditFault.{EditFault}
 use Rattle.commands.specs.declared.fault.EditFault.TheVariants.{Input, Refused, Write as Unwritable, Memory}
 use Rattle.cue_sheet.specs.declared.place.Place.{Place}
 use Rattle.outside.specs.declared.pass.PassFault.{PassFault}
 use Rattle.outside.specs.declared.pass.PassFault.TheVariants.{Read as CopyRead, Shrunk as CopyShrunk, Write as CopyWrite}
+use Rattle.outside.specs.Seen.{Seen, OnFile}
 use Rattle.commands.specs.Kinds.{HasRightNumbers}
 use Rattle.commands.specs.Command.{Output, written, LacksBytes, written_to}
-use Rattle.commands.specs.Left.{Why, Rejected, Missing, Unread, Shorter, Unwritten, Unsent, NoMemory, why_of, Seen, EndsEarly}
-use Rattle.commands.specs.One.{first_input, ReadsNothing, LosesInput}
-use Rattle.commands.specs.Sheet.{MissesSheet, IsSheetFaultBy as IsUnreadBy, IsOfSheet as IsOfRead}
+use Rattle.commands.specs.Left.{by_why, never, why_of, EndsEarly}
+use Rattle.commands.specs.One.{most_frames, first_input, ReadsNothing, LosesInput}
+use Rattle.commands.specs.Sheet.{MissesSheet, IsOfSheet as IsOfRead}
 use Rattle.frame_edits.specs.Chosen.{Chosen, chosen_in, chosen_file}
 use Rattle.frame_edits.specs.Selected.{IsSelected}
 use Rattle.splitting.specs.declared.piece.Piece.{Piece}
@@ -31,13 +33,17 @@ pub record RefusesSheet (name : List ℕ) (old new : Seen) (fault : EditFault) :
   pub bytes : (bytes : List ℕ) → Holds old.files name bytes → places_where (Some bytes) ≡ Err fault
   pub stays : new ≡ old
 
-abbrev pub IsSheetFaultBy : List ℕ → Seen → Seen → EditFault → Why → Type 0
-IsSheetFaultBy name old new fault Rejected = RefusesSheet name old new fault
-IsSheetFaultBy name old new fault why = IsUnreadBy name old new fault why
-
 -- what a fault that was met while the sheet was read says of its cause
 abbrev pub IsSheetFault : List ℕ → Seen → Seen → EditFault → Type 0
-IsSheetFault name old new fault = IsSheetFaultBy name old new fault (why_of fault)
+IsSheetFault name old new fault = by_why
+    (record never {
+      rejected = RefusesSheet name old new fault;
+      missing = MissesSheet name old new fault;
+      unread = ReadsNothing 1 name old new fault;
+      shorter = LosesInput 1 name old new fault;
+      no_memory = new ≡ old;
+    })
+    (why_of fault)
 
 -- the fault is one of the sheet, or want of memory
 abbrev pub IsOfSheet : EditFault → Type 0
@@ -50,19 +56,18 @@ IsOfSheet fault = IsOfRead fault
 abbrev pub Says : Placing → Files → Result (List Place) EditFault → Type 0
 Says placing files answer = IfTold files (λ f. placing.places f ≡ answer)
 
--- the name of the sheet, which is the first input besides the one that is cut, and input 1 of the command
-abbrev pub IsPlacesFaultBy : Placing → List (List ℕ) → Seen → Seen → EditFault → Why → Type 0
-IsPlacesFaultBy placing more old new fault Rejected = Says placing old.files (Err fault) × (new ≡ old)
-IsPlacesFaultBy placing more old new fault Missing = Says placing old.files (Err fault) × MissesSheet (first_input more) old new fault
-IsPlacesFaultBy placing more old new fault Unread = ReadsNothing 1 (first_input more) old new fault
-IsPlacesFaultBy placing more old new fault Shorter = LosesInput 1 (first_input more) old new fault
-IsPlacesFaultBy placing more old new fault (Unwritten k) = ⊥
-IsPlacesFaultBy placing more old new fault Unsent = ⊥
-IsPlacesFaultBy placing more old new fault NoMemory = new ≡ old
-
--- what a fault that was met while the positions were found says of its cause
+-- What a fault that was met while the positions were found says of its cause. The sheet is the first input besides the one that is cut, and
+-- input 1 of the command.
 abbrev pub IsPlacesFault : Placing → List (List ℕ) → Seen → Seen → EditFault → Type 0
-IsPlacesFault placing more old new fault = IsPlacesFaultBy placing more old new fault (why_of fault)
+IsPlacesFault placing more old new fault = by_why
+    (record never {
+      rejected = Says placing old.files (Err fault) × (new ≡ old);
+      missing = Says placing old.files (Err fault) × MissesSheet (first_input more) old new fault;
+      unread = ReadsNothing 1 (first_input more) old new fault;
+      shorter = LosesInput 1 (first_input more) old new fault;
+      no_memory = new ≡ old;
+    })
+    (why_of fault)
 
 -- the fault is one of the sheet, or want of memory; of given positions only want of memory
 abbrev pub IsOfPlaces : Points → EditFault → Type 0
@@ -83,6 +88,14 @@ ArePieces prefix s k (piece ∷ pieces) = (string_bytes piece.name ≡ piece_nam
 -- they are ready to be written beside this input
 abbrev pub CanBeWritten : List ℕ → SurveyFields → List Piece → Type 0
 CanBeWritten input s pieces = All (λ piece. (input ≢ string_bytes piece.name) × IsReady s piece) pieces
+
+-- The input is there with its survey, and no more pieces than there are names are ready to be written beside it.
+pub record IsSplit (input : List ℕ) (s : SurveyFields) (pieces : List Piece) (now : Seen) : Type 0 where
+  pub there : IsThere now.files input
+  pub laid : IsLaidOut s
+  pub surveyed : OnFile now input (λ bytes. survey_of bytes most_frames ≡ Ok s)
+  pub few : length pieces ≤ 99
+  pub ready : CanBeWritten input s pieces
 
 abbrev pub chosen_of : Piece → Chosen
 chosen_of piece = chosen_in piece.selection.chosen
@@ -109,22 +122,31 @@ with_part k count outputs (Untold touched) = Untold touched
 abbrev pub names_of : List Piece → List (List ℕ)
 names_of pieces = map (λ piece. string_bytes piece.name) pieces
 
--- what was written of the outputs that are made of the input and have these names
-pub record IsWrittenPart (made : List ℕ → List Output) (names : List (List ℕ)) (input : List ℕ) (k : ℕ) (old new : Files) : Type 0 where
-  pub files : (bytes : List ℕ) → Holds old input bytes → (k < length (made bytes)) × (count : Option ℕ) × (new ≡ with_part k count (made bytes) old)
-  pub touches : OnlyTouches (take (k + 1) names) old new
+-- pieces that are written: what is made of the input, their names, and the name of the input
+pub record Pieces : Type 0 where
+  pub made : List ℕ → List Output
+  pub names : List (List ℕ)
+  pub input : List ℕ
+
+abbrev pub pieces_of : List ℕ → SurveyFields → List Piece → Pieces
+pieces_of input s pieces = record { made = outputs_of s pieces; names = names_of pieces; input = input }
+
+-- the first k are whole, and the next one holds a prefix, or wasn't created
+pub record IsWrittenPart (p : Pieces) (k : ℕ) (old new : Files) : Type 0 where
+  pub files : (bytes : List ℕ) → Holds old p.input bytes → (k < length (p.made bytes)) × (count : Option ℕ) × (new ≡ with_part k count (p.made bytes) old)
+  pub touches : OnlyTouches (take (k + 1) p.names) old new
 
 -- the same where a call failed that writes the next one: it holds a prefix that lacks bytes, or wasn't created
-pub record IsUnfinishedPart (made : List ℕ → List Output) (names : List (List ℕ)) (input : List ℕ) (k : ℕ) (old new : Files) : Type 0 where
-  pub files : (bytes : List ℕ) → Holds old input bytes → (k < length (made bytes)) × (count : Option ℕ) × LacksBytes count (drop k (made bytes)) × (new ≡ with_part k count (made bytes) old)
-  pub touches : OnlyTouches (take (k + 1) names) old new
+pub record IsUnfinishedPart (p : Pieces) (k : ℕ) (old new : Files) : Type 0 where
+  pub files : (bytes : List ℕ) → Holds old p.input bytes → (k < length (p.made bytes)) × (count : Option ℕ) × LacksBytes count (drop k (p.made bytes)) × (new ≡ with_part k count (p.made bytes) old)
+  pub touches : OnlyTouches (take (k + 1) p.names) old new
 
 -- the input, which is the first, could not be read again
-pub record StopsReading (made : List ℕ → List Output) (names : List (List ℕ)) (input : List ℕ) (old new : Seen) (fault : EditFault) : Type 0 where
+pub record StopsReading (p : Pieces) (old new : Seen) (fault : EditFault) : Type 0 where
   pub is : fault ≡ Input 0 Read
-  pub rose : HappenedTo input old.counts.read_faults new.counts.read_faults
+  pub rose : HappenedTo p.input old.counts.read_faults new.counts.read_faults
   pub place : ℕ
-  pub files : IsWrittenPart made names input place old.files new.files
+  pub files : IsWrittenPart p place old.files new.files
 
 -- it became shorter
 pub record StopsShort (input : List ℕ) (old new : Seen) (fault : EditFault) : Type 0 where
@@ -134,20 +156,20 @@ pub record StopsShort (input : List ℕ) (old new : Seen) (fault : EditFault) : 
   pub ended : EndsEarly (input ∷ []) old new fault
 
 -- the output of this place could not be written
-pub record StopsWriting (made : List ℕ → List Output) (names : List (List ℕ)) (input : List ℕ) (place : ℕ) (old new : Seen) : Type 0 where
-  pub within : place < length names
-  pub rose : HappenedTo (slice_index_or names place []) old.counts.write_faults new.counts.write_faults
-  pub files : IsUnfinishedPart made names input place old.files new.files
-
-abbrev pub IsPiecesFaultBy : (List ℕ → List Output) → List (List ℕ) → List ℕ → Seen → Seen → EditFault → Why → Type 0
-IsPiecesFaultBy made names input old new fault Unread = StopsReading made names input old new fault
-IsPiecesFaultBy made names input old new fault Shorter = StopsShort input old new fault
-IsPiecesFaultBy made names input old new fault (Unwritten k) = StopsWriting made names input k old new
-IsPiecesFaultBy made names input old new fault _ = ⊥
+pub record StopsWriting (p : Pieces) (place : ℕ) (old new : Seen) : Type 0 where
+  pub within : place < length p.names
+  pub rose : HappenedTo (slice_index_or p.names place []) old.counts.write_faults new.counts.write_faults
+  pub files : IsUnfinishedPart p place old.files new.files
 
 -- what a fault that was met while the pieces were written leaves
-abbrev pub IsPiecesFault : (List ℕ → List Output) → List (List ℕ) → List ℕ → Seen → Seen → EditFault → Type 0
-IsPiecesFault made names input old new fault = IsPiecesFaultBy made names input old new fault (why_of fault)
+abbrev pub IsPiecesFault : Pieces → Seen → Seen → EditFault → Type 0
+IsPiecesFault p old new fault = by_why
+    (record never {
+      unread = StopsReading p old new fault;
+      shorter = StopsShort p.input old new fault;
+      unwritten = λ k. StopsWriting p k old new;
+    })
+    (why_of fault)
 
 -- the fault of the pass that writes this piece, counted from 0
 abbrev pub of_piece : ℕ → PassFault → EditFault
@@ -160,3 +182,12 @@ abbrev pub IsOfPieces : ℕ → EditFault → Type 0
 IsOfPieces count (Input place fault) = (place ≡ 0) × (fault ≢ NoRoom) × HasRightNumbers fault
 IsOfPieces count (Unwritable place) = place < count
 IsOfPieces count _ = ⊥
+
+-- All these pieces, of which there are so many, were written, or this is left.
+pub record WritesPieces (p : Pieces) (count : ℕ) (old new : Seen) (result : Result (Unit {0}) EditFault) : Type 0 where
+  pub written : OnOk result (OnFile old p.input (λ bytes. new.files ≡ with_outputs (p.made bytes) old.files))
+  pub touches : OnlyTouches p.names old.files new.files
+  pub done : OnOk result (new.counts ≡ old.counts)
+  pub left : IfErr result (IsPiecesFault p old new)
+  pub numbers : IfErr result (IsOfPieces count)
+  pub counts : NoneFell old.counts new.counts

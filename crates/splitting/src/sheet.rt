@@ -1,8 +1,7 @@
 //! The positions at which a cue sheet cuts a file.
 ghost use Rattle.std.specs.Prelude.{◌≡◌, ◌⊎◌, ◌≤◌, List, ℕ, length, Ok, Err, Some, IfOk, IfErr, OnOk, MatchResult};
-ghost use Rattle.outside.specs.Files.{Holds, IsThere};
-ghost use Rattle.outside.specs.Counts.{OnlyReads};
-ghost use Rattle.commands.specs.Left.{seen};
+ghost use Rattle.outside.specs.Files.{IsThere};
+ghost use Rattle.outside.specs.Seen.{OnFile, OnlyRead};
 ghost use Rattle.splitting.specs.Split.{places_in as places_in_lem, places_where, ArePositions};
 ghost use Rattle.splitting.specs.Steps.{IsSheetFault, IsOfSheet};
 ghost use Rattle.commands.specs.Sheet.{longest_sheet};
@@ -43,18 +42,15 @@ pub(crate) fn sheet_places<D: Folder>(
     folder: &mut D,
     sheet: &str,
 ) -> Result<Vec<Place>, EditFault>
-    ensures there { OnOk result (IsThere (D.files folder.old) sheet.now) }
-    ensures places { IfOk result (λ places. (bytes : List ℕ)
-        → Holds (D.files folder.old) sheet.now bytes
-        → places_where (Some bytes) ≡ Ok places.items) }
+    ensures there { OnOk result (IsThere (D.seen folder.old).files sheet.now) }
+    ensures places { IfOk result (λ places. OnFile (D.seen folder.old) sheet.now
+        (λ bytes. places_where (Some bytes) ≡ Ok places.items)) }
     ensures positions { IfOk result (λ places. ArePositions places.items) }
     ensures refused { IfErr result (IsSheetFault sheet.now
-        (seen (D.files folder.old) (D.counts folder.old))
-        (seen (D.files folder.new) (D.counts folder.new))) }
+        (D.seen folder.old)
+        (D.seen folder.new)) }
     ensures numbers { IfErr result IsOfSheet }
-    ensures done { OnOk result (D.counts folder.new ≡ D.counts folder.old) }
-    ensures files { D.files folder.new ≡ D.files folder.old }
-    ensures counts { OnlyReads (D.counts folder.old) (D.counts folder.new) }
+    ensures reads { OnlyRead result (D.seen folder.old) (D.seen folder.new) }
 {
     let bytes = sheet_bytes(alloc, folder, sheet)?;
     places_in(alloc, bytes.as_slice())

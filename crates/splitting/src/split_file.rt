@@ -1,8 +1,7 @@
 //! The split commands over a folder.
 ghost use Rattle.std.specs.Prelude.{◌≡◌, Ok, IfOk, IfErr, OnOk};
-ghost use Rattle.outside.specs.Counts.{OnlyReads};
+ghost use Rattle.outside.specs.Seen.{OnlyRead};
 ghost use Rattle.commands.specs.Command.{clash_of};
-ghost use Rattle.commands.specs.Left.{seen};
 ghost use Rattle.commands.specs.Runs.{IsRunOf};
 ghost use Rattle.splitting.specs.Split.{placing_of, more_of, split_command_of, ArePositions, ArePoints};
 ghost use Rattle.splitting.specs.Steps.{Says, IsPlacesFault, IsOfPlaces};
@@ -55,16 +54,14 @@ fn places_of<D: Folder>(
     points: &Points<'_>,
 ) -> Result<Vec<Place>, EditFault>
     requires { ArePoints points.now }
-    ensures places { IfOk result (λ places. Says (placing_of points.now) (D.files folder.old)
+    ensures places { IfOk result (λ places. Says (placing_of points.now) (D.seen folder.old).files
         (Ok places.items)) }
     ensures positions { IfOk result (λ places. ArePositions places.items) }
     ensures refused { IfErr result (IsPlacesFault (placing_of points.now) (more_of points.now)
-        (seen (D.files folder.old) (D.counts folder.old))
-        (seen (D.files folder.new) (D.counts folder.new))) }
+        (D.seen folder.old)
+        (D.seen folder.new)) }
     ensures numbers { IfErr result (IsOfPlaces points.now) }
-    ensures done { OnOk result (D.counts folder.new ≡ D.counts folder.old) }
-    ensures files { D.files folder.new ≡ D.files folder.old }
-    ensures counts { OnlyReads (D.counts folder.old) (D.counts folder.new) }
+    ensures reads { OnlyRead result (D.seen folder.old) (D.seen folder.new) }
 {
     match *points {
         Points::Places(places) => Ok(places.to_vec(alloc)?),
@@ -101,8 +98,8 @@ pub fn split<D: Folder>(
     requires { ArePoints points.now }
     // The input is well-formed, and each piece holds at most one lead-in and then exactly its frames of the input's stream.
     ensures { IsRunOf (split_command_of points.now input.now prefix.now)
-        (seen (D.files folder.old) (D.counts folder.old))
-        (seen (D.files folder.new) (D.counts folder.new)) result }
+        (D.seen folder.old)
+        (D.seen folder.new) result }
 {
     if let Some(place) = clash(input, points, prefix) {
         return Err(EditFault::EqualNames(place));

@@ -1,13 +1,8 @@
 //! The second pass: pieces are written one after the other.
-ghost use Rattle.std.specs.Prelude.{◌≡◌, ◌≤◌, List, ℕ, [], length, Ok, IfErr, OnOk};
-ghost use Rattle.outside.specs.Files.{Holds, IsThere, OnlyTouches};
-ghost use Rattle.outside.specs.Counts.{NoneFell};
+ghost use Rattle.std.specs.Prelude.{◌≡◌, [], length};
 ghost use Rattle.outside.specs.Feed.{IsFedFrom};
 ghost use Rattle.sync_survey.specs.Faults.{tells};
-ghost use Rattle.sync_survey.specs.Survey.{survey_of, IsLaidOut};
-ghost use Rattle.commands.specs.One.{most_frames};
-ghost use Rattle.commands.specs.Left.{seen};
-ghost use Rattle.splitting.specs.Steps.{CanBeWritten, outputs_of, names_of, with_outputs, IsPiecesFault, of_piece as of_piece_lem, IsOfPieces};
+ghost use Rattle.splitting.specs.Steps.{IsSplit, pieces_of, WritesPieces, of_piece as of_piece_lem};
 
 use crate::piece::Piece;
 use commands::EditFault;
@@ -42,26 +37,11 @@ pub(crate) fn write_pieces<D: Folder>(
     pieces: &[Piece],
     buffers: &mut Buffers,
 ) -> Result<(), EditFault>
-    requires there { IsThere (D.files folder.old) input.now }
-    requires laid { IsLaidOut (tells survey.now) }
-    requires surveyed { (bytes : List ℕ) → Holds (D.files folder.old) input.now bytes
-        → survey_of bytes most_frames ≡ Ok (tells survey.now) }
-    requires few { length pieces.now ≤ 99 }
-    requires ready { CanBeWritten input.now (tells survey.now) pieces.now }
-    requires fed { IsFedFrom buffers.old.feed (D.files folder.old) input.now }
+    requires split { IsSplit input.now (tells survey.now) pieces.now (D.seen folder.old) }
+    requires fed { IsFedFrom buffers.old.feed (D.seen folder.old).files input.now }
     requires unsent { buffers.old.waiting ≡ [] }
-    ensures written { OnOk result ((bytes : List ℕ) → Holds (D.files folder.old) input.now bytes
-        → D.files folder.new ≡ with_outputs (outputs_of (tells survey.now) pieces.now bytes)
-        (D.files folder.old)) }
-    ensures touches { OnlyTouches (names_of pieces.now) (D.files folder.old)
-        (D.files folder.new) }
-    ensures done { OnOk result (D.counts folder.new ≡ D.counts folder.old) }
-    ensures left { IfErr result (IsPiecesFault
-        (outputs_of (tells survey.now) pieces.now) (names_of pieces.now) input.now
-        (seen (D.files folder.old) (D.counts folder.old))
-        (seen (D.files folder.new) (D.counts folder.new))) }
-    ensures numbers { IfErr result (IsOfPieces (length pieces.now)) }
-    ensures counts { NoneFell (D.counts folder.old) (D.counts folder.new) }
+    ensures { WritesPieces (pieces_of input.now (tells survey.now) pieces.now)
+        (length pieces.now) (D.seen folder.old) (D.seen folder.new) result }
 {
     let mut place = 0;
     for piece in pieces {

@@ -12,6 +12,7 @@ use Rattle.outside.specs.Files.{Files, Holds, IsThere, AreOctets}
 use Rattle.outside.specs.Counts.{Counts, OnlyReads}
 use Rattle.outside.proofs.CountsLaws.{only_reads_same}
 use Rattle.outside.specs.Feed.{Fed, IsFedFrom}
+use Rattle.outside.specs.Seen.{seen}
 use Rattle.sync_survey.specs.declared.places.Start.{Start}
 use Rattle.sync_survey.specs.declared.survey_fault.SurveyFault.{SurveyFault}
 use Rattle.sync_survey.specs.declared.survey_fault.SurveyFault.TheVariants.{TooLong, Memory}
@@ -83,7 +84,7 @@ pub record HasRead (feed : Fed) (name : List ℕ) (before after : Files) (old ne
 pub none_read : {feed : Fed} {name : List ℕ} {files : Files} {counts : Counts} → IsFedFrom feed files name → HasRead feed name files files counts counts
 none_read fed = record { fed = fed; files = refl; counts = refl }
 
-pub read_more : {T : Type 0} {x : T} {feed next : Fed} {name : List ℕ} {files mid now : Files} {old between new : Counts} → HasRead feed name files mid old between → ReadsBy next name (Ok x) mid now between new → HasRead next name files now old new
+pub read_more : {T : Type 0} {x : T} {feed next : Fed} {name : List ℕ} {files mid now : Files} {old between new : Counts} → HasRead feed name files mid old between → ReadsBy next name (Ok x) (seen mid between) (seen now new) → HasRead next name files now old new
 read_more before reads = record { fed = reads.fed; files = reads.files ∙ before.files; counts = reads.done ∙ before.counts }
 
 -- the file is what it was

@@ -10,5 +10,6 @@ pub mod MainData
 pub mod Faults
 pub mod Kinds
 pub mod Survey
+pub mod Answers
 pub mod Laws
 pub mod Begun

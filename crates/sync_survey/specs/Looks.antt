@@ -23,6 +23,7 @@ use Rattle.sync_survey.specs.declared.runs.Step.{Step}
 use Rattle.sync_survey.specs.Kinds.{RefusesRightly}
 use Rattle.sync_survey.specs.Walk.{fault_at}
 use Rattle.sync_survey.specs.Runs.{item_of, run, frame_as, block_as, frames_of, blocks_of}
+use Rattle.frame_header.specs.Limits.{most_frame_length}
 
 -- how many bytes a look shows, if the file has them: more than a frame and the 32 bytes after it, by which the next item is known
 abbrev pub look_size : ℕ
@@ -46,7 +47,7 @@ pub record PassesFront (front : List ℕ) (left : ℕ) (step : Step) : Type 0 wh
   pub zeros : step.item ≡ Zero → step.size ≡ prefix_len (λ b. b == 0) front
   pub own : (step.item ≡ Zero → ⊥) → step.size ≡ size_of step.item
   pub least : size_of step.item ≤ step.size
-  pub most : (h : HeaderFields) → step.item ≡ Frame h → size_of step.item ≤ 1441
+  pub most : (h : HeaderFields) → step.item ≡ Frame h → size_of step.item ≤ most_frame_length
   pub some : 0 < step.size
   pub within : step.size ≤ left
 

@@ -7,6 +7,7 @@ use Rattle.side_info.specs.Side.{SideFits}
 use Rattle.outside.specs.Files.{Files, is_told, Holds, IsThere, IsMissing}
 use Rattle.outside.specs.Counts.{Counts, HappenedTo, EndedAt, OnlyReads, NothingFailed}
 use Rattle.outside.specs.Feed.{Fed, IsFedFrom}
+use Rattle.outside.specs.Seen.{Seen}
 use Rattle.sync_survey.specs.declared.items.Item.TheVariants.{Frame}
 use Rattle.sync_survey.specs.declared.places.Head.{Head}
 use Rattle.sync_survey.specs.declared.places.Piece.{Piece}
@@ -85,8 +86,8 @@ pub record IsRefusal (name : List ℕ) (files : Files) (allowed : ℕ) (before a
   pub numbers : HasRightNumbers fault
 
 -- refused so, whatever number of frames is allowed
-abbrev pub IsEarlyRefusal : List ℕ → Files → Counts → Counts → SurveyFault → Type 0
-IsEarlyRefusal name files before after fault = (allowed : ℕ) → IsRefusal name files allowed before after fault
+abbrev pub IsEarlyRefusal : List ℕ → Seen → Seen → SurveyFault → Type 0
+IsEarlyRefusal name old new fault = (allowed : ℕ) → IsRefusal name old.files allowed old.counts new.counts fault
 
 -- where the fault refuses the name's file, it is that of its length
 abbrev pub IsOfLength : List ℕ → Files → SurveyFault → Type 0
@@ -111,11 +112,11 @@ pub record IsWholeFrom (from size : ℕ) (p : PlacedFrame) : Type 0 where
 
 -- What a call leaves that reads the name's file by a feed: the files stay, and the feed is fed from them; only reads are counted, and
 -- nothing where it succeeds.
-pub record ReadsBy {T : Type 0} (feed : Fed) (name : List ℕ) (result : Result T SurveyFault) (before after : Files) (old new : Counts) : Type 0 where
-  pub done : OnOk result (new ≡ old)
-  pub fed : IsFedFrom feed after name
-  pub files : after ≡ before
-  pub counts : OnlyReads old new
+pub record ReadsBy {T : Type 0} (feed : Fed) (name : List ℕ) (result : Result T SurveyFault) (old new : Seen) : Type 0 where
+  pub done : OnOk result (new.counts ≡ old.counts)
+  pub fed : IsFedFrom feed new.files name
+  pub files : new.files ≡ old.files
+  pub counts : OnlyReads old.counts new.counts
 
 -- ---- what every survey tells, whether the files are told or not
 

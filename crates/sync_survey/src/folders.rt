@@ -9,6 +9,7 @@ ghost use Rattle.sync_survey.specs.Faults.{tells};
 ghost use Rattle.sync_survey.specs.Kinds.{HasRightNumbers, RefusesRightly};
 ghost use Rattle.sync_survey.specs.Survey.{HoldsOctets, IsSurveyOf, IsWholeSurvey, IsFirstFault, IsRefusal, IsSurveyFault, IsLaidOut};
 ghost use Rattle.sync_survey.specs.Begun.{IsWalk};
+ghost use Rattle.sync_survey.specs.Answers.{FramesAnswer, FileAnswer, SurveyAnswer};
 
 use crate::found::Found;
 use crate::fronts::pass_front;
@@ -44,15 +45,9 @@ fn judge_frames<D: Folder>(
     walk: Walk,
     allowed: u32,
 ) -> Result<Survey, SurveyFault>
-    requires fed { IsFedFrom feed.old (D.files folder.old) name.now }
-    requires walk { IsWalk (D.files folder.old) name.now walk }
-    ensures surveyed { IfOk result (λ s. IsWholeSurvey name.now (D.files folder.old) allowed
-        (tells s)) }
-    ensures done { OnOk result (D.counts folder.new ≡ D.counts folder.old) }
-    ensures refused { IfErr result (IsRefusal name.now (D.files folder.old) allowed
-        (D.counts folder.old) (D.counts folder.new)) }
-    ensures files { D.files folder.new ≡ D.files folder.old }
-    ensures counts { OnlyReads (D.counts folder.old) (D.counts folder.new) }
+    requires fed { IsFedFrom feed.old (D.seen folder.old).files name.now }
+    requires walk { IsWalk (D.seen folder.old).files name.now walk }
+    ensures { FramesAnswer name.now allowed (D.seen folder.old) (D.seen folder.new) result }
 {
     let Walk {
         size,
@@ -93,15 +88,7 @@ fn survey_file<D: Folder>(
     name: &str,
     allowed: u32,
 ) -> Result<Survey, SurveyFault>
-    ensures surveyed { IfOk result (λ s. IsWholeSurvey name.now (D.files folder.old) allowed
-        (tells s)) }
-    ensures there { OnOk result (IsThere (D.files folder.old) name.now) }
-    ensures octets { OnOk result (HoldsOctets name.now (D.files folder.old)) }
-    ensures done { OnOk result (D.counts folder.new ≡ D.counts folder.old) }
-    ensures refused { IfErr result (IsRefusal name.now (D.files folder.old) allowed
-        (D.counts folder.old) (D.counts folder.new)) }
-    ensures files { D.files folder.new ≡ D.files folder.old }
-    ensures counts { OnlyReads (D.counts folder.old) (D.counts folder.new) }
+    ensures { FileAnswer name.now allowed (D.seen folder.old) (D.seen folder.new) result }
 {
     let size = find_length(folder, name)?;
     let mut feed = Feed::new(alloc)?;
@@ -137,21 +124,7 @@ pub fn survey<D: Folder>(
     name: &str,
     allowed: u32,
 ) -> Result<Survey, SurveyFault>
-    ensures exact { IfOk result (λ s. IsSurveyOf name.now (D.files folder.old) allowed (tells s)) }
-    // Whether the files are told or not: where head, frames and blocks are, that there is a frame, and that
-    // the main data of the frames are where they may be.
-    ensures laid { IfOk result (λ s. IsLaidOut (tells s)) }
-    ensures few { IfOk result (λ s. length (tells s).frames ≤ allowed) }
-    ensures there { OnOk result (IsThere (D.files folder.old) name.now) }
-    ensures octets { OnOk result (HoldsOctets name.now (D.files folder.old)) }
-    ensures done { OnOk result (D.counts folder.new ≡ D.counts folder.old) }
-    ensures refused { IfErr result (IsSurveyFault name.now (D.files folder.old) allowed
-        (D.counts folder.old) (D.counts folder.new)) }
-    ensures numbers { IfErr result HasRightNumbers }
-    // No fault of the bytes is before the one that is told.
-    ensures first { IfErr result (IsFirstFault name.now (D.files folder.old) allowed) }
-    ensures files { D.files folder.new ≡ D.files folder.old }
-    ensures counts { OnlyReads (D.counts folder.old) (D.counts folder.new) }
+    ensures { SurveyAnswer name.now allowed (D.seen folder.old) (D.seen folder.new) result }
 {
     survey_file(alloc, folder, name, allowed)
 }

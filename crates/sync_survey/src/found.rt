@@ -7,7 +7,7 @@ ghost use Rattle.sync_survey.specs.Looks.{look_size, ReachArea, Keeps, IsFrameFa
 
 use crate::items::{Item, header_of_class, is_same_class, stop_fault};
 use crate::places::Piece;
-use crate::rows::{Before, Row};
+use crate::rows::{Before, Limit, Row};
 use crate::runs::{Part, step_at};
 use crate::survey_fault::SurveyFault;
 use frame_header::{Class, Header};
@@ -58,8 +58,10 @@ impl Found {
             &header,
             row,
             bytes,
-            count as u64,
-            u64::from(allowed),
+            &Limit {
+                count: count as u64,
+                allowed: u64::from(allowed),
+            },
         )?;
         row.mark(behind.lost);
         self.before = behind.before;

@@ -1,6 +1,6 @@
 //! The front of a file.
 ghost use Rattle.std.specs.Prelude.{◌≡◌, ℕ, List, ◌+◌, ◌++◌, [], ◌≤◌, IfOk, IfErr, OnOk, option_to_list};
-ghost use Rattle.outside.specs.Files.{Holds};
+ghost use Rattle.outside.specs.Seen.{OnFile};
 ghost use Rattle.outside.specs.Feed.{IsFedFrom};
 ghost use Rattle.sync_survey.specs.Runs.{run, block_as, blocks_of};
 ghost use Rattle.sync_survey.specs.Start.{front_end_of};
@@ -45,19 +45,18 @@ pub fn pass_front<D: Folder>(
     size: u64,
     pieces: &mut Vec<Piece>,
 ) -> Result<u64, SurveyFault>
-    requires known { HasLength (D.files folder.old) name.now size }
-    requires fed { IsFedFrom feed.old (D.files folder.old) name.now }
+    requires known { HasLength (D.seen folder.old).files name.now size }
+    requires fed { IsFedFrom feed.old (D.seen folder.old).files name.now }
     requires none { pieces.old.items ≡ [] }
-    ensures front_end { IfOk result (λ at. (bytes : List ℕ)
-        → Holds (D.files folder.old) name.now bytes → at ≡ front_end_of bytes) }
-    ensures blocks { OnOk result ((bytes : List ℕ) → Holds (D.files folder.old) name.now bytes
-        → pieces.new.items ≡ blocks_of (run Part.Front bytes 0).items) }
+    ensures front_end { IfOk result (λ at. OnFile (D.seen folder.old) name.now
+        (λ bytes. at ≡ front_end_of bytes)) }
+    ensures blocks { OnOk result (OnFile (D.seen folder.old) name.now
+        (λ bytes. pieces.new.items ≡ blocks_of (run Part.Front bytes 0).items)) }
     ensures laid { IfOk result (λ at. BlocksAreLaid 0 pieces.new.items at) }
     ensures within { IfOk result (λ at. at ≤ size) }
-    ensures reads { ReadsBy feed.new name.now result (D.files folder.old) (D.files folder.new)
-        (D.counts folder.old) (D.counts folder.new) }
-    ensures refused { IfErr result (IsEarlyRefusal name.now (D.files folder.old)
-        (D.counts folder.old) (D.counts folder.new)) }
+    ensures reads { ReadsBy feed.new name.now result (D.seen folder.old) (D.seen folder.new) }
+    ensures refused { IfErr result (IsEarlyRefusal name.now (D.seen folder.old)
+        (D.seen folder.new)) }
     ensures outside { IfErr result IsFromOutside }
 {
     let mut at = 0;

@@ -8,6 +8,7 @@ ghost use Rattle.sync_survey.specs.Walk.{head_by, own_bytes, numbered_at, IsFram
 ghost use Rattle.sync_survey.specs.MainData.{head_area as head_area_lem};
 ghost use Rattle.sync_survey.specs.Kinds.{IsFromOutside};
 ghost use Rattle.sync_survey.specs.Survey.{HasLength, IsHeadOf, ReadsBy, IsEarlyRefusal};
+ghost use Rattle.frame_header.specs.Limits.{most_frame_length};
 
 use crate::looks::look;
 use crate::places::{Head, PlacedFrame};
@@ -17,7 +18,8 @@ use outside::{Feed, Folder};
 
 /// The head that the frame is, if it is one. The bytes begin with all of the frame's own.
 pub fn head_in(frame: &PlacedFrame, bytes: &[u8]) -> Option<Head>
-    ensures most { length_of (class_of frame.now.header) frame.now.header.slot ≤ 1441 }
+    // Said here, where the header is known to be one of the standard's.
+    ensures most { length_of (class_of frame.now.header) frame.now.header.slot ≤ most_frame_length }
     ensures head { result ≡ head_by frame.now (own_bytes frame.now bytes.now) }
     ensures same { IfSome result (IsFrameOf frame.now) }
 {
@@ -43,16 +45,15 @@ pub fn find_head<D: Folder>(
     size: u64,
     first: &PlacedFrame,
 ) -> Result<Option<Head>, SurveyFault>
-    requires known { HasLength (D.files folder.old) name.now size }
-    requires fed { IsFedFrom feed.old (D.files folder.old) name.now }
+    requires known { HasLength (D.seen folder.old).files name.now size }
+    requires fed { IsFedFrom feed.old (D.seen folder.old).files name.now }
     requires whole { first.now.offset + size_of (Frame first.now.header) ≤ size }
-    ensures head { IfOk result (IsHeadOf name.now (D.files folder.old) first.now) }
+    ensures head { IfOk result (IsHeadOf name.now (D.seen folder.old).files first.now) }
     // Whether the files are told or not.
     ensures same { IfOk result (λ o. IfSome o (IsFrameOf first.now)) }
-    ensures reads { ReadsBy feed.new name.now result (D.files folder.old) (D.files folder.new)
-        (D.counts folder.old) (D.counts folder.new) }
-    ensures refused { IfErr result (IsEarlyRefusal name.now (D.files folder.old)
-        (D.counts folder.old) (D.counts folder.new)) }
+    ensures reads { ReadsBy feed.new name.now result (D.seen folder.old) (D.seen folder.new) }
+    ensures refused { IfErr result (IsEarlyRefusal name.now (D.seen folder.old)
+        (D.seen folder.new)) }
     ensures outside { IfErr result IsFromOutside }
 {
     look(feed, folder, name, size, first.offset)?;
@@ -62,7 +63,7 @@ pub fn find_head<D: Folder>(
 /// The length of the head's area in bytes, 0 without a head. Main data may begin in it.
 pub fn head_area(head: &Option<Head>) -> u64
     ensures area { result ≡ head_area_lem head.now }
-    ensures most { result ≤ 1441 }
+    ensures most { result ≤ most_frame_length }
 {
     match head {
         Some(head) => u64::from(head.header.area()),

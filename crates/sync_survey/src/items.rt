@@ -5,6 +5,7 @@ ghost use Rattle.frame_header.specs.Reading.{header_of_class as header_of_class_
 ghost use Rattle.sync_survey.specs.Items.{header_front as header_front_lem, item_front as item_front_lem, size_of, same_class};
 ghost use Rattle.sync_survey.specs.Walk.{fault_at as fault_at_lem};
 ghost use Rattle.sync_survey.specs.Kinds.{RefusesRightly};
+ghost use Rattle.frame_header.specs.Limits.{most_frame_length};
 
 use crate::survey_fault::SurveyFault;
 use frame_header::{Class, Header, NotHeader};
@@ -78,7 +79,7 @@ impl Item {
     /// The length in bytes of a frame, a block or a zero byte; 0 for all else.
     pub(crate) fn size(&self) -> u64
         ensures size { result ≡ size_of self.now }
-        ensures most { (h : HeaderFields) → self.now ≡ Item.Frame h → result ≤ 1441 }
+        ensures most { (h : HeaderFields) → self.now ≡ Item.Frame h → result ≤ most_frame_length }
     {
         match self {
             Item::Frame(header) => u64::from(header.length()),

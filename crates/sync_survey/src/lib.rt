@@ -24,7 +24,7 @@ pub use laws::{
     lost_frames_lead, one_item_stands, runs_are_only, starts_are_least, surveys_are_placed,
     surveys_hold_streams,
 };
-pub use looks::{find_length, look};
+pub use looks::{LONGEST_FILE, find_length, look};
 pub use places::{Head, Piece, PlacedFrame, Start};
 pub use rows::{Before, Behind, Row};
 pub use runs::{Part, Step, step_at};

@@ -1,7 +1,7 @@
 //! Looks at a file of a folder.
 ghost use Rattle.std.specs.Prelude.{◌≡◌, ℕ, List, ◌-◌, ◌≤◌, min, length, IfOk, IfErr, OnOk};
-ghost use Rattle.outside.specs.Files.{Holds};
 ghost use Rattle.outside.specs.Counts.{OnlyReads};
+ghost use Rattle.outside.specs.Seen.{OnFile};
 ghost use Rattle.outside.specs.Feed.{IsFedFrom};
 ghost use Rattle.sync_survey.specs.Looks.{look_size, Shows};
 ghost use Rattle.sync_survey.specs.Kinds.{IsFromOutside};
@@ -11,7 +11,7 @@ use crate::survey_fault::SurveyFault;
 use outside::{Feed, FindFault, Folder};
 
 /// The greatest length of an input in bytes.
-const LONGEST_FILE: u64 = 1_073_741_824;
+pub const LONGEST_FILE: u64 = 1_073_741_824;
 
 /// How many bytes a look is at.
 const LOOK_SIZE: u64 = 4096;
@@ -22,14 +22,14 @@ const LOOK_SIZE: u64 = 4096;
 /// `Absent` where it isn't there, `TooLong` with its length where it is longer, `Read` where the call
 /// failed.
 pub fn find_length<D: Folder>(folder: &mut D, name: &str) -> Result<u64, SurveyFault>
-    ensures found { IfOk result (HasLength (D.files folder.old) name.now) }
-    ensures octets { OnOk result (HoldsOctets name.now (D.files folder.old)) }
-    ensures done { OnOk result (D.counts folder.new ≡ D.counts folder.old) }
-    ensures refused { IfErr result (IsEarlyRefusal name.now (D.files folder.old)
-        (D.counts folder.old) (D.counts folder.new)) }
-    ensures length { IfErr result (IsOfLength name.now (D.files folder.old)) }
-    ensures files { D.files folder.new ≡ D.files folder.old }
-    ensures counts { OnlyReads (D.counts folder.old) (D.counts folder.new) }
+    ensures found { IfOk result (HasLength (D.seen folder.old).files name.now) }
+    ensures octets { OnOk result (HoldsOctets name.now (D.seen folder.old).files) }
+    ensures done { OnOk result ((D.seen folder.new).counts ≡ (D.seen folder.old).counts) }
+    ensures refused { IfErr result (IsEarlyRefusal name.now (D.seen folder.old)
+        (D.seen folder.new)) }
+    ensures length { IfErr result (IsOfLength name.now (D.seen folder.old).files) }
+    ensures files { (D.seen folder.new).files ≡ (D.seen folder.old).files }
+    ensures counts { OnlyReads (D.seen folder.old).counts (D.seen folder.new).counts }
 {
     match folder.find(name) {
         Ok(length) if length > LONGEST_FILE => Err(SurveyFault::TooLong(length)),
@@ -51,17 +51,16 @@ pub fn look<D: Folder>(
     size: u64,
     at: u64,
 ) -> Result<u64, SurveyFault>
-    requires known { HasLength (D.files folder.old) name.now size }
+    requires known { HasLength (D.seen folder.old).files name.now size }
     requires within { at ≤ size }
-    requires fed { IsFedFrom feed.old (D.files folder.old) name.now }
-    ensures shows { IfOk result (λ left. (bytes : List ℕ)
-        → Holds (D.files folder.old) name.now bytes → Shows bytes at feed.new.given left) }
+    requires fed { IsFedFrom feed.old (D.seen folder.old).files name.now }
+    ensures shows { IfOk result (λ left. OnFile (D.seen folder.old) name.now
+        (λ bytes. Shows bytes at feed.new.given left)) }
     ensures left { IfOk result (λ left. left ≡ size - at) }
     ensures many { IfOk result (λ left. length feed.new.given ≡ min look_size left) }
-    ensures reads { ReadsBy feed.new name.now result (D.files folder.old) (D.files folder.new)
-        (D.counts folder.old) (D.counts folder.new) }
-    ensures refused { IfErr result (IsEarlyRefusal name.now (D.files folder.old)
-        (D.counts folder.old) (D.counts folder.new)) }
+    ensures reads { ReadsBy feed.new name.now result (D.seen folder.old) (D.seen folder.new) }
+    ensures refused { IfErr result (IsEarlyRefusal name.now (D.seen folder.old)
+        (D.seen folder.new)) }
     ensures outside { IfErr result IsFromOutside }
 {
     let left = size - at;

@@ -7,6 +7,7 @@ ghost use Rattle.sync_survey.specs.MainData.{row_in, own_area, lacks_data};
 ghost use Rattle.sync_survey.specs.Faults.{word_faults, count_faults, first_of};
 ghost use Rattle.sync_survey.specs.Items.{header_front};
 ghost use Rattle.sync_survey.specs.Looks.{ReachArea, data_fault, frame_fault, IsBehind};
+ghost use Rattle.frame_header.specs.Limits.{most_frame_length};
 
 use crate::survey_fault::SurveyFault;
 use frame_header::{Class, Header};
@@ -36,7 +37,13 @@ impl Row {
     /// The frame with this front at this offset, and whether it is lost.
     #[inline(always)]
     pub fn new(offset: u32, lost: bool, front: FrameFront) -> Row
-        ensures { result ≡ record { offset = offset; header = front.header; lost = lost; side = front.side } }
+        ensures { result ≡ record {
+          offset = offset;
+          header = front.header;
+          lost = lost;
+          side =
+              front.side;
+        } }
     {
         Row {
             offset,
@@ -173,6 +180,13 @@ fn count_fault(row: &Row, count: u64, allowed: u64) -> Option<SurveyFault>
     }
 }
 
+/// How many frames are before one, and how many are allowed.
+#[derive(Clone, Copy)]
+pub(crate) struct Limit {
+    pub(crate) count: u64,
+    pub(crate) allowed: u64,
+}
+
 impl Before {
     /// Whether the frame is lost: its main data begin before the stream, and every frame before it is
     /// silent or lost.
@@ -229,7 +243,7 @@ impl Before {
     ) -> Result<Behind, SurveyFault>
         requires bound { self.now.place ≤ 2 ^ 62 }
         requires area { area ≡ own_area row.now.header }
-        requires few { area ≤ 1441 }
+        requires few { area ≤ most_frame_length }
         requires begin { extent.now.begin ≡ row.now.side.main_data_begin }
         requires bits { extent.now.bits ≡ payload_bits row.now.side }
         requires bytes { bytes ≡ payload_bytes row.now.side }
@@ -266,7 +280,7 @@ impl Before {
         })
     }
 
-    /// What is known after a frame with this header, which is of this class, where `count` frames are before it. The bytes
+    /// What is known after a frame with this header, which is of this class, where so many frames are before it. The bytes
     /// begin with the frame's own.
     ///
     /// # Errors
@@ -278,23 +292,23 @@ impl Before {
         header: &Header,
         row: &Row,
         bytes: &[u8],
-        count: u64,
-        allowed: u64,
+        limit: &Limit,
     ) -> Result<Behind, SurveyFault>
         requires class { class ≡ class_of header.now }
         requires same { header.now ≡ row.now.header }
         requires room { ReachArea row.now.header bytes.now }
         requires bound { self.now.place ≤ 2 ^ 62 }
-        ensures fault { IfErr result (λ f. frame_fault bytes.now allowed self.now count
-            row.now ≡ Some f) }
-        ensures sound { OnOk result (frame_fault bytes.now allowed self.now count row.now ≡ None) }
+        ensures fault { IfErr result (λ f. frame_fault bytes.now limit.now.allowed self.now
+            limit.now.count row.now ≡ Some f) }
+        ensures sound { OnOk result (frame_fault bytes.now limit.now.allowed self.now
+            limit.now.count row.now ≡ None) }
         ensures behind { IfOk result (IsBehind self.now.place self.now.ended row.now) }
     {
         if let Some(fault) = word_fault(header, row, bytes) {
             return Err(fault);
         }
         let behind = self.behind_in(class, header, row)?;
-        match count_fault(row, count, allowed) {
+        match count_fault(row, limit.count, limit.allowed) {
             Some(fault) => Err(fault),
             None => Ok(behind),
         }

@@ -1,6 +1,6 @@
 //! Where the stream of frames begins.
 ghost use Rattle.std.specs.Prelude.{◌≡◌, ℕ, List, ◌+◌, ◌-◌, ◌≤◌, length, drop, Ok, IfOk, IfErr, IfSome, MatchOption};
-ghost use Rattle.outside.specs.Files.{Holds};
+ghost use Rattle.outside.specs.Seen.{OnFile};
 ghost use Rattle.outside.specs.Feed.{IsFedFrom};
 ghost use Rattle.sync_survey.specs.Items.{size_of, item_front as item_front_lem};
 ghost use Rattle.sync_survey.specs.Start.{is_anchor as is_anchor_lem, anchored_frame as anchored_frame_lem, first_anchored as first_anchored_lem, longest_junk, start_behind as start_behind_lem, start_at, front_end_of, start_of};
@@ -96,16 +96,15 @@ fn first_anchored<D: Folder>(
     size: u64,
     from: u64,
 ) -> Result<Option<PlacedFrame>, SurveyFault>
-    requires known { HasLength (D.files folder.old) name.now size }
-    requires fed { IsFedFrom feed.old (D.files folder.old) name.now }
+    requires known { HasLength (D.seen folder.old).files name.now size }
+    requires fed { IsFedFrom feed.old (D.seen folder.old).files name.now }
     requires early { from ≤ size + 1 }
-    ensures first { IfOk result (λ o. (bytes : List ℕ) → Holds (D.files folder.old) name.now bytes
-        → o ≡ first_anchored_lem longest_junk bytes from) }
+    ensures first { IfOk result (λ o. OnFile (D.seen folder.old) name.now (λ bytes. o
+        ≡ first_anchored_lem longest_junk bytes from)) }
     ensures placed { IfOk result (λ o. IfSome o (IsWholeFrom from size)) }
-    ensures reads { ReadsBy feed.new name.now result (D.files folder.old) (D.files folder.new)
-        (D.counts folder.old) (D.counts folder.new) }
-    ensures refused { IfErr result (IsEarlyRefusal name.now (D.files folder.old)
-        (D.counts folder.old) (D.counts folder.new)) }
+    ensures reads { ReadsBy feed.new name.now result (D.seen folder.old) (D.seen folder.new) }
+    ensures refused { IfErr result (IsEarlyRefusal name.now (D.seen folder.old)
+        (D.seen folder.new)) }
 {
     for at in from..size.min(from + LONGEST_JUNK) {
         let left = look(feed, folder, name, size, at)?;
@@ -132,19 +131,17 @@ pub(crate) fn find_start<D: Folder>(
     size: u64,
     front_end: u64,
 ) -> Result<Start, SurveyFault>
-    requires known { HasLength (D.files folder.old) name.now size }
-    requires fed { IsFedFrom feed.old (D.files folder.old) name.now }
+    requires known { HasLength (D.seen folder.old).files name.now size }
+    requires fed { IsFedFrom feed.old (D.seen folder.old).files name.now }
     requires within { front_end ≤ size }
-    requires front { (bytes : List ℕ) → Holds (D.files folder.old) name.now bytes
-        → front_end ≡ front_end_of bytes }
-    ensures start { IfOk result (λ s. (bytes : List ℕ) → Holds (D.files folder.old) name.now bytes
-        → start_of bytes ≡ Ok s) }
+    requires front { OnFile (D.seen folder.old) name.now (λ bytes. front_end ≡ front_end_of bytes) }
+    ensures start { IfOk result (λ s. OnFile (D.seen folder.old) name.now
+        (λ bytes. start_of bytes ≡ Ok s)) }
     ensures whole { IfOk result (λ s. s.first.offset + size_of (Item.Frame s.first.header) ≤ size) }
     ensures junk { IfOk result (λ s. (s.front_end ≡ front_end) × (front_end ≤ s.first.offset)) }
-    ensures reads { ReadsBy feed.new name.now result (D.files folder.old) (D.files folder.new)
-        (D.counts folder.old) (D.counts folder.new) }
-    ensures refused { IfErr result (IsEarlyRefusal name.now (D.files folder.old)
-        (D.counts folder.old) (D.counts folder.new)) }
+    ensures reads { ReadsBy feed.new name.now result (D.seen folder.old) (D.seen folder.new) }
+    ensures refused { IfErr result (IsEarlyRefusal name.now (D.seen folder.old)
+        (D.seen folder.new)) }
 {
     let left = look(feed, folder, name, size, front_end)?;
     if let Some(start) = start_here(&item_front(feed.bytes()), front_end, left) {

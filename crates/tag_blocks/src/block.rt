@@ -41,6 +41,9 @@ const ID3V2_HAS_FOOTER: u32 = 4;
 /// The length of every ID3v1 block in bytes.
 const ID3V1_LENGTH: u64 = 128;
 
+/// The greatest length in bytes of an APEv2 block that is read as a tag or written: 1 MiB.
+pub const LONGEST_TAG: u64 = 1_048_576;
+
 /// The length of the header of APEv2, and of its footer, in bytes.
 pub(crate) const APE_HEADER: usize = 32;
 

@@ -15,7 +15,7 @@ mod tag;
 mod tag_fault;
 mod undo;
 
-pub use block::{Block, Kind, block_at};
+pub use block::{Block, Kind, LONGEST_TAG, block_at};
 pub use laws::{
     items_are_all, tags_are_their_bytes, undo_items_alone_change, undos_are_their_texts,
 };

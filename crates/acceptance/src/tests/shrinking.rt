@@ -128,9 +128,7 @@ fn found(name: &str, other: u64) -> u64 {
 impl Folder for Changing {
     ghost use Rattle.outside.specs.Files.{untold};
 
-    ghost files = { λ _. untold };
-
-    ghost counts = { λ folder. folder.tally };
+    ghost seen = { λ folder. record { files = untold; counts = folder.tally } };
 
     fn find(&mut self, name: &str) -> Result<u64, FindFault> {
         Ok(found(name, self.found))

@@ -2,6 +2,8 @@
 ghost use Rattle.std.specs.Prelude.{◌≡◌, ◌≢◌, ℕ, ◌+◌, ◌-◌, ◌<◌, ◌≤◌, [], ◌∷◌, ◌++◌, List, None, Some, Ok, Err, length, take, drop, min, IfOk, OnOk, OnErr, IsErrOf, is_err, option_copied, if◌then◌else◌, ◌==◌, ◌&&◌, ◌⊎◌, nat_lt};
 ghost use Rattle.outside.specs.Files.{Told, with_file, emptied, appended, FailsToCreate, Holds, IsThere, IsMissing, AreOctets};
 ghost use Rattle.outside.specs.Counts.{none_counted, with_miss, with_end, with_read_fault, with_write_fault, OnlyReads, OnlyWrites, NothingFailed, HappenedTo, EndedAt};
+ghost use Rattle.outside.specs.Answers.{FindAnswer, ReadAnswer, CreateAnswer, WriteAnswer};
+ghost use Rattle.outside.specs.Memory.{MemFinds, MemReads, MemCreates, MemWrites};
 
 use crate::folder::{Failed, FindFault, Folder};
 use crate::memory::schedule::Schedule;
@@ -137,35 +139,13 @@ fn size_of(bytes: &[u8]) -> u64
 }
 
 impl Folder for MemFolder {
-    ghost use Rattle.outside.specs.Memory.{contents_of, bytes_of, counts_of, is_to_fail, find_answer, create_fails, write_fails, Called};
+    ghost use Rattle.outside.specs.Memory.{contents_of, seen_of, bytes_of, counts_of, is_to_fail, find_answer, create_fails, write_fails, Called};
 
-    ghost files = { λ folder. Told (contents_of folder) };
-
-    ghost counts = { λ folder. counts_of folder };
+    ghost seen = { λ folder. seen_of folder };
 
     fn find(&mut self, name: &str) -> Result<u64, FindFault>
-        ensures found { IfOk result (λ n. (bytes : List ℕ)
-            → Holds (Told (contents_of self.old)) name.now bytes → n ≡ length bytes) }
-        ensures there { OnOk result (IsThere (Told (contents_of self.old)) name.now) }
-        ensures octets { OnOk result ((bytes : List ℕ)
-            → Holds (Told (contents_of self.old)) name.now bytes → AreOctets bytes) }
-        ensures missing { IsErrOf result FindFault.Absent
-            → IsMissing (Told (contents_of self.old)) name.now }
-        ensures absent { IsErrOf result FindFault.Absent
-            → HappenedTo name.now (counts_of self.old).misses (counts_of self.new).misses }
-        ensures failed { IsErrOf result FindFault.Failed
-            → HappenedTo name.now (counts_of self.old).read_faults
-            (counts_of self.new).read_faults }
-        ensures files { Told (contents_of self.new) ≡ Told (contents_of self.old) }
-        ensures ends { (counts_of self.new).ends ≡ (counts_of self.old).ends }
-        ensures done { OnOk result (counts_of self.new ≡ counts_of self.old) }
-        ensures counts { OnlyReads (counts_of self.old) (counts_of self.new) }
-        ensures exact { result ≡ find_answer self.old name.now }
-        ensures called { Called self.old self.new Call.Find }
-        ensures absent_counts { IsErrOf result FindFault.Absent
-            → counts_of self.new ≡ with_miss name.now (counts_of self.old) }
-        ensures failed_counts { IsErrOf result FindFault.Failed
-            → counts_of self.new ≡ with_read_fault name.now (counts_of self.old) }
+        ensures answer { FindAnswer name.now (seen_of self.old) (seen_of self.new) result }
+        ensures own { MemFinds name.now self.old self.new result }
     {
         if self.finds.next_fails() {
             self.tally.count_read_fault(name);
@@ -182,35 +162,9 @@ impl Folder for MemFolder {
 
     fn read(&mut self, name: &str, at: u64, into: &mut [u8]) -> Result<usize, Failed>
         requires { IsThere (Told (contents_of self.old)) name.now }
-        ensures bound { IfOk result (λ k. k ≤ length into.old) }
-        ensures bytes { IfOk result (λ k. (bytes : List ℕ)
-            → Holds (Told (contents_of self.old)) name.now bytes
-            → take k into.new ≡ take k (drop at bytes)) }
-        ensures rest { IfOk result (λ k. drop k into.new ≡ drop k into.old) }
-        ensures end { IfOk result (λ k. (bytes : List ℕ)
-            → Holds (Told (contents_of self.old)) name.now bytes → k ≡ 0 → (length into.old ≡ 0)
-            ⊎ (length bytes ≤ at)) }
-        ensures within { IfOk result (λ k. (bytes : List ℕ)
-            → Holds (Told (contents_of self.old)) name.now bytes → k ≤ length bytes - at) }
-        ensures ended { IfOk result (λ k. k ≡ 0 → 0 < length into.old
-            → EndedAt name.now at (counts_of self.old).ends (counts_of self.new).ends) }
-        ensures failed { OnErr result (HappenedTo name.now (counts_of self.old).read_faults
-            (counts_of self.new).read_faults) }
-        ensures files { Told (contents_of self.new) ≡ Told (contents_of self.old) }
-        ensures got { IfOk result (λ k. (0 < k) ⊎ (length into.old ≡ 0)
-            → counts_of self.new ≡ counts_of self.old) }
-        ensures done { OnOk result (NothingFailed (counts_of self.old) (counts_of self.new)) }
-        ensures counts { OnlyReads (counts_of self.old) (counts_of self.new) }
-        ensures fails { is_err result ≡ is_to_fail self.old Call.Read }
-        ensures whole { IfOk result (λ k. k ≡ min (length into.old)
-            (length (bytes_of self.old name.now) - at)) }
-        ensures called { Called self.old self.new Call.Read }
-        ensures kept { OnErr result (into.new ≡ into.old) }
-        ensures read_counts { IfOk result
-            (λ k. counts_of self.new ≡ (if k == 0 && nat_lt 0 (length into.old)
-            then with_end name.now at (counts_of self.old) else counts_of self.old)) }
-        ensures failed_counts { OnErr result
-            (counts_of self.new ≡ with_read_fault name.now (counts_of self.old)) }
+        ensures answer { ReadAnswer name.now at into.old into.new (seen_of self.old)
+            (seen_of self.new) result }
+        ensures own { MemReads name.now at into.old into.new self.old self.new result }
     {
         if self.reads.next_fails() {
             self.tally.count_read_fault(name);
@@ -223,19 +177,8 @@ impl Folder for MemFolder {
     }
 
     fn create(&mut self, name: &str) -> Result<(), Failed>
-        ensures created { OnOk result (Told (contents_of self.new) ≡ emptied
-            (Told (contents_of self.old)) name.now) }
-        ensures kept { OnErr result (FailsToCreate name.now (Told (contents_of self.old))
-            (Told (contents_of self.new))) }
-        ensures stays { OnErr result (contents_of self.new ≡ contents_of self.old) }
-        ensures failed { OnErr result (HappenedTo name.now (counts_of self.old).write_faults
-            (counts_of self.new).write_faults) }
-        ensures done { OnOk result (counts_of self.new ≡ counts_of self.old) }
-        ensures counts { OnlyWrites (counts_of self.old) (counts_of self.new) }
-        ensures fails { is_err result ≡ create_fails self.old name.now }
-        ensures called { Called self.old self.new Call.Create }
-        ensures failed_counts { OnErr result
-            (counts_of self.new ≡ with_write_fault name.now (counts_of self.old)) }
+        ensures answer { CreateAnswer name.now (seen_of self.old) (seen_of self.new) result }
+        ensures own { MemCreates name.now self.old self.new result }
     {
         if self.creates.next_fails() || !self.slots.create(name) {
             self.tally.count_write_fault(name);
@@ -246,20 +189,9 @@ impl Folder for MemFolder {
 
     fn write(&mut self, name: &str, bytes: &[u8]) -> Result<usize, Failed>
         requires { IsThere (Told (contents_of self.old)) name.now }
-        ensures bound { IfOk result (λ k. k ≤ length bytes.now) }
-        ensures some { IfOk result (λ k. 0 < length bytes.now → 0 < k) }
-        ensures written { IfOk result (λ k. Told (contents_of self.new) ≡ appended
-            (Told (contents_of self.old)) name.now (take k bytes.now)) }
-        ensures kept { OnErr result (Told (contents_of self.new) ≡ Told (contents_of self.old)) }
-        ensures failed { OnErr result (HappenedTo name.now (counts_of self.old).write_faults
-            (counts_of self.new).write_faults) }
-        ensures done { OnOk result (counts_of self.new ≡ counts_of self.old) }
-        ensures counts { OnlyWrites (counts_of self.old) (counts_of self.new) }
-        ensures fails { is_err result ≡ write_fails self.old name.now bytes.now }
-        ensures whole { IfOk result (λ k. k ≡ length bytes.now) }
-        ensures called { Called self.old self.new Call.Write }
-        ensures failed_counts { OnErr result
-            (counts_of self.new ≡ with_write_fault name.now (counts_of self.old)) }
+        ensures answer { WriteAnswer name.now bytes.now (seen_of self.old)
+            (seen_of self.new) result }
+        ensures own { MemWrites name.now bytes.now self.old self.new result }
     {
         if self.writes.next_fails() || !self.slots.append(name, bytes) {
             self.tally.count_write_fault(name);

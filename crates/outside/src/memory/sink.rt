@@ -2,6 +2,8 @@
 ghost use Rattle.std.specs.Prelude.{◌≡◌, ◌<◌, ◌≤◌, [], ◌∷◌, ◌++◌, Some, length, take, max, IfOk, OnOk, OnErr, is_err};
 ghost use Rattle.outside.specs.Files.{sent_more};
 ghost use Rattle.outside.specs.Counts.{HasCause, one_more};
+ghost use Rattle.outside.specs.Answers.{SendAnswer};
+ghost use Rattle.outside.specs.Memory.{MemSends};
 
 use crate::folder::Failed;
 use crate::memory::buffer::Buffer;
@@ -81,27 +83,13 @@ impl MemSink {
 }
 
 impl Sink for MemSink {
-    ghost use Rattle.outside.specs.Memory.{bytes_sent, sink_room, sink_faults, writes_made, writes_to_fail, send_fails};
+    ghost use Rattle.outside.specs.Memory.{bytes_sent, sink_heard, sink_room, sink_faults, writes_made, writes_to_fail, send_fails};
 
-    ghost sent = { λ sink. Some (bytes_sent sink) };
-
-    ghost faults = { λ sink. sink_faults sink };
+    ghost heard = { λ sink. sink_heard sink };
 
     fn write(&mut self, bytes: &[u8]) -> Result<usize, Failed>
-        ensures bound { IfOk result (λ k. k ≤ length bytes.now) }
-        ensures some { IfOk result (λ k. 0 < length bytes.now → 0 < k) }
-        ensures written { IfOk result (λ k. Some (bytes_sent self.new) ≡ sent_more
-            (Some (bytes_sent self.old)) (take k bytes.now)) }
-        ensures kept { OnErr result (Some (bytes_sent self.new) ≡ Some (bytes_sent self.old)) }
-        ensures cause { HasCause (sink_faults self.old) (sink_faults self.new) result }
-        ensures fails { is_err result ≡ send_fails self.old bytes.now }
-        ensures whole { IfOk result (λ k. k ≡ length bytes.now) }
-        ensures room { sink_room self.new ≡ sink_room self.old }
-        ensures made { writes_made self.new ≡ one_more (writes_made self.old) }
-        ensures failing { writes_to_fail self.new ≡ writes_to_fail self.old }
-        ensures written_faults { OnOk result (sink_faults self.new ≡ sink_faults self.old) }
-        ensures failed_faults { OnErr result
-            (sink_faults self.new ≡ one_more (sink_faults self.old)) }
+        ensures answer { SendAnswer bytes.now (sink_heard self.old) (sink_heard self.new) result }
+        ensures own { MemSends bytes.now self.old self.new result }
     {
         if self.writes.next_fails() || !self.buffer.append(bytes) {
             self.faults = self.faults.saturating_add(1);

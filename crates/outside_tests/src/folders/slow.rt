@@ -70,9 +70,7 @@ pub fn pattern(alloc: Global, length: usize) -> Result<Vec<u8>, AllocError> {
 impl Folder for Slow {
     ghost use Rattle.outside.specs.Files.{untold};
 
-    ghost files = { λ _. untold };
-
-    ghost counts = { λ folder. folder.tally };
+    ghost seen = { λ folder. record { files = untold; counts = folder.tally } };
 
     fn find(&mut self, _name: &str) -> Result<u64, FindFault> {
         Ok(self.content.len() as u64)

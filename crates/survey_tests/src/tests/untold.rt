@@ -46,9 +46,7 @@ fn copy_from(content: &[u8], at: u64, into: &mut [u8]) -> usize
 }
 
 impl<'a> Folder for Untold<'a> {
-    ghost files = { λ _. untold };
-
-    ghost counts = { λ folder. folder.tally };
+    ghost seen = { λ folder. record { files = untold; counts = folder.tally } };
 
     fn find(&mut self, _name: &str) -> Result<u64, FindFault> {
         Ok(self.found)

@@ -1,14 +1,15 @@
 -- The slots of a lead-in are all slots, and with the largest a whole window is free.
-use Rattle.std.proofs.Common.{◌∙◌, ◌≤◌, false, All, length, refl, sym, ap, subst, arith}
+use Rattle.std.proofs.Common.{rules, ◌∙◌, ◌≤◌, false, All, length, refl, sym, ap, subst, arith}
 use Rattle.slot_plan.specs.Parts.{areas_with}
 use Rattle.slot_plan.proofs.AreaLaws.{Ascend, lead-ascend}
 use Rattle.best_plan.proofs.PlanLaws.{lead-ready, lead-within, lead-by}
 use Rattle.best_plan.proofs.shortest.lead_in.Goals as goal
 
-pub best_choice-choice-requires-clause-ascending : goal.best_choice-choice-requires-clause-ascending
-best_choice-choice-requires-clause-ascending c =
-    subst Ascend (sym (c.as_slice-2.ensures.value ∙ (c.areas_among-areas.ensures.areas ∙ ap (λ k. areas_with k false c.as_slice.result.now) c.new-lengths.ensures.class)))
-    (lead-ascend c.args.class c.as_slice.result.now (c.as_slice.ensures.value ∙ c.slots-slots.ensures.slots) (c.slots-slots.ensures.ascending false))
+pub best_choice-choice-requires-clause-row : goal.best_choice-choice-requires-clause-row
+best_choice-choice-requires-clause-row c =
+    let ascending = subst Ascend (sym (c.as_slice-2.ensures.value ∙ (c.areas_among-areas.ensures.areas ∙ ap (λ k. areas_with k false c.as_slice.result.now) c.new-lengths.ensures.class)))
+    (lead-ascend c.args.class c.as_slice.result.now (c.as_slice.ensures.value ∙ c.slots-slots.ensures.slots) (c.slots-slots.ensures.ascending false)) in
+    record { choices = record { narrow = search rules; most = search rules; few = search rules; ascending = ascending }; width = search rules }
 
 pub bounds-as_slice-choice : goal.bounds-as_slice-choice
 bounds-as_slice-choice c =

@@ -1,5 +1,5 @@
 -- One frame more, from the last to the first.
-use Rattle.std.proofs.Common.{◌≡◌, ◌+◌, ◌-◌, ◌≤◌, ◌∙◌, drop, All, subst, arith}
+use Rattle.std.proofs.Common.{rules, ◌≡◌, ◌+◌, ◌-◌, ◌≤◌, ◌∙◌, drop, All, subst, arith}
 use Rattle.slot_plan.proofs.PartLaws.{same-class}
 use Rattle.best_plan.specs.Rows.{AppendsRow}
 use Rattle.best_plan.specs.Table.{IsTable}
@@ -9,8 +9,7 @@ use Rattle.best_plan.proofs.table.table_of.Goals as goal
 pub loop-i-init : goal.loop-i-init
 loop-i-init g c = record {
   table = table-none c.args.window (g.P.Policy.choices_of c.args.policy.now) c.args.needs.now c.in_ok-by_free.by_free.items c.in_ok-places.places.items c.in_ok-by_free.ensures c.in_ok-places.ensures.items;
-  even = λ is. absurd cc;
-  near = tt;
+  known = record { even = λ is. absurd cc; near = tt };
 }
 
 pub areas_of-areas-requires : goal.areas_of-areas-requires
@@ -18,8 +17,11 @@ areas_of-areas-requires g c = record {
   class = same-class c.args.lengths.now c.args.needs.now (c.loop-i.i - 1) c.index-needs-i.result c.requires.class (omega (arith, c.loop-i-test.true, c.loop-i.auto.i)) c.index-needs-i.is;
 }
 
-pub append_frame-requires-clause-width : goal.append_frame-requires-clause-width
-append_frame-requires-clause-width g c = table-width c.args.window (g.P.Policy.choices_of c.args.policy.now) _ c.loop-i.sums.by_free.items c.loop-i.places.items c.loop-i.invariant.table
+pub append_frame-requires-clause-row : goal.append_frame-requires-clause-row
+append_frame-requires-clause-row g c = record {
+  choices = record { narrow = search rules; most = search rules; few = search rules; ascending = search rules };
+  width = table-width c.args.window (g.P.Policy.choices_of c.args.policy.now) _ c.loop-i.sums.by_free.items c.loop-i.places.items c.loop-i.invariant.table;
+}
 
 pub loop-i-preserved : goal.loop-i-preserved
 loop-i-preserved g c =
@@ -35,6 +37,5 @@ loop-i-preserved g c =
           table-more c.args.window choices c.args.needs.now (c.loop-i.i - 1) need later c.append_frame.new.sums.by_free.items old c.append_frame.new.places.items
           (omega (arith, c.loop-i-test.true, c.loop-i.auto.i)) c.index-needs-i.is row (subst (λ l. All (λ n. n ≤ 1441) l) c.areas_of-areas.ensures.areas c.areas_of-areas.ensures.most) c.areas_of-areas.ensures.own
           (subst (λ k. IsTable c.args.window choices (drop k c.args.needs.now) later old) next c.loop-i.invariant.table);
-      even = c.in_ok-append_frame.ensures.even;
-      near = c.in_ok-append_frame.ensures.near;
+      known = c.in_ok-append_frame.ensures.known;
     }

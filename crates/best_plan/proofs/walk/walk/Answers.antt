@@ -15,7 +15,7 @@ pub loop-need-init : goal.loop-need-init
 loop-need-init g c = record {
   free = c.requires.free;
   can = c.requires.table;
-  goes = goes-begun c.args.window (g.P.Policy.choices_of c.args.policy.now) c.args.free c.args.needs.now c.args.placed.now.items;
+  goes = goes-begun c.args.room.window (g.P.Policy.choices_of c.args.policy.now) c.args.room.free c.args.needs.now c.args.placed.now.items;
 }
 
 pub index-place-requires : goal.index-place-requires
@@ -45,19 +45,19 @@ loop-need-preserved g c =
     let choices = g.P.Policy.choices_of c.args.policy.now in
     let need = c.need-item.result in
     let slot = c.frame_at-frame.result.slot in
-    let free : c.free_behind-free.result ≡ free_behind c.args.window c.loop-need.free need.bytes (area_in (item_of choices need) slot) =
-    c.free_behind-free.ensures.free ∙ ap (λ n. free_behind c.args.window c.loop-need.free need.bytes n) c.area_with-area.ensures.area in
-    let taken : c.truncate.new.self.items ≡ take (length c.loop-need.places.items - (c.args.window + 1)) c.loop-need.places.items =
-    c.truncate.ensures.items ∙ ap (λ n. take (n - (c.args.window + 1)) c.loop-need.places.items) (omega (arith, c.len.ensures)) in
+    let free : c.free_behind-free.result ≡ free_behind c.args.room.window c.loop-need.free need.bytes (area_in (item_of choices need) slot) =
+    c.free_behind-free.ensures.free ∙ ap (λ n. free_behind c.args.room.window c.loop-need.free need.bytes n) c.area_with-area.ensures.area in
+    let taken : c.truncate.new.self.items ≡ take (length c.loop-need.places.items - (c.args.room.window + 1)) c.loop-need.places.items =
+    c.truncate.ensures.items ∙ ap (λ n. take (n - (c.args.room.window + 1)) c.loop-need.places.items) (omega (arith, c.len.ensures)) in
     record {
       free = c.free_behind-free.ensures.within;
-      can = walk-next c.args.window choices c.loop-need.free c.free_behind-free.result (area_in (item_of choices need) slot) need (drop (c.loop-need.need-index + 1) c.args.needs.now) c.loop-need.places.items c.truncate.new.self.items front at free taken;
+      can = walk-next c.args.room.window choices c.loop-need.free c.free_behind-free.result (area_in (item_of choices need) slot) need (drop (c.loop-need.need-index + 1) c.args.needs.now) c.loop-need.places.items c.truncate.new.self.items front at free taken;
       goes = rw c.in_ok-push.ensures.items
-          (goes-more c.args.window choices c.args.free c.loop-need.free c.free_behind-free.result c.args.needs.now c.loop-need.need-index need c.frame_at-frame.result c.loop-need.places.items c.args.placed.now.items c.loop-need.placed.items
+          (goes-more c.args.room.window choices c.args.room.free c.loop-need.free c.free_behind-free.result c.args.needs.now c.loop-need.need-index need c.frame_at-frame.result c.loop-need.places.items c.args.placed.now.items c.loop-need.placed.items
           c.loop-need-test.true c.need-item.is front c.frame_at-frame.ensures.ascending at c.frame_at-frame.ensures.chosen c.frame_at-frame.ensures.frame c.frame_at-frame.ensures.begin free c.loop-need.invariant.goes);
     }
 
 pub returns : goal.returns
 returns g c =
-    goes-all c.args.window (g.P.Policy.choices_of c.args.policy.now) c.args.free c.loop-need.free c.args.needs.now c.loop-need.need-index c.args.placed.now.items c.loop-need.placed.items
+    goes-all c.args.room.window (g.P.Policy.choices_of c.args.policy.now) c.args.room.free c.loop-need.free c.args.needs.now c.loop-need.need-index c.args.placed.now.items c.loop-need.placed.items
     c.requires.free (omega (arith, c.loop-need-test.false)) c.loop-need.invariant.goes

@@ -1,14 +1,17 @@
 -- The group is within the eight bytes.
-use Rattle.std.proofs.Common.{◌≡◌, ◌<◌, ◌+◌, ◌-◌, arith}
+use Rattle.std.proofs.Common.{rules, ◌≡◌, ◌<◌, ◌+◌, ◌-◌, arith}
 use Rattle.std.proofs.lemmas.Nat.{one_shl}
 use Rattle.bit_fields.proofs.WindowLaws.{read_group}
 use Rattle.bit_fields.proofs.window.number_in_word.Goals as goal
 
-pub returns-clause-value : goal.returns-clause-value
-returns-clause-value c =
+pub returns : goal.returns
+returns c =
     let few : c.args.n < 64 = omega arith in
     let word : c.min-first.result + 8 - c.min-first.result ≡ 8 = omega arith in
-    rw (one_shl c.args.n 64 few)
-    (read_group c.args.bytes.now c.args.at c.args.n c.min-first.result (c.min-first.result + 8) c.word_at.result
-    (omega (arith, c.min-first.ensures)) (omega (arith, c.min-first.ensures)) (omega arith) (omega (arith, c.min-first.ensures))
-    (rw word c.word_at.ensures))
+    record {
+      value = rw (one_shl c.args.n 64 few)
+          (read_group c.args.bytes.now c.args.at c.args.n c.min-first.result (c.min-first.result + 8) c.word_at.result
+          (omega (arith, c.min-first.ensures)) (omega (arith, c.min-first.ensures)) (omega arith) (omega (arith, c.min-first.ensures))
+          (rw word c.word_at.ensures));
+      below = search rules;
+    }

@@ -2,9 +2,9 @@
 use Rattle.std.proofs.Common.{◌≡◌, ◌≢◌, ℕ, List, [], ◌∷◌, ap₂, sym, subst, rules}
 use Rattle.std.specs.Prelude.{IfErr, OnOk}
 use Rattle.outside.specs.Files.{Holds}
-use Rattle.commands.specs.Left.{seen}
 use Rattle.commands.specs.One.{holding, one_command, IsPassFault}
 use Rattle.outside.proofs.CountsLaws.{none_fell_by_reads}
+use Rattle.outside.specs.Seen.{seen}
 use Rattle.commands.proofs.MakeLaws.{source_is, clash_is, source_apart, clash_left, early_left, numbers_early, refused_run, one_done, one_left, proper_holds, one_streams}
 use Rattle.commands.proofs.edit.make_one.Goals as goal
 
@@ -32,19 +32,17 @@ pub write_output-requires-clause-ready : goal.write_output-requires-clause-ready
 write_output-requires-clause-ready g c =
     let task = g.E.Edit.task c.args.edit.now in
     subst (λ files. g.E.Work.OutputPass.IsReady c.in_ok-work.work c.inputs-inputs.result.source.now files) (sym c.prepare.ensures.files)
-    (subst (λ source. g.E.Work.OutputPass.IsReady c.in_ok-work.work source (g.D.Folder.files c.args.folder.now)) (sym (source_is c.inputs-inputs.result task c.inputs-inputs.ensures c.requires.proper.first)) c.in_ok-work.ensures.ready)
+    (subst (λ source. g.E.Work.OutputPass.IsReady c.in_ok-work.work source (g.D.Folder.seen c.args.folder.now).files) (sym (source_is c.inputs-inputs.result task c.inputs-inputs.ensures c.requires.proper.first)) c.in_ok-work.ensures.ready)
 
 pub returns : goal.returns
 returns g c =
-    let files = g.D.Folder.files in
-    let counts = g.D.Folder.counts in
     let task = g.E.Edit.task c.args.edit.now in
     let output = c.args.output.now in
     let file = g.E.Work.OutputPass.file_of c.in_ok-work.work in
     let free = clash_is c.inputs-inputs.result task c.inputs-inputs.ensures output c.clash.ensures c.in_default.is in
     let source = source_is c.inputs-inputs.result task c.inputs-inputs.ensures c.requires.proper.first in
-    let mid = seen (files c.prepare.new.folder) (counts c.prepare.new.folder) in
-    let new = seen (files c.write_output.new.folder) (counts c.write_output.new.folder) in
+    let mid = g.D.Folder.seen c.prepare.new.folder in
+    let new = g.D.Folder.seen c.write_output.new.folder in
     let same = ap₂ seen c.prepare.ensures.files c.in_ok-work.ensures.done in
     let making = c.in_ok-work.ensures.making in
     let wrote = subst (λ source. OnOk c.write_output.result ((bytes : List ℕ) → Holds mid.files source bytes → new.files ≡ holding mid.files output (file bytes))) source c.write_output.ensures.written in

@@ -6,5 +6,5 @@ use Rattle.drill_stream.proofs.stream.write_stream.Goals as goal
 
 pub write-requires-clause-there : goal.write-requires-clause-there
 write-requires-clause-there g c =
-    let made = c.in-Ok-create.ensures.created in
-    subst (λ f. IsThere f c.args.name.now) (sym made) (emptied_there (g.D.Folder.files c.args.folder.now) c.args.name.now)
+    let made = c.in-Ok-create.ensures.answer.created in
+    subst (λ f. IsThere f c.args.name.now) (sym made) (emptied_there (g.D.Folder.seen c.args.folder.now).files c.args.name.now)

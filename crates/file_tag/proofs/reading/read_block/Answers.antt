@@ -8,7 +8,7 @@ use Rattle.file_tag.proofs.reading.read_block.Goals as goal
 
 pub read_exact-requires-clause-found : goal.read_exact-requires-clause-found
 read_exact-requires-clause-found g c = λ bytes holds.
-    told-length c.args.name.now (g.D.Folder.files c.args.folder.now) (tells c.args.survey.now) c.requires.found.known.surveyed c.args.piece.now c.requires.found.tag bytes holds ∙ sym c.length.ensures
+    told-length c.args.name.now (g.D.Folder.seen c.args.folder.now).files (tells c.args.survey.now) c.requires.found.known.surveyed c.args.piece.now c.requires.found.tag bytes holds ∙ sym c.length.ensures
 
 pub read_exact-requires-clause-within : goal.read_exact-requires-clause-within
 read_exact-requires-clause-within g c =
@@ -20,5 +20,5 @@ read_exact-requires-clause-few g c = omega (arith, c.requires.found.known.laid.f
 pub returns-in_err-read_exact-clause-cause : goal.returns-in_err-read_exact-clause-cause
 returns-in_err-read_exact-clause-cause g c =
     err_at _ _ c.from_residual-in_err-read_exact.ensures.1
-    (read-cause c.args.name.now (g.D.Folder.files c.args.folder.now) (tells c.args.survey.now) c.requires.found.known.surveyed c.args.piece.now c.requires.found.tag (g.D.Folder.counts c.args.folder.now) (g.D.Folder.counts c.read_exact.new.folder) c.length.result c.length.ensures c.in_err-read_exact.field-0.0
+    (read-cause c.args.name.now (g.D.Folder.seen c.args.folder.now).files (tells c.args.survey.now) c.requires.found.known.surveyed c.args.piece.now c.requires.found.tag (g.D.Folder.seen c.args.folder.now).counts (g.D.Folder.seen c.read_exact.new.folder).counts c.length.result c.length.ensures c.in_err-read_exact.field-0.0
     c.in_err-read_exact.ensures.cause)

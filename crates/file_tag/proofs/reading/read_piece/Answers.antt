@@ -10,7 +10,7 @@ pub returns-then-piece-gt-LONGEST_TAG-clause-cause : goal.returns-then-piece-gt-
 returns-then-piece-gt-LONGEST_TAG-clause-cause g c =
     let s = tells c.args.survey.now in
     let b = c.args.piece.now in (
-      too_large-refused c.args.name.now (g.D.Folder.files c.args.folder.now) s c.requires.known.surveyed b c.requires.tag (omega (arith, c.if-piece-gt-LONGEST_TAG.true)),
+      too_large-refused c.args.name.now (g.D.Folder.seen c.args.folder.now).files s c.requires.known.surveyed b c.requires.tag (omega (arith, c.if-piece-gt-LONGEST_TAG.true)),
       sym (place-some s b c.requires.tag).1,
       omega (arith, c.if-piece-gt-LONGEST_TAG.true),
       refl,
@@ -25,7 +25,7 @@ returns-clause-exact g c =
     let own = c.deref.result.now in
     let same : own ≡ c.in_ok-block.block.items = c.deref.ensures.value in
     IfOk-weaker c.tag_at_offset.result _ _
-    (block-tag c.args.name.now (g.D.Folder.files c.args.folder.now) (tells c.args.survey.now) c.requires.known.surveyed c.args.piece.now c.requires.tag own (λ bytes holds. same ∙ c.in_ok-block.ensures.bytes bytes holds) (ap length same ∙ c.in_ok-block.ensures.length))
+    (block-tag c.args.name.now (g.D.Folder.seen c.args.folder.now).files (tells c.args.survey.now) c.requires.known.surveyed c.args.piece.now c.requires.tag own (λ bytes holds. same ∙ c.in_ok-block.ensures.bytes bytes holds) (ap length same ∙ c.in_ok-block.ensures.length))
     c.tag_at_offset.ensures.tag
 
 pub returns-clause-cause : goal.returns-clause-cause
@@ -33,6 +33,6 @@ returns-clause-cause g c =
     let same : c.deref.result.now ≡ c.in_ok-block.block.items = c.deref.ensures.value in
     IfErr-weaker c.tag_at_offset.result _ _
     (λ fault cause.
-    block-cause c.args.name.now (g.D.Folder.files c.args.folder.now) (tells c.args.survey.now) c.requires.known.surveyed c.args.piece.now c.requires.tag c.deref.result.now (λ bytes holds. same ∙ c.in_ok-block.ensures.bytes bytes holds)
-    (ap length same ∙ c.in_ok-block.ensures.length) (g.D.Folder.counts c.args.folder.now) (g.D.Folder.counts c.read_block.new.folder) fault c.in_ok-block.ensures.done cause)
+    block-cause c.args.name.now (g.D.Folder.seen c.args.folder.now).files (tells c.args.survey.now) c.requires.known.surveyed c.args.piece.now c.requires.tag c.deref.result.now (λ bytes holds. same ∙ c.in_ok-block.ensures.bytes bytes holds)
+    (ap length same ∙ c.in_ok-block.ensures.length) (g.D.Folder.seen c.args.folder.now).counts (g.D.Folder.seen c.read_block.new.folder).counts fault c.in_ok-block.ensures.done cause)
     c.tag_at_offset.ensures.cause

@@ -2,9 +2,9 @@
 use Rattle.std.proofs.Common.{◌≡◌, List, [], ◌∷◌, sym, ◌∙◌, ap, subst}
 use Rattle.std.specs.Prelude.{slice_range}
 use Rattle.std.proofs.lemmas.Result.{IfOk-weaker}
+use Rattle.slot_plan.specs.Parts.{CanBePlanned}
 use Rattle.slot_plan.specs.Plans.{entries}
-use Rattle.part_needs.specs.Needs.{asked_of}
-use Rattle.part_needs.specs.Fit.{CanBePlanned}
+use Rattle.part_needs.specs.Needs.{Asked, asked_of}
 use Rattle.sync_survey.specs.Row.{Row}
 use Rattle.sync_survey.specs.Faults.{tells}
 use Rattle.frame_edits.specs.Chosen.{chosen_in, chosen_rows}
@@ -21,7 +21,7 @@ only g c =
 
 pub plan-requires-clause-planned : goal.plan-requires-clause-planned
 plan-requires-clause-planned g c =
-    subst CanBePlanned (sym (only g (goal.at.plan-requires-clause-planned g c).In_ok-push))
+    subst (λ (a : Asked). CanBePlanned a.needs a.places) (sym (only g (goal.at.plan-requires-clause-planned g c).In_ok-push))
     (rows-fit (chosen_in c.args.chosen.now) (tells c.args.survey.now) c.requires.there.laid.placed c.requires.there.some c.requires.there.within).planned
 
 pub returns : goal.returns

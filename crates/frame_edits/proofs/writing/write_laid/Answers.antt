@@ -28,7 +28,7 @@ write-requires-clause-section g c =
     }
 
 -- what the relay writes is the file of the laid frames
-is : (g : given.Over) (c : After-write g) (file : List ℕ) → Holds (g.D.Folder.files c.args.folder.now) c.args.relay.now.pass.input.now file
+is : (g : given.Over) (c : After-write g) (file : List ℕ) → Holds (g.D.Folder.seen c.args.folder.now).files c.args.relay.now.pass.input.now file
     → section_file (tells c.args.relay.now.survey.now) (record { from = c.args.selection.now.chosen.from; to = c.args.selection.now.chosen.to; placed = c.placed.result; info = c.as_slice.result }) file
     ≡ file_laid (laid_in c.args.selection.now) file (tells c.args.relay.now.survey.now)
 is g c file holds =
@@ -38,10 +38,15 @@ is g c file holds =
     written-is laid file s c.as_slice.result.now c.placed.result.now (omega (arith, writable.some, writable.within)) c.placed.ensures
     (subst (IsLaidInfo laid file s) (sym c.as_slice.ensures.value) (writable.info file (c.requires.ready.exact file holds)))
 
-pub returns-clause-written : goal.returns-clause-written
-returns-clause-written g c =
-    on_ok_weaker c.write.result (appends-as _ (λ file. file_laid (laid_in c.args.selection.now) file (tells c.args.relay.now.survey.now)) (is g (goal.at.returns-clause-written g c).After-write)) c.write.ensures.written
-
-pub returns-clause-prefix : goal.returns-clause-prefix
-returns-clause-prefix g c =
-    err_by c.write.result (λ fault. appends-as_prefix _ (λ file. file_laid (laid_in c.args.selection.now) file (tells c.args.relay.now.survey.now)) (is g (goal.at.returns-clause-prefix g c).After-write)) c.write.ensures.prefix
+pub returns : goal.returns
+returns g c =
+    let made : List ℕ → List ℕ = λ file. file_laid (laid_in c.args.selection.now) file (tells c.args.relay.now.survey.now) in
+    let same = is g (goal.at.returns g c).After-write in
+    record {
+      written = on_ok_weaker c.write.result (appends-as _ made same) c.write.ensures.written;
+      prefix = err_by c.write.result (λ fault. appends-as_prefix _ made same) c.write.ensures.prefix;
+      none = c.write.ensures.none;
+      done = c.write.ensures.done;
+      cause = c.write.ensures.cause;
+      ready = c.write.ensures.ready;
+    }

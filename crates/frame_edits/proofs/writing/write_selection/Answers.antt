@@ -11,14 +11,16 @@ use Rattle.frame_edits.proofs.writing.write_selection.Goals as goal
 pub write_laid-requires-clause-writable : goal.write_laid-requires-clause-writable
 write_laid-requires-clause-writable g c = selected-writable (tells c.args.relay.now.survey.now) c.args.selection.now c.requires.selected
 
-pub returns-clause-written : goal.returns-clause-written
-returns-clause-written g c =
-    on_ok_weaker c.write_laid.result
-    (appends-as _ (selected_file (tells c.args.relay.now.survey.now) c.args.selection.now) (λ file holds. file-is (chosen_in c.args.selection.now.chosen) (entries c.args.selection.now.planned.plan) file (tells c.args.relay.now.survey.now) c.requires.selected.plan))
-    c.write_laid.ensures.written
-
-pub returns-clause-prefix : goal.returns-clause-prefix
-returns-clause-prefix g c =
-    err_by c.write_laid.result
-    (λ fault. appends-as_prefix _ (selected_file (tells c.args.relay.now.survey.now) c.args.selection.now) (λ file holds. file-is (chosen_in c.args.selection.now.chosen) (entries c.args.selection.now.planned.plan) file (tells c.args.relay.now.survey.now) c.requires.selected.plan))
-    c.write_laid.ensures.prefix
+pub returns : goal.returns
+returns g c =
+    let s = tells c.args.relay.now.survey.now in
+    let selection = c.args.selection.now in
+    let made = selected_file s selection in
+    record {
+      written = on_ok_weaker c.write_laid.result (appends-as _ made (λ file holds. file-is (chosen_in selection.chosen) (entries selection.planned.plan) file s c.requires.selected.plan)) c.write_laid.ensures.written;
+      prefix = err_by c.write_laid.result (λ fault. appends-as_prefix _ made (λ file holds. file-is (chosen_in selection.chosen) (entries selection.planned.plan) file s c.requires.selected.plan)) c.write_laid.ensures.prefix;
+      none = c.write_laid.ensures.none;
+      done = c.write_laid.ensures.done;
+      cause = c.write_laid.ensures.cause;
+      ready = c.write_laid.ensures.ready;
+    }

@@ -1,5 +1,5 @@
 -- What is before the area, and the area.
-use Rattle.std.proofs.Common.{◌≡◌, List, ℕ, ◌++◌, take, ap, ap₂}
+use Rattle.std.proofs.Common.{rules, ◌≡◌, List, ℕ, ◌++◌, take, ap, ap₂}
 use Rattle.outside.proofs.PassedLaws.{on_err, passed_there}
 use Rattle.side_info.specs.Frame.{front_of}
 use Rattle.frame_writer.specs.Frames.{area_in}
@@ -8,10 +8,15 @@ use Rattle.frame_writer.proofs.frames.add_frame.Given as given
 use Rattle.frame_writer.proofs.frames.add_frame.Goals as goal
 use Rattle.frame_writer.proofs.frames.add_frame.Goals.{In_ok-push_first}
 
-pub returns-in_err-push_first-clause-prefix : goal.returns-in_err-push_first-clause-prefix
-returns-in_err-push_first-clause-prefix g c =
-    on_err c.from_residual.result
-    (prefix-piece c.args.name.now c.args.unsent.now _ _ (take (area_in c.args.first.now) c.args.areas.now.bytes) _ _ (ap (λ (xs : List ℕ). xs ++ take (area_in c.args.first.now) c.args.areas.now.bytes) c.put_in-size.ensures.front) c.in_err-push_first.ensures.prefix)
+pub returns-in_err-push_first : goal.returns-in_err-push_first
+returns-in_err-push_first g c = record {
+  passed = search rules;
+  prefix = on_err c.from_residual.result
+      (prefix-piece c.args.name.now c.args.unsent.now _ _ (take (area_in c.args.first.now) c.args.areas.now.bytes) _ _ (ap (λ (xs : List ℕ). xs ++ take (area_in c.args.first.now) c.args.areas.now.bytes) c.put_in-size.ensures.front) c.in_err-push_first.ensures.prefix);
+  failed = search rules;
+  done = search rules;
+  counts = search rules;
+}
 
 pub add_first-requires-clause-there : goal.add_first-requires-clause-there
 add_first-requires-clause-there g c = passed_there c.in_ok-push_first.ensures.passed
@@ -21,14 +26,15 @@ both_are : (g : given.Over) (c : In_ok-push_first g) (n : ℕ) → n ≡ area_in
     → take c.put_in-size.result c.put_in-size.new.room ++ take n c.args.areas.now.bytes ≡ front_of c.args.first.now.header c.args.first.now.side ++ take (area_in c.args.first.now) c.args.areas.now.bytes
 both_are g c n is = ap₂ (λ (xs : List ℕ) m. xs ++ take m c.args.areas.now.bytes) c.put_in-size.ensures.front is
 
-pub returns-clause-passed : goal.returns-clause-passed
-returns-clause-passed g c =
-    ok-map c.add_first.result
-    (passed-two c.args.unsent.now (take c.put_in-size.result c.put_in-size.new.room) (take c.area.result c.args.areas.now.bytes) _ (both_are g (goal.at.returns-clause-passed g c).In_ok-push_first c.area.result c.area.ensures.area) c.in_ok-push_first.ensures.passed)
-    c.add_first.ensures.passed
-
-pub returns-clause-prefix : goal.returns-clause-prefix
-returns-clause-prefix g c =
-    err-map c.add_first.result
-    (prefix-two c.args.unsent.now (take c.put_in-size.result c.put_in-size.new.room) (take c.area.result c.args.areas.now.bytes) _ (both_are g (goal.at.returns-clause-prefix g c).In_ok-push_first c.area.result c.area.ensures.area) c.in_ok-push_first.ensures.passed)
-    c.add_first.ensures.prefix
+pub returns : goal.returns
+returns g c = record {
+  passed = ok-map c.add_first.result
+      (passed-two c.args.unsent.now (take c.put_in-size.result c.put_in-size.new.room) (take c.area.result c.args.areas.now.bytes) _ (both_are g (goal.at.returns g c).In_ok-push_first c.area.result c.area.ensures.area) c.in_ok-push_first.ensures.passed)
+      c.add_first.ensures.passed;
+  prefix = err-map c.add_first.result
+      (prefix-two c.args.unsent.now (take c.put_in-size.result c.put_in-size.new.room) (take c.area.result c.args.areas.now.bytes) _ (both_are g (goal.at.returns g c).In_ok-push_first c.area.result c.area.ensures.area) c.in_ok-push_first.ensures.passed)
+      c.add_first.ensures.prefix;
+  failed = search rules;
+  done = search rules;
+  counts = search rules;
+}

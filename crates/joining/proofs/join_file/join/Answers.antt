@@ -3,10 +3,10 @@ use Rattle.std.proofs.Common.{◌≡◌, ◌≤◌, [], List, length, map, strin
 use Rattle.std.proofs.lemmas.List.{length-map}
 use Rattle.std.proofs.lemmas.Result.{IfErr-weaker}
 use Rattle.outside.specs.Files.{Files}
+use Rattle.outside.specs.Seen.{seen}
 use Rattle.sync_survey.specs.declared.surveys.Survey.{Survey}
 use Rattle.sync_survey.specs.Faults.{tells}
 use Rattle.commands.specs.declared.fault.EditFault.TheVariants.{Memory}
-use Rattle.commands.specs.Left.{seen}
 use Rattle.commands.specs.One.{most_frames, IsMaking}
 use Rattle.commands.proofs.MakeLaws.{clash_left, early_left, one_done, all_left, one_streams}
 use Rattle.commands.proofs.RefusingLaws.{err_with}
@@ -40,12 +40,12 @@ module _ (g : given.Over) (c : In_ok-surveys g) where
   some = omega (arith, c.requires.some, length-map c.args.inputs.now string_bytes)
 
   can : CanBeJoined (map tells c.in_ok-surveys.surveys.items)
-  can = inputs-join (g.D.Folder.files c.args.folder.now) (map string_bytes c.args.inputs.now) _ c.in_ok-surveys.ensures.inputs some (omega (arith, c.requires.few, length-map c.args.inputs.now string_bytes))
+  can = inputs-join (g.D.Folder.seen c.args.folder.now).files (map string_bytes c.args.inputs.now) _ c.in_ok-surveys.ensures.inputs some (omega (arith, c.requires.few, length-map c.args.inputs.now string_bytes))
 
   -- what is made of the inputs, by what is known of them after the survey
-  making : (mid : Files) (known : List Survey) → mid ≡ g.D.Folder.files c.args.folder.now → known ≡ c.in_ok-surveys.surveys.items
-      → IsMaking (join_task (map string_bytes c.args.inputs.now)) (λ _. joined_file (told_parts mid (map string_bytes c.args.inputs.now) (map tells known))) (g.D.Folder.files c.args.folder.now)
-  making mid known same items = rw (same, items) (inputs-making (g.D.Folder.files c.args.folder.now) (map string_bytes c.args.inputs.now) _ some c.in_ok-surveys.ensures.inputs)
+  making : (mid : Files) (known : List Survey) → mid ≡ (g.D.Folder.seen c.args.folder.now).files → known ≡ c.in_ok-surveys.surveys.items
+      → IsMaking (join_task (map string_bytes c.args.inputs.now)) (λ _. joined_file (told_parts mid (map string_bytes c.args.inputs.now) (map tells known))) (g.D.Folder.seen c.args.folder.now).files
+  making mid known same items = rw (same, items) (inputs-making (g.D.Folder.seen c.args.folder.now).files (map string_bytes c.args.inputs.now) _ some c.in_ok-surveys.ensures.inputs)
 
 pub prepare-requires : goal.prepare-requires
 prepare-requires g c = rw c.as_slice-known.ensures.value (can g (goal.at.prepare-requires g c).In_ok-surveys)
@@ -54,7 +54,7 @@ pub returns-in_err-work : goal.returns-in_err-work
 returns-in_err-work g c =
     let names = map string_bytes c.args.inputs.now in
     let at = (goal.at.returns-in_err-work g c).In_ok-surveys in
-    let found = rw append-nil at (found-input most_frames names [] _ _ _ c.in_ok-surveys.ensures.inputs (some g at) (ap₂ seen c.survey_all.ensures.files c.in_ok-surveys.ensures.done)) in
+    let found = rw append-nil at (found-input most_frames names [] _ _ _ c.in_ok-surveys.ensures.inputs (some g at) (ap₂ seen c.survey_all.ensures.reads.files c.in_ok-surveys.ensures.reads.done)) in
     record {
       done = search rules;
       left = err_with _ _ c.from_residual-in_err-work.ensures.1 (early_left (join_task names) c.args.output.now (sym c.clash.ensures ∙ c.in_default.is) (join-late names) _ _ Memory found);
@@ -70,9 +70,9 @@ returns g c =
     let output = c.args.output.now in
     let at = (goal.at.returns g c).In_ok-surveys in
     let none = sym c.clash.ensures ∙ c.in_default.is in
-    let mid = seen (g.D.Folder.files c.survey_all.new.folder) (g.D.Folder.counts c.survey_all.new.folder) in
-    let same = ap₂ seen c.survey_all.ensures.files c.in_ok-surveys.ensures.done in
-    let made = making g at _ _ c.survey_all.ensures.files c.as_slice-known.ensures.value in
+    let mid = g.D.Folder.seen c.survey_all.new.folder in
+    let same = ap₂ seen c.survey_all.ensures.reads.files c.in_ok-surveys.ensures.reads.done in
+    let made = making g at _ _ c.survey_all.ensures.reads.files c.as_slice-known.ensures.value in
     record {
       done = one_done (join_task names) output none _ _ mid _ same made c.write_joined.ensures.touches c.write_joined.result c.write_joined.ensures.written c.write_joined.ensures.done;
       left = all_left (join_task names) output none _ _ mid _ same made c.write_joined.ensures.touches refl c.write_joined.result c.write_joined.ensures.left;

@@ -9,7 +9,7 @@ use Rattle.joining.proofs.laid.lay_all.Given as goal
 abbrev pub invariant-loop-i : goal.invariant-loop-i
 invariant-loop-i g l = record {
   within : l.at ≤ length l.placed;
-  laid : IsLaidTo (tells l.first.survey.now).class l.first.pass.input.now l.first.pass.output.now (all_laid (g.D.Folder.files l.fn.folder) (map string_bytes l.inputs) (map tells l.surveys) l.placed) (writing_in l.fn.buffers) (writing_in l.buffers)
-      (g.D.Folder.files l.fn.folder) (g.D.Folder.files l.folder) (drop l.i (map string_bytes l.inputs)) (drop l.i (map tells l.surveys)) (drop l.at l.placed);
-  counts : g.D.Folder.counts l.folder ≡ g.D.Folder.counts l.fn.folder;
+  laid : IsLaidTo (tells l.first.survey.now).class l.first.pass.input.now l.first.pass.output.now (all_laid (g.D.Folder.seen l.fn.folder).files (map string_bytes l.inputs) (map tells l.surveys) l.placed) (writing_in l.fn.buffers) (writing_in l.buffers)
+      (g.D.Folder.seen l.fn.folder).files (g.D.Folder.seen l.folder).files (drop l.i (map string_bytes l.inputs)) (drop l.i (map tells l.surveys)) (drop l.at l.placed);
+  counts : (g.D.Folder.seen l.folder).counts ≡ (g.D.Folder.seen l.fn.folder).counts;
 }

@@ -7,8 +7,8 @@ use Rattle.joining.proofs.surveys.survey_all.Given as goal
 
 abbrev pub invariant-loop-place : goal.invariant-loop-place
 invariant-loop-place g l = record {
-  surveyed : AreInputs None most_frames (g.D.Folder.files l.fn.folder) (take l.place (map string_bytes l.inputs)) (map tells l.surveys.items);
+  surveyed : AreInputs None most_frames (g.D.Folder.seen l.fn.folder).files (take l.place (map string_bytes l.inputs)) (map tells l.surveys.items);
   allowed : l.left + frames_of (map tells l.surveys.items) ≡ most_frames;
-  files : g.D.Folder.files l.folder ≡ g.D.Folder.files l.fn.folder;
-  counts : g.D.Folder.counts l.folder ≡ g.D.Folder.counts l.fn.folder;
+  files : (g.D.Folder.seen l.folder).files ≡ (g.D.Folder.seen l.fn.folder).files;
+  counts : (g.D.Folder.seen l.folder).counts ≡ (g.D.Folder.seen l.fn.folder).counts;
 }

@@ -1,10 +1,8 @@
 -- What is before the frames is written whole.
 use Rattle.std.proofs.Common.{◌≡◌, ℕ, List, [], ◌++◌, ap, sym, ◌∙◌, append-nil}
-use Rattle.std.specs.Prelude.{Result, Ok, Err, OnOk}
 use Rattle.outside.specs.Files.{Files, appended}
 use Rattle.outside.specs.Pass.{Writes, Appends}
 use Rattle.outside.specs.declared.pass.Pass.{Pass}
-use Rattle.outside.specs.declared.pass.PassFault.{PassFault}
 use Rattle.outside.proofs.PassedLaws.{err_by}
 use Rattle.outside.proofs.PassLaws.{writes_behind_none, part_behind_none}
 use Rattle.frame_writer.proofs.WritingLaws.{ok-both}
@@ -25,8 +23,8 @@ all_appended {pass} {made} {mid} {old} {new} w none = record {
 pub returns-clause-written : goal.returns-clause-written
 returns-clause-written g c =
     ok-both c.write_front.result (λ w none. all_appended (writes_behind_none c.requires.none w) none)
-    c.write_front.ensures.written c.write_front.ensures.none
+    c.write_front.ensures.adds.written c.write_front.ensures.none
 
 pub returns-clause-prefix : goal.returns-clause-prefix
 returns-clause-prefix g c =
-    err_by c.write_front.result (λ fault part. part_behind_none c.requires.none part) c.write_front.ensures.prefix
+    err_by c.write_front.result (λ fault part. part_behind_none c.requires.none part) c.write_front.ensures.adds.prefix

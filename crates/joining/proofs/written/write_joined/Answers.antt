@@ -20,38 +20,44 @@ pub known_at-survey-requires : goal.known_at-survey-requires
 known_at-survey-requires g c = omega (arith, can-some _ c.requires.ready.joined, length-map c.args.surveys.now tells)
 
 -- the inputs, beside the output that was created
-sources : (g : given.Over) (c : In-Ok g) → AreSources (tells c.known_at-survey.result.now).class c.args.output.now (g.D.Folder.files c.args.folder.now) (map string_bytes c.args.inputs.now) (map tells c.args.surveys.now)
+sources : (g : given.Over) (c : In-Ok g) → AreSources (tells c.known_at-survey.result.now).class c.args.output.now (g.D.Folder.seen c.args.folder.now).files (map string_bytes c.args.inputs.now) (map tells c.args.surveys.now)
 sources g c =
     sources-inputs _ c.args.output.now 0 None most_frames _ _ _ c.requires.apart (rw c.known_at-survey.ensures (alike-first _ _ (rw c.known_at-survey.ensures at c.requires.ready.joined))) c.requires.inputs
 
-beside : (g : given.Over) (c : In-Ok g) → AreSources (tells c.known_at-survey.result.now).class c.args.output.now (g.D.Folder.files c.create.new.self) (map string_bytes c.args.inputs.now) (map tells c.args.surveys.now)
-    × (told_parts (g.D.Folder.files c.create.new.self) (map string_bytes c.args.inputs.now) (map tells c.args.surveys.now) ≡ told_parts (g.D.Folder.files c.args.folder.now) (map string_bytes c.args.inputs.now) (map tells c.args.surveys.now))
-beside g c = sources-beside _ _ _ _ _ _ (rw c.in-Ok.ensures.created (emptied_touches _ _)) (sources g c)
+beside : (g : given.Over) (c : In-Ok g) → AreSources (tells c.known_at-survey.result.now).class c.args.output.now (g.D.Folder.seen c.create.new.self).files (map string_bytes c.args.inputs.now) (map tells c.args.surveys.now)
+    × (told_parts (g.D.Folder.seen c.create.new.self).files (map string_bytes c.args.inputs.now) (map tells c.args.surveys.now) ≡ told_parts (g.D.Folder.seen c.args.folder.now).files (map string_bytes c.args.inputs.now) (map tells c.args.surveys.now))
+beside g c = sources-beside _ _ _ _ _ _ (rw c.in-Ok.ensures.answer.created (emptied_touches _ _)) (sources g c)
 
 apart : (g : given.Over) (c : In-Ok g) → c.name_at.result.now ≢ c.args.output.now
 apart g c = (first-source _ c.name_at.ensures c.known_at-survey.ensures (sources g c)).apart
 
-pub append_joined-requires-clause-sources : goal.append_joined-requires-clause-sources
-append_joined-requires-clause-sources g c = (beside g (goal.at.append_joined-requires-clause-sources g c).In-Ok).0
-
-pub append_joined-requires-clause-target : goal.append_joined-requires-clause-target
-append_joined-requires-clause-target g c = rw c.in-Ok.ensures.created (emptied_there (g.D.Folder.files c.args.folder.now) c.args.output.now)
+pub append_joined-requires-clause-join : goal.append_joined-requires-clause-join
+append_joined-requires-clause-join g c =
+    let at = (goal.at.append_joined-requires-clause-join g c).In-Ok in
+    record {
+      names = c.name_at.ensures;
+      known = c.known_at-survey.ensures;
+      length = c.length.ensures;
+      apart = apart g at;
+      sources = (beside g at).0;
+      target = rw c.in-Ok.ensures.answer.created (emptied_there (g.D.Folder.seen c.args.folder.now).files c.args.output.now);
+    }
 
 pub returns-in-Ok-append_joined-clause-written : goal.returns-in-Ok-append_joined-clause-written
 returns-in-Ok-append_joined-clause-written g c =
     let at = (goal.at.returns-in-Ok-append_joined-clause-written g c).In-Ok in
-    let old = g.D.Folder.files c.args.folder.now in
+    let old = (g.D.Folder.seen c.args.folder.now).files in
     λ bytes holds.
-    output_whole _ c.name_at.result.now c.args.output.now (apart g at) old _ _ c.in-Ok.ensures.created c.in-Ok-append_joined.ensures.written bytes (rw c.name_at.ensures at holds)
+    output_whole _ c.name_at.result.now c.args.output.now (apart g at) old _ _ c.in-Ok.ensures.answer.created c.in-Ok-append_joined.ensures.written bytes (rw c.name_at.ensures at holds)
     ∙ ap (λ (ps : List Part). holding old c.args.output.now (joined_file ps)) (beside g at).1
 
 pub returns-in-Ok-append_joined-clause-touches : goal.returns-in-Ok-append_joined-clause-touches
 returns-in-Ok-append_joined-clause-touches g c =
-    touches_whole _ c.name_at.result.now c.args.output.now (apart g (goal.at.returns-in-Ok-append_joined-clause-touches g c).In-Ok) _ _ _ c.in-Ok.ensures.created c.in-Ok-append_joined.ensures.written
+    touches_whole _ c.name_at.result.now c.args.output.now (apart g (goal.at.returns-in-Ok-append_joined-clause-touches g c).In-Ok) _ _ _ c.in-Ok.ensures.answer.created c.in-Ok-append_joined.ensures.written
 
 pub returns-in-Err-clause-touches : goal.returns-in-Err-clause-touches
 returns-in-Err-clause-touches g c =
-    touches_prefix _ c.name_at.result.now c.args.output.now (apart g (goal.at.returns-in-Err-clause-touches g c).In-Ok) _ _ _ c.in-Ok.ensures.created c.in-Err.ensures.prefix
+    touches_prefix _ c.name_at.result.now c.args.output.now (apart g (goal.at.returns-in-Err-clause-touches g c).In-Ok) _ _ _ c.in-Ok.ensures.answer.created c.in-Err.ensures.prefix
 
 pub returns-in-Err-clause-left : goal.returns-in-Err-clause-left
 returns-in-Err-clause-left g c =
@@ -59,18 +65,18 @@ returns-in-Err-clause-left g c =
     let cause = c.in-Err.ensures.cause in
     let part = appends-as_prefix _ _ (λ file holds. ap joined_file (beside g at).1) c.in-Err.ensures.prefix in
     rw c.fault.ensures
-    (pass_fault_over _ c.name_at.result.now c.args.output.now (apart g at) _ _ _ c.in-Ok.ensures.created (map string_bytes c.args.inputs.now) (ap first_input c.name_at.ensures) c.in-Err.stopped.place c.in-Err.stopped.fault cause.size
-    (g.D.Folder.counts c.args.folder.now) _ _ c.in-Ok.ensures.done part cause.cause)
+    (pass_fault_over _ c.name_at.result.now c.args.output.now (apart g at) _ _ _ c.in-Ok.ensures.answer.created (map string_bytes c.args.inputs.now) (ap first_input c.name_at.ensures) c.in-Err.stopped.place c.in-Err.stopped.fault cause.size
+    (g.D.Folder.seen c.args.folder.now).counts _ _ c.in-Ok.ensures.answer.done part cause.cause)
 
 -- the output wasn't created
 pub returns-in_default-clause-touches : goal.returns-in_default-clause-touches
-returns-in_default-clause-touches g c = fails_touches _ _ c.args.output.now c.in_default.ensures.kept
+returns-in_default-clause-touches g c = fails_touches _ _ c.args.output.now c.in_default.ensures.answer.kept
 
 pub returns-in_default-clause-left : goal.returns-in_default-clause-left
 returns-in_default-clause-left g c = (
   refl,
   record {
-    rose = c.in_default.ensures.failed;
-    files = not_begun (λ _. joined_file (told_parts (g.D.Folder.files c.args.folder.now) (map string_bytes c.args.inputs.now) (map tells c.args.surveys.now))) (first_input (map string_bytes c.args.inputs.now)) c.args.output.now _ _ c.in_default.ensures.kept;
+    rose = c.in_default.ensures.answer.failed;
+    files = not_begun (λ _. joined_file (told_parts (g.D.Folder.seen c.args.folder.now).files (map string_bytes c.args.inputs.now) (map tells c.args.surveys.now))) (first_input (map string_bytes c.args.inputs.now)) c.args.output.now _ _ c.in_default.ensures.answer.kept;
   },
 )

@@ -51,7 +51,7 @@ returns-then-lost-clause-size c = ap length c.empty.ensures ∙ ap (λ lost. con
 
 pub returns-else-lost-clause-size : goal.returns-else-lost-clause-size
 returns-else-lost-clause-size c =
-    (c.main_data_with.ensures.payload c.args.window.now ([], refl)).few
+    (c.main_data_with.ensures.payload c.args.held.now.window.now ([], refl)).few
     ∙ size_is (goal.at.returns-else-lost-clause-size c).After-from-begin
     ∙ ap (λ lost. cond lost 0 (payload_bytes c.args.row.now.side)) (sym c.if-lost.false ∙ c.lost.ensures)
 
@@ -60,13 +60,13 @@ returns-else-lost-clause-told c = λ file passed long is.
     let at = (goal.at.returns-else-lost-clause-told c).After-from-begin in
     let s = tells c.args.survey.now in
     let row = c.args.row.now in
-    let own = c.args.own.now in
-    let last = c.args.before.now in
-    let held = passed ++ c.args.window.now in
+    let own = c.args.held.now.own.now in
+    let last = c.args.held.now.before.now in
+    let held = passed ++ c.args.held.now.window.now in
     let main = (held ++ last) ++ own in
     let begin = c.from-begin.result in
     let bits = c.args.extent.now.bits in
-    let many : length held ≡ length passed + length c.args.window.now = length-append passed c.args.window.now in
+    let many : length held ≡ length passed + length c.args.held.now.window.now = length-append passed c.args.held.now.window.now in
     let all : length main ≡ length held + length last + length own = length-append (held ++ last) own ∙ ap (λ n. n + length own) (length-append held last) in
     let start : length held + length last - begin ≡ length main - length own - begin = omega (arith, all) in
     cut-is file main c.main_data_with.result s c.args.i row (length own) begin bits c.requires.found (sym c.lost.ensures ∙ c.if-lost.false) (within at)

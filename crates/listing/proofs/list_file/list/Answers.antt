@@ -1,9 +1,8 @@
 -- What the command leaves, by the survey and what was sent of the listing.
 use Rattle.std.specs.Prelude.{IfErr, OnOk}
 use Rattle.sync_survey.specs.Faults.{tells}
-use Rattle.commands.specs.Left.{seen, IsDone, Leaves, HasNumbers}
+use Rattle.commands.specs.Left.{IsDone, Leaves, HasNumbers}
 use Rattle.commands.specs.Command.{HoldsStreams}
-use Rattle.commands.specs.Said.{heard}
 use Rattle.listing.specs.Listing.{list_command}
 use Rattle.commands.proofs.RefusingLaws.{err_with}
 use Rattle.listing.proofs.ListLaws.{survey_left, is_done, unsent, holds_streams, told_by, says}
@@ -16,26 +15,26 @@ returns-in_err-survey-clause-left g c =
 pub returns-clause-done : goal.returns-clause-done
 returns-clause-done g c =
     let known = c.in_ok-survey.ensures in
-    let old = seen (g.D.Folder.files c.args.folder.now) (g.D.Folder.counts c.args.folder.now) in
-    let new = seen (g.D.Folder.files c.survey_at.new.folder) (g.D.Folder.counts c.survey_at.new.folder) in
+    let old = g.D.Folder.seen c.args.folder.now in
+    let new = g.D.Folder.seen c.survey_at.new.folder in
     told_by (λ r. OnOk r (IsDone (list_command c.args.input.now) old new))
-    (λ x. is_done c.args.input.now (g.D.Folder.files c.args.folder.now) _ _ _ c.survey_at.ensures.files known.done (tells c.in_ok-survey.survey) known.there known.surveyed)
+    (λ x. is_done c.args.input.now (g.D.Folder.seen c.args.folder.now).files _ _ _ c.survey_at.ensures.reads.files known.reads.done (tells c.in_ok-survey.survey) known.there known.surveyed)
     tt c.tell.result c.tell.ensures.fault
 
 pub returns-clause-streams : goal.returns-clause-streams
 returns-clause-streams g c =
     let known = c.in_ok-survey.ensures in
-    told_by (λ r. OnOk r (HoldsStreams (list_command c.args.input.now) (g.D.Folder.files c.args.folder.now)))
-    (λ x. holds_streams c.args.input.now (g.D.Folder.files c.args.folder.now) _ _ _ c.survey_at.ensures.files known.done (tells c.in_ok-survey.survey) known.there known.surveyed)
+    told_by (λ r. OnOk r (HoldsStreams (list_command c.args.input.now) (g.D.Folder.seen c.args.folder.now).files))
+    (λ x. holds_streams c.args.input.now (g.D.Folder.seen c.args.folder.now).files _ _ _ c.survey_at.ensures.reads.files known.reads.done (tells c.in_ok-survey.survey) known.there known.surveyed)
     tt c.tell.result c.tell.ensures.fault
 
 pub returns-clause-left : goal.returns-clause-left
 returns-clause-left g c =
     let known = c.in_ok-survey.ensures in
-    let old = seen (g.D.Folder.files c.args.folder.now) (g.D.Folder.counts c.args.folder.now) in
-    let new = seen (g.D.Folder.files c.survey_at.new.folder) (g.D.Folder.counts c.survey_at.new.folder) in
+    let old = g.D.Folder.seen c.args.folder.now in
+    let new = g.D.Folder.seen c.survey_at.new.folder in
     told_by (λ r. IfErr r (Leaves (list_command c.args.input.now) old new)) (λ x. tt)
-    (unsent c.args.input.now (g.D.Folder.files c.args.folder.now) _ _ _ c.survey_at.ensures.files known.done (tells c.in_ok-survey.survey) known.there known.surveyed)
+    (unsent c.args.input.now (g.D.Folder.seen c.args.folder.now).files _ _ _ c.survey_at.ensures.reads.files known.reads.done (tells c.in_ok-survey.survey) known.there known.surveyed)
     c.tell.result c.tell.ensures.fault
 
 pub returns-clause-numbers : goal.returns-clause-numbers
@@ -45,5 +44,5 @@ pub returns-clause-says : goal.returns-clause-says
 returns-clause-says g c =
     let known = c.in_ok-survey.ensures in
     let sink = g.T.Sink in
-    says c.args.input.now (g.D.Folder.files c.args.folder.now) (tells c.in_ok-survey.survey) known.there known.surveyed (heard (sink.sent c.args.out.now) (sink.faults c.args.out.now))
-    (heard (sink.sent c.tell.new.out) (sink.faults c.tell.new.out)) c.tell.result c.tell.ensures.fault c.tell.ensures.sent c.tell.ensures.prefix c.tell.ensures.cause
+    says c.args.input.now (g.D.Folder.seen c.args.folder.now).files (tells c.in_ok-survey.survey) known.there known.surveyed (sink.heard c.args.out.now)
+    (sink.heard c.tell.new.out) c.tell.result c.tell.ensures.fault c.tell.ensures.sent c.tell.ensures.prefix c.tell.ensures.cause

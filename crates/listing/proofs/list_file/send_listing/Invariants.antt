@@ -8,8 +8,8 @@ use Rattle.listing.proofs.list_file.send_listing.Given as goal
 
 abbrev pub invariant-loop-things : goal.invariant-loop-things
 invariant-loop-things g l = record {
-  done : g.T.Sink.faults l.out ≡ g.T.Sink.faults l.initial.out;
-  listed : IsSaidTo line_of (in_order (things_of (tells l.survey))) (left l.things) l.buffer (g.T.Sink.sent l.initial.out) (g.T.Sink.sent l.out);
+  done : (g.T.Sink.heard l.out).faults ≡ (g.T.Sink.heard l.initial.out).faults;
+  listed : IsSaidTo line_of (in_order (things_of (tells l.survey))) (left l.things) l.buffer (g.T.Sink.heard l.initial.out).sent (g.T.Sink.heard l.out).sent;
 }
 
 abbrev pub decreases-loop-things : goal.decreases-loop-things

@@ -1,5 +1,5 @@
 -- The bytes up to the junk, then those from the first frame on, and what still waits.
-use Rattle.std.proofs.Common.{◌≡◌, ◌++◌, List, [], ℕ, Option, length, refl, sym, ◌∙◌, ap, ap₂, subst, arith, Ok, append-nil}
+use Rattle.std.proofs.Common.{rules, ◌≡◌, ◌++◌, List, [], ℕ, Option, length, refl, sym, ◌∙◌, ap, ap₂, subst, arith, Ok, append-nil}
 use Rattle.std.specs.Prelude.{IfErr}
 use Rattle.std.proofs.lemmas.Result.{err_from_is_err_and, on_ok_weaker}
 use Rattle.outside.specs.Pass.{Writes, route, HasPassCause}
@@ -50,15 +50,19 @@ copy-requires-clause-within g c =
     let s = tells c.args.survey.now in
     omega (arith, c.length.ensures, ap (λ r. r.0) c.junk-junk.ensures, c.requires.laid.junk, laid_end s.first s.frames s.length c.requires.laid.frames)
 
-pub returns-in_err-copy-clause-prefix : goal.returns-in_err-copy-clause-prefix
-returns-in_err-copy-clause-prefix g c =
-    let s = tells c.args.survey.now in
-    let change = change_in c.args.change.now s in
-    err_at c.from_residual.result _ c.from_residual.ensures.1
-    (part_behind_none c.requires.fresh.none
-    (prefix_as (record { input = c.args.input; output = c.args.output; length = c.length.result }) (λ file. changed change file s) (λ file. written_from change.steps c.new_tag.result file s.first s.frames)
-    (λ file holds. sym (are_changed c.args.change.now c.new_tag.result file s c.junk-junk.result.0 s.first s.frames c.new_tag.ensures (ap (λ r. r.0) c.junk-junk.ensures) refl refl (c.requires.exact file holds)))
-    c.in_err-copy.ensures.prefix))
+pub returns-in_err-copy : goal.returns-in_err-copy
+returns-in_err-copy g c = record {
+  written = search rules;
+  prefix = let s = tells c.args.survey.now in
+      let change = change_in c.args.change.now s in
+      err_at c.from_residual.result _ c.from_residual.ensures.1
+      (part_behind_none c.requires.fresh.none
+      (prefix_as (record { input = c.args.input; output = c.args.output; length = c.length.result }) (λ file. changed change file s) (λ file. written_from change.steps c.new_tag.result file s.first s.frames)
+      (λ file holds. sym (are_changed c.args.change.now c.new_tag.result file s c.junk-junk.result.0 s.first s.frames c.new_tag.ensures (ap (λ r. r.0) c.junk-junk.ensures) refl refl (c.requires.exact file holds)))
+      c.in_err-copy.ensures.prefix));
+  done = search rules;
+  cause = search rules;
+}
 
 pub move_frames-requires-clause-told : goal.move_frames-requires-clause-told
 move_frames-requires-clause-told g c file holds =
@@ -66,23 +70,23 @@ move_frames-requires-clause-told g c file holds =
     let held = writes_held _ c.requires.apart c.in_ok-copy.ensures.written file holds in
     subst (AreRowsOf file) (sym c.frames.ensures) (survey_of-rows file most_frames s (c.requires.exact file held))
 
-pub returns-in_err-move_frames-clause-prefix : goal.returns-in_err-move_frames-clause-prefix
-returns-in_err-move_frames-clause-prefix g c =
-    let s = tells c.args.survey.now in
-    let first = c.first.result in
-    let rows = c.frames.result.now in
-    let parts = both (steps_over c.args.change.now.course rows) c.new_tag.result c.junk-junk.result.0 first rows in
-    err_at c.from_residual-in_err-move_frames.result _ c.from_residual-in_err-move_frames.ensures.1
-    (part_behind_none c.requires.fresh.none
-    (prefix_as (record { input = c.args.input; output = c.args.output; length = c.length.result }) (λ file. changed (change_in c.args.change.now s) file s) (λ file. [])
-    (λ file holds. sym (append-nil (parts file) ∙ are_changed c.args.change.now _ file s _ first rows c.new_tag.ensures (ap (λ r. r.0) c.junk-junk.ensures) c.first.ensures c.frames.ensures (c.requires.exact file holds)))
-    (prefix_then _ c.requires.apart c.in_ok-copy.ensures.written c.in_err-move_frames.ensures.prefix)))
-
-pub returns-in_err-move_frames-clause-cause : goal.returns-in_err-move_frames-clause-cause
-returns-in_err-move_frames-clause-cause g c =
-    let p = err_from_is_err_and c.from_residual-in_err-move_frames.result c.from_residual-in_err-move_frames.ensures.1 in
-    let cause = subst (λ n. HasPassCause (route c.args.input.now c.args.output.now n) (g.D.Folder.files c.copy.new.folder) (g.D.Folder.counts c.copy.new.folder) (g.D.Folder.counts c.move_frames.new.folder) c.in_err-move_frames.field-0.0) c.length.ensures c.in_err-move_frames.ensures.cause in
-    rw (p.1, p.2) (cause_behind c.in_ok-copy.ensures.written _ _ _ _ c.in_ok-copy.ensures.done _ cause)
+pub returns-in_err-move_frames : goal.returns-in_err-move_frames
+returns-in_err-move_frames g c = record {
+  written = search rules;
+  prefix = let s = tells c.args.survey.now in
+      let first = c.first.result in
+      let rows = c.frames.result.now in
+      let parts = both (steps_over c.args.change.now.course rows) c.new_tag.result c.junk-junk.result.0 first rows in
+      err_at c.from_residual-in_err-move_frames.result _ c.from_residual-in_err-move_frames.ensures.1
+      (part_behind_none c.requires.fresh.none
+      (prefix_as (record { input = c.args.input; output = c.args.output; length = c.length.result }) (λ file. changed (change_in c.args.change.now s) file s) (λ file. [])
+      (λ file holds. sym (append-nil (parts file) ∙ are_changed c.args.change.now _ file s _ first rows c.new_tag.ensures (ap (λ r. r.0) c.junk-junk.ensures) c.first.ensures c.frames.ensures (c.requires.exact file holds)))
+      (prefix_then _ c.requires.apart c.in_ok-copy.ensures.written c.in_err-move_frames.ensures.prefix)));
+  done = search rules;
+  cause = let p = err_from_is_err_and c.from_residual-in_err-move_frames.result c.from_residual-in_err-move_frames.ensures.1 in
+      let cause = subst (λ n. HasPassCause (route c.args.input.now c.args.output.now n) (g.D.Folder.seen c.copy.new.folder).files (g.D.Folder.seen c.copy.new.folder).counts (g.D.Folder.seen c.move_frames.new.folder).counts c.in_err-move_frames.field-0.0) c.length.ensures c.in_err-move_frames.ensures.cause in
+      rw (p.1, p.2) (cause_behind c.in_ok-copy.ensures.written _ _ _ _ c.in_ok-copy.ensures.done _ cause);
+}
 
 pub finish-requires : goal.finish-requires
 finish-requires g c =
@@ -92,7 +96,7 @@ finish-requires g c =
 -- once the frames went on, what waits is the end of the changed file
 moved : (g : given.Over) (c : In_ok-move_frames g)
     → Writes (record { input = c.args.input; output = c.args.output; length = c.length.result }) (λ file. changed (change_in c.args.change.now (tells c.args.survey.now)) file (tells c.args.survey.now)) [] c.move_frames.new.buffers.waiting
-    (g.D.Folder.files c.args.folder.now) (g.D.Folder.files c.move_frames.new.folder)
+    (g.D.Folder.seen c.args.folder.now).files (g.D.Folder.seen c.move_frames.new.folder).files
 moved g c =
     let s = tells c.args.survey.now in
     writes_behind_none c.requires.fresh.none
@@ -100,17 +104,15 @@ moved g c =
     (λ file holds. are_changed c.args.change.now c.new_tag.result file s c.junk-junk.result.0 c.first.result c.frames.result.now c.new_tag.ensures (ap (λ r. r.0) c.junk-junk.ensures) c.first.ensures c.frames.ensures (c.requires.exact file holds))
     (writes_then _ c.requires.apart c.in_ok-copy.ensures.written c.in_ok-move_frames.ensures.written))
 
-pub returns-clause-written : goal.returns-clause-written
-returns-clause-written g c = on_ok_weaker c.finish.result (writes_all _ _ (moved g (goal.at.returns-clause-written g c).In_ok-move_frames)) c.finish.ensures.appended
-
-pub returns-clause-prefix : goal.returns-clause-prefix
-returns-clause-prefix g c = err_by c.finish.result (λ fault. writes_end _ _ (moved g (goal.at.returns-clause-prefix g c).In_ok-move_frames)) c.finish.ensures.prefix
-
-pub returns-clause-cause : goal.returns-clause-cause
-returns-clause-cause g c =
-    let cause = subst (λ n. IfErr c.finish.result (HasPassCause (route c.args.input.now c.args.output.now n) (g.D.Folder.files c.move_frames.new.folder) (g.D.Folder.counts c.move_frames.new.folder) (g.D.Folder.counts c.finish.new.folder))) c.length.ensures c.finish.ensures.cause in
-    causes_behind c.in_ok-copy.ensures.written _ _ _ _ c.in_ok-copy.ensures.done c.finish.result
-    (causes_behind c.in_ok-move_frames.ensures.written _ _ _ _ c.in_ok-move_frames.ensures.done c.finish.result cause)
+pub returns : goal.returns
+returns g c = record {
+  written = on_ok_weaker c.finish.result (writes_all _ _ (moved g (goal.at.returns g c).In_ok-move_frames)) c.finish.ensures.appended;
+  prefix = err_by c.finish.result (λ fault. writes_end _ _ (moved g (goal.at.returns g c).In_ok-move_frames)) c.finish.ensures.prefix;
+  done = search rules;
+  cause = let cause = subst (λ n. IfErr c.finish.result (HasPassCause (route c.args.input.now c.args.output.now n) (g.D.Folder.seen c.move_frames.new.folder).files (g.D.Folder.seen c.move_frames.new.folder).counts (g.D.Folder.seen c.finish.new.folder).counts)) c.length.ensures c.finish.ensures.cause in
+      causes_behind c.in_ok-copy.ensures.written _ _ _ _ c.in_ok-copy.ensures.done c.finish.result
+      (causes_behind c.in_ok-move_frames.ensures.written _ _ _ _ c.in_ok-move_frames.ensures.done c.finish.result cause);
+}
 
 pub move_frames-requires-clause-numbered : goal.move_frames-requires-clause-numbered
 move_frames-requires-clause-numbered g c = subst AreNumbered (sym c.frames.ensures) (out_numbered (tells c.args.survey.now) c.requires.laid)

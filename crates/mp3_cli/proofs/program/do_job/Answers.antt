@@ -17,16 +17,16 @@ some_version e = absurd cc
 
 pub returns-in-Help-clause-ends : goal.returns-in-Help-clause-ends
 returns-in-Help-clause-ends g c =
-    rw c.in-Help.is (said_ends help_text some_help _ c.say_help.result _ _ (c.say_help.ensures.says (g.D.Folder.files c.args.folder.now)) (sent_alone c.say_help.result c.say_help.ensures.fault))
+    rw c.in-Help.is (said_ends help_text some_help _ c.say_help.result _ _ (c.say_help.ensures.says (g.D.Folder.seen c.args.folder.now).files) (sent_alone c.say_help.result c.say_help.ensures.fault))
 
 pub returns-in-Version-clause-ends : goal.returns-in-Version-clause-ends
 returns-in-Version-clause-ends g c =
-    rw c.in-Version.is (said_ends version_text some_version _ c.say_version.result _ _ (c.say_version.ensures.says (g.D.Folder.files c.args.folder.now)) (sent_alone c.say_version.result c.say_version.ensures.fault))
+    rw c.in-Version.is (said_ends version_text some_version _ c.say_version.result _ _ (c.say_version.ensures.says (g.D.Folder.seen c.args.folder.now).files) (sent_alone c.say_version.result c.say_version.ensures.fault))
 
 pub returns-in-Drill-clause-ends : goal.returns-in-Drill-clause-ends
 returns-in-Drill-clause-ends g c =
     rw c.in-Drill.is
-    (said_ends (drill_text c.in-Drill.seed c.in-Drill.count) (drill_text-some c.in-Drill.seed c.in-Drill.count) _ c.drill.result _ _ (c.drill.ensures.says (g.D.Folder.files c.args.folder.now)) c.drill.ensures.fault)
+    (said_ends (drill_text c.in-Drill.seed c.in-Drill.count) (drill_text-some c.in-Drill.seed c.in-Drill.count) _ c.drill.result _ _ (c.drill.ensures.says (g.D.Folder.seen c.args.folder.now).files) c.drill.ensures.fault)
 
 pub returns-in-Gain-clause-ends : goal.returns-in-Gain-clause-ends
 returns-in-Gain-clause-ends g c = rw c.in-Gain.is (run_ends _ (one_silent _ _) c.gain.result _ _ _ c.gain.ensures)

@@ -10,8 +10,8 @@ pub loop-done-preserved : goal.loop-done-preserved
 loop-done-preserved g c =
     let bytes = c.args.bytes.now in
     record {
-      in_range = omega (arith, rw part_from at c.in_ok-done.ensures.bound, length-drop c.loop-done.done bytes);
-      sent = sent_then _ _ _ bytes _ _ c.loop-done.invariant.sent (rw part_from at c.in_ok-done.ensures.written);
-      later = omega (arith, c.loop-done.invariant.later, c.in_ok-done.ensures.cause.later);
-      done = c.in_ok-done.ensures.cause.done ∙ c.loop-done.invariant.done;
+      in_range = omega (arith, rw part_from at c.in_ok-done.ensures.answer.bound, length-drop c.loop-done.done bytes);
+      sent = sent_then _ _ _ bytes _ _ c.loop-done.invariant.sent (rw part_from at c.in_ok-done.ensures.answer.written);
+      later = omega (arith, c.loop-done.invariant.later, c.in_ok-done.ensures.answer.cause.later);
+      done = c.in_ok-done.ensures.answer.cause.done ∙ c.loop-done.invariant.done;
     }

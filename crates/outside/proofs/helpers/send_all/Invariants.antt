@@ -5,9 +5,9 @@ use Rattle.outside.proofs.helpers.send_all.Given as goal
 abbrev pub invariant-loop-done : goal.invariant-loop-done
 invariant-loop-done g l = record {
   in_range : l.done ≤ length l.bytes;
-  sent : g.T.Sink.sent l.sink ≡ sent_more (g.T.Sink.sent l.initial.sink) (take l.done l.bytes);
-  later : g.T.Sink.faults l.initial.sink ≤ g.T.Sink.faults l.sink;
-  done : g.T.Sink.faults l.sink ≡ g.T.Sink.faults l.initial.sink;
+  sent : (g.T.Sink.heard l.sink).sent ≡ sent_more (g.T.Sink.heard l.initial.sink).sent (take l.done l.bytes);
+  later : (g.T.Sink.heard l.initial.sink).faults ≤ (g.T.Sink.heard l.sink).faults;
+  done : (g.T.Sink.heard l.sink).faults ≡ (g.T.Sink.heard l.initial.sink).faults;
 }
 
 abbrev pub decreases-loop-done : goal.decreases-loop-done

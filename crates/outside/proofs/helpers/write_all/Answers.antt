@@ -14,14 +14,14 @@ loop-done-init g c = record {
 
 pub loop-done-preserved : goal.loop-done-preserved
 loop-done-preserved g c =
-    let files = g.D.Folder.files in
+    let seen = g.D.Folder.seen in
     let bytes = c.args.bytes.now in
     let name = c.args.name.now in
-    let written : files c.write.new.self ≡ appended (files c.args.folder.now) name (take (c.loop-done.done + c.in_ok-done.field-0) bytes) =
-    appended_then _ _ _ name bytes _ _ c.loop-done.invariant.written (rw part_from at c.in_ok-done.ensures.written) in
+    let written : (seen c.write.new.self).files ≡ appended (seen c.args.folder.now).files name (take (c.loop-done.done + c.in_ok-done.field-0) bytes) =
+    appended_then _ _ _ name bytes _ _ c.loop-done.invariant.written (rw part_from at c.in_ok-done.ensures.answer.written) in
     record {
-      in_range = omega (arith, rw part_from at c.in_ok-done.ensures.bound, length-drop c.loop-done.done bytes);
+      in_range = omega (arith, rw part_from at c.in_ok-done.ensures.answer.bound, length-drop c.loop-done.done bytes);
       written = written;
       there = subst (λ f. IsThere f name) (sym written) (appended_there _ name _);
-      counts = c.in_ok-done.ensures.done ∙ c.loop-done.invariant.counts;
+      counts = c.in_ok-done.ensures.answer.done ∙ c.loop-done.invariant.counts;
     }

@@ -5,9 +5,9 @@ use Rattle.outside.proofs.helpers.write_all.Given as goal
 abbrev pub invariant-loop-done : goal.invariant-loop-done
 invariant-loop-done g l = record {
   in_range : l.done ≤ length l.bytes;
-  written : g.D.Folder.files l.folder ≡ appended (g.D.Folder.files l.initial.folder) l.name (take l.done l.bytes);
-  there : IsThere (g.D.Folder.files l.folder) l.name;
-  counts : g.D.Folder.counts l.folder ≡ g.D.Folder.counts l.initial.folder;
+  written : (g.D.Folder.seen l.folder).files ≡ appended (g.D.Folder.seen l.initial.folder).files l.name (take l.done l.bytes);
+  there : IsThere (g.D.Folder.seen l.folder).files l.name;
+  counts : (g.D.Folder.seen l.folder).counts ≡ (g.D.Folder.seen l.initial.folder).counts;
 }
 
 abbrev pub decreases-loop-done : goal.decreases-loop-done

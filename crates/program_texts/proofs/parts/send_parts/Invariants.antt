@@ -5,4 +5,4 @@ use Rattle.program_texts.specs.Texts.{GotWhole}
 use Rattle.program_texts.proofs.parts.send_parts.Given as goal
 
 abbrev pub invariant-loop-part : goal.invariant-loop-part
-invariant-loop-part g l = GotWhole (g.T.Sink.sent l.initial.sink) (g.T.Sink.sent l.sink) (g.T.Sink.faults l.initial.sink) (g.T.Sink.faults l.sink) (flat_map (λ part. spelled_part (part_of part)) (take l.part-index l.parts))
+invariant-loop-part g l = GotWhole (g.T.Sink.heard l.initial.sink).sent (g.T.Sink.heard l.sink).sent (g.T.Sink.heard l.initial.sink).faults (g.T.Sink.heard l.sink).faults (flat_map (λ part. spelled_part (part_of part)) (take l.part-index l.parts))

@@ -4,4 +4,4 @@ use Rattle.program_texts.specs.Texts.{GotWhole}
 use Rattle.program_texts.proofs.parts.send_text.Given as goal
 
 abbrev pub invariant-loop-piece : goal.invariant-loop-piece
-invariant-loop-piece g l = GotWhole (g.T.Sink.sent l.initial.sink) (g.T.Sink.sent l.sink) (g.T.Sink.faults l.initial.sink) (g.T.Sink.faults l.sink) (flat_map (λ piece. piece.now) (take l.piece-index l.pieces))
+invariant-loop-piece g l = GotWhole (g.T.Sink.heard l.initial.sink).sent (g.T.Sink.heard l.sink).sent (g.T.Sink.heard l.initial.sink).faults (g.T.Sink.heard l.sink).faults (flat_map (λ piece. piece.now) (take l.piece-index l.pieces))

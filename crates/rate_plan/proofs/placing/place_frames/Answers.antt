@@ -16,10 +16,10 @@ use Rattle.rate_plan.proofs.placing.place_frames.Goals as goal
 pub loop-need-init : goal.loop-need-init
 loop-need-init c = record {
   room = c.in_ok-reserve.ensures.ok;
-  free = omega (arith, c.requires.free, c.window-window.ensures.window);
-  enough = c.requires.enough;
-  within = subst (λ n. AllWithin n (opens_in (from_menu c.args.menu.now) c.args.needs.now)) (sym c.window-window.ensures.window) c.requires.within;
-  behind = c.requires.behind;
+  free = omega (arith, c.requires.ready.most, c.window-window.ensures.window);
+  enough = c.requires.ready.enough;
+  within = subst (λ n. AllWithin n (opens_in (from_menu c.args.menu.now) c.args.needs.now)) (sym c.window-window.ensures.window) c.requires.ready.within;
+  behind = c.requires.ready.behind;
   placed = places-begun c.window-window.result c.args.free (map (item_of (from_menu c.args.menu.now)) c.args.needs.now) c.reserve.new.self.items;
 }
 
@@ -38,13 +38,13 @@ place_frame-frame-requires-clause-enough c =
     let wanted : ℕ = (need.bytes + c.unwrap_or-wanted.result) - c.loop-need.free in
     let enough : wanted ≤ greatest (areas_with c.args.class protected menu) =
     omega (arith, all, here, c.loop-need.invariant.enough, area-at c.args.class menu needs i need c.requires.class c.loop-need-test.true c.need-item.is) in
-    table-within table menu protected wanted c.in_ok-table.ensures.table c.requires.slots
-    (subst (λ k. wanted ≤ greatest (areas_with k protected menu)) (sym c.in_ok-table.ensures.class) enough)
+    table-within table menu protected wanted c.in_ok-table.ensures.of_slots c.requires.menu.slots
+    (subst (λ k. wanted ≤ greatest (areas_with k protected menu)) (sym c.in_ok-table.ensures.class_is) enough)
 
 -- the slot of a need, and its area
 pub free_behind-free-requires-clause-fits : goal.free_behind-free-requires-clause-fits
 free_behind-free-requires-clause-fits c =
-    let least = c.place_frame-frame.ensures.least c.args.menu.now c.in_ok-table.ensures.table in
+    let least = c.place_frame-frame.ensures.least c.args.menu.now c.in_ok-table.ensures.of_slots in
     omega (arith, least.enough, c.area_of-area.ensures.area, ap (λ n. area_of c.in_ok-table.table.lengths c.place_frame-frame.result.slot n.header.protected) c.need.view_is, ap (λ n. n.bytes) c.need.view_is)
 
 pub loop-need-preserved : goal.loop-need-preserved
@@ -59,8 +59,8 @@ loop-need-preserved c =
     let next = next-wanted choices needs i need c.loop-need.behind.items c.pop.new.self.items c.loop-need.behind.len c.pop.result c.unwrap_or-wanted.result
     c.loop-need-test.true c.need-item.is c.loop-need.invariant.behind (omega arith) c.pop.ensures.items c.pop.ensures.value c.unwrap_or-wanted.ensures in
     let within = next-within window choices needs i need c.loop-need-test.true c.need-item.is c.loop-need.invariant.within in
-    let class = c.in_ok-table.ensures.class ∙ sym same in
-    let least = subst (λ k. IsLeastSlot ((need.bytes + c.unwrap_or-wanted.result) - c.loop-need.free) k need.header.protected c.args.menu.now slot) class (c.place_frame-frame.ensures.least c.args.menu.now c.in_ok-table.ensures.table) in
+    let class = c.in_ok-table.ensures.class_is ∙ sym same in
+    let least = subst (λ k. IsLeastSlot ((need.bytes + c.unwrap_or-wanted.result) - c.loop-need.free) k need.header.protected c.args.menu.now slot) class (c.place_frame-frame.ensures.least c.args.menu.now c.in_ok-table.ensures.of_slots) in
     let area : c.area_of-area.result ≡ area_of (class_of need.header) slot need.header.protected =
     c.area_of-area.ensures.area ∙ ap (λ n. area_of c.in_ok-table.table.lengths slot n.header.protected) c.need.view_is ∙ ap (λ k. area_of k slot need.header.protected) class in
     let free : c.free_behind-free.result ≡ free_behind window c.loop-need.free need.bytes (area_of (class_of need.header) slot need.header.protected) =

@@ -19,17 +19,17 @@ returns-then-need-free c =
     let need = c.index-needs-i.result in
     let area : c.area-area.result ≡ most_area c.args.menu.now need =
     c.area-area.ensures ∙ ap (λ n. largest_for c.of_menu-largest.result n.header.protected) c.need.view_is
-    ∙ c.of_menu-largest.ensures.are need.header.protected ∙ area-at c.args.class c.args.menu.now c.args.needs.now c.loop-i.i need c.requires.class c.loop-i-test.true c.index-needs-i.is in
+    ∙ c.of_menu-largest.ensures.are need.header.protected ∙ area-at c.args.class c.args.menu.now c.args.needs.now c.loop-i.i need c.requires.needs.class_is c.loop-i-test.true c.index-needs-i.is in
     subst (λ n. IsUnfit n c.args.menu.now c.args.needs.now c.loop-i.i) c.window-window.ensures.window
     (to-unfit c.window-window.result c.args.class c.args.menu.now c.args.needs.now c.loop-i.i need c.loop-i.free c.loop-i-test.true c.index-needs-i.is
-    (omega (arith, c.if-need-free.true, area, ap (λ n. n.bytes) c.need.view_is)) c.requires.class c.requires.slots c.loop-i.invariant.fit)
+    (omega (arith, c.if-need-free.true, area, ap (λ n. n.bytes) c.need.view_is)) c.requires.needs.class_is c.requires.menu.slots c.loop-i.invariant.fit)
 
 pub loop-i-preserved : goal.loop-i-preserved
 loop-i-preserved c =
     let need = c.index-needs-i.result in
     let area : c.area-area.result ≡ most_area c.args.menu.now need =
     c.area-area.ensures ∙ ap (λ n. largest_for c.of_menu-largest.result n.header.protected) c.need.view_is
-    ∙ c.of_menu-largest.ensures.are need.header.protected ∙ area-at c.args.class c.args.menu.now c.args.needs.now c.loop-i.i need c.requires.class c.loop-i-test.true c.index-needs-i.is in
+    ∙ c.of_menu-largest.ensures.are need.header.protected ∙ area-at c.args.class c.args.menu.now c.args.needs.now c.loop-i.i need c.requires.needs.class_is c.loop-i-test.true c.index-needs-i.is in
     record {
       free = c.free_behind-free-in-loop-i.ensures.within;
       fit = to-more c.window-window.result c.args.class c.args.menu.now c.args.needs.now c.loop-i.i need c.loop-i.free c.free_behind-free-in-loop-i.result c.loop-i-test.true c.index-needs-i.is
@@ -43,4 +43,4 @@ loop-i-preserved c =
 pub returns : goal.returns
 returns c =
     subst (λ n. CanBeLaidFrom n true c.args.menu.now c.args.needs.now) c.window-window.ensures.window
-    (to-all c.window-window.result c.args.class c.args.menu.now c.args.needs.now c.loop-i.i c.loop-i.free (omega (arith, c.loop-i-test.false)) c.requires.class c.requires.some c.requires.slots c.loop-i.invariant.fit)
+    (to-all c.window-window.result c.args.class c.args.menu.now c.args.needs.now c.loop-i.i c.loop-i.free (omega (arith, c.loop-i-test.false)) c.requires.needs.class_is c.requires.needs.some c.requires.menu.slots c.loop-i.invariant.fit)

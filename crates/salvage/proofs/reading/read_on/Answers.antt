@@ -1,5 +1,5 @@
 -- What was found up to the end is all that is read.
-use Rattle.std.proofs.Common.{◌≡◌, [], Ok, refl, sym, ◌∙◌, ap, subst, arith}
+use Rattle.std.proofs.Common.{rules, ◌≡◌, [], Ok, refl, sym, ◌∙◌, ap, subst, arith}
 use Rattle.sync_survey.specs.declared.survey_fault.SurveyFault.TheVariants.{NoFrame}
 use Rattle.sync_survey.specs.Survey.{BlocksAreLaid}
 use Rattle.salvage.specs.Damaged.{tells_of, IsReadRefusal}
@@ -22,36 +22,34 @@ read_things-requires-clause-reading g c =
           (omega (arith, c.in-Ok.ensures.within, c.requires.begun.whole));
     }
 
-pub returns-clause-exact : goal.returns-clause-exact
-returns-clause-exact g c =
-    let begun = c.args.begun.now in
-    let found = c.read_things.new.found in
-    let reading = c.in_ok-read_things.ensures.reading in
-    if_ok c.damaged_by.result (λ d. tells_of d ≡ told_of begun found) _ (found.rows.items ≡ [] → ⊥) c.damaged_by.ensures.told c.damaged_by.ensures.some (λ d told some. λ bytes holds.
-    let known = c.requires.begun.known.long bytes holds in
-    all_read bytes begun found (c.requires.begun.told bytes holds) (omega (arith, known, c.requires.begun.known.few)) (sym known)
-    (read_whole bytes begun found (reading.told bytes holds) (omega (arith, known, c.in_ok-read_things.ensures.end))) some reading.laid.few
-    ∙ ap Ok (sym told))
-
-pub returns-clause-laid : goal.returns-clause-laid
-returns-clause-laid g c =
-    let begun = c.args.begun.now in
-    let found = c.read_things.new.found in
-    if_ok c.damaged_by.result (λ d. tells_of d ≡ told_of begun found) (λ d. IsLaidOut (tells_of d)) (found.rows.items ≡ [] → ⊥) c.damaged_by.ensures.told c.damaged_by.ensures.some (λ d told some.
-    subst IsLaidOut (sym told) (laid_out begun found c.requires.begun.junk c.requires.begun.whole c.requires.begun.same c.in_ok-read_things.ensures.reading.laid some c.requires.begun.known.few))
-
-pub returns-clause-refused : goal.returns-clause-refused
-returns-clause-refused g c =
-    let begun = c.args.begun.now in
-    let found = c.read_things.new.found in
-    let name = c.args.name.now in
-    let files = g.D.Folder.files c.args.folder.now in
-    let before = g.D.Folder.counts c.args.folder.now in
-    let after = g.D.Folder.counts c.read_things.new.folder in
-    IfErr-weaker c.damaged_by.result (λ fault. (fault ≡ NoFrame begun.start.front_end) × (found.rows.items ≡ [])) (IsReadRefusal name files before after) (λ fault is.
-    subst (IsReadRefusal name files before after) (sym is.0)
-    (bytes_refusal name files before after (NoFrame begun.start.front_end) begun.size c.requires.begun.known c.in_ok-read_things.ensures.done (refl, tt) (λ bytes holds.
-    let known = c.requires.begun.known.long bytes holds in
-    no_frames bytes begun found (c.requires.begun.told bytes holds) (omega (arith, known, c.requires.begun.known.few))
-    (read_whole bytes begun found (c.in_ok-read_things.ensures.reading.told bytes holds) (omega (arith, known, c.in_ok-read_things.ensures.end))) is.1)))
-    c.damaged_by.ensures.none
+pub returns : goal.returns
+returns g c = record {
+  exact = let begun = c.args.begun.now in
+      let found = c.read_things.new.found in
+      let reading = c.in_ok-read_things.ensures.reading in
+      if_ok c.damaged_by.result (λ d. tells_of d ≡ told_of begun found) _ (found.rows.items ≡ [] → ⊥) c.damaged_by.ensures.told c.damaged_by.ensures.some (λ d told some. λ bytes holds.
+      let known = c.requires.begun.known.long bytes holds in
+      all_read bytes begun found (c.requires.begun.told bytes holds) (omega (arith, known, c.requires.begun.known.few)) (sym known)
+      (read_whole bytes begun found (reading.told bytes holds) (omega (arith, known, c.in_ok-read_things.ensures.end))) some reading.laid.few
+      ∙ ap Ok (sym told));
+  laid = let begun = c.args.begun.now in
+      let found = c.read_things.new.found in
+      if_ok c.damaged_by.result (λ d. tells_of d ≡ told_of begun found) (λ d. IsLaidOut (tells_of d)) (found.rows.items ≡ [] → ⊥) c.damaged_by.ensures.told c.damaged_by.ensures.some (λ d told some.
+      subst IsLaidOut (sym told) (laid_out begun found c.requires.begun.junk c.requires.begun.whole c.requires.begun.same c.in_ok-read_things.ensures.reading.laid some c.requires.begun.known.few));
+  done = search rules;
+  refused = let begun = c.args.begun.now in
+      let found = c.read_things.new.found in
+      let name = c.args.name.now in
+      let files = (g.D.Folder.seen c.args.folder.now).files in
+      let before = (g.D.Folder.seen c.args.folder.now).counts in
+      let after = (g.D.Folder.seen c.read_things.new.folder).counts in
+      IfErr-weaker c.damaged_by.result (λ fault. (fault ≡ NoFrame begun.start.front_end) × (found.rows.items ≡ [])) (IsReadRefusal name files before after) (λ fault is.
+      subst (IsReadRefusal name files before after) (sym is.0)
+      (bytes_refusal name files before after (NoFrame begun.start.front_end) begun.size c.requires.begun.known c.in_ok-read_things.ensures.done (refl, tt) (λ bytes holds.
+      let known = c.requires.begun.known.long bytes holds in
+      no_frames bytes begun found (c.requires.begun.told bytes holds) (omega (arith, known, c.requires.begun.known.few))
+      (read_whole bytes begun found (c.in_ok-read_things.ensures.reading.told bytes holds) (omega (arith, known, c.in_ok-read_things.ensures.end))) is.1)))
+      c.damaged_by.ensures.none;
+  files = search rules;
+  counts = search rules;
+}

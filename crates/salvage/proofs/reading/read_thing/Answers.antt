@@ -1,5 +1,5 @@
 -- A later frame is read and kept.
-use Rattle.std.proofs.Common.{◌≡◌, ◌⊎◌, true, length, Some, sym, ◌∙◌, ap, subst, arith}
+use Rattle.std.proofs.Common.{rules, ◌≡◌, ◌⊎◌, true, length, Some, sym, ◌∙◌, ap, subst, arith}
 use Rattle.frame_header.specs.Fields.{ClassFields}
 use Rattle.outside.proofs.PassedLaws.{err_at}
 use Rattle.sync_survey.specs.declared.survey_fault.SurveyFault.TheVariants.{Memory}
@@ -15,34 +15,36 @@ use Rattle.salvage.proofs.ReadFaults.{look_refusal}
 use Rattle.salvage.proofs.ReadOn.{keeps_on, keep_refused}
 use Rattle.salvage.proofs.reading.read_thing.Goals as goal
 
-pub returns-in_err-left-clause-refused : goal.returns-in_err-left-clause-refused
-returns-in_err-left-clause-refused g c =
-    err_at _ _ c.from_residual.ensures.1 (look_refusal (none_read c.requires.fed) (c.in_err-left.ensures.refused 0) c.in_err-left.ensures.outside)
+pub returns-in_err-left : goal.returns-in_err-left
+returns-in_err-left g c = record {
+  reading = search rules;
+  reads = search rules;
+  refused = err_at _ _ c.from_residual.ensures.1 (look_refusal (none_read c.requires.fed) (c.in_err-left.ensures.refused 0) c.in_err-left.ensures.outside);
+}
 
 pub keep-requires-clause-room : goal.keep-requires-clause-room
 keep-requires-clause-room g c = λ h frame.
     let passes = c.in-Some.ensures.passes in
     shown_room c.bytes-front.result.now c.in-Some.step.item h c.in-Some.step.size c.in_ok-left.left passes.item frame (passes.most h frame) passes.least passes.within (ap length c.bytes-front.ensures ∙ c.in_ok-left.ensures.many)
 
-pub returns-clause-reading : goal.returns-clause-reading
-returns-clause-reading g c =
-    let old = c.args.found.now in
-    let item = c.in-Some.step.item in
-    let size = c.in-Some.step.size in
-    let front = c.bytes-front.result.now in
-    keeps_on (g.D.Folder.files c.args.folder.now) c.args.name.now c.args.begun.now old item size front c.in_ok-left.left
-    (λ bytes holds. subst (λ l. Shows bytes old.at l c.in_ok-left.left) (sym c.bytes-front.ensures) (c.in_ok-left.ensures.shows bytes holds))
-    (λ bytes seen. subst (λ (class : ClassFields). item_read bytes (Later class) old.at ≡ Some item) c.class-class.ensures (c.in-Some.ensures.read bytes seen))
-    c.requires.begun c.requires.reading c.keep.result (λ fault. (fault ≡ Memory) ⊎ IsPastMost item old fault) c.keep.new.self
-    (subst (λ (class : ClassFields). admits_item (Later class) old.at item front ≡ true) c.class-class.ensures c.in-Some.ensures.usable)
-    c.in-Some.ensures.passes (omega (arith, c.in-Some.ensures.passes.within, c.in_ok-left.ensures.left, c.requires.before)) c.keep.ensures.kept c.keep.ensures.few
-
-pub returns-clause-refused : goal.returns-clause-refused
-returns-clause-refused g c =
-    let old = c.args.found.now in
-    let item = c.in-Some.step.item in
-    if_err c.keep.result _ (λ fault. (fault ≡ Memory) ⊎ IsPastMost item old fault) _ c.keep.ensures.kept
-    (keep_refused (g.D.Folder.files c.args.folder.now) c.args.name.now c.args.begun.now old item c.in-Some.step.size c.bytes-front.result.now c.in_ok-left.left
-    (λ bytes holds. subst (λ l. Shows bytes old.at l c.in_ok-left.left) (sym c.bytes-front.ensures) (c.in_ok-left.ensures.shows bytes holds))
-    (λ bytes seen. subst (λ (class : ClassFields). item_read bytes (Later class) old.at ≡ Some item) c.class-class.ensures (c.in-Some.ensures.read bytes seen))
-    c.requires.begun c.requires.reading (g.D.Folder.counts c.args.folder.now) (g.D.Folder.counts c.look.new.folder) c.in_ok-left.ensures.reads.done)
+pub returns : goal.returns
+returns g c = record {
+  reading = let old = c.args.found.now in
+      let item = c.in-Some.step.item in
+      let size = c.in-Some.step.size in
+      let front = c.bytes-front.result.now in
+      keeps_on (g.D.Folder.seen c.args.folder.now).files c.args.name.now c.args.begun.now old item size front c.in_ok-left.left
+      (λ bytes holds. subst (λ l. Shows bytes old.at l c.in_ok-left.left) (sym c.bytes-front.ensures) (c.in_ok-left.ensures.shows bytes holds))
+      (λ bytes seen. subst (λ (class : ClassFields). item_read bytes (Later class) old.at ≡ Some item) c.class-class.ensures (c.in-Some.ensures.read bytes seen))
+      c.requires.begun c.requires.reading c.keep.result (λ fault. (fault ≡ Memory) ⊎ IsPastMost item old fault) c.keep.new.self
+      (subst (λ (class : ClassFields). admits_item (Later class) old.at item front ≡ true) c.class-class.ensures c.in-Some.ensures.usable)
+      c.in-Some.ensures.passes (omega (arith, c.in-Some.ensures.passes.within, c.in_ok-left.ensures.left, c.requires.before)) c.keep.ensures.kept c.keep.ensures.few;
+  reads = search rules;
+  refused = let old = c.args.found.now in
+      let item = c.in-Some.step.item in
+      if_err c.keep.result _ (λ fault. (fault ≡ Memory) ⊎ IsPastMost item old fault) _ c.keep.ensures.kept
+      (keep_refused (g.D.Folder.seen c.args.folder.now).files c.args.name.now c.args.begun.now old item c.in-Some.step.size c.bytes-front.result.now c.in_ok-left.left
+      (λ bytes holds. subst (λ l. Shows bytes old.at l c.in_ok-left.left) (sym c.bytes-front.ensures) (c.in_ok-left.ensures.shows bytes holds))
+      (λ bytes seen. subst (λ (class : ClassFields). item_read bytes (Later class) old.at ≡ Some item) c.class-class.ensures (c.in-Some.ensures.read bytes seen))
+      c.requires.begun c.requires.reading (g.D.Folder.seen c.args.folder.now).counts (g.D.Folder.seen c.look.new.folder).counts c.in_ok-left.ensures.reads.done);
+}

@@ -6,8 +6,8 @@ use Rattle.salvage.proofs.reading.read_things.Given as goal
 
 abbrev pub invariant-loop-found : goal.invariant-loop-found
 invariant-loop-found g l = record {
-  reading : IsReading (g.D.Folder.files l.initial.folder) l.name l.begun l.found;
-  read : HasRead l.feed l.name (g.D.Folder.files l.initial.folder) (g.D.Folder.files l.folder) (g.D.Folder.counts l.initial.folder) (g.D.Folder.counts l.folder);
+  reading : IsReading (g.D.Folder.seen l.initial.folder).files l.name l.begun l.found;
+  read : HasRead l.feed l.name (g.D.Folder.seen l.initial.folder).files (g.D.Folder.seen l.folder).files (g.D.Folder.seen l.initial.folder).counts (g.D.Folder.seen l.folder).counts;
 }
 
 abbrev pub decreases-loop-found : goal.decreases-loop-found

@@ -39,7 +39,7 @@ returns-clause-placed g c =
 
 pub returns-clause-first : goal.returns-clause-first
 returns-clause-first g c =
-    first_behind c.args.name.now (g.D.Folder.files c.args.folder.now) (g.D.Folder.files c.look.new.folder) c.args.front_end c.next_usable.result c.in_ok-left.ensures.reads.files
+    first_behind c.args.name.now (g.D.Folder.seen c.args.folder.now).files (g.D.Folder.seen c.look.new.folder).files c.args.front_end c.next_usable.result c.in_ok-left.ensures.reads.files
     (λ bytes holds.
     let seen = subst (λ front. Shows bytes c.args.front_end front c.in_ok-left.left) (sym c.bytes.ensures) (c.in_ok-left.ensures.shows bytes holds) in
     sym (c.in_default.ensures.frame bytes seen)) c.next_usable.ensures.next

@@ -7,9 +7,9 @@ use Rattle.salvage.proofs.search.next_usable.Given as goal
 
 abbrev pub invariant-loop-at : goal.invariant-loop-at
 invariant-loop-at g l = record {
-  none : (bytes : List ℕ) → Holds (g.D.Folder.files l.initial.folder) l.name bytes → (earlier : ℕ) → l.from ≤ earlier → earlier < l.at → usable_anchored bytes l.role earlier ≡ None;
+  none : (bytes : List ℕ) → Holds (g.D.Folder.seen l.initial.folder).files l.name bytes → (earlier : ℕ) → l.from ≤ earlier → earlier < l.at → usable_anchored bytes l.role earlier ≡ None;
   low : l.from ≤ l.at;
-  read : HasRead l.feed l.name (g.D.Folder.files l.initial.folder) (g.D.Folder.files l.folder) (g.D.Folder.counts l.initial.folder) (g.D.Folder.counts l.folder);
+  read : HasRead l.feed l.name (g.D.Folder.seen l.initial.folder).files (g.D.Folder.seen l.folder).files (g.D.Folder.seen l.initial.folder).counts (g.D.Folder.seen l.folder).counts;
 }
 
 abbrev pub decreases-loop-at : goal.decreases-loop-at

@@ -1,6 +1,6 @@
 -- The reading, and the memory, each with its faults.
 use Rattle.std.proofs.Common.{ap₂}
-use Rattle.commands.specs.Left.{seen}
+use Rattle.outside.specs.Seen.{seen}
 use Rattle.salvaging.proofs.CommandLaws.{fault-on, memory-on}
 use Rattle.salvaging.proofs.prepared.prepare.Goals as goal
 
@@ -13,4 +13,4 @@ returns-in_err-work-clause-reads g c =
     memory-on c.args.input.now _ c.from_residual-in_err-work.ensures.1 c.in_ok-mended.mended c.in_ok-mended.ensures.there c.in_ok-mended.ensures.mended (ap₂ seen reads.files reads.done) reads
 
 pub returns-clause-ready : goal.returns-clause-ready
-returns-clause-ready g c = c.in_ok-work.ensures c.args.input.now (g.D.Folder.files c.args.folder.now) c.in_ok-mended.ensures.mended c.in_ok-mended.ensures.there c.in_ok-mended.ensures.octets
+returns-clause-ready g c = c.in_ok-work.ensures c.args.input.now (g.D.Folder.seen c.args.folder.now).files c.in_ok-mended.ensures.mended c.in_ok-mended.ensures.there c.in_ok-mended.ensures.octets

@@ -1,8 +1,8 @@
 -- A fault of the reading is one of the only input; what was read is mended.
 use Rattle.std.proofs.Common.{length, sym, ap, subst, ap₂, arith}
 use Rattle.std.proofs.lemmas.List.{length-map}
+use Rattle.outside.specs.Seen.{seen}
 use Rattle.sync_survey.specs.Faults.{SurveyFields}
-use Rattle.commands.specs.Left.{seen}
 use Rattle.commands.specs.One.{IsEarlyFault, IsOfInputs}
 use Rattle.salvage.specs.Damaged.{tells_of}
 use Rattle.salvage.specs.Mended.{mended_row}
@@ -12,12 +12,11 @@ use Rattle.salvaging.proofs.prepared.read_input.Goals as goal
 
 pub returns-in-Err-clause-reads : goal.returns-in-Err-clause-reads
 returns-in-Err-clause-reads g c =
-    let files = g.D.Folder.files in
-    let counts = g.D.Folder.counts in
+    let seen = g.D.Folder.seen in
     record {
       refused =
-          subst (IsEarlyFault (salvage_task c.args.input.now) (seen (files c.args.folder.now) (counts c.args.folder.now)) (seen (files c.read_damaged.new.folder) (counts c.read_damaged.new.folder))) (sym c.into.ensures)
-          (early-fault c.args.input.now (files c.args.folder.now) (files c.read_damaged.new.folder) (counts c.args.folder.now) (counts c.read_damaged.new.folder) c.read_damaged.ensures.files c.in-Err.fault c.in-Err.ensures.refused);
+          subst (IsEarlyFault (salvage_task c.args.input.now) (seen c.args.folder.now) (seen c.read_damaged.new.folder)) (sym c.into.ensures)
+          (early-fault c.args.input.now (seen c.args.folder.now).files (seen c.read_damaged.new.folder).files (seen c.args.folder.now).counts (seen c.read_damaged.new.folder).counts c.read_damaged.ensures.files c.in-Err.fault c.in-Err.ensures.refused);
       numbers = subst (IsOfInputs (salvage_task c.args.input.now)) (sym c.into.ensures) (early-numbers c.args.input.now c.in-Err.fault c.in-Err.ensures.numbers);
       done = tt;
       files = c.read_damaged.ensures.files;

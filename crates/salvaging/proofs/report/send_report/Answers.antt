@@ -11,7 +11,7 @@ use Rattle.salvaging.proofs.report.send_report.Goals as goal
 pub loop-told-init : goal.loop-told-init
 loop-told-init g c = record {
   done = refl;
-  said = rw c.requires.empty (said_none line_text (lines_of c.args.report.now) (left c.of-lines.result) (g.T.Sink.sent c.args.out.now) c.of-lines.ensures);
+  said = rw c.requires.empty (said_none line_text (lines_of c.args.report.now) (left c.of-lines.result) (g.T.Sink.heard c.args.out.now).sent c.of-lines.ensures);
 }
 
 pub loop-told-preserved : goal.loop-told-preserved
@@ -19,7 +19,7 @@ loop-told-preserved g c = record {
   done = c.in_ok-push.ensures.cause.done ∙ c.loop-told.invariant.done;
   said = said_more line_text (lines_of c.args.report.now) (left c.loop-told.lines) (left c.next.new.self) (line_of c.in-Some.told) c.loop-told.buffer c.push.new.self _ _ _
       c.loop-told.invariant.said c.in-Some.ensures.first c.in-Some.ensures.rest
-      (subst (λ line. SentOn (c.loop-told.buffer ++ line) c.push.new.self (g.T.Sink.sent c.loop-told.out) (g.T.Sink.sent c.push.new.sink)) (c.bytes.ensures ∙ c.set_line.ensures) c.in_ok-push.ensures.passed);
+      (subst (λ line. SentOn (c.loop-told.buffer ++ line) c.push.new.self (g.T.Sink.heard c.loop-told.out).sent (g.T.Sink.heard c.push.new.sink).sent) (c.bytes.ensures ∙ c.set_line.ensures) c.in_ok-push.ensures.passed);
 }
 
 pub returns-in_err-push-clause-prefix : goal.returns-in_err-push-clause-prefix
@@ -27,21 +27,21 @@ unfolding text_of
 returns-in_err-push-clause-prefix g c =
     on_err c.from_residual.result
     (said_failed line_text (lines_of c.args.report.now) (count_text c.args.frames (length c.args.report.now.gaps.items) (length c.args.report.now.emptied.items)) (left c.loop-told.lines) (line_of c.in-Some.told) c.loop-told.buffer _ _ _ c.loop-told.invariant.said c.in-Some.ensures.first
-    (subst (λ line. SentPrefix (c.loop-told.buffer ++ line) (g.T.Sink.sent c.loop-told.out) (g.T.Sink.sent c.push.new.sink)) (c.bytes.ensures ∙ c.set_line.ensures) c.in_err-push.ensures.prefix))
+    (subst (λ line. SentPrefix (c.loop-told.buffer ++ line) (g.T.Sink.heard c.loop-told.out).sent (g.T.Sink.heard c.push.new.sink).sent) (c.bytes.ensures ∙ c.set_line.ensures) c.in_err-push.ensures.prefix))
 
 pub returns-in_err-push-2-clause-prefix : goal.returns-in_err-push-2-clause-prefix
 unfolding text_of
 returns-in_err-push-2-clause-prefix g c =
     on_err c.from_residual-in_err-push-2.result
     (last_failed line_text (lines_of c.args.report.now) (count_text c.args.frames (length c.args.report.now.gaps.items) (length c.args.report.now.emptied.items)) (left c.loop-told.lines) c.loop-told.buffer _ _ _ c.loop-told.invariant.said c.in_default.ensures.first
-    (subst (λ line. SentPrefix (c.loop-told.buffer ++ line) (g.T.Sink.sent c.loop-told.out) (g.T.Sink.sent c.push-2.new.sink)) (c.bytes-2.ensures ∙ c.set_counts.ensures ∙ rw (c.as_slice-gaps.ensures.value, c.as_slice-emptied.ensures.value) refl) c.in_err-push-2.ensures.prefix))
+    (subst (λ line. SentPrefix (c.loop-told.buffer ++ line) (g.T.Sink.heard c.loop-told.out).sent (g.T.Sink.heard c.push-2.new.sink).sent) (c.bytes-2.ensures ∙ c.set_counts.ensures ∙ rw (c.as_slice-gaps.ensures.value, c.as_slice-emptied.ensures.value) refl) c.in_err-push-2.ensures.prefix))
 
 -- all lines and the counts wait or were sent
-all-said : (g : Over) (c : goal.After-finish g) → SentOn (text_of c.args.frames c.args.report.now) c.push-2.new.self (g.T.Sink.sent c.args.out.now) (g.T.Sink.sent c.push-2.new.sink)
+all-said : (g : Over) (c : goal.After-finish g) → SentOn (text_of c.args.frames c.args.report.now) c.push-2.new.self (g.T.Sink.heard c.args.out.now).sent (g.T.Sink.heard c.push-2.new.sink).sent
 unfolding text_of
 all-said g c =
     last_more line_text (lines_of c.args.report.now) (count_text c.args.frames (length c.args.report.now.gaps.items) (length c.args.report.now.emptied.items)) (left c.loop-told.lines) c.loop-told.buffer c.push-2.new.self _ _ _ c.loop-told.invariant.said c.in_default.ensures.first
-    (subst (λ line. SentOn (c.loop-told.buffer ++ line) c.push-2.new.self (g.T.Sink.sent c.loop-told.out) (g.T.Sink.sent c.push-2.new.sink)) (c.bytes-2.ensures ∙ c.set_counts.ensures ∙ rw (c.as_slice-gaps.ensures.value, c.as_slice-emptied.ensures.value) refl) c.in_ok-push-2.ensures.passed)
+    (subst (λ line. SentOn (c.loop-told.buffer ++ line) c.push-2.new.self (g.T.Sink.heard c.loop-told.out).sent (g.T.Sink.heard c.push-2.new.sink).sent) (c.bytes-2.ensures ∙ c.set_counts.ensures ∙ rw (c.as_slice-gaps.ensures.value, c.as_slice-emptied.ensures.value) refl) c.in_ok-push-2.ensures.passed)
 
 pub returns-clause-sent : goal.returns-clause-sent
 returns-clause-sent g c = sent_behind c.finish.result _ (all-said g c) c.finish.ensures.sent

@@ -7,8 +7,8 @@ use Rattle.salvaging.proofs.report.send_report.Given as goal
 
 abbrev pub invariant-loop-told : goal.invariant-loop-told
 invariant-loop-told g l = record {
-  done : g.T.Sink.faults l.out ≡ g.T.Sink.faults l.initial.out;
-  said : IsSaidTo line_text (lines_of l.report) (left l.lines) l.buffer (g.T.Sink.sent l.initial.out) (g.T.Sink.sent l.out);
+  done : (g.T.Sink.heard l.out).faults ≡ (g.T.Sink.heard l.initial.out).faults;
+  said : IsSaidTo line_text (lines_of l.report) (left l.lines) l.buffer (g.T.Sink.heard l.initial.out).sent (g.T.Sink.heard l.out).sent;
 }
 
 abbrev pub decreases-loop-told : goal.decreases-loop-told

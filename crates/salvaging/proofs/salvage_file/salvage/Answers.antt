@@ -1,8 +1,8 @@
 -- A clash of names, what was met before the output is created, and what follows.
 use Rattle.std.proofs.Common.{sym, ◌∙◌, ap₂, subst}
-use Rattle.commands.specs.Left.{seen}
+use Rattle.outside.specs.Seen.{seen}
 use Rattle.commands.specs.Runs.{IsRunOf}
-use Rattle.commands.specs.Said.{heard, Says, fault_of}
+use Rattle.commands.specs.Said.{Says, fault_of}
 use Rattle.commands.proofs.RefusingLaws.{err_with}
 use Rattle.salvaging.specs.Salvaged.{salvage_command}
 use Rattle.salvaging.specs.Ready.{IsReady}
@@ -12,7 +12,7 @@ use Rattle.salvaging.proofs.salvage_file.salvage.Goals as goal
 use Rattle.salvaging.proofs.salvage_file.salvage.Goals.{After-write_and_tell}
 
 pub returns-in-Some-clause-left : goal.returns-in-Some-clause-left
-returns-in-Some-clause-left g c = left-clash c.args.input.now c.args.output.now c.in-Some.place (seen (g.D.Folder.files c.args.folder.now) (g.D.Folder.counts c.args.folder.now)) (sym c.clash.ensures ∙ c.in-Some.is)
+returns-in-Some-clause-left g c = left-clash c.args.input.now c.args.output.now c.in-Some.place (g.D.Folder.seen c.args.folder.now) (sym c.clash.ensures ∙ c.in-Some.is)
 
 pub returns-in_err-work-clause-left : goal.returns-in_err-work-clause-left
 returns-in_err-work-clause-left g c =
@@ -29,10 +29,10 @@ pub write_and_tell-requires-clause-ready : goal.write_and_tell-requires-clause-r
 write_and_tell-requires-clause-ready g c = subst (λ f. IsReady c.args.input.now f c.in_ok-work.work) (sym c.prepare.ensures.reads.files) c.in_ok-work.ensures.ready
 
 -- it ran from the moment before
-ran : (g : given.Over) (c : After-write_and_tell g) → IsRunOf (salvage_command c.args.input.now c.args.output.now) (seen (g.D.Folder.files c.args.folder.now) (g.D.Folder.counts c.args.folder.now))
-    (seen (g.D.Folder.files c.write_and_tell.new.folder) (g.D.Folder.counts c.write_and_tell.new.folder)) c.write_and_tell.result
+ran : (g : given.Over) (c : After-write_and_tell g) → IsRunOf (salvage_command c.args.input.now c.args.output.now) (g.D.Folder.seen c.args.folder.now)
+    (g.D.Folder.seen c.write_and_tell.new.folder) c.write_and_tell.result
 ran g c =
-    let new = seen (g.D.Folder.files c.write_and_tell.new.folder) (g.D.Folder.counts c.write_and_tell.new.folder) in
+    let new = g.D.Folder.seen c.write_and_tell.new.folder in
     subst (λ old. IsRunOf (salvage_command c.args.input.now c.args.output.now) old new c.write_and_tell.result) (ap₂ seen c.prepare.ensures.reads.files c.in_ok-work.ensures.reads.done) c.write_and_tell.ensures.run
 
 pub returns-clause-done : goal.returns-clause-done
@@ -56,6 +56,6 @@ returns-clause-counts g c = (ran g (goal.at.returns-clause-counts g c).After-wri
 pub returns-clause-says : goal.returns-clause-says
 returns-clause-says g c =
     let sink = g.T.Sink in
-    let old = heard (sink.sent c.args.out.now) (sink.faults c.args.out.now) in
-    let new = heard (sink.sent c.write_and_tell.new.out) (sink.faults c.write_and_tell.new.out) in
+    let old = sink.heard c.args.out.now in
+    let new = sink.heard c.write_and_tell.new.out in
     subst (λ f. Says (salvage_command c.args.input.now c.args.output.now) f old new (fault_of c.write_and_tell.result)) c.prepare.ensures.reads.files c.write_and_tell.ensures.says

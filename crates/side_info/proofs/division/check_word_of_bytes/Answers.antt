@@ -13,8 +13,8 @@ divided c =
     ∙ ap (λ w. remainder w (bits c.args.side.now)) (c.two_step.ensures ∙ two_list start_word c.args.header.now c.requires)
     ∙ remainder-bits_append start_word (drop 2 c.args.header.now) c.args.side.now
 
-pub returns-clause-bytes : goal.returns-clause-bytes
-returns-clause-bytes c = divided c
-
-pub returns-clause-read : goal.returns-clause-read
-returns-clause-read c h is size = divided c ∙ check_word-read c.args.header.now c.args.side.now h c.requires is size
+pub returns : goal.returns
+returns c = record {
+  bytes = divided c;
+  read = λ h is size. divided c ∙ check_word-read c.args.header.now c.args.side.now h c.requires is size;
+}

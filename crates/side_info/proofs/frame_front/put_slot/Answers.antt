@@ -1,5 +1,5 @@
 -- Bit rate index and padding bit are put in turn.
-use Rattle.std.proofs.Common.{◌≡◌, Bool, true, false, refl, ◌++◌, take, drop, arith, ap, ◌∙◌}
+use Rattle.std.proofs.Common.{rules, ◌≡◌, Bool, true, false, refl, ◌++◌, take, drop, arith, ap, ◌∙◌}
 use mir.Val.{bool_byte}
 use Rattle.bit_fields.specs.Bits.{bits, bits_of}
 use Rattle.bit_fields.proofs.BitsLaws.{AreBytes-from_places}
@@ -12,15 +12,15 @@ flag : (b : Bool) → bool_byte b ≡ flag_of b
 flag true = refl
 flag false = refl
 
-pub returns-clause-bits : goal.returns-clause-bits
-returns-clause-bits c h was =
-    let old = bits c.args.four.now in
-    let middle = bits c.put.new.bytes in
-    let slot : SlotFields = record { rate_index = c.slot.inside.rate_index; padding = c.slot.inside.padding } in
-    slot_put h slot old middle (bits c.put-2.new.bytes) was
-    (c.put.ensures ∙ ap (λ n. take 16 old ++ bits_of 4 n ++ drop 20 old) c.from.ensures)
-    (c.put-2.ensures ∙ ap (λ n. take 22 middle ++ bits_of 1 n ++ drop 23 middle) (c.from-2.ensures ∙ flag c.slot.inside.padding))
-    ∙ ap (λ (s : SlotFields). header_bits (record h { slot = s })) c.slot.view_is
-
-pub returns-clause-octets : goal.returns-clause-octets
-returns-clause-octets c = AreBytes-from_places c.put-2.new.bytes (λ i. omega (arith, c.type_inv.four i))
+pub returns : goal.returns
+returns c = record {
+  bits = λ h was. let old = bits c.args.four.now in
+      let middle = bits c.put.new.bytes in
+      let slot : SlotFields = record { rate_index = c.slot.inside.rate_index; padding = c.slot.inside.padding } in
+      slot_put h slot old middle (bits c.put-2.new.bytes) was
+      (c.put.ensures ∙ ap (λ n. take 16 old ++ bits_of 4 n ++ drop 20 old) c.from.ensures)
+      (c.put-2.ensures ∙ ap (λ n. take 22 middle ++ bits_of 1 n ++ drop 23 middle) (c.from-2.ensures ∙ flag c.slot.inside.padding))
+      ∙ ap (λ (s : SlotFields). header_bits (record h { slot = s })) c.slot.view_is;
+  octets = AreBytes-from_places c.put-2.new.bytes (λ i. omega (arith, c.type_inv.four i));
+  known = search rules;
+}

@@ -1,5 +1,5 @@
 -- The gains of the granules in turn.
-use Rattle.std.proofs.Common.{◌≡◌, ◌+◌, ◌-◌, ◌*◌, ◌≤◌, [], length, get_or, ap, ap₂, subst, sym, ◌∙◌, arith}
+use Rattle.std.proofs.Common.{rules, ◌≡◌, ◌+◌, ◌-◌, ◌*◌, ◌≤◌, [], length, get_or, ap, ap₂, subst, sym, ◌∙◌, arith}
 use Rattle.bit_fields.specs.Bits.{bits}
 use Rattle.bit_fields.proofs.BitsLaws.{AreBits-bits, length-bits}
 use Rattle.frame_header.specs.Fields.{IsClass}
@@ -40,17 +40,20 @@ put_second-requires-clause-room c two =
 pub put_second-requires-clause-short : goal.put_second-requires-clause-short
 put_second-requires-clause-short c = omega (arith, short (goal.at.put_second-requires-clause-short c).After-from, c.put_pair.auto.bytes)
 
-pub returns-clause-put : goal.returns-clause-put
-returns-clause-put c other =
-    let d = c.args.class in
-    let t = c.args.side.now in
-    let old = bits c.args.bytes.now in
-    let class : IsClass d = subst IsClass c.class.view_is c.class.invariant in
-    let shaped : IsShaped t = record { scfsi = omega arith; granules = omega arith; first = c.put_pair.ensures.two; second = c.put_second.ensures.two } in
-    let begin : c.front_size-begin.result ≡ front_size d.version d.channels = c.front_size-begin.ensures ∙ ap (λ k. front_size k.version k.channels) c.class.view_is in
-    let next_is : c.front_size-begin.result + c.granule_width.result * c.from.result ≡ front_size d.version d.channels + d.channels * granule_size d.version =
-    ap₂ (λ m n. m + n) c.front_size-begin.ensures (ap₂ (λ m n. m * n) c.granule_width.ensures c.from.ensures ∙ omega arith) ∙ ap (λ k. front_size k.version k.channels + k.channels * granule_size k.version) c.class.view_is in
-    all_put_gains d class t shaped old (bits c.put_pair.new.bytes) (bits c.put_second.new.bytes) c.front_size-begin.result _ begin next_is
-    (subst (λ k. PutsPair (pair_bits k.version k.channels) (get_or t.granules 0 []) c.front_size-begin.result old (bits c.put_pair.new.bytes)) c.class.view_is c.put_pair.ensures.put)
-    (subst (λ k. PutsPair (second_bits k.version k.channels) (get_or t.granules 1 []) (c.front_size-begin.result + c.granule_width.result * c.from.result) (bits c.put_pair.new.bytes) (bits c.put_second.new.bytes)) c.class.view_is c.put_second.ensures.put)
-    (side_at d old) (IsShaped-side_at d old) (sym (side_bits-side_at d class old (AreBits-bits c.args.bytes.now) (length-bits c.args.bytes.now ∙ ap (λ n. 8 * n) c.requires.size))) other
+pub returns : goal.returns
+returns c = record {
+  put = λ other. let d = c.args.class in
+      let t = c.args.side.now in
+      let old = bits c.args.bytes.now in
+      let class : IsClass d = subst IsClass c.class.view_is c.class.invariant in
+      let shaped : IsShaped t = record { scfsi = omega arith; granules = omega arith; first = c.put_pair.ensures.two; second = c.put_second.ensures.two } in
+      let begin : c.front_size-begin.result ≡ front_size d.version d.channels = c.front_size-begin.ensures ∙ ap (λ k. front_size k.version k.channels) c.class.view_is in
+      let next_is : c.front_size-begin.result + c.granule_width.result * c.from.result ≡ front_size d.version d.channels + d.channels * granule_size d.version =
+      ap₂ (λ m n. m + n) c.front_size-begin.ensures (ap₂ (λ m n. m * n) c.granule_width.ensures c.from.ensures ∙ omega arith) ∙ ap (λ k. front_size k.version k.channels + k.channels * granule_size k.version) c.class.view_is in
+      all_put_gains d class t shaped old (bits c.put_pair.new.bytes) (bits c.put_second.new.bytes) c.front_size-begin.result _ begin next_is
+      (subst (λ k. PutsPair (pair_bits k.version k.channels) (get_or t.granules 0 []) c.front_size-begin.result old (bits c.put_pair.new.bytes)) c.class.view_is c.put_pair.ensures.put)
+      (subst (λ k. PutsPair (second_bits k.version k.channels) (get_or t.granules 1 []) (c.front_size-begin.result + c.granule_width.result * c.from.result) (bits c.put_pair.new.bytes) (bits c.put_second.new.bytes)) c.class.view_is c.put_second.ensures.put)
+      (side_at d old) (IsShaped-side_at d old) (sym (side_bits-side_at d class old (AreBits-bits c.args.bytes.now) (length-bits c.args.bytes.now ∙ ap (λ n. 8 * n) c.requires.size))) other;
+  first = search rules;
+  second = search rules;
+}

@@ -1,5 +1,5 @@
 -- The side information and the check word, where there is one, are those of the other gains.
-use Rattle.std.proofs.Common.{◌≡◌, ℕ, ◌+◌, List, ◌++◌, take, drop, true, false, sym, ap, ap₂, ◌∙◌, subst, arith}
+use Rattle.std.proofs.Common.{rules, ◌≡◌, ℕ, ◌+◌, List, ◌++◌, take, drop, true, false, sym, ap, ap₂, ◌∙◌, subst, arith}
 use Rattle.std.proofs.lemmas.List.{drop-drop}
 use Rattle.bit_fields.specs.Bits.{bits, bits_of, bytes, AreBytes}
 use Rattle.side_info.specs.CheckWord.{check_word_of}
@@ -27,65 +27,65 @@ put_at_place-requires-else-protected c =
     let is : c.args.front.now.header.protected ≡ false = sym c.protected.ensures ∙ c.if-protected.false in
     record { room = omega (arith, c.requires.room, overhead-unprotected c.args.front.now.header is, ap side_size_of c.requires.class) }
 
-pub returns-then-protected-clause-behind : goal.returns-then-protected-clause-behind
-returns-then-protected-clause-behind c =
-    let h = c.args.front.now.header in
-    let old = c.args.frame.now in
-    let middle = c.put_at_place.new.frame in
-    let new = c.put_right_word.new.frame in
-    let size = side_size_of (class_of h) in
-    let class = c.requires.class in
-    let is : h.protected ≡ true = sym c.protected.ensures ∙ c.if-protected.true in
-    let over : overhead_of (class_of h) h.protected ≡ 6 + size = overhead-protected h is in
-    ap (λ n. drop n new) over
-    ∙ sym (drop-drop size 6 new)
-    ∙ ap (drop size) c.put_right_word.ensures.behind
-    ∙ drop-drop size 6 middle
-    ∙ subst (λ d. drop (6 + side_size_of d) middle ≡ drop (6 + side_size_of d) old) class c.put_at_place.ensures.behind
-    ∙ sym (ap (λ n. drop n old) over)
-
-pub returns-else-protected-clause-behind : goal.returns-else-protected-clause-behind
-returns-else-protected-clause-behind c =
-    let h = c.args.front.now.header in
-    let old = c.args.frame.now in
-    let new = c.put_at_place-else-protected.new.frame in
-    let is : h.protected ≡ false = sym c.protected.ensures ∙ c.if-protected.false in
-    let over : overhead_of (class_of h) h.protected ≡ 4 + side_size_of (class_of h) = overhead-unprotected h is in
-    ap (λ n. drop n new) over
-    ∙ subst (λ d. drop (4 + side_size_of d) new ≡ drop (4 + side_size_of d) old) c.requires.class c.put_at_place-else-protected.ensures.behind
-    ∙ sym (ap (λ n. drop n old) over)
-
 -- the side information of a frame, read at its place
 side_read : (h : HeaderFields) (d : ClassFields) (place : ℕ) (frame : List ℕ) → d ≡ class_of h → side_place h.protected ≡ place → side_in h frame ≡ side_at d (bits (take (side_size_of d) (drop place frame)))
 unfolding side_in side_part
 side_read h d place frame class at = ap₂ (λ (d : ClassFields) k. side_at d (bits (take (side_size_of d) (drop k frame)))) (sym class) at
 
-pub returns-then-protected-clause-gains : goal.returns-then-protected-clause-gains
-returns-then-protected-clause-gains c other =
-    let h = c.args.front.now.header in
-    let t = c.args.side.now in
-    let old = c.args.frame.now in
-    let middle = c.put_at_place.new.frame in
-    let new = c.put_right_word.new.frame in
-    let class = c.requires.class in
-    let is : h.protected ≡ true = sym c.protected.ensures ∙ c.if-protected.true in
-    let same = side_read h c.args.class 6 old class (ap side_place is) in
-    let side = subst (λ d. bits (take (side_size_of d) (drop 6 middle)) ≡ side_bits d t) class (c.put_at_place.ensures.side (subst (λ s. HasOtherGains s t) same other)) in
-    let all : AreBytes (drop 6 middle) = subst AreBytes c.put_right_word.ensures.behind (AreBelow-drop 256 6 new (AreBytes-from_places new (λ i. omega (arith, c.type_inv.frame i)))) in
-    gains-protected h t old middle new is all c.put_at_place.ensures.before
-    (subst (λ d. drop (6 + side_size_of d) middle ≡ drop (6 + side_size_of d) old) class c.put_at_place.ensures.behind)
-    side (subst (λ k. bits (take (side_size_of (class_of k)) (drop 6 middle)) ≡ side_bits (class_of k) t → new ≡ take 4 middle ++ (bytes (bits_of 16 (check_word_of k t)) ++ drop 6 middle)) c.header.ensures (c.put_right_word.ensures.word t) side)
+pub returns-then-protected : goal.returns-then-protected
+returns-then-protected c = record {
+  length = search rules;
+  header = search rules;
+  behind = let h = c.args.front.now.header in
+      let old = c.args.frame.now in
+      let middle = c.put_at_place.new.frame in
+      let new = c.put_right_word.new.frame in
+      let size = side_size_of (class_of h) in
+      let class = c.requires.class in
+      let is : h.protected ≡ true = sym c.protected.ensures ∙ c.if-protected.true in
+      let over : overhead_of (class_of h) h.protected ≡ 6 + size = overhead-protected h is in
+      ap (λ n. drop n new) over
+      ∙ sym (drop-drop size 6 new)
+      ∙ ap (drop size) c.put_right_word.ensures.behind
+      ∙ drop-drop size 6 middle
+      ∙ subst (λ d. drop (6 + side_size_of d) middle ≡ drop (6 + side_size_of d) old) class c.put_at_place.ensures.behind
+      ∙ sym (ap (λ n. drop n old) over);
+  gains = λ other. let h = c.args.front.now.header in
+      let t = c.args.side.now in
+      let old = c.args.frame.now in
+      let middle = c.put_at_place.new.frame in
+      let new = c.put_right_word.new.frame in
+      let class = c.requires.class in
+      let is : h.protected ≡ true = sym c.protected.ensures ∙ c.if-protected.true in
+      let same = side_read h c.args.class 6 old class (ap side_place is) in
+      let side = subst (λ d. bits (take (side_size_of d) (drop 6 middle)) ≡ side_bits d t) class (c.put_at_place.ensures.side (subst (λ s. HasOtherGains s t) same other)) in
+      let all : AreBytes (drop 6 middle) = subst AreBytes c.put_right_word.ensures.behind (AreBelow-drop 256 6 new (AreBytes-from_places new (λ i. omega (arith, c.type_inv.frame i)))) in
+      gains-protected h t old middle new is all c.put_at_place.ensures.before
+      (subst (λ d. drop (6 + side_size_of d) middle ≡ drop (6 + side_size_of d) old) class c.put_at_place.ensures.behind)
+      side (subst (λ k. bits (take (side_size_of (class_of k)) (drop 6 middle)) ≡ side_bits (class_of k) t → new ≡ take 4 middle ++ (bytes (bits_of 16 (check_word_of k t)) ++ drop 6 middle)) c.header.ensures (c.put_right_word.ensures.word t) side);
+}
 
-pub returns-else-protected-clause-gains : goal.returns-else-protected-clause-gains
-returns-else-protected-clause-gains c other =
-    let h = c.args.front.now.header in
-    let t = c.args.side.now in
-    let old = c.args.frame.now in
-    let new = c.put_at_place-else-protected.new.frame in
-    let class = c.requires.class in
-    let is : h.protected ≡ false = sym c.protected.ensures ∙ c.if-protected.false in
-    let same = side_read h c.args.class 4 old class (ap side_place is) in
-    let all : AreBytes new = AreBytes-from_places new (λ i. omega (arith, c.type_inv.frame i)) in
-    gains-unprotected h t old new is all c.put_at_place-else-protected.ensures.before
-    (subst (λ d. drop (4 + side_size_of d) new ≡ drop (4 + side_size_of d) old) class c.put_at_place-else-protected.ensures.behind)
-    (subst (λ d. bits (take (side_size_of d) (drop 4 new)) ≡ side_bits d t) class (c.put_at_place-else-protected.ensures.side (subst (λ s. HasOtherGains s t) same other)))
+pub returns-else-protected : goal.returns-else-protected
+returns-else-protected c = record {
+  length = search rules;
+  header = search rules;
+  behind = let h = c.args.front.now.header in
+      let old = c.args.frame.now in
+      let new = c.put_at_place-else-protected.new.frame in
+      let is : h.protected ≡ false = sym c.protected.ensures ∙ c.if-protected.false in
+      let over : overhead_of (class_of h) h.protected ≡ 4 + side_size_of (class_of h) = overhead-unprotected h is in
+      ap (λ n. drop n new) over
+      ∙ subst (λ d. drop (4 + side_size_of d) new ≡ drop (4 + side_size_of d) old) c.requires.class c.put_at_place-else-protected.ensures.behind
+      ∙ sym (ap (λ n. drop n old) over);
+  gains = λ other. let h = c.args.front.now.header in
+      let t = c.args.side.now in
+      let old = c.args.frame.now in
+      let new = c.put_at_place-else-protected.new.frame in
+      let class = c.requires.class in
+      let is : h.protected ≡ false = sym c.protected.ensures ∙ c.if-protected.false in
+      let same = side_read h c.args.class 4 old class (ap side_place is) in
+      let all : AreBytes new = AreBytes-from_places new (λ i. omega (arith, c.type_inv.frame i)) in
+      gains-unprotected h t old new is all c.put_at_place-else-protected.ensures.before
+      (subst (λ d. drop (4 + side_size_of d) new ≡ drop (4 + side_size_of d) old) class c.put_at_place-else-protected.ensures.behind)
+      (subst (λ d. bits (take (side_size_of d) (drop 4 new)) ≡ side_bits d t) class (c.put_at_place-else-protected.ensures.side (subst (λ s. HasOtherGains s t) same other)));
+}

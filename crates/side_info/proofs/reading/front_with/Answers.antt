@@ -13,7 +13,7 @@ enough c = rw length-bits c.requires.enough
 pub overflow_cast-result : goal.overflow_cast-result
 overflow_cast-result c =
     let at = (goal.at.overflow_cast-result c).After-number_at-fields in
-    let few : 2 ^ c.args.begin ≤ 2 ^ 9 = pow_mono c.requires.begin in
+    let few : 2 ^ c.args.begin ≤ 2 ^ 9 = pow_mono c.requires.widths.begin_is in
     let below = begin-below (bits c.args.bytes.now) c.args.begin c.args.private_bits c.args.first c.args.second c.number_at-fields.result (AreBits-bits c.args.bytes.now) (enough at) c.number_at-fields.ensures.below c.number_at-fields.ensures.value in
     omega (arith, below, few)
 

@@ -11,7 +11,7 @@ use Rattle.side_info.proofs.side.read_parts.Goals as goal
 use Rattle.side_info.proofs.side.read_parts.Goals.{After-from}
 
 class : (c : After-from) → IsClass (class_with c.args.version 0 c.args.channels)
-class c = (lit≤ tt, c.requires.some, c.requires.few)
+class c = (lit≤ tt, c.requires.channels.some, c.requires.channels.few)
 
 -- all the bytes
 whole : (c : After-from) → take c.side_size.result c.args.bytes.now ≡ c.args.bytes.now

@@ -20,14 +20,11 @@ side c =
     ∙ sym (ap₂ (λ v n. side_at (class_with v 0 n) (bits c.args.bytes.now)) c.requires.version c.requires.channels)
     ∙ side_at-class c.args.class (bits c.args.bytes.now)
 
-pub returns-clause-side : goal.returns-clause-side
-returns-clause-side c = side c
-
-pub returns-clause-fits : goal.returns-clause-fits
-returns-clause-fits c = subst (SideFits c.args.class) (sym (side c)) (SideFits-side_at c.args.class (subst IsClass c.class.view_is c.class.invariant) (bits c.args.bytes.now) (AreBits-bits c.args.bytes.now))
-
-pub returns-clause-back : goal.returns-clause-back
-returns-clause-back c =
-    ap (side_bits c.args.class) (side c)
-    ∙ side_bits-side_at c.args.class (subst IsClass c.class.view_is c.class.invariant) (bits c.args.bytes.now)
-    (AreBits-bits c.args.bytes.now) (length-bits c.args.bytes.now ∙ ap (λ n. 8 * n) c.requires.size)
+pub returns : goal.returns
+returns c = record {
+  side = side c;
+  fits = subst (SideFits c.args.class) (sym (side c)) (SideFits-side_at c.args.class (subst IsClass c.class.view_is c.class.invariant) (bits c.args.bytes.now) (AreBits-bits c.args.bytes.now));
+  back = ap (side_bits c.args.class) (side c)
+      ∙ side_bits-side_at c.args.class (subst IsClass c.class.view_is c.class.invariant) (bits c.args.bytes.now)
+      (AreBits-bits c.args.bytes.now) (length-bits c.args.bytes.now ∙ ap (λ n. 8 * n) c.requires.size);
+}

@@ -12,7 +12,7 @@ put_two-requires-clause-room c = c.requires.size ∙ size_one c.args.version c.a
 pub put_four-requires-clause-room : goal.put_four-requires-clause-room
 unfolding side_size_of
 put_four-requires-clause-room c =
-    c.requires.size ∙ size_one c.args.version c.args.channels 2 c.in-One-false.is-0 (two_channels c.args.channels c.requires.some c.requires.few c.in-One-false.is-1)
+    c.requires.size ∙ size_one c.args.version c.args.channels 2 c.in-One-false.is-0 (two_channels c.args.channels c.requires.channels.some c.requires.channels.few c.in-One-false.is-1)
 
 pub put_one-requires : goal.put_one-requires
 unfolding side_size_of
@@ -28,13 +28,10 @@ unfolding side_size_of
 put_two-requires-in-Two-false c =
     let one : granules_of c.args.version ≡ 1 = search rules in
     record {
-      some = omega arith;
-      few = omega arith;
+      widths = record { some = omega arith; few = omega arith; long = omega arith; whole = omega arith };
       first = subst (λ n. c.granule_word-granule-in-Two-false.result < 2 ^ n) (size_of_two c.args.version one) c.granule_word-granule-in-Two-false.ensures.below;
       second = subst (λ n. c.granule_word-last-in-Two-false.result < 2 ^ n) (size_of_two c.args.version one) c.granule_word-last-in-Two-false.ensures.below;
-      long = omega arith;
-      whole = omega arith;
-      room = c.requires.size ∙ size_two c.args.version c.args.channels 2 one (two_channels c.args.channels c.requires.some c.requires.few c.in-Two-false.is-1);
+      room = c.requires.size ∙ size_two c.args.version c.args.channels 2 one (two_channels c.args.channels c.requires.channels.some c.requires.channels.few c.in-Two-false.is-1);
     }
 
 pub returns-in-One-true-clause-written : goal.returns-in-One-true-clause-written
@@ -52,7 +49,7 @@ returns-in-One-false-clause-written c =
     c.put_four.ensures
     ∙ ap (λ bs. bits_of 20 c.args.front ++ (bits_of 59 a ++ (bits_of 59 b ++ (bits_of 59 d ++ bs)))) (append-nil (bits_of 59 e))
     ∙ one_stereo c.args.first.now c.args.second.now c.args.front a b (omega arith) (omega arith)
-    c.args.version c.args.channels d e c.in-One-false.is-0 (two_channels c.args.channels c.requires.some c.requires.few c.in-One-false.is-1)
+    c.args.version c.args.channels d e c.in-One-false.is-0 (two_channels c.args.channels c.requires.channels.some c.requires.channels.few c.in-One-false.is-1)
     c.granule_word.ensures.word c.granule_word-in-One-false.ensures.word c.granule_word-in-One-false-2.ensures.word c.granule_word-in-One-false-3.ensures.word
 
 pub returns-in-Two-true-clause-written : goal.returns-in-Two-true-clause-written
@@ -68,6 +65,6 @@ returns-in-Two-false-clause-written c =
     let size = sym (size_of_two c.args.version one) in
     c.put_two-in-Two-false.ensures
     ∙ two_stereo c.args.first.now c.args.second.now c.args.front c.granule_word-granule-in-Two-false.result c.granule_word-last-in-Two-false.result (omega arith) (omega arith)
-    c.args.version c.args.channels one (two_channels c.args.channels c.requires.some c.requires.few c.in-Two-false.is-1)
+    c.args.version c.args.channels one (two_channels c.args.channels c.requires.channels.some c.requires.channels.few c.in-Two-false.is-1)
     (ap (λ n. bits_of n c.granule_word-granule-in-Two-false.result) size ∙ c.granule_word-granule-in-Two-false.ensures.word)
     (ap (λ n. bits_of n c.granule_word-last-in-Two-false.result) size ∙ c.granule_word-last-in-Two-false.ensures.word)

@@ -11,11 +11,11 @@ use Rattle.slot_plan.proofs.plans.plan.Goals as goal
 pub loop-at-init : goal.loop-at-init
 loop-at-init g c =
     let needs = c.args.needs.now in
-    let some : 0 < length needs = omega (arith, c.requires.within 0 0 c.requires.some) in
-    let window = window-first needs c.index-needs-0.result c.class-class.result c.window-window.result c.requires.class some c.class-class.ensures c.window-window.ensures.window in
+    let some : 0 < length needs = omega (arith, c.requires.planned.within 0 0 c.requires.planned.some) in
+    let window = window-first needs c.index-needs-0.result c.class-class.result c.window-window.result c.requires.planned.class some c.class-class.ensures c.window-window.ensures.window in
     record {
       free = omega arith;
-      feasible = subst (λ n. ArePartsFeasible n (parts_of needs c.args.parts.now)) (sym window) c.requires.feasible;
+      feasible = subst (λ n. ArePartsFeasible n (parts_of needs c.args.parts.now)) (sym window) c.requires.planned.feasible;
       placed = subst (λ l. PartsPlaced c.window-window.result (g.P.Policy.choices_of c.args.policy.now) (parts_of needs c.args.parts.now) (parts_of needs c.args.parts.now) 0 l) (sym c.in_ok-placed.ensures.items)
           (parts-begun c.window-window.result (g.P.Policy.choices_of c.args.policy.now) (parts_of needs c.args.parts.now));
     }
@@ -23,19 +23,18 @@ loop-at-init g c =
 pub place_part-requires : goal.place_part-requires
 place_part-requires g c =
     let needs = c.args.needs.now in
-    let some : 0 < length needs = omega (arith, c.requires.within 0 0 c.requires.some) in
-    let window = window-first needs c.index-needs-0.result c.class-class.result c.window-window.result c.requires.class some c.class-class.ensures c.window-window.ensures.window in
-    let ready = part-ready needs c.args.parts.now c.loop-at.at c.end_of.result c.window-window.result c.requires.class c.requires.ascending c.requires.within c.loop-at-test.true c.end_of.ensures.next c.end_of.ensures.last window c.loop-at.invariant.feasible in
-    let class = one-class c.class-class.result needs c.index-needs-0.result c.requires.class c.class-class.ensures in
+    let some : 0 < length needs = omega (arith, c.requires.planned.within 0 0 c.requires.planned.some) in
+    let window = window-first needs c.index-needs-0.result c.class-class.result c.window-window.result c.requires.planned.class some c.class-class.ensures c.window-window.ensures.window in
+    let ready = part-ready needs c.args.parts.now c.loop-at.at c.end_of.result c.window-window.result c.requires.planned.class c.requires.planned.ascending c.requires.planned.within c.loop-at-test.true c.end_of.ensures.next c.end_of.ensures.last window c.loop-at.invariant.feasible in
+    let class = one-class c.class-class.result needs c.index-needs-0.result c.requires.planned.class c.class-class.ensures in
     record {
-      class = subst (λ k. AreOfClass k (slice_range needs (get_or c.args.parts.now c.loop-at.at 0) c.end_of.result)) (sym c.in_ok-table.ensures.class)
-          (class-range c.class-class.result needs (get_or c.args.parts.now c.loop-at.at 0) c.end_of.result class);
-      table = c.in_ok-table.ensures.table;
-      some = ready.0;
-      window = search rules;
-      same = ready.1;
+      table = record {
+        class = subst (λ k. AreOfClass k (slice_range needs (get_or c.args.parts.now c.loop-at.at 0) c.end_of.result)) (sym c.in_ok-table.ensures.class_is)
+            (class-range c.class-class.result needs (get_or c.args.parts.now c.loop-at.at 0) c.end_of.result class);
+        slots = c.in_ok-table.ensures.of_slots;
+      };
+      part = record { some = ready.0; most = search rules; same = ready.1; feasible = ready.2 };
       free = c.loop-at.invariant.free;
-      feasible = ready.2;
     }
 
 pub loop-at-preserved : goal.loop-at-preserved
@@ -43,9 +42,9 @@ loop-at-preserved g c =
     let needs = c.args.needs.now in
     let parts = c.args.parts.now in
     let choices = g.P.Policy.choices_of c.args.policy.now in
-    let some : 0 < length needs = omega (arith, c.requires.within 0 0 c.requires.some) in
-    let window = window-first needs c.index-needs-0.result c.class-class.result c.window-window.result c.requires.class some c.class-class.ensures c.window-window.ensures.window in
-    let ready = part-ready needs parts c.loop-at.at c.end_of.result c.window-window.result c.requires.class c.requires.ascending c.requires.within c.loop-at-test.true c.end_of.ensures.next c.end_of.ensures.last window c.loop-at.invariant.feasible in
+    let some : 0 < length needs = omega (arith, c.requires.planned.within 0 0 c.requires.planned.some) in
+    let window = window-first needs c.index-needs-0.result c.class-class.result c.window-window.result c.requires.planned.class some c.class-class.ensures c.window-window.ensures.window in
+    let ready = part-ready needs parts c.loop-at.at c.end_of.result c.window-window.result c.requires.planned.class c.requires.planned.ascending c.requires.planned.within c.loop-at-test.true c.end_of.ensures.next c.end_of.ensures.last window c.loop-at.invariant.feasible in
     let here = parts-cons needs parts c.loop-at.at (get_or parts c.loop-at.at 0) c.end_of.result c.loop-at-test.true refl c.end_of.ensures.next c.end_of.ensures.last in
     record {
       free = c.in_ok-free.ensures.within;
@@ -59,8 +58,8 @@ returns g c =
     let needs = c.args.needs.now in
     let parts = c.args.parts.now in
     let choices = g.P.Policy.choices_of c.args.policy.now in
-    let some : 0 < length needs = omega (arith, c.requires.within 0 0 c.requires.some) in
-    let window = window-first needs c.index-needs-0.result c.class-class.result c.window-window.result c.requires.class some c.class-class.ensures c.window-window.ensures.window in
+    let some : 0 < length needs = omega (arith, c.requires.planned.within 0 0 c.requires.planned.some) in
+    let window = window-first needs c.index-needs-0.result c.class-class.result c.window-window.result c.requires.planned.class some c.class-class.ensures c.window-window.ensures.window in
     let all = subst (λ l. PartsPlaced c.window-window.result choices (parts_of needs parts) l c.loop-at.free c.loop-at.placed.items) (parts-none needs parts c.loop-at.at c.loop-at-test.false) c.loop-at.invariant.placed in
     let plan = subst (λ n. IsPlan n choices (parts_of needs parts) c.loop-at.placed.items) window (parts-all c.window-window.result choices (parts_of needs parts) c.loop-at.free c.loop-at.placed.items all) in
     record { plan = plan; least = λ order. plan-least (window_in needs) choices (parts_of needs parts) c.loop-at.placed.items order plan }

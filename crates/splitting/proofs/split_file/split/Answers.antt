@@ -3,9 +3,9 @@ use Rattle.std.proofs.Common.{◌≡◌, ◌≤◌, Ok, length, refl, sym, ◌�
 use Rattle.std.proofs.lemmas.Result.{IfErr-weaker, on_ok_weaker}
 use Rattle.outside.specs.Counts.{NoneFell}
 use Rattle.outside.proofs.CountsLaws.{none_fell_by_reads, none_fell_then, only_reads_then}
+use Rattle.outside.specs.Seen.{Seen, seen}
 use Rattle.frame_writer.proofs.WritingLaws.{ok-both}
 use Rattle.sync_survey.specs.Faults.{tells}
-use Rattle.commands.specs.Left.{Seen, seen}
 use Rattle.commands.proofs.MakeLaws.{no_clash, names_free, refused_run}
 use Rattle.splitting.specs.Split.{placing_of, split_command_of}
 use Rattle.splitting.specs.Steps.{Says}
@@ -25,34 +25,34 @@ returns-in_err-survey g c =
     let none = sym c.clash.ensures ∙ c.in_default.is in
     refused_run _ _ _ _ _ none c.from_residual.ensures.1 (input-left c.args.points.now c.args.input.now c.args.prefix.now none _ _ _ c.in_err-survey.ensures.refused)
     (survey-numbers c.args.points.now c.args.input.now c.args.prefix.now _ c.in_err-survey.ensures.numbers)
-    (none_fell_by_reads _ _ c.survey_at.ensures.counts)
+    (none_fell_by_reads _ _ c.survey_at.ensures.reads.counts)
 
 pub returns-in_err-places : goal.returns-in_err-places
 returns-in_err-places g c =
     let none = sym c.clash.ensures ∙ c.in_default.is in
-    let old = seen (g.D.Folder.files c.args.folder.now) (g.D.Folder.counts c.args.folder.now) in
-    let mid = seen (g.D.Folder.files c.survey_at.new.folder) (g.D.Folder.counts c.survey_at.new.folder) in
+    let old = g.D.Folder.seen c.args.folder.now in
+    let mid = g.D.Folder.seen c.survey_at.new.folder in
     refused_run _ _ _ _ _ none c.from_residual-in_err-places.ensures.1
-    (places-left c.args.points.now c.args.input.now c.args.prefix.now none (tells c.in_ok-survey.survey) old c.in_ok-survey.ensures.there c.in_ok-survey.ensures.surveyed mid _ (ap₂ seen c.survey_at.ensures.files c.in_ok-survey.ensures.done) _ c.in_err-places.ensures.refused)
+    (places-left c.args.points.now c.args.input.now c.args.prefix.now none (tells c.in_ok-survey.survey) old c.in_ok-survey.ensures.there c.in_ok-survey.ensures.surveyed mid _ (ap₂ seen c.survey_at.ensures.reads.files c.in_ok-survey.ensures.reads.done) _ c.in_err-places.ensures.refused)
     (places-numbers c.args.points.now c.args.input.now c.args.prefix.now _ c.in_err-places.ensures.numbers)
-    (none_fell_by_reads _ _ (only_reads_then _ _ _ c.survey_at.ensures.counts c.places_of.ensures.counts))
+    (none_fell_by_reads _ _ (only_reads_then _ _ _ c.survey_at.ensures.reads.counts c.places_of.ensures.reads.counts))
 
 -- the positions are those that the files from before say, and nothing changed
 module _ (g : given.Over) (c : After-as_slice g) where
   abbrev old : Seen
-  old = seen (g.D.Folder.files c.args.folder.now) (g.D.Folder.counts c.args.folder.now)
+  old = g.D.Folder.seen c.args.folder.now
 
   abbrev mid : Seen
-  mid = seen (g.D.Folder.files c.places_of.new.folder) (g.D.Folder.counts c.places_of.new.folder)
+  mid = g.D.Folder.seen c.places_of.new.folder
 
-  said : Says (placing_of c.args.points.now) (g.D.Folder.files c.args.folder.now) (Ok c.as_slice.result.now)
-  said = rw (c.as_slice.ensures.value, ← c.survey_at.ensures.files) c.in_ok-places.ensures.places
+  said : Says (placing_of c.args.points.now) (g.D.Folder.seen c.args.folder.now).files (Ok c.as_slice.result.now)
+  said = rw (c.as_slice.ensures.value, ← c.survey_at.ensures.reads.files) c.in_ok-places.ensures.places
 
   stays : mid ≡ old
-  stays = ap₂ seen (c.places_of.ensures.files ∙ c.survey_at.ensures.files) (c.in_ok-places.ensures.done ∙ c.in_ok-survey.ensures.done)
+  stays = ap₂ seen (c.places_of.ensures.reads.files ∙ c.survey_at.ensures.reads.files) (c.in_ok-places.ensures.reads.done ∙ c.in_ok-survey.ensures.reads.done)
 
   fell : NoneFell old.counts mid.counts
-  fell = none_fell_by_reads _ _ (only_reads_then _ _ _ c.survey_at.ensures.counts c.places_of.ensures.counts)
+  fell = none_fell_by_reads _ _ (only_reads_then _ _ _ c.survey_at.ensures.reads.counts c.places_of.ensures.reads.counts)
 
 pub returns-in_err-pieces : goal.returns-in_err-pieces
 returns-in_err-pieces g c =
@@ -73,13 +73,19 @@ returns-in_err-buffers g c =
 few : (g : given.Over) (c : In_ok-pieces g) → length c.in_ok-pieces.pieces.items ≤ 99
 few g c = omega (arith, c.in_ok-pieces.ensures.count, c.in_ok-places.ensures.positions.2, ap length c.as_slice.ensures.value)
 
-pub write_pieces-requires-clause-few : goal.write_pieces-requires-clause-few
-write_pieces-requires-clause-few g c = omega (arith, few g (goal.at.write_pieces-requires-clause-few g c).In_ok-pieces, ap length c.as_slice-2.ensures.value)
-
-pub write_pieces-requires-clause-ready : goal.write_pieces-requires-clause-ready
-write_pieces-requires-clause-ready g c =
-    let some = few g (goal.at.write_pieces-requires-clause-ready g c).In_ok-pieces in
-    rw c.as_slice-2.ensures.value (can-be-written c.args.prefix.now c.args.input.now (tells c.in_ok-survey.survey) 1 _ (no_clash _ 0 _ (sym c.clash.ensures ∙ c.in_default.is)).0 (omega arith) (omega (arith, some)) c.in_ok-pieces.ensures.pieces)
+pub write_pieces-requires-clause-split : goal.write_pieces-requires-clause-split
+write_pieces-requires-clause-split g c =
+    let at = goal.at.write_pieces-requires-clause-split g c in
+    let some = few g at.In_ok-pieces in
+    let survey = c.in_ok-survey.ensures in
+    let same = stays g at.After-as_slice in
+    record {
+      there = rw same survey.there;
+      laid = survey.laid;
+      surveyed = rw same survey.surveyed;
+      few = omega (arith, some, ap length c.as_slice-2.ensures.value);
+      ready = rw c.as_slice-2.ensures.value (can-be-written c.args.prefix.now c.args.input.now (tells c.in_ok-survey.survey) 1 _ (no_clash _ 0 _ (sym c.clash.ensures ∙ c.in_default.is)).0 (omega arith) (omega (arith, some)) c.in_ok-pieces.ensures.pieces);
+    }
 
 pub returns : goal.returns
 returns g c =
@@ -105,6 +111,3 @@ returns g c =
           (λ done. split-streams c.args.points.now c.args.input.now c.args.prefix.now none (tells c.in_ok-survey.survey) (old g at) survey.there survey.surveyed c.as_slice.result.now (said g at) survey.octets) c.write_pieces.ensures.done;
       counts = none_fell_then _ _ _ (fell g at) c.write_pieces.ensures.counts;
     }
-
-pub write_pieces-requires-clause-laid : goal.write_pieces-requires-clause-laid
-write_pieces-requires-clause-laid g c = c.in_ok-survey.ensures.laid

@@ -1,5 +1,5 @@
 -- A piece more that is whole, or begun.
-use Rattle.std.proofs.Common.{◌≡◌, ◌≢◌, ◌+◌, ◌∷◌, length, take, drop, refl, ◌∙◌, sym, subst, string_bytes, arith}
+use Rattle.std.proofs.Common.{◌≡◌, ◌≢◌, ◌+◌, ◌∷◌, length, take, drop, refl, ◌∙◌, sym, subst, string_bytes, arith, rules}
 use Rattle.std.proofs.lemmas.List.{length-take, take_all}
 use Rattle.outside.specs.declared.pass.PassFault.TheVariants.{Write}
 use Rattle.outside.proofs.FilesLaws.{emptied_held_other, fails_touches}
@@ -18,7 +18,7 @@ use Rattle.splitting.proofs.writing.write_pieces.Goals as goal
 use Rattle.splitting.proofs.writing.write_pieces.Goals.{After-create, After-loop-piece}
 
 pub loop-piece-init : goal.loop-piece-init
-loop-piece-init g c = record { wrote = none-wrote (tells c.args.survey.now) c.args.input.now (g.D.Folder.files c.args.folder.now) c.requires.there; place = refl; fed = c.requires.fed; unsent = c.requires.unsent; counts = refl }
+loop-piece-init g c = record { wrote = none-wrote (tells c.args.survey.now) c.args.input.now (g.D.Folder.seen c.args.folder.now).files c.requires.split.there; place = refl; fed = c.requires.fed; unsent = c.requires.unsent; counts = refl }
 
 -- the next piece
 module _ (g : given.Over) (c : After-create g) where
@@ -26,7 +26,7 @@ module _ (g : given.Over) (c : After-create g) where
   piece = c.piece-item.result
 
   ready : (c.args.input.now ≢ string_bytes piece.name) × IsReady (tells c.args.survey.now) piece
-  ready = subst (λ (p : Piece). (c.args.input.now ≢ string_bytes p.name) × IsReady (tells c.args.survey.now) p) (sym c.piece-item.is) (c.requires.ready c.loop-piece.piece-index piece (omega (arith, c.loop-piece-test.true)))
+  ready = subst (λ (p : Piece). (c.args.input.now ≢ string_bytes p.name) × IsReady (tells c.args.survey.now) p) (sym c.piece-item.is) (c.requires.split.ready c.loop-piece.piece-index piece (omega (arith, c.loop-piece-test.true)))
 
   next : drop c.loop-piece.piece-index c.args.pieces.now ≡ piece ∷ drop (c.loop-piece.piece-index + 1) c.args.pieces.now
   next = item-next c.args.pieces.now c.loop-piece.piece-index piece (omega (arith, c.loop-piece-test.true)) c.piece-item.is
@@ -41,60 +41,71 @@ pub write_selection-requires-clause-ready : goal.write_selection-requires-clause
 write_selection-requires-clause-ready g c =
     let away = apart g (goal.at.write_selection-requires-clause-ready g c).After-create in
     let stands = c.loop-piece.invariant.wrote.stands in
-    relay-ready _ (g.D.Folder.files c.loop-piece.folder) (g.D.Folder.files c.create.new.self) _ away stands.there c.requires.laid
-    (λ file holds. survey-had file most_frames (tells c.args.survey.now) (c.requires.surveyed file (stands.before file holds))) c.length.ensures c.in-Ok.ensures.created
-    (record { same = λ bytes holds. c.loop-piece.invariant.fed.same bytes (emptied_held_other _ _ c.args.input.now bytes away (rw c.in-Ok.ensures.created at holds)) })
+    relay-ready _ (g.D.Folder.seen c.loop-piece.folder).files (g.D.Folder.seen c.create.new.self).files _ away stands.there c.requires.split.laid
+    (λ file holds. survey-had file most_frames (tells c.args.survey.now) (c.requires.split.surveyed file (stands.before file holds))) c.length.ensures c.in-Ok.ensures.answer.created
+    (record { same = λ bytes holds. c.loop-piece.invariant.fed.same bytes (emptied_held_other _ _ c.args.input.now bytes away (rw c.in-Ok.ensures.answer.created at holds)) })
 
 pub write_selection-requires-clause-selected : goal.write_selection-requires-clause-selected
 write_selection-requires-clause-selected g c = (ready g (goal.at.write_selection-requires-clause-selected g c).After-create).1
 
-pub returns-in_default-clause-left : goal.returns-in_default-clause-left
-returns-in_default-clause-left g c =
-    let at = (goal.at.returns-in_default-clause-left g c).After-create in
-    let kept = rw c.as_str.ensures.value at c.in_default.ensures.kept in
-    pieces-fault (tells c.args.survey.now) c.args.input.now c.args.pieces.now c.loop-piece.piece-index (piece g at) _ _ _ (next g at) c.loop-piece.invariant.wrote (fails_touches _ _ _ kept) Write c.loop-piece.place _ _ _ (place-is g at) c.loop-piece.invariant.counts
-    (refl, record { rose = rw c.as_str.ensures.value at c.in_default.ensures.failed; files = not_begun _ _ _ _ _ kept })
+pub returns-in_default : goal.returns-in_default
+returns-in_default g c =
+    let at = (goal.at.returns-in_default g c).After-create in
+    let kept = rw c.as_str.ensures.value at c.in_default.ensures.answer.kept in
+    record {
+      written = tt;
+      touches = all-touched (tells c.args.survey.now) c.args.input.now c.args.pieces.now c.loop-piece.piece-index (piece g at) _ _ _ (next g at) c.loop-piece.invariant.wrote (fails_touches _ _ _ (rw c.as_str.ensures.value at c.in_default.ensures.answer.kept));
+      done = tt;
+      left =
+          pieces-fault (tells c.args.survey.now) c.args.input.now c.args.pieces.now c.loop-piece.piece-index (piece g at) _ _ _ (next g at) c.loop-piece.invariant.wrote (fails_touches _ _ _ kept) Write c.loop-piece.place _ _ _ (place-is g at) c.loop-piece.invariant.counts
+          (refl, record { rose = rw c.as_str.ensures.value at c.in_default.ensures.answer.failed; files = not_begun _ _ _ _ _ kept });
+      numbers = search rules;
+      counts = search rules;
+    }
 
-pub returns-in_default-clause-touches : goal.returns-in_default-clause-touches
-returns-in_default-clause-touches g c =
-    let at = (goal.at.returns-in_default-clause-touches g c).After-create in
-    all-touched (tells c.args.survey.now) c.args.input.now c.args.pieces.now c.loop-piece.piece-index (piece g at) _ _ _ (next g at) c.loop-piece.invariant.wrote (fails_touches _ _ _ (rw c.as_str.ensures.value at c.in_default.ensures.kept))
-
-pub returns-in-Err-clause-left : goal.returns-in-Err-clause-left
-returns-in-Err-clause-left g c =
-    let at = (goal.at.returns-in-Err-clause-left g c).After-create in
+pub returns-in-Err : goal.returns-in-Err
+returns-in-Err g c =
+    let at = (goal.at.returns-in-Err g c).After-create in
     let made = selected_file (tells c.args.survey.now) (piece g at).selection in
-    let touches = touches_prefix made _ _ (apart g at) _ _ _ c.in-Ok.ensures.created c.in-Err.ensures.prefix in
-    let fault = pass_fault made _ _ (apart g at) _ _ _ c.in-Ok.ensures.created c.in-Err.fault _ (g.D.Folder.counts c.loop-piece.folder) _ _ c.in-Ok.ensures.done c.in-Err.ensures.prefix c.in-Err.ensures.cause in
-    rw c.of_piece.ensures
-    (pieces-fault (tells c.args.survey.now) c.args.input.now c.args.pieces.now c.loop-piece.piece-index (piece g at) _ _ _ (next g at) c.loop-piece.invariant.wrote (rw c.as_str.ensures.value at touches) c.in-Err.fault c.loop-piece.place _ _ _ (place-is g at) c.loop-piece.invariant.counts
-    (rw c.as_str.ensures.value at fault))
-
-pub returns-in-Err-clause-touches : goal.returns-in-Err-clause-touches
-returns-in-Err-clause-touches g c =
-    let at = (goal.at.returns-in-Err-clause-touches g c).After-create in
-    let touches = touches_prefix _ _ _ (apart g at) _ _ _ c.in-Ok.ensures.created c.in-Err.ensures.prefix in
-    all-touched (tells c.args.survey.now) c.args.input.now c.args.pieces.now c.loop-piece.piece-index (piece g at) _ _ _ (next g at) c.loop-piece.invariant.wrote (rw c.as_str.ensures.value at touches)
+    let touches = touches_prefix made _ _ (apart g at) _ _ _ c.in-Ok.ensures.answer.created c.in-Err.ensures.prefix in
+    let fault = pass_fault made _ _ (apart g at) _ _ _ c.in-Ok.ensures.answer.created c.in-Err.fault _ (g.D.Folder.seen c.loop-piece.folder).counts _ _ c.in-Ok.ensures.answer.done c.in-Err.ensures.prefix c.in-Err.ensures.cause in
+    let touches = touches_prefix _ _ _ (apart g at) _ _ _ c.in-Ok.ensures.answer.created c.in-Err.ensures.prefix in
+    record {
+      written = tt;
+      touches = all-touched (tells c.args.survey.now) c.args.input.now c.args.pieces.now c.loop-piece.piece-index (piece g at) _ _ _ (next g at) c.loop-piece.invariant.wrote (rw c.as_str.ensures.value at touches);
+      done = tt;
+      left =
+          rw c.of_piece.ensures
+          (pieces-fault (tells c.args.survey.now) c.args.input.now c.args.pieces.now c.loop-piece.piece-index (piece g at) _ _ _ (next g at) c.loop-piece.invariant.wrote (rw c.as_str.ensures.value at touches) c.in-Err.fault c.loop-piece.place _ _ _ (place-is g at) c.loop-piece.invariant.counts
+          (rw c.as_str.ensures.value at fault));
+      numbers = search rules;
+      counts = search rules;
+    }
 
 pub loop-piece-preserved : goal.loop-piece-preserved
 loop-piece-preserved g c =
     let at = (goal.at.loop-piece-preserved g c).After-create in
-    let touches = touches_whole _ _ _ (apart g at) _ _ _ c.in-Ok.ensures.created c.in_default-write_selection.ensures.written in
-    let whole = output_whole (selected_file (tells c.args.survey.now) (piece g at).selection) _ _ (apart g at) _ _ _ c.in-Ok.ensures.created c.in_default-write_selection.ensures.written in
+    let touches = touches_whole _ _ _ (apart g at) _ _ _ c.in-Ok.ensures.answer.created c.in_default-write_selection.ensures.written in
+    let whole = output_whole (selected_file (tells c.args.survey.now) (piece g at).selection) _ _ (apart g at) _ _ _ c.in-Ok.ensures.answer.created c.in_default-write_selection.ensures.written in
     record {
       wrote = more-wrote (tells c.args.survey.now) c.args.input.now c.args.pieces.now c.loop-piece.piece-index (piece g at) _ _ _ (next g at) c.loop-piece.invariant.wrote (rw c.as_str.ensures.value at touches) (ready g at).0 (rw c.as_str.ensures.value at whole);
       place = omega (arith, c.loop-piece.invariant.place);
       fed = c.in_default-write_selection.ensures.ready.pass.fed_from;
-      unsent = c.in_default-write_selection.ensures.unsent;
-      counts = c.in_default-write_selection.ensures.done ∙ c.in-Ok.ensures.done ∙ c.loop-piece.invariant.counts;
+      unsent = c.in_default-write_selection.ensures.none;
+      counts = c.in_default-write_selection.ensures.done ∙ c.in-Ok.ensures.answer.done ∙ c.loop-piece.invariant.counts;
     }
 
 -- all of them
-all-wrote : (g : given.Over) (c : After-loop-piece g) → Wrote (tells c.args.survey.now) c.args.input.now c.args.pieces.now (g.D.Folder.files c.args.folder.now) (g.D.Folder.files c.loop-piece.folder)
+all-wrote : (g : given.Over) (c : After-loop-piece g) → Wrote (tells c.args.survey.now) c.args.input.now c.args.pieces.now (g.D.Folder.seen c.args.folder.now).files (g.D.Folder.seen c.loop-piece.folder).files
 all-wrote g c = rw (take_all c.loop-piece.piece-index c.args.pieces.now (omega (arith, c.loop-piece-test.false))) at c.loop-piece.invariant.wrote
 
-pub returns-clause-written : goal.returns-clause-written
-returns-clause-written g c = (all-wrote g c).files
-
-pub returns-clause-touches : goal.returns-clause-touches
-returns-clause-touches g c = (all-wrote g c).touches
+pub returns : goal.returns
+returns g c =
+    record {
+      written = (all-wrote g c).files;
+      touches = (all-wrote g c).touches;
+      done = search rules;
+      left = tt;
+      numbers = tt;
+      counts = search rules;
+    }

@@ -7,9 +7,9 @@ use Rattle.splitting.proofs.writing.write_pieces.Given as goal
 
 abbrev pub invariant-loop-piece : goal.invariant-loop-piece
 invariant-loop-piece g l = record {
-  wrote : Wrote (tells l.survey) l.input (take l.piece-index l.pieces) (g.D.Folder.files l.fn.folder) (g.D.Folder.files l.folder);
+  wrote : Wrote (tells l.survey) l.input (take l.piece-index l.pieces) (g.D.Folder.seen l.fn.folder).files (g.D.Folder.seen l.folder).files;
   place : l.place ≡ l.piece-index;
-  fed : IsFedFrom l.buffers.feed (g.D.Folder.files l.folder) l.input;
+  fed : IsFedFrom l.buffers.feed (g.D.Folder.seen l.folder).files l.input;
   unsent : l.buffers.waiting ≡ [];
-  counts : g.D.Folder.counts l.folder ≡ g.D.Folder.counts l.fn.folder;
+  counts : (g.D.Folder.seen l.folder).counts ≡ (g.D.Folder.seen l.fn.folder).counts;
 }

@@ -1,5 +1,5 @@
 -- One item more is judged and kept, until the file ends.
-use Rattle.std.proofs.Common.{◌≡◌, ℕ, ◌+◌, ◌<◌, ◌≤◌, List, [], ◌∷◌, length, Ok, Err, Option, Some, None, refl, sym, ◌∙◌, ap, ap₂, subst, arith}
+use Rattle.std.proofs.Common.{rules, ◌≡◌, ℕ, ◌+◌, ◌<◌, ◌≤◌, List, [], ◌∷◌, length, Ok, Err, Option, Some, None, refl, sym, ◌∙◌, ap, ap₂, subst, arith}
 use Rattle.std.specs.Prelude.{vec_len, IfSome}
 use Rattle.std.proofs.lemmas.Bool.{true≢false, eq-eqb, eqb-true}
 use Rattle.frame_header.specs.Tables.{class_of}
@@ -66,39 +66,49 @@ loop-at-init g c = record {
 pub look-requires-clause-known : goal.look-requires-clause-known
 look-requires-clause-known g c = subst (λ f. HasLength f c.args.name.now c.args.walk.size) (sym c.loop-at.invariant.read.files) c.requires.walk.known
 
-pub returns-in_err-left-clause-refused : goal.returns-in_err-left-clause-refused
-returns-in_err-left-clause-refused g c =
-    err_at _ _ c.from_residual.ensures.1 (refusal_after c.loop-at.invariant.read (c.in_err-left.ensures.refused c.args.allowed))
+pub returns-in_err-left : goal.returns-in_err-left
+returns-in_err-left g c = record {
+  surveyed = search rules;
+  done = search rules;
+  refused = err_at _ _ c.from_residual.ensures.1 (refusal_after c.loop-at.invariant.read (c.in_err-left.ensures.refused c.args.allowed));
+  files = c.in_err-left.ensures.reads.files ∙ c.loop-at.invariant.read.files;
+  counts = subst (λ n. OnlyReads n (g.D.Folder.seen c.look.new.folder).counts) c.loop-at.invariant.read.counts c.in_err-left.ensures.reads.counts;
+}
 
 -- what the look shows
-shown : (g : given.Over) (c : After-bytes g) (file : List ℕ) → Holds (g.D.Folder.files c.args.folder.now) c.args.name.now file → Shows file c.loop-at.at c.bytes.result.now c.in_ok-left.left
+shown : (g : given.Over) (c : After-bytes g) (file : List ℕ) → Holds (g.D.Folder.seen c.args.folder.now).files c.args.name.now file → Shows file c.loop-at.at c.bytes.result.now c.in_ok-left.left
 shown g c file holds = subst (λ front. Shows file c.loop-at.at front c.in_ok-left.left) (sym c.bytes.ensures) (c.in_ok-left.ensures.shows file (still_held c.loop-at.invariant.read file holds))
 
 pub pass-requires-clause-many : goal.pass-requires-clause-many
 pass-requires-clause-many g c = ap length c.bytes.ensures ∙ c.in_ok-left.ensures.many
 
-pub returns-in_err-at-clause-refused : goal.returns-in_err-at-clause-refused
-returns-in_err-at-clause-refused g c =
-    let now = c.loop-at.found in
-    let front = c.bytes.result.now in
-    let at = c.loop-at.at in
-    let left = c.in_ok-left.left in
-    let fault = c.in_err-at.field-0.0 in
-    let start = c.args.walk.start in
-    let seen = shown g (goal.at.returns-in_err-at-clause-refused g c).After-bytes in
-    let begun : (file : List ℕ) → Holds (g.D.Folder.files c.args.folder.now) c.args.name.now file → IsBegun file start c.args.walk.head =
-    λ file holds. record { start_is = (c.requires.walk.told file holds).start; head_is = (c.requires.walk.told file holds).head } in
-    err_at _ _ c.from_residual-in_err-at.ensures.1
-    (pass_refusal c.args.name.now (g.D.Folder.files c.args.folder.now) c.args.allowed (g.D.Folder.counts c.args.folder.now) (g.D.Folder.counts c.look.new.folder) c.args.walk.size fault (class_from start) at front left now c.requires.walk.known
-    (c.in_ok-left.ensures.reads.done ∙ c.loop-at.invariant.read.counts)
-    (λ file holds is.
-    refused file start c.args.walk.head c.args.allowed now at (c.loop-at.invariant.surveyed file holds) front left (seen file holds) (begun file holds) (item_front front) is.size fault (few_by front (item_front front) refl is.front.most)
-    (is.passes file (seen file holds)) is.faulty)
-    (λ file holds is.
-    let so_far = c.loop-at.invariant.surveyed file holds in
-    stopped_fault file start c.args.walk.head c.args.allowed so_far.frames now.pieces.items now.before.place now.before.ended at so_far.surveyed (begun file holds) fault (is.none file (seen file holds))
-    (ap (fault_at at) (sym (item_at-shown file at front left (seen file holds))) ∙ is.why))
-    (subst (λ class. IsNotPassed class c.args.allowed at front left now fault) c.class-class.ensures c.in_err-at.ensures))
+pub returns-in_err-at : goal.returns-in_err-at
+returns-in_err-at g c = record {
+  surveyed = search rules;
+  done = search rules;
+  refused = let now = c.loop-at.found in
+      let front = c.bytes.result.now in
+      let at = c.loop-at.at in
+      let left = c.in_ok-left.left in
+      let fault = c.in_err-at.field-0.0 in
+      let start = c.args.walk.start in
+      let seen = shown g (goal.at.returns-in_err-at g c).After-bytes in
+      let begun : (file : List ℕ) → Holds (g.D.Folder.seen c.args.folder.now).files c.args.name.now file → IsBegun file start c.args.walk.head =
+      λ file holds. record { start_is = (c.requires.walk.told file holds).start; head_is = (c.requires.walk.told file holds).head } in
+      err_at _ _ c.from_residual-in_err-at.ensures.1
+      (pass_refusal c.args.name.now (g.D.Folder.seen c.args.folder.now).files c.args.allowed (g.D.Folder.seen c.args.folder.now).counts (g.D.Folder.seen c.look.new.folder).counts c.args.walk.size fault (class_from start) at front left now c.requires.walk.known
+      (c.in_ok-left.ensures.reads.done ∙ c.loop-at.invariant.read.counts)
+      (λ file holds is.
+      refused file start c.args.walk.head c.args.allowed now at (c.loop-at.invariant.surveyed file holds) front left (seen file holds) (begun file holds) (item_front front) is.size fault (few_by front (item_front front) refl is.front.most)
+      (is.passes file (seen file holds)) is.faulty)
+      (λ file holds is.
+      let so_far = c.loop-at.invariant.surveyed file holds in
+      stopped_fault file start c.args.walk.head c.args.allowed so_far.frames now.pieces.items now.before.place now.before.ended at so_far.surveyed (begun file holds) fault (is.none file (seen file holds))
+      (ap (fault_at at) (sym (item_at-shown file at front left (seen file holds))) ∙ is.why))
+      (subst (λ class. IsNotPassed class c.args.allowed at front left now fault) c.class-class.ensures c.in_err-at.ensures));
+  files = c.in_ok-left.ensures.reads.files ∙ c.loop-at.invariant.read.files;
+  counts = only_reads_equal (c.in_ok-left.ensures.reads.done ∙ c.loop-at.invariant.read.counts);
+}
 
 pub loop-at-preserved : goal.loop-at-preserved
 loop-at-preserved g c =
@@ -119,31 +129,24 @@ loop-at-preserved g c =
       read = read_more c.loop-at.invariant.read c.in_ok-left.ensures.reads;
     }
 
-pub returns-then-is_empty-clause-refused : goal.returns-then-is_empty-clause-refused
-returns-then-is_empty-clause-refused g c =
-    bytes_refusal c.args.name.now (g.D.Folder.files c.args.folder.now) c.args.allowed (g.D.Folder.counts c.args.folder.now) (g.D.Folder.counts c.loop-at.folder) c.args.walk.size (NoFrame c.args.walk.size) c.requires.walk.known c.loop-at.invariant.read.counts
-    (refl, tt) (λ bytes holds.
-    let now = c.loop-at.found in
-    let is_size = c.requires.walk.known.long bytes holds in
-    let so_far = c.loop-at.invariant.surveyed bytes holds in
-    no_frame bytes c.args.walk.start c.args.walk.head c.args.allowed so_far.frames now.pieces.items now.before.place now.before.ended c.loop-at.at so_far.surveyed
-    (record { start_is = (c.requires.walk.told bytes holds).start; head_is = (c.requires.walk.told bytes holds).head }) (omega (arith, c.loop-at-test.false, is_size))
-    (nothing_in so_far.frames (omega (arith, eqb-true (vec_len now.rows) 0 (sym c.is_empty.ensures ∙ c.if-is_empty.true), now.rows.ok.0, frames_count c.args.walk.head now.rows.items so_far.frames so_far.marks)))
-    ∙ ap (λ n. Err (NoFrame n)) (sym is_size))
+pub returns-then-is_empty : goal.returns-then-is_empty
+returns-then-is_empty g c = record {
+  surveyed = search rules;
+  done = search rules;
+  refused = bytes_refusal c.args.name.now (g.D.Folder.seen c.args.folder.now).files c.args.allowed (g.D.Folder.seen c.args.folder.now).counts (g.D.Folder.seen c.loop-at.folder).counts c.args.walk.size (NoFrame c.args.walk.size) c.requires.walk.known c.loop-at.invariant.read.counts
+      (refl, tt) (λ bytes holds.
+      let now = c.loop-at.found in
+      let is_size = c.requires.walk.known.long bytes holds in
+      let so_far = c.loop-at.invariant.surveyed bytes holds in
+      no_frame bytes c.args.walk.start c.args.walk.head c.args.allowed so_far.frames now.pieces.items now.before.place now.before.ended c.loop-at.at so_far.surveyed
+      (record { start_is = (c.requires.walk.told bytes holds).start; head_is = (c.requires.walk.told bytes holds).head }) (omega (arith, c.loop-at-test.false, is_size))
+      (nothing_in so_far.frames (omega (arith, eqb-true (vec_len now.rows) 0 (sym c.is_empty.ensures ∙ c.if-is_empty.true), now.rows.ok.0, frames_count c.args.walk.head now.rows.items so_far.frames so_far.marks)))
+      ∙ ap (λ n. Err (NoFrame n)) (sym is_size));
+  files = search rules;
+  counts = search rules;
+}
 
 -- the files stay, and only reads are counted
-pub returns-in_err-left-clause-files : goal.returns-in_err-left-clause-files
-returns-in_err-left-clause-files g c = c.in_err-left.ensures.reads.files ∙ c.loop-at.invariant.read.files
-
-pub returns-in_err-left-clause-counts : goal.returns-in_err-left-clause-counts
-returns-in_err-left-clause-counts g c = subst (λ n. OnlyReads n (g.D.Folder.counts c.look.new.folder)) c.loop-at.invariant.read.counts c.in_err-left.ensures.reads.counts
-
-pub returns-in_err-at-clause-files : goal.returns-in_err-at-clause-files
-returns-in_err-at-clause-files g c = c.in_ok-left.ensures.reads.files ∙ c.loop-at.invariant.read.files
-
-pub returns-in_err-at-clause-counts : goal.returns-in_err-at-clause-counts
-returns-in_err-at-clause-counts g c = only_reads_equal (c.in_ok-left.ensures.reads.done ∙ c.loop-at.invariant.read.counts)
-
 head_within : (start : Start) (size : ℕ) → start.first.offset + size_of (Frame start.first.header) ≤ size → (head : Option Head) → IfSome head (IsFrameOf start.first) → IfSome head (IsWholeHead start.first.offset (class_from start) size)
 head_within start size whole None same = tt
 head_within start size whole (Some head) same = record {
@@ -152,27 +155,32 @@ head_within start size whole (Some head) same = record {
   within = omega (arith, same.0, ap (λ h. size_of (Frame h)) same.1, whole);
 }
 
-pub returns-clause-surveyed : goal.returns-clause-surveyed
-returns-clause-surveyed g c =
-    let now = c.loop-at.found in
-    let laid = c.loop-at.invariant.laid in
-    let start = c.args.walk.start in record {
-      exact = λ bytes holds.
-          let so_far = c.loop-at.invariant.surveyed bytes holds in
-          survey_of-short bytes c.args.allowed (omega (arith, c.requires.walk.known.few, c.requires.walk.known.long bytes holds))
-          ∙ whole bytes c.args.walk.start c.args.walk.head c.args.allowed so_far.frames now.pieces.items now.before.place now.before.ended c.loop-at.at so_far.surveyed
-          (record { start_is = (c.requires.walk.told bytes holds).start; head_is = (c.requires.walk.told bytes holds).head }) (omega (arith, c.loop-at-test.false, c.requires.walk.known.long bytes holds))
-          (λ none. true≢false (sym (eq-eqb (vec_len now.rows) 0 (omega (arith, ap length none, now.rows.ok.0, frames_count c.args.walk.head now.rows.items so_far.frames so_far.marks))) ∙ sym c.is_empty.ensures ∙ c.if-is_empty.false))
-          ∙ ap₂ (λ (l : List Row) n. Ok (record (told_by bytes c.args.walk.start c.args.walk.head so_far.frames now.pieces.items) { frames = l; length = n })) (sym so_far.marks) (sym (c.requires.walk.known.long bytes holds));
-      laid = record {
-        junk = c.requires.walk.junk;
-        first = omega (arith, c.requires.walk.whole);
-        head = head_within start c.args.walk.size c.requires.walk.whole c.args.walk.head c.requires.walk.same;
-        some = some_of now.rows.items (λ none. true≢false (sym (eq-eqb (vec_len now.rows) 0 (omega (arith, none, now.rows.ok.0))) ∙ sym c.is_empty.ensures ∙ c.if-is_empty.false));
-        frames = laid_later start.first.offset now.rows.items c.loop-at.at c.args.walk.size laid.rows c.loop-at.invariant.within;
-        blocks = pieces_later 0 now.pieces.items c.loop-at.at c.args.walk.size laid.pieces c.loop-at.invariant.within;
-        few = c.requires.walk.known.few;
-        placed = laid.placed.frames;
+pub returns : goal.returns
+returns g c = record {
+  surveyed = let now = c.loop-at.found in
+      let laid = c.loop-at.invariant.laid in
+      let start = c.args.walk.start in record {
+        exact = λ bytes holds.
+            let so_far = c.loop-at.invariant.surveyed bytes holds in
+            survey_of-short bytes c.args.allowed (omega (arith, c.requires.walk.known.few, c.requires.walk.known.long bytes holds))
+            ∙ whole bytes c.args.walk.start c.args.walk.head c.args.allowed so_far.frames now.pieces.items now.before.place now.before.ended c.loop-at.at so_far.surveyed
+            (record { start_is = (c.requires.walk.told bytes holds).start; head_is = (c.requires.walk.told bytes holds).head }) (omega (arith, c.loop-at-test.false, c.requires.walk.known.long bytes holds))
+            (λ none. true≢false (sym (eq-eqb (vec_len now.rows) 0 (omega (arith, ap length none, now.rows.ok.0, frames_count c.args.walk.head now.rows.items so_far.frames so_far.marks))) ∙ sym c.is_empty.ensures ∙ c.if-is_empty.false))
+            ∙ ap₂ (λ (l : List Row) n. Ok (record (told_by bytes c.args.walk.start c.args.walk.head so_far.frames now.pieces.items) { frames = l; length = n })) (sym so_far.marks) (sym (c.requires.walk.known.long bytes holds));
+        laid = record {
+          junk = c.requires.walk.junk;
+          first = omega (arith, c.requires.walk.whole);
+          head = head_within start c.args.walk.size c.requires.walk.whole c.args.walk.head c.requires.walk.same;
+          some = some_of now.rows.items (λ none. true≢false (sym (eq-eqb (vec_len now.rows) 0 (omega (arith, none, now.rows.ok.0))) ∙ sym c.is_empty.ensures ∙ c.if-is_empty.false));
+          frames = laid_later start.first.offset now.rows.items c.loop-at.at c.args.walk.size laid.rows c.loop-at.invariant.within;
+          blocks = pieces_later 0 now.pieces.items c.loop-at.at c.args.walk.size laid.pieces c.loop-at.invariant.within;
+          few = c.requires.walk.known.few;
+          placed = laid.placed.frames;
+        };
+        few = c.loop-at.invariant.few;
       };
-      few = c.loop-at.invariant.few;
-    }
+  done = search rules;
+  refused = search rules;
+  files = search rules;
+  counts = search rules;
+}

@@ -9,11 +9,11 @@ use Rattle.sync_survey.proofs.folders.judge_frames.Given as goal
 
 abbrev pub invariant-loop-at : goal.invariant-loop-at
 invariant-loop-at g l = record {
-  surveyed : (bytes : List ℕ) → Holds (g.D.Folder.files l.initial.folder) l.name bytes → IsMarkedTo bytes l.start l.head l.allowed l.found.rows.items l.found.pieces.items l.found.before.place l.found.before.ended l.at;
+  surveyed : (bytes : List ℕ) → Holds (g.D.Folder.seen l.initial.folder).files l.name bytes → IsMarkedTo bytes l.start l.head l.allowed l.found.rows.items l.found.pieces.items l.found.before.place l.found.before.ended l.at;
   laid : IsLaidTo l.head (class_from l.start) l.start.first.offset l.found l.at;
   few : length l.found.rows.items ≤ l.allowed;
   within : l.at ≤ l.size;
-  read : HasRead l.feed l.name (g.D.Folder.files l.initial.folder) (g.D.Folder.files l.folder) (g.D.Folder.counts l.initial.folder) (g.D.Folder.counts l.folder);
+  read : HasRead l.feed l.name (g.D.Folder.seen l.initial.folder).files (g.D.Folder.seen l.folder).files (g.D.Folder.seen l.initial.folder).counts (g.D.Folder.seen l.folder).counts;
 }
 
 abbrev pub decreases-loop-at : goal.decreases-loop-at

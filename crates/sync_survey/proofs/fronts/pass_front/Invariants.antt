@@ -8,10 +8,10 @@ use Rattle.sync_survey.proofs.fronts.pass_front.Given as goal
 
 abbrev pub invariant-loop-at : goal.invariant-loop-at
 invariant-loop-at g l = record {
-  passed : (bytes : List ℕ) → Holds (g.D.Folder.files l.initial.folder) l.name bytes → IsPassedTo bytes l.pieces.items l.at;
+  passed : (bytes : List ℕ) → Holds (g.D.Folder.seen l.initial.folder).files l.name bytes → IsPassedTo bytes l.pieces.items l.at;
   laid : BlocksAreLaid 0 l.pieces.items l.at;
   within : l.at ≤ l.size;
-  read : HasRead l.feed l.name (g.D.Folder.files l.initial.folder) (g.D.Folder.files l.folder) (g.D.Folder.counts l.initial.folder) (g.D.Folder.counts l.folder);
+  read : HasRead l.feed l.name (g.D.Folder.seen l.initial.folder).files (g.D.Folder.seen l.folder).files (g.D.Folder.seen l.initial.folder).counts (g.D.Folder.seen l.folder).counts;
 }
 
 abbrev pub decreases-loop-at : goal.decreases-loop-at

@@ -9,7 +9,7 @@ fill_exact-requires-clause-found g c = λ bytes holds. sym (c.requires.known.lon
 
 pub returns-in_err-fill_exact-clause-refused : goal.returns-in_err-fill_exact-clause-refused
 returns-in_err-fill_exact-clause-refused g c =
-    err_at _ _ c.from_residual.ensures.1 (λ allowed. read_refusal c.args.name.now (g.D.Folder.files c.args.folder.now) allowed (g.D.Folder.counts c.args.folder.now) _ c.args.size c.in_err-fill_exact.field-0.0 c.in_err-fill_exact.ensures.cause)
+    err_at _ _ c.from_residual.ensures.1 (λ allowed. read_refusal c.args.name.now (g.D.Folder.seen c.args.folder.now).files allowed (g.D.Folder.seen c.args.folder.now).counts _ c.args.size c.in_err-fill_exact.field-0.0 c.in_err-fill_exact.ensures.cause)
 
 pub returns-clause-shows : goal.returns-clause-shows
 returns-clause-shows g c = λ bytes holds.

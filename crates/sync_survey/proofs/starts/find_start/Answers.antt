@@ -18,22 +18,22 @@ started file front at left end shows = start_is file at (item_front front) end (
 
 -- so the start is by the item that was shown
 module _ (g : given.Over) (c : After-item_front g) where
-  left_is : (bytes : List ℕ) → Holds (g.D.Folder.files c.args.folder.now) c.args.name.now bytes → Shows bytes c.args.front_end c.look.new.feed.given c.in_ok-left.left
+  left_is : (bytes : List ℕ) → Holds (g.D.Folder.seen c.args.folder.now).files c.args.name.now bytes → Shows bytes c.args.front_end c.look.new.feed.given c.in_ok-left.left
   left_is bytes holds = c.in_ok-left.ensures.shows bytes holds
 
-  begun : (bytes : List ℕ) → Holds (g.D.Folder.files c.args.folder.now) c.args.name.now bytes → start_of bytes ≡ start_at bytes c.args.front_end c.item_front.result
+  begun : (bytes : List ℕ) → Holds (g.D.Folder.seen c.args.folder.now).files c.args.name.now bytes → start_of bytes ≡ start_at bytes c.args.front_end c.item_front.result
   begun bytes holds =
       started bytes c.look.new.feed.given c.args.front_end c.in_ok-left.left (c.requires.front bytes holds) (left_is bytes holds) ∙ ap (start_at bytes c.args.front_end) (ap item_front (sym c.bytes.ensures) ∙ sym c.item_front.ensures)
 
 pub returns-in-Some-clause-start : goal.returns-in-Some-clause-start
 returns-in-Some-clause-start g c =
     let at = (goal.at.returns-in-Some-clause-start g c).After-item_front in
-    start_ok c.in-Some.start (g.D.Folder.files c.args.folder.now) c.args.name.now (λ bytes holds. begun g at bytes holds ∙ c.in-Some.ensures.start bytes (left_is g at bytes holds).left_is)
+    start_ok c.in-Some.start (g.D.Folder.seen c.args.folder.now).files c.args.name.now (λ bytes holds. begun g at bytes holds ∙ c.in-Some.ensures.start bytes (left_is g at bytes holds).left_is)
 
 pub returns-in-Some-clause-refused : goal.returns-in-Some-clause-refused
 returns-in-Some-clause-refused g c =
     let at = (goal.at.returns-in-Some-clause-refused g c).After-item_front in
-    start_err c.in-Some.start c.args.name.now (g.D.Folder.files c.args.folder.now) (g.D.Folder.counts c.args.folder.now) (g.D.Folder.counts c.look.new.folder) c.args.size c.requires.known c.in_ok-left.ensures.reads.done
+    start_err c.in-Some.start c.args.name.now (g.D.Folder.seen c.args.folder.now).files (g.D.Folder.seen c.args.folder.now).counts (g.D.Folder.seen c.look.new.folder).counts c.args.size c.requires.known c.in_ok-left.ensures.reads.done
     c.in-Some.ensures.refused (λ bytes holds. begun g at bytes holds ∙ c.in-Some.ensures.start bytes (left_is g at bytes holds).left_is)
 
 pub returns-in_err-first-clause-refused : goal.returns-in_err-first-clause-refused
@@ -48,7 +48,7 @@ returns-in-Some-2-clause-start g c = λ bytes holds.
 
 pub returns-in-None-clause-refused : goal.returns-in-None-clause-refused
 returns-in-None-clause-refused g c = λ allowed.
-    start_refusal c.args.name.now (g.D.Folder.files c.args.folder.now) allowed (g.D.Folder.counts c.args.folder.now) (g.D.Folder.counts c.first_anchored.new.folder) c.args.size _ c.requires.known
+    start_refusal c.args.name.now (g.D.Folder.seen c.args.folder.now).files allowed (g.D.Folder.seen c.args.folder.now).counts (g.D.Folder.seen c.first_anchored.new.folder).counts c.args.size _ c.requires.known
     (c.in_ok-first.ensures.reads.done ∙ c.in_ok-left.ensures.reads.done) (refl, tt) (λ bytes holds.
     let at = (goal.at.returns-in-None-clause-refused g c).After-item_front in
     let there = subst (λ f. Holds f c.args.name.now bytes) (sym c.in_ok-left.ensures.reads.files) holds in

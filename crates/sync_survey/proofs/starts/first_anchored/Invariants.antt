@@ -7,6 +7,6 @@ use Rattle.sync_survey.proofs.starts.first_anchored.Given as goal
 
 abbrev pub invariant-loop-at : goal.invariant-loop-at
 invariant-loop-at g l = record {
-  none : (bytes : List ℕ) → Holds (g.D.Folder.files l.initial.folder) l.name bytes → (earlier : ℕ) → l.from ≤ earlier → earlier < l.at → anchored_frame bytes earlier ≡ None;
-  read : HasRead l.feed l.name (g.D.Folder.files l.initial.folder) (g.D.Folder.files l.folder) (g.D.Folder.counts l.initial.folder) (g.D.Folder.counts l.folder);
+  none : (bytes : List ℕ) → Holds (g.D.Folder.seen l.initial.folder).files l.name bytes → (earlier : ℕ) → l.from ≤ earlier → earlier < l.at → anchored_frame bytes earlier ≡ None;
+  read : HasRead l.feed l.name (g.D.Folder.seen l.initial.folder).files (g.D.Folder.seen l.folder).files (g.D.Folder.seen l.initial.folder).counts (g.D.Folder.seen l.folder).counts;
 }

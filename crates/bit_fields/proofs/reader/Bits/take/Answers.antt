@@ -1,5 +1,6 @@
 -- Enough bits are left, and the value is that of the first of them.
-use Rattle.std.proofs.Common.{◌≡◌, ◌≤◌, ◌+◌, ◌-◌, ◌*◌, arith, length}
+use Rattle.std.proofs.Common.{rules, ◌≡◌, ◌≤◌, ◌+◌, ◌-◌, ◌*◌, arith, length}
+use Rattle.std.proofs.lemmas.Grind.{common_steps}
 use Rattle.bit_fields.specs.Groups.{group}
 use Rattle.bit_fields.proofs.BitsLaws.{length-left}
 use Rattle.bit_fields.proofs.reader.Bits.take.Goals as goal
@@ -17,6 +18,13 @@ number_at-value-requires-clause-room c = enough (goal.at.number_at-value-require
 pub invariant_of-self : goal.invariant_of-self
 invariant_of-self c = (c.self.invariant.0, enough (goal.at.invariant_of-self c).Else-left-n)
 
-pub returns-clause-value : goal.returns-clause-value
+pub returns : goal.returns
 unfolding group
-returns-clause-value c = rw (← c.self.view_is) c.number_at-value.ensures.value
+returns c = record {
+  short = search rules;
+  enough = search rules;
+  value = rw (← c.self.view_is) c.number_at-value.ensures.value;
+  below = search rules;
+  moves = grind (arith, common_steps);
+  stays = search rules;
+}

@@ -13,36 +13,36 @@ loop-i-init g c =
     let m = c.args.self.now in
     record {
       next = before-first m.draws.state m refl c.requires.new;
-      made = made-none c.args.name.now m.draws.state m (g.D.Folder.files c.args.folder.now) c.requires.there c.requires.new c.requires.none;
+      made = made-none c.args.name.now m.draws.state m (g.D.Folder.seen c.args.folder.now).files c.requires.there c.requires.new c.requires.none;
       counts = refl;
     }
 
 pub frame-requires-clause-there : goal.frame-requires-clause-there
 frame-requires-clause-there g c =
     let made = c.loop-i.invariant.made in
-    subst (λ f. IsThere f c.args.name.now) (sym made.files) (appended_there (g.D.Folder.files c.args.folder.now) c.args.name.now made.passed)
+    subst (λ f. IsThere f c.args.name.now) (sym made.files) (appended_there (g.D.Folder.seen c.args.folder.now).files c.args.name.now made.passed)
 
 pub frame-requires-clause-next : goal.frame-requires-clause-next
 frame-requires-clause-next g c = c.loop-i.invariant.next.next
 
 pub returns-in_err-frame-clause-prefix : goal.returns-in_err-frame-clause-prefix
 returns-in_err-frame-clause-prefix g c =
-    let files = g.D.Folder.files in
+    let seen = g.D.Folder.seen in
     let inv = c.loop-i.invariant in
     on_err c.from_residual.result
-    (made-part c.args.name.now c.args.self.now.draws.state c.loop-i._i c.loop-i.self inv.next (files c.args.folder.now) (files c.loop-i.folder) inv.made
-    c.args.count _ (files c.frame.new.folder) c.loop-i-test.true c.frame.ensures.reach c.in_err-frame.ensures.part)
+    (made-part c.args.name.now c.args.self.now.draws.state c.loop-i._i c.loop-i.self inv.next (seen c.args.folder.now).files (seen c.loop-i.folder).files inv.made
+    c.args.count _ (seen c.frame.new.folder).files c.loop-i-test.true c.frame.ensures.reach c.in_err-frame.ensures.part)
 
 pub loop-i-preserved : goal.loop-i-preserved
 loop-i-preserved g c =
-    let files = g.D.Folder.files in
+    let seen = g.D.Folder.seen in
     let inv = c.loop-i.invariant in
     let seed = c.args.self.now.draws.state in
     let i = c.loop-i._i in
     let one : suc i ≡ i + 1 = omega arith in
     record {
       next = subst (λ n. IsBefore seed n c.frame.new.self) one (before-more seed i c.loop-i.self inv.next c.frame.new.self c.in_ok-frame.ensures.next c.frame.ensures.state c.frame.ensures.reach);
-      made = subst (λ n. HasMade c.args.name.now (writing_in c.frame.new.self) (drill_frames seed n) (files c.args.folder.now) (files c.frame.new.folder)) one
-          (made-more c.args.name.now seed i c.loop-i.self inv.next (files c.args.folder.now) (files c.loop-i.folder) inv.made (writing_in c.frame.new.self) (files c.frame.new.folder) c.in_ok-frame.ensures.written);
+      made = subst (λ n. HasMade c.args.name.now (writing_in c.frame.new.self) (drill_frames seed n) (seen c.args.folder.now).files (seen c.frame.new.folder).files) one
+          (made-more c.args.name.now seed i c.loop-i.self inv.next (seen c.args.folder.now).files (seen c.loop-i.folder).files inv.made (writing_in c.frame.new.self) (seen c.frame.new.folder).files c.in_ok-frame.ensures.written);
       counts = c.in_ok-frame.ensures.done ∙ inv.counts;
     }

@@ -7,6 +7,6 @@ use Rattle.drill_stream.proofs.making.Making.frames.Given as goal
 abbrev pub invariant-loop-i : goal.invariant-loop-i
 invariant-loop-i g l = record {
   next : IsBefore l.fn.self.draws.state l._i l.self;
-  made : HasMade l.name (writing_in l.self) (drill_frames l.fn.self.draws.state l._i) (g.D.Folder.files l.fn.folder) (g.D.Folder.files l.folder);
-  counts : g.D.Folder.counts l.folder ≡ g.D.Folder.counts l.fn.folder;
+  made : HasMade l.name (writing_in l.self) (drill_frames l.fn.self.draws.state l._i) (g.D.Folder.seen l.fn.folder).files (g.D.Folder.seen l.folder).files;
+  counts : (g.D.Folder.seen l.folder).counts ≡ (g.D.Folder.seen l.fn.folder).counts;
 }

@@ -3,10 +3,11 @@ use Rattle.std.proofs.Common.{◌≡◌, ℕ, List, Result, Ok, Err, refl, ap}
 use Rattle.std.specs.Prelude.{IfErr, MatchResult}
 use Rattle.std.proofs.lemmas.Result.{MatchResult-weaker, IfErr-weaker}
 use Rattle.outside.specs.Files.{Holds, IsThere}
+use Rattle.outside.specs.Seen.{Seen}
 use Rattle.sync_survey.specs.Faults.{SurveyFields, tells}
 use Rattle.sync_survey.specs.Survey.{survey_of}
 use Rattle.commands.specs.declared.fault.EditFault.{EditFault}
-use Rattle.commands.specs.Left.{Seen, seen, IsRefusal}
+use Rattle.commands.specs.Left.{IsRefusal}
 use Rattle.commands.specs.One.{most_frames, IsInputFault}
 use Rattle.commands.proofs.InputLaws.{refused_is_input}
 use Rattle.frame_edits.specs.declared.chosen.Chosen.{Chosen as CodeChosen}
@@ -25,7 +26,7 @@ returns-in-Between-clause-chosen g c = rw c.in-Between.is (MatchResult-weaker c.
 pub returns-in-Between-clause-refused : goal.returns-in-Between-clause-refused
 returns-in-Between-clause-refused g c =
     rw c.in-Between.is
-    (cut_refused (cut_choice c.in-Between.from.now c.in-Between.to.now c.in-Between.slots) c.args.name.now (tells c.args.survey.now) (seen (g.D.Folder.files c.args.folder.now) (g.D.Folder.counts c.args.folder.now)) c.requires.there c.requires.surveyed c.cut_choice.result c.cut_choice.ensures.chosen c.cut_choice.ensures.refusal)
+    (cut_refused (cut_choice c.in-Between.from.now c.in-Between.to.now c.in-Between.slots) c.args.name.now (tells c.args.survey.now) (g.D.Folder.seen c.args.folder.now) c.requires.there c.requires.surveyed c.cut_choice.result c.cut_choice.ensures.chosen c.cut_choice.ensures.refusal)
 
 -- all frames are chosen whatever a command makes of them
 pub returns-in-All-clause-refused : goal.returns-in-All-clause-refused

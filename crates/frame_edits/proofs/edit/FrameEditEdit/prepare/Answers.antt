@@ -1,11 +1,11 @@
 -- The survey, the chosen frames with their plan, and the memory, each with its faults.
 use Rattle.std.proofs.Common.{ap₂, sym, ◌∙◌, subst}
 use Rattle.outside.specs.Files.{Holds}
+use Rattle.outside.specs.Seen.{seen}
 use Rattle.slot_plan.specs.Plans.{entries}
 use Rattle.laying.proofs.ChosenFrames.{survey-had}
 use Rattle.sync_survey.specs.Faults.{tells}
 use Rattle.commands.specs.declared.fault.EditFault.TheVariants.{Memory}
-use Rattle.commands.specs.Left.{seen}
 use Rattle.commands.specs.One.{most_frames, IsInputFault, IsEarlyFault}
 use Rattle.commands.proofs.InputLaws.{fault_is_input, of_survey_input, input_is_early, input_numbers, memory_is_input}
 use Rattle.commands.proofs.RefusingLaws.{err_with}
@@ -32,19 +32,19 @@ pub returns-in_err-chosen-clause-refused : goal.returns-in_err-chosen-clause-ref
 returns-in_err-chosen-clause-refused g c =
     let edit = c.args.self.now in
     let by = choosing (choosing_by edit.choice) in
-    let new = seen (g.D.Folder.files c.find.new.folder) (g.D.Folder.counts c.find.new.folder) in
+    let new = g.D.Folder.seen c.find.new.folder in
     err_with _ _ c.from_residual-in_err-chosen.ensures.1 (input_is_early by (stream_chosen (choosing_by edit.choice)) (refused_by edit.choice) edit.input.now _ _ _
-    (subst (λ old. IsInputFault by edit.input.now old new c.in_err-chosen.field-0.0) (ap₂ seen c.survey_at.ensures.files c.in_ok-survey.ensures.done) c.in_err-chosen.ensures.refused))
+    (subst (λ old. IsInputFault by edit.input.now old new c.in_err-chosen.field-0.0) (ap₂ seen c.survey_at.ensures.reads.files c.in_ok-survey.ensures.reads.done) c.in_err-chosen.ensures.refused))
 
 -- want of memory, once the frames were chosen
 forgot : (g : given.Over) (c : In_ok-chosen g) → IsEarlyFault (task_of c.args.self.now.choice c.args.self.now.input.now)
-    (seen (g.D.Folder.files c.args.folder.now) (g.D.Folder.counts c.args.folder.now)) (seen (g.D.Folder.files c.find.new.folder) (g.D.Folder.counts c.find.new.folder)) Memory
+    (g.D.Folder.seen c.args.folder.now) (g.D.Folder.seen c.find.new.folder) Memory
 forgot g c =
     let choosing_it = choosing (choosing_by c.args.self.now.choice) in
     let input = c.args.self.now.input.now in
     input_is_early choosing_it (stream_chosen (choosing_by c.args.self.now.choice)) (refused_by c.args.self.now.choice) input _ _ Memory
     (memory_is_input choosing_it input _ _ (tells c.in_ok-survey.survey) c.in_ok-survey.ensures.there c.in_ok-survey.ensures.surveyed
-    (ap₂ seen (c.find.ensures.files ∙ c.survey_at.ensures.files) (c.in_ok-chosen.ensures.done ∙ c.in_ok-survey.ensures.done)))
+    (ap₂ seen (c.find.ensures.reads.files ∙ c.survey_at.ensures.reads.files) (c.in_ok-chosen.ensures.reads.done ∙ c.in_ok-survey.ensures.reads.done)))
 
 pub returns-in_err-planned-clause-refused : goal.returns-in_err-planned-clause-refused
 returns-in_err-planned-clause-refused g c =
@@ -58,16 +58,16 @@ pub returns-clause-ready : goal.returns-clause-ready
 returns-clause-ready g c =
     let s = tells c.in_ok-survey.survey in
     let selection : Selection = record { chosen = c.in_ok-chosen.chosen; planned = c.in_ok-planned.planned } in
-    work_layable c.in_ok-survey.survey selection c.in_ok-work.work c.in_ok-work.ensures c.args.self.now.input.now (g.D.Folder.files c.args.folder.now) c.in_ok-survey.ensures.there c.in_ok-survey.ensures.laid
+    work_layable c.in_ok-survey.survey selection c.in_ok-work.work c.in_ok-work.ensures c.args.self.now.input.now (g.D.Folder.seen c.args.folder.now).files c.in_ok-survey.ensures.there c.in_ok-survey.ensures.laid
     (λ bytes holds. survey-had bytes most_frames s (c.in_ok-survey.ensures.surveyed bytes holds))
     (selected-writable s selection (record { some = c.in_ok-chosen.ensures.some; within = c.in_ok-chosen.ensures.within; plan = c.in_ok-planned.ensures.plan; fits = c.in_ok-planned.ensures.fits; info = c.in_ok-planned.ensures.info }))
 
 pub returns-clause-making : goal.returns-clause-making
 returns-clause-making g c =
     let edit = c.args.self.now in
-    let files = g.D.Folder.files c.args.folder.now in
+    let files = (g.D.Folder.seen c.args.folder.now).files in
     let s = tells c.in_ok-survey.survey in
     let selection : Selection = record { chosen = c.in_ok-chosen.chosen; planned = c.in_ok-planned.planned } in
     work_makes c.in_ok-survey.survey selection c.in_ok-work.work c.in_ok-work.ensures (task_of edit.choice edit.input.now) files
     (edit_makes edit.choice edit.input.now s (chosen_in c.in_ok-chosen.chosen) (entries c.in_ok-planned.planned.plan) files c.in_ok-survey.ensures.there c.in_ok-survey.ensures.surveyed c.in_ok-survey.ensures.octets
-    (λ bytes holds. c.in_ok-chosen.ensures.chosen bytes (subst (λ f. Holds f edit.input.now bytes) (sym c.survey_at.ensures.files) holds)) c.in_ok-planned.ensures.plan)
+    (λ bytes holds. c.in_ok-chosen.ensures.chosen bytes (subst (λ f. Holds f edit.input.now bytes) (sym c.survey_at.ensures.reads.files) holds)) c.in_ok-planned.ensures.plan)

@@ -1,5 +1,5 @@
 -- What is stored of them, and zeros where it ends.
-use Rattle.std.proofs.Common.{◌≡◌, ℕ, List, ◌++◌, ◌-◌, take, ap, ◌∙◌}
+use Rattle.std.proofs.Common.{rules, ◌≡◌, ℕ, List, ◌++◌, ◌-◌, take, ap, ◌∙◌}
 use Rattle.outside.proofs.PassedLaws.{on_err, passed_there}
 use Rattle.frame_writer.specs.Laid.{Waiting, zeros}
 use Rattle.frame_writer.proofs.LaidLaws.{first-parts}
@@ -8,12 +8,17 @@ use Rattle.frame_writer.proofs.areas.Areas.add_first.Given as given
 use Rattle.frame_writer.proofs.areas.Areas.add_first.Goals as goal
 use Rattle.frame_writer.proofs.areas.Areas.add_first.Goals.{After-add_zeros}
 
-pub returns-in_err-push-clause-prefix : goal.returns-in_err-push-clause-prefix
-returns-in_err-push-clause-prefix g c =
-    let bytes = c.bytes-bytes.result.now in
-    let all = first-parts c.args.count c.self.inside.free c.min-stored.result bytes c.args.self.now.bytes
-    (ap (λ (xs : List ℕ). xs ++ zeros c.self.inside.free) c.bytes-bytes.ensures ∙ ap (λ (w : Waiting). w.bytes) c.self.view_is) c.requires.within c.min-stored.ensures in
-    on_err c.from_residual.result (prefix-piece c.args.name.now c.args.unsent.now _ _ _ _ _ all c.in_err-push.ensures.prefix)
+pub returns-in_err-push : goal.returns-in_err-push
+returns-in_err-push g c = record {
+  passed = search rules;
+  prefix = let bytes = c.bytes-bytes.result.now in
+      let all = first-parts c.args.count c.self.inside.free c.min-stored.result bytes c.args.self.now.bytes
+      (ap (λ (xs : List ℕ). xs ++ zeros c.self.inside.free) c.bytes-bytes.ensures ∙ ap (λ (w : Waiting). w.bytes) c.self.view_is) c.requires.within c.min-stored.ensures in
+      on_err c.from_residual.result (prefix-piece c.args.name.now c.args.unsent.now _ _ _ _ _ all c.in_err-push.ensures.prefix);
+  failed = search rules;
+  done = search rules;
+  counts = search rules;
+}
 
 pub add_zeros-requires-clause-there : goal.add_zeros-requires-clause-there
 add_zeros-requires-clause-there g c = passed_there c.in_ok-push.ensures.passed
@@ -24,14 +29,15 @@ first_are g c =
     first-parts c.args.count c.self.inside.free c.min-stored.result c.bytes-bytes.result.now c.args.self.now.bytes
     (ap (λ (xs : List ℕ). xs ++ zeros c.self.inside.free) c.bytes-bytes.ensures ∙ ap (λ (w : Waiting). w.bytes) c.self.view_is) c.requires.within c.min-stored.ensures
 
-pub returns-clause-passed : goal.returns-clause-passed
-returns-clause-passed g c =
-    ok-map c.add_zeros.result
-    (passed-two c.args.unsent.now (take c.min-stored.result c.bytes-bytes.result.now) (zeros (c.args.count - c.min-stored.result)) _ (first_are g c) c.in_ok-push.ensures.passed)
-    c.add_zeros.ensures.passed
-
-pub returns-clause-prefix : goal.returns-clause-prefix
-returns-clause-prefix g c =
-    err-map c.add_zeros.result
-    (prefix-two c.args.unsent.now (take c.min-stored.result c.bytes-bytes.result.now) (zeros (c.args.count - c.min-stored.result)) _ (first_are g c) c.in_ok-push.ensures.passed)
-    c.add_zeros.ensures.prefix
+pub returns : goal.returns
+returns g c = record {
+  passed = ok-map c.add_zeros.result
+      (passed-two c.args.unsent.now (take c.min-stored.result c.bytes-bytes.result.now) (zeros (c.args.count - c.min-stored.result)) _ (first_are g c) c.in_ok-push.ensures.passed)
+      c.add_zeros.ensures.passed;
+  prefix = err-map c.add_zeros.result
+      (prefix-two c.args.unsent.now (take c.min-stored.result c.bytes-bytes.result.now) (zeros (c.args.count - c.min-stored.result)) _ (first_are g c) c.in_ok-push.ensures.passed)
+      c.add_zeros.ensures.prefix;
+  failed = search rules;
+  done = search rules;
+  counts = search rules;
+}

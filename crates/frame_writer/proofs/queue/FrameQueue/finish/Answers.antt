@@ -1,14 +1,15 @@
 -- One frame after another.
-use Rattle.std.proofs.Common.{◌≡◌, List, ℕ, length, refl, ◌∙◌, subst, arith}
+use Rattle.std.proofs.Common.{rules, ◌≡◌, List, ℕ, length, refl, ◌∙◌, subst, arith}
 use Rattle.outside.specs.Passed.{PassedOn}
 use Rattle.outside.proofs.PassedLaws.{on_err, passed_nothing, passed_then, passed_then_prefix, passed_there}
+use Rattle.std.proofs.lemmas.Grind.{common_steps}
 use Rattle.frame_writer.specs.Writing.{writing, waiting_bytes}
 use Rattle.frame_writer.proofs.WritingLaws.{none-left}
 use Rattle.frame_writer.proofs.queue.FrameQueue.finish.Goals as goal
 
 pub loop-self-init : goal.loop-self-init
 loop-self-init g c = record {
-  passed = passed_nothing (g.D.Folder.files c.args.folder.now) c.args.name.now (waiting_bytes (writing c.args.self.now c.args.unsent.now)) c.requires.there;
+  passed = passed_nothing (g.D.Folder.seen c.args.folder.now).files c.args.name.now (waiting_bytes (writing c.args.self.now c.args.unsent.now)) c.requires.there;
   there = c.requires.there;
   counts = refl;
 }
@@ -20,12 +21,24 @@ loop-self-preserved g c = record {
   counts = c.in_ok-take_first.ensures.done ∙ c.loop-self.invariant.counts;
 }
 
-pub returns-in_err-take_first-clause-prefix : goal.returns-in_err-take_first-clause-prefix
-returns-in_err-take_first-clause-prefix g c =
-    on_err c.from_residual.result (passed_then_prefix c.loop-self.invariant.passed c.in_err-take_first.ensures.prefix)
+pub returns-in_err-take_first : goal.returns-in_err-take_first
+returns-in_err-take_first g c = record {
+  passed = search rules;
+  none = search rules;
+  prefix = on_err c.from_residual.result (passed_then_prefix c.loop-self.invariant.passed c.in_err-take_first.ensures.prefix);
+  failed = search rules;
+  done = search rules;
+  counts = search rules;
+}
 
-pub returns-clause-passed : goal.returns-clause-passed
-returns-clause-passed g c =
-    let none : length c.loop-self.self.kept ≡ 0 = omega (arith, c.count.ensures.count, c.loop-self-test.false) in
-    subst (λ (xs : List ℕ). PassedOn c.args.name.now (waiting_bytes (writing c.args.self.now c.args.unsent.now)) xs (g.D.Folder.files c.args.folder.now) (g.D.Folder.files c.loop-self.folder))
-    (none-left c.loop-self.self c.loop-self.unsent none) c.loop-self.invariant.passed
+pub returns : goal.returns
+returns g c = record {
+  passed = let none : length c.loop-self.self.kept ≡ 0 = omega (arith, c.count.ensures.count, c.loop-self-test.false) in
+      subst (λ (xs : List ℕ). PassedOn c.args.name.now (waiting_bytes (writing c.args.self.now c.args.unsent.now)) xs (g.D.Folder.seen c.args.folder.now).files (g.D.Folder.seen c.loop-self.folder).files)
+      (none-left c.loop-self.self c.loop-self.unsent none) c.loop-self.invariant.passed;
+  none = grind (arith, common_steps);
+  prefix = search rules;
+  failed = search rules;
+  done = search rules;
+  counts = search rules;
+}

@@ -6,9 +6,9 @@ use Rattle.frame_writer.proofs.queue.FrameQueue.finish.Given as goal
 
 abbrev pub invariant-loop-self : goal.invariant-loop-self
 invariant-loop-self g l = record {
-  passed : GoesOn l.name (writing l.initial.self l.initial.unsent) (writing l.self l.unsent) (g.D.Folder.files l.initial.folder) (g.D.Folder.files l.folder);
-  there : IsThere (g.D.Folder.files l.folder) l.name;
-  counts : g.D.Folder.counts l.folder ≡ g.D.Folder.counts l.initial.folder;
+  passed : GoesOn l.name (writing l.initial.self l.initial.unsent) (writing l.self l.unsent) (g.D.Folder.seen l.initial.folder).files (g.D.Folder.seen l.folder).files;
+  there : IsThere (g.D.Folder.seen l.folder).files l.name;
+  counts : (g.D.Folder.seen l.folder).counts ≡ (g.D.Folder.seen l.initial.folder).counts;
 }
 
 abbrev pub decreases-loop-self : goal.decreases-loop-self

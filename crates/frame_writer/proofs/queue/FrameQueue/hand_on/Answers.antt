@@ -1,5 +1,5 @@
 -- One frame after another.
-use Rattle.std.proofs.Common.{refl, ◌∙◌}
+use Rattle.std.proofs.Common.{rules, refl, ◌∙◌}
 use Rattle.outside.proofs.PassedLaws.{on_err, passed_nothing, passed_then, passed_then_prefix, passed_there}
 use Rattle.frame_writer.specs.Writing.{writing, waiting_bytes}
 use Rattle.frame_writer.proofs.WritingLaws.{handed-none, handed-then, part-then}
@@ -7,7 +7,7 @@ use Rattle.frame_writer.proofs.queue.FrameQueue.hand_on.Goals as goal
 
 pub loop-self-init : goal.loop-self-init
 loop-self-init g c = record {
-  passed = passed_nothing (g.D.Folder.files c.args.folder.now) c.args.name.now (waiting_bytes (writing c.args.self.now c.args.unsent.now)) c.requires.there;
+  passed = passed_nothing (g.D.Folder.seen c.args.folder.now).files c.args.name.now (waiting_bytes (writing c.args.self.now c.args.unsent.now)) c.requires.there;
   moved = handed-none c.args.self.now;
   class = refl;
   reach = refl;
@@ -25,15 +25,18 @@ loop-self-preserved g c = record {
   counts = c.in_ok-take_first.ensures.done ∙ c.loop-self.invariant.counts;
 }
 
-pub returns-in_err-take_first-clause-prefix : goal.returns-in_err-take_first-clause-prefix
-returns-in_err-take_first-clause-prefix g c =
-    on_err c.from_residual.result (passed_then_prefix c.loop-self.invariant.passed c.in_err-take_first.ensures.prefix)
-
-pub returns-in_err-take_first-clause-part : goal.returns-in_err-take_first-clause-part
-returns-in_err-take_first-clause-part g c =
-    on_err c.from_residual.result
-    (part-then c.args.name.now (writing c.args.self.now c.args.unsent.now) (writing c.loop-self.self c.loop-self.unsent) c.take_first.new.self _ _ _
-    c.loop-self.invariant.passed c.loop-self.invariant.moved c.in_err-take_first.ensures.part)
-
-pub returns-in_err-take_first-clause-reach : goal.returns-in_err-take_first-clause-reach
-returns-in_err-take_first-clause-reach g c = c.take_first.ensures.reach (c.loop-self-test.ensures.0 refl) ∙ c.loop-self.invariant.reach
+pub returns-in_err-take_first : goal.returns-in_err-take_first
+returns-in_err-take_first g c = record {
+  passed = search rules;
+  moved = search rules;
+  part = on_err c.from_residual.result
+      (part-then c.args.name.now (writing c.args.self.now c.args.unsent.now) (writing c.loop-self.self c.loop-self.unsent) c.take_first.new.self _ _ _
+      c.loop-self.invariant.passed c.loop-self.invariant.moved c.in_err-take_first.ensures.part);
+  class = search rules;
+  reach = c.take_first.ensures.reach (c.loop-self-test.ensures.0 refl) ∙ c.loop-self.invariant.reach;
+  unsettled = search rules;
+  prefix = on_err c.from_residual.result (passed_then_prefix c.loop-self.invariant.passed c.in_err-take_first.ensures.prefix);
+  failed = search rules;
+  done = search rules;
+  counts = search rules;
+}

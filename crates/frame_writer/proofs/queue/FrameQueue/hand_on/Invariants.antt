@@ -7,12 +7,12 @@ use Rattle.frame_writer.proofs.queue.FrameQueue.hand_on.Given as goal
 
 abbrev pub invariant-loop-self : goal.invariant-loop-self
 invariant-loop-self g l = record {
-  passed : GoesOn l.name (writing l.initial.self l.initial.unsent) (writing l.self l.unsent) (g.D.Folder.files l.initial.folder) (g.D.Folder.files l.folder);
+  passed : GoesOn l.name (writing l.initial.self l.initial.unsent) (writing l.self l.unsent) (g.D.Folder.seen l.initial.folder).files (g.D.Folder.seen l.folder).files;
   moved : HandedOn l.initial.self l.self;
   class : l.self.class ≡ l.initial.self.class;
   reach : reach_of l.self ≡ reach_of l.initial.self;
-  there : IsThere (g.D.Folder.files l.folder) l.name;
-  counts : g.D.Folder.counts l.folder ≡ g.D.Folder.counts l.initial.folder;
+  there : IsThere (g.D.Folder.seen l.folder).files l.name;
+  counts : (g.D.Folder.seen l.folder).counts ≡ (g.D.Folder.seen l.initial.folder).counts;
 }
 
 abbrev pub decreases-loop-self : goal.decreases-loop-self

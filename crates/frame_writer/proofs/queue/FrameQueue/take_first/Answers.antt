@@ -1,8 +1,9 @@
 -- The front of the first frame that waits, and after it the first bytes of the areas.
 use Rattle.std.specs.Prelude.{option_copied}
-use Rattle.std.proofs.Common.{◌≡◌, ◌<◌, ◌≤◌, ℕ, List, ◌∷◌, ◌++◌, length, take, drop, sym, subst, ap, ◌∙◌, arith}
+use Rattle.std.proofs.Common.{rules, ◌≡◌, ◌<◌, ◌≤◌, ℕ, List, ◌∷◌, ◌++◌, length, take, drop, sym, subst, ap, ◌∙◌, arith}
 use Rattle.circular_buffer.specs.Buffer.{Buffer}
 use Rattle.side_info.specs.FrameFields.{FrameFields}
+use Rattle.std.proofs.lemmas.Grind.{common_steps}
 use Rattle.frame_writer.specs.Laid.{Piece, AreLaid}
 use Rattle.frame_writer.specs.Frames.{area_in, areas_in, AreOf, Held, first_bytes, framed, held_bytes}
 use Rattle.frame_writer.proofs.FrameLaws.{first-kept, first-framed}
@@ -35,24 +36,28 @@ drops g c = c.drop_first.ensures.left ∙ ap (λ n. drop n c.self.inside.areas.b
 step : (g : given.Over) (c : After-drop_first g) (given : List ℕ) (ps : List Piece) → AreLaid given c.self.inside.areas ps → AreLaid (given ++ take (area_in c.unwrap-first.result.now) c.self.inside.areas.bytes) c.drop_first.new.self ps
 step g c = subst (λ n. (given : List ℕ) (ps : List Piece) → AreLaid given c.self.inside.areas ps → AreLaid (given ++ take n c.self.inside.areas.bytes) c.drop_first.new.self ps) c.area-area.ensures.area c.drop_first.ensures.laid
 
-pub returns-clause-moved : goal.returns-clause-moved
-returns-clause-moved g c =
-    first-handed c.args.self.now c.self.inside.class c.unwrap-first.result.now c.self.inside.kept.items c.pop_front.new.self.items c.self.inside.areas c.drop_first.new.self c.self.view_is (first g (goal.at.returns-clause-moved g c).After-unwrap-first)
-    (ap (λ (b : Buffer FrameFields). b.items) c.pop_front.ensures.items) (drops g c) (step g c) (within g (goal.at.returns-clause-moved g c).After-unwrap-first)
-
-pub returns-clause-part : goal.returns-clause-part
-returns-clause-part g c =
-    err-map c.add_frame-added.result
-    (first-part c.args.name.now c.args.unsent.now c.args.self.now c.self.inside.class c.unwrap-first.result.now c.self.inside.kept.items c.pop_front.new.self.items c.self.inside.areas c.drop_first.new.self _ _ c.self.view_is (first g (goal.at.returns-clause-part g c).After-unwrap-first)
-    (ap (λ (b : Buffer FrameFields). b.items) c.pop_front.ensures.items) (drops g c) (step g c) (within g (goal.at.returns-clause-part g c).After-unwrap-first))
-    c.add_frame-added.ensures.prefix
-
-pub returns-clause-prefix : goal.returns-clause-prefix
-returns-clause-prefix g c =
-    let k = c.unwrap-first.result.now in
-    let items = c.self.inside.kept.items in
-    let bytes = c.self.inside.areas.bytes in
-    err-map c.add_frame-added.result
-    (prefix-piece c.args.name.now c.args.unsent.now (first_bytes k bytes) _ (framed (drop 1 items) (drop (area_in k) bytes)) _ _
-    (first-framed k (drop 1 items) bytes ∙ ap (λ (js : List FrameFields). framed js bytes) (sym (first g (goal.at.returns-clause-prefix g c).After-unwrap-first)) ∙ ap held_bytes c.self.view_is))
-    c.add_frame-added.ensures.prefix
+pub returns : goal.returns
+returns g c = record {
+  passed = grind (arith, common_steps);
+  moved = first-handed c.args.self.now c.self.inside.class c.unwrap-first.result.now c.self.inside.kept.items c.pop_front.new.self.items c.self.inside.areas c.drop_first.new.self c.self.view_is (first g (goal.at.returns g c).After-unwrap-first)
+      (ap (λ (b : Buffer FrameFields). b.items) c.pop_front.ensures.items) (drops g c) (step g c) (within g (goal.at.returns g c).After-unwrap-first);
+  part = err-map c.add_frame-added.result
+      (first-part c.args.name.now c.args.unsent.now c.args.self.now c.self.inside.class c.unwrap-first.result.now c.self.inside.kept.items c.pop_front.new.self.items c.self.inside.areas c.drop_first.new.self _ _ c.self.view_is (first g (goal.at.returns g c).After-unwrap-first)
+      (ap (λ (b : Buffer FrameFields). b.items) c.pop_front.ensures.items) (drops g c) (step g c) (within g (goal.at.returns g c).After-unwrap-first))
+      c.add_frame-added.ensures.prefix;
+  prefix = let k = c.unwrap-first.result.now in
+      let items = c.self.inside.kept.items in
+      let bytes = c.self.inside.areas.bytes in
+      err-map c.add_frame-added.result
+      (prefix-piece c.args.name.now c.args.unsent.now (first_bytes k bytes) _ (framed (drop 1 items) (drop (area_in k) bytes)) _ _
+      (first-framed k (drop 1 items) bytes ∙ ap (λ (js : List FrameFields). framed js bytes) (sym (first g (goal.at.returns g c).After-unwrap-first)) ∙ ap held_bytes c.self.view_is))
+      c.add_frame-added.ensures.prefix;
+  class = search rules;
+  kept = search rules;
+  left = search rules;
+  free = search rules;
+  reach = grind (arith, common_steps);
+  failed = search rules;
+  done = search rules;
+  counts = search rules;
+}

@@ -1,5 +1,5 @@
 -- What waits goes into the buffer, and the buffer to the file.
-use Rattle.std.proofs.Common.{◌≡◌, List, ℕ, ◌++◌, subst, ap, ap₂, ◌∙◌}
+use Rattle.std.proofs.Common.{rules, ◌≡◌, List, ℕ, ◌++◌, subst, ap, ap₂, ◌∙◌}
 use Rattle.outside.specs.Files.{appended}
 use Rattle.outside.specs.Passed.{AppendedPrefix}
 use Rattle.outside.proofs.PassedLaws.{on_err, passed_there, passed_then_all, passed_then_prefix}
@@ -20,15 +20,31 @@ all held unsent state now settled view opened =
 pub finish-requires-2 : goal.finish-requires-2
 finish-requires-2 g c = passed_there c.in_ok-finish.ensures.passed
 
-pub returns-in_err-finish-2-clause-prefix : goal.returns-in_err-finish-2-clause-prefix
-returns-in_err-finish-2-clause-prefix g c =
-    on_err c.from_residual-in_err-finish-2.result
-    (subst (λ (xs : List ℕ). AppendedPrefix c.args.name.now xs (g.D.Folder.files c.args.folder.now) (g.D.Folder.files c.finish-2.new.folder))
-    (all c.self.inside.queue c.self.inside.unsent c.self.inside.state c.args.self.now c.self.invariant c.self.view_is c.requires.ready)
-    (passed_then_prefix c.in_ok-finish.ensures.passed c.in_err-finish-2.ensures.prefix))
+pub returns-in_err-finish-2 : goal.returns-in_err-finish-2
+returns-in_err-finish-2 g c = record {
+  appended = search rules;
+  none = search rules;
+  finished = search rules;
+  prefix = on_err c.from_residual-in_err-finish-2.result
+      (subst (λ (xs : List ℕ). AppendedPrefix c.args.name.now xs (g.D.Folder.seen c.args.folder.now).files (g.D.Folder.seen c.finish-2.new.folder).files)
+      (all c.self.inside.queue c.self.inside.unsent c.self.inside.state c.args.self.now c.self.invariant c.self.view_is c.requires.ready)
+      (passed_then_prefix c.in_ok-finish.ensures.passed c.in_err-finish-2.ensures.prefix));
+  ended = search rules;
+  failed = search rules;
+  done = search rules;
+  counts = search rules;
+}
 
-pub returns-clause-appended : goal.returns-clause-appended
-returns-clause-appended g c =
-    passed_then_all c.in_ok-finish.ensures.passed c.in_ok-finish-2.ensures.appended
-    ∙ ap (appended (g.D.Folder.files c.args.folder.now) c.args.name.now)
-    (all c.self.inside.queue c.self.inside.unsent c.self.inside.state c.args.self.now c.self.invariant c.self.view_is c.requires.ready)
+pub returns : goal.returns
+returns g c = record {
+  appended = passed_then_all c.in_ok-finish.ensures.passed c.in_ok-finish-2.ensures.appended
+      ∙ ap (appended (g.D.Folder.seen c.args.folder.now).files c.args.name.now)
+      (all c.self.inside.queue c.self.inside.unsent c.self.inside.state c.args.self.now c.self.invariant c.self.view_is c.requires.ready);
+  none = search rules;
+  finished = search rules;
+  prefix = search rules;
+  ended = search rules;
+  failed = search rules;
+  done = search rules;
+  counts = search rules;
+}

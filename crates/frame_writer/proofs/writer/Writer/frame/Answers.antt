@@ -1,5 +1,5 @@
 -- The frame goes into the buffer, and the buffer to the file.
-use Rattle.std.proofs.Common.{◌≡◌, List, ℕ, [], subst, ap, ap₂, ◌∙◌}
+use Rattle.std.proofs.Common.{rules, ◌≡◌, List, ℕ, [], subst, ap, ap₂, ◌∙◌}
 use Rattle.outside.specs.Passed.{PassedOn, AppendedPrefix}
 use Rattle.outside.proofs.PassedLaws.{on_err, passed_there}
 use Rattle.frame_header.specs.Fields.{HeaderFields}
@@ -25,46 +25,56 @@ given_is : (h : HeaderFields) (s : Side) (payload : List ℕ) (front : FrameFiel
 given_is h s payload front whole frame is kept same = is ∙ ap₂ (λ (k : FrameFields) (p : List ℕ). record { kept = k; payload = p }) kept same
 
 pub finish-requires : goal.finish-requires
-finish-requires g c = passed_there c.in_ok-frame.ensures.passed
+finish-requires g c = passed_there c.in_ok-frame.ensures.answer.passed
 
-pub returns-in_err-finish-clause-part : goal.returns-in_err-finish-clause-part
-returns-in_err-finish-clause-part g c =
-    let old = nothing c.self.inside.queue c.self.inside.unsent c.self.inside.state c.args.self.now c.self.invariant c.self.view_is c.requires.ready in
-    let new = writing c.frame.new.self c.frame.new.unsent in
-    on_err c.from_residual-in_err-finish.result
-    (subst (λ (w : Writing). WritesPart c.args.name.now (frame_of c.args.header.now c.args.side.now c.args.payload.now) w c.frame.new.self
-    (g.D.Folder.files c.args.folder.now) (g.D.Folder.files c.finish.new.folder)) old
-    (subst (λ (f : Frame). WritesPart c.args.name.now f (writing c.self.inside.queue c.self.inside.unsent) c.frame.new.self
-    (g.D.Folder.files c.args.folder.now) (g.D.Folder.files c.finish.new.folder)) (given_is c.args.header.now c.args.side.now c.args.payload.now c.new-front.result c.whole.result c.new-frame.result c.new-frame.ensures c.new-front.ensures c.whole.ensures)
-    (writes-unsent new c.in_ok-frame.ensures.written c.in_err-finish.ensures.prefix)))
+pub returns-in_err-finish-clause-answer : goal.returns-in_err-finish-clause-answer
+returns-in_err-finish-clause-answer g c = record {
+  written = search rules;
+  passed = search rules;
+  part = let old = nothing c.self.inside.queue c.self.inside.unsent c.self.inside.state c.args.self.now c.self.invariant c.self.view_is c.requires.ready in
+      let new = writing c.frame.new.self c.frame.new.unsent in
+      on_err c.from_residual-in_err-finish.result
+      (subst (λ (w : Writing). WritesPart c.args.name.now (frame_of c.args.header.now c.args.side.now c.args.payload.now) w c.frame.new.self
+      (g.D.Folder.seen c.args.folder.now).files (g.D.Folder.seen c.finish.new.folder).files) old
+      (subst (λ (f : Frame). WritesPart c.args.name.now f (writing c.self.inside.queue c.self.inside.unsent) c.frame.new.self
+      (g.D.Folder.seen c.args.folder.now).files (g.D.Folder.seen c.finish.new.folder).files) (given_is c.args.header.now c.args.side.now c.args.payload.now c.new-front.result c.whole.result c.new-frame.result c.new-frame.ensures c.new-front.ensures c.whole.ensures)
+      (writes-unsent new c.in_ok-frame.ensures.answer.written c.in_err-finish.ensures.prefix)));
+  prefix = let old = nothing c.self.inside.queue c.self.inside.unsent c.self.inside.state c.args.self.now c.self.invariant c.self.view_is c.requires.ready in
+      let new = writing c.frame.new.self c.frame.new.unsent in
+      on_err c.from_residual-in_err-finish.result
+      (subst (λ (w : Writing). AppendedPrefix c.args.name.now (bytes_with w (frame_of c.args.header.now c.args.side.now c.args.payload.now))
+      (g.D.Folder.seen c.args.folder.now).files (g.D.Folder.seen c.finish.new.folder).files) old
+      (subst (λ (f : Frame). AppendedPrefix c.args.name.now (bytes_with (writing c.self.inside.queue c.self.inside.unsent) f)
+      (g.D.Folder.seen c.args.folder.now).files (g.D.Folder.seen c.finish.new.folder).files) (given_is c.args.header.now c.args.side.now c.args.payload.now c.new-front.result c.whole.result c.new-frame.result c.new-frame.ensures c.new-front.ensures c.whole.ensures)
+      (unsent-prefix new c.in_ok-frame.ensures.answer.passed c.in_err-finish.ensures.prefix)));
+  class = search rules;
+  reach = search rules;
+  failed = search rules;
+  done = search rules;
+  counts = search rules;
+}
 
-pub returns-in_err-finish-clause-prefix : goal.returns-in_err-finish-clause-prefix
-returns-in_err-finish-clause-prefix g c =
-    let old = nothing c.self.inside.queue c.self.inside.unsent c.self.inside.state c.args.self.now c.self.invariant c.self.view_is c.requires.ready in
-    let new = writing c.frame.new.self c.frame.new.unsent in
-    on_err c.from_residual-in_err-finish.result
-    (subst (λ (w : Writing). AppendedPrefix c.args.name.now (bytes_with w (frame_of c.args.header.now c.args.side.now c.args.payload.now))
-    (g.D.Folder.files c.args.folder.now) (g.D.Folder.files c.finish.new.folder)) old
-    (subst (λ (f : Frame). AppendedPrefix c.args.name.now (bytes_with (writing c.self.inside.queue c.self.inside.unsent) f)
-    (g.D.Folder.files c.args.folder.now) (g.D.Folder.files c.finish.new.folder)) (given_is c.args.header.now c.args.side.now c.args.payload.now c.new-front.result c.whole.result c.new-frame.result c.new-frame.ensures c.new-front.ensures c.whole.ensures)
-    (unsent-prefix new c.in_ok-frame.ensures.passed c.in_err-finish.ensures.prefix)))
-
-pub returns-clause-written : goal.returns-clause-written
-returns-clause-written g c =
-    let old = nothing c.self.inside.queue c.self.inside.unsent c.self.inside.state c.args.self.now c.self.invariant c.self.view_is c.requires.ready in
-    let new = writing c.frame.new.self c.frame.new.unsent in
-    subst (λ (w : Writing). WritesOn c.args.name.now (frame_of c.args.header.now c.args.side.now c.args.payload.now) w (writing c.frame.new.self [])
-    (g.D.Folder.files c.args.folder.now) (g.D.Folder.files c.finish.new.folder)) old
-    (subst (λ (f : Frame). WritesOn c.args.name.now f (writing c.self.inside.queue c.self.inside.unsent) (writing c.frame.new.self [])
-    (g.D.Folder.files c.args.folder.now) (g.D.Folder.files c.finish.new.folder)) (given_is c.args.header.now c.args.side.now c.args.payload.now c.new-front.result c.whole.result c.new-frame.result c.new-frame.ensures c.new-front.ensures c.whole.ensures)
-    (writes-sent new c.in_ok-frame.ensures.written c.in_ok-finish.ensures.appended))
-
-pub returns-clause-passed : goal.returns-clause-passed
-returns-clause-passed g c =
-    let old = nothing c.self.inside.queue c.self.inside.unsent c.self.inside.state c.args.self.now c.self.invariant c.self.view_is c.requires.ready in
-    let new = writing c.frame.new.self c.frame.new.unsent in
-    subst (λ (w : Writing). PassedOn c.args.name.now (bytes_with w (frame_of c.args.header.now c.args.side.now c.args.payload.now)) (held_bytes c.frame.new.self)
-    (g.D.Folder.files c.args.folder.now) (g.D.Folder.files c.finish.new.folder)) old
-    (subst (λ (f : Frame). PassedOn c.args.name.now (bytes_with (writing c.self.inside.queue c.self.inside.unsent) f) (held_bytes c.frame.new.self)
-    (g.D.Folder.files c.args.folder.now) (g.D.Folder.files c.finish.new.folder)) (given_is c.args.header.now c.args.side.now c.args.payload.now c.new-front.result c.whole.result c.new-frame.result c.new-frame.ensures c.new-front.ensures c.whole.ensures)
-    (passed-sent new c.in_ok-frame.ensures.passed c.in_ok-finish.ensures.appended))
+pub returns-clause-answer : goal.returns-clause-answer
+returns-clause-answer g c = record {
+  written = let old = nothing c.self.inside.queue c.self.inside.unsent c.self.inside.state c.args.self.now c.self.invariant c.self.view_is c.requires.ready in
+      let new = writing c.frame.new.self c.frame.new.unsent in
+      subst (λ (w : Writing). WritesOn c.args.name.now (frame_of c.args.header.now c.args.side.now c.args.payload.now) w (writing c.frame.new.self [])
+      (g.D.Folder.seen c.args.folder.now).files (g.D.Folder.seen c.finish.new.folder).files) old
+      (subst (λ (f : Frame). WritesOn c.args.name.now f (writing c.self.inside.queue c.self.inside.unsent) (writing c.frame.new.self [])
+      (g.D.Folder.seen c.args.folder.now).files (g.D.Folder.seen c.finish.new.folder).files) (given_is c.args.header.now c.args.side.now c.args.payload.now c.new-front.result c.whole.result c.new-frame.result c.new-frame.ensures c.new-front.ensures c.whole.ensures)
+      (writes-sent new c.in_ok-frame.ensures.answer.written c.in_ok-finish.ensures.appended));
+  passed = let old = nothing c.self.inside.queue c.self.inside.unsent c.self.inside.state c.args.self.now c.self.invariant c.self.view_is c.requires.ready in
+      let new = writing c.frame.new.self c.frame.new.unsent in
+      subst (λ (w : Writing). PassedOn c.args.name.now (bytes_with w (frame_of c.args.header.now c.args.side.now c.args.payload.now)) (held_bytes c.frame.new.self)
+      (g.D.Folder.seen c.args.folder.now).files (g.D.Folder.seen c.finish.new.folder).files) old
+      (subst (λ (f : Frame). PassedOn c.args.name.now (bytes_with (writing c.self.inside.queue c.self.inside.unsent) f) (held_bytes c.frame.new.self)
+      (g.D.Folder.seen c.args.folder.now).files (g.D.Folder.seen c.finish.new.folder).files) (given_is c.args.header.now c.args.side.now c.args.payload.now c.new-front.result c.whole.result c.new-frame.result c.new-frame.ensures c.new-front.ensures c.whole.ensures)
+      (passed-sent new c.in_ok-frame.ensures.answer.passed c.in_ok-finish.ensures.appended));
+  part = search rules;
+  prefix = search rules;
+  class = search rules;
+  reach = search rules;
+  failed = search rules;
+  done = search rules;
+  counts = search rules;
+}

@@ -1,7 +1,7 @@
 -- The tag is read, and then the change is decided by it; without tags it is decided at once.
 use Rattle.std.proofs.Common.{Some, None, refl, sym, ◌∙◌, ap₂, rules}
+use Rattle.outside.specs.Seen.{seen}
 use Rattle.sync_survey.specs.Faults.{tells}
-use Rattle.commands.specs.Left.{seen}
 use Rattle.gain_edits.specs.Changes.{decided_by}
 use Rattle.gain_edits.proofs.Refusals.{plain-is, noted-is, decided-may, tag_is_input, answered}
 use Rattle.gain_edits.proofs.changes.Changes.find.Goals as goal

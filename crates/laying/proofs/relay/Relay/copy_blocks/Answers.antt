@@ -1,5 +1,5 @@
 -- One block more is copied, if it is chosen.
-use Rattle.std.proofs.Common.{◌≡◌, ℕ, ◌+◌, ◌≤◌, length, List, ◌∷◌, [], ◌++◌, drop, refl, sym, ◌∙◌, ap, subst, arith}
+use Rattle.std.proofs.Common.{rules, ◌≡◌, ℕ, ◌+◌, ◌≤◌, length, List, ◌∷◌, [], ◌++◌, drop, refl, sym, ◌∙◌, ap, subst, arith}
 use Rattle.std.proofs.lemmas.Result.{err_from_is_err_and}
 use Rattle.std.proofs.lemmas.List.{drop_all}
 use Rattle.std.specs.Prelude.{slice_index_or}
@@ -23,7 +23,7 @@ loop-block-init g c =
     let self = c.args.self.now in
     let all = chosen_bytes c.args.in_front (tells self.survey.now) (tells self.survey.now).blocks in
     record {
-      up_to = up_to_begun self.pass all c.args.waiting.now (g.D.Folder.files c.args.folder.now) c.requires.ready.pass.target;
+      up_to = up_to_begun self.pass all c.args.waiting.now (g.D.Folder.seen c.args.folder.now).files c.requires.ready.pass.target;
       ready = c.requires.ready;
       counts = refl;
     }
@@ -56,17 +56,18 @@ module _ (g : given.Over) (c : After-copy_chosen g) where
   next : (file : List ℕ) → chosen (drop k s.blocks) file ≡ chosen (p ∷ []) file ++ chosen (drop (k + 1) s.blocks) file
   next file = ap (λ (l : List Piece). chosen l file) here ∙ chosen-next c.args.in_front s p (drop (k + 1) s.blocks) file
 
-pub returns-in_err-copy_chosen-clause-prefix : goal.returns-in_err-copy_chosen-clause-prefix
-returns-in_err-copy_chosen-clause-prefix g c =
-    let at = (goal.at.returns-in_err-copy_chosen-clause-prefix g c).After-copy_chosen in
-    err_at c.from_residual.result _ c.from_residual.ensures.1
-    (up_to_prefix c.args.self.now.pass c.requires.ready.pass.apart c.loop-block.invariant.up_to _ (chosen g at (drop (c.loop-block.block-index + 1) (tells c.args.self.now.survey.now).blocks)) (λ file holds. next g at file) c.in_err-copy_chosen.ensures.prefix)
-
-pub returns-in_err-copy_chosen-clause-cause : goal.returns-in_err-copy_chosen-clause-cause
-returns-in_err-copy_chosen-clause-cause g c =
-    let p = err_from_is_err_and c.from_residual.result c.from_residual.ensures.1 in
-    rw (p.1, p.2)
-    (cause_behind c.loop-block.invariant.up_to.written _ _ _ _ c.loop-block.invariant.counts _ c.in_err-copy_chosen.ensures.cause)
+pub returns-in_err-copy_chosen : goal.returns-in_err-copy_chosen
+returns-in_err-copy_chosen g c = record {
+  written = search rules;
+  prefix = let at = (goal.at.returns-in_err-copy_chosen g c).After-copy_chosen in
+      err_at c.from_residual.result _ c.from_residual.ensures.1
+      (up_to_prefix c.args.self.now.pass c.requires.ready.pass.apart c.loop-block.invariant.up_to _ (chosen g at (drop (c.loop-block.block-index + 1) (tells c.args.self.now.survey.now).blocks)) (λ file holds. next g at file) c.in_err-copy_chosen.ensures.prefix);
+  done = search rules;
+  cause = let p = err_from_is_err_and c.from_residual.result c.from_residual.ensures.1 in
+      rw (p.1, p.2)
+      (cause_behind c.loop-block.invariant.up_to.written _ _ _ _ c.loop-block.invariant.counts _ c.in_err-copy_chosen.ensures.cause);
+  ready = search rules;
+}
 
 pub loop-block-preserved : goal.loop-block-preserved
 loop-block-preserved g c =
@@ -77,12 +78,17 @@ loop-block-preserved g c =
       counts = c.in_ok-copy_chosen.ensures.done ∙ c.loop-block.invariant.counts;
     }
 
-pub returns-clause-written : goal.returns-clause-written
-returns-clause-written g c =
-    let self = c.args.self.now in
-    let s = tells self.survey.now in
-    let chosen = chosen_bytes c.args.in_front s in
-    let k = c.loop-block.block-index in
-    let none : drop k s.blocks ≡ [] = drop_all k s.blocks (omega (arith, c.loop-block-test.false, ap length c.blocks-block-items.ensures)) in
-    up_to_end self.pass c.requires.ready.pass.apart c.loop-block.invariant.up_to
-    (λ file holds. ap (λ (l : List Piece). chosen l file) none)
+pub returns : goal.returns
+returns g c = record {
+  written = let self = c.args.self.now in
+      let s = tells self.survey.now in
+      let chosen = chosen_bytes c.args.in_front s in
+      let k = c.loop-block.block-index in
+      let none : drop k s.blocks ≡ [] = drop_all k s.blocks (omega (arith, c.loop-block-test.false, ap length c.blocks-block-items.ensures)) in
+      up_to_end self.pass c.requires.ready.pass.apart c.loop-block.invariant.up_to
+      (λ file holds. ap (λ (l : List Piece). chosen l file) none);
+  prefix = search rules;
+  done = search rules;
+  cause = search rules;
+  ready = search rules;
+}

@@ -9,7 +9,7 @@ use Rattle.laying.proofs.relay.Relay.copy_blocks.Given as goal
 abbrev pub invariant-loop-block : goal.invariant-loop-block
 invariant-loop-block g l = record {
   up_to : WritesUpTo l.self.pass (chosen_bytes l.in_front (tells l.self.survey.now) (tells l.self.survey.now).blocks)
-      (chosen_bytes l.in_front (tells l.self.survey.now) (drop l.block-index (tells l.self.survey.now).blocks)) l.fn.waiting l.waiting (g.D.Folder.files l.fn.folder) (g.D.Folder.files l.folder);
-  ready : IsReady l.self (g.D.Folder.files l.folder) l.feed;
-  counts : g.D.Folder.counts l.folder ≡ g.D.Folder.counts l.fn.folder;
+      (chosen_bytes l.in_front (tells l.self.survey.now) (drop l.block-index (tells l.self.survey.now).blocks)) l.fn.waiting l.waiting (g.D.Folder.seen l.fn.folder).files (g.D.Folder.seen l.folder).files;
+  ready : IsReady l.self (g.D.Folder.seen l.folder).files l.feed;
+  counts : (g.D.Folder.seen l.folder).counts ≡ (g.D.Folder.seen l.fn.folder).counts;
 }

@@ -1,5 +1,5 @@
 -- A chosen block is copied, and one that is not chosen has no bytes here.
-use Rattle.std.proofs.Common.{◌∷◌, [], sym, ◌∙◌, ap}
+use Rattle.std.proofs.Common.{rules, ◌∷◌, [], sym, ◌∙◌, ap}
 use mathlib.Core.Bool.{beq}
 use Rattle.frame_writer.proofs.WritingLaws.{ok-both}
 use Rattle.outside.proofs.PassLaws.{writes_nothing}
@@ -9,14 +9,24 @@ use Rattle.laying.proofs.CopyLaws.{chosen-none}
 use Rattle.laying.proofs.PassLaws.{ready-with}
 use Rattle.laying.proofs.relay.Relay.copy_chosen.Goals as goal
 
-pub returns-then-goes_in_front-in_front-clause-ready : goal.returns-then-goes_in_front-in_front-clause-ready
-returns-then-goes_in_front-in_front-clause-ready g c =
-    ok-both c.copy.result (λ written pass. ready-with c.args.self.now _ _ _ _ written.passed.passed written.passed.files c.requires.ready pass) c.copy.ensures.written c.copy.ensures.ready
+pub returns-then-goes_in_front-in_front : goal.returns-then-goes_in_front-in_front
+returns-then-goes_in_front-in_front g c = record {
+  written = search rules;
+  prefix = search rules;
+  done = search rules;
+  cause = search rules;
+  ready = ok-both c.copy.result (λ written pass. ready-with c.args.self.now _ _ _ _ written.passed.passed written.passed.files c.requires.ready pass) c.copy.ensures.written c.copy.ensures.ready;
+}
 
-pub returns-else-goes_in_front-in_front-clause-written :
-    goal.returns-else-goes_in_front-in_front-clause-written
-returns-else-goes_in_front-in_front-clause-written g c =
-    let self = c.args.self.now in
-    let s = tells self.survey.now in
-    writes_nothing self.pass (chosen_bytes c.args.in_front s (c.args.block.now ∷ [])) c.args.waiting.now (g.D.Folder.files c.args.folder.now) c.requires.ready.pass.target
-    (λ file holds. sym (chosen-none c.args.in_front s c.args.block.now file (sym (ap (λ b. beq b c.args.in_front) c.goes_in_front.ensures) ∙ c.if-goes_in_front-in_front.false)))
+pub returns-else-goes_in_front-in_front : goal.returns-else-goes_in_front-in_front
+returns-else-goes_in_front-in_front g c = record {
+  written =
+      let self = c.args.self.now in
+      let s = tells self.survey.now in
+      writes_nothing self.pass (chosen_bytes c.args.in_front s (c.args.block.now ∷ [])) c.args.waiting.now (g.D.Folder.seen c.args.folder.now).files c.requires.ready.pass.target
+      (λ file holds. sym (chosen-none c.args.in_front s c.args.block.now file (sym (ap (λ b. beq b c.args.in_front) c.goes_in_front.ensures) ∙ c.if-goes_in_front-in_front.false)));
+  prefix = search rules;
+  done = search rules;
+  cause = search rules;
+  ready = search rules;
+}

@@ -1,5 +1,5 @@
 -- The area of the frame is within the file, after what comes before it in the frame.
-use Rattle.std.proofs.Common.{take, drop, sym, ◌∙◌, ap, ap₂, subst, arith}
+use Rattle.std.proofs.Common.{rules, take, drop, sym, ◌∙◌, ap, ap₂, subst, arith}
 use Rattle.std.proofs.lemmas.List.{drop-drop}
 use Rattle.frame_header.specs.Tables.{class_of, overhead_of}
 use Rattle.outside.specs.Files.{Holds}
@@ -21,7 +21,7 @@ fill-requires-clause-within g c =
 pub returns-clause-area : goal.returns-clause-area
 returns-clause-area g c =
     let row = c.args.row.now in
-    let files = g.D.Folder.files in
+    let seen = g.D.Folder.seen in
     let input = c.args.self.now.pass.input.now in
     ok-both c.fill.result
     (λ given bytes. record {
@@ -33,5 +33,11 @@ returns-clause-area g c =
     })
     c.fill.ensures.given c.fill.ensures.bytes
 
-pub returns-clause-ready : goal.returns-clause-ready
-returns-clause-ready g c = ready-filled c.args.self.now _ _ _ _ c.fill.ensures.files c.requires.ready c.fill.ensures.ready
+pub returns-clause-reads : goal.returns-clause-reads
+returns-clause-reads g c = record {
+  done = search rules;
+  cause = search rules;
+  read = search rules;
+  files = search rules;
+  ready = ready-filled c.args.self.now _ _ _ _ c.fill.ensures.files c.requires.ready c.fill.ensures.ready;
+}

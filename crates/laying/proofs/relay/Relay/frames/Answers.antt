@@ -1,5 +1,5 @@
 -- One place of the plan after another.
-use Rattle.std.proofs.Common.{◌≡◌, get_or, ℕ, ◌+◌, ◌<◌, ◌≤◌, cond, List, [], ◌∷◌, ◌++◌, length, map, drop, refl, sym, ◌∙◌, ap, subst, arith, append_assoc}
+use Rattle.std.proofs.Common.{rules, ◌≡◌, get_or, ℕ, ◌+◌, ◌<◌, ◌≤◌, cond, List, [], ◌∷◌, ◌++◌, length, map, drop, refl, sym, ◌∙◌, ap, subst, arith, append_assoc}
 use Rattle.std.specs.Prelude.{slice_range, slice_get, Some}
 use Rattle.std.proofs.lemmas.List.{drop_all}
 use Rattle.std.proofs.lemmas.Result.{err_from_is_err_and}
@@ -28,16 +28,16 @@ pub loop-place-init : goal.loop-place-init
 loop-place-init g c =
     let self = c.args.self.now in
     record {
-      ready = c.requires.ready;
+      stands = record {
+        on = c.requires.stands;
+        over = over-holds c.args.buffers.now.window self.pass.input.now (g.D.Folder.seen c.args.folder.now).files (tells self.survey.now) c.args.from c.requires.over;
+      };
       early = c.requires.ordered;
-      over = over-holds c.args.buffers.now.window self.pass.input.now (g.D.Folder.files c.args.folder.now) (tells self.survey.now) c.args.from c.requires.over;
-      class = c.requires.class;
       fits = c.requires.fits;
       reach = refl;
-      unsettled = c.requires.unsettled;
       lays = record {
         made = λ file. [];
-        lays = lays_none self.pass.input.now self.pass.output.now (λ file. []) (writing_in c.args.buffers.now) (g.D.Folder.files c.args.folder.now) c.requires.ready.pass.target (λ file holds. refl);
+        lays = lays_none self.pass.input.now self.pass.output.now (λ file. []) (writing_in c.args.buffers.now) (g.D.Folder.seen c.args.folder.now).files c.requires.stands.ready.pass.target (λ file holds. refl);
         left = λ file holds. refl;
       };
       counts = refl;
@@ -95,14 +95,17 @@ module _ (g : given.Over) (c : After-index-rows-reading g) where
     abbrev rest : List ℕ → List Frame
     rest file = relaid (slice_range (all_frames file s) next to) more
 
-    split : (file : List ℕ) → Holds (g.D.Folder.files c.args.folder.now) c.args.self.now.pass.input.now file → (c.loop-place.invariant.lays.made file ++ one file) ++ rest file ≡ relaid (slice_range (all_frames file s) c.args.from to) c.args.placed.now
+    split : (file : List ℕ) → Holds (g.D.Folder.seen c.args.folder.now).files c.args.self.now.pass.input.now file → (c.loop-place.invariant.lays.made file ++ one file) ++ rest file ≡ relaid (slice_range (all_frames file s) c.args.from to) c.args.placed.now
     split file holds =
         append_assoc (c.loop-place.invariant.lays.made file) (one file) (rest file)
         ∙ ap (λ (l : List Frame). c.loop-place.invariant.lays.made file ++ l) (sym (ap (relaid (slice_range (all_frames file s) i to)) left ∙ relaid-next s i to next row p more found some next_is file))
         ∙ sym (c.loop-place.invariant.lays.left file holds)
 
-pub place-requires-clause-found : goal.place-requires-clause-found
-place-requires-clause-found g c = found g (goal.at.place-requires-clause-found g c).After-index-rows-reading
+pub place-requires-clause-next : goal.place-requires-clause-next
+place-requires-clause-next g c = record {
+  known = search rules;
+  found = found g (goal.at.place-requires-clause-next g c).After-index-rows-reading;
+}
 
 pub place-requires-clause-begin : goal.place-requires-clause-begin
 place-requires-clause-begin g c = (opened g (goal.at.place-requires-clause-begin g c).After-index-rows-reading _ refl).0
@@ -110,45 +113,46 @@ place-requires-clause-begin g c = (opened g (goal.at.place-requires-clause-begin
 pub place-requires-clause-within : goal.place-requires-clause-within
 place-requires-clause-within g c = (opened g (goal.at.place-requires-clause-within g c).After-index-rows-reading _ refl).1
 
-pub returns-in_err-reading-clause-part : goal.returns-in_err-reading-clause-part
-returns-in_err-reading-clause-part g c =
-    let at = (goal.at.returns-in_err-reading-clause-part g c).After-index-rows-reading in
-    let self = c.args.self.now in
-    let s = tells self.survey.now in
-    let files = g.D.Folder.files in
-    let sofar = c.loop-place.invariant.lays in
-    let p = c.place-item.result in
-    let row = c.index-rows-reading.result in
-    let to = c.args.to in
-    let placed = c.args.placed.now in
-    let window = window_of s.class.version in
-    let reach = reach_behind window p (need_of row) in
-    let next = c.loop-place.reading.next + cond p.lead_in 0 1 in
-    let last = last_reach window (reach_of c.args.buffers.now.writer) (map need_of (slice_range s.frames c.args.from to)) placed in
-    let one = λ (file : List ℕ). placed_as p (frame_of file s c.loop-place.reading.next row) ∷ [] in
-    err_at c.from_residual.result _ c.from_residual.ensures.1
-    (part_more self.pass.input.now self.pass.output.now (λ file. sofar.made file ++ one file) (rest g at next refl) (λ file. relaid (slice_range (all_frames file s) c.args.from to) placed) reach last (writing_in c.args.buffers.now) (files c.args.folder.now) (files c.place.new.folder)
-    (λ file holds later begins.
-    let has = c.requires.ready.exact file holds in
-    begins-left window reach (map need_of (slice_range s.frames next to)) (slice_range (all_frames file s) next to) (drop (c.loop-place.place-index + 1) placed) later (needs-range file s next to has) (opened g at next refl).2
-    (subst (λ n. BeginsWithin n (pieces later)) (sym (last_is g at next refl)) begins))
-    (split g at next refl)
-    (part_then self.pass.input.now self.pass.output.now sofar.made one (writing_in c.args.buffers.now) (writing_in c.loop-place.buffers) (files c.args.folder.now) (files c.loop-place.folder) c.requires.ready.pass.apart sofar.lays reach (files c.place.new.folder) c.in_err-reading.ensures.part))
-
-pub returns-in_err-reading-clause-cause : goal.returns-in_err-reading-clause-cause
-returns-in_err-reading-clause-cause g c =
-    let s = tells c.args.self.now.survey.now in
-    let sofar = c.loop-place.invariant.lays in
-    let q = err_from_is_err_and c.from_residual.result c.from_residual.ensures.1 in
-    rw (q.1, q.2)
-    (cause_later _ (g.D.Folder.files c.args.folder.now) (g.D.Folder.files c.loop-place.folder) c.args.self.now.pass.output.now sofar.lays.passed _ _ _ _ sofar.lays.files c.loop-place.invariant.counts c.in_err-reading.ensures.cause)
+pub returns-in_err-reading-clause-gives : goal.returns-in_err-reading-clause-gives
+returns-in_err-reading-clause-gives g c = record {
+  lays = search rules;
+  part = let at = (goal.at.returns-in_err-reading-clause-gives g c).After-index-rows-reading in
+      let self = c.args.self.now in
+      let s = tells self.survey.now in
+      let seen = g.D.Folder.seen in
+      let sofar = c.loop-place.invariant.lays in
+      let p = c.place-item.result in
+      let row = c.index-rows-reading.result in
+      let to = c.args.to in
+      let placed = c.args.placed.now in
+      let window = window_of s.class.version in
+      let reach = reach_behind window p (need_of row) in
+      let next = c.loop-place.reading.next + cond p.lead_in 0 1 in
+      let last = last_reach window (reach_of c.args.buffers.now.writer) (map need_of (slice_range s.frames c.args.from to)) placed in
+      let one = λ (file : List ℕ). placed_as p (frame_of file s c.loop-place.reading.next row) ∷ [] in
+      err_at c.from_residual.result _ c.from_residual.ensures.1
+      (part_more self.pass.input.now self.pass.output.now (λ file. sofar.made file ++ one file) (rest g at next refl) (λ file. relaid (slice_range (all_frames file s) c.args.from to) placed) reach last (writing_in c.args.buffers.now) (seen c.args.folder.now).files (seen c.place.new.folder).files
+      (λ file holds later begins.
+      let has = c.requires.stands.ready.exact file holds in
+      begins-left window reach (map need_of (slice_range s.frames next to)) (slice_range (all_frames file s) next to) (drop (c.loop-place.place-index + 1) placed) later (needs-range file s next to has) (opened g at next refl).2
+      (subst (λ n. BeginsWithin n (pieces later)) (sym (last_is g at next refl)) begins))
+      (split g at next refl)
+      (part_then self.pass.input.now self.pass.output.now sofar.made one (writing_in c.args.buffers.now) (writing_in c.loop-place.buffers) (seen c.args.folder.now).files (seen c.loop-place.folder).files c.requires.stands.ready.pass.apart sofar.lays reach (seen c.place.new.folder).files c.in_err-reading.ensures.gives.part));
+  reach = search rules;
+  done = search rules;
+  cause = let s = tells c.args.self.now.survey.now in
+      let sofar = c.loop-place.invariant.lays in
+      let q = err_from_is_err_and c.from_residual.result c.from_residual.ensures.1 in
+      rw (q.1, q.2)
+      (cause_later _ (g.D.Folder.seen c.args.folder.now).files (g.D.Folder.seen c.loop-place.folder).files c.args.self.now.pass.output.now sofar.lays.passed _ _ _ _ sofar.lays.files c.loop-place.invariant.counts c.in_err-reading.ensures.gives.cause);
+}
 
 pub loop-place-preserved : goal.loop-place-preserved
 loop-place-preserved g c =
     let at = (goal.at.loop-place-preserved g c).After-index-rows-reading in
     let self = c.args.self.now in
     let s = tells self.survey.now in
-    let files = g.D.Folder.files in
+    let seen = g.D.Folder.seen in
     let inv = c.loop-place.invariant in
     let p = c.place-item.result in
     let next_is = c.in_ok-reading.ensures.next in
@@ -157,46 +161,44 @@ loop-place-preserved g c =
     let window = window_of s.class.version in
     let one = λ (file : List ℕ). placed_as p (frame_of file s c.loop-place.reading.next c.index-rows-reading.result) ∷ [] in
     record {
-      ready = c.in_ok-reading.ensures.ready;
+      stands = c.in_ok-reading.ensures.stands;
       early = omega (arith, next_is, step-most p.lead_in, some g at);
-      over = c.in_ok-reading.ensures.over;
-      class = c.in_ok-reading.ensures.class;
-      fits = subst (λ n. FitsFrom window n needs more) (sym c.in_ok-reading.ensures.reach) (opened g at c.in_ok-reading.reading.next next_is).2;
-      reach = ap (λ n. last_reach window n needs more) c.in_ok-reading.ensures.reach ∙ last_is g at c.in_ok-reading.reading.next next_is;
-      unsettled = c.in_ok-reading.ensures.unsettled;
+      fits = subst (λ n. FitsFrom window n needs more) (sym c.in_ok-reading.ensures.gives.reach) (opened g at c.in_ok-reading.reading.next next_is).2;
+      reach = ap (λ n. last_reach window n needs more) c.in_ok-reading.ensures.gives.reach ∙ last_is g at c.in_ok-reading.reading.next next_is;
       lays = record {
         made = λ file. inv.lays.made file ++ one file;
-        lays = lays_then self.pass.input.now self.pass.output.now inv.lays.made one (writing_in c.args.buffers.now) (writing_in c.loop-place.buffers) (files c.args.folder.now) (files c.loop-place.folder) c.requires.ready.pass.apart inv.lays.lays (writing_in c.place.new.buffers) (files c.place.new.folder)
-            c.in_ok-reading.ensures.lays;
+        lays = lays_then self.pass.input.now self.pass.output.now inv.lays.made one (writing_in c.args.buffers.now) (writing_in c.loop-place.buffers) (seen c.args.folder.now).files (seen c.loop-place.folder).files c.requires.stands.ready.pass.apart inv.lays.lays (writing_in c.place.new.buffers) (seen c.place.new.folder).files
+            c.in_ok-reading.ensures.gives.lays;
         left = λ file holds. sym (split g at c.in_ok-reading.reading.next next_is file holds);
       };
-      counts = c.in_ok-reading.ensures.done ∙ inv.counts;
+      counts = c.in_ok-reading.ensures.gives.done ∙ inv.counts;
     }
 
-pub returns-clause-lays : goal.returns-clause-lays
-returns-clause-lays g c =
-    let self = c.args.self.now in
-    let s = tells self.survey.now in
-    let placed = c.args.placed.now in
-    let k = c.loop-place.place-index in
-    let none : drop k placed ≡ [] = drop_all k placed (omega (arith, c.loop-place-test.false)) in
-    lays-all self.pass.input.now self.pass.output.now _ _ (writing_in c.args.buffers.now) (writing_in c.loop-place.buffers) _ _ c.loop-place.invariant.lays (λ file holds.
-    let frames = slice_range (all_frames file s) c.loop-place.reading.next c.args.to in
-    ap (relaid frames) none ∙ relaid-end frames)
-
-pub returns-clause-reach : goal.returns-clause-reach
-returns-clause-reach g c =
-    let self = c.args.self.now in
-    let s = tells self.survey.now in
-    let window = window_of s.class.version in
-    let placed = c.args.placed.now in
-    let i = c.loop-place.reading.next in
-    let k = c.loop-place.place-index in
-    let inv = c.loop-place.invariant in
-    let reach = reach_of c.loop-place.buffers.writer in
-    let none : drop k placed ≡ [] = drop_all k placed (omega (arith, c.loop-place-test.false)) in
-    let needs = map need_of (slice_range s.frames i c.args.to) in
-    sym (ap (last_reach window reach needs) none ∙ fits-none window reach needs) ∙ inv.reach
+pub returns-clause-gives : goal.returns-clause-gives
+returns-clause-gives g c = record {
+  lays = let self = c.args.self.now in
+      let s = tells self.survey.now in
+      let placed = c.args.placed.now in
+      let k = c.loop-place.place-index in
+      let none : drop k placed ≡ [] = drop_all k placed (omega (arith, c.loop-place-test.false)) in
+      lays-all self.pass.input.now self.pass.output.now _ _ (writing_in c.args.buffers.now) (writing_in c.loop-place.buffers) _ _ c.loop-place.invariant.lays (λ file holds.
+      let frames = slice_range (all_frames file s) c.loop-place.reading.next c.args.to in
+      ap (relaid frames) none ∙ relaid-end frames);
+  part = search rules;
+  reach = let self = c.args.self.now in
+      let s = tells self.survey.now in
+      let window = window_of s.class.version in
+      let placed = c.args.placed.now in
+      let i = c.loop-place.reading.next in
+      let k = c.loop-place.place-index in
+      let inv = c.loop-place.invariant in
+      let reach = reach_of c.loop-place.buffers.writer in
+      let none : drop k placed ≡ [] = drop_all k placed (omega (arith, c.loop-place-test.false)) in
+      let needs = map need_of (slice_range s.frames i c.args.to) in
+      sym (ap (last_reach window reach needs) none ∙ fits-none window reach needs) ∙ inv.reach;
+  done = search rules;
+  cause = search rules;
+}
 
 -- if there is a place, there is a frame
 bounded : (g : given.Over) (c : After-place-item g) → c.loop-place.reading.next < length c.frames-rows.result.now

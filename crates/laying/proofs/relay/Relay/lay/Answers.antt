@@ -1,5 +1,5 @@
 -- What was handed on and what waits are the bytes of the frames.
-use Rattle.std.proofs.Common.{◌∙◌, ap, subst}
+use Rattle.std.proofs.Common.{rules, ◌∙◌, ap, subst}
 use Rattle.std.proofs.lemmas.Result.{on_ok_weaker}
 use Rattle.outside.specs.Files.{appended}
 use Rattle.outside.specs.Pass.{Writes, WritesPrefix}
@@ -12,50 +12,53 @@ use Rattle.laying.proofs.PassLaws.{ready-passed}
 use Rattle.laying.proofs.EndLaws.{new-behind, lays-written, lays-prefix, part-prefix}
 use Rattle.laying.proofs.relay.Relay.lay.Goals as goal
 
-pub returns-in_err-read_before-clause-prefix : goal.returns-in_err-read_before-clause-prefix
-returns-in_err-read_before-clause-prefix g c =
-    let self = c.args.self.now in
-    err_at c.from_residual.result _ c.from_residual.ensures.1
-    (prefix_nothing self.pass (λ file. frame_bytes (section_frames (tells self.survey.now) c.args.section.now file)) c.args.buffers.now.waiting _ _ c.in_err-read_before.ensures.read c.read_before.ensures.files c.requires.ready.pass.target)
+pub returns-in_err-read_before : goal.returns-in_err-read_before
+returns-in_err-read_before g c = record {
+  written = search rules;
+  prefix = let self = c.args.self.now in
+      err_at c.from_residual.result _ c.from_residual.ensures.1
+      (prefix_nothing self.pass (λ file. frame_bytes (section_frames (tells self.survey.now) c.args.section.now file)) c.args.buffers.now.waiting _ _ c.in_err-read_before.ensures.reads.read c.read_before.ensures.reads.files c.requires.ready.pass.target);
+  ready = search rules;
+  done = search rules;
+  cause = search rules;
+}
 
-pub returns-in_err-frames-clause-prefix : goal.returns-in_err-frames-clause-prefix
-returns-in_err-frames-clause-prefix g c =
-    let self = c.args.self.now in
-    let section = c.args.section.now in
-    let made = section_frames (tells self.survey.now) section in
-    let b = c.args.buffers.now in
-    let files = g.D.Folder.files in
-    err_at c.from_residual-in_err-frames.result _ c.from_residual-in_err-frames.ensures.1
-    (subst (λ f. WritesPrefix self.pass (λ file. frame_bytes (made file)) b.waiting f (files c.frames.new.folder) c.in_err-frames.field-0.0) c.read_before.ensures.files
-    (part-prefix self.pass made b.waiting (writing_in b) (files c.read_before.new.folder) (new-behind b.writer b.waiting c.requires.new)
-    (reach_behind_all (reach_of b.writer) self section.from section.to section.placed.now) (files c.frames.new.folder) c.in_err-frames.ensures.part))
+pub returns-in_err-frames : goal.returns-in_err-frames
+returns-in_err-frames g c = record {
+  written = search rules;
+  prefix = let self = c.args.self.now in
+      let section = c.args.section.now in
+      let made = section_frames (tells self.survey.now) section in
+      let b = c.args.buffers.now in
+      let seen = g.D.Folder.seen in
+      err_at c.from_residual-in_err-frames.result _ c.from_residual-in_err-frames.ensures.1
+      (subst (λ f. WritesPrefix self.pass (λ file. frame_bytes (made file)) b.waiting f (seen c.frames.new.folder).files c.in_err-frames.field-0.0) c.read_before.ensures.reads.files
+      (part-prefix self.pass made b.waiting (writing_in b) (seen c.read_before.new.folder).files (new-behind b.writer b.waiting c.requires.new)
+      (reach_behind_all (reach_of b.writer) self section.from section.to section.placed.now) (seen c.frames.new.folder).files c.in_err-frames.ensures.gives.part));
+  ready = search rules;
+  done = search rules;
+  cause = search rules;
+}
 
-pub returns-clause-written : goal.returns-clause-written
-returns-clause-written g c =
-    let made = section_frames (tells c.args.self.now.survey.now) c.args.section.now in
-    let b = c.args.buffers.now in
-    on_ok_weaker c.finish.result
-    (λ passed. subst (λ f. Writes c.args.self.now.pass (λ file. frame_bytes (made file)) b.waiting c.finish.new.unsent f (g.D.Folder.files c.finish.new.folder)) c.read_before.ensures.files
-    (lays-written c.args.self.now.pass made b.waiting (writing_in b) _ (new-behind b.writer b.waiting c.requires.new) (writing_in c.frames.new.buffers) _ c.in_ok-frames.ensures.lays c.finish.new.unsent _ passed))
-    c.finish.ensures.passed
-
-pub returns-clause-prefix : goal.returns-clause-prefix
-returns-clause-prefix g c =
-    let made = section_frames (tells c.args.self.now.survey.now) c.args.section.now in
-    let b = c.args.buffers.now in
-    err_by c.finish.result
-    (λ fault part. subst (λ f. WritesPrefix c.args.self.now.pass (λ file. frame_bytes (made file)) b.waiting f (g.D.Folder.files c.finish.new.folder) fault) c.read_before.ensures.files
-    (lays-prefix c.args.self.now.pass made b.waiting (writing_in b) _ (new-behind b.writer b.waiting c.requires.new) (writing_in c.frames.new.buffers) _ c.in_ok-frames.ensures.lays _ part))
-    c.finish.ensures.prefix
-
-pub returns-clause-cause : goal.returns-clause-cause
-returns-clause-cause g c =
-    let self = c.args.self.now in
-    let files = g.D.Folder.files in
-    let lays = c.in_ok-frames.ensures.lays in
-    causes_later c.finish.result _ (files c.args.folder.now) (files c.frames.new.folder) self.pass.output.now lays.passed _ _ _
-    (lays.files ∙ ap (λ f. appended f self.pass.output.now lays.passed) c.read_before.ensures.files) (c.in_ok-frames.ensures.done ∙ c.in_ok-read_before.ensures.done) c.finish.ensures.cause
-
-pub returns-clause-ready : goal.returns-clause-ready
-returns-clause-ready g c =
-    on_ok_weaker c.finish.result (λ passed. ready-passed c.args.self.now passed c.in_ok-frames.ensures.ready) c.finish.ensures.passed
+pub returns : goal.returns
+returns g c = record {
+  written = let made = section_frames (tells c.args.self.now.survey.now) c.args.section.now in
+      let b = c.args.buffers.now in
+      on_ok_weaker c.finish.result
+      (λ passed. subst (λ f. Writes c.args.self.now.pass (λ file. frame_bytes (made file)) b.waiting c.finish.new.unsent f (g.D.Folder.seen c.finish.new.folder).files) c.read_before.ensures.reads.files
+      (lays-written c.args.self.now.pass made b.waiting (writing_in b) _ (new-behind b.writer b.waiting c.requires.new) (writing_in c.frames.new.buffers) _ c.in_ok-frames.ensures.gives.lays c.finish.new.unsent _ passed))
+      c.finish.ensures.passed;
+  prefix = let made = section_frames (tells c.args.self.now.survey.now) c.args.section.now in
+      let b = c.args.buffers.now in
+      err_by c.finish.result
+      (λ fault part. subst (λ f. WritesPrefix c.args.self.now.pass (λ file. frame_bytes (made file)) b.waiting f (g.D.Folder.seen c.finish.new.folder).files fault) c.read_before.ensures.reads.files
+      (lays-prefix c.args.self.now.pass made b.waiting (writing_in b) _ (new-behind b.writer b.waiting c.requires.new) (writing_in c.frames.new.buffers) _ c.in_ok-frames.ensures.gives.lays _ part))
+      c.finish.ensures.prefix;
+  ready = on_ok_weaker c.finish.result (λ passed. ready-passed c.args.self.now passed c.in_ok-frames.ensures.stands.ready) c.finish.ensures.passed;
+  done = search rules;
+  cause = let self = c.args.self.now in
+      let seen = g.D.Folder.seen in
+      let lays = c.in_ok-frames.ensures.gives.lays in
+      causes_later c.finish.result _ (seen c.args.folder.now).files (seen c.frames.new.folder).files self.pass.output.now lays.passed _ _ _
+      (lays.files ∙ ap (λ f. appended f self.pass.output.now lays.passed) c.read_before.ensures.reads.files) (c.in_ok-frames.ensures.gives.done ∙ c.in_ok-read_before.ensures.reads.done) c.finish.ensures.cause;
+}

@@ -1,5 +1,5 @@
 -- What main_data_begin may be fits its bits.
-use Rattle.std.proofs.Common.{◌≡◌, ap, ◌∙◌, subst, sym, arith}
+use Rattle.std.proofs.Common.{rules, ◌≡◌, ap, ◌∙◌, subst, sym, arith}
 use Rattle.frame_header.specs.Tables.{class_of}
 use Rattle.side_info.specs.declared.side.Side.{Side}
 use Rattle.side_info.specs.Side.{no_side, SideFits}
@@ -23,7 +23,14 @@ new-front-requires g c =
     let at = (goal.at.new-front-requires g c).After-with_begin-side in
     subst (λ d. SideFits d c.with_begin-side.result) (sym (class g at)) (fits g at)
 
-pub write_frame-requires-clause-fits : goal.write_frame-requires-clause-fits
-write_frame-requires-clause-fits g c =
-    let at = (goal.at.write_frame-requires-clause-fits g c).After-with_begin-side in
-    subst (SideFits c.args.writer.now.class) (sym (ap (λ f. f.kept.side) c.new-frame.ensures ∙ ap (λ k. k.side) c.new-front.ensures)) (fits g at)
+pub write_frame-requires-clause-next : goal.write_frame-requires-clause-next
+write_frame-requires-clause-next g c =
+    let at = (goal.at.write_frame-requires-clause-next g c).After-with_begin-side in
+    record {
+      class = search rules;
+      fits = subst (SideFits c.args.writer.now.class) (sym (ap (λ f. f.kept.side) c.new-frame.ensures ∙ ap (λ k. k.side) c.new-front.ensures)) (fits g at);
+      begin = search rules;
+      within = search rules;
+      few = search rules;
+      unsettled = c.requires.unsettled;
+    }

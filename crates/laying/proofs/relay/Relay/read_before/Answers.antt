@@ -27,7 +27,7 @@ pub loop-at-preserved : goal.loop-at-preserved
 loop-at-preserved g c =
     let self = c.args.self.now in
     let s = tells self.survey.now in
-    let files = g.D.Folder.files in
+    let seen = g.D.Folder.seen in
     let at = c.loop-at.at in
     let first = c.first_held-first.result in
     let row = c.index-rows-at.result in
@@ -35,18 +35,18 @@ loop-at-preserved g c =
     read-at c.frames-rows.result.now s.frames at row (omega (arith, c.loop-at-test.true, c.requires.within, ap length c.frames-rows.ensures)) c.frames-rows.ensures c.index-rows-at.is in
     record {
       early = omega (arith, c.loop-at-test.true);
-      over = last-next c.loop-at.window c.push_area.new.self c.bytes.result.now self.pass.input.now (files c.fill_area.new.folder) s first at row found
-          (subst (λ f. IsOverLast c.loop-at.window self.pass.input.now f s first at) (sym c.fill_area.ensures.files) c.loop-at.invariant.over)
-          (subst (λ (l : List ℕ). IsAreaOf l self.pass.input.now (files c.fill_area.new.folder) row) (sym c.bytes.ensures) c.in_ok-fill_area.ensures.area) c.push_area.ensures.main;
-      ready = c.fill_area.ensures.ready;
-      files = c.fill_area.ensures.files ∙ c.loop-at.invariant.files;
-      counts = c.in_ok-fill_area.ensures.done ∙ c.loop-at.invariant.counts;
+      over = last-next c.loop-at.window c.push_area.new.self c.bytes.result.now self.pass.input.now (seen c.fill_area.new.folder).files s first at row found
+          (subst (λ f. IsOverLast c.loop-at.window self.pass.input.now f s first at) (sym c.fill_area.ensures.reads.files) c.loop-at.invariant.over)
+          (subst (λ (l : List ℕ). IsAreaOf l self.pass.input.now (seen c.fill_area.new.folder).files row) (sym c.bytes.ensures) c.in_ok-fill_area.ensures.area) c.push_area.ensures.main;
+      ready = c.fill_area.ensures.reads.ready;
+      files = c.fill_area.ensures.reads.files ∙ c.loop-at.invariant.files;
+      counts = c.in_ok-fill_area.ensures.reads.done ∙ c.loop-at.invariant.counts;
     }
 
 pub returns-clause-over : goal.returns-clause-over
 returns-clause-over g c =
     let self = c.args.self.now in
     let s = tells self.survey.now in
-    let files = g.D.Folder.files in
-    last-whole c.loop-at.window self.pass.input.now (files c.loop-at.folder) s c.first_held-first.result c.args.i c.loop-at.invariant.ready.pass.source c.first_held-first.ensures.held
-    (subst (IsOverLast c.loop-at.window self.pass.input.now (files c.loop-at.folder) s c.first_held-first.result) (omega (arith, c.loop-at-test.false, c.loop-at.invariant.early)) c.loop-at.invariant.over)
+    let seen = g.D.Folder.seen in
+    last-whole c.loop-at.window self.pass.input.now (seen c.loop-at.folder).files s c.first_held-first.result c.args.i c.loop-at.invariant.ready.pass.source c.first_held-first.ensures.held
+    (subst (IsOverLast c.loop-at.window self.pass.input.now (seen c.loop-at.folder).files s c.first_held-first.result) (omega (arith, c.loop-at-test.false, c.loop-at.invariant.early)) c.loop-at.invariant.over)

@@ -7,10 +7,10 @@ use Rattle.laying.proofs.relay.Relay.read_before.Given as goal
 abbrev pub invariant-loop-at : goal.invariant-loop-at
 invariant-loop-at g l = record {
   early : l.at ≤ l.i;
-  over : IsOverLast l.window l.self.pass.input.now (g.D.Folder.files l.folder) (tells l.self.survey.now) l.first l.at;
-  ready : IsReady l.self (g.D.Folder.files l.folder) l.feed;
-  files : g.D.Folder.files l.folder ≡ g.D.Folder.files l.fn.folder;
-  counts : g.D.Folder.counts l.folder ≡ g.D.Folder.counts l.fn.folder;
+  over : IsOverLast l.window l.self.pass.input.now (g.D.Folder.seen l.folder).files (tells l.self.survey.now) l.first l.at;
+  ready : IsReady l.self (g.D.Folder.seen l.folder).files l.feed;
+  files : (g.D.Folder.seen l.folder).files ≡ (g.D.Folder.seen l.fn.folder).files;
+  counts : (g.D.Folder.seen l.folder).counts ≡ (g.D.Folder.seen l.fn.folder).counts;
 }
 
 abbrev pub decreases-loop-at : goal.decreases-loop-at

@@ -1,5 +1,5 @@
 -- Before the first frame there is only the area of the head.
-use Rattle.std.proofs.Common.{◌≡◌, ◌+◌, [], length, take, drop, sym, ◌∙◌, ap, ap₂, subst, arith}
+use Rattle.std.proofs.Common.{rules, ◌≡◌, ◌+◌, [], length, take, drop, sym, ◌∙◌, ap, ap₂, subst, arith}
 use Rattle.std.proofs.lemmas.List.{drop-drop}
 use Rattle.frame_header.specs.Tables.{class_of, overhead_of}
 use Rattle.outside.specs.Files.{Holds}
@@ -40,13 +40,13 @@ returns-clause-over g c =
     let given = c.bytes.result.now in
     let input = c.args.self.now.pass.input.now in
     let many : length given ≡ own_area head.header = ap length c.bytes.ensures ∙ c.in_ok-fill.ensures.given ∙ c.area-area.ensures.area in
-    let files = g.D.Folder.files in
+    let seen = g.D.Folder.seen in
     record {
       main = given;
       held = c.push_area.ensures.main [] c.requires.none;
       long = many ∙ sym (place-first s.head s.frames ∙ ap head_area some);
       is = λ file holds.
-          let told : Holds (files c.args.folder.now) input file = subst (λ f. Holds f input file) c.fill.ensures.files holds in
+          let told : Holds (seen c.args.folder.now).files input file = subst (λ f. Holds f input file) c.fill.ensures.files holds in
           c.bytes.ensures
           ∙ c.in_ok-fill.ensures.bytes file told
           ∙ ap₂ (λ m n. take m (drop (head.offset + n) file)) c.area-area.ensures.area (c.from.ensures ∙ c.overhead.ensures.overhead)
@@ -54,8 +54,20 @@ returns-clause-over g c =
           ∙ sym (main-first file s.head s.frames ∙ ap (head_bytes file) some);
     }
 
-pub returns-clause-ready : goal.returns-clause-ready
-returns-clause-ready g c = ready-filled c.args.self.now _ _ _ _ c.fill.ensures.files c.requires.ready c.fill.ensures.ready
+pub returns-clause-reads : goal.returns-clause-reads
+returns-clause-reads g c = record {
+  done = search rules;
+  cause = search rules;
+  read = search rules;
+  files = search rules;
+  ready = ready-filled c.args.self.now _ _ _ _ c.fill.ensures.files c.requires.ready c.fill.ensures.ready;
+}
 
-pub returns-in_err-fill-clause-ready : goal.returns-in_err-fill-clause-ready
-returns-in_err-fill-clause-ready g c = ready-filled c.args.self.now _ _ _ _ c.fill.ensures.files c.requires.ready c.fill.ensures.ready
+pub returns-in_err-fill-clause-reads : goal.returns-in_err-fill-clause-reads
+returns-in_err-fill-clause-reads g c = record {
+  done = search rules;
+  cause = search rules;
+  read = search rules;
+  files = search rules;
+  ready = ready-filled c.args.self.now _ _ _ _ c.fill.ensures.files c.requires.ready c.fill.ensures.ready;
+}

@@ -1,5 +1,5 @@
 -- The bytes wait, and then all that waits is written.
-use Rattle.std.proofs.Common.{◌≡◌, ℕ, List, ◌++◌, ap, sym, ◌∙◌, append-nil}
+use Rattle.std.proofs.Common.{rules, ◌≡◌, ℕ, List, ◌++◌, ap, sym, ◌∙◌, append-nil}
 use Rattle.std.specs.Prelude.{[]}
 use Rattle.outside.specs.Files.{Files, appended}
 use Rattle.outside.specs.Passed.{PassedOn}
@@ -20,17 +20,13 @@ all_on {name} {before} {mid} {after} {f} {g} {h} p none all = record {
 pub finish-requires : goal.finish-requires
 finish-requires g c = passed_there c.in_ok-push.ensures.passed
 
-pub returns-clause-passed : goal.returns-clause-passed
-returns-clause-passed g c =
-    ok-map c.finish.result (all_on c.in_ok-push.ensures.passed c.finish.ensures.none) c.finish.ensures.appended
-
-pub returns-clause-prefix : goal.returns-clause-prefix
-returns-clause-prefix g c =
-    err-map c.finish.result (passed_then_prefix c.in_ok-push.ensures.passed) c.finish.ensures.prefix
-
-pub returns-clause-cause : goal.returns-clause-cause
-returns-clause-cause g c =
-    let files = g.D.Folder.files in
-    let on = c.in_ok-push.ensures.passed in
-    causes_later c.finish.result _ (files c.args.folder.now) (files c.push.new.folder) c.args.self.now.pass.output.now on.passed _ _ _
-    on.files c.in_ok-push.ensures.done c.finish.ensures.cause
+pub returns-clause-hands : goal.returns-clause-hands
+returns-clause-hands g c = record {
+  passed = ok-map c.finish.result (all_on c.in_ok-push.ensures.passed c.finish.ensures.none) c.finish.ensures.appended;
+  prefix = err-map c.finish.result (passed_then_prefix c.in_ok-push.ensures.passed) c.finish.ensures.prefix;
+  done = search rules;
+  cause = let seen = g.D.Folder.seen in
+      let on = c.in_ok-push.ensures.passed in
+      causes_later c.finish.result _ (seen c.args.folder.now).files (seen c.push.new.folder).files c.args.self.now.pass.output.now on.passed _ _ _
+      on.files c.in_ok-push.ensures.done c.finish.ensures.cause;
+}

@@ -1,5 +1,5 @@
 -- What is before the frames and the frames, then what is after them, and then what of these still waits.
-use Rattle.std.proofs.Common.{◌≡◌, ◌++◌, List, ℕ, [], sym, ◌∙◌, append_assoc, append-nil}
+use Rattle.std.proofs.Common.{rules, ◌≡◌, ◌++◌, List, ℕ, [], sym, ◌∙◌, append_assoc, append-nil}
 use Rattle.std.specs.List.{concat}
 use Rattle.std.proofs.lemmas.Result.{on_ok_weaker, err_from_is_err_and}
 use Rattle.outside.specs.Files.{Files}
@@ -25,28 +25,36 @@ whole s section file =
     append_assoc (concat (front_blocks file s) ++ section.info.now) (frame_bytes (section_frames s section file)) (back s file)
     ∙ append_assoc (concat (front_blocks file s)) section.info.now (frame_bytes (section_frames s section file) ++ back s file)
 
-pub returns-in_err-write_frames-clause-prefix : goal.returns-in_err-write_frames-clause-prefix
-returns-in_err-write_frames-clause-prefix g c =
-    let s = tells c.args.self.now.survey.now in
-    let section = c.args.section.now in
-    err_at c.from_residual.result _ c.from_residual.ensures.1
-    (part_behind_none c.requires.none
-    (prefix_as c.args.self.now.pass (section_file s section) (back s) (λ file holds. sym (whole s section file)) c.in_err-write_frames.ensures.prefix))
+pub returns-in_err-write_frames : goal.returns-in_err-write_frames
+returns-in_err-write_frames g c = record {
+  written = search rules;
+  prefix = let s = tells c.args.self.now.survey.now in
+      let section = c.args.section.now in
+      err_at c.from_residual.result _ c.from_residual.ensures.1
+      (part_behind_none c.requires.none
+      (prefix_as c.args.self.now.pass (section_file s section) (back s) (λ file holds. sym (whole s section file)) c.in_err-write_frames.ensures.prefix));
+  none = search rules;
+  done = search rules;
+  cause = search rules;
+  ready = search rules;
+}
 
-pub returns-in_err-copy_blocks-clause-prefix : goal.returns-in_err-copy_blocks-clause-prefix
-returns-in_err-copy_blocks-clause-prefix g c =
-    let s = tells c.args.self.now.survey.now in
-    let section = c.args.section.now in
-    let pass = c.args.self.now.pass in
-    err_at c.from_residual-in_err-copy_blocks.result _ c.from_residual-in_err-copy_blocks.ensures.1
-    (part_behind_none c.requires.none
-    (prefix_as pass (section_file s section) (λ file. []) (λ file holds. sym (append-nil (section_front s section file ++ back s file) ∙ whole s section file))
-    (prefix_then pass c.requires.ready.pass.apart c.in_ok-write_frames.ensures.written c.in_err-copy_blocks.ensures.prefix)))
-
-pub returns-in_err-copy_blocks-clause-cause : goal.returns-in_err-copy_blocks-clause-cause
-returns-in_err-copy_blocks-clause-cause g c =
-    let p = err_from_is_err_and c.from_residual-in_err-copy_blocks.result c.from_residual-in_err-copy_blocks.ensures.1 in
-    rw (p.1, p.2) (cause_behind c.in_ok-write_frames.ensures.written _ _ _ _ c.in_ok-write_frames.ensures.done _ c.in_err-copy_blocks.ensures.cause)
+pub returns-in_err-copy_blocks : goal.returns-in_err-copy_blocks
+returns-in_err-copy_blocks g c = record {
+  written = search rules;
+  prefix = let s = tells c.args.self.now.survey.now in
+      let section = c.args.section.now in
+      let pass = c.args.self.now.pass in
+      err_at c.from_residual-in_err-copy_blocks.result _ c.from_residual-in_err-copy_blocks.ensures.1
+      (part_behind_none c.requires.none
+      (prefix_as pass (section_file s section) (λ file. []) (λ file holds. sym (append-nil (section_front s section file ++ back s file) ∙ whole s section file))
+      (prefix_then pass c.requires.ready.pass.apart c.in_ok-write_frames.ensures.written c.in_err-copy_blocks.ensures.prefix)));
+  none = search rules;
+  done = search rules;
+  cause = let p = err_from_is_err_and c.from_residual-in_err-copy_blocks.result c.from_residual-in_err-copy_blocks.ensures.1 in
+      rw (p.1, p.2) (cause_behind c.in_ok-write_frames.ensures.written _ _ _ _ c.in_ok-write_frames.ensures.done _ c.in_err-copy_blocks.ensures.cause);
+  ready = search rules;
+}
 
 -- the frames with what is before them, and then the other blocks
 module _ (g : given.Over) (c : In_ok-copy_blocks g) where
@@ -54,10 +62,10 @@ module _ (g : given.Over) (c : In_ok-copy_blocks g) where
   s = tells c.args.self.now.survey.now
 
   abbrev old : Files
-  old = g.D.Folder.files c.args.folder.now
+  old = (g.D.Folder.seen c.args.folder.now).files
 
   abbrev new : Files
-  new = g.D.Folder.files c.copy_blocks.new.folder
+  new = (g.D.Folder.seen c.copy_blocks.new.folder).files
 
   both : Writes c.args.self.now.pass (λ file. section_front s c.args.section.now file ++ back s file) c.args.buffers.now.waiting c.copy_blocks.new.waiting old new
   both = writes_then c.args.self.now.pass c.requires.ready.pass.apart c.in_ok-write_frames.ensures.written c.in_ok-copy_blocks.ensures.written
@@ -65,18 +73,12 @@ module _ (g : given.Over) (c : In_ok-copy_blocks g) where
   all : Writes c.args.self.now.pass (section_file s c.args.section.now) [] c.copy_blocks.new.waiting old new
   all = writes_behind_none c.requires.none (writes_as c.args.self.now.pass (section_file s c.args.section.now) (λ file holds. whole s c.args.section.now file) both)
 
-pub returns-clause-written : goal.returns-clause-written
-returns-clause-written g c =
-    on_ok_weaker c.finish.result (λ is. writes_all c.args.self.now.pass _ (all g (goal.at.returns-clause-written g c).In_ok-copy_blocks) is) c.finish.ensures.appended
-
-pub returns-clause-prefix : goal.returns-clause-prefix
-returns-clause-prefix g c =
-    err_by c.finish.result (λ fault part. writes_end c.args.self.now.pass _ (all g (goal.at.returns-clause-prefix g c).In_ok-copy_blocks) part) c.finish.ensures.prefix
-
-pub returns-clause-cause : goal.returns-clause-cause
-returns-clause-cause g c =
-    causes_behind (both g (goal.at.returns-clause-cause g c).In_ok-copy_blocks) _ _ _ _ (c.in_ok-copy_blocks.ensures.done ∙ c.in_ok-write_frames.ensures.done) c.finish.result c.finish.ensures.cause
-
-pub returns-clause-ready : goal.returns-clause-ready
-returns-clause-ready g c =
-    on_ok_weaker c.finish.result (λ is. ready-later c.args.self.now _ _ _ _ is c.in_ok-copy_blocks.ensures.ready) c.finish.ensures.appended
+pub returns : goal.returns
+returns g c = record {
+  written = on_ok_weaker c.finish.result (λ is. writes_all c.args.self.now.pass _ (all g (goal.at.returns g c).In_ok-copy_blocks) is) c.finish.ensures.appended;
+  prefix = err_by c.finish.result (λ fault part. writes_end c.args.self.now.pass _ (all g (goal.at.returns g c).In_ok-copy_blocks) part) c.finish.ensures.prefix;
+  none = search rules;
+  done = search rules;
+  cause = causes_behind (both g (goal.at.returns g c).In_ok-copy_blocks) _ _ _ _ (c.in_ok-copy_blocks.ensures.done ∙ c.in_ok-write_frames.ensures.done) c.finish.result c.finish.ensures.cause;
+  ready = on_ok_weaker c.finish.result (λ is. ready-later c.args.self.now _ _ _ _ is c.in_ok-copy_blocks.ensures.ready) c.finish.ensures.appended;
+}

@@ -1,32 +1,35 @@
 -- What is before the frames, and the frames after it.
-use Rattle.std.proofs.Common.{refl}
+use Rattle.std.proofs.Common.{rules, refl}
 use Rattle.std.proofs.lemmas.Result.{on_ok_weaker}
 use Rattle.outside.proofs.PassedLaws.{err_at, err_by}
 use Rattle.outside.proofs.PassLaws.{prefix_as, writes_then, prefix_then, causes_behind}
 use Rattle.frame_writer.specs.Frames.{frame_bytes}
 use Rattle.sync_survey.specs.Faults.{tells}
 use Rattle.laying.specs.Passing.{section_frames, section_front}
+use Rattle.laying.proofs.PassLaws.{ok_never}
 use Rattle.laying.proofs.relay.Relay.write_frames.Goals as goal
 
-pub returns-in_err-write_front-clause-prefix : goal.returns-in_err-write_front-clause-prefix
-returns-in_err-write_front-clause-prefix g c =
-    let s = tells c.args.self.now.survey.now in
-    let section = c.args.section.now in
-    err_at c.from_residual.result _ c.from_residual.ensures.1
-    (prefix_as c.args.self.now.pass (section_front s section) (λ file. frame_bytes (section_frames s section file)) (λ file holds. refl) c.in_err-write_front.ensures.prefix)
+pub returns-in_err-write_front : goal.returns-in_err-write_front
+returns-in_err-write_front g c = record {
+  written = ok_never _ _ c.from_residual.result c.from_residual.ensures.1;
+  prefix = let s = tells c.args.self.now.survey.now in
+      let section = c.args.section.now in
+      err_at c.from_residual.result _ c.from_residual.ensures.1
+      (prefix_as c.args.self.now.pass (section_front s section) (λ file. frame_bytes (section_frames s section file)) (λ file holds. refl) c.in_err-write_front.ensures.adds.prefix);
+  done = ok_never _ _ c.from_residual.result c.from_residual.ensures.1;
+  cause = err_at c.from_residual.result _ c.from_residual.ensures.1 c.in_err-write_front.ensures.adds.cause;
+  ready = ok_never _ _ c.from_residual.result c.from_residual.ensures.1;
+}
 
-pub returns-clause-written : goal.returns-clause-written
-returns-clause-written g c =
-    on_ok_weaker c.lay.result
-    (λ written. writes_then c.args.self.now.pass c.requires.ready.pass.apart c.in_ok-write_front.ensures.written written)
-    c.lay.ensures.written
-
-pub returns-clause-prefix : goal.returns-clause-prefix
-returns-clause-prefix g c =
-    err_by c.lay.result
-    (λ fault part. prefix_then c.args.self.now.pass c.requires.ready.pass.apart c.in_ok-write_front.ensures.written part)
-    c.lay.ensures.prefix
-
-pub returns-clause-cause : goal.returns-clause-cause
-returns-clause-cause g c =
-    causes_behind c.in_ok-write_front.ensures.written _ _ _ _ c.in_ok-write_front.ensures.done c.lay.result c.lay.ensures.cause
+pub returns : goal.returns
+returns g c = record {
+  written = on_ok_weaker c.lay.result
+      (λ written. writes_then c.args.self.now.pass c.requires.ready.pass.apart c.in_ok-write_front.ensures.adds.written written)
+      c.lay.ensures.written;
+  prefix = err_by c.lay.result
+      (λ fault part. prefix_then c.args.self.now.pass c.requires.ready.pass.apart c.in_ok-write_front.ensures.adds.written part)
+      c.lay.ensures.prefix;
+  done = search rules;
+  cause = causes_behind c.in_ok-write_front.ensures.adds.written _ _ _ _ c.in_ok-write_front.ensures.adds.done c.lay.result c.lay.ensures.cause;
+  ready = search rules;
+}

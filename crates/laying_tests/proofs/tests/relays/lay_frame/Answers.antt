@@ -5,12 +5,11 @@ use Rattle.frame_header.specs.Tables.{window_of}
 use Rattle.outside.specs.Files.{IsThere, Holds}
 use Rattle.outside.proofs.FilesLaws.{emptied_there}
 use Rattle.slot_plan.specs.declared.needs.Need.{Need}
-use Rattle.slot_plan.specs.Parts.{window_in, parts_of}
+use Rattle.slot_plan.specs.Parts.{window_in, parts_of, CanBePlanned}
 use Rattle.slot_plan.specs.Plans.{IsPlan}
 use Rattle.sync_survey.specs.Row.{Row}
 use Rattle.sync_survey.specs.Faults.{tells}
 use Rattle.part_needs.specs.Needs.{Asked, need_of, needs_of, asked_of}
-use Rattle.part_needs.specs.Fit.{CanBePlanned}
 use Rattle.laying.specs.Fits.{FitsFrom}
 use Rattle.laying.specs.Surveys.{HasSurvey}
 use Rattle.laying.proofs.ChosenFrames.{survey-had}
@@ -25,21 +24,21 @@ plan-requires-clause-planned g c =
     let s = tells c.in-Ok-survey.survey in
     let fit = c.one_part_fits.ensures s c.args.frame (c.args.frame + 1) c.in-Ok-survey.ensures.laid.placed (omega arith) (omega (arith, c.requires.one, ap length c.frames-rows.ensures, c.if-assert.false)) in
     let same : c.push.new.self ≡ asked_of (slice_range s.frames c.args.frame (c.args.frame + 1) ∷ []) = c.in_ok-push.ensures.added [] c.new-parts.ensures.parts ∙ ap (λ (l : List Row). asked_of (slice_range l c.args.frame (c.args.frame + 1) ∷ [])) c.frames-rows.ensures in
-    subst CanBePlanned (sym same) fit.planned
+    subst (λ (a : Asked). CanBePlanned a.needs a.places) (sym same) fit.planned
 
 pub write-requires-clause-ready : goal.write-requires-clause-ready
 write-requires-clause-ready g c =
-    let files = g.D.Folder.files in
+    let seen = g.D.Folder.seen in
     let s = tells c.in-Ok-survey.survey in
-    let held : (file : List ℕ) → Holds (files c.survey.new.folder) (97 ∷ []) file → HasSurvey file s = λ file holds. survey-had file 2 s (c.in-Ok-survey.ensures.exact file (subst (λ f. Holds f (97 ∷ []) file) c.survey.ensures.files holds)) in
+    let held : (file : List ℕ) → Holds (seen c.survey.new.folder).files (97 ∷ []) file → HasSurvey file s = λ file holds. survey-had file 2 s (c.in-Ok-survey.ensures.exact file (subst (λ f. Holds f (97 ∷ []) file) c.survey.ensures.files holds)) in
     record {
       pass = record {
         apart = λ e. let same : 97 ≡ 98 = ap (λ (l : List ℕ). get_or l 0 0) e in absurd (omega (arith, same));
         source = subst (λ f. IsThere f (97 ∷ [])) (sym c.survey.ensures.files) c.in-Ok-survey.ensures.there;
-        target = subst (λ f. IsThere f (98 ∷ [])) (sym (c.survey.ensures.files ∙ c.in-Ok.ensures.created)) (emptied_there (files c.args.folder.now) (98 ∷ []));
+        target = subst (λ f. IsThere f (98 ∷ [])) (sym (c.survey.ensures.files ∙ c.in-Ok.ensures.answer.created)) (emptied_there (seen c.args.folder.now).files (98 ∷ []));
         length_is = λ file holds. (held file holds).long ∙ sym c.length.ensures;
         few = omega (arith, c.length.ensures, c.in-Ok-survey.ensures.laid.few);
-        fed_from = c.in_ok-buffers.ensures.fed (files c.survey.new.folder) (97 ∷ []);
+        fed_from = c.in_ok-buffers.ensures.fed (seen c.survey.new.folder).files (97 ∷ []);
       };
       length_is = c.length.ensures;
       exact = held;

@@ -1,5 +1,5 @@
 -- A piece that is held goes on.
-use Rattle.std.proofs.Common.{◌++◌, List, ℕ, take, sym, refl, subst}
+use Rattle.std.proofs.Common.{rules, ◌++◌, List, ℕ, take, sym, refl, subst}
 use Rattle.outside.specs.Pass.{bytes_at}
 use Rattle.outside.specs.Passed.{PassedOn}
 use Rattle.outside.proofs.PassedLaws.{err_at, passed_with}
@@ -7,23 +7,30 @@ use Rattle.outside.proofs.PassLaws.{prefix_as, input_holds}
 use Rattle.moved_gains.proofs.BufferLaws.{held_piece, ready_after}
 use Rattle.moved_gains.proofs.buffers.Buffers.copy_piece.Goals as goal
 
-pub returns-in_err-fill-clause-prefix : goal.returns-in_err-fill-clause-prefix
-returns-in_err-fill-clause-prefix g c =
-    err_at c.from_residual.result _ c.from_residual.ensures.1
-    (prefix_as c.args.pass.now (bytes_at c.args.at c.args.n) (bytes_at c.args.at c.args.n) (λ file holds. refl) c.in_err-fill.ensures.prefix)
+pub returns-in_err-fill : goal.returns-in_err-fill
+returns-in_err-fill g c = record {
+  written = search rules;
+  prefix = err_at c.from_residual.result _ c.from_residual.ensures.1
+      (prefix_as c.args.pass.now (bytes_at c.args.at c.args.n) (bytes_at c.args.at c.args.n) (λ file holds. refl) c.in_err-fill.ensures.prefix);
+  done = search rules;
+  cause = search rules;
+  ready = search rules;
+}
 
-pub returns-clause-written : goal.returns-clause-written
-returns-clause-written g c =
-    let pass = c.args.pass.now in
-    let fed = c.fill.new.self.feed in
-    let passed = c.in_ok-fill.ensures.passed in
-    record {
-      piece = take c.args.n fed.held;
-      is = λ file holds.
-          held_piece fed (g.D.Folder.files c.fill.new.folder) pass.input.now c.args.at c.args.n c.in_ok-fill.ensures.place c.in_ok-fill.ensures.enough c.in_ok-fill.ensures.ready.fed_from file
-          (input_holds (g.D.Folder.files c.args.folder.now) (g.D.Folder.files c.fill.new.folder) pass.input.now pass.output.now passed.passed file c.requires.ready.apart passed.files holds);
-      passed = subst (λ (l : List ℕ). PassedOn pass.output.now (c.args.self.now.waiting ++ take c.args.n fed.held) l (g.D.Folder.files c.args.folder.now) (g.D.Folder.files c.fill.new.folder)) (sym c.pass_on.ensures.waiting) (passed_with (take c.args.n fed.held) passed);
-    }
-
-pub returns-clause-ready : goal.returns-clause-ready
-returns-clause-ready g c = ready_after c.args.pass.now _ c.fill.new.self.feed c.pass_on.new.self.feed c.args.n c.in_ok-fill.ensures.enough c.pass_on.ensures.place c.pass_on.ensures.held c.in_ok-fill.ensures.ready
+pub returns : goal.returns
+returns g c = record {
+  written = let pass = c.args.pass.now in
+      let fed = c.fill.new.self.feed in
+      let passed = c.in_ok-fill.ensures.passed in
+      record {
+        piece = take c.args.n fed.held;
+        is = λ file holds.
+            held_piece fed (g.D.Folder.seen c.fill.new.folder).files pass.input.now c.args.at c.args.n c.in_ok-fill.ensures.place c.in_ok-fill.ensures.enough c.in_ok-fill.ensures.ready.fed_from file
+            (input_holds (g.D.Folder.seen c.args.folder.now).files (g.D.Folder.seen c.fill.new.folder).files pass.input.now pass.output.now passed.passed file c.requires.ready.apart passed.files holds);
+        passed = subst (λ (l : List ℕ). PassedOn pass.output.now (c.args.self.now.waiting ++ take c.args.n fed.held) l (g.D.Folder.seen c.args.folder.now).files (g.D.Folder.seen c.fill.new.folder).files) (sym c.pass_on.ensures.waiting) (passed_with (take c.args.n fed.held) passed);
+      };
+  prefix = search rules;
+  done = search rules;
+  cause = search rules;
+  ready = ready_after c.args.pass.now _ c.fill.new.self.feed c.pass_on.new.self.feed c.args.n c.in_ok-fill.ensures.enough c.pass_on.ensures.place c.pass_on.ensures.held c.in_ok-fill.ensures.ready;
+}

@@ -18,20 +18,20 @@ returns-in_err-hand_on-clause-prefix g c =
     let piece = c.args.piece.now in
     on_err c.from_residual.result
     (prefix_of_front (length waits)
-    (subst (λ l. AppendedPrefix c.args.pass.now.output.now l (g.D.Folder.files c.args.folder.now) (g.D.Folder.files c.hand_on.new.folder)) (ap (take c.self.inside.done) c.deref.ensures.value ∙ ap (λ p. p.waiting) c.self.view_is ∙ sym (take_at waits piece (length waits) refl)) c.in_err-hand_on.ensures.prefix))
+    (subst (λ l. AppendedPrefix c.args.pass.now.output.now l (g.D.Folder.seen c.args.folder.now).files (g.D.Folder.seen c.hand_on.new.folder).files) (ap (take c.self.inside.done) c.deref.ensures.value ∙ ap (λ p. p.waiting) c.self.view_is ∙ sym (take_at waits piece (length waits) refl)) c.in_err-hand_on.ensures.prefix))
 
 pub hand_on-requires-2 : goal.hand_on-requires-2
 hand_on-requires-2 g c = subst (λ f. IsThere f c.args.pass.now.output.now) (sym c.in_ok-hand_on.ensures.appended) (appended_there _ c.args.pass.now.output.now _)
 
 -- it was appended
-first : (g : Over) (c : goal.After-hand_on-2 g) → g.D.Folder.files c.hand_on.new.folder ≡ appended (g.D.Folder.files c.args.folder.now) c.args.pass.now.output.now c.args.self.now.waiting
-first g c = c.in_ok-hand_on.ensures.appended ∙ ap (appended (g.D.Folder.files c.args.folder.now) c.args.pass.now.output.now) (ap (take c.self.inside.done) c.deref.ensures.value ∙ ap (λ p. p.waiting) c.self.view_is)
+first : (g : Over) (c : goal.After-hand_on-2 g) → (g.D.Folder.seen c.hand_on.new.folder).files ≡ appended (g.D.Folder.seen c.args.folder.now).files c.args.pass.now.output.now c.args.self.now.waiting
+first g c = c.in_ok-hand_on.ensures.appended ∙ ap (appended (g.D.Folder.seen c.args.folder.now).files c.args.pass.now.output.now) (ap (take c.self.inside.done) c.deref.ensures.value ∙ ap (λ p. p.waiting) c.self.view_is)
 
 pub returns-clause-passed : goal.returns-clause-passed
 returns-clause-passed g c =
     let waits = c.args.self.now.waiting in
     let output = c.args.pass.now.output.now in
-    let old = g.D.Folder.files c.args.folder.now in
+    let old = (g.D.Folder.seen c.args.folder.now).files in
     on_ok_weaker c.hand_on-2.result
     (λ more. record {
       passed = waits ++ c.args.piece.now;

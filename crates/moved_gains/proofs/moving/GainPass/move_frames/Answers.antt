@@ -1,5 +1,5 @@
 -- One frame more, and what is before it, goes on.
-use Rattle.std.proofs.Common.{◌≡◌, ◌+◌, ◌<◌, ◌≤◌, ◌++◌, ◌∷◌, List, ℕ, Option, length, get_or, drop, refl, sym, ◌∙◌, ap, ap₂, subst, arith}
+use Rattle.std.proofs.Common.{rules, ◌≡◌, ◌+◌, ◌<◌, ◌≤◌, ◌++◌, ◌∷◌, List, ℕ, Option, length, get_or, drop, refl, sym, ◌∙◌, ap, ap₂, subst, arith}
 use Rattle.std.proofs.lemmas.List.{drop_all}
 use Rattle.std.proofs.lemmas.Option.{slice_get_read}
 use Rattle.std.proofs.lemmas.Result.{err_from_is_err_and, on_ok_weaker}
@@ -45,7 +45,7 @@ loop-frame-init g c = record {
   laid = c.requires.laid;
   told = c.requires.told;
   up_to = up_to_begun c.args.self.now.pass (λ file. written_from (steps_over c.args.self.now.course.now c.args.rows.now) c.args.self.now.tag file c.args.from c.args.rows.now) c.args.buffers.now.waiting
-      (g.D.Folder.files c.args.folder.now) c.requires.ready.target;
+      (g.D.Folder.seen c.args.folder.now).files c.requires.ready.target;
   ready = c.requires.ready;
   counts = refl;
 }
@@ -79,7 +79,7 @@ module _ (g : given.Over) (c : After-from g) where
   abbrev later : List ℕ → List ℕ
   later file = left steps c.args.self.now.tag rows i row file
 
-  next : (file : List ℕ) → Holds (g.D.Folder.files c.args.folder.now) c.args.self.now.pass.input.now file → written_from steps c.args.self.now.tag file c.loop-frame.at (drop i rows) ≡ up_to_row file ++ later file
+  next : (file : List ℕ) → Holds (g.D.Folder.seen c.args.folder.now).files c.args.self.now.pass.input.now file → written_from steps c.args.self.now.tag file c.loop-frame.at (drop i rows) ≡ up_to_row file ++ later file
   next file holds = left_up_to steps c.args.self.now.tag file c.loop-frame.at c.from.result rows i row is (c.from.ensures ∙ c.offset.ensures)
 
   own : steps row.offset ≡ steps_in c.args.self.now.course.now i
@@ -91,15 +91,15 @@ module _ (g : given.Over) (c : After-from g) where
 pub copy-requires-clause-within : goal.copy-requires-clause-within
 copy-requires-clause-within g c = omega (arith, within g (goal.at.copy-requires-clause-within g c).After-from)
 
-pub returns-in_err-copy-clause-prefix : goal.returns-in_err-copy-clause-prefix
-returns-in_err-copy-clause-prefix g c =
-    let at = (goal.at.returns-in_err-copy-clause-prefix g c).After-from in
-    err_at c.from_residual.result _ c.from_residual.ensures.1 (up_to_prefix c.args.self.now.pass c.requires.ready.apart c.loop-frame.invariant.up_to (up_to_row g at) (later g at) (next g at) c.in_err-copy.ensures.prefix)
-
-pub returns-in_err-copy-clause-cause : goal.returns-in_err-copy-clause-cause
-returns-in_err-copy-clause-cause g c =
-    let p = err_from_is_err_and c.from_residual.result c.from_residual.ensures.1 in
-    rw (p.1, p.2) (cause_behind c.loop-frame.invariant.up_to.written _ _ _ _ c.loop-frame.invariant.counts _ c.in_err-copy.ensures.cause)
+pub returns-in_err-copy : goal.returns-in_err-copy
+returns-in_err-copy g c = record {
+  written = search rules;
+  prefix = let at = (goal.at.returns-in_err-copy g c).After-from in
+      err_at c.from_residual.result _ c.from_residual.ensures.1 (up_to_prefix c.args.self.now.pass c.requires.ready.apart c.loop-frame.invariant.up_to (up_to_row g at) (later g at) (next g at) c.in_err-copy.ensures.prefix);
+  done = search rules;
+  cause = let p = err_from_is_err_and c.from_residual.result c.from_residual.ensures.1 in
+      rw (p.1, p.2) (cause_behind c.loop-frame.invariant.up_to.written _ _ _ _ c.loop-frame.invariant.counts _ c.in_err-copy.ensures.cause);
+}
 
 pub move_frame-requires-clause-class : goal.move_frame-requires-clause-class
 move_frame-requires-clause-class g c = class g (goal.at.move_frame-requires-clause-class g c).After-from
@@ -113,23 +113,23 @@ move_frame-requires-clause-told g c file holds =
     let before = up_to_more c.args.self.now.pass c.requires.ready.apart c.loop-frame.invariant.up_to (up_to_row g at) (later g at) (next g at) c.in_ok-copy.ensures.written in
     (told file c.args.rows.now c.loop-frame.frame c.index-rows-frame.result (is g at) (c.loop-frame.invariant.told file (up_to_held c.args.self.now.pass c.requires.ready.apart before file holds))).0
 
-pub returns-in_err-at-clause-prefix : goal.returns-in_err-at-clause-prefix
-returns-in_err-at-clause-prefix g c =
-    let at = (goal.at.returns-in_err-at-clause-prefix g c).After-from in
-    let self = c.args.self.now in
-    let row = c.index-rows-frame.result in
-    let before = up_to_more self.pass c.requires.ready.apart c.loop-frame.invariant.up_to (up_to_row g at) (later g at) (next g at) c.in_ok-copy.ensures.written in
-    err_at c.from_residual-in_err-at.result _ c.from_residual-in_err-at.ensures.1
-    (up_to_prefix self.pass c.requires.ready.apart before
-    (λ file. moved_row_bytes c.steps-steps.result file row) (λ file. written_from (steps g at) self.tag file (row_end row) (drop (c.loop-frame.frame + 1) c.args.rows.now))
-    (λ file holds. ap (λ s. moved_row_bytes s file row ++ written_from (steps g at) self.tag file (row_end row) (drop (c.loop-frame.frame + 1) c.args.rows.now)) (own g at ∙ sym c.steps-steps.ensures)) c.in_err-at.ensures.prefix)
-
-pub returns-in_err-at-clause-cause : goal.returns-in_err-at-clause-cause
-returns-in_err-at-clause-cause g c =
-    let p = err_from_is_err_and c.from_residual-in_err-at.result c.from_residual-in_err-at.ensures.1 in
-    rw (p.1, p.2)
-    (cause_behind c.loop-frame.invariant.up_to.written _ _ _ _ c.loop-frame.invariant.counts _
-    (cause_behind c.in_ok-copy.ensures.written _ _ _ _ c.in_ok-copy.ensures.done _ c.in_err-at.ensures.cause))
+pub returns-in_err-at : goal.returns-in_err-at
+returns-in_err-at g c = record {
+  written = search rules;
+  prefix = let at = (goal.at.returns-in_err-at g c).After-from in
+      let self = c.args.self.now in
+      let row = c.index-rows-frame.result in
+      let before = up_to_more self.pass c.requires.ready.apart c.loop-frame.invariant.up_to (up_to_row g at) (later g at) (next g at) c.in_ok-copy.ensures.written in
+      err_at c.from_residual-in_err-at.result _ c.from_residual-in_err-at.ensures.1
+      (up_to_prefix self.pass c.requires.ready.apart before
+      (λ file. moved_row_bytes c.steps-steps.result file row) (λ file. written_from (steps g at) self.tag file (row_end row) (drop (c.loop-frame.frame + 1) c.args.rows.now))
+      (λ file holds. ap (λ s. moved_row_bytes s file row ++ written_from (steps g at) self.tag file (row_end row) (drop (c.loop-frame.frame + 1) c.args.rows.now)) (own g at ∙ sym c.steps-steps.ensures)) c.in_err-at.ensures.prefix);
+  done = search rules;
+  cause = let p = err_from_is_err_and c.from_residual-in_err-at.result c.from_residual-in_err-at.ensures.1 in
+      rw (p.1, p.2)
+      (cause_behind c.loop-frame.invariant.up_to.written _ _ _ _ c.loop-frame.invariant.counts _
+      (cause_behind c.in_ok-copy.ensures.written _ _ _ _ c.in_ok-copy.ensures.done _ c.in_err-at.ensures.cause));
+}
 
 pub loop-frame-preserved : goal.loop-frame-preserved
 loop-frame-preserved g c =
@@ -155,19 +155,15 @@ module _ (g : given.Over) (c : After-copy-2 g) where
   abbrev rest : List ℕ → List ℕ
   rest file = copied c.args.self.now.tag file c.loop-frame.at c.args.self.now.pass.length
 
-  last : (file : List ℕ) → Holds (g.D.Folder.files c.args.folder.now) c.args.self.now.pass.input.now file → written_from (steps_over c.args.self.now.course.now c.args.rows.now) c.args.self.now.tag file c.loop-frame.at (drop c.loop-frame.frame c.args.rows.now) ≡ rest file
+  last : (file : List ℕ) → Holds (g.D.Folder.seen c.args.folder.now).files c.args.self.now.pass.input.now file → written_from (steps_over c.args.self.now.course.now c.args.rows.now) c.args.self.now.tag file c.loop-frame.at (drop c.loop-frame.frame c.args.rows.now) ≡ rest file
   last file holds =
       left_behind (steps_over c.args.self.now.course.now c.args.rows.now) c.args.self.now.tag file c.loop-frame.at c.args.self.now.pass.length (drop c.loop-frame.frame c.args.rows.now)
       (drop_all c.loop-frame.frame c.args.rows.now (omega (arith, c.loop-frame-test.false))) (c.requires.ready.length_is file holds)
 
-pub returns-clause-written : goal.returns-clause-written
-returns-clause-written g c =
-    on_ok_weaker c.copy-2.result (up_to_last c.args.self.now.pass c.requires.ready.apart c.loop-frame.invariant.up_to _ (last g (goal.at.returns-clause-written g c).After-copy-2)) c.copy-2.ensures.written
-
-pub returns-clause-prefix : goal.returns-clause-prefix
-returns-clause-prefix g c =
-    err_by c.copy-2.result (λ fault. up_to_last_prefix c.args.self.now.pass c.requires.ready.apart c.loop-frame.invariant.up_to _ (last g (goal.at.returns-clause-prefix g c).After-copy-2)) c.copy-2.ensures.prefix
-
-pub returns-clause-cause : goal.returns-clause-cause
-returns-clause-cause g c =
-    causes_behind c.loop-frame.invariant.up_to.written _ _ _ _ c.loop-frame.invariant.counts c.copy-2.result c.copy-2.ensures.cause
+pub returns : goal.returns
+returns g c = record {
+  written = on_ok_weaker c.copy-2.result (up_to_last c.args.self.now.pass c.requires.ready.apart c.loop-frame.invariant.up_to _ (last g (goal.at.returns g c).After-copy-2)) c.copy-2.ensures.written;
+  prefix = err_by c.copy-2.result (λ fault. up_to_last_prefix c.args.self.now.pass c.requires.ready.apart c.loop-frame.invariant.up_to _ (last g (goal.at.returns g c).After-copy-2)) c.copy-2.ensures.prefix;
+  done = search rules;
+  cause = causes_behind c.loop-frame.invariant.up_to.written _ _ _ _ c.loop-frame.invariant.counts c.copy-2.result c.copy-2.ensures.cause;
+}

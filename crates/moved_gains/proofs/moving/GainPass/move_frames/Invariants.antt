@@ -11,9 +11,9 @@ use Rattle.moved_gains.proofs.moving.GainPass.move_frames.Given as goal
 abbrev pub invariant-loop-frame : goal.invariant-loop-frame
 invariant-loop-frame g l = record {
   laid : AreLaid l.at (drop l.frame l.rows) l.self.pass.length;
-  told : (file : List ℕ) → Holds (g.D.Folder.files l.fn.folder) l.self.pass.input.now file → AreRowsOf file (drop l.frame l.rows);
+  told : (file : List ℕ) → Holds (g.D.Folder.seen l.fn.folder).files l.self.pass.input.now file → AreRowsOf file (drop l.frame l.rows);
   up_to : WritesUpTo l.self.pass (λ file. written_from (steps_over l.self.course.now l.rows) l.self.tag file l.fn.from l.fn.rows) (λ file. written_from (steps_over l.self.course.now l.rows) l.self.tag file l.at (drop l.frame l.rows))
-      l.fn.buffers.waiting l.buffers.waiting (g.D.Folder.files l.fn.folder) (g.D.Folder.files l.folder);
-  ready : IsReady l.self.pass (g.D.Folder.files l.folder) l.buffers.feed;
-  counts : g.D.Folder.counts l.folder ≡ g.D.Folder.counts l.fn.folder;
+      l.fn.buffers.waiting l.buffers.waiting (g.D.Folder.seen l.fn.folder).files (g.D.Folder.seen l.folder).files;
+  ready : IsReady l.self.pass (g.D.Folder.seen l.folder).files l.buffers.feed;
+  counts : (g.D.Folder.seen l.folder).counts ≡ (g.D.Folder.seen l.fn.folder).counts;
 }

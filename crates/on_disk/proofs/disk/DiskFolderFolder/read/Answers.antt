@@ -1,6 +1,17 @@
-use Rattle.std.proofs.Common.{◌≡◌, ◌<◌, ◌⊎◌, sym, ◌∙◌, subst}
+use Rattle.std.proofs.Common.{rules, ◌≡◌, ◌<◌, ◌⊎◌, sym, ◌∙◌, subst}
 use Rattle.on_disk.proofs.disk.DiskFolderFolder.read.Goals as goal
 
-pub returns-clause-got : goal.returns-clause-got
-returns-clause-got g c = λ more.
-    c.count_read.ensures.got (subst (λ room. (0 < c.in-Ok.count) ⊎ (room ≡ 0)) (sym c.read_there.auto.into) more) ∙ c.in-Ok.ensures.tally
+pub returns-clause-answer : goal.returns-clause-answer
+returns-clause-answer g c = record {
+  bound = search rules;
+  bytes = search rules;
+  rest = search rules;
+  end = search rules;
+  within = search rules;
+  ended = search rules;
+  failed = search rules;
+  files = search rules;
+  got = λ more. c.count_read.ensures.got (subst (λ room. (0 < c.in-Ok.count) ⊎ (room ≡ 0)) (sym c.read_there.auto.into) more) ∙ c.in-Ok.ensures.aside.tally;
+  done = search rules;
+  counts = search rules;
+}

@@ -1,4 +1,4 @@
-use Rattle.std.proofs.Common.{◌≡◌, ℕ, ◌-◌, List, ◌++◌, take, drop, length, min, sym, subst, ◌∙◌, ap, arith, length-drop}
+use Rattle.std.proofs.Common.{rules, ◌≡◌, ℕ, ◌-◌, List, ◌++◌, take, drop, length, min, sym, subst, ◌∙◌, ap, arith, length-drop}
 use Rattle.std.proofs.lemmas.List.{length-take-le}
 use Rattle.outside.specs.Files.{Holds}
 use Rattle.outside.specs.Feed.{Fed}
@@ -10,7 +10,7 @@ use Rattle.outside.proofs.feed.Feed.refill.Goals as goal
 room_is : (g : Over) (c : goal.After-self-3-1 g) → take c.self.inside.room.len (c.read_on.new.into ++ drop (length c.read_on.new.into) c.self.inside.room.items) ≡ c.read_on.new.into
 room_is g c = fills c.self.inside.room.len c.read_on.new.into _ (omega (arith, c.read_on.auto.into, c.keep_from-kept.auto.room, c.as_mut_slice-room.ensures.len))
 
-read : (g : Over) (c : goal.After-self-3-1 g) (bytes : List ℕ) → Holds (g.D.Folder.files c.args.folder.now) c.args.name.now bytes → take c.in_ok-self-inside.field-0 c.read_on.new.into ≡ take c.in_ok-self-inside.field-0 (drop c.args.at bytes)
+read : (g : Over) (c : goal.After-self-3-1 g) (bytes : List ℕ) → Holds (g.D.Folder.seen c.args.folder.now).files c.args.name.now bytes → take c.in_ok-self-inside.field-0 c.read_on.new.into ≡ take c.in_ok-self-inside.field-0 (drop c.args.at bytes)
 read g c bytes holds =
     let held = subst (λ (fed : Fed). take (length fed.held) (drop fed.place bytes) ≡ fed.held) (sym c.self.view_is) (c.requires.fed.same bytes holds) in
     let front = fed_front c.self.inside.held c.self.inside.place c.self.inside.room.items bytes (omega arith) held in
@@ -28,27 +28,32 @@ invariant_of-self-2 g c =
     (omega (arith, c.read_on.auto.into, c.keep_from-kept.auto.room, c.as_mut_slice-room.ensures.len)) (omega (arith, size, c.keep_from-kept.auto.room, c.as_mut_slice-room.ensures.len))
     (omega (arith, size, c.in_ok-self-inside.ensures.bound)) (omega (arith, c.min-self-inside.ensures)) (omega (arith, c.requires.short))
 
-pub returns-clause-given : goal.returns-clause-given
-returns-clause-given g c =
-    ap (λ (room : List ℕ). length (take (c.min-self-inside.result - 0) room)) (room_is g c)
-    ∙ length-take-le _ c.read_on.new.into (omega (arith, c.min-self-inside.ensures, c.in_ok-self-inside.ensures.bound, c.read_on.auto.into))
-    ∙ omega arith
-
-pub returns-clause-bytes : goal.returns-clause-bytes
-returns-clause-bytes g c = λ bytes holds.
-    let k = c.in_ok-self-inside.field-0 in
-    let count : c.min-self-inside.result - 0 ≡ min c.args.n k = omega (arith, c.min-self-inside.ensures) in
-    ap (λ n. take n (take c.self.inside.room.len (c.read_on.new.into ++ drop (length c.read_on.new.into) c.self.inside.room.items))) count
-    ∙ ap (take (min c.args.n k)) (room_is g c)
-    ∙ given_is c.args.n k c.read_on.new.into (drop c.args.at bytes) (read g c bytes holds) (λ short. omega (arith, length-drop c.args.at bytes, c.in_ok-self-inside.ensures.end bytes holds short))
-
-pub returns-clause-fed : goal.returns-clause-fed
-returns-clause-fed g c = record {
-  same = λ bytes holds.
+pub returns : goal.returns
+returns g c = record {
+  bound = search rules;
+  given = ap (λ (room : List ℕ). length (take (c.min-self-inside.result - 0) room)) (room_is g c)
+      ∙ length-take-le _ c.read_on.new.into (omega (arith, c.min-self-inside.ensures, c.in_ok-self-inside.ensures.bound, c.read_on.auto.into))
+      ∙ omega arith;
+  bytes = λ bytes holds.
       let k = c.in_ok-self-inside.field-0 in
-      let old = subst (λ f. Holds f c.args.name.now bytes) c.in_ok-self-inside.ensures.files holds in
-      subst
-      (λ (room : List ℕ). take (length (take k room)) (drop c.args.at bytes) ≡ take k room)
-      (sym (room_is g c))
-      (fed_by k c.args.at c.read_on.new.into bytes (omega (arith, c.read_on.auto.into, c.in_ok-self-inside.ensures.bound)) (read g c bytes old));
+      let count : c.min-self-inside.result - 0 ≡ min c.args.n k = omega (arith, c.min-self-inside.ensures) in
+      ap (λ n. take n (take c.self.inside.room.len (c.read_on.new.into ++ drop (length c.read_on.new.into) c.self.inside.room.items))) count
+      ∙ ap (take (min c.args.n k)) (room_is g c)
+      ∙ given_is c.args.n k c.read_on.new.into (drop c.args.at bytes) (read g c bytes holds) (λ short. omega (arith, length-drop c.args.at bytes, c.in_ok-self-inside.ensures.end bytes holds short));
+  whole = search rules;
+  ended = search rules;
+  failed = search rules;
+  none = search rules;
+  fed = record {
+    same = λ bytes holds.
+        let k = c.in_ok-self-inside.field-0 in
+        let old = subst (λ f. Holds f c.args.name.now bytes) c.in_ok-self-inside.ensures.files holds in
+        subst
+        (λ (room : List ℕ). take (length (take k room)) (drop c.args.at bytes) ≡ take k room)
+        (sym (room_is g c))
+        (fed_by k c.args.at c.read_on.new.into bytes (omega (arith, c.read_on.auto.into, c.in_ok-self-inside.ensures.bound)) (read g c bytes old));
+  };
+  files = search rules;
+  done = search rules;
+  counts = search rules;
 }

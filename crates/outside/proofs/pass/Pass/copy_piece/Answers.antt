@@ -1,3 +1,4 @@
+use Rattle.std.proofs.Common.{rules}
 -- A piece that was read goes on, and all is ready for the next.
 use Rattle.std.proofs.lemmas.Result.{on_ok_weaker}
 use Rattle.outside.specs.Pass.{bytes_at}
@@ -5,13 +6,23 @@ use Rattle.outside.proofs.PassedLaws.{err_at}
 use Rattle.outside.proofs.PassLaws.{prefix_nothing, passed_ready}
 use Rattle.outside.proofs.pass.Pass.copy_piece.Goals as goal
 
-pub returns-in_err-fill-clause-prefix : goal.returns-in_err-fill-clause-prefix
-returns-in_err-fill-clause-prefix g c =
-    err_at c.from_residual.result _ c.from_residual.ensures.1
-    (prefix_nothing c.args.self.now (bytes_at c.args.at c.args.n) c.args.waiting.now (g.D.Folder.files c.args.folder.now) _ c.in_err-fill.ensures.read c.in_err-fill.ensures.files c.requires.ready.target)
+pub returns-in_err-fill : goal.returns-in_err-fill
+returns-in_err-fill g c = record {
+  written = search rules;
+  prefix = err_at c.from_residual.result _ c.from_residual.ensures.1
+      (prefix_nothing c.args.self.now (bytes_at c.args.at c.args.n) c.args.waiting.now (g.D.Folder.seen c.args.folder.now).files _ c.in_err-fill.ensures.read c.in_err-fill.ensures.files c.requires.ready.target);
+  done = search rules;
+  cause = search rules;
+  ready = search rules;
+}
 
-pub returns-clause-ready : goal.returns-clause-ready
-returns-clause-ready g c =
-    on_ok_weaker c.push.result
-    (λ passed. passed_ready c.args.self.now passed c.in_ok-fill.ensures.ready)
-    c.push.ensures.passed
+pub returns : goal.returns
+returns g c = record {
+  written = search rules;
+  prefix = search rules;
+  done = search rules;
+  cause = search rules;
+  ready = on_ok_weaker c.push.result
+      (λ passed. passed_ready c.args.self.now passed c.in_ok-fill.ensures.ready)
+      c.push.ensures.passed;
+}

@@ -3,4 +3,4 @@ use Rattle.outside.proofs.SentLaws.{sent_none}
 use Rattle.outside.proofs.send_buffer.SendBuffer.push.Goals as goal
 
 pub returns-then-piece-self-clause-passed : goal.returns-then-piece-self-clause-passed
-returns-then-piece-self-clause-passed g c = rw c.add.ensures (sent_none (g.T.Sink.sent c.args.sink.now) _)
+returns-then-piece-self-clause-passed g c = rw c.add.ensures (sent_none (g.T.Sink.heard c.args.sink.now).sent _)

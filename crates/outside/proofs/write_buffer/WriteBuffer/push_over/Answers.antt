@@ -1,4 +1,4 @@
-use Rattle.std.proofs.Common.{◌≡◌, ◌++◌, ◌+◌, ◌-◌, List, ℕ, length, take, drop, sym, subst, ◌∙◌, ap}
+use Rattle.std.proofs.Common.{rules, ◌≡◌, ◌++◌, ◌+◌, ◌-◌, List, ℕ, length, take, drop, sym, subst, ◌∙◌, ap}
 use Rattle.std.proofs.lemmas.List.{drop-drop}
 use Rattle.outside.specs.Files.{IsThere}
 use Rattle.outside.specs.Passed.{PassedOn}
@@ -7,37 +7,58 @@ use Rattle.outside.proofs.Pieces.{part_from}
 use Rattle.outside.proofs.PassedLaws.{on_err, passed_waiting, passed_front, passed_then, passed_then_prefix, prefix_waiting}
 use Rattle.outside.proofs.write_buffer.WriteBuffer.push_over.Goals as goal
 
-pub returns-in_err-finish-clause-prefix : goal.returns-in_err-finish-clause-prefix
-returns-in_err-finish-clause-prefix g c =
-    on_err
-    c.from_residual.result
-    (prefix_waiting c.args.name.now c.args.self.now c.args.piece.now _ _ _ (rw c.add.ensures at c.in_err-finish.ensures.prefix))
+pub returns-in_err-finish : goal.returns-in_err-finish
+returns-in_err-finish g c = record {
+  passed = search rules;
+  prefix = on_err
+      c.from_residual.result
+      (prefix_waiting c.args.name.now c.args.self.now c.args.piece.now _ _ _ (rw c.add.ensures at c.in_err-finish.ensures.prefix));
+  none = search rules;
+  few = search rules;
+  failed = search rules;
+  done = search rules;
+  counts = search rules;
+}
 
 pub write_whole-requires : goal.write_whole-requires
 write_whole-requires g c = subst (λ f. IsThere f c.args.name.now) (sym c.in_ok-finish.ensures.appended) (appended_there _ c.args.name.now _)
 
-pub returns-in_err-done-clause-prefix : goal.returns-in_err-done-clause-prefix
-returns-in_err-done-clause-prefix g c =
-    let free = 65536 - c.self.inside.waiting in
-    on_err
-    c.from_residual-in_err-done.result
-    (passed_then_prefix
-    (passed_waiting c.args.name.now c.args.self.now c.args.piece.now free _ _ (rw c.add.ensures at c.in_ok-finish.ensures.appended))
-    (rw part_from at c.in_err-done.ensures.prefix))
+pub returns-in_err-done : goal.returns-in_err-done
+returns-in_err-done g c = record {
+  passed = search rules;
+  prefix = let free = 65536 - c.self.inside.waiting in
+      on_err
+      c.from_residual-in_err-done.result
+      (passed_then_prefix
+      (passed_waiting c.args.name.now c.args.self.now c.args.piece.now free _ _ (rw c.add.ensures at c.in_ok-finish.ensures.appended))
+      (rw part_from at c.in_err-done.ensures.prefix));
+  none = search rules;
+  few = search rules;
+  failed = search rules;
+  done = search rules;
+  counts = search rules;
+}
 
-pub returns-clause-passed : goal.returns-clause-passed
-returns-clause-passed g c =
-    let free = 65536 - c.self.inside.waiting in
-    let piece = c.args.piece.now in
-    let done = c.in_ok-done.done in
-    let rest_is : c.add-2.new.self ≡ drop done (drop free piece) =
-    c.add-2.ensures
-    ∙ ap (λ (front : List ℕ). front ++ take (length piece - (free + done)) (drop (free + done) piece)) c.in_ok-finish.ensures.none
-    ∙ part_from (free + done) piece
-    ∙ sym (drop-drop done free piece) in
-    subst
-    (λ (after : List ℕ). PassedOn c.args.name.now (c.args.self.now ++ piece) after (g.D.Folder.files c.args.folder.now) (g.D.Folder.files c.write_whole.new.folder))
-    (sym rest_is)
-    (passed_then
-    (passed_waiting c.args.name.now c.args.self.now piece free _ _ (rw c.add.ensures at c.in_ok-finish.ensures.appended))
-    (passed_front c.args.name.now (drop free piece) done _ _ (rw part_from at c.in_ok-done.ensures.written)))
+pub returns : goal.returns
+returns g c = record {
+  passed = let free = 65536 - c.self.inside.waiting in
+      let piece = c.args.piece.now in
+      let done = c.in_ok-done.done in
+      let rest_is : c.add-2.new.self ≡ drop done (drop free piece) =
+      c.add-2.ensures
+      ∙ ap (λ (front : List ℕ). front ++ take (length piece - (free + done)) (drop (free + done) piece)) c.in_ok-finish.ensures.none
+      ∙ part_from (free + done) piece
+      ∙ sym (drop-drop done free piece) in
+      subst
+      (λ (after : List ℕ). PassedOn c.args.name.now (c.args.self.now ++ piece) after (g.D.Folder.seen c.args.folder.now).files (g.D.Folder.seen c.write_whole.new.folder).files)
+      (sym rest_is)
+      (passed_then
+      (passed_waiting c.args.name.now c.args.self.now piece free _ _ (rw c.add.ensures at c.in_ok-finish.ensures.appended))
+      (passed_front c.args.name.now (drop free piece) done _ _ (rw part_from at c.in_ok-done.ensures.written)));
+  prefix = search rules;
+  none = search rules;
+  few = search rules;
+  failed = search rules;
+  done = search rules;
+  counts = search rules;
+}

@@ -1,11 +1,11 @@
 -- The survey, the chosen frames, their plan, and the memory, each with its faults.
 use Rattle.std.proofs.Common.{ap₂, sym, ◌∙◌, subst}
 use Rattle.outside.specs.Files.{Holds}
+use Rattle.outside.specs.Seen.{seen}
 use Rattle.slot_plan.specs.Plans.{entries}
 use Rattle.laying.proofs.ChosenFrames.{survey-had}
 use Rattle.sync_survey.specs.Faults.{tells}
 use Rattle.commands.specs.declared.fault.EditFault.TheVariants.{Memory}
-use Rattle.commands.specs.Left.{seen}
 use Rattle.commands.proofs.InputLaws.{memory_is_input}
 use Rattle.commands.specs.One.{most_frames}
 use Rattle.frame_edits.specs.declared.plans.Selection.{Selection}
@@ -22,10 +22,10 @@ pub returns-in_err-chosen-clause-refused : goal.returns-in_err-chosen-clause-ref
 returns-in_err-chosen-clause-refused g c =
     let edit = c.args.self.now in
     let make = packing (plan_by edit.rule) in
-    let old = seen (g.D.Folder.files c.args.folder.now) (g.D.Folder.counts c.args.folder.now) in
+    let old = g.D.Folder.seen c.args.folder.now in
     err_with _ _ c.from_residual-in_err-chosen.ensures.1
     (rule_early edit.rule edit.input.now old _ _ (λ file holds. (_, c.in_ok-survey.ensures.limited file holds))
-    (input_moved make edit.input.now _ old _ _ (ap₂ seen c.survey_packed.ensures.files c.in_ok-survey.ensures.done) (c.in_err-chosen.ensures.refused make)))
+    (input_moved make edit.input.now _ old _ _ (ap₂ seen c.survey_packed.ensures.reads.files c.in_ok-survey.ensures.reads.done) (c.in_err-chosen.ensures.refused make)))
 
 pub returns-in_err-chosen-clause-numbers : goal.returns-in_err-chosen-clause-numbers
 returns-in_err-chosen-clause-numbers g c =
@@ -35,12 +35,12 @@ returns-in_err-chosen-clause-numbers g c =
 pub returns-in_err-planned-clause-refused : goal.returns-in_err-planned-clause-refused
 returns-in_err-planned-clause-refused g c =
     let edit = c.args.self.now in
-    let old = seen (g.D.Folder.files c.args.folder.now) (g.D.Folder.counts c.args.folder.now) in
+    let old = g.D.Folder.seen c.args.folder.now in
     err_with _ _ c.from_residual-in_err-planned.ensures.1
     (rule_early edit.rule edit.input.now old _ _ (λ file holds. (_, c.in_ok-survey.ensures.limited file holds))
     (plan_is_input (plan_by edit.rule) (refuses_by edit.rule) edit.input.now old _ (tells c.in_ok-survey.survey) (chosen_in c.in_ok-chosen.chosen) c.in_ok-survey.ensures.there c.in_ok-survey.ensures.surveyed
-    (λ bytes holds. c.in_ok-chosen.ensures.chosen bytes (subst (λ f. Holds f edit.input.now bytes) (sym c.survey_packed.ensures.files) holds))
-    (ap₂ seen (c.all_choice.ensures.files ∙ c.survey_packed.ensures.files) (c.in_ok-chosen.ensures.done ∙ c.in_ok-survey.ensures.done)) _ c.in_err-planned.ensures.refused))
+    (λ bytes holds. c.in_ok-chosen.ensures.chosen bytes (subst (λ f. Holds f edit.input.now bytes) (sym c.survey_packed.ensures.reads.files) holds))
+    (ap₂ seen (c.all_choice.ensures.reads.files ∙ c.survey_packed.ensures.reads.files) (c.in_ok-chosen.ensures.reads.done ∙ c.in_ok-survey.ensures.reads.done)) _ c.in_err-planned.ensures.refused))
 
 pub returns-in_err-planned-clause-numbers : goal.returns-in_err-planned-clause-numbers
 returns-in_err-planned-clause-numbers g c =
@@ -52,26 +52,26 @@ returns-in_err-planned-clause-numbers g c =
 pub returns-in_err-work-clause-refused : goal.returns-in_err-work-clause-refused
 returns-in_err-work-clause-refused g c =
     let edit = c.args.self.now in
-    let old = seen (g.D.Folder.files c.args.folder.now) (g.D.Folder.counts c.args.folder.now) in
+    let old = g.D.Folder.seen c.args.folder.now in
     err_with _ _ c.from_residual-in_err-work.ensures.1
     (rule_early edit.rule edit.input.now old _ Memory (λ file holds. (_, c.in_ok-survey.ensures.limited file holds))
     (memory_is_input (packing (plan_by edit.rule)) edit.input.now old _ (tells c.in_ok-survey.survey) c.in_ok-survey.ensures.there c.in_ok-survey.ensures.surveyed
-    (ap₂ seen (c.all_choice.ensures.files ∙ c.survey_packed.ensures.files) (c.in_ok-chosen.ensures.done ∙ c.in_ok-survey.ensures.done))))
+    (ap₂ seen (c.all_choice.ensures.reads.files ∙ c.survey_packed.ensures.reads.files) (c.in_ok-chosen.ensures.reads.done ∙ c.in_ok-survey.ensures.reads.done))))
 
 pub returns-clause-ready : goal.returns-clause-ready
 returns-clause-ready g c =
     let selection : Selection = record { chosen = c.in_ok-chosen.chosen; planned = c.in_ok-planned.planned } in
-    work_layable c.in_ok-survey.survey selection c.in_ok-work.work c.in_ok-work.ensures c.args.self.now.input.now (g.D.Folder.files c.args.folder.now) c.in_ok-survey.ensures.there c.in_ok-survey.ensures.laid
+    work_layable c.in_ok-survey.survey selection c.in_ok-work.work c.in_ok-work.ensures c.args.self.now.input.now (g.D.Folder.seen c.args.folder.now).files c.in_ok-survey.ensures.there c.in_ok-survey.ensures.laid
     (λ bytes holds. survey-had bytes most_frames _ (c.in_ok-survey.ensures.surveyed bytes holds))
     (record { some = c.in_ok-chosen.ensures.some; within = c.in_ok-chosen.ensures.within; fits = c.in_ok-planned.ensures.fits.fits; info = c.in_ok-planned.ensures.info })
 
 pub returns-clause-making : goal.returns-clause-making
 returns-clause-making g c =
     let edit = c.args.self.now in
-    let files = g.D.Folder.files c.args.folder.now in
+    let files = (g.D.Folder.seen c.args.folder.now).files in
     let s = tells c.in_ok-survey.survey in
     let chosen = chosen_in c.in_ok-chosen.chosen in
     let placed = entries c.in_ok-planned.planned.plan in
     work_makes c.in_ok-survey.survey (record { chosen = c.in_ok-chosen.chosen; planned = c.in_ok-planned.planned }) c.in_ok-work.work c.in_ok-work.ensures (rule_task edit.rule edit.input.now) files
     (rule_makes edit.rule edit.input.now s (laid_by chosen placed) files (λ file holds. (_, c.in_ok-survey.ensures.limited file holds)) c.in_ok-survey.ensures.there c.in_ok-survey.ensures.surveyed c.in_ok-survey.ensures.octets
-    (λ bytes holds. planned_is (plan_by edit.rule) bytes s chosen placed (c.in_ok-chosen.ensures.chosen bytes (subst (λ f. Holds f edit.input.now bytes) (sym c.survey_packed.ensures.files) holds)) c.in_ok-planned.ensures.plan))
+    (λ bytes holds. planned_is (plan_by edit.rule) bytes s chosen placed (c.in_ok-chosen.ensures.chosen bytes (subst (λ f. Holds f edit.input.now bytes) (sym c.survey_packed.ensures.reads.files) holds)) c.in_ok-planned.ensures.plan))

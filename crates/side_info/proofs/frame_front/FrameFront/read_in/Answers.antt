@@ -44,12 +44,11 @@ invariant_of-result c =
     let at = (goal.at.invariant_of-result c).After-room_of_frame in
     are_written c.args.header.now (known at) c.first_four.result (side_part c.args.header.now c.args.frame.now) c.room_of_frame.result (head at) c.first_four.ensures.octets (size c.args.header.now c.args.frame.now c.requires.room) c.room_of_frame.ensures.octets c.room_of_frame.ensures.room
 
-pub returns-clause-front : goal.returns-clause-front
-returns-clause-front c = fields (goal.at.returns-clause-front c).After-room_of_frame
-
-pub returns-clause-fits : goal.returns-clause-fits
+pub returns : goal.returns
 unfolding side_in
-returns-clause-fits c =
-    let at = (goal.at.returns-clause-fits c).After-room_of_frame in
-    let h = c.args.header.now in
-    subst (λ (f : FrameFields). SideFits (class_of h) f.side) (sym (fields at)) (SideFits-side_at (class_of h) (IsClass-class_of h (known at)) (bits (side_part h c.args.frame.now)) (AreBits-bits (side_part h c.args.frame.now)))
+returns c = record {
+  front = fields (goal.at.returns c).After-room_of_frame;
+  fits = let at = (goal.at.returns c).After-room_of_frame in
+      let h = c.args.header.now in
+      subst (λ (f : FrameFields). SideFits (class_of h) f.side) (sym (fields at)) (SideFits-side_at (class_of h) (IsClass-class_of h (known at)) (bits (side_part h c.args.frame.now)) (AreBits-bits (side_part h c.args.frame.now)));
+}

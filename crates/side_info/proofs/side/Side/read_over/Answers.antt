@@ -20,14 +20,11 @@ side c =
     ∙ side_at-class (class_with c.class.inside.version c.class.inside.frequency_index c.class.inside.channels) (bits c.args.bytes.now)
     ∙ ap (λ d. side_at d (bits c.args.bytes.now)) c.class.view_is
 
-pub returns-clause-side : goal.returns-clause-side
-returns-clause-side c = side c
-
-pub returns-clause-fits : goal.returns-clause-fits
-returns-clause-fits c = subst (SideFits c.args.class) (sym (side c)) (SideFits-side_at c.args.class (subst IsClass c.class.view_is c.class.invariant) (bits c.args.bytes.now) (AreBits-bits c.args.bytes.now))
-
-pub returns-clause-back : goal.returns-clause-back
-returns-clause-back c =
-    ap (side_bits c.args.class) (side c)
-    ∙ side_bits-side_at c.args.class (subst IsClass c.class.view_is c.class.invariant) (bits c.args.bytes.now)
-    (AreBits-bits c.args.bytes.now) (length-bits c.args.bytes.now ∙ ap (λ n. 8 * n) c.requires.size)
+pub returns : goal.returns
+returns c = record {
+  side = side c;
+  fits = subst (SideFits c.args.class) (sym (side c)) (SideFits-side_at c.args.class (subst IsClass c.class.view_is c.class.invariant) (bits c.args.bytes.now) (AreBits-bits c.args.bytes.now));
+  back = ap (side_bits c.args.class) (side c)
+      ∙ side_bits-side_at c.args.class (subst IsClass c.class.view_is c.class.invariant) (bits c.args.bytes.now)
+      (AreBits-bits c.args.bytes.now) (length-bits c.args.bytes.now ∙ ap (λ n. 8 * n) c.requires.size);
+}

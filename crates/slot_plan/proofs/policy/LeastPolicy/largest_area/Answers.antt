@@ -8,11 +8,10 @@ use Rattle.frame_header.proofs.HeaderLaws.{IsClass-class_of}
 use Rattle.slot_plan.proofs.AreaLaws.{greatest-all}
 use Rattle.slot_plan.proofs.policy.LeastPolicy.largest_area.Goals as goal
 
-pub returns-clause-largest : goal.returns-clause-largest
-returns-clause-largest c =
-    c.area_of.ensures.area
-    ∙ ap₂ (λ k p. area_of k largest_slot p) c.class.ensures (ap (λ h. h.protected) c.header.view_is)
-    ∙ greatest-all (class_of c.args.header.now) c.args.header.now.protected (IsClass-class_of c.args.header.now (subst IsHeader c.header.view_is c.header.invariant))
-
-pub returns-clause-own : goal.returns-clause-own
-returns-clause-own c = Contains-all_slots c.args.header.now.slot (subst (λ h. IsSlot h.slot) c.header.view_is c.header.invariant.slot)
+pub returns : goal.returns
+returns c = record {
+  largest = c.area_of.ensures.area
+      ∙ ap₂ (λ k p. area_of k largest_slot p) c.class.ensures (ap (λ h. h.protected) c.header.view_is)
+      ∙ greatest-all (class_of c.args.header.now) c.args.header.now.protected (IsClass-class_of c.args.header.now (subst IsHeader c.header.view_is c.header.invariant));
+  own = Contains-all_slots c.args.header.now.slot (subst (λ h. IsSlot h.slot) c.header.view_is c.header.invariant.slot);
+}

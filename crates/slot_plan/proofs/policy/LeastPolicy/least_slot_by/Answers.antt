@@ -12,6 +12,6 @@ pub least_slot-requires : goal.least_slot-requires
 least_slot-requires c =
     let table = c.args.table.now in
     let protected = c.args.header.now.protected in
-    let enough : c.args.wanted ≤ greatest (areas_with table.lengths protected all_slots) = subst (λ k. c.args.wanted ≤ greatest (areas_with k protected all_slots)) (sym c.requires.class) c.requires.enough in
-    let within = table-within table all_slots protected c.args.wanted c.requires.table (omega (arith, length-all_slots)) enough in
+    let enough : c.args.wanted ≤ greatest (areas_with table.lengths protected all_slots) = subst (λ k. c.args.wanted ≤ greatest (areas_with k protected all_slots)) (sym c.requires.table.class_is) c.requires.enough in
+    let within = table-within table all_slots protected c.args.wanted c.requires.table.of_slots (omega (arith, length-all_slots)) enough in
     record { within = subst (λ p. c.args.wanted + overhead_of table.lengths p < length table.by_length.items) (ap (λ h. h.protected) (sym c.header.view_is)) within }

@@ -12,9 +12,10 @@ loop-slot-preserved c =
     c.loop-slot-test.true c.slot-item.is c.length_of-length.ensures.length c.length_of-length.ensures.room
     (c.in_ok-resize.ensures.items ∙ ap (λ n. take (c.length_of-length.result + 1) c.loop-slot.by_length.items ++ replicate (c.length_of-length.result + 1 - n) c.slot-item.result) c.loop-slot.by_length.ok.0) (rise-areas c.args.class c.args.slots.now c.requires.ascending) c.loop-slot.invariant
 
-pub returns-clause-table : goal.returns-clause-table
-returns-clause-table c =
+pub returns : goal.returns
+returns c =
     let class = sym c.new-lengths.ensures.class in
-    table-all c.args.slots.now c.loop-slot.slot-index (record { lengths = c.new-lengths.result; by_length = c.loop-slot.by_length }) (omega (arith, c.loop-slot-test.false, c.loop-slot.auto.slot-index-end))
+    let table = table-all c.args.slots.now c.loop-slot.slot-index (record { lengths = c.new-lengths.result; by_length = c.loop-slot.by_length }) (omega (arith, c.loop-slot-test.false, c.loop-slot.auto.slot-index-end))
     (subst (λ k. Rise k c.args.slots.now) class (rise-areas c.args.class c.args.slots.now c.requires.ascending))
-    (subst (λ k. IsTableTo k c.args.slots.now c.loop-slot.slot-index c.loop-slot.by_length.items) class c.loop-slot.invariant)
+    (subst (λ k. IsTableTo k c.args.slots.now c.loop-slot.slot-index c.loop-slot.by_length.items) class c.loop-slot.invariant) in
+    record { class_is = c.new-lengths.ensures.class; of_slots = table }

@@ -1,5 +1,14 @@
+use Rattle.std.proofs.Common.{rules, arith}
 use Rattle.outside.proofs.FilesLaws.{untold_written}
 use Rattle.outside.proofs.memory.short.ShortFolderFolder.write.Goals as goal
 
-pub returns-clause-written : goal.returns-clause-written
-returns-clause-written c = untold_written c.write.result c.args.name.now c.args.bytes.now
+pub returns-clause-answer : goal.returns-clause-answer
+returns-clause-answer c = record {
+  bound = search rules;
+  some = search rules;
+  written = untold_written c.write.result c.args.name.now c.args.bytes.now;
+  kept = search rules;
+  failed = search rules;
+  done = search rules;
+  counts = search rules;
+}

@@ -1,0 +1,31 @@
+-- What the steps before the output answer and leave.
+use Rattle.std.specs.Prelude.{◌≡◌, ◌≤◌, ℕ, List, length, Result, Ok, IfOk, IfErr, OnOk}
+use Rattle.bit_fields.specs.Bits.{AreBytes}
+use Rattle.outside.specs.Files.{IsThere}
+use Rattle.outside.specs.Seen.{Seen, OnFile, OnlyRead}
+use Rattle.sync_survey.specs.declared.surveys.Survey.{Survey}
+use Rattle.sync_survey.specs.Faults.{tells}
+use Rattle.sync_survey.specs.Survey.{survey_of, IsLaidOut}
+use Rattle.commands.specs.declared.fault.EditFault.{EditFault}
+use Rattle.commands.specs.Left.{IsOfSurvey}
+use Rattle.commands.specs.One.{IsFileFault}
+use Rattle.commands.specs.Sheet.{IsSheetFault, IsOfSheet}
+
+-- An input, counted from 0, was surveyed, of which so many frames are allowed, or it is at fault.
+pub record InputSurvey (place allowed : ℕ) (name : List ℕ) (old new : Seen) (result : Result Survey EditFault) : Type 0 where
+  pub there : OnOk result (IsThere old.files name)
+  pub surveyed : IfOk result (λ s. OnFile old name (λ bytes. survey_of bytes allowed ≡ Ok (tells s)))
+  pub laid : IfOk result (λ s. IsLaidOut (tells s))
+  pub few : IfOk result (λ s. length (tells s).frames ≤ allowed)
+  -- what is told of it are bytes
+  pub octets : OnOk result (OnFile old name AreBytes)
+  pub refused : IfErr result (IsFileFault place allowed name old new)
+  pub numbers : IfErr result (IsOfSurvey place)
+  pub reads : OnlyRead result old new
+
+-- A sheet was looked for or read: it is there, or it is at fault.
+pub record SheetAnswer {T : Type 0} (name : List ℕ) (old new : Seen) (result : Result T EditFault) : Type 0 where
+  pub there : OnOk result (IsThere old.files name)
+  pub refused : IfErr result (IsSheetFault name old new)
+  pub numbers : IfErr result IsOfSheet
+  pub reads : OnlyRead result old new

@@ -1,0 +1,6 @@
+-- What a sheet is limited to.
+use Rattle.std.specs.Prelude.{ℕ}
+
+-- the greatest length of a sheet in bytes
+abbrev pub longest_sheet : ℕ
+longest_sheet = 65536

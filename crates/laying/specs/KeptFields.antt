@@ -1,0 +1,21 @@
+-- What is kept of the head of an input.
+use Rattle.std.specs.Prelude.{◌≡◌, ℕ, List, None, Ok, Result, IfOk, IfErr, OnOk, IsErrOf, replicate}
+use Rattle.outside.specs.Counts.{OnlyReads}
+use Rattle.outside.specs.Seen.{Seen, OnFile}
+use Rattle.outside.specs.Pass.{HasInputCause}
+use Rattle.outside.specs.declared.pass.PassFault.{PassFault}
+use Rattle.outside.specs.declared.pass.PassFault.TheVariants.{Write}
+use Rattle.sync_survey.specs.Faults.{SurveyFields}
+use Rattle.laying.specs.declared.info.Kept.{Kept}
+use Rattle.laying.specs.Written.{head_info}
+
+-- The quality and the extension of the head were read, or a read failed.
+pub record KeptAnswer (name : List ℕ) (s : SurveyFields) (old new : Seen) (result : Result Kept PassFault) : Type 0 where
+  pub kept : IfOk result (λ kept. OnFile old name (λ file. (kept.quality ≡ (head_info file s.head).quality) × (kept.extension ≡ (head_info file s.head).extension)))
+  -- whether the files are told or not
+  pub none : s.head ≡ None → result ≡ Ok (record { quality = None; extension = replicate 36 0 })
+  pub done : OnOk result (new.counts ≡ old.counts)
+  pub cause : IfErr result (HasInputCause name s.length old.files old.counts new.counts)
+  pub reads : IsErrOf result Write → ⊥
+  pub files : new.files ≡ old.files
+  pub counts : OnlyReads old.counts new.counts

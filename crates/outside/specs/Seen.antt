@@ -1,0 +1,30 @@
+-- What can be seen of the outside at a moment.
+use Rattle.std.specs.Prelude.{◌≡◌, ℕ, List, Result, OnOk}
+use Rattle.outside.specs.Files.{Files, Sent, Holds}
+use Rattle.outside.specs.Counts.{Counts, OnlyReads}
+
+-- of a folder: the files, where they are told, and the counts
+pub record Seen : Type 0 where
+  pub files : Files
+  pub counts : Counts
+
+abbrev pub seen : Files → Counts → Seen
+seen files counts = record { files = files; counts = counts }
+
+-- of a sink: the bytes that it got, if they are told, and how often a write failed
+pub record Heard : Type 0 where
+  pub sent : Sent
+  pub faults : ℕ
+
+abbrev pub heard : Sent → ℕ → Heard
+heard sent faults = record { sent = sent; faults = faults }
+
+-- Files were only read: they stay, a call that succeeds leaves all counts, and only counts of reading move.
+pub record OnlyRead {T E : Type 0} (result : Result T E) (old new : Seen) : Type 0 where
+  pub files : new.files ≡ old.files
+  pub done : OnOk result (new.counts ≡ old.counts)
+  pub counts : OnlyReads old.counts new.counts
+
+-- this holds of the file's bytes, where they are known
+abbrev pub OnFile : Seen → List ℕ → (List ℕ → Type 0) → Type 0
+OnFile now name P = (bytes : List ℕ) → Holds now.files name bytes → P bytes

@@ -1,0 +1,44 @@
+-- What a survey of a file answers.
+use Rattle.std.specs.Prelude.{◌≡◌, ◌≤◌, ℕ, List, length, Result, IfOk, IfErr, OnOk}
+use Rattle.outside.specs.Files.{IsThere}
+use Rattle.outside.specs.Counts.{OnlyReads}
+use Rattle.outside.specs.Seen.{Seen}
+use Rattle.sync_survey.specs.declared.surveys.Survey.{Survey}
+use Rattle.sync_survey.specs.declared.survey_fault.SurveyFault.{SurveyFault}
+use Rattle.sync_survey.specs.Faults.{tells}
+use Rattle.sync_survey.specs.Kinds.{HasRightNumbers}
+use Rattle.sync_survey.specs.Survey.{HoldsOctets, IsSurveyOf, IsWholeSurvey, IsFirstFault, IsRefusal, IsSurveyFault, IsLaidOut}
+
+-- The frames of a file whose beginning is known were judged: the survey, or the first fault.
+pub record FramesAnswer (name : List ℕ) (allowed : ℕ) (old new : Seen) (result : Result Survey SurveyFault) : Type 0 where
+  pub surveyed : IfOk result (λ s. IsWholeSurvey name old.files allowed (tells s))
+  pub done : OnOk result (new.counts ≡ old.counts)
+  pub refused : IfErr result (IsRefusal name old.files allowed old.counts new.counts)
+  pub files : new.files ≡ old.files
+  pub counts : OnlyReads old.counts new.counts
+
+-- A file was surveyed: the survey, or why there is none.
+pub record FileAnswer (name : List ℕ) (allowed : ℕ) (old new : Seen) (result : Result Survey SurveyFault) : Type 0 where
+  pub surveyed : IfOk result (λ s. IsWholeSurvey name old.files allowed (tells s))
+  pub there : OnOk result (IsThere old.files name)
+  pub octets : OnOk result (HoldsOctets name old.files)
+  pub done : OnOk result (new.counts ≡ old.counts)
+  pub refused : IfErr result (IsRefusal name old.files allowed old.counts new.counts)
+  pub files : new.files ≡ old.files
+  pub counts : OnlyReads old.counts new.counts
+
+-- A file was surveyed: the survey, or the first fault.
+pub record SurveyAnswer (name : List ℕ) (allowed : ℕ) (old new : Seen) (result : Result Survey SurveyFault) : Type 0 where
+  pub exact : IfOk result (λ s. IsSurveyOf name old.files allowed (tells s))
+  -- whether the files are told or not: where head, frames and blocks are, that there is a frame, and that the main data of the frames are where they may be
+  pub laid : IfOk result (λ s. IsLaidOut (tells s))
+  pub few : IfOk result (λ s. length (tells s).frames ≤ allowed)
+  pub there : OnOk result (IsThere old.files name)
+  pub octets : OnOk result (HoldsOctets name old.files)
+  pub done : OnOk result (new.counts ≡ old.counts)
+  pub refused : IfErr result (IsSurveyFault name old.files allowed old.counts new.counts)
+  pub numbers : IfErr result HasRightNumbers
+  -- no fault of the bytes is before the one that is told
+  pub first : IfErr result (IsFirstFault name old.files allowed)
+  pub files : new.files ≡ old.files
+  pub counts : OnlyReads old.counts new.counts
