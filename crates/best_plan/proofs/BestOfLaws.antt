@@ -151,14 +151,6 @@ later n m rest less = search rules
 same : (n m : ℕ) (rest : Bool) → m ≡ n → rest ≡ false → (ltb n m || ((n == m) && rest)) ≡ false
 same n m rest is e = search rules
 
-not_behind-before : (ms ns : List ℕ) → IsNotBehind ms ns → comes_before ns ms ≡ false
-unfolding comes_before IsNotBehind
-not_behind-before [] [] is = refl
-not_behind-before [] (n ∷ ns) is = refl
-not_behind-before (m ∷ ms) [] is = absurd is
-not_behind-before (m ∷ ms) (n ∷ ns) (inl less) = later n m (comes_before ns ms) less
-not_behind-before (m ∷ ms) (n ∷ ns) (inr at) = same n m (comes_before ns ms) at.0 (not_behind-before ms ns at.1)
-
 -- no list is after itself, and what is not after a second list is not after a third that the second is not after
 not_behind-self : (ns : List ℕ) → IsNotBehind ns ns
 unfolding IsNotBehind

@@ -1,11 +1,9 @@
 -- Before a row in which each free byte spares one, the first area with which the main data fit is the best.
-use Rattle.std.proofs.Common.{◌≡◌, ℕ, ◌+◌, ◌-◌, ◌<◌, ◌≤◌, inl, inr, List, [], ◌∷◌, ◌++◌, map, length, length-append, get_or, take, drop, replicate, set, All, sym, ap, ap₂, ◌∙◌, subst, append_assoc, arith}
-use Rattle.std.proofs.lemmas.List.{take_all, drop_more, take_more, set_at, length-take-le, map-append, get_or-append_right, get_or-drop, append-nil, get_or_append_left, get_or-append-add, get_or_default, get_or-map, length-map, length-replicate, get_or-replicate}
+use Rattle.std.proofs.Common.{◌≡◌, ℕ, ◌+◌, ◌-◌, ◌<◌, ◌≤◌, inl, inr, List, [], ◌∷◌, ◌++◌, map, length, length-append, get_or, take, drop, replicate, set, sym, ap, ap₂, ◌∙◌, subst, append_assoc, arith}
+use Rattle.std.proofs.lemmas.List.{take_all, drop_more, take_more, set_at, length-take-le, map-append, get_or-append_right, get_or-drop, get_or_append_left, get_or-append-add, get_or-map, length-map, length-replicate, get_or-replicate}
 use Rattle.std.proofs.lemmas.Bool.{cases_lt}
 use Rattle.slot_plan.specs.Reserve.{free_behind}
-use Rattle.slot_plan.proofs.AreaLaws.{Ascend}
-use Rattle.best_plan.proofs.RowLaws.{not-greater}
-use Rattle.best_plan.specs.Rows.{nothing, IsChoice, AppendsRow, IsEven, HasRoom, IsFirst, IsEndAt, AppendsFirst}
+use Rattle.best_plan.specs.Rows.{IsChoice, AppendsRow, IsEven, HasRoom, IsFirst, IsEndAt, AppendsFirst}
 
 -- ---- the places, from the last area to the first
 pub record IsFirstTo (window bytes : ℕ) (areas : List ℕ) (to : ℕ) (old new : List ℕ) : Type 0 where
@@ -13,19 +11,6 @@ pub record IsFirstTo (window bytes : ℕ) (areas : List ℕ) (to : ℕ) (old new
   pub appended : new ≡ old ++ cells
   pub ends : IsEndAt window bytes areas to (length cells)
   pub each : (free : ℕ) → free < length cells → IsFirst bytes areas free (get_or cells free 0)
-
-pub first-none : (window bytes : ℕ) (areas old : List ℕ) → HasRoom window bytes areas → IsFirstTo window bytes areas (length areas) old old
-first-none window bytes areas old room = record {
-  cells = [];
-  appended = sym (append-nil old);
-  ends = record {
-    within = omega arith;
-    small = λ free k less _. absurd (omega (arith, less));
-    some = λ free _ _. room.some;
-    large = λ free _ _. omega (arith, room.most);
-  };
-  each = λ free less. absurd (omega (arith, less));
-}
 
 -- the ends rise
 pub end-rises : (window bytes : ℕ) (areas : List ℕ) (to now next : ℕ) → 0 < to → IsEndAt window bytes areas to now → IsEndAt window bytes areas (to - 1) next → now ≤ next
@@ -82,24 +67,6 @@ first-all window bytes areas to old new all so_far =
       each = λ free within. so_far.each free (omega (arith, many, within));
     }
 
--- where the areas before a place are too small
-pub end-first : (window bytes : ℕ) (areas : List ℕ) → IsEndAt window bytes areas 0 (window + 1)
-end-first window bytes areas = record {
-  within = omega arith;
-  small = λ free k _ before. absurd (omega (arith, before));
-  some = λ free from till. absurd (omega (arith, from, till));
-  large = λ free from till. absurd (omega (arith, from, till));
-}
-
-pub end-later : (window bytes : ℕ) (areas : List ℕ) (place end : ℕ) → 0 < place → place ≤ length areas → Ascend areas → end ≤ window + 1 → end ≤ bytes - get_or areas (place - 1) 0
-    → ((free : ℕ) → end ≤ free → free ≤ window → bytes - get_or areas (place - 1) 0 ≤ free) → IsEndAt window bytes areas place end
-end-later window bytes areas place end some within ascend most low reach = record {
-  within = most;
-  small = λ free k less before. omega (arith, less, low, not-greater areas k (place - 1) ascend (omega (arith, before)) (omega (arith, some, within)));
-  some = λ free _ _. some;
-  large = λ free from till. omega (arith, reach free from till);
-}
-
 -- ---- the row of the first areas
 
 -- the first area leaves no more than the window
@@ -147,9 +114,6 @@ even-again later sums bytes even is free less =
     let many : length sums ≡ length later = ap length is ∙ length-map later (λ n. n + bytes) in
     let sum : (k : ℕ) → k < length sums → get_or sums k 0 ≡ get_or later k 0 + bytes = λ k within. ap (λ l. get_or l k 0) is ∙ get_or-map (λ n. n + bytes) later k 0 0 (omega (arith, many, within)) in
     omega (arith, sum free less, sum 0 (omega (arith, less)), even free (omega (arith, many, less)))
-
-pub even-small : (sums : List ℕ) (bytes : ℕ) → IsEven sums → get_or sums 0 0 + bytes < nothing → All (λ n. n + bytes < nothing) sums
-even-small sums bytes even small k d less = omega (arith, even k less, small, get_or_default sums k d 0 less)
 
 -- ---- as many bytes added to each sum
 

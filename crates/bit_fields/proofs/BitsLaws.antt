@@ -94,11 +94,6 @@ bits_of-number (b ∷ bs) h =
     (ap (λ n. n % 2) (shr_high b (length bs) (number bs) below) ∙ mod-eq_of_lt h.0)
     (bits_of-cat_low (length bs) (length bs) b (number bs) (omega arith) ∙ bits_of-number bs h.1)
 
--- two lists of bits of the same length that spell the same number are equal
-pub number-injective : (cs bs : List ℕ) → AreBits cs → AreBits bs → length cs ≡ length bs → number cs ≡ number bs → cs ≡ bs
-number-injective cs bs ha hb l e =
-    sym (bits_of-number cs ha) ∙ ap₂ bits_of l e ∙ bits_of-number bs hb
-
 -- ---- bits of a sum of widths
 pub bits_of-add : (high low n : ℕ) → bits_of (high + low) n ≡ bits_of high (n / 2 ^ low) ++ bits_of low n
 unfolding bits_of
@@ -235,12 +230,6 @@ bytes-append (suc k) cs bs h =
     ∙ bytes-eight (take 8 cs) (drop 8 cs ++ bs) (length-take-le 8 cs m)
     ∙ ap (λ ys. number (take 8 cs) ∷ ys) (bytes-append k (drop 8 cs) bs l)
     ∙ ap (λ ys. ys ++ bytes bs) (sym (bytes-front cs m))
-
-pub take-bytes : (k : ℕ) (bs : List ℕ) → 8 * k ≤ length bs → take k (bytes bs) ≡ bytes (take (8 * k) bs)
-take-bytes k bs h =
-    let l : length (take (8 * k) bs) ≡ 8 * k = length-take-le (8 * k) bs h in
-    ap (take k) (ap bytes (sym (take-append-drop (8 * k) bs)) ∙ bytes-append k (take (8 * k) bs) (drop (8 * k) bs) l)
-    ∙ take_at (bytes (take (8 * k) bs)) (bytes (drop (8 * k) bs)) k (length-bytes k (take (8 * k) bs) l)
 
 pub drop-bytes : (k : ℕ) (bs : List ℕ) → 8 * k ≤ length bs → drop k (bytes bs) ≡ bytes (drop (8 * k) bs)
 drop-bytes k bs h =

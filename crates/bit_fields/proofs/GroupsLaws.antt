@@ -1,10 +1,10 @@
 -- The laws of successive groups of bits: numbers and bits give each other back.
 use Rattle.std.proofs.Common.{◌≡◌, ℕ, suc, ◌+◌, ◌-◌, ◌*◌, ◌/◌, ◌%◌, ◌^◌, ◌<◌, ◌≤◌, List, [], ◌∷◌, ◌++◌, length, take, drop, refl, sym, ap, subst, mod-eq_of_lt, ap₂, ◌∙◌, append_assoc, append-nil, arith, sum, pow_mono, lt_of_lt_of_le, length-append, length-take, length-drop, take-append-drop}
-use Rattle.std.proofs.Math.Seq.{take-add, drop-append-add}
+use Rattle.std.proofs.Math.Seq.{take-add}
 use Rattle.std.proofs.lemmas.List.{take_at, drop_at, drop-drop, take-append-le, drop-append-le, length-take-le, take_all, take-take, drop-take}
 use Rattle.std.proofs.Math.Nat.{add_comm}
 use Rattle.std.proofs.lemmas.Nat.{shr_high, pow-add, mul-add-lt}
-use Rattle.std.proofs.lemmas.List.Sums.{sum_by-cons, sum_by-append}
+use Rattle.std.proofs.lemmas.List.Sums.{sum_by-cons}
 use Rattle.bit_fields.specs.Bits.{bits_of, number, bits, AreBits}
 use Rattle.bit_fields.specs.Groups.{group, numbers_at, spelled, Fits}
 use Rattle.bit_fields.proofs.BitsLaws.{length-bits_of, number-below, number-bits_of, number-bits_of-below, number-append, bits_of-cat, bits_of-cat_low, take-bits_of, bits_of-number, AreBelow-append, AreBelow-take, AreBelow-drop, AreBits-bits_of, take-bits, drop-bits, number-within}
@@ -13,36 +13,9 @@ use Rattle.bit_fields.proofs.BitsLaws.{length-bits_of, number-below, number-bits
 pub sum-cons : (width : ℕ) (widths : List ℕ) → sum (width ∷ widths) ≡ width + sum widths
 sum-cons width widths = sum_by-cons (λ n. n) width widths
 
-pub sum-append : (widths more : List ℕ) → sum (widths ++ more) ≡ sum widths + sum more
-sum-append widths more = sum_by-append (λ n. n) widths more
-
--- ---- one step
-pub numbers_at-nil : (bs : List ℕ) → numbers_at [] bs ≡ []
-unfolding numbers_at
-numbers_at-nil bs = refl
-
-pub numbers_at-cons : (width : ℕ) (widths bs : List ℕ) → numbers_at (width ∷ widths) bs ≡ number (take width bs) ∷ numbers_at widths (drop width bs)
-unfolding numbers_at
-numbers_at-cons width widths bs = refl
-
-pub spelled-nil : (ns : List ℕ) → spelled [] ns ≡ []
-unfolding spelled
-spelled-nil ns = refl
-
 pub spelled-cons : (width n : ℕ) (widths ns : List ℕ) → spelled (width ∷ widths) (n ∷ ns) ≡ bits_of width n ++ spelled widths ns
 unfolding spelled
 spelled-cons width n widths ns = refl
-
--- a group is the first number after what is before it
-pub group-numbers_at : (from width : ℕ) (bs : List ℕ) → numbers_at (width ∷ []) (drop from bs) ≡ group from width bs ∷ []
-unfolding group numbers_at
-group-numbers_at from width bs = refl
-
--- ---- lengths
-pub length-numbers_at : (widths bs : List ℕ) → length (numbers_at widths bs) ≡ length widths
-unfolding numbers_at
-length-numbers_at [] bs = refl
-length-numbers_at (width ∷ widths) bs = ap suc (length-numbers_at widths (drop width bs))
 
 pub length-Fits : (widths ns : List ℕ) → Fits widths ns → length ns ≡ length widths
 length-Fits [] [] h = refl
@@ -113,11 +86,6 @@ pub spelled-numbers_at : (widths bs : List ℕ) → AreBits bs → length bs ≡
 spelled-numbers_at widths bs all h =
     spelled-numbers_at_front widths bs all (omega arith) ∙ take_all (sum widths) bs (omega arith)
 
--- bits are equal if their numbers in groups that cover them are
-pub numbers_at-injective : (widths cs bs : List ℕ) → AreBits cs → AreBits bs → length cs ≡ sum widths → length bs ≡ sum widths → numbers_at widths cs ≡ numbers_at widths bs → cs ≡ bs
-numbers_at-injective widths cs bs hc hb lc lb e =
-    sym (spelled-numbers_at widths cs hc lc) ∙ ap (spelled widths) e ∙ spelled-numbers_at widths bs hb lb
-
 -- ---- groups one after another
 pub numbers_at-append : (widths more bs : List ℕ) → numbers_at (widths ++ more) bs ≡ numbers_at widths bs ++ numbers_at more (drop (sum widths) bs)
 unfolding numbers_at
@@ -136,12 +104,6 @@ spelled-append (width ∷ widths) more (n ∷ ns) ms h =
     ap (λ bs. bits_of width n ++ bs) (spelled-append widths more ns ms (omega arith))
     ∙ sym (append_assoc (bits_of width n) (spelled widths ns) (spelled more ms))
 
-pub Fits-append : (widths more ns ms : List ℕ) → Fits widths ns → Fits more ms → Fits (widths ++ more) (ns ++ ms)
-Fits-append [] more [] ms h g = g
-Fits-append [] more (n ∷ ns) ms h g = absurd h
-Fits-append (width ∷ widths) more [] ms h g = absurd h
-Fits-append (width ∷ widths) more (n ∷ ns) ms h g = (h.0, Fits-append widths more ns ms h.1 g)
-
 -- ---- only the bits of the groups count
 pub numbers_at-front : (widths bs more : List ℕ) → sum widths ≤ length bs → numbers_at widths (bs ++ more) ≡ numbers_at widths bs
 unfolding numbers_at
@@ -158,14 +120,6 @@ numbers_at-take widths bs n h l =
     let m : sum widths ≤ length (take n bs) = simp length-take (omega arith) in
     sym (numbers_at-front widths (take n bs) (drop n bs) m) ∙ ap (numbers_at widths) (take-append-drop n bs)
 
--- a group within a prefix
-pub group-front : (from width : ℕ) (bs more : List ℕ) → from + width ≤ length bs → group from width (bs ++ more) ≡ group from width bs
-unfolding group
-group-front from width bs more h =
-    let m : width ≤ length (drop from bs) = simp length-drop (omega arith) in
-    ap (λ cs. number (take width cs)) (drop-append-le from bs more (omega arith))
-    ∙ ap number (take-append-le width (drop from bs) more m)
-
 pub group-take : (from width n : ℕ) (bs : List ℕ) → from + width ≤ n → group from width (take n bs) ≡ group from width bs
 unfolding group
 group-take from width n bs h =
@@ -173,11 +127,6 @@ group-take from width n bs h =
     ap (λ k. number (take width (drop from (take k bs)))) (sym e)
     ∙ ap (λ ds. number (take width ds)) (drop-take from (n - from) bs)
     ∙ ap number (take-take width (n - from) (drop from bs) (omega arith))
-
--- a group after a prefix
-pub group-behind : (from width : ℕ) (cs bs : List ℕ) → group (length cs + from) width (cs ++ bs) ≡ group from width bs
-unfolding group
-group-behind from width cs bs = ap (λ ds. number (take width ds)) (drop-append-add cs bs from)
 
 pub group-drop : (more from width : ℕ) (bs : List ℕ) → group from width (drop more bs) ≡ group (more + from) width bs
 unfolding group
@@ -205,44 +154,11 @@ module _ (bs : List ℕ) (at width value : ℕ) (room : at + width ≤ length bs
       let front : length (take at bs) ≡ at = length-take-le at bs (omega arith) in
       omega (arith, length-append (take at bs ++ bits_of width value) (drop (at + width) bs), length-append (take at bs) (bits_of width value), length-bits_of width value, length-drop (at + width) bs)
 
-  pub AreBits-put : AreBits bs → AreBits (take at bs ++ bits_of width value ++ drop (at + width) bs)
-  AreBits-put h =
-      AreBelow-append 2 (take at bs ++ bits_of width value) (drop (at + width) bs)
-      (AreBelow-append 2 (take at bs) (bits_of width value) (AreBelow-take 2 at bs h) (AreBits-bits_of width value))
-      (AreBelow-drop 2 (at + width) bs h)
-
   -- what is before it stays, and the value follows
   pub take-put : take (at + width) (take at bs ++ bits_of width value ++ drop (at + width) bs) ≡ take at bs ++ bits_of width value
   take-put =
       take_at (take at bs ++ bits_of width value) (drop (at + width) bs) (at + width)
       (length-append (take at bs) (bits_of width value) ∙ ap₂ (λ m n. m + n) (length-take-le at bs (omega arith)) (length-bits_of width value))
-
-  -- it holds the value
-  pub group-put_same : value < 2 ^ width → group at width (take at bs ++ bits_of width value ++ drop (at + width) bs) ≡ value
-  unfolding group
-  group-put_same fits =
-      ap (λ cs. number (take width (drop at cs))) (append_assoc (take at bs) (bits_of width value) (drop (at + width) bs))
-      ∙ ap (λ cs. number (take width cs)) (drop_at (take at bs) (bits_of width value ++ drop (at + width) bs) at (length-take-le at bs (omega arith)))
-      ∙ ap number (take_at (bits_of width value) (drop (at + width) bs) width (length-bits_of width value))
-      ∙ number-bits_of-below width value fits
-
-  -- groups before it stay
-  pub group-put_before : (from size : ℕ) → from + size ≤ at → group from size (take at bs ++ bits_of width value ++ drop (at + width) bs) ≡ group from size bs
-  group-put_before from size h =
-      ap (group from size) (append_assoc (take at bs) (bits_of width value) (drop (at + width) bs))
-      ∙ group-front from size (take at bs) (bits_of width value ++ drop (at + width) bs) (simp length-take (omega arith))
-      ∙ group-take from size at bs h
-
-  -- groups after it stay
-  pub group-put_behind : (from size : ℕ) → at + width ≤ from → group from size (take at bs ++ bits_of width value ++ drop (at + width) bs) ≡ group from size bs
-  group-put_behind from size h =
-      let l : length (take at bs ++ bits_of width value) ≡ at + width = length-append (take at bs) (bits_of width value) ∙ ap₂ (λ m n. m + n) (length-take-le at bs (omega arith)) (length-bits_of width value) in
-      let e : length (take at bs ++ bits_of width value) + (from - (at + width)) ≡ from = omega arith in
-      let f : at + width + (from - (at + width)) ≡ from = omega arith in
-      ap (λ k. group k size (take at bs ++ bits_of width value ++ drop (at + width) bs)) (sym e)
-      ∙ group-behind (from - (at + width)) size (take at bs ++ bits_of width value) (drop (at + width) bs)
-      ∙ group-drop (at + width) (from - (at + width)) size bs
-      ∙ ap (λ k. group k size bs) f
 
 -- ---- groups as parts of one number
 -- the numbers of successive groups of a number of so many bits

@@ -4,9 +4,8 @@ use Rattle.std.specs.Prelude.{◌⊎◌, IfErr}
 use Rattle.outside.specs.Files.{Contents, Files, Told, Untold, IfTold}
 use Rattle.outside.specs.Seen.{Seen}
 use Rattle.commands.specs.declared.fault.EditFault.{EditFault}
-use Rattle.commands.specs.declared.fault.EditFault.TheVariants.{EqualNames, Input, Refused, Write, Sent as NotSent, Memory}
 use Rattle.commands.specs.Command.{Made, Command, Gives, written, MakesStreams, HoldsStreams}
-use Rattle.commands.specs.Left.{why_of, IsDone, IsWrittenTo, IsUnfinished, IsNotBefore, TakesMemory, Leaves, HasNumbers}
+use Rattle.commands.specs.Left.{why_of, IsDone, IsWrittenTo, IsUnfinished, IsNotBefore, TakesMemory, Leaves}
 use Rattle.commands.proofs.WhyLaws.{each_why}
 use Rattle.commands.specs.Said.{IsText}
 use Rattle.commands.specs.Telling.{with_text, telling}
@@ -70,14 +69,6 @@ module _ (text : Contents → List ℕ) (command : Command) where
       unsent = λ d. telling-done old new d;
       no_memory = λ n. record { names = n.names; takes = takes_memory old.files n.takes; stays = n.stays };
     })
-
-  pub telling-numbers : (fault : EditFault) → HasNumbers command fault → HasNumbers told fault
-  telling-numbers (EqualNames place) h = h
-  telling-numbers (Input place fault) h = h
-  telling-numbers (Refused refusal) h = h
-  telling-numbers (Write place) h = h
-  telling-numbers NotSent h = λ e. absurd cc
-  telling-numbers Memory h = tt
 
   pub telling-streams : (files : Files) → HoldsStreams command files → HoldsStreams told files
   telling-streams (Untold touched) holds = tt

@@ -67,9 +67,6 @@ pub record HaveRead (text : List ℕ) (at : ℕ) (now : Seen) (places : List Pla
   pub starts : places ≡ places_of before
   pub rising : IsRising (times_of before)
 
-pub at_front : (text : List ℕ) (now : Seen) → IsSeen [] now → HaveRead text 0 now []
-at_front text now seen = record { before = []; lines = refl; first = refl; seen = seen; starts = refl; rising = λ i j d less within. absurd (omega (arith, within)) }
-
 pub first_of : (before more : List Entry) (e : Entry) → first_fault before (e ∷ more) ≡ option_or (fault_of before e) (first_fault (before ++ (e ∷ [])) more)
 unfolding first_fault
 first_of before more e = refl

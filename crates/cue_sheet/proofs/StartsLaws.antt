@@ -47,9 +47,6 @@ or_parts : (a b : Bool) → (a || b) ≡ false → (a ≡ false) × (b ≡ false
 or_parts true b e = absurd cc
 or_parts false b e = (refl, e)
 
-some_fault : CueFault → Option CueFault
-some_fault fault = Some fault
-
 if_fault : (b : Bool) (line : ℕ) → line_fault b line ≡ None → b ≡ false
 if_fault true line e = absurd cc
 if_fault false line e = refl

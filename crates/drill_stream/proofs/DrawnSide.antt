@@ -8,14 +8,8 @@ use Rattle.side_info.specs.Granule.{GranuleFits}
 use Rattle.side_info.specs.Side.{SideFits, payload_bits}
 use Rattle.side_info.proofs.SideLaws.{SideFits-from_parts}
 use Rattle.laid_files.specs.LaidFiles.{HasPairs}
-use Rattle.drill_stream.specs.Draws.{drawn, next_state, state_behind, draws}
+use Rattle.drill_stream.specs.Draws.{drawn, state_behind, draws}
 use Rattle.drill_stream.specs.Drill.{drill_header, room_of, granule_with, side_with, drawn_side}
-
--- four draws
-pub four-draws : (state : ℕ)
-    → draws 4 state ≡ drawn (next_state state) ∷ drawn (next_state (next_state state)) ∷ drawn (next_state (next_state (next_state state))) ∷ drawn (next_state (next_state (next_state (next_state state)))) ∷ []
-unfolding draws
-four-draws state = refl
 
 pub behind-twice : (state : ℕ) → state_behind 4 (state_behind 4 state) ≡ state_behind 8 state
 unfolding state_behind

@@ -28,10 +28,6 @@ pub area-is : area_of (class_of drill_header) drill_header.slot false ≡ 381
 unfolding area_of length_of rate_of frequency_of overhead_of side_size_of
 area-is = refl
 
-pub length-is : length_of (class_of drill_header) drill_header.slot ≡ 417
-unfolding length_of rate_of frequency_of
-length-is = refl
-
 -- the bits that are kept and those that are 0 are as many as the bytes have
 pub length-spelled : (count : ℕ) (octets : List ℕ) → count ≤ 8 * length octets → length (take count (bits octets) ++ zeros (8 * length octets - count)) ≡ 8 * length octets
 length-spelled count octets few =

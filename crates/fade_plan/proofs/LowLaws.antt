@@ -34,9 +34,6 @@ short_low [] short = refl
 short_low (p ∷ []) short = refl
 short_low (p ∷ q ∷ more) short = absurd (omega (arith, short))
 
-pub low_none : (xs : List Point) (n : ℕ) → length (drop n xs) ≤ 1 → first_low (drop n xs) ≡ None
-low_none xs n end = short_low (drop n xs) end
-
 -- ---- placed points
 
 -- one point more has its frame

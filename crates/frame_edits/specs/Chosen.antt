@@ -18,7 +18,7 @@ use Rattle.sync_survey.specs.declared.survey_fault.SurveyFault.{SurveyFault}
 use Rattle.sync_survey.specs.MainData.{StreamFrame}
 use Rattle.sync_survey.specs.Faults.{SurveyFields}
 use Rattle.sync_survey.specs.Survey.{survey_of, IsLaidOut}
-use Rattle.frame_edits.specs.Laid.{Laid, part_laid, frames_laid, info_laid, file_from, file_laid, stream_laid, IsLaidInfo}
+use Rattle.frame_edits.specs.Laid.{Laid, part_laid, frames_laid, file_laid, stream_laid, IsLaidInfo}
 use Rattle.frame_edits.specs.declared.chosen.Chosen.{Chosen as CodeChosen}
 use Rattle.frame_edits.specs.declared.chosen.Slots.{Slots}
 use Rattle.frame_edits.specs.declared.chosen.Slots.TheVariants.{Own, Least}
@@ -87,12 +87,6 @@ part_of chosen file s = part_laid (laid_of chosen s) file s
 
 abbrev pub laid_frames : Chosen → List ℕ → SurveyFields → List Frame
 laid_frames chosen file s = frames_laid (laid_of chosen s) file s
-
-abbrev pub chosen_info : Chosen → List ℕ → SurveyFields → Info
-chosen_info chosen file s = info_laid (laid_of chosen s) file s
-
-abbrev pub laid_from : Option Row → Chosen → List ℕ → SurveyFields → List ℕ
-laid_from first chosen file s = file_from first (laid_of chosen s) file s
 
 unfoldable pub chosen_file : Chosen → List ℕ → SurveyFields → List ℕ
 chosen_file chosen file s = file_laid (laid_of chosen s) file s

@@ -30,10 +30,6 @@ pub header_in-good : (h : List ℕ) → is_readable h ≡ true → rate_bits h �
 unfolding header_in
 header_in-good h readable some = let rate : eqb (rate_bits h) 0 ≡ false = ne_eqb (rate_bits h) 0 some in rw (readable, rate) refl
 
-pub header_in-free : (h : List ℕ) → is_readable h ≡ true → rate_bits h ≡ 0 → header_in h ≡ Err Free
-unfolding header_in
-header_in-free h readable none = rw (readable, none) refl
-
 pub header_in-no : (h : List ℕ) → is_readable h ≡ false → header_in h ≡ Err No
 unfolding header_in
 header_in-no h fails = rw fails refl

@@ -56,10 +56,6 @@ highest One i lt = (leb-true _ _ (all_pass (λ f. leb f 48000) (frequencies One)
 highest Two i lt = (leb-true _ _ (all_pass (λ f. leb f 24000) (frequencies Two) i refl lt), leb-true 8000 _ (all_pass (λ f. leb 8000 f) (frequencies Two) i refl lt))
 highest TwoFive i lt = (leb-true _ _ (all_pass (λ f. leb f 12000) (frequencies TwoFive) i refl lt), leb-true 8000 _ (all_pass (λ f. leb 8000 f) (frequencies TwoFive) i refl lt))
 
-pub frequency-positive : (c : ClassFields) → IsClass c → 8000 ≤ frequency_of c
-unfolding frequency_of
-frequency-positive c class = (highest c.version c.frequency_index (omega (arith, class.0))).1
-
 -- the shortest frame of a version
 abbrev pub least_length : Version → ℕ
 least_length One = 96

@@ -150,29 +150,6 @@ area-before c s t protected class is it before =
 place-same : (s t : SlotFields) → IsSlot s → IsSlot t → place_of s ≡ place_of t → s ≡ t
 place-same s t is it same = sym (get_or-place_of s s is) ∙ ap (λ k. get_or all_slots k s) same ∙ get_or-place_of t s it
 
--- no two slots of a class have one area
-pub areas_differ : (c : ClassFields) (s t : SlotFields) (protected : Bool) → IsClass c → IsSlot s → IsSlot t → area_of c s protected ≡ area_of c t protected → s ≡ t
-areas_differ c s t protected class is it same =
-    elim (cases_lt (place_of s) (place_of t)) as (λ _. s ≡ t) [
-      | inl before ↦ absurd (omega (arith, area-before c s t protected class is it before))
-      | inr behind ↦
-          elim (cases_lt (place_of t) (place_of s)) as (λ _. s ≡ t) [
-            | inl before ↦ absurd (omega (arith, area-before c t s protected class it is before))
-            | inr there ↦ place-same s t is it (omega arith)
-          ]
-    ]
-
--- ---- the least and the largest
-least-before : (c : ClassFields) (s : SlotFields) (k : ℕ) → IsClass c → IsSlot s → place_of s ≡ k → length_of c (slot_of 1 false) ≤ length_of c s
-least-before c s zero class is at =
-    let same : slot_of 1 false ≡ s = place-same (slot_of 1 false) s (lit≤ tt, lit≤ tt) is (omega arith) in
-    omega (arith, ap (length_of c) same)
-least-before c s (suc k) class is at = omega (arith, length-before c (slot_of 1 false) s class (lit≤ tt, lit≤ tt) is (omega arith))
-
--- the first slot has the least length of a class
-pub length-first : (c : ClassFields) (s : SlotFields) → IsClass c → IsSlot s → length_of c (slot_of 1 false) ≤ length_of c s
-length-first c s class is = least-before c s (place_of s) class is refl
-
 largest : (c : ClassFields) (s : SlotFields) → IsClass c → IsSlot s → length_of c s ≤ length_of c largest_slot
 largest c s class is =
     elim (cases_lt (place_of s) 27) as (λ _. length_of c s ≤ length_of c largest_slot) [

@@ -133,15 +133,6 @@ area-range k is =
 pub first-framed : (k : FrameFields) (ks : List FrameFields) (bytes : List ℕ) → first_bytes k bytes ++ framed ks (drop (area_in k) bytes) ≡ framed (k ∷ ks) bytes
 first-framed k ks bytes = append_assoc (front_of k.header k.side) (take (area_in k) bytes) (framed ks (drop (area_in k) bytes))
 
-pub length-front : (n : ℕ) (frame front into : List ℕ) → frame ≡ front ++ drop n into → length frame ≡ length into → n ≤ length into → length front ≡ n
-length-front n frame front into is same within = omega (arith, ap length is, length-append front (drop n into), length-drop n into, same, within)
-
--- the front of a frame alone
-pub front-alone : (n : ℕ) (frame front into : List ℕ) → frame ≡ front ++ drop n into → length frame ≡ length into → n ≤ length into → take n frame ≡ front
-front-alone n frame front into is same within =
-    let long : length front ≡ n = length-front n frame front into is same within in
-    ap (take n) is ∙ take-append-le n front (drop n into) (omega (arith, long)) ∙ ap (λ k. take k front) (sym long) ∙ take-length front
-
 -- ---- how many can wait
 
 -- a bound below the areas of all frames of a version, in bytes
@@ -204,23 +195,3 @@ have_room c (k ∷ ks) waiting are same unsettled =
 
 pub few-wait : FewWait
 few-wait held are same unsettled = have_room held.class held.kept held.waiting are same unsettled
-
--- how many bytes later main data may reach back doesn't change, if enough is left
-pub reach-kept : (w f n : ℕ) → min w f ≤ n → min w (min f n) ≡ min w f
-reach-kept w f n enough = reach_cases w f n enough (cases_lt n f)
-  where
-    reach_cases : (w f n : ℕ) → min w f ≤ n → (n < f) ⊎ (f ≤ n) → min w (min f n) ≡ min w f
-    reach_cases w f n enough (inr all) = ap (min w) (min-eq_left all)
-    reach_cases w f n enough (inl less) =
-        elim (cases_lt n w) as (λ _. min w (min f n) ≡ min w f) [
-          | inl below ↦ absurd (elim (cases_lt w f) as (λ _. ⊥) [
-            | inl wide ↦ (let le : w ≤ f = omega (arith, wide) in let is : min w f ≡ w = min-eq_left le in omega (arith, is, enough, below))
-            | inr far ↦ (let is : min w f ≡ f = min-eq_right far in omega (arith, is, enough, less))
-          ])
-          | inr there ↦
-              (let le : n ≤ f = omega (arith, less) in let is : min f n ≡ n = min-eq_right le in
-              let wide : w ≤ f = omega (arith, there, less) in
-              let left : min w n ≡ w = min-eq_left there in
-              let right : min w f ≡ w = min-eq_left wide in
-              ap (min w) is ∙ left ∙ sym right)
-        ]

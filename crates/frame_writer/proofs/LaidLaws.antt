@@ -4,7 +4,6 @@ use Rattle.std.proofs.lemmas.List.{length-replicate, take-append-le, drop-append
 use Rattle.std.proofs.Math.Seq.{drop-append-add, take-append-add, drop-length, take-length}
 use Rattle.std.proofs.Math.Nat.{min-eq_left, min-eq_right}
 use Rattle.std.proofs.lemmas.Bool.{cases_lt}
-use Rattle.circular_buffer.specs.Buffer.{keep_last}
 use Rattle.reservoir.proofs.WindowLaws.{take_two}
 use Rattle.frame_writer.specs.Laid.{Piece, zeros, start_of, end_of, areas_end, data_end, CanBeLaidFrom, laid_from, laid, Waiting, put_at, AreLaid, BeginsWithin}
 
@@ -217,10 +216,6 @@ laid-later given waiting ps qs are within =
     (found.0, laid_from-append 0 0 ps qs ∙ ap (λ (xs : List ℕ). up_to 0 0 ps ++ xs) first.3 ∙ found.1)
 
 -- ---- the queue
-
--- nothing is dropped if all fits
-pub kept : (n : ℕ) (xs : List ℕ) → length xs ≤ n → keep_last n xs ≡ xs
-kept n xs fits = let none : length xs - n ≡ 0 = omega (arith, fits) in ap (λ k. drop k xs) none
 
 -- ---- the first bytes of what waits
 

@@ -17,10 +17,6 @@ use Rattle.frame_writer.specs.Writing.{Writing, writing, waiting_bytes, HandedOn
 
 -- ---- facts of an answer
 
-pub ok-all : {T E P : Type 0} (r : Result T E) → P → OnOk r P
-ok-all (Ok x) p = p
-ok-all (Err e) p = tt
-
 pub ok-map : {T E P Q : Type 0} (r : Result T E) → (P → Q) → OnOk r P → OnOk r Q
 ok-map (Ok x) f p = f p
 ok-map (Err e) f p = tt

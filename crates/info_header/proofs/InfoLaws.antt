@@ -1,5 +1,5 @@
 -- Laws of the fields of a head: where they are, and what is after them.
-use Rattle.std.proofs.Common.{◌≡◌, ◌⊎◌, ℕ, suc, min, ◌+◌, ◌-◌, ◌≤◌, ◌<◌, true, false, cond, List, [], ◌++◌, length, take, drop, replicate, sym, ap, ◌∙◌, append_assoc, append-nil, arith, inl, inr}
+use Rattle.std.proofs.Common.{◌≡◌, ◌⊎◌, ℕ, suc, min, ◌+◌, ◌-◌, ◌≤◌, ◌<◌, true, cond, List, [], ◌++◌, length, take, drop, replicate, sym, ap, ◌∙◌, append_assoc, append-nil, arith, inl, inr}
 use Rattle.std.proofs.Math.Nat.{min-eq_left, min-eq_right}
 use Rattle.std.proofs.Math.Seq.{take-append-add, take-length}
 use Rattle.std.proofs.lemmas.Bool.{cases_lt}
@@ -16,11 +16,6 @@ field_next flags field next is = ap (field_place flags) is
 pub place-set : (flags field at : ℕ) → at ≡ field_place flags field → is_flagged flags field ≡ true → at + field_size field ≡ field_place flags (field + 1)
 place-set flags field at is set =
     ap (λ k. k + field_size field) is ∙ sym (field_next flags field (field + 1) (omega arith) ∙ ap (λ b. field_place flags field + cond b (field_size field) 0) set)
-
--- and after one that isn't
-pub place-unset : (flags field at : ℕ) → at ≡ field_place flags field → is_flagged flags field ≡ false → at ≡ field_place flags (field + 1)
-place-unset flags field at is unset =
-    is ∙ sym (field_next flags field (field + 1) (omega arith) ∙ ap (λ b. field_place flags field + cond b (field_size field) 0) unset ∙ omega arith)
 
 -- ---- the extension
 

@@ -81,9 +81,6 @@ module _ (ss : List SurveyFields) (can : CanBeJoined ss) where
   pub all-fit : AreFit can.class asked
   all-fit = parts-fit can.class (rows_of ss) some (alike-parts can.class ss can.alike)
 
-  window-is : window_in asked.needs ≡ window
-  window-is = all-fit.window ∙ ap window_for (sym can.first)
-
   one-plan : (placed : List Placed) → IsPlan window own_choice parts placed ↔ (placed ≡ least_plan window own_choice parts)
   one-plan placed = rw can.first (parts-plan can.class own_choice (rows_of ss) placed all-fit all-fit.kept)
 

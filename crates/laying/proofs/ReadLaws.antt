@@ -183,12 +183,6 @@ last-next before after area input files s first i r found over has more = record
       (own.0, own.1, main-next file s.head s.frames i r found ∙ ap₂ (λ (l m : List ℕ). l ++ m) own.2 (sym (has.is file holds)) ∙ append_assoc own.0 over.main area);
 }
 
--- the area of the head alone
-pub last-head : (window input : List ℕ) (files : Files) (s : SurveyFields) (first : ℕ) → first ≡ 0 → IsOver window input files s 0 → IsOverLast window input files s first first
-last-head window input files s first none over =
-    subst (λ n. IsOverLast window input files s n n) (sym none)
-    (record { main = over.main; held = over.held; long = omega (arith, over.long); is = λ file holds. ([], refl, sym (over.is file holds)) })
-
 -- nothing yet
 pub last-none : (window input : List ℕ) (files : Files) (s : SurveyFields) (first : ℕ) → (first ≡ 0 → ⊥) → IsWindowOver window [] → ((file : List ℕ) → Holds files input file → HasSurvey file s) → IsOverLast window input files s first first
 last-none window input files s first some held has =

@@ -127,10 +127,6 @@ unfolding last_reach
 fits-none window reach [] = refl
 fits-none window reach (need ∷ needs) = refl
 
-pub last-none : (window reach : ℕ) (placed : List Placed) → last_reach window reach [] placed ≡ reach
-unfolding last_reach
-last-none window reach placed = refl
-
 pub relaid-none : (placed : List Placed) → relaid [] placed ≡ []
 unfolding relaid
 relaid-none placed = refl

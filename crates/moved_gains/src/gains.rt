@@ -32,8 +32,8 @@ fn moved(steps: i16, granule: Granule) -> Granule
     moved
 }
 
-#[tactic(auto, unfolding(crate::specs::Gains::moved_side))]
 /// The gains of channel 0 and channel 1 moved by their steps; all other fields stay.
+#[tactic(auto, unfolding(crate::specs::Gains::moved_side))]
 #[inline(always)]
 pub(crate) fn moved_side(steps: &Steps, side: &Side) -> Side
     ensures { result ≡ moved_side_lem steps.now side.now }

@@ -1,5 +1,5 @@
 -- A name that was added to those that may have been touched.
-use Rattle.std.proofs.Common.{◌≡◌, ℕ, List, refl, ◌∙◌, sym, ap, inr, string_bytes}
+use Rattle.std.proofs.Common.{◌≡◌, ℕ, List, refl, ◌∙◌, ap, inr, string_bytes}
 use Rattle.std.proofs.lemmas.Map.Text.{btree_set_updates_text}
 use Rattle.std.specs.BTreeSet.{UpdatesBy}
 use Rattle.std.specs.Cmp.Lexicographic.{slice_cmp}
@@ -21,16 +21,6 @@ module _ (old : TouchedNames) (name : List ℕ) where
       at true false = refl
       at false true = refl
       at false false = refl
-
--- what may have been touched already stays so
-pub touch_again : (touched : Touched) (name : List ℕ) (is_so : Bool) → touched name ≡ true → touched ≡ with_touch touched name is_so
-touch_again touched name is_so was = same_touched _ _ (λ other. at other is_so (bytes_eq name other) (touched other) refl refl)
-  where
-    at : (other : List ℕ) (is_so same before : Bool) → bytes_eq name other ≡ same → touched other ≡ before → before ≡ (before || is_so && same)
-    at other is_so same true e t = refl
-    at other true false false e t = refl
-    at other false same false e t = refl
-    at other true true false e t = sym t ∙ sym (ap touched ((bytes_eq-Decides name other).0 e)) ∙ was
 
 -- a name that was added may have been touched
 pub touch_there : (old new : Touched) (name : List ℕ) → new ≡ with_touch old name true → IsTrue (new name)

@@ -1,14 +1,12 @@
 -- What a feed holds and gives, from what was read into its buffer.
-use Rattle.std.proofs.Common.{◌≡◌, ◌≢◌, ℕ, ◌+◌, ◌-◌, ◌^◌, ◌<◌, ◌≤◌, ◌⊎◌, inl, inr, List, [], ◌++◌, length, take, drop, min, sym, subst, ◌∙◌, ap, arith, length-drop}
+use Rattle.std.proofs.Common.{◌≡◌, ◌≢◌, ℕ, ◌+◌, ◌-◌, ◌^◌, ◌<◌, ◌≤◌, ◌⊎◌, inl, inr, List, [], ◌++◌, length, take, drop, min, sym, ◌∙◌, ap, arith, length-drop}
 use Rattle.std.proofs.lemmas.List.{length-take-le, take-take, drop-take, take_all}
 use Rattle.std.proofs.lemmas.List.Edits.{take-paste}
 use Rattle.std.proofs.Math.Seq.{take-append_seam}
 use Rattle.std.specs.List.{copy_within}
 use Rattle.std.proofs.lemmas.Bool.{cases_lt}
-use Rattle.outside.specs.Files.{Files, emptied, appended}
+use Rattle.outside.specs.Files.{Files}
 use Rattle.outside.specs.Feed.{Fed, IsFedFrom, IsWithin}
-use Rattle.outside.specs.Passed.{PassedOn}
-use Rattle.outside.proofs.FilesLaws.{emptied_held_other, appended_held_other}
 
 -- a part of a prefix is that part of the whole
 pub part_of_front : {X : Type 0} (before n held : ℕ) (xs : List X) → before + n ≤ held → take n (drop before (take held xs)) ≡ take n (drop before xs)
@@ -69,16 +67,3 @@ fed_front held at room bytes within same = ap (λ n. take n (drop at bytes)) (sy
 -- a feed that holds nothing is fed from any file
 pub fed_nothing : (fed : Fed) (files : Files) (name : List ℕ) → fed.held ≡ [] → IsFedFrom fed files name
 fed_nothing fed files name none = record { same = λ bytes holds. ap (λ (held : List ℕ). take (length held) (drop fed.place bytes)) none ∙ sym none }
-
--- it is still fed while its file stays, whatever becomes of other names
-pub fed_same : (fed : Fed) (f g : Files) (name : List ℕ) → g ≡ f → IsFedFrom fed f name → IsFedFrom fed g name
-fed_same fed f g name same p = subst (λ files. IsFedFrom fed files name) (sym same) p
-
-pub fed_emptied : (fed : Fed) (files : Files) (name other : List ℕ) → name ≢ other → IsFedFrom fed files name → IsFedFrom fed (emptied files other) name
-fed_emptied fed files name other apart p = record { same = λ bytes holds. p.same bytes (emptied_held_other files other name bytes apart holds) }
-
-pub fed_appended : (fed : Fed) (files : Files) (name other more : List ℕ) → name ≢ other → IsFedFrom fed files name → IsFedFrom fed (appended files other more) name
-fed_appended fed files name other more apart p = record { same = λ bytes holds. p.same bytes (appended_held_other files other more name bytes apart holds) }
-
-pub fed_passed : (fed : Fed) (f g : Files) (name other before after : List ℕ) → name ≢ other → PassedOn other before after f g → IsFedFrom fed f name → IsFedFrom fed g name
-fed_passed fed f g name other before after apart q p = fed_same fed _ g name q.files (fed_appended fed f name other q.passed apart p)

@@ -127,16 +127,6 @@ written_holds (Untold touched) name bytes told = cc
 written_holds (Told f) name bytes told =
     with_file_here (with_file f name []) name _ ∙ ap (λ (o : Option (List ℕ)). Some (unwrap_or o [] ++ bytes)) (with_file_here f name [])
 
-pub emptied_holds : (files : Files) (name : List ℕ) → is_told files ≡ true → Holds (emptied files name) name []
-unfolding emptied
-emptied_holds (Untold touched) name told = cc
-emptied_holds (Told f) name told = with_file_here f name []
-
-pub appended_holds : (files : Files) (name bytes more : List ℕ) → Holds files name bytes → Holds (appended files name more) name (bytes ++ more)
-unfolding appended
-appended_holds (Untold touched) name bytes more holds = holds
-appended_holds (Told f) name bytes more holds = with_file_here f name _ ∙ ap (λ (o : Option (List ℕ)). Some (unwrap_or o [] ++ more)) holds
-
 -- every other name stays
 pub emptied_holds_other : (files : Files) (name other bytes : List ℕ) → other ≢ name → Holds files other bytes → Holds (emptied files name) other bytes
 unfolding emptied
@@ -158,14 +148,6 @@ pub appended_held_other : (files : Files) (name more other bytes : List ℕ) →
 unfolding appended
 appended_held_other (Untold touched) name more other bytes apart holds = holds
 appended_held_other (Told f) name more other bytes apart holds = sym (with_file_other f name _ other apart) ∙ holds
-
-pub emptied_other : (f : Contents) (name other : List ℕ) → other ≢ name → (g : Contents) × (emptied (Told f) name ≡ Told g) × (g other ≡ f other)
-unfolding emptied
-emptied_other f name other apart = (with_file f name [], refl, with_file_other f name [] other apart)
-
-pub appended_other : (f : Contents) (name more other : List ℕ) → other ≢ name → (g : Contents) × (appended (Told f) name more ≡ Told g) × (g other ≡ f other)
-unfolding appended
-appended_other f name more other apart = (with_file f name _, refl, with_file_other f name _ other apart)
 
 -- a name that was emptied or appended to is there, and no name goes
 pub emptied_there : (files : Files) (name : List ℕ) → IsThere (emptied files name) name
@@ -274,11 +256,6 @@ touches_told names (Untold f) (Told g) only = absurd only
 
 -- ---- what is told
 
--- a folder that tells nothing holds nothing
-pub untold_holds_none : (files : Files) (name bytes : List ℕ) → is_told files ≡ false → Holds files name bytes → ⊥
-untold_holds_none (Told f) name bytes told holds = absurd cc
-untold_holds_none (Untold touched) name bytes told holds = holds
-
 -- where files are told, what is there has bytes, and no two lists of them
 pub there_holds : (f : Contents) (name : List ℕ) → IsThere (Told f) name → (bytes : List ℕ) × Holds (Told f) name bytes
 there_holds f name there = held (f name) there
@@ -291,14 +268,6 @@ there_holds f name there = held (f name) there
 pub nothing_told : (files : Files) (name : List ℕ) → IsThere files name → ((bytes : List ℕ) → Holds files name bytes → ⊥) → is_told files ≡ false
 nothing_told (Untold touched) name there none = refl
 nothing_told (Told f) name there none = let held = there_holds f name there in absurd (none held.0 held.1)
-
-pub holds_there : (files : Files) (name bytes : List ℕ) → Holds files name bytes → IsThere files name
-holds_there (Untold touched) name bytes holds = tt
-holds_there (Told f) name bytes holds = ap is_some holds
-
-pub holds_one : (files : Files) (name xs ys : List ℕ) → Holds files name xs → Holds files name ys → xs ≡ ys
-holds_one (Untold touched) name xs ys here there = absurd here
-holds_one (Told f) name xs ys here there = cc
 
 -- sending twice is sending the two joined
 pub sent_twice : (sent : Sent) (xs ys : List ℕ) → sent_more (sent_more sent xs) ys ≡ sent_more sent (xs ++ ys)
@@ -316,8 +285,3 @@ sent_nothing (Some s) = ap Some (append-nil s)
 pub sent_is : (s new bytes : List ℕ) → new ≡ s ++ bytes → Some new ≡ sent_more (Some s) (take (length bytes) bytes)
 unfolding sent_more
 sent_is s new bytes is = ap Some is ∙ ap (λ more. Some (s ++ more)) (sym (take_all (length bytes) bytes (omega arith)))
-
-pub sent_more_told : (sent : Sent) (more : List ℕ) → is_some (sent_more sent more) ≡ is_some sent
-unfolding sent_more
-sent_more_told None more = refl
-sent_more_told (Some s) more = refl

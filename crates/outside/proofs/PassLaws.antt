@@ -229,40 +229,6 @@ writes_behind_none {pass} {made} {before} {after} {old} {new} none step = subst 
 pub part_behind_none : {input output : List ℕ} {made : List ℕ → List ℕ} {before : List ℕ} {old new : Files} {fault : PassFault} → before ≡ [] → AppendsPart input output made before old new fault → AppendsPrefix input output made old new fault
 part_behind_none {input} {output} {made} {before} {old} {new} {fault} none part = subst (λ (l : List ℕ). AppendsPart input output made l old new fault) none part
 
--- by a fault that is one of a write only where this one is
-pub part_for : {input output : List ℕ} {made : List ℕ → List ℕ} {before : List ℕ} {old new : Files} {fault other : PassFault} → (other ≡ Write → fault ≡ Write) → AppendsPart input output made before old new fault
-    → AppendsPart input output made before old new other
-part_for same part = record { bytes = part.bytes; prefix = part.prefix; short = λ failed. part.short (same failed); files = part.files }
-
--- ---- bytes that were appended, and others after them
-
-module _ {input output : List ℕ} (apart : input ≢ output) {made : List ℕ → List ℕ} {old now : Files} (first : Appends input output made old now) where
-  held_still : (file : List ℕ) → Holds old input file → Holds now input file
-  held_still file holds = input_holds old now input output first.bytes file apart first.files holds
-
-  module _ {next : List ℕ → List ℕ} (whole : List ℕ → List ℕ) (is : (file : List ℕ) → made file ++ next file ≡ whole file) where
-    pub appends_then : {new : Files} → Appends input output next now new → Appends input output whole old new
-    appends_then {new} second = record {
-      bytes = first.bytes ++ second.bytes;
-      is = λ file holds. (λ i. first.is file holds i ++ second.is file (held_still file holds) i) ∙ is file;
-      files = second.files ∙ ap (λ f. appended f output second.bytes) first.files ∙ appended_twice old output first.bytes second.bytes;
-    }
-
-    pub appends_then_part : {new : Files} {fault : PassFault} → AppendsPrefix input output next now new fault → AppendsPrefix input output whole old new fault
-    appends_then_part {new} second =
-        let all : (file : List ℕ) → Holds old input file → first.bytes ++ next file ≡ whole file = λ file holds. ap (λ (l : List ℕ). l ++ next file) (first.is file holds) ∙ is file in
-        record {
-          bytes = first.bytes ++ second.bytes;
-          prefix = λ file holds.
-              ap (λ (l : List ℕ). first.bytes ++ l) (second.prefix file (held_still file holds))
-              ∙ sym (take-append-add first.bytes (next file) (length second.bytes))
-              ∙ ap (λ n. take n (first.bytes ++ next file)) (sym (length-append first.bytes second.bytes))
-              ∙ ap (take (length (first.bytes ++ second.bytes))) (all file holds);
-          short = λ failed file holds.
-              omega (arith, second.short failed file (held_still file holds), length-append first.bytes second.bytes, length-append first.bytes (next file), ap length (all file holds));
-          files = second.files ∙ ap (λ f. appended f output second.bytes) first.files ∙ appended_twice old output first.bytes second.bytes;
-        }
-
 -- ---- counts and causes
 
 -- that of a read is a cause of the pass

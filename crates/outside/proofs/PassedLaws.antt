@@ -5,7 +5,7 @@ use Rattle.std.proofs.lemmas.List.{length-take, take-take, take-append-drop, tak
 use Rattle.std.proofs.Math.Seq.{take-append-add}
 use Rattle.outside.specs.Files.{Files, appended, IsThere}
 use Rattle.outside.specs.Passed.{PassedOn, AppendedPrefix}
-use Rattle.outside.proofs.FilesLaws.{appended_nothing, appended_twice, appended_there, appended_keeps}
+use Rattle.outside.proofs.FilesLaws.{appended_nothing, appended_twice, appended_there}
 
 -- a fact that holds on every error
 pub on_err : {T E P : Type 0} (r : Result T E) → P → OnErr r P
@@ -117,12 +117,3 @@ prefix_in_front {name} waits front rest {f} {g} p =
 -- the name is there afterwards, and no name goes
 pub passed_there : {name before after : List ℕ} {f g : Files} → PassedOn name before after f g → IsThere g name
 passed_there {name} {before} {after} {f} {g} p = subst (λ files. IsThere files name) (sym p.files) (appended_there f name p.passed)
-
-pub prefix_there : {name bytes : List ℕ} {f g : Files} → AppendedPrefix name bytes f g → IsThere g name
-prefix_there {name} {bytes} {f} {g} p = subst (λ files. IsThere files name) (sym p.files) (appended_there f name (take p.count bytes))
-
-pub passed_keeps : {name before after : List ℕ} {f g : Files} (other : List ℕ) → PassedOn name before after f g → IsThere f other → IsThere g other
-passed_keeps {name} {before} {after} {f} {g} other p there = subst (λ files. IsThere files other) (sym p.files) (appended_keeps f name p.passed other there)
-
-pub prefix_keeps : {name bytes : List ℕ} {f g : Files} (other : List ℕ) → AppendedPrefix name bytes f g → IsThere f other → IsThere g other
-prefix_keeps {name} {bytes} {f} {g} other p there = subst (λ files. IsThere files other) (sym p.files) (appended_keeps f name (take p.count bytes) other there)

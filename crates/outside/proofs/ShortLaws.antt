@@ -17,14 +17,6 @@ pub emptied_contents : (f new : Contents) (name : List ℕ) → Told new ≡ emp
 unfolding emptied
 emptied_contents f new name is = told_same _ _ is
 
-pub appended_contents : (f new : Contents) (name more : List ℕ) → Told new ≡ appended (Told f) name more → new ≡ with_file f name (unwrap_or (f name) [] ++ more)
-unfolding appended
-appended_contents f new name more is = told_same _ _ is
-
--- where it is there
-pub created-same : (folder : MemFolder) (name : List ℕ) → IsCreated folder folder name
-created-same folder name = record { bytes = refl; others = λ bytes. refl; fails = λ bytes. refl }
-
 none-bytes : (o : Option (List ℕ)) → o ≡ None → unwrap_or o [] ≡ []
 none-bytes o is = ap (λ q. unwrap_or q []) is
 

@@ -28,10 +28,6 @@ use Rattle.frame_edits.proofs.LaidLaws.{part_is, laid-slots, sizes, first-header
 
 -- ---- the bytes of all areas
 
-areas-rise : (start : ℕ) (ps : List Piece) → start ≤ areas_end start ps
-areas-rise start [] = omega arith
-areas-rise start (p ∷ ps) = omega (arith, areas-rise (start + p.area) ps)
-
 length-laid_from : (end start : ℕ) (ps : List Piece) → end ≤ start → CanBeLaidFrom end start ps → length (laid_from end start ps) + end ≡ areas_end start ps
 length-laid_from end start [] within fits = omega (arith, length-zeros (start - end), within)
 length-laid_from end start (p ∷ ps) within fits =

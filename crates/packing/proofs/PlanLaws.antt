@@ -1,6 +1,6 @@
 -- The plan with the slots of some bit rates: it can be laid, and with all bit rates from one on there is always one.
-use Rattle.std.proofs.Common.{◌≡◌, ℕ, zero, suc, ◌+◌, ◌-◌, ◌==◌, cond, get_or, append-nil, rules, ◌<◌, ◌≤◌, Bool, true, false, List, [], ◌∷◌, length, map, drop, All, Contains, Some, None, Result, Ok, Err, refl, sym, ◌∙◌, ap, subst, arith, length-drop}
-use Rattle.std.specs.Prelude.{IfOk, IfErr, MatchResult, slice_range}
+use Rattle.std.proofs.Common.{◌≡◌, ℕ, zero, suc, ◌+◌, ◌-◌, ◌==◌, get_or, append-nil, ◌<◌, ◌≤◌, Bool, true, false, List, [], ◌∷◌, length, map, drop, All, Contains, None, Result, Ok, Err, refl, sym, ◌∙◌, ap, subst, arith, length-drop}
+use Rattle.std.specs.Prelude.{IfErr, MatchResult, slice_range}
 use Rattle.std.proofs.lemmas.List.{length-map, length-take}
 use Rattle.frame_header.specs.Fields.{SlotFields, ClassFields, IsSlot, IsClass}
 use Rattle.frame_header.specs.Tables.{window_of}
@@ -26,9 +26,7 @@ use Rattle.laying.specs.Fits.{IsFitting}
 use Rattle.laying.proofs.FitLaws.{Asks, items-fit, asks-each}
 use Rattle.sync_survey.specs.Row.{Row}
 use Rattle.sync_survey.specs.Faults.{SurveyFields}
-use Rattle.commands.specs.declared.fault.EditFault.TheVariants.{Refused}
-use Rattle.commands.specs.declared.fault.Refusal.{Refusal}
-use Rattle.commands.specs.declared.fault.Refusal.TheVariants.{NoRate, Unfit as UnfitFrame}
+use Rattle.commands.specs.declared.fault.Refusal.TheVariants.{Unfit as UnfitFrame}
 use Rattle.commands.specs.Left.{IsLate}
 use Rattle.commands.specs.Refusing.{unless, then_made}
 use Rattle.commands.proofs.RefusingLaws.{unless_late, unless_ok, then_late, then_ok}
@@ -37,7 +35,7 @@ use Rattle.frame_edits.proofs.LaidLaws.{AreOpen, open-in_slots}
 use Rattle.packing.specs.declared.mode.Rates.{Rates}
 use Rattle.packing.specs.declared.mode.Rates.TheVariants.{Only, From}
 use Rattle.packing.specs.Packing.{needs_of, IsPlanFault}
-use Rattle.packing.specs.Rates.{named, is_rate, menu_in, no_rate, fitted, rates_plan, rates_refuse, of_rate}
+use Rattle.packing.specs.Rates.{menu_in, no_rate, fitted, rates_plan, rates_refuse, of_rate}
 use Rattle.packing.proofs.MenuLaws.{menu-ascends, menu-slots, menu-some, floor-largest}
 
 -- ---- from a menu
@@ -170,16 +168,6 @@ known-slots (r ∷ rows) known = λ k d within. at k d within (known-slots rows 
     at zero d within rest = known.0.slot
     at (suc k) d within rest = rest k d (omega (arith, within))
 
-rate-same : (n : ℕ) → (n == n) ≡ true
-rate-same n = search rules
-
-named-refused : (rates : Rates) (class : ClassFields) (refusal : Refusal) → no_rate rates class ≡ Some refusal → rates_refuse rates refusal ≡ true
-named-refused rates class refusal is = at (is_rate (named rates) class) is
-  where
-    at : (b : Bool) → cond b None (Some (NoRate (named rates))) ≡ Some refusal → rates_refuse rates refusal ≡ true
-    at true e = absurd cc
-    at false e = let same : NoRate (named rates) ≡ refusal = cc in subst (λ r. rates_refuse rates r ≡ true) same (rate-same (named rates))
-
 module _ (chosen : Chosen) (s : SurveyFields) (placed : IsPlaced s) (some : chosen.from < chosen.to) (within : chosen.to ≤ length s.frames) where
   pub rows-some : 1 ≤ length (chosen_rows chosen s)
   rows-some = omega (arith, some, within, length-drop chosen.from s.frames, length-take (chosen.to - chosen.from) (drop chosen.from s.frames))
@@ -232,9 +220,3 @@ module _ (chosen : Chosen) (s : SurveyFields) (placed : IsPlaced s) (some : chos
         (subst (λ (k : ClassFields). IsMenuFault (least_menu_plan (window_of k.version) (menu_in rates k) (needs_of chosen s)) fault) class_is
         (subst (λ m. IsMenuFault (least_menu_plan (window_of class.version) m (needs_of chosen s)) fault) menu_is
         (subst (λ l. IsMenuFault (least_menu_plan (window_of class.version) menu (map need_of (slice_range l chosen.from chosen.to))) fault) frames_are is)))
-
-  pub rate-fault : (rates : Rates) (refusal : Refusal) → no_rate rates s.class ≡ Some refusal → IsPlanFault (rates_plan rates) (rates_refuse rates) s.class (needs_of chosen s) (Refused refusal)
-  rate-fault rates refusal is = (
-    ap (λ o. then_made (unless o (menu_in rates s.class)) (λ menu. fitted (least_menu_plan (window_of s.class.version) menu (needs_of chosen s)))) is,
-    named-refused rates s.class refusal is,
-  )

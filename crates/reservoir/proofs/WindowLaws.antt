@@ -30,10 +30,6 @@ last_more n main area =
 pub window-more : (held main area : List ℕ) → IsWindowOver held main → IsWindowOver (keep_last 2048 (held ++ area)) (main ++ area)
 window-more held main area is = ap (λ bytes. keep_last 2048 (bytes ++ area)) is ∙ last_more 2048 main area
 
--- a window holds no more than it may
-pub last-few : (bytes : List ℕ) → length (keep_last 2048 bytes) ≤ 2048
-last-few bytes = omega (arith, length-drop (length bytes - 2048) bytes)
-
 -- so they are the last of the main data
 pub window-last : (held main : List ℕ) → IsWindowOver held main → AreLastOf held main
 window-last held main is =

@@ -98,6 +98,7 @@ impl Window {
         ensures bytes { AreBytes result }
         ensures few { length result ≤ window_size }
     {
+        // A look inside gives the proof the invariant of the window, by which it holds at most 2,048 bytes.
         let _ = &self.ring;
         self.main_data_with(&[], &[], area + begin, bits)
     }

@@ -1,10 +1,10 @@
 -- With its emptied frames as frames without main data, what is read of a damaged file is laid out as a file without fault.
-use Rattle.std.proofs.Common.{◌≡◌, ℕ, zero, suc, ◌+◌, ◌-◌, ◌≤◌, ◌<◌, ◌==◌, ◌&&◌, ◌||◌, Bool, true, false, cond, List, [], ◌∷◌, ◌++◌, length, map, take, drop, get_or, Option, Some, None, refl, sym, ◌∙◌, ap, ap₂, subst, arith, append_assoc, append-nil}
+use Rattle.std.proofs.Common.{◌≡◌, ℕ, zero, suc, ◌+◌, ◌-◌, ◌≤◌, ◌<◌, ◌==◌, ◌&&◌, ◌||◌, Bool, true, false, cond, List, [], ◌∷◌, ◌++◌, length, map, take, drop, get_or, Option, Some, None, refl, sym, ◌∙◌, ap, ap₂, subst, arith, append_assoc}
 use Rattle.std.specs.Prelude.{slice_get, sum_by, option_map, option_to_list}
 use Rattle.std.proofs.Math.ListN.{set}
 use Rattle.std.proofs.lemmas.Bool.{le-ltb, and_parts}
 use Rattle.std.proofs.lemmas.Option.{slice_get-map}
-use Rattle.std.proofs.lemmas.List.{take-map, length-map, drop_more, drop_all, take_more, set_at, map-append, length-take-le}
+use Rattle.std.proofs.lemmas.List.{take-map, length-map, drop_more, take_more, set_at, map-append, length-take-le}
 use Rattle.std.proofs.lemmas.List.Sums.{sum_by-cons}
 use Rattle.frame_header.specs.Fields.{ClassFields, IsHeader}
 use Rattle.frame_header.specs.Tables.{class_of, length_of}
@@ -222,17 +222,6 @@ mended_step rows now i d new within is one =
     at_end [] x rest (suc i) e = absurd (omega (arith, e))
     at_end (y ∷ front) x rest zero e = absurd (omega (arith, e))
     at_end (y ∷ front) x rest (suc i) e = at_end front x rest i (omega (arith, e))
-
--- one frame more is counted if it becomes an empty one
-pub emptied_step : (rows : List Row) (i : ℕ) (d : Row) (done : List Emptied) → i < length rows → done ++ emptied_from i (drop i rows) ≡ emptied_from 0 rows
-    → (done ++ option_to_list (emptied_as i (get_or rows i d))) ++ emptied_from (i + 1) (drop (i + 1) rows) ≡ emptied_from 0 rows
-emptied_step rows i d done within is =
-    let x = get_or rows i d in
-    let rest = emptied_from (i + 1) (drop (i + 1) rows) in
-    append_assoc done (option_to_list (emptied_as i x)) rest ∙ ap (λ t. done ++ t) (sym (cons_list (emptied_as i x) rest) ∙ ap (emptied_from i) (sym (drop_more rows i d within))) ∙ is
-
-pub emptied_end : (rows : List Row) (i : ℕ) (done : List Emptied) → length rows ≤ i → done ++ emptied_from i (drop i rows) ≡ emptied_from 0 rows → done ≡ emptied_from 0 rows
-emptied_end rows i done past is = sym (append-nil done) ∙ ap (λ l. done ++ emptied_from i l) (sym (drop_all i rows past)) ∙ is
 
 -- ---- where none becomes an empty one
 

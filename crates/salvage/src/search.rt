@@ -25,8 +25,9 @@ fn may_begin(first: u8, second: u8) -> bool
     first == 0xff && second / 2 % 4 == 1
 }
 
-/// Whether the frame with which these bytes begin is usable for the role. They are those at the offset.
-// It is apart, and reads the header once more, so that a search reads no more of a header than it needs.
+/// Whether the bytes from this place on rule out that a usable frame begins there: a header that ends the frame
+/// can't follow, or the check word is wrong. Where it is false there may be a usable frame or none.
+// It decodes no header, so most places of a search are passed by a few bytes.
 fn is_plainly_bare(front: &[u8], place: usize) -> bool
     requires within { place < length front.now }
     ensures { result ≡ true → IsPlainlyBare front.now place }

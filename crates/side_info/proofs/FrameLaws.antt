@@ -1,10 +1,10 @@
 -- What stays, and what is read back, where other side information is put into a frame.
-use Rattle.std.proofs.Common.{◌≡◌, ℕ, zero, suc, ◌+◌, ◌*◌, ◌^◌, ◌%◌, ◌<◌, ◌≤◌, Bool, true, false, cond, List, [], ◌∷◌, ◌++◌, length, get_or, take, drop, refl, sym, ◌∙◌, ap, ap₂, subst, arith, lit<, append_assoc, length-drop, length-append, take-append-drop}
+use Rattle.std.proofs.Common.{◌≡◌, ℕ, zero, suc, ◌+◌, ◌*◌, ◌^◌, ◌%◌, ◌<◌, ◌≤◌, Bool, true, false, cond, List, [], ◌∷◌, ◌++◌, length, get_or, take, drop, refl, sym, ◌∙◌, ap, ap₂, arith, lit<, append_assoc, length-drop, length-append, take-append-drop}
 use Rattle.std.specs.Int.{to_be_bytes, from_be_bytes, w16}
 use Rattle.std.proofs.lemmas.Nat.{mod_below, xor_lt, from_be_bytes-to_be_bytes_2}
 use Rattle.std.proofs.lemmas.List.{take_at, drop_at, length-take, drop-drop, take-take}
 use Rattle.bit_fields.specs.Bits.{bits, bits_of, bytes, number, AreBytes}
-use Rattle.bit_fields.proofs.BitsLaws.{bits-one, number-bits_of-below, number-bits-push, bits-bits_of, bytes-bits, bits-bytes, length-bytes, length-bits, length-bits_of, AreBits-bits, AreBits-bits_of, AreBytes-from_places, AreBelow-take, AreBelow-drop}
+use Rattle.bit_fields.proofs.BitsLaws.{bits-one, number-bits_of-below, number-bits-push, bits-bits_of, bytes-bits, bits-bytes, length-bytes, length-bits, length-bits_of, AreBits-bits, AreBits-bits_of, AreBelow-take, AreBelow-drop}
 use Rattle.frame_header.specs.Fields.{HeaderFields, ClassFields, IsClass}
 use Rattle.frame_header.specs.Tables.{class_of, side_size_of, overhead_of}
 use Rattle.side_info.specs.declared.side.Side.{Side}
@@ -38,12 +38,6 @@ pub bytes-word : (n : ℕ) → n < 2 ^ 16 → to_be_bytes w16 n ≡ bytes (bits_
 bytes-word n h = sym (bytes-bits (to_be_bytes w16 n) (AreBytes-word n)) ∙ ap bytes (bits-word n h)
 
 -- ---- bytes between others
-
-pub between : (before part after : List ℕ) → ((i : ℕ) → get_or (before ++ (part ++ after)) i 0 < 256) → AreBytes part
-between before part after all =
-    let whole = AreBytes-from_places (before ++ (part ++ after)) all in
-    let behind = subst AreBytes (drop_at before (part ++ after) (length before) refl) (AreBelow-drop 256 (length before) (before ++ (part ++ after)) whole) in
-    subst AreBytes (take_at part after (length part) refl) (AreBelow-take 256 (length part) (part ++ after) behind)
 
 -- ---- the check word that is in a frame
 
@@ -306,14 +300,3 @@ side_in-take h len xs room =
 pub word_said-take : (len : ℕ) (xs : List ℕ) → 6 ≤ len → word_said (take len xs) ≡ word_said xs
 unfolding word_said
 word_said-take len xs room = ap (λ (word : List ℕ). number (bits word)) (take-drop-take 2 4 len xs (omega (arith, room)))
-
-pub frame_with-take : (h : HeaderFields) (s : Side) (len : ℕ) (xs : List ℕ) → overhead_of (class_of h) h.protected ≤ len → frame_with h s (take len xs) ++ drop len xs ≡ frame_with h s xs
-unfolding frame_with
-frame_with-take h s len xs room =
-    let over = overhead_of (class_of h) h.protected in
-    let part = bytes (side_bits (class_of h) s) in
-    let four : 4 ≤ len = omega (arith, room, overhead-is (class_of h) h.protected, place-least h.protected) in
-    append_assoc (take 4 (take len xs)) (word_part h s ++ (part ++ drop over (take len xs))) (drop len xs)
-    ∙ ap (λ (l : List ℕ). take 4 (take len xs) ++ l) (append_assoc (word_part h s) (part ++ drop over (take len xs)) (drop len xs))
-    ∙ ap (λ (l : List ℕ). take 4 (take len xs) ++ (word_part h s ++ l)) (append_assoc part (drop over (take len xs)) (drop len xs))
-    ∙ ap₂ (λ (front rest : List ℕ). front ++ (word_part h s ++ (part ++ rest))) (take-take 4 len xs four) (drop-take-append over len xs room)

@@ -113,9 +113,6 @@ unfoldable pub granules_from : Version → ℕ → ℕ → List ℕ → List Gra
 granules_from version n zero bs = []
 granules_from version n (suc count) bs = nth_granule version n bs ∷ granules_from version (n + 1) count bs
 
-pub AllFit : Version → List Granule → Type 0
-AllFit version gs = (n : ℕ) → n < length gs → GranuleFits version (get_or gs n no_granule)
-
 pub length-flat : (version : Version) (gs : List Granule) → length (flat_map (granule_bits version) gs) ≡ length gs * granule_size version
 length-flat version [] = omega arith
 length-flat version (g ∷ gs) =

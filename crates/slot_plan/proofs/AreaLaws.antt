@@ -101,16 +101,6 @@ least-first wanted c p slots i slot within is ascend small enough = record {
       ];
 }
 
--- not all are too small
-pub some-enough : (wanted : ℕ) (c : ClassFields) (p : Bool) (slots : List SlotFields) (d : SlotFields) → 0 < length slots → wanted ≤ greatest (areas_with c p slots)
-    → ((k : ℕ) → k < length slots → area_of c (get_or slots k d) p < wanted) → ⊥
-some-enough wanted c p slots d some enough small =
-    let many = areas-many c p slots in
-    let first : ℕ = get_or (areas_with c p slots) 0 0 in
-    let g = Contains-greatest (areas_with c p slots) first (0, omega arith, get_or_default (areas_with c p slots) 0 first 0 (omega arith)) in
-    let within : g.0 < length slots = omega (arith, g.1) in
-    omega (arith, small g.0 within, area-at c p slots g.0 (greatest (areas_with c p slots)) d within, g.2)
-
 -- ---- the slots of a lead-in
 pub lead-ascend : (c : ClassFields) (slots : List SlotFields) → slots ≡ all_slots → Ascend (areas_of c false) → Ascend (areas_with c false slots)
 unfolding areas_of
@@ -148,9 +138,6 @@ area-le c p s t class is it before =
 -- the slots below a bit rate index are too small
 abbrev pub AreSmall : ℕ → ClassFields → Bool → ℕ → Type 0
 AreSmall wanted c p index = (s : SlotFields) → IsSlot s → s.rate_index < index → area_of c s p < wanted
-
-pub small-none : (wanted : ℕ) (c : ClassFields) (p : Bool) → AreSmall wanted c p 1
-small-none wanted c p s is less = absurd (omega (arith, is.0))
 
 pub small-more : (wanted : ℕ) (c : ClassFields) (p : Bool) (index : ℕ) → IsClass c → 1 ≤ index → index ≤ 14 → area_of c (slot_of index true) p < wanted → AreSmall wanted c p (index + 1)
 small-more wanted c p index class some few small s is less =

@@ -302,18 +302,8 @@ module _ (window : ℕ) (items : List Item) (ordered : AreOrdered items) where
       at None is = absurd (no-list window items ordered is (areas_in items placed, plan.least.chosen, plan.least.feasible))
       at (Some slots) is = ap Some (one_plan_for window items (laid_early window items slots) placed ordered (plan-laid slots is) plan)
 
-  pub found-plan : (placed : List Placed) → least_of window items ≡ Some placed → IsPlanFor window items placed
-  found-plan placed same = at (first_list window items) refl same
-    where
-      at : (found : Option (List SlotFields)) → first_list window items ≡ found → option_map (laid_early window items) found ≡ Some placed → IsPlanFor window items placed
-      at None is e = absurd cc
-      at (Some slots) is e = subst (IsPlanFor window items) (ap (λ o. unwrap_or o placed) e) (plan-laid slots is)
-
   pub none-found : (CanBeLaid window (map open_of items) → ⊥) → least_of window items ≡ None
   none-found never = ap (option_map (laid_early window items)) (never-list window items ordered never)
-
-  pub can-found : CanBeLaid window (map open_of items) → (placed : List Placed) × (least_of window items ≡ Some placed)
-  can-found can = let found = some-list window items ordered can in (laid_early window items found.0, ap (option_map (laid_early window items)) found.1)
 
 -- ---- the lead-ins
 

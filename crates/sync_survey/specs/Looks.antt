@@ -62,14 +62,6 @@ IsStep part file at (Some step) = Passes part file at step.item step.size
 abbrev pub ReachArea : HeaderFields → List ℕ → Type 0
 ReachArea h bytes = overhead_of (class_of h) h.protected ≤ length bytes
 
--- the row with the side information that is in these bytes
-abbrev pub row_read : Row → List ℕ → Row
-row_read r bytes = row_in r.offset r.header bytes
-
--- the same, marked where the frame is lost
-abbrev pub marked_by : Before → Row → Row
-marked_by b r = record r { lost = lacks_data b.place b.ended r }
-
 -- the first fault of its main data
 abbrev pub data_fault : Before → Row → Option SurveyFault
 data_fault b r = first_of (data_faults b.place b.ended r)

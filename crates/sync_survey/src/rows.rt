@@ -194,6 +194,7 @@ impl Before {
         requires { begin ≡ row.now.side.main_data_begin }
         ensures { result ≡ lacks_data self.now.place self.now.ended row.now }
     {
+        // The row is there for the contract; the code needs its main_data_begin alone, which the caller has read.
         let _ = row;
         self.ended == 0 && self.place < u64::from(begin)
     }

@@ -119,9 +119,6 @@ first_byte-below Ape = (omega arith, omega arith)
 pub block_front-not_zero : (bytes : List ℕ) (b : Block) → block_front bytes ≡ Some b → get_or bytes 0 0 ≢ 0
 block_front-not_zero bytes b is = λ zero. omega (arith, zero, block_front-first bytes b is, (first_byte-below b.kind).0)
 
-pub block_front-not_sync : (bytes : List ℕ) (b : Block) → block_front bytes ≡ Some b → get_or bytes 0 0 ≢ 255
-block_front-not_sync bytes b is = λ ones. omega (arith, ones, block_front-first bytes b is, (first_byte-below b.kind).1)
-
 -- ---- the length
 
 least_as : (kind : Kind) (bytes : List ℕ) → 10 ≤ length_as kind bytes

@@ -58,6 +58,7 @@ impl Buffer {
         ensures value { result ≡ self.now.room }
         ensures enough { length self.now.bytes ≤ result }
     {
+        // A look inside gives the proof the invariant of the buffer, by which the bytes are within the room.
         let _ = self.content.len();
         self.room
     }
