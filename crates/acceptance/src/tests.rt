@@ -1,17 +1,31 @@
-//! Texts of rows, by what the commands do, and what no row can say.
+//! Rows of each command, in a text or a folder of texts of its name; rows of all commands; and what no row can say.
 
-mod fades;
-mod frames;
-mod laid;
-mod salvaged;
+mod cut;
+mod drill;
+mod fade;
+mod gain;
+mod join;
+mod list;
+mod many_frames;
+mod names;
+mod pack;
+mod refused_inputs;
+mod refused_words;
+mod salvage;
 mod shrinking;
-mod tags;
+mod song;
+mod split;
+mod standard_error;
+mod undo;
 mod wrong_rows;
 
+use acceptance_kit::scripts::first_unlike;
 use command_runs::running::Program;
 use mp3_cli::run;
 use outside::{Folder, MemSink};
-use std::alloc::Global;
+use std::alloc::{AllocGlobal, Global};
+use std::process::Abort;
+use std::test::Fail;
 
 /// The program that is tested.
 struct Mp3edit;
@@ -26,4 +40,95 @@ impl Program for Mp3edit {
     ) -> u8 {
         run(alloc, words, folder, out, err)
     }
+}
+
+/// Asserts that all rows of the texts end as they say.
+fn expect_rows<R: Abort + AllocGlobal>(rt: &R, texts: &[&'static str]) -> Result<(), Fail> {
+    let shared = [names::DEFINED];
+    assert_eq!(rt; first_unlike::<Mp3edit>(rt.alloc(), &shared, texts)?, None);
+    Ok(())
+}
+
+#[test]
+fn lists(rt: HostRuntime) -> Result<(), Fail> {
+    expect_rows(&rt, &[list::ROWS])
+}
+
+#[test]
+fn gains(rt: HostRuntime) -> Result<(), Fail> {
+    let texts = [
+        gain::failing_calls::ROWS,
+        gain::files::ROWS,
+        gain::frames::ROWS,
+        gain::notes::ROWS,
+        gain::refusals::ROWS,
+    ];
+    expect_rows(&rt, &texts)
+}
+
+#[test]
+fn undos(rt: HostRuntime) -> Result<(), Fail> {
+    let texts = [
+        undo::changes::ROWS,
+        undo::failing_calls::ROWS,
+        undo::faulty_tags::ROWS,
+        undo::files::ROWS,
+        undo::refusals::ROWS,
+    ];
+    expect_rows(&rt, &texts)
+}
+
+#[test]
+fn fades(rt: HostRuntime) -> Result<(), Fail> {
+    expect_rows(&rt, &[fade::ROWS])
+}
+
+#[test]
+fn cuts(rt: HostRuntime) -> Result<(), Fail> {
+    expect_rows(&rt, &[cut::ROWS])
+}
+
+#[test]
+fn packs(rt: HostRuntime) -> Result<(), Fail> {
+    expect_rows(&rt, &[pack::ROWS])
+}
+
+#[test]
+fn splits(rt: HostRuntime) -> Result<(), Fail> {
+    expect_rows(&rt, &[split::ROWS])
+}
+
+#[test]
+fn joins(rt: HostRuntime) -> Result<(), Fail> {
+    expect_rows(&rt, &[join::ROWS])
+}
+
+#[test]
+fn salvages(rt: HostRuntime) -> Result<(), Fail> {
+    expect_rows(&rt, &[salvage::ROWS])
+}
+
+#[test]
+fn drills(rt: HostRuntime) -> Result<(), Fail> {
+    expect_rows(&rt, &[drill::ROWS])
+}
+
+#[test]
+fn refusals(rt: HostRuntime) -> Result<(), Fail> {
+    let texts = [
+        refused_inputs::ROWS,
+        refused_words::ROWS,
+        standard_error::ROWS,
+    ];
+    expect_rows(&rt, &texts)
+}
+
+#[test]
+fn a_whole_song(rt: HostRuntime) -> Result<(), Fail> {
+    expect_rows(&rt, &[song::ROWS])
+}
+
+#[test]
+fn each_command_over_many_frames(rt: HostRuntime) -> Result<(), Fail> {
+    expect_rows(&rt, &[many_frames::ROWS])
 }

@@ -2,8 +2,7 @@
 //! folder that reads and writes a few bytes at a time, where things go wrong once the output was created.
 ghost use Rattle.std.specs.Prelude.{◌≡◌, ◌≤◌, length, drop};
 
-use crate::tests::Mp3edit;
-use crate::tests::frames::pass;
+use crate::tests::{Mp3edit, names};
 use command_runs::differences::{Found, other_end};
 use command_runs::running::put;
 use outside::{Failed, FindFault, Folder, MemFolder, ShortFolder, Tally};
@@ -171,7 +170,7 @@ impl Folder for Changing {
 }
 
 fn define_lines(alloc: Global, names: &mut Vec<Named>) -> Result<(), TextFault> {
-    for line in pass::DEFINED.lines() {
+    for line in names::DEFINED.lines() {
         if line.contains(" = ") {
             define(alloc, names, line)?;
         }
@@ -361,13 +360,9 @@ struct Longer {
     line: &'static str,
 }
 
-/// Two frames of 300 and 400 bytes of main data, the second's from 81 bytes before its own area on.
-const A: &str =
-    "fffb9000 000002580032000000004b000640000000096000c8000000012c0019 ~36 55*381 fffb9000 28800320003200000000640006400000000c8000c800000001900019 ~453 55*319 ~834";
-
 static LONGER: [Longer; 2] = table! {
     Longer { name, file, extra, words, status, line }
-    ("a", A, 5, "list a", 3, "a: shrunk from 839 to 834\n")
+    ("a", "FIRST SECOND", 5, "list a", 3, "a: shrunk from 839 to 834\n")
     ("z", "fffb9000 ~417", 1_073_741_824, "list z", 1, "z: too long, 1073742241 bytes\n")
 };
 
