@@ -54,11 +54,7 @@ pub const PADDED: Frame = Frame {
 pub const MONO: Frame =
     frame! { header: [0xff, 0xfb, 0x90, 0xc0], side: b"\0\x7e\x80\x23\xfe\xc9\xff\xff\xff\xf8\x08\x7f\xf2\x3f\xff\xff\xff", ..G };
 
-/// Four times 762 bits, which fill the area of 381 bytes; all gains are 100.
-pub const FULL: Frame =
-    frame! { side: b"\0\0\x02\xfa\0\x32\0\0\0\0\x5f\x40\x06\x40\0\0\0\x0b\xe8\0\xc8\0\0\0\x01\x7d\0\x19", ..G };
-
-/// FULL with one bit more than the area has.
+/// Four times 762 bits, which fill the area of 381 bytes, and one more; all gains are 100.
 pub const OVERFULL: Frame =
     frame! { side: b"\0\0\x02\xfa\0\x32\0\0\0\0\x5f\x40\x06\x40\0\0\0\x0b\xe8\0\xc8\0\0\0\x01\x7d\x80\x19", ..G };
 
@@ -97,9 +93,6 @@ pub const LOWER: Frame = Frame {
     area: &AREA,
     length: 209,
 };
-
-/// MPEG-2, 22,050 Hz, 64 kbit/s, all bytes after the header 0.
-pub const MPEG_2: Frame = frame! { header: [0xff, 0xf3, 0x80, 0x00], length: 208, ..Z };
 
 /// The frames end to end.
 pub fn file_of(alloc: Global, frames: &[Frame]) -> Result<Vec<u8>, AllocError> {
