@@ -10,10 +10,10 @@ use Rattle.slot_plan.specs.declared.needs.Placed.{Placed}
 use Rattle.slot_plan.specs.Layouts.{IsFeasible}
 use Rattle.slot_plan.specs.Lists.{frames_of, CanBeLaid}
 use Rattle.slot_plan.specs.Parts.{Item, item_of, lead_in_of, own_area, own_frame, areas_with}
-use Rattle.slot_plan.specs.Reserve.{free_behind, opens_in}
+use Rattle.slot_plan.specs.Reserve.{free_behind, opens_in, own_area_of}
 use Rattle.slot_plan.proofs.ReserveLaws.{AllFit}
 use Rattle.slot_plan.proofs.AreaLaws.{Ascend, Contains-area, lead-ascend}
-use Rattle.slot_plan.proofs.PartLaws.{frames-own}
+use Rattle.slot_plan.proofs.PartLaws.{frames-by}
 use Rattle.best_plan.specs.Best.{IsBestFor, items_behind, IsBestPlan}
 use Rattle.best_plan.specs.Rows.{nothing, IsChoice}
 use Rattle.best_plan.specs.Table.{IsTable, Walks, IsLeadInBy}
@@ -25,7 +25,7 @@ pub whole-sum : (window : ℕ) (choices : HeaderFields → List SlotFields) (nee
     → get_or sums window 0 ≤ 288200000
 whole-sum window choices needs sums places few feasible table =
     let own = table-own window choices needs sums places table in
-    let fit = subst (AllFit window window) (sym (frames-own choices needs)) (fits-laid window window (map own_frame needs) feasible) in
+    let fit = subst (AllFit window window) (sym (frames-by choices own_area_of needs)) (fits-laid window window (map own_frame needs) feasible) in
     let least = (table-sums window choices needs sums places table window (omega arith)).least (map own_area needs) own fit in
     let bound = table-bound window choices needs sums places (map own_area needs) table own in
     omega (arith, least, bound, few)

@@ -11,8 +11,15 @@ use Rattle.slot_plan.specs.Reserve.{greatest, free_behind, opens_in}
 use Rattle.slot_plan.proofs.ReserveLaws.{AllFit, starts_of, fit-layout, layout-fit, greatest-most, Contains-greatest}
 use Rattle.slot_plan.proofs.PartLaws.{class-at, class-take}
 use Rattle.slot_plan.proofs.AreaLaws.{Contains-area}
-use Rattle.rate_plan.proofs.MenuPlan.{most_area, start_of}
 use Rattle.rate_plan.specs.Menus.{from_menu, items_from, CanBeLaidFrom, IsUnfit}
+
+-- the largest area that a frame can have
+abbrev pub most_area : List SlotFields → Need → ℕ
+most_area menu need = greatest (areas_with (class_of need.header) need.header.protected menu)
+
+-- the free bytes after a lead-in with the largest area
+abbrev pub start_of : ℕ → ClassFields → List SlotFields → ℕ
+start_of window class menu = free_behind window 0 0 (greatest (areas_with class false menu))
 
 -- ---- each in its largest area
 
@@ -53,7 +60,7 @@ unfolding frames_of tops_of
 frames-top menu [] = refl
 frames-top menu (need ∷ needs) = ap (λ l. top_frame menu need ∷ l) (frames-top menu needs)
 
-has-greatest : (class : ClassFields) (menu : List SlotFields) (protected : Bool) → 1 ≤ length menu → Contains (areas_with class protected menu) (greatest (areas_with class protected menu))
+pub has-greatest : (class : ClassFields) (menu : List SlotFields) (protected : Bool) → 1 ≤ length menu → Contains (areas_with class protected menu) (greatest (areas_with class protected menu))
 has-greatest class [] protected some = absurd (omega (arith, some))
 has-greatest class (slot ∷ slots) protected some =
     Contains-greatest (areas_with class protected (slot ∷ slots)) (area_of class slot protected) (Contains-area class protected (slot ∷ slots) slot (0, omega arith, refl))
@@ -97,6 +104,14 @@ fit-laid window class menu (first ∷ needs) same some slots fit =
     let here = subst (λ c. AllFit window (start_of window c menu) (map (top_frame menu) (first ∷ needs))) (sym same.0) fit in
     let tops = subst (AllFit window (start_of window (class_of first.header) menu)) (sym (frames-top menu (first ∷ needs))) here in
     tops-can window (lead ∷ opens) (lead-chosen (class_of first.header) menu opens slots (tops-chosen menu (first ∷ needs) slots)) (lead-fit window (class_of first.header) menu opens tops)
+
+-- so they can be placed
+pub laid-feasible : (window : ℕ) (class : ClassFields) (menu : List SlotFields) (needs : List Need) → AreOfClass class needs → 1 ≤ length needs → CanBeLaidFrom window true menu needs → IsFeasible window (greatest (areas_with class false menu)) (map (top_frame menu) needs)
+unfolding IsFeasible
+laid-feasible window class menu needs same some can =
+    let before : ℕ = greatest (areas_with class false menu) in
+    let frames : List Frame = map (top_frame menu) needs in
+    (starts_of window 0 before frames, layout-fit window 0 before (start_of window class menu) frames (omega arith) (omega arith) (laid-fit window class menu needs same some can))
 
 -- what has a layout without a lead-in has one after it
 pub without-fit : (window : ℕ) (class : ClassFields) (menu : List SlotFields) (needs : List Need) → CanBeLaidFrom window false menu needs → AllFit window (start_of window class menu) (map (top_frame menu) needs)

@@ -10,8 +10,7 @@ use Rattle.slot_plan.specs.Reserve.{greatest, free_behind}
 use Rattle.slot_plan.proofs.ReserveLaws.{AllFit, fit-from, greatest-most}
 use Rattle.slot_plan.proofs.AreaLaws.{Contains-area}
 use Rattle.rate_plan.specs.Laws.{LargestSlotFits}
-use Rattle.rate_plan.proofs.MenuPlan.{most_area, start_of}
-use Rattle.rate_plan.proofs.FitLaws.{top_frame, fit-laid}
+use Rattle.rate_plan.proofs.FitLaws.{most_area, start_of, top_frame, fit-laid}
 
 -- no area of the class is larger
 most-is : (class : ClassFields) (menu : List SlotFields) (slot : SlotFields) (protected : Bool) → IsClass class → IsSlot slot → Contains menu largest_slot → area_of class slot protected ≤ greatest (areas_with class protected menu)

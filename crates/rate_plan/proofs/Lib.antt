@@ -3,5 +3,3 @@ pub mod PlacingLaws
 pub mod LargestLaw
 pub mod LeastMenuPlan
 pub mod MenuLaws
-pub mod MenuPlan
-pub mod OneMenuPlan

@@ -5,9 +5,8 @@
 mod fault;
 mod largest;
 mod laws;
-mod placing;
+mod menu;
 mod planning;
-mod reserves;
 mod unfit;
 
 pub use fault::RateFault;

@@ -8,11 +8,10 @@ ghost use Rattle.rate_plan.specs.LeastMenuPlan.{IsMenuAnswer};
 ghost use Rattle.rate_plan.specs.Menus.{IsMenuOf, AreNeedsOf, IsMenu, CanBeLaidFrom, IsMenuPlan};
 
 use crate::fault::RateFault;
-use crate::placing::{lead_in, place_frames};
-use crate::reserves::reserves_of;
+use crate::menu::Menu;
 use crate::unfit::first_unfit;
 use frame_header::{Class, Slot};
-use slot_plan::{Need, Plan, free_behind};
+use slot_plan::{Need, Plan, Room, SlotTable, place_part};
 use std::alloc::{AllocError, Global};
 
 /// The plan of frames that have a layout after one lead-in.
@@ -26,18 +25,15 @@ fn fit_plan(alloc: Global, class: Class, needs: &[Need], menu: &[Slot]) -> Resul
     ensures { IfOk result (λ plan.
         IsMenuPlan (window_of class.version) menu.now needs.now (entries plan)) }
 {
+    let table = SlotTable::new(alloc, class, menu)?;
     // There is at most one lead-in.
     let mut placed = Vec::with_capacity(alloc, needs.len() + 1)?;
-    let reserves = reserves_of(alloc, class, needs, menu)?;
-    if reserves.before == 0 {
-        place_frames(class, 0, needs, menu, reserves.behind, &mut placed)?;
-        return Ok(Plan::from_placed(placed));
-    }
-    let frame = lead_in(class, reserves.before, menu);
-    let area = class.area_of(frame.slot, false);
-    placed.push(frame)?;
-    let free = free_behind(class.window(), 0, 0, area);
-    place_frames(class, free, needs, menu, reserves.behind, &mut placed)?;
+    let room = Room {
+        window: class.window(),
+        free: 0,
+    };
+    let offer = Menu { slots: menu };
+    place_part(alloc, room, needs, &offer, &table, &mut placed)?;
     Ok(Plan::from_placed(placed))
 }
 

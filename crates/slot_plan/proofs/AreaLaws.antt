@@ -1,12 +1,11 @@
 -- The areas of slots: the last is the largest, and the first that is large enough the smallest.
-use Rattle.std.proofs.Common.{◌≡◌, ℕ, zero, suc, ◌+◌, ◌-◌, ◌<◌, ◌≤◌, Bool, true, false, refl, lit≤, inl, inr, List, [], ◌∷◌, length, get_or, ltb, Contains, AllPairs, sym, ap, ◌∙◌, subst, arith}
+use Rattle.std.proofs.Common.{◌≡◌, ℕ, zero, suc, ◌+◌, ◌-◌, ◌<◌, ◌≤◌, Bool, false, refl, lit≤, inl, inr, List, [], ◌∷◌, length, get_or, Contains, AllPairs, sym, ap, ◌∙◌, subst, arith}
 use Rattle.std.proofs.lemmas.List.{get_or-map, length-map, get_or_default}
-use Rattle.std.proofs.lemmas.Bool.{cases_lt, lt-ltb, le-ltb}
-use mir.Val.{bool_byte}
-use Rattle.frame_header.specs.Fields.{SlotFields, ClassFields, IsSlot, IsClass}
+use Rattle.std.proofs.lemmas.Bool.{cases_lt}
+use Rattle.frame_header.specs.Fields.{SlotFields, ClassFields, IsClass}
 use Rattle.frame_header.specs.Tables.{area_of}
-use Rattle.frame_header.specs.Slots.{slot_of, all_slots, areas_of, largest_slot}
-use Rattle.frame_header.proofs.SlotLaws.{Contains-all_slots, length-all_slots, place_of, get_or-place_of, IsSlot-nth_slot, area-before, areas-ascend}
+use Rattle.frame_header.specs.Slots.{all_slots, areas_of, largest_slot}
+use Rattle.frame_header.proofs.SlotLaws.{Contains-all_slots, length-all_slots, get_or-place_of, areas-ascend}
 use Rattle.slot_plan.specs.Parts.{areas_with}
 use Rattle.slot_plan.specs.Reserve.{greatest, IsLeastSlot}
 use Rattle.slot_plan.proofs.ReserveLaws.{greatest-most, Contains-greatest}
@@ -101,17 +100,28 @@ least-first wanted c p slots i slot within is ascend small enough = record {
       ];
 }
 
+-- the slots before a place are too small, and so is that at it
+abbrev pub AreSmall : ℕ → ClassFields → Bool → List SlotFields → ℕ → Type 0
+AreSmall wanted c p slots to = (k : ℕ) (d : SlotFields) → k < to → area_of c (get_or slots k d) p < wanted
+
+pub small-next : (wanted : ℕ) (c : ClassFields) (p : Bool) (slots : List SlotFields) (to : ℕ) (slot : SlotFields) → to < length slots → slot ≡ get_or slots to slot → area_of c slot p < wanted → AreSmall wanted c p slots to → AreSmall wanted c p slots (to + 1)
+small-next wanted c p slots to slot within is less small = λ k d before.
+    elim (cases_lt k to) as (λ _. area_of c (get_or slots k d) p < wanted) [
+      | inl earlier ↦ small k d earlier
+      | inr from ↦
+          let same : to ≡ k = omega (arith, before, from) in
+          omega (arith, less, ap (λ s. area_of c s p) (is ∙ get_or_default slots to slot d within ∙ ap (λ n. get_or slots n d) same))
+    ]
+
 -- ---- the slots of a lead-in
 pub lead-ascend : (c : ClassFields) (slots : List SlotFields) → slots ≡ all_slots → Ascend (areas_of c false) → Ascend (areas_with c false slots)
 unfolding areas_of
 lead-ascend c slots all ascend = subst (λ l. Ascend (areas_with c false l)) (sym all) ascend
 
-pub lead-some : (c : ClassFields) (slots : List SlotFields) (n window : ℕ) → slots ≡ all_slots → n ≤ window → window ≤ area_of c largest_slot false → n ≤ greatest (areas_with c false slots)
-lead-some c slots n window all few spanned =
-    let has = Contains-area c false all_slots largest_slot (Contains-all_slots largest_slot (omega arith, omega arith)) in
-    let most = greatest-most (areas_with c false all_slots) (area_of c largest_slot false) has in
-    let same : greatest (areas_with c false all_slots) ≡ greatest (areas_with c false slots) = ap (λ l. greatest (areas_with c false l)) (sym all) in
-    omega arith
+-- the longest is at least a window, where the largest slot is
+pub leads-span : (c : ClassFields) (window : ℕ) → window ≤ area_of c largest_slot false → window ≤ greatest (areas_with c false all_slots)
+leads-span c window spanned =
+    omega (arith, greatest-most (areas_with c false all_slots) (area_of c largest_slot false) (Contains-area c false all_slots largest_slot (Contains-all_slots largest_slot (omega arith, omega arith))))
 
 pub lead-any : (slots : List SlotFields) → slots ≡ all_slots → 0 < length slots
 lead-any slots all = omega (arith, ap length all, length-all_slots)
@@ -119,63 +129,6 @@ lead-any slots all = omega (arith, ap length all, length-all_slots)
 pub class-ascend : (class c : ClassFields) (p : Bool) (slots : List SlotFields) → slots ≡ all_slots → class ≡ c → Ascend (areas_of class p) → Ascend (areas_with c p slots)
 unfolding areas_of
 class-ascend class c p slots all is ascend = subst (λ l. Ascend (areas_with c p l)) (sym all) (subst (λ k. Ascend (areas_with k p all_slots)) is ascend)
-
--- ---- the smallest of all slots, by halving
-byte_most : (padding : Bool) → bool_byte padding ≤ 1
-byte_most true = lit≤ tt
-byte_most false = lit≤ tt
-
--- a slot that doesn't come after another has no greater area
-pub area-le : (c : ClassFields) (p : Bool) (s t : SlotFields) → IsClass c → IsSlot s → IsSlot t → place_of s ≤ place_of t → area_of c s p ≤ area_of c t p
-area-le c p s t class is it before =
-    elim (cases_lt (place_of s) (place_of t)) as (λ _. area_of c s p ≤ area_of c t p) [
-      | inl less ↦ omega (arith, area-before c s t p class is it less)
-      | inr here ↦
-          let same : s ≡ t = sym (get_or-place_of s s is) ∙ ap (λ k. get_or all_slots k s) (omega arith) ∙ get_or-place_of t s it in
-          omega (arith, ap (λ x. area_of c x p) same)
-    ]
-
--- the slots below a bit rate index are too small
-abbrev pub AreSmall : ℕ → ClassFields → Bool → ℕ → Type 0
-AreSmall wanted c p index = (s : SlotFields) → IsSlot s → s.rate_index < index → area_of c s p < wanted
-
-pub small-more : (wanted : ℕ) (c : ClassFields) (p : Bool) (index : ℕ) → IsClass c → 1 ≤ index → index ≤ 14 → area_of c (slot_of index true) p < wanted → AreSmall wanted c p (index + 1)
-small-more wanted c p index class some few small s is less =
-    omega (arith, small, area-le c p s (slot_of index true) class is (some, few) (omega (arith, byte_most s.padding, is.0)))
-
--- a slot that is large enough, where those before it are too small
-least_of_all : (wanted : ℕ) (c : ClassFields) (p : Bool) (s : SlotFields) → IsClass c → IsSlot s → wanted ≤ area_of c s p → ((t : SlotFields) → IsSlot t → place_of t < place_of s → area_of c t p < wanted) → IsLeastSlot wanted c p all_slots s
-least_of_all wanted c p s class is enough small = record {
-  chosen = Contains-all_slots s is;
-  enough = enough;
-  least = λ other has fits.
-      let it : IsSlot other = subst IsSlot (get_or_default all_slots has.0 (slot_of 1 false) other has.1 ∙ has.2) (IsSlot-nth_slot has.0 (omega (arith, has.1, length-all_slots))) in
-      elim (cases_lt (place_of other) (place_of s)) as (λ _. area_of c s p ≤ area_of c other p) [
-        | inl before ↦ absurd (omega (arith, small other it before, fits))
-        | inr from ↦ area-le c p s other class is it (omega arith)
-      ];
-}
-
-pub least-unpadded : (wanted : ℕ) (c : ClassFields) (p : Bool) (index : ℕ) → IsClass c → 1 ≤ index → index ≤ 14 → AreSmall wanted c p index → wanted ≤ area_of c (slot_of index false) p → IsLeastSlot wanted c p all_slots (slot_of index false)
-least-unpadded wanted c p index class some few small enough =
-    least_of_all wanted c p (slot_of index false) class (some, few) enough (λ t it before. small t it (omega (arith, before, it.0)))
-
-pub least-padded : (wanted : ℕ) (c : ClassFields) (p : Bool) (index : ℕ) → IsClass c → 1 ≤ index → index ≤ 14 → AreSmall wanted c p index → area_of c (slot_of index false) p < wanted → wanted ≤ area_of c (slot_of index true) p → IsLeastSlot wanted c p all_slots (slot_of index true)
-least-padded wanted c p index class some few small less enough =
-    least_of_all wanted c p (slot_of index true) class (some, few) enough
-    (λ t it before. omega (arith, less, area-le c p t (slot_of index false) class it (some, few) (omega (arith, before, byte_most t.padding, it.0))))
-
--- the slot at which the halving ends
-pub least-slot : (wanted : ℕ) (c : ClassFields) (p : Bool) (index area : ℕ) → IsClass c → 1 ≤ index → index ≤ 14 → AreSmall wanted c p index → area ≡ area_of c (slot_of index false) p → wanted ≤ area_of c (slot_of index true) p → IsLeastSlot wanted c p all_slots (slot_of index (ltb area wanted))
-least-slot wanted c p index area class some few small is enough =
-    elim (cases_lt area wanted) as (λ _. IsLeastSlot wanted c p all_slots (slot_of index (ltb area wanted))) [
-      | inl less ↦
-          let test : ltb area wanted ≡ true = lt-ltb area wanted less in
-          rw test (least-padded wanted c p index class some few small (omega (arith, less, is)) enough)
-      | inr from ↦
-          let test : ltb area wanted ≡ false = le-ltb area wanted from in
-          rw test (least-unpadded wanted c p index class some few small (omega (arith, from, is)))
-    ]
 
 -- the largest of all slots
 pub greatest-all : (c : ClassFields) (p : Bool) → IsClass c → area_of c largest_slot p ≡ greatest (areas_with c p all_slots)

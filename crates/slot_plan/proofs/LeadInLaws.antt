@@ -19,66 +19,52 @@ contains-cons : (m : ℕ) (ns : List ℕ) (n : ℕ) → Contains (m ∷ ns) n �
 contains-cons m ns n (zero, within, at) = inl at
 contains-cons m ns n (suc i, within, at) = inr (i, omega arith, at)
 
--- of a list, the least number that is large enough
-record LeastOf (wanted : ℕ) (ns : List ℕ) : Type 0 where
-  least : ℕ
-  is : Contains ns least
-  enough : wanted ≤ least
-  most : (other : ℕ) → Contains ns other → wanted ≤ other → least ≤ other
-
-here : (m : ℕ) (ns : List ℕ) → Contains (m ∷ ns) m
-here m ns = (zero, omega arith, refl)
-
 behind : (m n : ℕ) (ns : List ℕ) → Contains ns n → Contains (m ∷ ns) n
 behind m n ns c = (suc c.0, omega (arith, c.1), c.2)
 
-least-first : (wanted m : ℕ) (ns : List ℕ) → wanted ≤ m → ((other : ℕ) → Contains ns other → wanted ≤ other → m ≤ other) → LeastOf wanted (m ∷ ns)
-least-first wanted m ns enough most = record {
-  least = m;
-  is = here m ns;
-  enough = enough;
-  most = λ other has fits. elim (contains-cons m ns other has) as (λ _. m ≤ other) [
-    | inl same ↦ omega (arith, same)
-    | inr later ↦ most other later fits
-  ];
-}
+-- of a number and those of a list, the least that is large enough
+record LeastOf (wanted first : ℕ) (ns : List ℕ) : Type 0 where
+  least : ℕ
+  is : (first ≡ least) ⊎ Contains ns least
+  enough : wanted ≤ least
+  low : least ≤ first
+  most : (other : ℕ) → Contains ns other → wanted ≤ other → least ≤ other
 
-least-later : (wanted m : ℕ) (ns : List ℕ) (rest : LeastOf wanted ns) → (wanted ≤ m → rest.least ≤ m) → LeastOf wanted (m ∷ ns)
-least-later wanted m ns rest less = record {
+least-stays : (wanted first m : ℕ) (ns : List ℕ) → (wanted ≤ m → first ≤ m) → LeastOf wanted first ns → LeastOf wanted first (m ∷ ns)
+least-stays wanted first m ns not_less rest = record {
   least = rest.least;
-  is = behind m rest.least ns rest.is;
+  is = elim rest.is as (λ _. (first ≡ rest.least) ⊎ Contains (m ∷ ns) rest.least) [ inl same ↦ inl same | inr has ↦ inr (behind m rest.least ns has) ];
   enough = rest.enough;
+  low = rest.low;
   most = λ other has fits. elim (contains-cons m ns other has) as (λ _. rest.least ≤ other) [
-    | inl same ↦ let low = less (omega (arith, same, fits)) in omega (arith, same)
+    | inl same ↦ let from = not_less (omega (arith, same, fits)) in omega (arith, same, from, rest.low)
     | inr later ↦ rest.most other later fits
   ];
 }
 
-least-or_none : (wanted : ℕ) (ns : List ℕ) → ((n : ℕ) → Contains ns n → n < wanted) ⊎ LeastOf wanted ns
-least-or_none wanted [] = inl (λ n has. absurd (omega (arith, has.1)))
-least-or_none wanted (m ∷ ns) =
-    elim (least-or_none wanted ns) as (λ _. ((n : ℕ) → Contains (m ∷ ns) n → n < wanted) ⊎ LeastOf wanted (m ∷ ns)) [
-      | inl none ↦
-          elim (cases_lt m wanted) as (λ _. ((n : ℕ) → Contains (m ∷ ns) n → n < wanted) ⊎ LeastOf wanted (m ∷ ns)) [
-            | inl small ↦ inl (λ n has. elim (contains-cons m ns n has) as (λ _. n < wanted) [ inl same ↦ omega (arith, same) | inr later ↦ none n later ])
-            | inr enough ↦ inr (least-first wanted m ns enough (λ other has fits. absurd (omega (arith, none other has))))
-          ]
-      | inr rest ↦
-          elim (cases_lt m rest.least) as (λ _. ((n : ℕ) → Contains (m ∷ ns) n → n < wanted) ⊎ LeastOf wanted (m ∷ ns)) [
-            | inl less ↦
-                elim (cases_lt m wanted) as (λ _. ((n : ℕ) → Contains (m ∷ ns) n → n < wanted) ⊎ LeastOf wanted (m ∷ ns)) [
-                  | inl small ↦ inr (least-later wanted m ns rest (λ enough. absurd (omega arith)))
-                  | inr enough ↦ inr (least-first wanted m ns enough (λ other has fits. let low = rest.most other has fits in omega arith))
-                ]
-            | inr most ↦ inr (least-later wanted m ns rest (λ enough. omega arith))
+least-moves : (wanted first m : ℕ) (ns : List ℕ) → m < first → LeastOf wanted m ns → LeastOf wanted first (m ∷ ns)
+least-moves wanted first m ns less rest = record {
+  least = rest.least;
+  is = elim rest.is as (λ _. (first ≡ rest.least) ⊎ Contains (m ∷ ns) rest.least) [ inl same ↦ inr (zero, omega arith, same) | inr has ↦ inr (behind m rest.least ns has) ];
+  enough = rest.enough;
+  low = omega (arith, less, rest.low);
+  most = λ other has fits. elim (contains-cons m ns other has) as (λ _. rest.least ≤ other) [
+    | inl same ↦ omega (arith, same, rest.low)
+    | inr later ↦ rest.most other later fits
+  ];
+}
+
+least-from : (wanted first : ℕ) (ns : List ℕ) → wanted ≤ first → LeastOf wanted first ns
+least-from wanted first [] enough = record { least = first; is = inl refl; enough = enough; low = omega arith; most = λ other has fits. absurd (omega (arith, has.1)) }
+least-from wanted first (m ∷ ns) enough =
+    elim (cases_lt m wanted) as (λ _. LeastOf wanted first (m ∷ ns)) [
+      | inl small ↦ least-stays wanted first m ns (λ fits. absurd (omega (arith, small, fits))) (least-from wanted first ns enough)
+      | inr fits ↦
+          elim (cases_lt m first) as (λ _. LeastOf wanted first (m ∷ ns)) [
+            | inl less ↦ least-moves wanted first m ns less (least-from wanted m ns fits)
+            | inr from ↦ least-stays wanted first m ns (λ _. from) (least-from wanted first ns enough)
           ]
     ]
-
-least-of : (wanted n : ℕ) (ns : List ℕ) → Contains ns n → wanted ≤ greatest ns → LeastOf wanted ns
-least-of wanted n ns has enough = elim (least-or_none wanted ns) as (λ _. LeastOf wanted ns) [
-  | inl none ↦ let low = none (greatest ns) (Contains-greatest ns n has) in absurd (omega arith)
-  | inr rest ↦ rest
-]
 
 least-areas : (window free : ℕ) (opens : List Open) (some : List ℕ) → AreChosen opens some → needed opens ≤ free → AllWithin window opens → (areas : List ℕ) × AreLeastAreas window free opens areas
 unfolding AreChosen needed AllWithin AreLeastAreas
@@ -87,10 +73,12 @@ least-areas window free (o ∷ opens) [] chosen enough within = absurd chosen
 least-areas window free (o ∷ opens) (area ∷ some) chosen enough within =
     let all : (o.bytes + needed opens) - greatest o.areas ≤ free = enough in
     let later : needed opens ≤ window = within.0 in
-    let pick = least-of ((o.bytes + needed opens) - free) area o.areas chosen.0 (omega arith) in
+    let greatest_is = Contains-greatest o.areas area chosen.0 in
+    let pick = least-from ((o.bytes + needed opens) - free) (greatest o.areas) o.areas (omega arith) in
+    let is = elim pick.is as (λ _. Contains o.areas pick.least) [ inl same ↦ subst (Contains o.areas) same greatest_is | inr has ↦ has ] in
     let fits : (o.bytes + needed opens) - free ≤ pick.least = pick.enough in
     let rest = least-areas window (free_behind window free o.bytes pick.least) opens some chosen.1 (omega arith) within.1 in
-    (pick.least ∷ rest.0, (pick.is, pick.enough, pick.most, rest.1))
+    (pick.least ∷ rest.0, (is, pick.enough, pick.most, rest.1))
 
 -- ---- from the definition to the least list
 chosen-tail : (o : Open) (opens : List Open) (areas : List ℕ) → AreChosen (o ∷ opens) areas → (rest : List ℕ) × AreChosen opens rest

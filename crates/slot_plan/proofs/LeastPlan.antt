@@ -1,26 +1,28 @@
 -- The first list of slots for which there is a layout is the least, so the plan is that of the function.
-use Rattle.std.proofs.Common.{◌≡◌, ℕ, zero, suc, ◌+◌, ◌-◌, ◌<◌, ◌≤◌, ◌&&◌, max, leb, cond, Bool, true, false, inl, inr, List, [], ◌∷◌, map, get_or, Contains, Option, Some, None, refl, sym, ap, ap₂, ◌∙◌, subst, arith}
+use Rattle.std.proofs.Common.{◌≡◌, ℕ, zero, suc, ◌+◌, ◌-◌, ◌<◌, ◌≤◌, ◌&&◌, max, leb, cond, Bool, true, false, inl, inr, List, [], ◌∷◌, map, Contains, Option, Some, None, refl, sym, ap, ap₂, ◌∙◌, subst, lit≤, arith}
 use Rattle.std.specs.Prelude.{◌↔◌, All, flat_map, find, option_map, option_and_then, is_some, unwrap_or, slice_get}
 use Rattle.std.specs.Option.{option_or}
 use Rattle.std.proofs.lemmas.Bool.{leb-true, le-leb, and_parts}
 use Rattle.std.proofs.lemmas.List.Folds.{find-append}
 use Rattle.frame_header.specs.Fields.{SlotFields, HeaderFields, ClassFields}
 use Rattle.frame_header.specs.Tables.{class_of, area_of, window_of}
-use Rattle.frame_header.specs.Slots.{all_slots}
+use Rattle.frame_header.specs.Slots.{all_slots, largest_slot}
+use Rattle.frame_header.proofs.SlotLaws.{Contains-all_slots, window-spanned}
 use Rattle.slot_plan.specs.declared.needs.Need.{Need}
 use Rattle.slot_plan.specs.declared.needs.Placed.{Placed}
 use Rattle.slot_plan.specs.Layouts.{Frame, IsFeasible, has_layout, begins_of}
 use Rattle.slot_plan.specs.Lists.{AreChosen, frames_of, CanBeLaid, IsNotBehind, IsLeast}
-use Rattle.slot_plan.specs.Parts.{Item, area_in, open_of, item_of, lead_in_of, items_of, areas_with, ArePartsFeasible, AreOfClass, IsLeadIn, AreLeadIns, whole_of}
+use Rattle.slot_plan.specs.Parts.{Item, area_in, open_of, item_of, lead_in_of, items_of, areas_with, own_frame, ArePartsFeasible, AreOfClass, IsLeadIn, AreLeadIns, whole_of}
 use Rattle.slot_plan.specs.Plans.{AreFor, areas_in, IsPlanFor, IsPlan}
-use Rattle.slot_plan.specs.Reserve.{free_behind}
+use Rattle.slot_plan.specs.Reserve.{greatest, needed, free_behind, AllWithin, opens_in, own_area_of, area_by}
 use Rattle.slot_plan.specs.LeastPlan.{all_lists, in_slots, first_list, placed_in, laid_early, least_of, lead_in_alone, least_plan}
-use Rattle.slot_plan.specs.Laws.{ChooseInOrder, behind_any}
-use Rattle.slot_plan.proofs.ReserveLaws.{AllFit, fit-layout, layout-fit, starts_of}
-use Rattle.slot_plan.proofs.AreaLaws.{Ascend, slot-area, Contains-area, one-slot}
+use Rattle.slot_plan.specs.Laws.{ChooseInOrder}
+use Rattle.slot_plan.proofs.ReserveLaws.{AllFit, fit-layout, layout-fit, starts_of, needed-can, can-needed}
+use Rattle.slot_plan.proofs.AreaLaws.{Ascend, slot-area, Contains-area, leads-span}
+use Rattle.slot_plan.proofs.PartLaws.{needed-from, nothing_chosen, chosen-cons}
+use Rattle.slot_plan.proofs.PlacedLaws.{nothing-can, whole-can}
 use Rattle.slot_plan.proofs.LeadInLaws.{lead-first}
-use Rattle.slot_plan.proofs.ThePlan.{the_plan, plan-is}
-use Rattle.slot_plan.proofs.OnePlan.{AreOrdered, AreInOrder, AllInOrder, all_in_order, slots_ascend, ordered_frames, ordered_whole, one_plan_for, equal_lists}
+use Rattle.slot_plan.proofs.OnePlan.{AreOrdered, AreInOrder, AllInOrder, all_in_order, slots_ascend, ordered_frames, ordered_whole, one_lead, one_plan_for}
 
 -- ---- the test finds whether there is a layout
 
@@ -59,13 +61,13 @@ feasible-has window frames feasible = fit-has window 0 0 0 frames (omega arith) 
 -- ---- the first list that passes a test
 
 -- a slot for each item, one of its choices
-unfoldable AreOf : List Item → List SlotFields → Type 0
+unfoldable pub AreOf : List Item → List SlotFields → Type 0
 AreOf [] [] = Unit {0}
 AreOf [] (slot ∷ slots) = ⊥
 AreOf (item ∷ items) [] = ⊥
 AreOf (item ∷ items) (slot ∷ slots) = Contains item.choices slot × AreOf items slots
 
-unfoldable areas_by : List Item → List SlotFields → List ℕ
+unfoldable pub areas_by : List Item → List SlotFields → List ℕ
 areas_by [] slots = []
 areas_by (item ∷ items) [] = []
 areas_by (item ∷ items) (slot ∷ slots) = area_in item slot ∷ areas_by items slots
@@ -201,7 +203,7 @@ of-chosen [] (slot ∷ slots) of = absurd of
 of-chosen (item ∷ items) [] of = absurd of
 of-chosen (item ∷ items) (slot ∷ slots) of = (Contains-area item.class item.protected item.choices slot of.0, of-chosen items slots of.1)
 
-chosen-of : (items : List Item) (areas : List ℕ) → AreChosen (map open_of items) areas → (slots : List SlotFields) × AreOf items slots × (areas_by items slots ≡ areas)
+pub chosen-of : (items : List Item) (areas : List ℕ) → AreChosen (map open_of items) areas → (slots : List SlotFields) × AreOf items slots × (areas_by items slots ≡ areas)
 unfolding AreOf AreChosen areas_by
 chosen-of [] [] chosen = ([], tt, refl)
 chosen-of [] (area ∷ areas) chosen = absurd chosen
@@ -215,10 +217,10 @@ module _ (window : ℕ) (items : List Item) where
   abbrev passing : List SlotFields → Bool
   passing slots = has_layout window 0 0 (in_slots items slots)
 
-  slots-feasible : (slots : List SlotFields) → passing slots ≡ true → IsFeasible window 0 (frames_of (map open_of items) (areas_by items slots))
+  pub slots-feasible : (slots : List SlotFields) → passing slots ≡ true → IsFeasible window 0 (frames_of (map open_of items) (areas_by items slots))
   slots-feasible slots passes = subst (IsFeasible window 0) (slots-frames items slots) (has-feasible window (in_slots items slots) passes)
 
-  feasible-slots : (slots : List SlotFields) → IsFeasible window 0 (frames_of (map open_of items) (areas_by items slots)) → passing slots ≡ true
+  pub feasible-slots : (slots : List SlotFields) → IsFeasible window 0 (frames_of (map open_of items) (areas_by items slots)) → passing slots ≡ true
   feasible-slots slots feasible = feasible-has window (in_slots items slots) (subst (IsFeasible window 0) (sym (slots-frames items slots)) feasible)
 
   first-list-least : (slots : List SlotFields) → AreOrdered items → first_list window items ≡ Some slots → AreOf items slots × IsLeast window (map open_of items) (areas_by items slots)
@@ -235,12 +237,16 @@ module _ (window : ℕ) (items : List Item) where
         },
       )
 
-  no-list : AreOrdered items → first_list window items ≡ None → CanBeLaid window (map open_of items) → ⊥
+  pub no-list : AreOrdered items → first_list window items ≡ None → CanBeLaid window (map open_of items) → ⊥
   unfolding CanBeLaid
   no-list ordered is can =
       let none : Finds items passing None = subst (Finds items passing) is (finds items ordered passing) in
       let of = chosen-of items can.0 can.1 in
       none of.0 of.1 (feasible-slots of.0 (subst (λ l. IsFeasible window 0 (frames_of (map open_of items) l)) (sym of.2) can.2))
+
+  pub list-can : AreOrdered items → (slots : List SlotFields) → first_list window items ≡ Some slots → CanBeLaid window (map open_of items)
+  unfolding CanBeLaid
+  list-can ordered slots is = let least = (first-list-least slots ordered is).1 in (areas_by items slots, least.chosen, least.feasible)
 
   pub some-list : AreOrdered items → CanBeLaid window (map open_of items) → (slots : List SlotFields) × (first_list window items ≡ Some slots)
   some-list ordered can = at (first_list window items) refl
@@ -255,7 +261,7 @@ module _ (window : ℕ) (items : List Item) where
     where
       at : (found : Option (List SlotFields)) → first_list window items ≡ found → first_list window items ≡ None
       at None is = is
-      at (Some slots) is = let least = (first-list-least slots ordered is).1 in absurd (never (areas_by items slots, least.chosen, least.feasible))
+      at (Some slots) is = absurd (never (list-can ordered slots is))
 
 -- ---- laid as early as may be, it is the plan of these items
 
@@ -283,16 +289,22 @@ laid-begins window end before (item ∷ items) [] of = absurd of
 laid-begins window end before (item ∷ items) (slot ∷ slots) of =
     ap (λ (l : List ℕ). (before - max end (before - window)) ∷ l) (laid-begins window (max end (before - window) + item.bytes) (before + area_in item slot) items slots of.1)
 
+pub laid-early : (window : ℕ) (items : List Item) (slots : List SlotFields) → AreOf items slots
+    → AreFor items (laid_early window items slots) × (areas_in items (laid_early window items slots) ≡ areas_by items slots)
+    × (map (λ (p : Placed). p.begin) (laid_early window items slots) ≡ begins_of window 0 0 (frames_of (map open_of items) (areas_in items (laid_early window items slots))))
+laid-early window items slots of =
+    let areas = laid-areas window 0 0 items slots of in (
+      laid-for window 0 0 items slots of,
+      areas,
+      laid-begins window 0 0 items slots of ∙ ap (begins_of window 0 0) (slots-frames items slots ∙ ap (frames_of (map open_of items)) (sym areas)),
+    )
+
 module _ (window : ℕ) (items : List Item) (ordered : AreOrdered items) where
   plan-laid : (slots : List SlotFields) → first_list window items ≡ Some slots → IsPlanFor window items (laid_early window items slots)
   plan-laid slots is =
       let found = first-list-least window items slots ordered is in
-      let areas = laid-areas window 0 0 items slots found.0 in
-      record {
-        slots = laid-for window 0 0 items slots found.0;
-        least = subst (IsLeast window (map open_of items)) (sym areas) found.1;
-        begins = laid-begins window 0 0 items slots found.0 ∙ ap (begins_of window 0 0) (slots-frames items slots ∙ ap (frames_of (map open_of items)) (sym areas));
-      }
+      let laid = laid-early window items slots found.0 in
+      record { slots = laid.0; least = subst (IsLeast window (map open_of items)) (sym laid.1) found.1; begins = laid.2 }
 
   pub plan-found : (placed : List Placed) → IsPlanFor window items placed → least_of window items ≡ Some placed
   unfolding CanBeLaid
@@ -302,42 +314,80 @@ module _ (window : ℕ) (items : List Item) (ordered : AreOrdered items) where
       at None is = absurd (no-list window items ordered is (areas_in items placed, plan.least.chosen, plan.least.feasible))
       at (Some slots) is = ap Some (one_plan_for window items (laid_early window items slots) placed ordered (plan-laid slots is) plan)
 
+  pub found-plan : (placed : List Placed) → least_of window items ≡ Some placed → IsPlanFor window items placed
+  found-plan placed same = at (first_list window items) refl same
+    where
+      at : (found : Option (List SlotFields)) → first_list window items ≡ found → option_map (laid_early window items) found ≡ Some placed → IsPlanFor window items placed
+      at None is e = absurd cc
+      at (Some slots) is e = subst (IsPlanFor window items) (ap (λ o. unwrap_or o placed) e) (plan-laid slots is)
+
   pub none-found : (CanBeLaid window (map open_of items) → ⊥) → least_of window items ≡ None
   none-found never = ap (option_map (laid_early window items)) (never-list window items ordered never)
 
+  pub can-found : CanBeLaid window (map open_of items) → (placed : List Placed) × (least_of window items ≡ Some placed)
+  can-found can = let found = some-list window items ordered can in (laid_early window items found.0, ap (option_map (laid_early window items)) found.1)
+
 -- ---- the lead-ins
 
+own-chosen : (choices : HeaderFields → List SlotFields) (part : List Need) → AreInOrder choices part → AreChosen (opens_in choices part) (map (area_by own_area_of) part)
+own-chosen choices [] order = nothing_chosen choices own_area_of
+own-chosen choices (need ∷ part) order =
+    chosen-cons choices own_area_of need part (Contains-area (class_of need.header) need.header.protected (choices need.header) need.header.slot order.0.own) (own-chosen choices part order.1)
+
 module _ (window : ℕ) (choices : HeaderFields → List SlotFields) where
-  lead-slot : (first : Need) (part : List Need) (slot : SlotFields) (rest : List ℕ) (slots : List SlotFields) → AreInOrder choices (first ∷ part) → Contains all_slots slot → IsLeast window (behind_any choices first part) (area_of (class_of first.header) slot false ∷ rest)
-      → AreOf (lead_in_of (class_of first.header) all_slots ∷ map (item_of choices) (first ∷ part)) slots
-      → IsLeast window (behind_any choices first part) (areas_by (lead_in_of (class_of first.header) all_slots ∷ map (item_of choices) (first ∷ part)) slots) → slice_get slots 0 ≡ Some slot
-  unfolding AreOf areas_by
-  lead-slot first part slot rest [] order is least of found = absurd of
-  lead-slot first part slot rest (s ∷ slots) order is least of found =
-      let areas : List ℕ = areas_by (lead_in_of (class_of first.header) all_slots ∷ map (item_of choices) (first ∷ part)) (s ∷ slots) in
-      let same = equal_lists areas (area_of (class_of first.header) slot false ∷ rest) (found.least (area_of (class_of first.header) slot false ∷ rest) least.chosen least.feasible) (least.least areas found.chosen found.feasible) in
-      ap Some (one-slot (class_of first.header) false all_slots s slot (slots_ascend (class_of first.header) order.0.class) of.0 is (ap (λ l. get_or l 0 0) same))
+  -- the frames of a part after a lead-in with any slot
+  abbrev after_any : Need → List Need → List Item
+  after_any first part = lead_in_of (class_of first.header) all_slots ∷ map (item_of choices) (first ∷ part)
+
+  abbrev CanBeLaidAfter : Need → List Need → Type 0
+  CanBeLaidAfter first part = CanBeLaid window (map open_of (after_any first part))
+
+  after-needed : (first : Need) (part : List Need) (areas : List ℕ) → AreChosen (opens_in choices (first ∷ part)) areas → needed (opens_in choices (first ∷ part)) ≤ window → needed (opens_in choices (first ∷ part)) ≤ greatest (areas_with (class_of first.header) false all_slots)
+      → AllWithin window (opens_in choices (first ∷ part)) → CanBeLaidAfter first part
+  unfolding AreChosen needed AllWithin
+  after-needed first part areas chosen most room within =
+      let class : ClassFields = class_of first.header in
+      can-needed window (map open_of (after_any first part)) (area_of class largest_slot false ∷ areas)
+      (Contains-area class false all_slots largest_slot (Contains-all_slots largest_slot (lit≤ tt, lit≤ tt)), chosen) (omega (arith, room)) (most, within)
+
+  after-lead : (first : Need) (part : List Need) (lead_in : Option SlotFields) → IsLeadIn window choices (first ∷ part) lead_in → CanBeLaidAfter first part
+  unfolding IsLeadIn items_of CanBeLaid
+  after-lead first part None can =
+      let none = needed-can window (opens_in choices (first ∷ part)) can in
+      after-needed first part can.0 can.1 (omega (arith, none.0)) (omega (arith, none.0)) none.1
+  after-lead first part (Some slot) is =
+      let least = (lead-first window choices first part slot is.0 is.2).0 is in
+      (area_of (class_of first.header) slot false ∷ least.0, least.1.chosen, least.1.feasible)
+
+  -- the first slot of the least list is that of the lead-in
+  first-lead : (first : Need) (part : List Need) (slots : List SlotFields) → (CanBeLaid window (map open_of (map (item_of choices) (first ∷ part))) → ⊥) → AreOf (after_any first part) slots
+      → IsLeast window (map open_of (after_any first part)) (areas_by (after_any first part) slots) → IsLeadIn window choices (first ∷ part) (slice_get slots 0)
+  unfolding items_of AreOf areas_by
+  first-lead first part [] never of least = absurd of
+  first-lead first part (slot ∷ slots) never of least = (lead-first window choices first part slot never of.0).1 (areas_by (map (item_of choices) (first ∷ part)) slots, least)
+
+  lead-by : (first : Need) (part : List Need) → AreInOrder choices (first ∷ part) → CanBeLaidAfter first part → (found : Option (List SlotFields)) → first_list window (map (item_of choices) (first ∷ part)) ≡ found
+      → IsLeadIn window choices (first ∷ part) (cond (is_some found) None (option_and_then (λ slots. slice_get slots 0) (first_list window (after_any first part))))
+  unfolding IsLeadIn items_of
+  lead-by first part order can (Some slots) is = list-can window (map (item_of choices) (first ∷ part)) (ordered_frames choices (first ∷ part) order) slots is
+  lead-by first part order can None is =
+      let ordered : AreOrdered (after_any first part) = (slots_ascend (class_of first.header) order.0.class, ordered_frames choices (first ∷ part) order) in
+      let found = some-list window (after_any first part) ordered can in
+      let least = first-list-least window (after_any first part) found.0 ordered found.1 in
+      subst (λ o. IsLeadIn window choices (first ∷ part) (option_and_then (λ slots. slice_get slots 0) o)) (sym found.1)
+      (first-lead first part found.0 (no-list window (map (item_of choices) (first ∷ part)) (ordered_frames choices (first ∷ part) order) is) least.0 least.1)
+
+  lead-made : (first : Need) (part : List Need) → AreInOrder choices (first ∷ part) → CanBeLaidAfter first part → IsLeadIn window choices (first ∷ part) (lead_in_alone window choices (first ∷ part))
+  unfolding lead_in_alone
+  lead-made first part order can = lead-by first part order can (first_list window (map (item_of choices) (first ∷ part))) refl
+
+  no-part : IsLeadIn window choices [] (lead_in_alone window choices [])
+  unfolding IsLeadIn items_of lead_in_alone
+  no-part = nothing-can window
 
   lead-alone : (part : List Need) (lead_in : Option SlotFields) → AreInOrder choices part → IsLeadIn window choices part lead_in → lead_in_alone window choices part ≡ lead_in
-  unfolding IsLeadIn items_of lead_in_alone CanBeLaid
-  lead-alone [] None order is = refl
-  lead-alone [] (Some slot) order is = absurd is
-  lead-alone (first ∷ part) None order is =
-      let items : List Item = map (item_of choices) (first ∷ part) in
-      let behind : List Item = lead_in_of (class_of first.header) all_slots ∷ items in
-      let found = some-list window items (ordered_frames choices (first ∷ part) order) is in
-      ap (λ (o : Option (List SlotFields)). cond (is_some o) None (option_and_then (λ slots. slice_get slots 0) (first_list window behind))) found.1
-  lead-alone (first ∷ part) (Some slot) order is =
-      let items : List Item = map (item_of choices) (first ∷ part) in
-      let behind : List Item = lead_in_of (class_of first.header) all_slots ∷ items in
-      let ordered : AreOrdered items = ordered_frames choices (first ∷ part) order in
-      let ordered_behind : AreOrdered behind = (slots_ascend (class_of first.header) order.0.class, ordered) in
-      let least = (lead-first window choices first part slot is.0 is.2).0 is in
-      let found = some-list window behind ordered_behind (area_of (class_of first.header) slot false ∷ least.0, least.1.chosen, least.1.feasible) in
-      let at = first-list-least window behind found.0 ordered_behind found.1 in
-      ap (λ (o : Option (List SlotFields)). cond (is_some o) None (option_and_then (λ slots. slice_get slots 0) (first_list window behind))) (never-list window items ordered is.0)
-      ∙ ap (λ (o : Option (List SlotFields)). option_and_then (λ slots. slice_get slots 0) o) found.1
-      ∙ lead-slot first part slot least.0 found.0 order is.2 least.1 at.0 at.1
+  lead-alone [] lead_in order is = one_lead window choices [] (lead_in_alone window choices []) lead_in order no-part is
+  lead-alone (first ∷ part) lead_in order is = one_lead window choices (first ∷ part) (lead_in_alone window choices (first ∷ part)) lead_in order (lead-made first part order (after-lead first part lead_in is)) is
 
   leads-alone : (parts : List (List Need)) (lead_ins : List (Option SlotFields)) → AllInOrder choices parts → AreLeadIns window choices parts lead_ins → map (lead_in_alone window choices) parts ≡ lead_ins
   unfolding AreLeadIns
@@ -357,10 +407,43 @@ module _ (window : ℕ) (choices : HeaderFields → List SlotFields) where
       sym (ap (λ l. unwrap_or (least_of window (whole_of choices parts l)) []) (leads-alone parts plan.lead_ins all plan.alone) ∙ ap (λ o. unwrap_or o []) found)
 
 -- parts of one class that have layouts have a plan, so it is the only one
+module _ (class : ClassFields) (choices : HeaderFields → List SlotFields) where
+  abbrev window_is : ℕ
+  window_is = window_of class.version
+
+  lead-feasible : (part : List Need) → AreOfClass class part → AreInOrder choices part → IsFeasible window_is window_is (map own_frame part) → IsLeadIn window_is choices part (lead_in_alone window_is choices part)
+  unfolding AreOfClass
+  lead-feasible [] same order feasible = no-part window_is choices
+  lead-feasible (first ∷ part) same order feasible =
+      let chosen = own-chosen choices (first ∷ part) order in
+      let all = needed-from window_is window_is 0 choices own_area_of (first ∷ part) feasible chosen in
+      let spanned = subst (λ k. window_of k.version ≤ area_of (class_of first.header) largest_slot false) same.0 (window-spanned (class_of first.header) order.0.class) in
+      lead-made window_is choices first part order
+      (after-needed window_is choices first part (map (area_by own_area_of) (first ∷ part)) chosen all.0 (omega (arith, all.0, leads-span (class_of first.header) window_is spanned)) all.1)
+
+  leads-feasible : (parts : List (List Need)) → All (λ part. AreOfClass class part) parts → AllInOrder choices parts → ArePartsFeasible window_is parts → AreLeadIns window_is choices parts (map (lead_in_alone window_is choices) parts)
+  unfolding AreLeadIns ArePartsFeasible
+  leads-feasible [] same order feasible = tt
+  leads-feasible (part ∷ parts) same order feasible =
+      (lead-feasible part (same 0 part (omega arith)) order.0 feasible.0, leads-feasible parts (λ k d lt. same (suc k) d (omega (arith, lt))) order.1 feasible.1)
+
+  plan-made : (parts : List (List Need)) → All (λ part. AreOfClass class part) parts → ChooseInOrder choices parts → ArePartsFeasible window_is parts → IsPlan window_is choices parts (least_plan window_is choices parts)
+  unfolding least_plan
+  plan-made parts same order feasible =
+      let all = all_in_order choices parts order in
+      let lead_ins : List (Option SlotFields) = map (lead_in_alone window_is choices) parts in
+      let items : List Item = whole_of choices parts lead_ins in
+      let alone = leads-feasible parts same all feasible in
+      let found = can-found window_is items (ordered_whole choices parts lead_ins all) (whole-can window_is choices parts lead_ins alone) in
+      record {
+        lead_ins = lead_ins;
+        alone = alone;
+        whole = subst (IsPlanFor window_is items) (sym (ap (λ o. unwrap_or o []) found.1)) (found-plan window_is items (ordered_whole choices parts lead_ins all) found.0 found.1);
+      }
+
 pub least-plan-is : (class : ClassFields) (choices : HeaderFields → List SlotFields) (parts : List (List Need)) (placed : List Placed)
     → All (λ part. AreOfClass class part) parts → ChooseInOrder choices parts → ArePartsFeasible (window_of class.version) parts → IsPlan (window_of class.version) choices parts placed ↔ (placed ≡ least_plan (window_of class.version) choices parts)
-least-plan-is class choices parts placed of_class order feasible =
-    let is = plan-is class choices parts of_class order feasible in (
-      (λ plan. plan-least (window_of class.version) choices parts placed order plan),
-      (λ same. subst (IsPlan (window_of class.version) choices parts) (plan-least (window_of class.version) choices parts (the_plan (window_of class.version) choices parts) order is ∙ sym same) is),
-    )
+least-plan-is class choices parts placed same order feasible = (
+  (λ plan. plan-least (window_of class.version) choices parts placed order plan),
+  (λ is. subst (IsPlan (window_of class.version) choices parts) (sym is) (plan-made class choices parts same order feasible)),
+)

@@ -2,11 +2,9 @@ pub mod ReserveLaws
 pub mod AreaLaws
 pub mod LengthLaws
 pub mod TableLaws
-pub mod HalvingLaws
 pub mod PartLaws
 pub mod PlacedLaws
 pub mod CheckedLaws
 pub mod LeadInLaws
 pub mod OnePlan
-pub mod ThePlan
 pub mod LeastPlan

@@ -93,7 +93,7 @@ all_in_order choices (part ∷ parts) all = (in_order choices part (all 0 part (
 pub slots_ascend : (c : ClassFields) → IsClass c → Ascend (areas_with c false all_slots)
 slots_ascend c class = lead-ascend c all_slots refl (areas-ascend c class false)
 
-one_lead : (window : ℕ) (choices : HeaderFields → List SlotFields) (part : List Need) (x y : Option SlotFields) → AreInOrder choices part → IsLeadIn window choices part x → IsLeadIn window choices part y → x ≡ y
+pub one_lead : (window : ℕ) (choices : HeaderFields → List SlotFields) (part : List Need) (x y : Option SlotFields) → AreInOrder choices part → IsLeadIn window choices part x → IsLeadIn window choices part y → x ≡ y
 unfolding IsLeadIn
 one_lead window choices part None None order first second = refl
 one_lead window choices [] None (Some t) order first second = absurd second

@@ -10,9 +10,9 @@ use Rattle.slot_plan.specs.declared.needs.Need.{Need}
 use Rattle.slot_plan.specs.declared.reserves.Reserves.{Reserves}
 use Rattle.slot_plan.specs.Layouts.{IsFeasible}
 use Rattle.slot_plan.specs.Lists.{AreChosen, frames_of}
-use Rattle.slot_plan.specs.Parts.{item_of, open_of, own_frame, own_area, parts_of, ArePartsFeasible, AreOfClass, AreOfOneClass, window_in}
-use Rattle.slot_plan.specs.Reserve.{greatest, needed, needed_behind, AllWithin, opens_in, AreReserves}
-use Rattle.slot_plan.proofs.ReserveLaws.{AllFit, fit-from, needed-fit}
+use Rattle.slot_plan.specs.Parts.{item_of, open_of, own_frame, parts_of, ArePartsFeasible, AreOfClass, AreOfOneClass, window_in}
+use Rattle.slot_plan.specs.Reserve.{greatest, needed, needed_behind, AllWithin, opens_in, area_by, frame_by, AreReserves}
+use Rattle.slot_plan.proofs.ReserveLaws.{AllFit, fit-layout, fit-after, needed-fit}
 
 -- the need at i, and those after it
 pub next_need : (part : List Need) (i : ℕ) (need : Need) → i < length part → need ≡ get_or part i need → drop i part ≡ need ∷ drop (i + 1) part
@@ -20,19 +20,29 @@ next_need part i need lt is =
     let one : suc i ≡ i + 1 = omega arith in
     drop-cons part i need lt ∙ ap (λ n. get_or part i need ∷ drop n part) one ∙ ap (λ n. n ∷ drop (i + 1) part) (sym is)
 
--- in its own slots a part is the frames of its own areas
-pub frames-own : (choices : HeaderFields → List SlotFields) (part : List Need) → frames_of (opens_in choices part) (map own_area part) ≡ map own_frame part
+-- with an area each a part is the frames with these areas
+pub frames-by : (choices : HeaderFields → List SlotFields) (area : HeaderFields → ℕ) (part : List Need) → frames_of (opens_in choices part) (map (area_by area) part) ≡ map (frame_by area) part
 unfolding frames_of
-frames-own choices [] = refl
-frames-own choices (need ∷ part) = ap (λ l. own_frame need ∷ l) (frames-own choices part)
+frames-by choices area [] = refl
+frames-by choices area (need ∷ part) = ap (λ l. frame_by area need ∷ l) (frames-by choices area part)
 
 -- so from each frame on, no more is needed than the window
-pub needed-own : (window k : ℕ) (choices : HeaderFields → List SlotFields) (part : List Need) → IsFeasible window window (map own_frame part) → AreChosen (opens_in choices (drop k part)) (map own_area (drop k part))
-    → (needed (opens_in choices (drop k part)) ≤ window) × AllWithin window (opens_in choices (drop k part))
-needed-own window k choices part feasible chosen =
-    let fit : AllFit window window (drop k (map own_frame part)) = fit-from window k (map own_frame part) feasible in
-    let own = drop-map own_frame k part ∙ sym (frames-own choices (drop k part)) in
-    needed-fit window window (opens_in choices (drop k part)) (map own_area (drop k part)) (omega arith) chosen (subst (AllFit window window) own fit)
+pub needed-from : (window before k : ℕ) (choices : HeaderFields → List SlotFields) (area : HeaderFields → ℕ) (part : List Need) → IsFeasible window before (map (frame_by area) part)
+    → AreChosen (opens_in choices (drop k part)) (map (area_by area) (drop k part)) → (needed (opens_in choices (drop k part)) ≤ window) × AllWithin window (opens_in choices (drop k part))
+needed-from window before k choices area part feasible chosen =
+    let fit : AllFit window window (drop k (map (frame_by area) part)) = fit-after window before k (map (frame_by area) part) feasible in
+    let same = drop-map (frame_by area) k part ∙ sym (frames-by choices area (drop k part)) in
+    needed-fit window window (opens_in choices (drop k part)) (map (area_by area) (drop k part)) (omega arith) chosen (subst (AllFit window window) same fit)
+
+-- and before all of them no more than is before them
+pub needed-first : (window before : ℕ) (choices : HeaderFields → List SlotFields) (area : HeaderFields → ℕ) (part : List Need) → IsFeasible window before (map (frame_by area) part)
+    → AreChosen (opens_in choices part) (map (area_by area) part) → needed (opens_in choices part) ≤ before
+unfolding IsFeasible
+needed-first window before choices area part feasible chosen =
+    let free : ℕ = before - (before - window) in
+    let fit = fit-layout window 0 before free (map (frame_by area) part) feasible.0 (omega arith) feasible.1 in
+    let enough = (needed-fit window free (opens_in choices part) (map (area_by area) part) (omega arith) chosen (subst (AllFit window free) (sym (frames-by choices area part)) fit)).0 in
+    omega (arith, enough)
 
 -- ---- one frame more
 pub behind-cons : (choices : HeaderFields → List SlotFields) (need : Need) (part : List Need) → needed_behind (opens_in choices (need ∷ part)) ≡ needed_behind (opens_in choices part) ++ needed (opens_in choices part) ∷ []
@@ -47,9 +57,10 @@ pub within-cons : (window : ℕ) (choices : HeaderFields → List SlotFields) (n
 unfolding AllWithin
 within-cons window choices need part all = all
 
-pub chosen-cons : (choices : HeaderFields → List SlotFields) (need : Need) (part : List Need) → Contains (open_of (item_of choices need)).areas (own_area need) → AreChosen (opens_in choices part) (map own_area part) → AreChosen (opens_in choices (need ∷ part)) (map own_area (need ∷ part))
+pub chosen-cons : (choices : HeaderFields → List SlotFields) (area : HeaderFields → ℕ) (need : Need) (part : List Need) → Contains (open_of (item_of choices need)).areas (area need.header) → AreChosen (opens_in choices part) (map (area_by area) part)
+    → AreChosen (opens_in choices (need ∷ part)) (map (area_by area) (need ∷ part))
 unfolding AreChosen
-chosen-cons choices need part here behind = (here, behind)
+chosen-cons choices area need part here behind = (here, behind)
 
 -- after all frames
 pub nothing_behind : (choices : HeaderFields → List SlotFields) → needed_behind (opens_in choices []) ≡ []
@@ -64,9 +75,9 @@ pub nothing_within : (window : ℕ) (choices : HeaderFields → List SlotFields)
 unfolding AllWithin
 nothing_within window choices = tt
 
-pub nothing_chosen : (choices : HeaderFields → List SlotFields) → AreChosen (opens_in choices []) (map own_area [])
+pub nothing_chosen : (choices : HeaderFields → List SlotFields) (area : HeaderFields → ℕ) → AreChosen (opens_in choices []) (map (area_by area) [])
 unfolding AreChosen
-nothing_chosen choices = tt
+nothing_chosen choices area = tt
 
 -- the last of the list is what the first frame needs after it
 pub popped : (behind rest : List ℕ) (last : Option ℕ) (ns : List ℕ) (n : ℕ) → behind ≡ ns ++ n ∷ [] → behind ≡ rest ++ option_to_list last → 0 < length (option_to_list last) → (last ≡ Some n) × (rest ≡ ns)
@@ -74,46 +85,47 @@ popped behind rest None ns n is parts some = absurd (omega arith)
 popped behind rest (Some m) ns n is parts some = let same = same_from_push rest ns m n (sym parts ∙ is) in (ap (λ k. Some k) same.1, same.0)
 
 -- ---- the frames of a part from i on have what they need
-pub record ReservesFrom (window : ℕ) (choices : HeaderFields → List SlotFields) (part : List Need) (i : ℕ) (stack : List ℕ) (first : ℕ) : Type 0 where
+pub record ReservesFrom (window : ℕ) (choices : HeaderFields → List SlotFields) (area : HeaderFields → ℕ) (part : List Need) (i : ℕ) (stack : List ℕ) (first : ℕ) : Type 0 where
   pub before : first ≡ needed (opens_in choices (drop i part))
   pub behind : stack ≡ needed_behind (opens_in choices (drop i part))
   pub most : first ≤ window
   pub within : AllWithin window (opens_in choices (drop i part))
-  pub own : AreChosen (opens_in choices (drop i part)) (map own_area (drop i part))
+  pub chosen : AreChosen (opens_in choices (drop i part)) (map (area_by area) (drop i part))
 
-pub reserves-none : (window : ℕ) (choices : HeaderFields → List SlotFields) (part : List Need) → ReservesFrom window choices part (length part) [] 0
-reserves-none window choices part =
-    let none : drop (length part) part ≡ [] = drop_all (length part) part (omega arith) in
-    record {
-      before = sym (ap (λ l. needed (opens_in choices l)) none ∙ nothing_needed choices);
-      behind = sym (ap (λ l. needed_behind (opens_in choices l)) none ∙ nothing_behind choices);
-      most = omega arith;
-      within = subst (λ l. AllWithin window (opens_in choices l)) (sym none) (nothing_within window choices);
-      own = subst (λ l. AreChosen (opens_in choices l) (map own_area l)) (sym none) (nothing_chosen choices);
-    }
+module _ (window : ℕ) (choices : HeaderFields → List SlotFields) (area : HeaderFields → ℕ) (part : List Need) where
+  pub reserves-none : ReservesFrom window choices area part (length part) [] 0
+  reserves-none =
+      let none : drop (length part) part ≡ [] = drop_all (length part) part (omega arith) in
+      record {
+        before = sym (ap (λ l. needed (opens_in choices l)) none ∙ nothing_needed choices);
+        behind = sym (ap (λ l. needed_behind (opens_in choices l)) none ∙ nothing_behind choices);
+        most = omega arith;
+        within = subst (λ l. AllWithin window (opens_in choices l)) (sym none) (nothing_within window choices);
+        chosen = subst (λ l. AreChosen (opens_in choices l) (map (area_by area) l)) (sym none) (nothing_chosen choices area);
+      }
 
-pub reserves-more : (window : ℕ) (choices : HeaderFields → List SlotFields) (part : List Need) (i : ℕ) (behind : List ℕ) (before result : ℕ) (need : Need) → i < length part → need ≡ get_or part i need
-    → IsFeasible window window (map own_frame part) → Contains (open_of (item_of choices need)).areas (own_area need) → result ≡ (need.bytes + before) - greatest (open_of (item_of choices need)).areas
-    → ReservesFrom window choices part (i + 1) behind before → ReservesFrom window choices part i (behind ++ before ∷ []) result
-reserves-more window choices part i behind before result need within is feasible own gives from =
-    let here = next_need part i need within is in
-    let rest : List Need = drop (i + 1) part in
-    let chosen = subst (λ l. AreChosen (opens_in choices l) (map own_area l)) (sym here) (chosen-cons choices need rest own from.own) in
-    let all = needed-own window i choices part feasible chosen in
-    let value : result ≡ needed (opens_in choices (drop i part)) =
-    gives ∙ ap (λ n. (need.bytes + n) - greatest (open_of (item_of choices need)).areas) from.before ∙ sym (needed-cons choices need rest) ∙ ap (λ l. needed (opens_in choices l)) (sym here) in
-    record {
-      before = value;
-      behind = ap (λ l. l ++ before ∷ []) from.behind ∙ ap (λ n. needed_behind (opens_in choices rest) ++ n ∷ []) from.before ∙ sym (behind-cons choices need rest) ∙ ap (λ l. needed_behind (opens_in choices l)) (sym here);
-      most = omega (arith, value, all.0);
-      within = all.1;
-      own = chosen;
-    }
+  pub reserves-more : (before i : ℕ) (behind : List ℕ) (after result : ℕ) (need : Need) → i < length part → need ≡ get_or part i need
+      → IsFeasible window before (map (frame_by area) part) → Contains (open_of (item_of choices need)).areas (area need.header) → result ≡ (need.bytes + after) - greatest (open_of (item_of choices need)).areas
+      → ReservesFrom window choices area part (i + 1) behind after → ReservesFrom window choices area part i (behind ++ after ∷ []) result
+  reserves-more before i behind after result need within is feasible has gives from =
+      let here = next_need part i need within is in
+      let rest : List Need = drop (i + 1) part in
+      let chosen = subst (λ l. AreChosen (opens_in choices l) (map (area_by area) l)) (sym here) (chosen-cons choices area need rest has from.chosen) in
+      let all = needed-from window before i choices area part feasible chosen in
+      let value : result ≡ needed (opens_in choices (drop i part)) =
+      gives ∙ ap (λ n. (need.bytes + n) - greatest (open_of (item_of choices need)).areas) from.before ∙ sym (needed-cons choices need rest) ∙ ap (λ l. needed (opens_in choices l)) (sym here) in
+      record {
+        before = value;
+        behind = ap (λ l. l ++ after ∷ []) from.behind ∙ ap (λ n. needed_behind (opens_in choices rest) ++ n ∷ []) from.before ∙ sym (behind-cons choices need rest) ∙ ap (λ l. needed_behind (opens_in choices l)) (sym here);
+        most = omega (arith, value, all.0);
+        within = all.1;
+        chosen = chosen;
+      }
 
-pub reserves-all : (window : ℕ) (choices : HeaderFields → List SlotFields) (part : List Need) (i : ℕ) (reserves : Reserves) → i ≡ 0 → ReservesFrom window choices part i reserves.behind.items reserves.before → AreReserves window choices part reserves
-reserves-all window choices part i reserves none from =
-    let all = subst (λ k. ReservesFrom window choices part k reserves.behind.items reserves.before) none from in
-    record { before = all.before; behind = all.behind; most = all.most; within = all.within; own = all.own }
+  pub reserves-all : (i : ℕ) (reserves : Reserves) → i ≡ 0 → ReservesFrom window choices area part i reserves.behind.items reserves.before → AreReserves window choices area part reserves
+  reserves-all i reserves none from =
+      let all = subst (λ k. ReservesFrom window choices area part k reserves.behind.items reserves.before) none from in
+      record { before = all.before; behind = all.behind; most = all.most; within = all.within; chosen = all.chosen }
 
 -- ---- forwards: what the next frame needs after it
 pub next-wanted : (choices : HeaderFields → List SlotFields) (part : List Need) (i : ℕ) (need : Need) (behind rest : List ℕ) (many : ℕ) (last : Option ℕ) (wanted : ℕ) → i < length part → need ≡ get_or part i need → behind ≡ needed_behind (opens_in choices (drop i part))
@@ -205,15 +217,6 @@ window-at [] i d all within = absurd (omega arith)
 window-at (first ∷ needs) zero d all within = refl
 window-at (first ∷ needs) (suc i) d all within = ap (λ c. window_of c.version) (class-at (class_of first.header) needs i d all (omega arith))
 
-pub part-window : (needs : List Need) (from end : ℕ) → AreOfOneClass needs → from < end → end ≤ length needs → window_in (slice_range needs from end) ≡ window_in needs
-part-window [] from end all some within = absurd (omega arith)
-part-window (d ∷ needs) from end all some within =
-    let first : Need = get_or (d ∷ needs) from d in
-    let many : end - from ≡ suc (end - from - 1) = omega arith in
-    let e : slice_range (d ∷ needs) from end ≡ first ∷ take (end - from - 1) (drop (suc from) (d ∷ needs)) =
-    ap (λ n. take n (drop from (d ∷ needs))) many ∙ ap (λ l. take (suc (end - from - 1)) l) (drop-cons (d ∷ needs) from d (omega arith)) in
-    ap window_in e ∙ window-at (d ∷ needs) from d all (omega arith)
-
 pub part-some : (needs : List Need) (from end : ℕ) → from < end → end ≤ length needs → 0 < length (slice_range needs from end)
 part-some needs from end some within = omega (arith, length-take-le (end - from) (drop from needs) (omega (arith, length-drop from needs)), length-drop from needs)
 
@@ -230,11 +233,11 @@ part-bounds needs parts at end ascend all within next last =
     ]
 
 -- what the call over the part at this place is on
-pub part-ready : (needs : List Need) (parts : List ℕ) (at end window : ℕ) → AreOfOneClass needs → AllPairs (λ m n. m < n) parts → All (λ place. place < length needs) parts → at < length parts → (at + 1 < length parts → end ≡ get_or parts (at + 1) 0) → (length parts ≤ at + 1 → end ≡ length needs)
-    → window ≡ window_in needs → ArePartsFeasible window (parts_of needs (drop at parts))
-    → (0 < length (slice_range needs (get_or parts at 0) end)) × (window ≡ window_in (slice_range needs (get_or parts at 0) end)) × IsFeasible window window (map own_frame (slice_range needs (get_or parts at 0) end)) × ArePartsFeasible window (parts_of needs (drop (at + 1) parts))
-part-ready needs parts at end window class ascend all within next last is feasible =
+pub part-ready : (needs : List Need) (parts : List ℕ) (at end window : ℕ) → AllPairs (λ m n. m < n) parts → All (λ place. place < length needs) parts → at < length parts → (at + 1 < length parts → end ≡ get_or parts (at + 1) 0) → (length parts ≤ at + 1 → end ≡ length needs)
+    → ArePartsFeasible window (parts_of needs (drop at parts))
+    → (0 < length (slice_range needs (get_or parts at 0) end)) × IsFeasible window window (map own_frame (slice_range needs (get_or parts at 0) end)) × ArePartsFeasible window (parts_of needs (drop (at + 1) parts))
+part-ready needs parts at end window ascend all within next last feasible =
     let from : ℕ = get_or parts at 0 in
     let bounds = part-bounds needs parts at end ascend all within next last in
     let here = feasible-cons window (slice_range needs from end) (parts_of needs (drop (at + 1) parts)) (subst (ArePartsFeasible window) (parts-cons needs parts at from end within refl next last) feasible) in
-    (part-some needs from end bounds.0 bounds.1, is ∙ sym (part-window needs from end class bounds.0 bounds.1), here.0, here.1)
+    (part-some needs from end bounds.0 bounds.1, here.0, here.1)

@@ -7,12 +7,12 @@ use Rattle.frame_header.specs.Slots.{all_slots}
 use Rattle.slot_plan.specs.declared.needs.Need.{Need}
 use Rattle.slot_plan.specs.declared.needs.Placed.{Placed}
 use Rattle.slot_plan.specs.declared.reserves.Reserves.{Reserves}
-use Rattle.slot_plan.specs.Layouts.{Frame}
-use Rattle.slot_plan.specs.Lists.{Open, AreChosen, frames_of}
-use Rattle.slot_plan.specs.Parts.{Item, area_in, open_of, item_of, lead_in_of, items_of, own_area, IsLeadIn, AreLeadIns, whole_of}
+use Rattle.slot_plan.specs.Layouts.{Frame, IsLayout, IsFeasible}
+use Rattle.slot_plan.specs.Lists.{Open, AreChosen, CanBeLaid, frames_of}
+use Rattle.slot_plan.specs.Parts.{Item, area_in, open_of, item_of, lead_in_of, items_of, AreOfClass, IsLeadIn, AreLeadIns, whole_of}
 use Rattle.slot_plan.specs.Plans.{AreFor, areas_in, IsPlanFor, IsPlan}
-use Rattle.slot_plan.specs.Reserve.{greatest, needed, free_behind, AllWithin, opens_in, IsLeastSlot, ArePlaced, PlacesOn, PlacesPart, AreReserves}
-use Rattle.slot_plan.proofs.ReserveLaws.{AreLeastAreas, frees_of, begins-frees, fit-least, least-is, needed-can, can-needed, append-needed}
+use Rattle.slot_plan.specs.Reserve.{greatest, needed, free_behind, AllWithin, opens_in, area_by, IsLeastSlot, ArePlaced, PlacesOn, IsPlacedLeadIn, PlacesPart, AreReserves}
+use Rattle.slot_plan.proofs.ReserveLaws.{AreLeastAreas, frees_of, begins-frees, fit-least, least-is, needed-can, can-needed, append-needed, append-can}
 use Rattle.slot_plan.proofs.PartLaws.{next_need}
 use Rattle.slot_plan.proofs.AreaLaws.{slot-area, Contains-area, only_one}
 
@@ -58,9 +58,6 @@ plan-placed window items placed all =
     }
 
 -- ---- the lead-in of a part
-pub no-lead_in : (window : ℕ) (choices : HeaderFields → List SlotFields) (part : List Need) → needed (opens_in choices part) ≡ 0 → AllWithin window (opens_in choices part) → AreChosen (opens_in choices part) (map own_area part) → IsLeadIn window choices part None
-unfolding IsLeadIn items_of
-no-lead_in window choices part none within own = can-needed window (opens_in choices part) (map own_area part) own none within
 
 -- with a lead-in of one slot
 pub lead-needed : (class : ClassFields) (slot : SlotFields) (opens : List Open) → needed (open_of (lead_in_of class (slot ∷ [])) ∷ opens) ≡ needed opens - area_of class slot false
@@ -75,46 +72,43 @@ pub lead-chosen : (class : ClassFields) (slot : SlotFields) (opens : List Open) 
 unfolding AreChosen
 lead-chosen class slot opens areas chosen = ((zero, omega arith, refl), chosen)
 
-pub one-lead_in : (window : ℕ) (choices : HeaderFields → List SlotFields) (first : Need) (part : List Need) (slot : SlotFields) → 0 < needed (opens_in choices (first ∷ part)) → needed (opens_in choices (first ∷ part)) ≤ window
-    → AllWithin window (opens_in choices (first ∷ part)) → AreChosen (opens_in choices (first ∷ part)) (map own_area (first ∷ part)) → IsLeastSlot (needed (opens_in choices (first ∷ part))) (class_of first.header) false all_slots slot
-    → IsLeadIn window choices (first ∷ part) (Some slot)
-unfolding IsLeadIn items_of
-one-lead_in window choices first part slot some most within own least =
+-- what is placed before a part is its lead-in alone
+lead_in-alone : (window : ℕ) (choices : HeaderFields → List SlotFields) (part : List Need) (lead_in : Option SlotFields) → IsPlacedLeadIn window all_slots choices part lead_in → IsLeadIn window choices part lead_in
+unfolding IsPlacedLeadIn IsLeadIn items_of
+lead_in-alone window choices part None can = can
+lead_in-alone window choices [] (Some slot) is = absurd is
+lead_in-alone window choices (first ∷ part) (Some slot) is =
     let opens : List Open = opens_in choices (first ∷ part) in
-    let class : ClassFields = class_of first.header in
-    let value = lead-needed class slot opens in
-    let enough = least.enough in (
-      (λ can. omega (arith, some, (needed-can window opens can).0)),
-      can-needed window (open_of (lead_in_of class (slot ∷ [])) ∷ opens) (area_of class slot false ∷ map own_area (first ∷ part)) (lead-chosen class slot opens (map own_area (first ∷ part)) own) (omega arith) (lead-within window class slot opens most within),
-      least.chosen,
-      (λ other is less can.
+    let class : ClassFields = class_of first.header in (
+      (λ can. omega (arith, is.0, (needed-can window opens can).0)),
+      is.1,
+      is.2.chosen,
+      (λ other has less can.
           let none = (needed-can window (open_of (lead_in_of class (other ∷ [])) ∷ opens) can).0 in
-          let other_value = lead-needed class other opens in
-          let before = least.least other is (omega arith) in
+          let value = lead-needed class other opens in
+          let before = is.2.least other has (omega arith) in
           omega arith),
     )
 
--- with its lead-in a part needs nothing before it
-pub lead_in-needed : (window : ℕ) (choices : HeaderFields → List SlotFields) (part : List Need) (lead_in : Option SlotFields) → IsLeadIn window choices part lead_in
-    → (needed (map open_of (items_of choices part lead_in)) ≡ 0) × AllWithin window (map open_of (items_of choices part lead_in))
+-- with its lead-in a part has a layout
+pub lead_in-can : (window : ℕ) (choices : HeaderFields → List SlotFields) (part : List Need) (lead_in : Option SlotFields) → IsLeadIn window choices part lead_in → CanBeLaid window (map open_of (items_of choices part lead_in))
 unfolding IsLeadIn
-lead_in-needed window choices part None is = needed-can window (map open_of (items_of choices part None)) is
-lead_in-needed window choices [] (Some slot) is = absurd is
-lead_in-needed window choices (first ∷ part) (Some slot) is = needed-can window (map open_of (items_of choices (first ∷ part) (Some slot))) is.1
+lead_in-can window choices part None is = is
+lead_in-can window choices [] (Some slot) is = absurd is
+lead_in-can window choices (first ∷ part) (Some slot) is = is.1
 
-nothing : needed [] ≡ 0
-unfolding needed
-nothing = refl
+-- and so have all parts together
+pub nothing-can : (window : ℕ) → CanBeLaid window []
+unfolding CanBeLaid AreChosen frames_of IsFeasible IsLayout
+nothing-can window = ([], tt, ([], tt))
 
-pub whole-needed : (window : ℕ) (choices : HeaderFields → List SlotFields) (parts : List (List Need)) (lead_ins : List (Option SlotFields)) → AreLeadIns window choices parts lead_ins → needed (map open_of (whole_of choices parts lead_ins)) ≡ 0
+pub whole-can : (window : ℕ) (choices : HeaderFields → List SlotFields) (parts : List (List Need)) (lead_ins : List (Option SlotFields)) → AreLeadIns window choices parts lead_ins → CanBeLaid window (map open_of (whole_of choices parts lead_ins))
 unfolding AreLeadIns whole_of
-whole-needed window choices [] lead_ins all = nothing
-whole-needed window choices (part ∷ parts) [] all = absurd all
-whole-needed window choices (part ∷ parts) (lead_in ∷ lead_ins) all =
-    let rest = whole-needed window choices parts lead_ins all.1 in
-    ap needed (map-append open_of (items_of choices part lead_in) (whole_of choices parts lead_ins))
-    ∙ append-needed (map open_of (items_of choices part lead_in)) (map open_of (whole_of choices parts lead_ins)) rest
-    ∙ (lead_in-needed window choices part lead_in all.0).0
+whole-can window choices [] lead_ins all = nothing-can window
+whole-can window choices (part ∷ parts) [] all = absurd all
+whole-can window choices (part ∷ parts) (lead_in ∷ lead_ins) all =
+    subst (CanBeLaid window) (sym (map-append open_of (items_of choices part lead_in) (whole_of choices parts lead_ins)))
+    (append-can window (map open_of (items_of choices part lead_in)) (map open_of (whole_of choices parts lead_ins)) (lead_in-can window choices part lead_in all.0) (whole-can window choices parts lead_ins all.1))
 
 -- ---- placing on
 pub places-begun : (window free : ℕ) (items : List Item) (placed : List Placed) → PlacesOn window free free items items placed placed
@@ -168,16 +162,16 @@ whole-cons : (choices : HeaderFields → List SlotFields) (part : List Need) (pa
 unfolding whole_of
 whole-cons choices part parts lead_in lead_ins = refl
 
-pub parts-more : (window : ℕ) (choices : HeaderFields → List SlotFields) (all : List (List Need)) (part : List Need) (left : List (List Need)) (free after : ℕ) (before behind : List Placed) → PlacesPart window choices part free after before behind
+pub parts-more : (window : ℕ) (choices : HeaderFields → List SlotFields) (all : List (List Need)) (part : List Need) (left : List (List Need)) (free after : ℕ) (before behind : List Placed) → PlacesPart window all_slots choices part free after before behind
     → PartsPlaced window choices all (part ∷ left) free before → PartsPlaced window choices all left after behind
 unfolding PartsPlaced
 parts-more window choices all part left free after before behind part_placed on lead_ins placed alone rest =
     let lead_in : Option SlotFields = part_placed.lead_in in
     let more : List Placed = part_placed.places.more in
-    let none = whole-needed window choices left lead_ins alone in
+    let none = (needed-can window (map open_of (whole_of choices left lead_ins)) (whole-can window choices left lead_ins alone)).0 in
     let here : ArePlaced window free (whole_of choices (part ∷ left) (lead_in ∷ lead_ins)) (more ++ placed) =
     subst (λ l. ArePlaced window free l (more ++ placed)) (whole-cons choices part left lead_in lead_ins) (part_placed.places.goes (whole_of choices left lead_ins) placed none rest) in
-    let end = on (lead_in ∷ lead_ins) (more ++ placed) (leads-cons window choices part left lead_in lead_ins part_placed.alone alone) here in
+    let end = on (lead_in ∷ lead_ins) (more ++ placed) (leads-cons window choices part left lead_in lead_ins (lead_in-alone window choices part lead_in part_placed.least) alone) here in
     let same : before ++ (more ++ placed) ≡ behind ++ placed = sym (append_assoc before more placed) ∙ ap (λ l. l ++ placed) (sym part_placed.places.appended) in
     (end.0, end.1, subst (λ l. ArePlaced window 0 (whole_of choices all end.0) l) same end.2)
 
@@ -212,43 +206,48 @@ places-next window free now next choices part i need p wanted old new within is 
     subst (λ n. PlacesOn window free n items left old (new ++ p ∷ [])) (sym behind) (places-more window free now items (item_of choices need) left old new p frame begin enough here)
 
 -- ---- a part with its lead-in
-pub part-without : (window : ℕ) (choices : HeaderFields → List SlotFields) (part : List Need) (reserves : Reserves) (free after : ℕ) (old new : List Placed) → AreReserves window choices part reserves → reserves.before ≡ 0
-    → PlacesOn window free after (map (item_of choices) part) [] old new → PlacesPart window choices part free after old new
-unfolding items_of
-part-without window choices part reserves free after old new are none places = record {
-  lead_in = None;
-  alone = no-lead_in window choices part (sym are.before ∙ none) are.within are.own;
-  places = places;
-}
+module _ (window : ℕ) (leads : List SlotFields) (choices : HeaderFields → List SlotFields) (area : HeaderFields → ℕ) where
+  pub part-without : (part : List Need) (reserves : Reserves) (free after : ℕ) (old new : List Placed) → AreReserves window choices area part reserves → reserves.before ≡ 0
+      → PlacesOn window free after (map (item_of choices) part) [] old new → PlacesPart window leads choices part free after old new
+  unfolding IsPlacedLeadIn items_of
+  part-without part reserves free after old new are none places = record {
+    lead_in = None;
+    least = can-needed window (opens_in choices part) (map (area_by area) part) are.chosen (sym are.before ∙ none) are.within;
+    places = places;
+  }
 
-pub part-with : (window : ℕ) (choices : HeaderFields → List SlotFields) (first : Need) (part : List Need) (reserves : Reserves) (free mid after : ℕ) (p : Placed) (old new : List Placed) → AreReserves window choices (first ∷ part) reserves → 0 < reserves.before
-    → p.lead_in ≡ true → p.begin ≡ free → IsLeastSlot reserves.before (class_of first.header) false all_slots p.slot → mid ≡ free_behind window free 0 (area_of (class_of first.header) p.slot false)
-    → PlacesOn window mid after (map (item_of choices) (first ∷ part)) [] (old ++ p ∷ []) new → PlacesPart window choices (first ∷ part) free after old new
-unfolding items_of
-part-with window choices first part reserves free mid after p old new are some frame begin least behind places =
-    let class : ClassFields = class_of first.header in
-    let items : List Item = map (item_of choices) (first ∷ part) in
-    let lead : Item = lead_in_of class (p.slot ∷ []) in
-    let value : needed (map open_of items) ≡ reserves.before = sym are.before in
-    let enough = least.enough in
-    let least_one : IsLeastSlot ((0 + needed (map open_of items)) - free) class false (p.slot ∷ []) p.slot = record {
-      chosen = (zero, omega arith, refl);
-      enough = omega arith;
-      least = λ other is fits. omega (arith, ap (λ s. area_of class s false) (only_one p.slot other is));
-    } in
-    let begun = places-more window free free (lead ∷ items) lead items old old p frame begin least_one (places-begun window free (lead ∷ items) old) in
-    let on = subst (λ n. PlacesOn window free n (lead ∷ items) items old (old ++ p ∷ [])) (sym behind) begun in
-    record {
-      lead_in = Some p.slot;
-      alone = one-lead_in window choices first part p.slot (omega (arith, value, some)) (omega (arith, value, are.most)) are.within are.own (subst (λ n. IsLeastSlot n class false all_slots p.slot) are.before least);
-      places = places-then window free mid after (lead ∷ items) items old (old ++ p ∷ []) new on places;
-    }
+  part-with : (first : Need) (part : List Need) (reserves : Reserves) (free mid after : ℕ) (p : Placed) (old new : List Placed) → AreReserves window choices area (first ∷ part) reserves → 0 < reserves.before
+      → p.lead_in ≡ true → p.begin ≡ free → IsLeastSlot reserves.before (class_of first.header) false leads p.slot → mid ≡ free_behind window free 0 (area_of (class_of first.header) p.slot false)
+      → PlacesOn window mid after (map (item_of choices) (first ∷ part)) [] (old ++ p ∷ []) new → PlacesPart window leads choices (first ∷ part) free after old new
+  unfolding IsPlacedLeadIn items_of
+  part-with first part reserves free mid after p old new are some frame begin least behind places =
+      let class : ClassFields = class_of first.header in
+      let items : List Item = map (item_of choices) (first ∷ part) in
+      let opens : List Open = map open_of items in
+      let lead : Item = lead_in_of class (p.slot ∷ []) in
+      let value : needed opens ≡ reserves.before = sym are.before in
+      let enough = least.enough in
+      let least_one : IsLeastSlot ((0 + needed opens) - free) class false (p.slot ∷ []) p.slot = record {
+        chosen = (zero, omega arith, refl);
+        enough = omega arith;
+        least = λ other is fits. omega (arith, ap (λ s. area_of class s false) (only_one p.slot other is));
+      } in
+      let can = can-needed window (open_of lead ∷ opens) (area_of class p.slot false ∷ map (area_by area) (first ∷ part)) (lead-chosen class p.slot opens (map (area_by area) (first ∷ part)) are.chosen)
+      (omega (arith, lead-needed class p.slot opens)) (lead-within window class p.slot opens (omega (arith, value, are.most)) are.within) in
+      let begun = places-more window free free (lead ∷ items) lead items old old p frame begin least_one (places-begun window free (lead ∷ items) old) in
+      let on = subst (λ n. PlacesOn window free n (lead ∷ items) items old (old ++ p ∷ [])) (sym behind) begun in
+      record {
+        lead_in = Some p.slot;
+        least = (omega (arith, value, some), can, subst (λ n. IsLeastSlot n class false leads p.slot) are.before least);
+        places = places-then window free mid after (lead ∷ items) items old (old ++ p ∷ []) new on places;
+      }
 
--- the same where the part is known by its first need
-pub part-from : (window : ℕ) (choices : HeaderFields → List SlotFields) (first : Need) (part : List Need) (reserves : Reserves) (free mid after : ℕ) (p : Placed) (old new : List Placed) → 0 < length part → first ≡ get_or part 0 first → AreReserves window choices part reserves → 0 < reserves.before
-    → p.lead_in ≡ true → p.begin ≡ free → IsLeastSlot reserves.before (class_of first.header) false all_slots p.slot → mid ≡ free_behind window free 0 (area_of (class_of first.header) p.slot false)
-    → PlacesOn window mid after (map (item_of choices) part) [] (old ++ p ∷ []) new → PlacesPart window choices part free after old new
-part-from window choices first [] reserves free mid after p old new any is are some frame begin least behind places = absurd (omega arith)
-part-from window choices first (head ∷ part) reserves free mid after p old new any is are some frame begin least behind places =
-    part-with window choices head part reserves free mid after p old new are some frame begin (subst (λ n. IsLeastSlot reserves.before (class_of n.header) false all_slots p.slot) is least)
-    (behind ∙ ap (λ n. free_behind window free 0 (area_of (class_of n.header) p.slot false)) is) places
+  -- the same where the class is known
+  pub part-of : (class : ClassFields) (part : List Need) (reserves : Reserves) (free mid after : ℕ) (p : Placed) (old new : List Placed) → 0 < length part → AreOfClass class part → AreReserves window choices area part reserves → 0 < reserves.before
+      → p.lead_in ≡ true → p.begin ≡ free → IsLeastSlot reserves.before class false leads p.slot → mid ≡ free_behind window free 0 (area_of class p.slot false)
+      → PlacesOn window mid after (map (item_of choices) part) [] (old ++ p ∷ []) new → PlacesPart window leads choices part free after old new
+  unfolding AreOfClass
+  part-of class [] reserves free mid after p old new any same are some frame begin least behind places = absurd (omega arith)
+  part-of class (first ∷ part) reserves free mid after p old new any same are some frame begin least behind places =
+      part-with first part reserves free mid after p old new are some frame begin (subst (λ k. IsLeastSlot reserves.before k false leads p.slot) (sym same.0) least)
+      (behind ∙ ap (λ k. free_behind window free 0 (area_of k p.slot false)) (sym same.0)) places

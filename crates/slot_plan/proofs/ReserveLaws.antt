@@ -188,10 +188,24 @@ unfolding needed
 append-needed [] ys none = none
 append-needed (x ∷ xs) ys none = ap (λ n. (x.bytes + n) - greatest x.areas) (append-needed xs ys none)
 
-pub append-within : (window : ℕ) (xs ys : List Open) → needed ys ≡ 0 → AllWithin window xs → AllWithin window ys → AllWithin window (xs ++ ys)
+append-within : (window : ℕ) (xs ys : List Open) → needed ys ≡ 0 → AllWithin window xs → AllWithin window ys → AllWithin window (xs ++ ys)
 unfolding AllWithin
 append-within window [] ys none first second = second
 append-within window (x ∷ xs) ys none first second = (omega (arith, first.0, append-needed xs ys none), append-within window xs ys none first.1 second)
+
+append-chosen : (xs ys : List Open) (ms ns : List ℕ) → AreChosen xs ms → AreChosen ys ns → AreChosen (xs ++ ys) (ms ++ ns)
+unfolding AreChosen
+append-chosen [] ys [] ns first second = second
+append-chosen [] ys (m ∷ ms) ns first second = absurd first
+append-chosen (x ∷ xs) ys [] ns first second = absurd first
+append-chosen (x ∷ xs) ys (m ∷ ms) ns first second = (first.0, append-chosen xs ys ms ns first.1 second)
+
+pub append-can : (window : ℕ) (xs ys : List Open) → CanBeLaid window xs → CanBeLaid window ys → CanBeLaid window (xs ++ ys)
+unfolding CanBeLaid
+append-can window xs ys first second =
+    let here = needed-can window xs first in
+    let behind = needed-can window ys second in
+    can-needed window (xs ++ ys) (first.0 ++ second.0) (append-chosen xs ys first.0 second.0 first.1 second.1) (append-needed xs ys behind.0 ∙ here.0) (append-within window xs ys behind.0 here.1 behind.1)
 
 -- ---- fewer of the frames, and more free bytes
 fit-more : (window free more : ℕ) (frames : List Frame) → free ≤ more → AllFit window free frames → AllFit window more frames
@@ -208,7 +222,16 @@ fit-drop window (suc k) [] fit = fit
 fit-drop window (suc k) (frame ∷ frames) fit =
     fit-drop window k frames (fit-more window (free_behind window window frame.bytes frame.area) window frames (omega arith) fit.1)
 
--- frames that can be laid after a whole window fit from each of them on
-pub fit-from : (window k : ℕ) (frames : List Frame) → IsFeasible window window frames → AllFit window window (drop k frames)
+-- frames that can be laid after some free bytes fit from each of them on after a whole window
+pub fit-after : (window before k : ℕ) (frames : List Frame) → IsFeasible window before frames → AllFit window window (drop k frames)
 unfolding IsFeasible
-fit-from window k frames feasible = fit-drop window k frames (fit-layout window 0 window window frames feasible.0 (omega arith) feasible.1)
+fit-after window before k frames feasible = fit-drop window k frames (fit-layout window 0 before window frames feasible.0 (omega arith) feasible.1)
+
+pub fit-from : (window k : ℕ) (frames : List Frame) → IsFeasible window window frames → AllFit window window (drop k frames)
+fit-from window k frames feasible = fit-after window window k frames feasible
+
+-- and whole windows are all the same
+pub feasible-windows : (window before more : ℕ) (frames : List Frame) → window ≤ more → IsFeasible window before frames → IsFeasible window more frames
+unfolding IsFeasible
+feasible-windows window before more frames all feasible =
+    (starts_of window 0 more frames, layout-fit window 0 more window frames (omega arith) (omega arith) (fit-layout window 0 before window frames feasible.0 (omega arith) feasible.1))

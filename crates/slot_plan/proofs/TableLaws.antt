@@ -9,9 +9,9 @@ use Rattle.slot_plan.specs.declared.table.SlotTable.{SlotTable}
 use Rattle.slot_plan.specs.Parts.{areas_with}
 use Rattle.slot_plan.specs.Reserve.{greatest, IsLeastSlot}
 use Rattle.slot_plan.specs.SlotTables.{IsShortest, IsTableOf}
-use Rattle.slot_plan.proofs.AreaLaws.{Ascend, area-at, areas-many, slot-area}
+use Rattle.slot_plan.proofs.AreaLaws.{Ascend, area-at, areas-many, slot-area, Contains-area}
 use Rattle.slot_plan.proofs.LengthLaws.{overhead-side}
-use Rattle.slot_plan.proofs.ReserveLaws.{Contains-greatest}
+use Rattle.slot_plan.proofs.ReserveLaws.{greatest-most, Contains-greatest}
 
 -- the slot at a place, and its length
 abbrev pub nth : List SlotFields → ℕ → SlotFields
@@ -128,10 +128,11 @@ not_longer c slots i j before within rise =
 found-at : (c : ClassFields) (slots : List SlotFields) (slot : SlotFields) (has : Contains slots slot) → long c slots has.0 ≡ length_of c slot
 found-at c slots slot has = ap (length_of c) (get_or_default slots has.0 (slot_of 1 false) slot has.1 ∙ has.2)
 
-pub table-all : (slots : List SlotFields) (to : ℕ) (table : SlotTable) → to ≡ length slots → Rise table.lengths slots → IsTableTo table.lengths slots to table.by_length.items → IsTableOf slots table
-table-all slots to table all rise whole =
+pub table-all : (slots : List SlotFields) (to : ℕ) (table : SlotTable) → 1 ≤ length slots → to ≡ length slots → Rise table.lengths slots → IsTableTo table.lengths slots to table.by_length.items → IsTableOf slots table
+table-all slots to table some all rise whole =
     let c : ClassFields = table.lengths in
     record {
+      some = some;
       room = λ slot has. omega (arith, whole.room has.0 (omega (arith, all, has.1)), found-at c slots slot has);
       all = λ slot has.
           omega (arith, found-at c slots slot has, whole.many (omega (arith, all, has.1)), all, not_longer c slots has.0 (to - 1) (omega (arith, all, has.1)) (omega (arith, all, has.1)) rise);
@@ -166,13 +167,33 @@ least-looked table slots p wanted slot is shortest =
           omega (arith, shortest.least other has (omega (arith, fits, room, side)));
     }
 
--- what the largest area has is in the table
-pub table-within : (table : SlotTable) (slots : List SlotFields) (p : Bool) (wanted : ℕ) → IsTableOf slots table → 0 < length slots → wanted ≤ greatest (areas_with table.lengths p slots) → wanted + overhead_of table.lengths p < length table.by_length.items
+-- there is an entry
+table-some : (table : SlotTable) (slots : List SlotFields) → IsTableOf slots table → 0 < length table.by_length.items
+table-some table slots is =
+    let some : 0 < length slots = omega (arith, is.some) in
+    omega (arith, is.all (nth slots 0) (0, some, get_or_default slots 0 (nth slots 0) (slot_of 1 false) some))
+
+-- the last entry has the largest area
+pub last-looked : (table : SlotTable) (slots : List SlotFields) (p : Bool) → IsTableOf slots table → length table.by_length.items - 1 - overhead_of table.lengths p ≡ greatest (areas_with table.lengths p slots)
 unfolding area_of
-table-within table slots p wanted is some enough =
+last-looked table slots p is =
+    let c : ClassFields = table.lengths in
+    let areas : List ℕ = areas_with c p slots in
+    let many : ℕ = length table.by_length.items in
+    let last : SlotFields = get_or table.by_length.items (many - 1) (slot_of 1 false) in
+    let longest = is.least (many - 1) (slot_of 1 false) (omega (arith, table-some table slots is)) in
+    let has = Contains-area c p slots last longest.chosen in
+    let found = slot-area c p slots (greatest areas) (Contains-greatest areas (area_of c last p) has) in
+    omega (arith, greatest-most areas (area_of c last p) has, found.2, is.all found.0 found.1, is.all last longest.chosen, longest.enough)
+
+-- what the largest area has is in the table
+pub table-within : (table : SlotTable) (slots : List SlotFields) (p : Bool) (wanted : ℕ) → IsTableOf slots table → wanted ≤ greatest (areas_with table.lengths p slots) → wanted + overhead_of table.lengths p < length table.by_length.items
+unfolding area_of
+table-within table slots p wanted is enough =
     let c : ClassFields = table.lengths in
     let areas : List ℕ = areas_with c p slots in
     let first : ℕ = get_or areas 0 0 in
-    let has = Contains-greatest areas first (0, omega (arith, some, areas-many c p slots), get_or_default areas 0 first 0 (omega (arith, some, areas-many c p slots))) in
+    let within : 0 < length areas = omega (arith, is.some, areas-many c p slots) in
+    let has = Contains-greatest areas first (0, within, get_or_default areas 0 first 0 within) in
     let found = slot-area c p slots (greatest areas) has in
     omega (arith, enough, found.2, is.room found.0 found.1, is.all found.0 found.1, overhead-side c p)

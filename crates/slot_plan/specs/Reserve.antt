@@ -1,14 +1,15 @@
 -- How `plan` works: the bytes that have to be free before a frame, and the choice by them. What the plan is, is said without them
 -- (`Plans`, `LeastPlan`).
-use Rattle.std.specs.Prelude.{◌≡◌, ℕ, ◌+◌, ◌-◌, ◌<◌, ◌≤◌, max, Bool, List, [], ◌∷◌, ◌++◌, map, length, Contains, Option}
+use Rattle.std.specs.Prelude.{◌≡◌, ℕ, ◌+◌, ◌-◌, ◌<◌, ◌≤◌, max, Bool, false, List, [], ◌∷◌, ◌++◌, map, length, Contains, Option, Some, None}
 use Rattle.frame_header.specs.Fields.{SlotFields, ClassFields, HeaderFields}
 use Rattle.frame_header.specs.Tables.{class_of, area_of}
 use Rattle.slot_plan.specs.declared.needs.Placed.{Placed}
 use Rattle.slot_plan.specs.declared.needs.Need.{Need}
 use Rattle.slot_plan.specs.declared.reserves.Reserves.{Reserves}
-use Rattle.slot_plan.specs.Layouts.{IsFeasible}
-use Rattle.slot_plan.specs.Lists.{Open, AreChosen}
-use Rattle.slot_plan.specs.Parts.{Item, area_in, areas_for, open_of, item_of, items_of, own_area, own_frame, window_in, IsLeadIn}
+use Rattle.frame_header.specs.Limits.{most_back}
+use Rattle.slot_plan.specs.Layouts.{Frame, IsFeasible}
+use Rattle.slot_plan.specs.Lists.{Open, AreChosen, CanBeLaid}
+use Rattle.slot_plan.specs.Parts.{Item, area_in, areas_for, areas_with, open_of, item_of, items_of}
 
 -- the greatest number of a list
 unfoldable pub greatest : List ℕ → ℕ
@@ -79,24 +80,36 @@ pub record CanBePlaced (window free : ℕ) (opens : List Open) (needs : List ℕ
   -- these are what they need
   pub behind : needs ≡ needed_behind opens
 
--- a part that can be placed with this window
-pub record IsPlaceable (window : ℕ) (part : List Need) : Type 0 where
+-- the area of the own slot of a frame with this header
+abbrev pub own_area_of : HeaderFields → ℕ
+own_area_of h = area_of (class_of h) h.slot h.protected
+
+-- a frame with an area by its header
+abbrev pub area_by : (HeaderFields → ℕ) → Need → ℕ
+area_by area need = area need.header
+
+abbrev pub frame_by : (HeaderFields → ℕ) → Need → Frame
+frame_by area need = record { bytes = need.bytes; area = area need.header }
+
+-- a part of frames of this class that can be placed after a lead-in with one of some slots
+pub record IsPlaceable (window : ℕ) (class : ClassFields) (leads : List SlotFields)
+    (area : HeaderFields → ℕ) (part : List Need) : Type 0 where
   -- it has a frame
   pub some : 0 < length part
   -- no window is larger
-  pub most : window ≤ 511
-  -- it is that of the part
-  pub same : window ≡ window_in part
-  -- there is a layout in its own slots after a whole window
-  pub feasible : IsFeasible window window (map own_frame part)
+  pub most : window ≤ most_back
+  -- with these areas its frames have a layout after the largest lead-in
+  pub feasible : IsFeasible window (greatest (areas_with class false leads))
+      (map (frame_by area) part)
 
--- what the frames of a part need
-pub record AreReserves (window : ℕ) (choices : HeaderFields → List SlotFields) (part : List Need) (reserves : Reserves) : Type 0 where
+-- what the frames of a part need, where each may have one of these areas
+pub record AreReserves (window : ℕ) (choices : HeaderFields → List SlotFields)
+    (area : HeaderFields → ℕ) (part : List Need) (reserves : Reserves) : Type 0 where
   pub before : reserves.before ≡ needed (opens_in choices part)
   pub behind : reserves.behind.items ≡ needed_behind (opens_in choices part)
   pub most : reserves.before ≤ window
   pub within : AllWithin window (opens_in choices part)
-  pub own : AreChosen (opens_in choices part) (map own_area part)
+  pub chosen : AreChosen (opens_in choices part) (map (area_by area) part)
 
 -- More frames were placed, from `free` free bytes before the first of `items` to `after` before the first of those that are left. Whatever
 -- places the others rightly from there on places, together with these frames, all of them rightly.
@@ -105,8 +118,22 @@ pub record PlacesOn (window free after : ℕ) (items left : List Item) (old new 
   pub appended : new ≡ old ++ more
   pub goes : (rest : List Item) (placed : List Placed) → needed (map open_of rest) ≡ 0 → ArePlaced window after (left ++ rest) placed → ArePlaced window free (items ++ rest) (more ++ placed)
 
--- a part was placed after its lead-in
-pub record PlacesPart (window : ℕ) (choices : HeaderFields → List SlotFields) (part : List Need) (free after : ℕ) (old new : List Placed) : Type 0 where
+-- The lead-in after which a part is placed: none if its frames have a layout without one, else the
+-- one of some slots with the smallest area that has what they need.
+unfoldable pub IsPlacedLeadIn : ℕ → List SlotFields → (HeaderFields → List SlotFields)
+    → List Need → Option SlotFields → Type 0
+IsPlacedLeadIn window leads choices part None =
+    CanBeLaid window (map open_of (items_of choices part None))
+IsPlacedLeadIn window leads choices [] (Some slot) = ⊥
+IsPlacedLeadIn window leads choices (first ∷ part) (Some slot) =
+    (0 < needed (opens_in choices (first ∷ part)))
+    × CanBeLaid window (map open_of (items_of choices (first ∷ part) (Some slot)))
+    × IsLeastSlot (needed (opens_in choices (first ∷ part))) (class_of first.header) false leads slot
+
+-- a part was placed after its lead-in, which has one of some slots
+pub record PlacesPart (window : ℕ) (leads : List SlotFields)
+    (choices : HeaderFields → List SlotFields) (part : List Need) (free after : ℕ)
+    (old new : List Placed) : Type 0 where
   pub lead_in : Option SlotFields
-  pub alone : IsLeadIn window choices part lead_in
+  pub least : IsPlacedLeadIn window leads choices part lead_in
   pub places : PlacesOn window free after (items_of choices part lead_in) [] old new

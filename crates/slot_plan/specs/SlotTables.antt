@@ -2,7 +2,6 @@
 use Rattle.std.specs.Prelude.{◌≡◌, ℕ, ◌+◌, ◌<◌, ◌≤◌, List, length, slice_index_or, Contains}
 use Rattle.frame_header.specs.Fields.{SlotFields, ClassFields}
 use Rattle.frame_header.specs.Tables.{length_of, side_size_of}
-use Rattle.frame_header.specs.Slots.{all_slots}
 use Rattle.slot_plan.specs.declared.needs.Need.{Need}
 use Rattle.slot_plan.specs.declared.table.SlotTable.{SlotTable}
 use Rattle.slot_plan.specs.Parts.{AreOfClass}
@@ -14,8 +13,10 @@ pub record IsShortest (class : ClassFields) (slots : List SlotFields) (wanted : 
   pub least : (other : SlotFields) → Contains slots other → wanted ≤ length_of class other
       → length_of class slot ≤ length_of class other
 
--- the table has this slot for each length up to that of the longest frame, and each frame has room for more than what is before its area
+-- There is a slot. The table has this slot for each length up to that of the longest frame, and each
+-- frame has room for more than what is before its area.
 pub record IsTableOf (slots : List SlotFields) (table : SlotTable) : Type 0 where
+  pub some : 1 ≤ length slots
   pub room : (slot : SlotFields) → Contains slots slot → 6 + side_size_of table.lengths < length_of table.lengths slot
   pub all : (slot : SlotFields) → Contains slots slot → length_of table.lengths slot < length table.by_length.items
   pub least : (wanted : ℕ) (d : SlotFields) → wanted < length table.by_length.items
@@ -26,9 +27,9 @@ pub record IsTableWith (class : ClassFields) (slots : List SlotFields) (table : 
   pub class_is : table.lengths ≡ class
   pub of_slots : IsTableOf slots table
 
--- the table of all slots of these frames' class
-pub record IsTableFor (needs : List Need) (table : SlotTable) : Type 0 where
+-- the table of these slots in the class of these frames
+pub record IsTableFor (slots : List SlotFields) (needs : List Need) (table : SlotTable) : Type 0 where
   -- they are of its class
   pub class : AreOfClass table.lengths needs
-  -- it has all slots
-  pub slots : IsTableOf all_slots table
+  -- it has these slots
+  pub of_slots : IsTableOf slots table

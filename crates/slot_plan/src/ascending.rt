@@ -16,21 +16,17 @@ pub fn largest_area_of(class: Class, protected: bool, slots: &[Slot]) -> u32
 }
 
 /// Of these slots, the first with an area of at least `wanted` bytes, which the last has. There is at least
-/// one slot. The areas ascend, so it is found by halving.
-pub fn least_slot_among(class: Class, protected: bool, slots: &[Slot], wanted: u64) -> Slot
+/// one slot, and the areas ascend.
+pub(crate) fn least_slot_among(class: Class, protected: bool, slots: &[Slot], wanted: u64) -> Slot
     requires rising { AreRising class protected slots.now }
     requires enough { wanted ≤ greatest (areas_with class protected slots.now) }
     ensures { IsLeastSlot wanted class protected slots.now result }
 {
-    let mut low = 0;
-    let mut high = slots.len() - 1;
-    while low < high {
-        let middle = low + (high - low) / 2;
-        if wanted <= u64::from(class.area_of(slots[middle], protected)) {
-            high = middle;
-        } else {
-            low = middle + 1;
+    for place in 0..slots.len() - 1 {
+        let slot = slots[place];
+        if wanted <= u64::from(class.area_of(slot, protected)) {
+            return slot;
         }
     }
-    slots[low]
+    slots[slots.len() - 1]
 }

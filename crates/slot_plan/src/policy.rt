@@ -8,7 +8,6 @@ ghost use Rattle.slot_plan.specs.Reserve.{greatest, IsLargestFor, IsLeastFor};
 ghost use Rattle.slot_plan.specs.SlotTables.{IsTableWith};
 
 use crate::ascending::{largest_area_of, least_slot_among};
-use crate::slots::least_slot_of;
 use crate::table::SlotTable;
 use arrayvec::ArrayVec;
 use frame_header::{Header, Slot};
@@ -74,14 +73,6 @@ impl Policy for Keep {
         slots
     }
 
-    fn largest_area(&self, header: &Header) -> u32 {
-        header.area()
-    }
-
-    fn least_slot(&self, header: &Header, _wanted: u64) -> Slot {
-        header.slot
-    }
-
     fn largest_area_by(&self, header: &Header, table: &SlotTable) -> u32 {
         table.lengths.area_of(header.slot, header.protected)
     }
@@ -108,14 +99,6 @@ impl Policy for Least {
         // A look inside gives the proof that its own slot is one of them.
         let _ = &header.slot;
         header.class().slots()
-    }
-
-    fn largest_area(&self, header: &Header) -> u32 {
-        header.class().area_of(LARGEST_SLOT, header.protected)
-    }
-
-    fn least_slot(&self, header: &Header, wanted: u64) -> Slot {
-        least_slot_of(header.class(), header.protected, wanted)
     }
 
     fn largest_area_by(&self, header: &Header, table: &SlotTable) -> u32 {

@@ -1,10 +1,10 @@
 //! Slots of one class whose areas ascend, as a table by the length of a frame.
-ghost use Rattle.std.specs.Prelude.{◌+◌, ◌<◌, false, List, length, IfOk};
+ghost use Rattle.std.specs.Prelude.{◌≡◌, ◌+◌, ◌<◌, false, List, length, IfOk};
 ghost use Rattle.frame_header.specs.Fields.{SlotFields};
 ghost use Rattle.frame_header.specs.Tables.{overhead_of};
 ghost use Rattle.frame_header.specs.Slots.{all_slots};
-ghost use Rattle.slot_plan.specs.Parts.{AreRising};
-ghost use Rattle.slot_plan.specs.Reserve.{IsLeastSlot};
+ghost use Rattle.slot_plan.specs.Parts.{areas_with, AreRising};
+ghost use Rattle.slot_plan.specs.Reserve.{greatest, IsLeastSlot};
 ghost use Rattle.slot_plan.specs.SlotTables.{IsTableOf, IsTableWith};
 
 use crate::lengths::Lengths;
@@ -47,6 +47,17 @@ impl SlotTable {
     {
         let slots = class.slots();
         SlotTable::new(alloc, class, slots.as_slice())
+    }
+
+    /// The largest area of the slots, in bytes: that of the longest frame.
+    pub fn largest_area(&self, protected: bool) -> u64
+        requires within { overhead_of self.now.lengths protected
+            < length self.now.by_length.items }
+        ensures largest { (slots : List SlotFields) → IsTableOf slots self.now
+            → result ≡ greatest (areas_with self.now.lengths protected slots) }
+    {
+        let longest = self.by_length.len() as u64 - 1;
+        longest - u64::from(self.lengths.overhead_of(protected))
     }
 
     /// Of the slots, the one with the smallest area of at least `wanted` bytes, which one of them has.

@@ -3,8 +3,7 @@ use Rattle.std.proofs.Common.{◌≡◌, ◌∙◌, true, false, ap, subst, arit
 use Rattle.slot_plan.specs.Reserve.{free_behind}
 use Rattle.rate_plan.specs.LargestAreas.{largest_for}
 use Rattle.rate_plan.specs.Menus.{CanBeLaidFrom, IsUnfit}
-use Rattle.rate_plan.proofs.MenuPlan.{most_area}
-use Rattle.rate_plan.proofs.FitLaws.{area-at, to-begun, to-more, to-all, to-unfit}
+use Rattle.rate_plan.proofs.FitLaws.{most_area, area-at, to-begun, to-more, to-all, to-unfit}
 use Rattle.rate_plan.proofs.unfit.first_unfit.Goals as goal
 
 pub loop-i-init : goal.loop-i-init

@@ -10,7 +10,7 @@ use Rattle.slot_plan.proofs.placing.place_frames.Goals as goal
 
 pub place_frame-frame-requires-clause-enough : goal.place_frame-frame-requires-clause-enough
 place_frame-frame-requires-clause-enough g c =
-    let choices = g.P.Policy.choices_of c.args.policy.now in
+    let choices = g.O.Offer.slots_of c.args.offer.now in
     let all = next-needed choices c.args.part.now c.loop-need.need-index c.need-item.result c.loop-need-test.true c.need-item.is in
     let here = (next-wanted choices c.args.part.now c.loop-need.need-index c.need-item.result c.loop-need.behind.items c.pop.new.self.items c.loop-need.behind.len c.pop.result c.unwrap_or-wanted.result
     c.loop-need-test.true c.need-item.is c.loop-need.invariant.behind (omega arith) c.pop.ensures.items c.pop.ensures.value c.unwrap_or-wanted.ensures).0 in
@@ -19,7 +19,7 @@ place_frame-frame-requires-clause-enough g c =
 pub place_frame-frame-requires-clause-table : goal.place_frame-frame-requires-clause-table
 place_frame-frame-requires-clause-table g c = record {
   class_is = same-class c.args.table.now.lengths c.args.part.now c.loop-need.need-index c.need-item.result c.requires.table.class c.loop-need-test.true c.need-item.is;
-  of_slots = c.requires.table.slots;
+  of_slots = c.requires.table.of_slots;
 }
 
 pub free_behind-free-requires-clause-fits : goal.free_behind-free-requires-clause-fits
@@ -34,12 +34,12 @@ loop-need-init g c = record {
   enough = c.requires.ready.enough;
   within = c.requires.ready.within;
   behind = c.requires.ready.behind;
-  placed = places-begun c.args.room.window c.args.room.free (map (item_of (g.P.Policy.choices_of c.args.policy.now)) c.args.part.now) c.reserve.new.self.items;
+  placed = places-begun c.args.room.window c.args.room.free (map (item_of (g.O.Offer.slots_of c.args.offer.now)) c.args.part.now) c.reserve.new.self.items;
 }
 
 pub loop-need-preserved : goal.loop-need-preserved
 loop-need-preserved g c =
-    let choices = g.P.Policy.choices_of c.args.policy.now in
+    let choices = g.O.Offer.slots_of c.args.offer.now in
     let part = c.args.part.now in
     let i = c.loop-need.need-index in
     let need = c.need-item.result in

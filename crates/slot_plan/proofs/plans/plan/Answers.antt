@@ -1,7 +1,11 @@
 -- One part more.
-use Rattle.std.proofs.Common.{◌+◌, ◌<◌, length, get_or, drop, refl, sym, subst, arith, rules}
+use Rattle.std.proofs.Common.{◌+◌, ◌<◌, ◌≤◌, false, map, length, get_or, drop, refl, sym, subst, arith, rules}
 use Rattle.std.specs.Prelude.{slice_range}
-use Rattle.slot_plan.specs.Parts.{AreOfClass, ArePartsFeasible, window_in, parts_of}
+use Rattle.frame_header.specs.Slots.{all_slots}
+use Rattle.slot_plan.specs.Parts.{areas_with, own_frame, AreOfClass, ArePartsFeasible, window_in, parts_of}
+use Rattle.slot_plan.specs.Reserve.{greatest}
+use Rattle.slot_plan.proofs.ReserveLaws.{feasible-windows}
+use Rattle.slot_plan.proofs.AreaLaws.{leads-span}
 use Rattle.slot_plan.specs.Plans.{IsPlan}
 use Rattle.slot_plan.proofs.PartLaws.{one-class, class-range, window-first, part-ready, parts-cons, parts-none}
 use Rattle.slot_plan.proofs.PlacedLaws.{PartsPlaced, parts-begun, parts-more, parts-all}
@@ -23,17 +27,20 @@ loop-at-init g c =
 pub place_part-requires : goal.place_part-requires
 place_part-requires g c =
     let needs = c.args.needs.now in
-    let some : 0 < length needs = omega (arith, c.requires.planned.within 0 0 c.requires.planned.some) in
-    let window = window-first needs c.index-needs-0.result c.class-class.result c.window-window.result c.requires.planned.class some c.class-class.ensures c.window-window.ensures.window in
-    let ready = part-ready needs c.args.parts.now c.loop-at.at c.end_of.result c.window-window.result c.requires.planned.class c.requires.planned.ascending c.requires.planned.within c.loop-at-test.true c.end_of.ensures.next c.end_of.ensures.last window c.loop-at.invariant.feasible in
+    let from = get_or c.args.parts.now c.loop-at.at 0 in
     let class = one-class c.class-class.result needs c.index-needs-0.result c.requires.planned.class c.class-class.ensures in
+    let ready = part-ready needs c.args.parts.now c.loop-at.at c.end_of.result c.window-window.result c.requires.planned.ascending c.requires.planned.within c.loop-at-test.true c.end_of.ensures.next c.end_of.ensures.last c.loop-at.invariant.feasible in
+    let spanned = subst (λ k. c.window-window.result ≤ greatest (areas_with k false all_slots)) (sym c.in_ok-table.ensures.class_is) (leads-span c.class-class.result c.window-window.result c.window-window.ensures.spanned) in
     record {
       table = record {
-        class = subst (λ k. AreOfClass k (slice_range needs (get_or c.args.parts.now c.loop-at.at 0) c.end_of.result)) (sym c.in_ok-table.ensures.class_is)
-            (class-range c.class-class.result needs (get_or c.args.parts.now c.loop-at.at 0) c.end_of.result class);
-        slots = c.in_ok-table.ensures.of_slots;
+        class = subst (λ k. AreOfClass k (slice_range needs from c.end_of.result)) (sym c.in_ok-table.ensures.class_is) (class-range c.class-class.result needs from c.end_of.result class);
+        of_slots = c.in_ok-table.ensures.of_slots;
       };
-      part = record { some = ready.0; most = search rules; same = ready.1; feasible = ready.2 };
+      part = record {
+        some = ready.0;
+        most = search rules;
+        feasible = feasible-windows c.window-window.result c.window-window.result (greatest (areas_with c.in_ok-table.table.lengths false all_slots)) (map own_frame (slice_range needs from c.end_of.result)) spanned ready.1;
+      };
       free = c.loop-at.invariant.free;
     }
 
@@ -42,13 +49,11 @@ loop-at-preserved g c =
     let needs = c.args.needs.now in
     let parts = c.args.parts.now in
     let choices = g.P.Policy.choices_of c.args.policy.now in
-    let some : 0 < length needs = omega (arith, c.requires.planned.within 0 0 c.requires.planned.some) in
-    let window = window-first needs c.index-needs-0.result c.class-class.result c.window-window.result c.requires.planned.class some c.class-class.ensures c.window-window.ensures.window in
-    let ready = part-ready needs parts c.loop-at.at c.end_of.result c.window-window.result c.requires.planned.class c.requires.planned.ascending c.requires.planned.within c.loop-at-test.true c.end_of.ensures.next c.end_of.ensures.last window c.loop-at.invariant.feasible in
+    let ready = part-ready needs parts c.loop-at.at c.end_of.result c.window-window.result c.requires.planned.ascending c.requires.planned.within c.loop-at-test.true c.end_of.ensures.next c.end_of.ensures.last c.loop-at.invariant.feasible in
     let here = parts-cons needs parts c.loop-at.at (get_or parts c.loop-at.at 0) c.end_of.result c.loop-at-test.true refl c.end_of.ensures.next c.end_of.ensures.last in
     record {
       free = c.in_ok-free.ensures.within;
-      feasible = ready.3;
+      feasible = ready.2;
       placed = parts-more c.window-window.result choices (parts_of needs parts) _ (parts_of needs (drop (c.loop-at.at + 1) parts)) c.loop-at.free c.in_ok-free.free c.loop-at.placed.items c.place_part.new.placed.items c.in_ok-free.ensures.placed
           (subst (λ l. PartsPlaced c.window-window.result choices (parts_of needs parts) l c.loop-at.free c.loop-at.placed.items) here c.loop-at.invariant.placed);
     }

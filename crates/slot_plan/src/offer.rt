@@ -1,0 +1,56 @@
+//! What is asked of slots by placing: those that a policy gives, or those of a menu.
+ghost use Rattle.std.specs.Prelude.{◌≡◌, ◌≤◌, ℕ, List, Contains};
+ghost use Rattle.frame_header.specs.Fields.{SlotFields, HeaderFields};
+ghost use Rattle.frame_header.specs.Tables.{class_of};
+ghost use Rattle.frame_header.specs.Slots.{all_slots};
+ghost use Rattle.slot_plan.specs.Parts.{areas_for};
+ghost use Rattle.slot_plan.specs.Reserve.{greatest, own_area_of, IsLeastFor};
+ghost use Rattle.slot_plan.specs.SlotTables.{IsTableWith};
+
+use crate::policy::Policy;
+use crate::table::SlotTable;
+use frame_header::{Header, Slot};
+
+/// The slots of frames and of lead-ins, as placing asks for them. A `Policy` is one, by which a lead-in may
+/// have any slot of the class.
+pub trait Offer {
+    // The slots that a frame with this header may have, and one of their areas.
+    ghost slots_of: { Self → HeaderFields → List SlotFields };
+
+    ghost some_area_of: { Self → HeaderFields → ℕ };
+
+    // Those that a lead-in may have.
+    ghost lead_slots_of: { Self → List SlotFields };
+
+    /// The largest area that a frame with this header may have, in bytes. The table is that of the slots of
+    /// lead-ins.
+    fn largest_area_for(&self, header: &Header, table: &SlotTable) -> u64
+        requires table { IsTableWith (class_of header.now) (lead_slots_of self.now) table.now }
+        ensures largest { result ≡ greatest (areas_for (slots_of self.now) header.now) }
+        ensures has { Contains (areas_for (slots_of self.now) header.now)
+            (some_area_of self.now header.now) };
+
+    /// Of the slots that a frame with this header may have, the one with the smallest area of at least
+    /// `wanted` bytes. The largest area has so many.
+    fn least_slot_for(&self, header: &Header, wanted: u64, table: &SlotTable) -> Slot
+        requires table { IsTableWith (class_of header.now) (lead_slots_of self.now) table.now }
+        requires enough { wanted ≤ greatest (areas_for (slots_of self.now) header.now) }
+        ensures { IsLeastFor wanted (slots_of self.now) header.now result };
+}
+
+impl<P: Policy> Offer for P {
+    ghost slots_of = { P.choices_of };
+
+    // Its own area.
+    ghost some_area_of = { λ p. own_area_of };
+
+    ghost lead_slots_of = { λ p. all_slots };
+
+    fn largest_area_for(&self, header: &Header, table: &SlotTable) -> u64 {
+        u64::from(self.largest_area_by(header, table))
+    }
+
+    fn least_slot_for(&self, header: &Header, wanted: u64, table: &SlotTable) -> Slot {
+        self.least_slot_by(header, wanted, table)
+    }
+}
