@@ -1,24 +1,22 @@
 -- The best plan is that of the function.
-use Rattle.std.proofs.Common.{◌≡◌, ℕ, zero, suc, ◌+◌, ◌<◌, ◌≤◌, ◌==◌, ◌&&◌, ◌||◌, cond, Bool, true, false, inl, inr, List, [], ◌∷◌, ◌++◌, map, length, get_or, Contains, Option, Some, None, refl, sym, ap, ap₂, ◌∙◌, subst, arith, rules, drop}
-use Rattle.std.specs.Prelude.{◌⊎◌, ◌↔◌, ltb, leb, sum, flat_map}
-use Rattle.std.proofs.lemmas.Bool.{ltb-true, ltb-false, leb-true, le-leb, eqb-true, eqb-false, or_cases, and_parts}
-use Rattle.std.proofs.lemmas.List.{length-map, append-nil}
-use Rattle.frame_header.specs.Fields.{SlotFields, ClassFields, HeaderFields}
-use Rattle.frame_header.specs.Tables.{class_of, area_of}
+use Rattle.std.proofs.Common.{◌≡◌, ℕ, zero, suc, ◌<◌, ◌≤◌, ◌==◌, ◌&&◌, ◌||◌, cond, Bool, true, false, inl, inr, List, [], ◌∷◌, ◌++◌, map, Contains, Option, Some, None, refl, sym, ap, ◌∙◌, subst, arith}
+use Rattle.std.specs.Prelude.{◌⊎◌, ◌↔◌, ltb, sum, flat_map, filter}
+use Rattle.std.proofs.lemmas.Bool.{ltb-true, ltb-false, eqb-true, eqb-false, or_cases, and_parts}
+use Rattle.std.proofs.lemmas.List.{append-nil}
+use Rattle.frame_header.specs.Fields.{SlotFields, HeaderFields}
+use Rattle.frame_header.specs.Tables.{class_of}
 use Rattle.slot_plan.specs.declared.needs.Need.{Need}
 use Rattle.slot_plan.specs.declared.needs.Placed.{Placed}
 use Rattle.slot_plan.specs.Lists.{AreChosen, frames_of, IsNotBehind, CanBeLaid}
-use Rattle.slot_plan.specs.Parts.{Item, area_in, open_of, item_of, items_of, whole_of, areas_with}
+use Rattle.slot_plan.specs.Parts.{Item, open_of, item_of, items_of, whole_of}
 use Rattle.slot_plan.specs.Laws.{ChooseInOrder}
 use Rattle.slot_plan.specs.Plans.{AreFor, areas_in}
-use Rattle.slot_plan.specs.Reserve.{free_behind}
-use Rattle.slot_plan.proofs.ReserveLaws.{AllFit, frees_of}
+use Rattle.slot_plan.specs.Layouts.{IsFeasible, has_layout, begins_of}
+use Rattle.slot_plan.specs.LeastPlan.{all_lists, in_slots, laid_early}
 use Rattle.slot_plan.proofs.AreaLaws.{Contains-area}
 use Rattle.slot_plan.proofs.OnePlan.{AreOrdered, equal_lists, one_placed, all_in_order, ordered_whole, slots_ascend}
-use Rattle.best_plan.specs.BestOf.{or_behind, best_plan_of, comes_before, cost_of, better_of, cheapest, best_of}
-use Rattle.best_plan.proofs.PlansFrom.{placed_at, plans_from, best_from, best-from}
-use Rattle.best_plan.proofs.SumLaws.{fits-laid, laid-fits}
-use Rattle.best_plan.proofs.WalkLaws.{IsWalked, best-walked, walked-best}
+use Rattle.slot_plan.proofs.LeastPlan.{AreOf, chosen-of, slots-feasible, feasible-slots, laid-early}
+use Rattle.best_plan.specs.BestOf.{plans_of, or_behind, best_plan_of, comes_before, cost_of, better_of, cheapest, best_of}
 use Rattle.best_plan.specs.Best.{IsBestFor, items_behind, IsBestPlan}
 use Rattle.best_plan.specs.Laws.{BestPlanIsThePlan}
 
@@ -56,79 +54,92 @@ from-map f [] y has = absurd has
 from-map f (z ∷ xs) y (inl here) = (z, inl refl, here)
 from-map f (z ∷ xs) y (inr has) = let rest = from-map f xs y has in (rest.0, inr rest.1, rest.2)
 
--- ---- they are those that have room
+among-filter : {X : Type 0} (test : X → Bool) (xs : List X) (x : X) → Among xs x → test x ≡ true → Among (filter test xs) x
+among-filter test [] x has passes = absurd has
+among-filter test (z ∷ xs) x has passes = at (test z) refl has (λ later. among-filter test xs x later passes)
+  where
+    at : (b : Bool) → test z ≡ b → Among (z ∷ xs) x → (Among xs x → Among (filter test xs) x) → Among (cond b (z ∷ filter test xs) (filter test xs)) x
+    at true is (inl here) on = inl here
+    at true is (inr later) on = inr (on later)
+    at false is (inl here) on = let both : true ≡ false = sym passes ∙ ap test (sym here) ∙ is in absurd cc
+    at false is (inr later) on = on later
 
--- what such a list is
-pub record IsRoomy (window free : ℕ) (items : List Item) (placed : List Placed) : Type 0 where
-  pub slots : AreFor items placed
-  pub fit : AllFit window free (frames_of (map open_of items) (areas_in items placed))
-  pub begins : map (λ (p : Placed). p.begin) placed ≡ frees_of window free (frames_of (map open_of items) (areas_in items placed))
+from-filter : {X : Type 0} (test : X → Bool) (xs : List X) (x : X) → Among (filter test xs) x → Among xs x × (test x ≡ true)
+from-filter test [] x has = absurd has
+from-filter test (z ∷ xs) x has = at (test z) refl has (λ later. from-filter test xs x later)
+  where
+    at : (b : Bool) → test z ≡ b → Among (cond b (z ∷ filter test xs) (filter test xs)) x → (Among (filter test xs) x → Among xs x × (test x ≡ true)) → Among (z ∷ xs) x × (test x ≡ true)
+    at true is (inl here) on = (inl here, ap test (sym here) ∙ is)
+    at true is (inr later) on = let rest = on later in (inr rest.0, rest.1)
+    at false is later on = let rest = on later in (inr rest.0, rest.1)
 
-abbrev tails : ℕ → ℕ → Item → List Item → SlotFields → List (List Placed)
-tails window free item items slot =
-    cond (leb item.bytes (free + area_in item slot)) (map (λ placed. placed_at free item slot ∷ placed) (plans_from window (free_behind window free item.bytes (area_in item slot)) items)) []
+-- ---- all lists of slots
 
-among-slots : (window free : ℕ) (item : Item) (items : List Item) (slots : List SlotFields) (k : ℕ) (slot : SlotFields) (placed : List Placed) → k < length slots → get_or slots k slot ≡ slot
-    → Among (tails window free item items slot) placed → Among (flat_map (tails window free item items) slots) placed
-among-slots window free item items [] k slot placed within here has = absurd (omega (arith, within))
-among-slots window free item items (s ∷ slots) zero slot placed within here has =
-    among-front (tails window free item items s) (flat_map (tails window free item items) slots) placed (subst (λ t. Among (tails window free item items t) placed) (sym here) has)
-among-slots window free item items (s ∷ slots) (suc k) slot placed within here has =
-    among-back (tails window free item items s) (flat_map (tails window free item items) slots) placed (among-slots window free item items slots k slot placed (omega (arith, within)) here has)
+abbrev after_slot : List Item → SlotFields → List (List SlotFields)
+after_slot items slot = map (λ slots. slot ∷ slots) (all_lists items)
 
-has-tail : (window free : ℕ) (item : Item) (items : List Item) (slot : SlotFields) (rest : List Placed) → item.bytes ≤ free + area_in item slot → Among (plans_from window (free_behind window free item.bytes (area_in item slot)) items) rest
-    → Among (tails window free item items slot) (placed_at free item slot ∷ rest)
-has-tail window free item items slot rest fits has =
-    subst (λ b. Among (cond b (map (λ placed. placed_at free item slot ∷ placed) (plans_from window (free_behind window free item.bytes (area_in item slot)) items)) []) (placed_at free item slot ∷ rest))
-    (sym (le-leb item.bytes (free + area_in item slot) fits))
-    (among-map (λ placed. placed_at free item slot ∷ placed) (plans_from window (free_behind window free item.bytes (area_in item slot)) items) rest has)
+among-choices : (items : List Item) (choices : List SlotFields) (slot : SlotFields) (slots : List SlotFields) → Contains choices slot → Among (all_lists items) slots → Among (flat_map (after_slot items) choices) (slot ∷ slots)
+among-choices items [] slot slots has rest = absurd (omega (arith, has.1))
+among-choices items (s ∷ choices) slot slots (zero, within, at) rest =
+    among-front (after_slot items s) (flat_map (after_slot items) choices) (slot ∷ slots) (subst (λ t. Among (after_slot items t) (slot ∷ slots)) (sym at) (among-map (λ slots. slot ∷ slots) (all_lists items) slots rest))
+among-choices items (s ∷ choices) slot slots (suc k, within, at) rest =
+    among-back (after_slot items s) (flat_map (after_slot items) choices) (slot ∷ slots) (among-choices items choices slot slots (k, omega (arith, within), at) rest)
 
-placed_is : (p : Placed) (free : ℕ) (item : Item) → p.lead_in ≡ item.lead_in → p.begin ≡ free → placed_at free item p.slot ≡ p
-placed_is p free item lead begin =
-    ap (λ b. record { lead_in = b; slot = p.slot; begin = free }) (sym lead) ∙ ap (λ n. record { lead_in = p.lead_in; slot = p.slot; begin = n }) (sym begin)
+among-lists : (items : List Item) (slots : List SlotFields) → AreOf items slots → Among (all_lists items) slots
+unfolding AreOf all_lists
+among-lists [] [] of = inl refl
+among-lists [] (slot ∷ slots) of = absurd of
+among-lists (item ∷ items) [] of = absurd of
+among-lists (item ∷ items) (slot ∷ slots) of = among-choices items item.choices slot slots of.0 (among-lists items slots of.1)
 
-pub roomy-among : (window free : ℕ) (items : List Item) (placed : List Placed) → IsRoomy window free items placed → Among (plans_from window free items) placed
-unfolding plans_from AreFor areas_in frames_of AllFit frees_of
-roomy-among window free [] [] is = inl refl
-roomy-among window free [] (p ∷ placed) is = absurd is.slots
-roomy-among window free (item ∷ items) [] is = absurd is.slots
-roomy-among window free (item ∷ items) (p ∷ placed) is =
-    let begin : p.begin ≡ free = ap (λ l. get_or l 0 0) is.begins in
-    let rest = roomy-among window (free_behind window free item.bytes (area_in item p.slot)) items placed (record { slots = is.slots.2; fit = is.fit.1; begins = ap (drop 1) is.begins }) in
-    let tail = has-tail window free item items p.slot placed is.fit.0 rest in
-    subst (λ q. Among (flat_map (tails window free item items) item.choices) (q ∷ placed)) (placed_is p free item is.slots.0 begin)
-    (among-slots window free item items item.choices is.slots.1.0 p.slot (placed_at free item p.slot ∷ placed) is.slots.1.1 is.slots.1.2 tail)
-
-from-slots : (window free : ℕ) (item : Item) (items : List Item) (slots : List SlotFields) (placed : List Placed) → Among (flat_map (tails window free item items) slots) placed
-    → (k : ℕ) × (slot : SlotFields) × (k < length slots) × (get_or slots k slot ≡ slot) × Among (tails window free item items slot) placed
-from-slots window free item items [] placed has = absurd has
-from-slots window free item items (s ∷ slots) placed has =
-    elim (among-either (tails window free item items s) (flat_map (tails window free item items) slots) placed has)
-    as (λ _. (k : ℕ) × (slot : SlotFields) × (k < length (s ∷ slots)) × (get_or (s ∷ slots) k slot ≡ slot) × Among (tails window free item items slot) placed) [
-      | inl front ↦ (0, s, omega arith, refl, front)
-      | inr back ↦ let rest = from-slots window free item items slots placed back in (suc rest.0, rest.1, omega (arith, rest.2), rest.3, rest.4)
+from-choices : (items : List Item) (choices : List SlotFields) (list : List SlotFields) → Among (flat_map (after_slot items) choices) list
+    → (slot : SlotFields) × (slots : List SlotFields) × Contains choices slot × Among (all_lists items) slots × (slot ∷ slots ≡ list)
+from-choices items [] list has = absurd has
+from-choices items (s ∷ choices) list has =
+    elim (among-either (after_slot items s) (flat_map (after_slot items) choices) list has)
+    as (λ _. (slot : SlotFields) × (slots : List SlotFields) × Contains (s ∷ choices) slot × Among (all_lists items) slots × (slot ∷ slots ≡ list)) [
+      | inl front ↦ let found = from-map (λ slots. s ∷ slots) (all_lists items) list front in (s, found.0, (0, omega arith, refl), found.1, found.2)
+      | inr back ↦ let rest = from-choices items choices list back in let has = rest.2 in (rest.0, rest.1, (suc has.0, omega (arith, has.1), has.2), rest.3, rest.4)
     ]
 
-of-tail : (window free : ℕ) (item : Item) (items : List Item) (slot : SlotFields) (placed : List Placed) → Among (tails window free item items slot) placed
-    → (rest : List Placed) × (item.bytes ≤ free + area_in item slot) × Among (plans_from window (free_behind window free item.bytes (area_in item slot)) items) rest × (placed_at free item slot ∷ rest ≡ placed)
-of-tail window free item items slot placed has = at (leb item.bytes (free + area_in item slot)) refl has
-  where
-    at : (b : Bool) → leb item.bytes (free + area_in item slot) ≡ b → Among (cond b (map (λ placed. placed_at free item slot ∷ placed) (plans_from window (free_behind window free item.bytes (area_in item slot)) items)) []) placed
-        → (rest : List Placed) × (item.bytes ≤ free + area_in item slot) × Among (plans_from window (free_behind window free item.bytes (area_in item slot)) items) rest × (placed_at free item slot ∷ rest ≡ placed)
-    at true fits has =
-        let found = from-map (λ placed. placed_at free item slot ∷ placed) (plans_from window (free_behind window free item.bytes (area_in item slot)) items) placed has in
-        (found.0, leb-true item.bytes (free + area_in item slot) fits, found.1, found.2)
-    at false fits has = absurd has
+from-lists : (items : List Item) (slots : List SlotFields) → Among (all_lists items) slots → AreOf items slots
+unfolding AreOf all_lists
+from-lists [] slots (inl here) = subst (AreOf []) here tt
+from-lists [] slots (inr has) = absurd has
+from-lists (item ∷ items) slots has =
+    let found = from-choices items item.choices slots has in
+    subst (AreOf (item ∷ items)) found.4 (found.2, from-lists items found.1 found.3)
 
-pub among-roomy : (window free : ℕ) (items : List Item) (placed : List Placed) → Among (plans_from window free items) placed → IsRoomy window free items placed
-unfolding plans_from AreFor areas_in frames_of AllFit frees_of
-among-roomy window free [] placed (inl here) = subst (IsRoomy window free []) here (record { slots = tt; fit = tt; begins = refl })
-among-roomy window free [] placed (inr has) = absurd has
-among-roomy window free (item ∷ items) placed has =
-    let slot = from-slots window free item items item.choices placed has in
-    let tail = of-tail window free item items slot.1 placed slot.4 in
-    let rest = among-roomy window (free_behind window free item.bytes (area_in item slot.1)) items tail.0 tail.2 in
-    subst (IsRoomy window free (item ∷ items)) tail.3 (record { slots = (refl, (slot.0, slot.2, slot.3), rest.slots); fit = (tail.1, rest.fit); begins = ap (λ l. free ∷ l) rest.begins })
+-- ---- the plans that are made of them
+
+-- what each of them is
+record IsLaid (window : ℕ) (items : List Item) (placed : List Placed) : Type 0 where
+  slots : AreFor items placed
+  feasible : IsFeasible window 0 (frames_of (map open_of items) (areas_in items placed))
+  begins : map (λ (p : Placed). p.begin) placed ≡ begins_of window 0 0 (frames_of (map open_of items) (areas_in items placed))
+
+module _ (window : ℕ) (items : List Item) where
+  abbrev passing : List SlotFields → Bool
+  passing slots = has_layout window 0 0 (in_slots items slots)
+
+  from-plans : (placed : List Placed) → Among (plans_of window items) placed → IsLaid window items placed
+  from-plans placed has =
+      let found = from-map (laid_early window items) (filter passing (all_lists items)) placed has in
+      let passed = from-filter passing (all_lists items) found.0 found.1 in
+      let laid = laid-early window items found.0 (from-lists items found.0 passed.0) in
+      subst (IsLaid window items) found.2 (record {
+        slots = laid.0;
+        feasible = subst (λ l. IsFeasible window 0 (frames_of (map open_of items) l)) (sym laid.1) (slots-feasible window items found.0 passed.1);
+        begins = laid.2;
+      })
+
+  -- one of them has these areas
+  with-areas : (areas : List ℕ) → AreChosen (map open_of items) areas → IsFeasible window 0 (frames_of (map open_of items) areas) → (placed : List Placed) × Among (plans_of window items) placed × (areas_in items placed ≡ areas)
+  with-areas areas chosen feasible =
+      let of = chosen-of items areas chosen in
+      let passes = feasible-slots window items of.0 (subst (λ l. IsFeasible window 0 (frames_of (map open_of items) l)) (sym of.2) feasible) in
+      let has = among-map (laid_early window items) (filter passing (all_lists items)) of.0 (among-filter passing (all_lists items) of.0 (among-lists items of.0 of.1) passes) in
+      (laid_early window items of.0, has, (laid-early window items of.0 of.1).1 ∙ of.2)
 
 -- ---- the one that costs least
 
@@ -144,12 +155,6 @@ before-not_behind (m ∷ ms) (n ∷ ns) is = at (ltb n m) refl (n == m) refl is 
     at true less b same e rest = absurd cc
     at false less true same e rest = inr (sym (eqb-true n m same), rest e)
     at false less false same e rest = inl (omega (arith, ltb-false n m less, eqb-false n m same))
-
-later : (n m : ℕ) (rest : Bool) → m < n → (ltb n m || ((n == m) && rest)) ≡ false
-later n m rest less = search rules
-
-same : (n m : ℕ) (rest : Bool) → m ≡ n → rest ≡ false → (ltb n m || ((n == m) && rest)) ≡ false
-same n m rest is e = search rules
 
 -- no list is after itself, and what is not after a second list is not after a third that the second is not after
 not_behind-self : (ns : List ℕ) → IsNotBehind ns ns
@@ -241,40 +246,6 @@ chosen-for [] (p ∷ placed) slots = absurd slots
 chosen-for (item ∷ items) [] slots = absurd slots
 chosen-for (item ∷ items) (p ∷ placed) slots = (Contains-area item.class item.protected item.choices p.slot slots.1, chosen-for items placed slots.2)
 
-slot-for : (class : ClassFields) (protected : Bool) (slots : List SlotFields) (k n : ℕ) → k < length slots → get_or (areas_with class protected slots) k n ≡ n → (slot : SlotFields) × Contains slots slot × (area_of class slot protected ≡ n)
-slot-for class protected [] k n within same = absurd (omega (arith, within))
-slot-for class protected (s ∷ slots) zero n within same = (s, (0, omega arith, refl), same)
-slot-for class protected (s ∷ slots) (suc k) n within same =
-    let rest = slot-for class protected slots k n (omega (arith, within)) same in
-    let has = rest.1 in (rest.0, (suc has.0, omega (arith, has.1), has.2), rest.2)
-
--- a list of areas is that of a plan
-pub record IsAreasOf (window free : ℕ) (items : List Item) (areas : List ℕ) : Type 0 where
-  pub placed : List Placed
-  pub roomy : IsRoomy window free items placed
-  pub same : areas_in items placed ≡ areas
-
-pub areas-placed : (window free : ℕ) (items : List Item) (areas : List ℕ) → AreChosen (map open_of items) areas → AllFit window free (frames_of (map open_of items) areas) → IsAreasOf window free items areas
-unfolding AreFor areas_in AreChosen frames_of AllFit frees_of
-areas-placed window free [] [] chosen fit = record { placed = []; roomy = record { slots = tt; fit = tt; begins = refl }; same = refl }
-areas-placed window free [] (n ∷ areas) chosen fit = absurd chosen
-areas-placed window free (item ∷ items) [] chosen fit = absurd chosen
-areas-placed window free (item ∷ items) (n ∷ areas) chosen fit =
-    let has = chosen.0 in
-    let slot = slot-for item.class item.protected item.choices has.0 n (omega (arith, has.1, length-map item.choices (λ s. area_of item.class s item.protected))) has.2 in
-    let rest = areas-placed window (free_behind window free item.bytes n) items areas chosen.1 fit.1 in
-    let area : area_in item slot.0 ≡ n = slot.2 in
-    let roomy : IsRoomy window (free_behind window free item.bytes (area_in item slot.0)) items rest.placed = subst (λ m. IsRoomy window (free_behind window free item.bytes m) items rest.placed) (sym area) rest.roomy in
-    record {
-      placed = placed_at free item slot.0 ∷ rest.placed;
-      roomy = record {
-        slots = (refl, slot.1, roomy.slots);
-        fit = (subst (λ m. item.bytes ≤ free + m) (sym area) fit.0, roomy.fit);
-        begins = ap (λ l. free ∷ l) roomy.begins;
-      };
-      same = ap₂ (λ m (l : List ℕ). m ∷ l) area rest.same;
-    }
-
 -- ---- the best plan of items
 
 same_areas : (ms ns : List ℕ) → sum ns ≤ sum ms → (sum ms ≡ sum ns → IsNotBehind ns ms) → IsNotBehind (sum ms ∷ ms) (sum ns ∷ ns) → ms ≡ ns
@@ -282,20 +253,22 @@ unfolding IsNotBehind
 same_areas ms ns short first (inl less) = absurd (omega (arith, short, less))
 same_areas ms ns short first (inr at) = equal_lists ms ns at.1 (first at.0)
 
-pub walked-of : (window free : ℕ) (items : List Item) (placed : List Placed) → AreOrdered items → IsWalked window free items placed → best_from window free items ≡ Some placed
-walked-of window free items placed ordered is = of (best_from window free items) refl
+-- what is best of the plans of some items
+plans-best : (window : ℕ) (items : List Item) (placed : List Placed) → AreOrdered items → IsBestFor window 0 items placed → best_of window items ≡ Some placed
+plans-best window items placed ordered is = of (best_of window items) refl
   where
-    roomy : IsRoomy window free items placed
-    roomy = record { slots = is.slots; fit = is.list.fit; begins = is.begins }
+    own : (plan : List Placed) × Among (plans_of window items) plan × (areas_in items plan ≡ areas_in items placed)
+    own = with-areas window items (areas_in items placed) is.best.chosen is.best.feasible
 
-    of : (o : Option (List Placed)) → best_from window free items ≡ o → o ≡ Some placed
-    of None none = absurd (no-plans items (plans_from window free items) none placed (roomy-among window free items placed roomy))
+    of : (o : Option (List Placed)) → best_of window items ≡ o → o ≡ Some placed
+    of None none = absurd (no-plans items (plans_of window items) none own.0 own.1)
     of (Some found) e =
-        let cheap = cheapest-is items (plans_from window free items) found e in
-        let also = among-roomy window free items found cheap.among in
+        let cheap = cheapest-is items (plans_of window items) found e in
+        let also = from-plans window items found cheap.among in
         let chosen = chosen-for items found also.slots in
-        let areas = same_areas (areas_in items found) (areas_in items placed) (is.list.shortest (areas_in items found) chosen also.fit) (is.list.first (areas_in items found) chosen also.fit) (cheap.least placed (roomy-among window free items placed roomy)) in
-        ap Some (one_placed items found placed ordered also.slots is.slots areas (also.begins ∙ ap (λ l. frees_of window free (frames_of (map open_of items) l)) areas ∙ sym is.begins))
+        let before = subst (λ l. IsNotBehind (cost_of items found) (sum l ∷ l)) own.2 (cheap.least own.0 own.1) in
+        let areas = same_areas (areas_in items found) (areas_in items placed) (is.best.shortest (areas_in items found) chosen also.feasible) (is.best.first (areas_in items found) chosen also.feasible) before in
+        ap Some (one_placed items found placed ordered also.slots is.slots areas (also.begins ∙ ap (λ l. begins_of window 0 0 (frames_of (map open_of items) l)) areas ∙ sym is.begins))
 
 short-of : (ms ns : List ℕ) → IsNotBehind (sum ms ∷ ms) (sum ns ∷ ns) → sum ms ≤ sum ns
 unfolding IsNotBehind
@@ -307,40 +280,37 @@ unfolding IsNotBehind
 first-of ms ns (inl less) same = absurd (omega (arith, less, same))
 first-of ms ns (inr at) same = at.1
 
-pub of-walked : (window free : ℕ) (items : List Item) (placed : List Placed) → best_from window free items ≡ Some placed → IsWalked window free items placed
-of-walked window free items placed e = record {
-  slots = roomy.slots;
-  list = record {
-    chosen = chosen-for items placed roomy.slots;
-    fit = roomy.fit;
-    shortest = λ others chosen fit. short-of (areas_in items placed) others (not_behind others chosen fit);
-    first = λ others chosen fit same. first-of (areas_in items placed) others (not_behind others chosen fit) same;
+best-plans : (window : ℕ) (items : List Item) (placed : List Placed) → best_of window items ≡ Some placed → IsBestFor window 0 items placed
+best-plans window items placed e = record {
+  slots = laid.slots;
+  best = record {
+    chosen = chosen-for items placed laid.slots;
+    feasible = laid.feasible;
+    shortest = λ others chosen feasible. short-of (areas_in items placed) others (not_behind others chosen feasible);
+    first = λ others chosen feasible same. first-of (areas_in items placed) others (not_behind others chosen feasible) same;
   };
-  begins = roomy.begins;
+  begins = laid.begins;
 }
   where
-    cheap : IsCheapest items (plans_from window free items) placed
-    cheap = cheapest-is items (plans_from window free items) placed e
+    cheap : IsCheapest items (plans_of window items) placed
+    cheap = cheapest-is items (plans_of window items) placed e
 
-    roomy : IsRoomy window free items placed
-    roomy = among-roomy window free items placed cheap.among
+    laid : IsLaid window items placed
+    laid = from-plans window items placed cheap.among
 
-    not_behind : (others : List ℕ) → AreChosen (map open_of items) others → AllFit window free (frames_of (map open_of items) others) → IsNotBehind (cost_of items placed) (sum others ∷ others)
-    not_behind others chosen fit =
-        let other = areas-placed window free items others chosen fit in
-        subst (λ l. IsNotBehind (cost_of items placed) (sum l ∷ l)) other.same (cheap.least other.placed (roomy-among window free items other.placed other.roomy))
+    not_behind : (others : List ℕ) → AreChosen (map open_of items) others → IsFeasible window 0 (frames_of (map open_of items) others) → IsNotBehind (cost_of items placed) (sum others ∷ others)
+    not_behind others chosen feasible =
+        let other = with-areas window items others chosen feasible in
+        subst (λ l. IsNotBehind (cost_of items placed) (sum l ∷ l)) other.2 (cheap.least other.0 other.1)
 
 -- there is one exactly where the items can be laid
-pub of-laid : (window : ℕ) (items : List Item) (placed : List Placed) → best_of window items ≡ Some placed → CanBeLaid window (map open_of items)
+of-laid : (window : ℕ) (items : List Item) (placed : List Placed) → best_of window items ≡ Some placed → CanBeLaid window (map open_of items)
 unfolding CanBeLaid
-of-laid window items placed e =
-    let is = of-walked window 0 items placed (sym (best-from window items) ∙ e) in (areas_in items placed, is.list.chosen, laid-fits window 0 (frames_of (map open_of items) (areas_in items placed)) (omega arith) is.list.fit)
+of-laid window items placed e = let is = (best-plans window items placed e).best in (areas_in items placed, is.chosen, is.feasible)
 
 pub none-laid : (window : ℕ) (items : List Item) → best_of window items ≡ None → CanBeLaid window (map open_of items) → ⊥
 unfolding CanBeLaid
-none-laid window items none can =
-    let other = areas-placed window 0 items can.0 can.1 (fits-laid window 0 (frames_of (map open_of items) can.0) can.2) in
-    no-plans items (plans_from window 0 items) (sym (best-from window items) ∙ none) other.placed (roomy-among window 0 items other.placed other.roomy)
+none-laid window items none can = let other = with-areas window items can.0 can.1 can.2 in no-plans items (plans_of window items) none other.0 other.1
 
 -- ---- the best plan of a part
 
@@ -362,11 +332,11 @@ module _ (window : ℕ) (choices : HeaderFields → List SlotFields) (needs : Li
   plan-of : ChooseInOrder choices (needs ∷ []) → (lead_in : Bool) → (lead_in ≡ false) ↔ CanBeLaid window (map open_of (map (item_of choices) needs)) → IsBestFor window 0 (items_behind lead_in choices needs) placed
       → best_plan_of window choices needs ≡ Some placed
   unfolding items_behind
-  plan-of order false alone best = ap (λ o. or_behind o (best_of window behind)) (best-from window without ∙ walked-of window 0 without placed (ordered-behind choices needs order false) (walked-best window 0 without placed (omega arith) best))
+  plan-of order false alone best = ap (λ o. or_behind o (best_of window behind)) (plans-best window without placed (ordered-behind choices needs order false) best)
   plan-of order true alone best = at (best_of window without) refl
     where
       at : (o : Option (List Placed)) → best_of window without ≡ o → or_behind o (best_of window behind) ≡ Some placed
-      at None none = best-from window behind ∙ walked-of window 0 behind placed (ordered-behind choices needs order true) (walked-best window 0 behind placed (omega arith) best)
+      at None none = plans-best window behind placed (ordered-behind choices needs order true) best
       at (Some other) e = let never : true ≡ false = alone.1 (of-laid window without other e) in absurd cc
 
   of-plan : best_plan_of window choices needs ≡ Some placed → IsBestPlan window choices needs placed
@@ -377,12 +347,12 @@ module _ (window : ℕ) (choices : HeaderFields → List SlotFields) (needs : Li
       at (Some other) is e = let same : other ≡ placed = cc in subst (IsBestPlan window choices needs) same (record {
         lead_in = false;
         without = ((λ _. of-laid window without other is), (λ _. refl));
-        whole = best-walked window 0 without other (omega arith) (of-walked window 0 without other (sym (best-from window without) ∙ is));
+        whole = best-plans window without other is;
       })
       at None none e = record {
         lead_in = true;
         without = ((λ f. absurd cc), (λ can. absurd (none-laid window without none can)));
-        whole = best-walked window 0 behind placed (omega arith) (of-walked window 0 behind placed (sym (best-from window behind) ∙ e));
+        whole = best-plans window behind placed e;
       }
 
 pub best-plan-of : BestPlanIsThePlan

@@ -5,6 +5,5 @@ pub mod SumLaws
 pub mod WalkLaws
 pub mod PlanLaws
 pub mod ShortestLaw
-pub mod PlansFrom
 pub mod BestOfLaws
 pub mod ExistsLaw
