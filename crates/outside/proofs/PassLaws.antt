@@ -1,6 +1,6 @@
 -- Steps of a pass, one after the other.
 use Rattle.std.proofs.Common.{◌≡◌, ◌≢◌, ℕ, ◌+◌, ◌-◌, ◌≤◌, List, [], ◌++◌, length, take, drop, refl, sym, ◌∙◌, ap, subst, arith, append_assoc, append-nil, length-append}
-use Rattle.std.specs.Prelude.{Result, Ok, Err, IfErr}
+use Rattle.std.specs.Prelude.{Result, Ok, Err, IfErr, IsErrAnd}
 use Rattle.std.proofs.lemmas.List.{take-append-le, length-take, drop-drop}
 use Rattle.std.proofs.Math.Seq.{take-append-add, take-add}
 use Rattle.outside.specs.Files.{Files, is_told, appended, Holds, IsThere}
@@ -13,7 +13,8 @@ use Rattle.outside.specs.declared.exact.ReadFault.TheVariants.{Failed, Shrunk as
 use Rattle.outside.specs.declared.pass.Pass.{Pass}
 use Rattle.outside.specs.declared.pass.PassFault.{PassFault}
 use Rattle.outside.specs.declared.pass.PassFault.TheVariants.{Read, Shrunk, Write}
-use Rattle.outside.specs.Pass.{IsReady, AreMade, bytes_between, Writes, AppendsPart, WritesPrefix, Appends, AppendsPrefix, of_read, IsOfRead, Route, HasPassCause}
+use Rattle.outside.specs.Pass.{IsReady, AreMade, bytes_at, bytes_between, Writes, AppendsPart, WritesPrefix, Appends, AppendsPrefix, of_read, IsOfRead, Route, route_of, HasPassCause, PassMakes}
+use Rattle.outside.specs.Seen.{Seen}
 use Rattle.outside.proofs.FilesLaws.{appended_twice, appended_nothing, appended_holds_other, appended_held_other, appended_keeps, appended_told}
 use Rattle.outside.proofs.PassedLaws.{passed_more}
 
@@ -270,3 +271,51 @@ between_split file at n to within =
     ap (λ k. take k (drop at file)) sum
     ∙ take-add n (to - (at + n)) (drop at file)
     ∙ ap (λ (l : List ℕ). take n (drop at file) ++ take (to - (at + n)) l) (drop-drop n at file)
+
+-- ---- bytes of the input that are copied
+
+-- those before `at` went on, and all is ready for the others
+pub record CopiesUpTo (pass : Pass) (from at to : ℕ) (before mid : List ℕ) (fed : Fed) (old now : Seen) : Type 0 where
+  pub in_range : at ≤ to
+  pub up_to : WritesUpTo pass (λ file. bytes_between file from to) (λ file. bytes_between file at to)
+      before mid old.files now.files
+  pub ready : IsReady pass now.files fed
+  pub done : now.counts ≡ old.counts
+
+pub copies_begun : (pass : Pass) (from to : ℕ) (waiting : List ℕ) (fed : Fed) (old : Seen) → from ≤ to
+    → IsReady pass old.files fed → CopiesUpTo pass from from to waiting waiting fed old old
+copies_begun pass from to waiting fed old ordered ready = record {
+  in_range = ordered;
+  up_to = up_to_begun pass (λ file. bytes_between file from to) waiting old.files ready.target;
+  ready = ready;
+  done = refl;
+}
+
+-- a piece more
+module _ {pass : Pass} {from at to : ℕ} {before mid after : List ℕ} {fed next : Fed} {old now new : Seen}
+    (copied : CopiesUpTo pass from at to before mid fed old now) (n : ℕ) (within : at + n ≤ to) where
+  pub copies_more : {T : Type 0} {x : T} → PassMakes pass (bytes_at at n) mid after next now new (Ok x)
+      → CopiesUpTo pass from (at + n) to before after next old new
+  copies_more made = record {
+    in_range = within;
+    up_to = up_to_more pass copied.ready.apart copied.up_to (bytes_at at n) (λ file. bytes_between file (at + n) to)
+        (λ file holds. between_split file at n to within) made.written;
+    ready = made.ready;
+    done = made.done ∙ copied.done;
+  }
+
+  -- a piece that failed, so that the copy fails as well
+  pub copies_failed : {S T : Type 0} {fault : PassFault} (result : Result S PassFault) (last : List ℕ) (held : Fed)
+      → IsErrAnd result (λ e. e ≡ fault) → PassMakes {T = T} pass (bytes_at at n) mid after next now new (Err fault)
+      → PassMakes pass (λ file. bytes_between file from to) before last held old new result
+  copies_failed (Ok x) last held is made = absurd is
+  copies_failed (Err e) last held is made = record {
+    written = tt;
+    prefix = subst (WritesPrefix pass (λ file. bytes_between file from to) before old.files new.files) (sym is)
+        (up_to_prefix pass copied.ready.apart copied.up_to (bytes_at at n) (λ file. bytes_between file (at + n) to)
+        (λ file holds. between_split file at n to within) made.prefix);
+    done = tt;
+    cause = subst (HasPassCause (route_of pass) old.files old.counts new.counts) (sym is)
+        (cause_behind copied.up_to.written (route_of pass) old.counts now.counts new.counts copied.done _ made.cause);
+    ready = tt;
+  }

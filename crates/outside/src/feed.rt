@@ -122,7 +122,7 @@ impl Feed {
         ensures { FillAnswer name.now at n self.new (D.seen folder.old) (D.seen folder.new) result }
     {
         let room = self.room.as_mut_slice();
-        let kept = keep_from(room, self.place, self.held, at);
+        let kept = keep_from(room, 0, self.held, self.place, at);
         self.place = at;
         self.held = 0;
         self.from = 0;
@@ -133,20 +133,21 @@ impl Feed {
     }
 }
 
-// Moves what is held at the offset `at` and after it to the beginning of the buffer, and answers how many
-// bytes these are: none where `at` is before or after what is held.
-fn keep_from(room: &mut [u8], place: u64, held: usize, at: u64) -> usize
-    requires early { place ≤ 2 ^ 32 }
-    requires within { held ≤ length room.old }
-    requires few { held ≤ buffer_size }
-    ensures fewer { result ≤ held }
-    ensures kept { (bytes : List ℕ) → take held (drop place bytes) ≡ take held room.old
+/// Moves what is held of a file to the beginning of a buffer, from the offset `at` on, and returns how
+/// many bytes that is: none where `at` isn't among them. Held are the bytes of the buffer from `begin`
+/// up to `end`, of which the first is at the offset `place`.
+pub fn keep_from(room: &mut [u8], begin: usize, end: usize, place: u64, at: u64) -> usize
+    requires ordered { begin ≤ end }
+    requires within { end ≤ length room.old }
+    ensures fewer { result ≤ end - begin }
+    ensures kept { (bytes : List ℕ) → take (end - begin) (drop place bytes)
+        ≡ take (end - begin) (drop begin room.old)
         → take result room.new ≡ take result (drop at bytes) }
 {
-    if at < place || at > place + held as u64 {
+    if at < place || (end - begin) as u64 <= at - place {
         return 0;
     }
-    let before = (at - place) as usize;
-    room.copy_within(before..held, 0);
-    held - before
+    let from = begin + (at - place) as usize;
+    room.copy_within(from..end, 0);
+    end - from
 }

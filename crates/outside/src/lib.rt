@@ -13,10 +13,11 @@ mod send_buffer;
 mod sink;
 mod sizes;
 mod tally;
+mod waiting;
 mod write_buffer;
 
 pub use exact::{ReadFault, read_exact};
-pub use feed::Feed;
+pub use feed::{Feed, keep_from};
 pub use folder::{Failed, FindFault, Folder};
 pub use helpers::{read_full, send_all, write_all};
 pub use memory::{Call, MemFolder, MemSink, ShortFolder};

@@ -90,26 +90,6 @@ impl<'a> Pass<'a> {
         }
     }
 
-    /// Adds two pieces to what waits for the output, one after the other.
-    ///
-    /// # Errors
-    /// `Write` where a write failed.
-    #[inline]
-    pub fn push_both<D: Folder>(
-        &self,
-        folder: &mut D,
-        front: &[u8],
-        rest: &[u8],
-        waiting: &mut WriteBuffer,
-    ) -> Result<(), PassFault>
-        requires { IsThere (D.seen folder.old).files self.now.output.now }
-        ensures { PassPushes self.now waiting.old (front.now ++ rest.now) waiting.new
-            (D.seen folder.old) (D.seen folder.new) result }
-    {
-        self.push(folder, front, waiting)?;
-        self.push(folder, rest, waiting)
-    }
-
     /// Copies the bytes of the input from one offset up to another, which are within its length.
     ///
     /// # Errors

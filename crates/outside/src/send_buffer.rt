@@ -9,26 +9,26 @@ use crate::folder::Failed;
 use crate::helpers::send_all;
 use crate::sink::Sink;
 use crate::sizes::BUFFER_SIZE;
+use crate::waiting::Waiting;
 use std::alloc::{AllocError, Global};
 use std::marker::Model;
 
-// How many bytes may wait.
 /// A buffer of 65,536 bytes before a sink, each write of which may cost much: that to standard output is
 /// followed by a flush. Contracts see it as the bytes that wait.
+///
+/// Unlike a `WriteBuffer` it isn't filled before it is sent. Each piece is a line, and whoever reads the
+/// stream gets whole lines.
 #[derive(Drop)]
 pub struct SendBuffer {
-    room: Vec<u8>,
-    waiting: usize,
+    waiting: Waiting,
 }
 
 impl Model for SendBuffer {
-    ghost use Rattle.std.specs.Prelude.{◌≡◌, ◌≤◌, ℕ, List, length, take};
+    ghost use Rattle.std.specs.Prelude.{ℕ, List};
 
     ghost Value = { List ℕ };
 
-    ghost view = { λ b. take b.waiting b.room.items };
-
-    ghost invariant = { λ b. (length b.room.items ≡ 65536) × (b.waiting ≤ 65536) };
+    ghost view = { λ b. b.waiting };
 }
 
 impl SendBuffer {
@@ -40,8 +40,7 @@ impl SendBuffer {
         ensures { IfOk result (λ buffer. buffer ≡ []) }
     {
         Ok(SendBuffer {
-            room: vec![in alloc; 0; BUFFER_SIZE]?,
-            waiting: 0,
+            waiting: Waiting::new(alloc)?,
         })
     }
 
@@ -59,8 +58,8 @@ impl SendBuffer {
         ensures none { OnErr result (self.new ≡ []) }
         ensures cause { HasCause (T.heard sink.old).faults (T.heard sink.new).faults result }
     {
-        if piece.len() <= BUFFER_SIZE - self.waiting {
-            self.add(piece);
+        if piece.len() <= self.waiting.free() {
+            self.waiting.add(piece);
             return Ok(());
         }
         self.push_over(sink, piece)
@@ -78,20 +77,9 @@ impl SendBuffer {
         ensures none { self.new ≡ [] }
         ensures cause { HasCause (T.heard sink.old).faults (T.heard sink.new).faults result }
     {
-        let waiting = self.waiting;
-        self.waiting = 0;
-        send_all(sink, &self.room[..waiting])
-    }
-
-    // Adds a piece that fits.
-    #[inline]
-    fn add(&mut self, piece: &[u8])
-        requires { length self.old + length piece.now ≤ buffer_size }
-        ensures { self.new ≡ self.old ++ piece.now }
-    {
-        let end = self.waiting + piece.len();
-        self.room[self.waiting..end].copy_from_slice(piece);
-        self.waiting = end;
+        let sent = send_all(sink, self.waiting.bytes());
+        self.waiting.clear();
+        sent
     }
 
     // Sends what waits, and then adds bytes that didn't fit after it, or sends them too.
@@ -108,7 +96,7 @@ impl SendBuffer {
         if piece.len() > BUFFER_SIZE {
             return send_all(sink, piece);
         }
-        self.add(piece);
+        self.waiting.add(piece);
         Ok(())
     }
 }

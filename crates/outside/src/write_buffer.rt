@@ -9,25 +9,25 @@ ghost use Rattle.outside.specs.Feed.{buffer_size};
 use crate::folder::{Failed, Folder};
 use crate::helpers::write_all;
 use crate::sizes::BUFFER_SIZE;
+use crate::waiting::Waiting;
 use std::alloc::{AllocError, Global};
 use std::marker::Model;
 
-// How many bytes may wait.
 /// A buffer of 65,536 bytes before one file. Contracts see it as the bytes that wait.
+///
+/// It is filled before it is written, so that every write but the last has a multiple of 65,536
+/// bytes.
 #[derive(Drop)]
 pub struct WriteBuffer {
-    room: Vec<u8>,
-    waiting: usize,
+    waiting: Waiting,
 }
 
 impl Model for WriteBuffer {
-    ghost use Rattle.std.specs.Prelude.{◌≡◌, ◌≤◌, ℕ, List, length, take};
+    ghost use Rattle.std.specs.Prelude.{ℕ, List};
 
     ghost Value = { List ℕ };
 
-    ghost view = { λ b. take b.waiting b.room.items };
-
-    ghost invariant = { λ b. (length b.room.items ≡ 65536) × (b.waiting ≤ 65536) };
+    ghost view = { λ b. b.waiting };
 }
 
 impl WriteBuffer {
@@ -39,8 +39,7 @@ impl WriteBuffer {
         ensures { IfOk result (λ buffer. buffer ≡ []) }
     {
         Ok(WriteBuffer {
-            room: vec![in alloc; 0; BUFFER_SIZE]?,
-            waiting: 0,
+            waiting: Waiting::new(alloc)?,
         })
     }
 
@@ -61,8 +60,8 @@ impl WriteBuffer {
         ensures { PushAnswer name.now self.old piece.now self.new (D.seen folder.old)
             (D.seen folder.new) result }
     {
-        if piece.len() <= BUFFER_SIZE - self.waiting {
-            self.add(piece);
+        if piece.len() <= self.waiting.free() {
+            self.waiting.add(piece);
             return Ok(());
         }
         self.push_over(folder, name, piece)
@@ -73,7 +72,6 @@ impl WriteBuffer {
     /// # Errors
     /// Where a write failed. Then a prefix of what waited and these bytes, and not all, was appended, and
     /// nothing waits.
-    // Copying is fastest if the number of bytes is a constant, so the whole piece is copied where there is room for it.
     #[inline(always)]
     pub fn push_first<D: Folder>(
         &mut self,
@@ -87,8 +85,8 @@ impl WriteBuffer {
         ensures { PushAnswer name.now self.old (take count piece.now) self.new (D.seen folder.old)
             (D.seen folder.new) result }
     {
-        if piece.len() <= BUFFER_SIZE - self.waiting {
-            self.add_first(piece, count);
+        if piece.len() <= self.waiting.free() {
+            self.waiting.add_first(piece, count);
             return Ok(());
         }
         self.push(folder, name, &piece[..count])
@@ -103,32 +101,9 @@ impl WriteBuffer {
         ensures { FinishAnswer name.now self.old self.new (D.seen folder.old)
             (D.seen folder.new) result }
     {
-        let waiting = self.waiting;
-        self.waiting = 0;
-        write_all(folder, name, &self.room[..waiting])
-    }
-
-    // Adds a piece that fits.
-    #[inline]
-    fn add(&mut self, piece: &[u8])
-        requires { length self.old + length piece.now ≤ buffer_size }
-        ensures { self.new ≡ self.old ++ piece.now }
-    {
-        let end = self.waiting + piece.len();
-        self.room[self.waiting..end].copy_from_slice(piece);
-        self.waiting = end;
-    }
-
-    // Adds the first bytes of a piece that fits.
-    #[inline(always)]
-    fn add_first(&mut self, piece: &[u8], count: usize)
-        requires room { length self.old + length piece.now ≤ buffer_size }
-        requires within { count ≤ length piece.now }
-        ensures { self.new ≡ self.old ++ take count piece.now }
-    {
-        let end = self.waiting + piece.len();
-        self.room[self.waiting..end].copy_from_slice(piece);
-        self.waiting += count;
+        let written = write_all(folder, name, self.waiting.bytes());
+        self.waiting.clear();
+        written
     }
 
     // Adds bytes that don't fit: fills the buffer and appends it to the file, then of the others as many
@@ -145,11 +120,11 @@ impl WriteBuffer {
         ensures { PushAnswer name.now self.old piece.now self.new (D.seen folder.old)
             (D.seen folder.new) result }
     {
-        let free = BUFFER_SIZE - self.waiting;
-        self.add(&piece[..free]);
+        let free = self.waiting.free();
+        self.waiting.add(&piece[..free]);
         self.finish(folder, name)?;
         let done = write_whole(folder, name, &piece[free..])?;
-        self.add(&piece[free + done..]);
+        self.waiting.add(&piece[free + done..]);
         Ok(())
     }
 }

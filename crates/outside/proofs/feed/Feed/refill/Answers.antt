@@ -14,7 +14,9 @@ read : (g : Over) (c : goal.After-self-3-1 g) (bytes : List ℕ) → Holds (g.D.
 read g c bytes holds =
     let held = subst (λ (fed : Fed). take (length fed.held) (drop fed.place bytes) ≡ fed.held) (sym c.self.view_is) (c.requires.fed.same bytes holds) in
     let front = fed_front c.self.inside.held c.self.inside.place c.self.inside.room.items bytes (omega arith) held in
-    c.in_ok-self-inside.ensures.bytes bytes holds (c.keep_from-kept.ensures.kept bytes (front ∙ ap (take c.self.inside.held) (sym c.as_mut_slice-room.ensures.value)))
+    let whole : c.self.inside.held ≡ c.self.inside.held - 0 = omega arith in
+    c.in_ok-self-inside.ensures.bytes bytes holds
+    (c.keep_from-kept.ensures.kept bytes (subst (λ n. take n (drop c.self.inside.place bytes) ≡ take n c.as_mut_slice-room.result.now) whole (front ∙ ap (take c.self.inside.held) (sym c.as_mut_slice-room.ensures.value))))
 
 pub invariant_of-self : goal.invariant_of-self
 invariant_of-self g c =

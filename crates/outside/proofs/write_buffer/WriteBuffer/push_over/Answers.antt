@@ -12,7 +12,7 @@ returns-in_err-finish g c = record {
   passed = search rules;
   prefix = on_err
       c.from_residual.result
-      (prefix_waiting c.args.name.now c.args.self.now c.args.piece.now _ _ _ (rw c.add.ensures at c.in_err-finish.ensures.prefix));
+      (prefix_waiting c.args.name.now c.args.self.now c.args.piece.now _ _ _ (rw (c.add.ensures, c.self.view_is) at c.in_err-finish.ensures.prefix));
   none = search rules;
   few = search rules;
   failed = search rules;
@@ -26,11 +26,11 @@ write_whole-requires g c = subst (λ f. IsThere f c.args.name.now) (sym c.in_ok-
 pub returns-in_err-done : goal.returns-in_err-done
 returns-in_err-done g c = record {
   passed = search rules;
-  prefix = let free = 65536 - c.self.inside.waiting in
+  prefix = let free = c.free-free.result in
       on_err
       c.from_residual-in_err-done.result
       (passed_then_prefix
-      (passed_waiting c.args.name.now c.args.self.now c.args.piece.now free _ _ (rw c.add.ensures at c.in_ok-finish.ensures.appended))
+      (passed_waiting c.args.name.now c.args.self.now c.args.piece.now free _ _ (rw (c.add.ensures, c.self.view_is) at c.in_ok-finish.ensures.appended))
       (rw part_from at c.in_err-done.ensures.prefix));
   none = search rules;
   few = search rules;
@@ -41,19 +41,19 @@ returns-in_err-done g c = record {
 
 pub returns : goal.returns
 returns g c = record {
-  passed = let free = 65536 - c.self.inside.waiting in
+  passed = let free = c.free-free.result in
       let piece = c.args.piece.now in
       let done = c.in_ok-done.done in
       let rest_is : c.add-2.new.self ≡ drop done (drop free piece) =
       c.add-2.ensures
-      ∙ ap (λ (front : List ℕ). front ++ take (length piece - (free + done)) (drop (free + done) piece)) c.in_ok-finish.ensures.none
+      ∙ ap (λ (front : List ℕ). front ++ take (length piece - (free + done)) (drop (free + done) piece)) (c.self-2.view_is ∙ c.in_ok-finish.ensures.none)
       ∙ part_from (free + done) piece
       ∙ sym (drop-drop done free piece) in
       subst
       (λ (after : List ℕ). PassedOn c.args.name.now (c.args.self.now ++ piece) after (g.D.Folder.seen c.args.folder.now).files (g.D.Folder.seen c.write_whole.new.folder).files)
       (sym rest_is)
       (passed_then
-      (passed_waiting c.args.name.now c.args.self.now piece free _ _ (rw c.add.ensures at c.in_ok-finish.ensures.appended))
+      (passed_waiting c.args.name.now c.args.self.now piece free _ _ (rw (c.add.ensures, c.self.view_is) at c.in_ok-finish.ensures.appended))
       (passed_front c.args.name.now (drop free piece) done _ _ (rw part_from at c.in_ok-done.ensures.written)));
   prefix = search rules;
   none = search rules;

@@ -2,7 +2,7 @@
 use Rattle.std.proofs.Common.{◌≡◌, ◌≤◌, ◌+◌, ◌++◌, List, ℕ, length, take, sym, ap, ap₂, ◌∙◌, arith}
 use Rattle.std.proofs.lemmas.List.{with_items_is, length-take-le, take-append-le}
 use Rattle.std.proofs.Math.Seq.{take-append-add}
-use Rattle.outside.proofs.write_buffer.WriteBuffer.add_first.Goals as goal
+use Rattle.outside.proofs.waiting.Waiting.add_first.Goals as goal
 
 -- more bytes than these were put after those that wait
 first_added : (waiting count : ℕ) (room piece put rest held : List ℕ) → waiting ≤ length room → take waiting room ≡ held → put ≡ piece → count ≤ length piece →
@@ -15,6 +15,6 @@ first_added waiting count room piece put rest held within holds is few =
 pub returns : goal.returns
 returns c =
     let q = c.self.inside in
-    ap (take (q.waiting + c.args.count)) (with_items_is q.room _ (omega arith))
-    ∙ first_added q.waiting c.args.count c.deref_mut.result.now c.args.piece.now c.copy_from_slice.new.self _ c.args.self.now (omega (arith, c.self.invariant.0, c.self.invariant.1, c.deref_mut.ensures.len))
-    (ap (take q.waiting) c.deref_mut.ensures.value ∙ c.self.view_is) c.copy_from_slice.ensures.after c.requires.within
+    ap (take (q.count + c.args.count)) (with_items_is q.room _ (omega arith))
+    ∙ first_added q.count c.args.count c.deref_mut.result.now c.args.piece.now c.copy_from_slice.new.self _ c.args.self.now (omega (arith, c.self.invariant.0, c.self.invariant.1, c.deref_mut.ensures.len))
+    (ap (take q.count) c.deref_mut.ensures.value ∙ c.self.view_is) c.copy_from_slice.ensures.after c.requires.within

@@ -1,0 +1,87 @@
+//! Bytes that wait to be handed on.
+ghost use Rattle.std.specs.Prelude.{◌≡◌, ◌+◌, ◌≤◌, [], ◌++◌, length, take, IfOk};
+ghost use Rattle.outside.specs.Feed.{buffer_size};
+
+use crate::sizes::BUFFER_SIZE;
+use std::alloc::{AllocError, Global};
+use std::marker::Model;
+
+/// A buffer of 65,536 bytes in front of a file or a sink. Contracts see it as the bytes that wait.
+#[derive(Drop)]
+pub(crate) struct Waiting {
+    room: Vec<u8>,
+    count: usize,
+}
+
+impl Model for Waiting {
+    ghost use Rattle.std.specs.Prelude.{◌≡◌, ◌≤◌, ℕ, List, length, take};
+
+    ghost Value = { List ℕ };
+
+    ghost view = { λ w. take w.count w.room.items };
+
+    ghost invariant = { λ w. (length w.room.items ≡ 65536) × (w.count ≤ 65536) };
+}
+
+impl Waiting {
+    /// A buffer in which nothing waits. It takes all its memory here.
+    ///
+    /// # Errors
+    /// Where there is no memory.
+    pub fn new(alloc: Global) -> Result<Waiting, AllocError>
+        ensures { IfOk result (λ waiting. waiting ≡ []) }
+    {
+        Ok(Waiting {
+            room: vec![in alloc; 0; BUFFER_SIZE]?,
+            count: 0,
+        })
+    }
+
+    /// How many more bytes fit.
+    #[inline(always)]
+    pub fn free(&self) -> usize
+        ensures { length self.now + result ≡ buffer_size }
+    {
+        BUFFER_SIZE - self.count
+    }
+
+    /// What waits.
+    #[inline(always)]
+    pub fn bytes(&self) -> &[u8]
+        ensures { result.now ≡ self.now }
+    {
+        &self.room[..self.count]
+    }
+
+    /// Lets go of what waits.
+    #[inline(always)]
+    pub fn clear(&mut self)
+        ensures { self.new ≡ [] }
+    {
+        self.count = 0;
+    }
+
+    /// Adds a piece that fits.
+    #[inline]
+    pub fn add(&mut self, piece: &[u8])
+        requires { length self.old + length piece.now ≤ buffer_size }
+        ensures { self.new ≡ self.old ++ piece.now }
+    {
+        let end = self.count + piece.len();
+        self.room[self.count..end].copy_from_slice(piece);
+        self.count = end;
+    }
+
+    /// Adds the first `count` bytes of a piece that fits whole. Copying is fastest where the number of
+    /// bytes is a constant, so the whole piece is copied.
+    #[inline(always)]
+    pub fn add_first(&mut self, piece: &[u8], count: usize)
+        requires room { length self.old + length piece.now ≤ buffer_size }
+        requires within { count ≤ length piece.now }
+        ensures { self.new ≡ self.old ++ take count piece.now }
+    {
+        let end = self.count + piece.len();
+        self.room[self.count..end].copy_from_slice(piece);
+        self.count += count;
+    }
+}
