@@ -8,7 +8,7 @@ use Rattle.outside.specs.declared.pass.PassFault.TheVariants.{Read, Shrunk, Writ
 use Rattle.commands.specs.One.{holding, first_input, IsBegun, IsLeftShort, IsPassFault}
 use Rattle.outside.specs.Pass.{Appends, AppendsPrefix, route, HasPassCause}
 use Rattle.outside.specs.Seen.{seen}
-use Rattle.commands.specs.PassFaults.{of_pass_over, of_pass}
+use Rattle.commands.specs.PassFaults.{of_pass}
 
 -- emptied and then appended to, the output holds these bytes
 appended-emptied : (files : Files) (name bytes : List ℕ) → appended (emptied files name) name bytes ≡ holding files name bytes
@@ -55,20 +55,16 @@ module _ (made : List ℕ → List ℕ) (input output : List ℕ) (apart : input
   touches_prefix part = touches_new part.bytes part.files
 
   -- an input could not be read again, or the output not be written
-  pub pass_fault_over : (inputs : List (List ℕ)) → first_input inputs ≡ input → (place : ℕ) (fault : PassFault) (size : ℕ) (before between after : Counts) → between ≡ before → AppendsPrefix input output made mid new fault
-      → HasPassCause (route (slice_index_or inputs place []) output size) mid between after fault → IsPassFault made inputs output (seen old before) (seen new after) (of_pass_over place fault)
-  pass_fault_over inputs first place Read size before between after same part h = record {
+  pub pass_fault : (inputs : List (List ℕ)) → first_input inputs ≡ input → (place : ℕ) (fault : PassFault) (size : ℕ) (before between after : Counts) → between ≡ before → AppendsPrefix input output made mid new fault
+      → HasPassCause (route (slice_index_or inputs place []) output size) mid between after fault → IsPassFault made inputs output (seen old before) (seen new after) (of_pass place 0 fault)
+  pass_fault inputs first place Read size before between after same part h = record {
     rose = subst (λ c. HappenedTo (slice_index_or inputs place []) c.read_faults after.read_faults) same h.0;
     files = subst (λ n. IsBegun made n output old new) (sym first) (output_prefix part);
   }
-  pass_fault_over inputs first place (Shrunk from to) size before between after same part h = record {
+  pass_fault inputs first place (Shrunk from to) size before between after same part h = record {
     rose = subst (λ c. EndedAt (slice_index_or inputs place []) to c.ends after.ends) same h.3;
     counts = subst (λ c. NothingFailed c after) same h.4;
     untold = sym (ap is_told created ∙ emptied_told old output) ∙ h.0;
   }
-  pass_fault_over inputs first place Write size before between after same part h =
+  pass_fault inputs first place Write size before between after same part h =
       (refl, record { rose = subst (λ c. HappenedTo output c.write_faults after.write_faults) same h.0; files = subst (λ n. IsLeftShort made n output old new) (sym first) (output_short part) })
-
-  pub pass_fault : (fault : PassFault) (size : ℕ) (before between after : Counts) → between ≡ before → AppendsPrefix input output made mid new fault → HasPassCause (route input output size) mid between after fault
-      → IsPassFault made (input ∷ []) output (seen old before) (seen new after) (of_pass fault)
-  pass_fault fault = pass_fault_over (input ∷ []) refl 0 fault

@@ -2,7 +2,7 @@
 
 ghost use Rattle.std.specs.Prelude.{◌≡◌};
 ghost use Rattle.commands.specs.declared.fault.EditFault.TheVariants.{Refused, Memory};
-ghost use Rattle.commands.specs.Kinds.{of_input};
+ghost use Rattle.commands.specs.Kinds.{of_survey, of_input};
 ghost use Rattle.commands.specs.PassFaults.{of_pass};
 
 use cue_sheet::CueFault;
@@ -99,24 +99,31 @@ impl From<SurveyFault> for EditFault {
     ghost from_gives = { λ fault e. e ≡ of_input fault };
 
     fn from(fault: SurveyFault) -> EditFault {
-        match fault {
-            SurveyFault::Memory => EditFault::Memory,
-            _ => EditFault::Input(0, fault),
-        }
+        EditFault::of_survey(0, fault)
     }
 }
 
-/// The fault of a pass over the one input of a command, which writes its one output.
-impl From<PassFault> for EditFault {
-    ghost from_gives = { λ fault e. e ≡ of_pass fault };
-
-    fn from(fault: PassFault) -> EditFault {
+impl EditFault {
+    /// The fault of the survey of this input, counted from 0; want of memory is a fault of its own.
+    pub fn of_survey(input: u32, fault: SurveyFault) -> EditFault
+        ensures { result ≡ of_survey input fault }
+    {
         match fault {
-            PassFault::Read => EditFault::Input(0, SurveyFault::Read),
+            SurveyFault::Memory => EditFault::Memory,
+            _ => EditFault::Input(input, fault),
+        }
+    }
+
+    /// The fault of a pass over this input that writes this output, both counted from 0.
+    pub fn of_pass(input: u32, output: u32, fault: PassFault) -> EditFault
+        ensures { result ≡ of_pass input output fault }
+    {
+        match fault {
+            PassFault::Read => EditFault::Input(input, SurveyFault::Read),
             PassFault::Shrunk(first, second) => {
-                EditFault::Input(0, SurveyFault::Shrunk(first, second))
+                EditFault::Input(input, SurveyFault::Shrunk(first, second))
             }
-            PassFault::Write => EditFault::Write(0),
+            PassFault::Write => EditFault::Write(output),
         }
     }
 }

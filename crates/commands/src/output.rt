@@ -73,6 +73,6 @@ pub fn write_output<W: OutputPass, D: Folder>(
     };
     match work.append(folder, input, output) {
         Ok(()) => Ok(()),
-        Err(fault) => Err(fault.into()),
+        Err(fault) => Err(EditFault::of_pass(0, 0, fault)),
     }
 }

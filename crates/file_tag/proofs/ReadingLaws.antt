@@ -4,17 +4,14 @@ use Rattle.std.proofs.lemmas.Bool.{lt-ltb}
 use Rattle.tag_blocks.specs.declared.block.Kind.TheVariants.{Ape}
 use Rattle.tag_blocks.specs.Blocks.{block_front}
 use Rattle.tag_blocks.specs.Tags.{TagFields}
-use Rattle.outside.specs.Exact.{HasReadCause}
-use Rattle.outside.specs.declared.exact.ReadFault.{ReadFault}
-use Rattle.outside.specs.declared.exact.ReadFault.TheVariants.{Failed, Shrunk as ShrunkRead}
 use Rattle.outside.specs.Files.{Files, Holds}
 use Rattle.outside.specs.Counts.{Counts}
 use Rattle.sync_survey.specs.declared.places.Piece.{Piece}
 use Rattle.sync_survey.specs.Faults.{SurveyFields}
 use Rattle.file_tag.specs.declared.fault.FileTagFault.{FileTagFault}
-use Rattle.file_tag.specs.declared.fault.FileTagFault.TheVariants.{TooLarge, Bad, Read, Shrunk, Memory}
+use Rattle.file_tag.specs.declared.fault.FileTagFault.TheVariants.{TooLarge, Bad, Read, Memory}
 use Rattle.file_tag.specs.Places.{tag_block, tag_at, tag_length}
-use Rattle.file_tag.specs.Reading.{longest_tag, empty_tag, tag_of_block, file_tag, of_read, IsSurveyOf, RefusesTag, IsTagCause, IsBlockCause}
+use Rattle.file_tag.specs.Reading.{longest_tag, empty_tag, tag_of_block, file_tag, IsSurveyOf, RefusesTag, IsTagCause, IsBlockCause}
 use Rattle.file_tag.proofs.FoundTag.{IsTagThere, tag-there, survey_of-surveyed, surveyed-length}
 
 -- ---- the tag of a file
@@ -43,11 +40,6 @@ module _ (name : List ℕ) (files : Files) (s : SurveyFields) (surveyed : (bytes
       let is = surveyed bytes holds in
       surveyed-length bytes is.0 s (survey_of-surveyed bytes is.0 s is.1)
 
-  -- bytes that aren't read
-  pub read-cause : (before after : Counts) (size : ℕ) → size ≡ s.length → (fault : ReadFault) → HasReadCause name size files before after fault → IsTagCause name files s before after (of_read fault)
-  read-cause before after size is Failed cause = cause.0
-  read-cause before after size is (ShrunkRead first second) cause = (cause.0, cause.1 ∙ is, cause.2, cause.3, cause.4)
-
   -- a tag that is too long
   pub too_large-refused : longest_tag < b.block.length → RefusesTag name files s (TooLarge b.block.length)
   too_large-refused large bytes holds =
@@ -75,6 +67,5 @@ module _ (name : List ℕ) (files : Files) (s : SurveyFields) (surveyed : (bytes
         let low : tag_at s ≤ at = omega (arith, place.0, cause.1) in
         let high : 0 < tag_length s → at < tag_at s + tag_length s = λ some. let less = cause.2 (omega (arith, long, place.1, some)) in omega (arith, less, long, place.0, place.1) in
         ((λ bytes holds. tag_is bytes holds (Err (Bad at)) (cause.0 (front_there bytes holds))), low, high, same)
-    block-cause before after Read same cause = absurd cause
-    block-cause before after (Shrunk first second) same cause = absurd cause
+    block-cause before after (Read fault) same cause = absurd cause
     block-cause before after Memory same cause = same

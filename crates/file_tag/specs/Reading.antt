@@ -1,19 +1,18 @@
 -- The tag of a file, and why it isn't read.
-use Rattle.std.specs.Prelude.{◌≡◌, ℕ, ◌+◌, ◌≤◌, ◌<◌, nat_lt, if◌then◌else◌, List, [], length, take, drop, Option, Some, None, Result, Ok, Err, false}
+use Rattle.std.specs.Prelude.{◌≡◌, ℕ, ◌+◌, ◌≤◌, ◌<◌, nat_lt, if◌then◌else◌, List, [], length, take, drop, Option, Some, None, Result, Ok, Err}
 use Rattle.tag_blocks.specs.declared.block.Kind.TheVariants.{Ape}
 use Rattle.tag_blocks.specs.Blocks.{block_front}
 use Rattle.tag_blocks.specs.declared.tag_fault.TagFault.{TagFault}
 use Rattle.tag_blocks.specs.declared.tag_fault.TagFault.TheVariants.{BadTag, Memory as NoMemory}
 use Rattle.tag_blocks.specs.Tags.{TagFields, tag_of}
-use Rattle.outside.specs.declared.exact.ReadFault.{ReadFault}
-use Rattle.outside.specs.declared.exact.ReadFault.TheVariants.{Failed, Shrunk as ShrunkRead}
-use Rattle.outside.specs.Files.{Files, is_told, Holds, IsThere}
-use Rattle.outside.specs.Counts.{Counts, HappenedTo, EndedAt, NothingFailed}
+use Rattle.outside.specs.Files.{Files, Holds, IsThere}
+use Rattle.outside.specs.Counts.{Counts}
+use Rattle.outside.specs.Exact.{HasReadCause}
 use Rattle.sync_survey.specs.declared.places.Piece.{Piece}
 use Rattle.sync_survey.specs.Faults.{SurveyFields}
 use Rattle.sync_survey.specs.Survey.{survey_of, IsLaidOut}
 use Rattle.file_tag.specs.declared.fault.FileTagFault.{FileTagFault}
-use Rattle.file_tag.specs.declared.fault.FileTagFault.TheVariants.{TooLarge, Bad, Read, Shrunk, Memory}
+use Rattle.file_tag.specs.declared.fault.FileTagFault.TheVariants.{TooLarge, Bad, Read, Memory}
 use Rattle.file_tag.specs.Places.{tag_block, tag_at, tag_length}
 
 -- the greatest length of a tag that is read, in bytes
@@ -42,11 +41,6 @@ file_tag file s = tag_in (tag_block s)
     tag_in None = Ok empty_tag
     tag_in (Some b) = tag_of_block b.offset (take b.block.length (drop b.offset file))
 
--- the fault of a file whose bytes aren't read
-abbrev pub of_read : ReadFault → FileTagFault
-of_read Failed = Read
-of_read (ShrunkRead first second) = Shrunk first second
-
 -- the survey is that of the file, for some number of frames that was allowed
 abbrev pub IsSurveyOf : List ℕ → SurveyFields → Type 0
 IsSurveyOf file s = (allowed : ℕ) × (survey_of file allowed ≡ Ok s)
@@ -72,8 +66,7 @@ RefusesTag name files s fault = (bytes : List ℕ) → Holds files name bytes �
 abbrev pub IsTagCause : List ℕ → Files → SurveyFields → Counts → Counts → FileTagFault → Type 0
 IsTagCause name files s before after (TooLarge size) = RefusesTag name files s (TooLarge size) × (size ≡ tag_length s) × (longest_tag < size) × (after ≡ before)
 IsTagCause name files s before after (Bad at) = RefusesTag name files s (Bad at) × (tag_at s ≤ at) × (0 < tag_length s → at < tag_at s + tag_length s) × (after ≡ before)
-IsTagCause name files s before after Read = HappenedTo name before.read_faults after.read_faults
-IsTagCause name files s before after (Shrunk first second) = (is_told files ≡ false) × (first ≡ s.length) × (second < first) × EndedAt name second before.ends after.ends × NothingFailed before after
+IsTagCause name files s before after (Read fault) = HasReadCause name s.length files before after fault
 IsTagCause name files s before after Memory = after ≡ before
 
 -- Why there is no tag of a block at this offset: its tag is refused with this fault, or no block of its length begins with its bytes; or

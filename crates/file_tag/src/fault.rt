@@ -1,6 +1,6 @@
 //! Why the tag of a file isn't read.
 ghost use Rattle.std.specs.Prelude.{◌≡◌};
-ghost use Rattle.file_tag.specs.declared.fault.FileTagFault.TheVariants.{Memory};
+ghost use Rattle.file_tag.specs.declared.fault.FileTagFault.TheVariants.{Read, Memory};
 
 use outside::ReadFault;
 use std::alloc::AllocError;
@@ -12,24 +12,17 @@ pub enum FileTagFault {
     TooLarge(u64),
     /// The tag's block isn't an APEv2 tag: the offset in the file of its first fault.
     Bad(u64),
-    /// The file could not be read.
-    Read,
-    /// The file had the first length when it was found, and ended at the second when it was read.
-    Shrunk(u64, u64),
+    /// The block could not be read.
+    Read(ReadFault),
     /// There was no memory left.
     Memory,
 }
 
 impl From<ReadFault> for FileTagFault {
-    ghost use Rattle.file_tag.specs.Reading.{of_read};
-
-    ghost from_gives = { λ fault e. e ≡ of_read fault };
+    ghost from_gives = { λ fault e. e ≡ Read fault };
 
     fn from(fault: ReadFault) -> FileTagFault {
-        match fault {
-            ReadFault::Failed => FileTagFault::Read,
-            ReadFault::Shrunk(first, second) => FileTagFault::Shrunk(first, second),
-        }
+        FileTagFault::Read(fault)
     }
 }
 

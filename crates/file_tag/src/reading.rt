@@ -18,7 +18,7 @@ use tag_blocks::{Kind, LONGEST_TAG, Tag, TagFault, block_at};
 /// The bytes of the block of the file's tag.
 ///
 /// # Errors
-/// `Memory`, `Read` or `Shrunk`, as `read_tag` says.
+/// `Memory` or `Read`, as `read_tag` says.
 fn read_block<D: Folder>(
     alloc: Global,
     folder: &mut D,
@@ -107,9 +107,9 @@ fn read_piece<D: Folder>(
 /// In this order, and none if the file has no tag:
 /// - `TooLarge` with the length of the block, before any byte is read, where it is longer than 1,048,576 bytes;
 /// - `Memory` where there is no memory for the block's bytes;
-/// - `Read` where a call failed;
-/// - `Shrunk` with the survey's length and the offset at which a read gave no byte, before the end of the
-///   block. It comes only where the folder doesn't tell its files;
+/// - `Read(Failed)` where a call failed;
+/// - `Read(Shrunk)` with the survey's length and the offset at which a read gave no byte, before the end of
+///   the block. It comes only where the folder doesn't tell its files;
 /// - `Bad` with the offset in the file of the first fault that `Tag::read` finds, or with that of the block
 ///   if no such block is there any more, which comes only where the folder doesn't tell its files;
 /// - `Memory` where there is no memory for the tag's items.

@@ -78,7 +78,7 @@ pub fn all_choice<D: Folder>(
 {
     let kept = match kept_fields(folder, name, survey) {
         Ok(kept) => kept,
-        Err(fault) => return Err(fault.into()),
+        Err(fault) => return Err(EditFault::of_pass(0, 0, fault)),
     };
     Ok(Chosen {
         from: 0,

@@ -11,7 +11,8 @@ use Rattle.std.specs.Prelude.{IfSome, IfErr, nat_lt, unsigned_abs, ◌⊎◌, is
 use Rattle.std.proofs.lemmas.Result.{IfErr-weaker}
 use Rattle.tag_blocks.specs.Tags.{TagFields, tag_bytes}
 use Rattle.file_tag.specs.declared.fault.FileTagFault.{FileTagFault}
-use Rattle.file_tag.specs.declared.fault.FileTagFault.TheVariants.{TooLarge, Bad as BadBlock, Read, Shrunk, Memory as NoRoom}
+use Rattle.file_tag.specs.declared.fault.FileTagFault.TheVariants.{TooLarge, Bad as BadBlock, Read, Memory as NoRoom}
+use Rattle.outside.specs.declared.exact.ReadFault.TheVariants.{Failed, Shrunk}
 use Rattle.file_tag.specs.Places.{tag_at}
 use Rattle.file_tag.specs.Reading.{file_tag, IsTagCause}
 use Rattle.sync_survey.specs.Row.{Row}
@@ -146,6 +147,8 @@ undone_in_may s tag = then_all (IsRefusal undo_refuses) (found_undo (tag_at s) (
 tag_late : (r : Result TagFields FileTagFault) → IfErr (tag_read r) IsLate
 tag_late (Ok tag) = tt
 tag_late (Err (TooLarge size)) = refl
+tag_late (Err (Read Failed)) = refl
+tag_late (Err (Read (Shrunk first second))) = refl
 tag_late (Err _) = refl
 
 refusal_late : (refuses : Refusal → Bool) (fault : EditFault) → IsRefusal refuses fault → IsLate fault
@@ -198,8 +201,8 @@ module _ (changes : Changes) (name : List ℕ) (old new : Seen) (s : SurveyField
       at : (fault : FileTagFault) → IsTagCause name old.files s old.counts new.counts fault → IsInputFault (changing (changing_by changes)) name old new (of_tag fault)
       at (TooLarge size) h = refused (TooLarge size) refl h.0 h.3
       at (BadBlock place) h = refused (BadBlock place) refl h.0 h.3
-      at Read h = record { is = refl; rose = h; files = same }
-      at (Shrunk first second) h = record { first = first; second = second; is = refl; rose = h.3; counts = h.4; untold = h.0; files = same }
+      at (Read Failed) h = record { is = refl; rose = h.0; files = same }
+      at (Read (Shrunk first second)) h = record { first = first; second = second; is = refl; rose = h.3; counts = h.4; untold = h.0; files = same }
       at NoRoom h = memory_is_input (changing (changing_by changes)) name old new s there is (ap₂ seen same h)
 
   -- after it the code answers what the definition says, or has no memory

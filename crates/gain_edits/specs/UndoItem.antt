@@ -6,10 +6,10 @@ use Rattle.tag_blocks.specs.declared.undo.UndoItem.TheVariants.{Missing, Bad, Fo
 use Rattle.tag_blocks.specs.Tags.{TagFields, tag_bytes}
 use Rattle.tag_blocks.specs.UndoItems.{with_undo, without_undo}
 use Rattle.file_tag.specs.declared.fault.FileTagFault.{FileTagFault}
-use Rattle.file_tag.specs.declared.fault.FileTagFault.TheVariants.{TooLarge, Bad as BadBlock, Read, Shrunk, Memory as NoRoom}
+use Rattle.file_tag.specs.declared.fault.FileTagFault.TheVariants.{TooLarge, Bad as BadBlock, Read, Memory as NoRoom}
 use Rattle.file_tag.specs.Places.{tag_length}
 use Rattle.file_tag.specs.Reading.{longest_tag}
-use Rattle.sync_survey.specs.declared.survey_fault.SurveyFault.TheVariants.{Read as Unread, Shrunk as Shorter}
+use Rattle.sync_survey.specs.Kinds.{of_read}
 use Rattle.sync_survey.specs.Faults.{SurveyFields, longest_file}
 use Rattle.commands.specs.declared.fault.EditFault.{EditFault}
 use Rattle.commands.specs.declared.fault.EditFault.TheVariants.{Input, Refused, Memory}
@@ -27,8 +27,7 @@ use Rattle.moved_gains.specs.Streams.{junk_length}
 abbrev pub of_tag : FileTagFault → EditFault
 of_tag (TooLarge size) = Refused (TagTooLarge size)
 of_tag (BadBlock at) = Refused (BadTag at)
-of_tag Read = Input 0 Unread
-of_tag (Shrunk first second) = Input 0 (Shorter first second)
+of_tag (Read fault) = Input 0 (of_read fault)
 of_tag NoRoom = Memory
 
 abbrev pub tag_read : Result TagFields FileTagFault → Result TagFields EditFault

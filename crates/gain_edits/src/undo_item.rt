@@ -10,7 +10,7 @@ ghost use Rattle.gain_edits.specs.UndoItem.{of_tag as of_tag_lem, undo_or as und
 use commands::{EditFault, Refusal};
 use file_tag::{FileTagFault, tag_place};
 use moved_gains::{Shift, Steps};
-use sync_survey::{Survey, SurveyFault};
+use sync_survey::Survey;
 use tag_blocks::{Tag, Undo, UndoItem};
 
 /// The undo item holds numbers of at most three digits.
@@ -23,10 +23,7 @@ pub(crate) fn of_tag(fault: FileTagFault) -> EditFault
     match fault {
         FileTagFault::TooLarge(size) => Refusal::TagTooLarge(size).into(),
         FileTagFault::Bad(at) => Refusal::BadTag(at).into(),
-        FileTagFault::Read => EditFault::Input(0, SurveyFault::Read),
-        FileTagFault::Shrunk(first, second) => {
-            EditFault::Input(0, SurveyFault::Shrunk(first, second))
-        }
+        FileTagFault::Read(fault) => EditFault::Input(0, fault.into()),
         FileTagFault::Memory => EditFault::Memory,
     }
 }

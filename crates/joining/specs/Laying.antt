@@ -12,7 +12,6 @@ use Rattle.slot_plan.specs.Plans.{entries}
 use Rattle.part_needs.specs.Needs.{need_of, needs_of}
 use Rattle.part_needs.specs.Fit.{own_choice}
 use Rattle.frame_writer.specs.Frames.{Frame}
-use Rattle.outside.specs.declared.pass.PassFault.{PassFault}
 use Rattle.outside.specs.Pass.{Writes, WritesPrefix, Appends, AppendsPrefix, route, HasPassCause}
 use Rattle.outside.specs.Seen.{Seen}
 use Rattle.laying.specs.declared.relay.Relay.{Relay}
@@ -24,8 +23,6 @@ use Rattle.laying.specs.Passing.{IsFresh}
 use Rattle.sync_survey.specs.Row.{Row}
 use Rattle.sync_survey.specs.Faults.{SurveyFields, tells}
 use Rattle.sync_survey.specs.Survey.{IsLaidOut}
-use Rattle.commands.specs.declared.fault.EditFault.{EditFault}
-use Rattle.commands.specs.PassFaults.{of_pass_over}
 use Rattle.joining.specs.declared.stopped.Stopped.{Stopped}
 use Rattle.joining.specs.declared.planned.Work.{Work}
 use Rattle.joining.specs.Join.{joined_file}
@@ -94,10 +91,6 @@ abbrev pub joined_of : Files → List (List ℕ) → List SurveyFields → List 
 joined_of files names ss _ = joined_file (told_parts files names ss)
 
 -- ---- why it ends early
-
--- the fault of the pass over an input, counted from 0
-abbrev pub of_pass : ℕ → PassFault → EditFault
-of_pass place fault = of_pass_over place fault
 
 -- the pass over one of these inputs ended early, for this cause
 pub record HasJoinCause (inputs : List (List ℕ)) (output : List ℕ) (files : Files) (before after : Counts) (stopped : Stopped) : Type 0 where

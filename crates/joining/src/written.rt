@@ -128,6 +128,6 @@ pub(crate) fn write_joined<D: Folder>(
     };
     match append_joined(&first, folder, inputs, surveys, work) {
         Ok(()) => Ok(()),
-        Err(stopped) => Err(stopped.fault()),
+        Err(stopped) => Err(EditFault::of_pass(stopped.place, 0, stopped.fault)),
     }
 }

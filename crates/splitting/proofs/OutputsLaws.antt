@@ -16,7 +16,7 @@ use Rattle.frame_edits.specs.Chosen.{chosen_in, chosen_file}
 use Rattle.commands.specs.One.{holding, HoldsPrefix, HoldsLess, IsPassFault}
 use Rattle.commands.specs.PassFaults.{of_pass}
 use Rattle.splitting.specs.declared.piece.Piece.{Piece}
-use Rattle.splitting.specs.Steps.{output_of, outputs_of, names_of, pieces_of, with_outputs, with_part, IsWrittenPart, IsUnfinishedPart, IsPiecesFault, of_piece}
+use Rattle.splitting.specs.Steps.{output_of, outputs_of, names_of, pieces_of, with_outputs, with_part, IsWrittenPart, IsUnfinishedPart, IsPiecesFault}
 
 -- ---- one output more
 
@@ -151,7 +151,7 @@ module _ (s : SurveyFields) (input : List ℕ) (all : List Piece) (k : ℕ) (pie
   })
 
   pub pieces-fault : (fault : PassFault) (place : ℕ) (before between after : Counts) → place ≡ length done → between ≡ before
-      → IsPassFault (piece_made s piece) (input ∷ []) (string_bytes piece.name) (seen now between) (seen new after) (of_pass fault) → IsPiecesFault (pieces_of input s all) (seen old before) (seen new after) (of_piece place fault)
+      → IsPassFault (piece_made s piece) (input ∷ []) (string_bytes piece.name) (seen now between) (seen new after) (of_pass 0 0 fault) → IsPiecesFault (pieces_of input s all) (seen old before) (seen new after) (of_pass 0 place fault)
   pieces-fault Read place before between after is same h =
       record { is = refl; rose = subst (λ c. HappenedTo input c.read_faults after.read_faults) same h.rose; place = place; files = part-written h.files place is }
   pieces-fault (Shrunk first second) place before between after is same h = record {

@@ -9,8 +9,6 @@ use Rattle.sync_survey.specs.Survey.{survey_of, IsLaidOut}
 use Rattle.commands.specs.declared.fault.EditFault.{EditFault}
 use Rattle.commands.specs.declared.fault.EditFault.TheVariants.{Input, Refused, Write as Unwritable, Memory}
 use Rattle.cue_sheet.specs.declared.place.Place.{Place}
-use Rattle.outside.specs.declared.pass.PassFault.{PassFault}
-use Rattle.outside.specs.declared.pass.PassFault.TheVariants.{Read as CopyRead, Shrunk as CopyShrunk, Write as CopyWrite}
 use Rattle.outside.specs.Seen.{Seen, OnFile}
 use Rattle.commands.specs.Kinds.{HasRightNumbers}
 use Rattle.commands.specs.Command.{Output, written, LacksBytes, written_to}
@@ -170,12 +168,6 @@ IsPiecesFault p old new fault = by_why
       unwritten = λ k. StopsWriting p k old new;
     })
     (why_of fault)
-
--- the fault of the pass that writes this piece, counted from 0
-abbrev pub of_piece : ℕ → PassFault → EditFault
-of_piece place CopyRead = Input 0 Read
-of_piece place (CopyShrunk first second) = Input 0 (Shrunk first second)
-of_piece place CopyWrite = Unwritable place
 
 -- the numbers of such a fault are in range, where there are `count` pieces
 abbrev pub IsOfPieces : ℕ → EditFault → Type 0

@@ -33,14 +33,8 @@ fn clash(input: &str, points: &Points<'_>, prefix: &str) -> Option<u32>
         return Some(0);
     }
     match *points {
-        Points::Places(_) => None,
-        Points::Sheet(sheet) => {
-            if is_piece_name(prefix, sheet) {
-                Some(1)
-            } else {
-                None
-            }
-        }
+        Points::Sheet(sheet) if is_piece_name(prefix, sheet) => Some(1),
+        _ => None,
     }
 }
 

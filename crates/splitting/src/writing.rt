@@ -2,27 +2,14 @@
 ghost use Rattle.std.specs.Prelude.{◌≡◌, [], length};
 ghost use Rattle.outside.specs.Feed.{IsFedFrom};
 ghost use Rattle.sync_survey.specs.Faults.{tells};
-ghost use Rattle.splitting.specs.Steps.{IsSplit, pieces_of, WritesPieces, of_piece as of_piece_lem};
+ghost use Rattle.splitting.specs.Steps.{IsSplit, pieces_of, WritesPieces};
 
 use crate::piece::Piece;
 use commands::EditFault;
 use frame_edits::write_selection;
 use laying::{Buffers, Relay};
-use outside::{Folder, Pass, PassFault};
-use sync_survey::{Survey, SurveyFault};
-
-/// The fault of the pass that writes the piece with this number, counted from 0.
-fn of_piece(place: u32, fault: PassFault) -> EditFault
-    ensures { result ≡ of_piece_lem place fault }
-{
-    match fault {
-        PassFault::Read => EditFault::Input(0, SurveyFault::Read),
-        PassFault::Shrunk(first, second) => {
-            EditFault::Input(0, SurveyFault::Shrunk(first, second))
-        }
-        PassFault::Write => EditFault::Write(place),
-    }
-}
+use outside::{Folder, Pass};
+use sync_survey::Survey;
 
 /// Creates the outputs of the pieces and writes them, one after the other. It takes no memory.
 ///
@@ -55,7 +42,7 @@ pub(crate) fn write_pieces<D: Folder>(
             return Err(EditFault::Write(place));
         };
         if let Err(fault) = write_selection(folder, &relay, &piece.selection, buffers) {
-            return Err(of_piece(place, fault));
+            return Err(EditFault::of_pass(0, place, fault));
         }
         place += 1;
     }

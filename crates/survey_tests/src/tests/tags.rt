@@ -2,7 +2,7 @@
 
 use super::untold::Untold;
 use file_tag::*;
-use outside::{Call, Folder, MemFolder};
+use outside::{Call, Folder, MemFolder, ReadFault};
 use std::alloc::{AllocError, AllocGlobal, Global};
 use std::process::Abort;
 use std::test::Fail;
@@ -213,7 +213,7 @@ fn reason_where_it_fails(alloc: Global, number: u64) -> Result<Option<NoTag>, Al
 fn reason_of(number: u64) -> Option<NoTag> {
     match number {
         1 => Some(NoTag::Survey(SurveyFault::Read)),
-        2 => Some(NoTag::Tag(FileTagFault::Read)),
+        2 => Some(NoTag::Tag(FileTagFault::Read(ReadFault::Failed))),
         _ => None,
     }
 }
@@ -236,8 +236,8 @@ struct Changed {
 
 static CHANGED: [Changed; 4] = table! {
     Changed { later, fault }
-    (&[FRAME, Bytes(b"APE")], FileTagFault::Shrunk(103, 27))
-    (&[], FileTagFault::Shrunk(103, 24))
+    (&[FRAME, Bytes(b"APE")], FileTagFault::Read(ReadFault::Shrunk(103, 27)))
+    (&[], FileTagFault::Read(ReadFault::Shrunk(103, 24)))
     (&[FRAME, FRAME, APE], FileTagFault::Bad(24))
     (&[FRAME, EMPTY_BLOCK, FRAME], FileTagFault::Bad(24))
 };

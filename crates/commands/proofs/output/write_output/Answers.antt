@@ -22,8 +22,8 @@ returns-in-Err-clause-left g c =
     let seen = g.D.Folder.seen in
     subst
     (IsPassFault (g.W.OutputPass.file_of c.args.work.now) (c.args.input.now ∷ []) c.args.output.now (seen c.args.folder.now) (seen c.append.new.folder))
-    (sym c.into.ensures)
-    (pass_fault (g.W.OutputPass.file_of c.args.work.now) c.args.input.now c.args.output.now c.requires.apart (seen c.args.folder.now).files _ _ c.in-Ok.ensures.answer.created c.in-Err.fault
+    (sym c.of_pass.ensures)
+    (pass_fault (g.W.OutputPass.file_of c.args.work.now) c.args.input.now c.args.output.now c.requires.apart (seen c.args.folder.now).files _ _ c.in-Ok.ensures.answer.created (c.args.input.now ∷ []) refl 0 c.in-Err.fault
     c.in-Err.ensures.cause.0 (seen c.args.folder.now).counts _ _ c.in-Ok.ensures.answer.done c.in-Err.ensures.prefix c.in-Err.ensures.cause.1)
 
 -- the output wasn't created

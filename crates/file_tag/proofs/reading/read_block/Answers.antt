@@ -1,9 +1,10 @@
 -- The block is within the file.
-use Rattle.std.proofs.Common.{◌∙◌, sym, arith}
+use Rattle.std.proofs.Common.{◌∙◌, sym, subst, arith}
+use Rattle.outside.specs.Exact.{HasReadCause}
 use Rattle.outside.proofs.PassedLaws.{err_at}
 use Rattle.sync_survey.specs.Faults.{tells}
 use Rattle.file_tag.proofs.FoundTag.{tag-within}
-use Rattle.file_tag.proofs.ReadingLaws.{told-length, read-cause}
+use Rattle.file_tag.proofs.ReadingLaws.{told-length}
 use Rattle.file_tag.proofs.reading.read_block.Goals as goal
 
 pub read_exact-requires-clause-found : goal.read_exact-requires-clause-found
@@ -20,5 +21,4 @@ read_exact-requires-clause-few g c = omega (arith, c.requires.found.known.laid.f
 pub returns-in_err-read_exact-clause-cause : goal.returns-in_err-read_exact-clause-cause
 returns-in_err-read_exact-clause-cause g c =
     err_at _ _ c.from_residual-in_err-read_exact.ensures.1
-    (read-cause c.args.name.now (g.D.Folder.seen c.args.folder.now).files (tells c.args.survey.now) c.requires.found.known.surveyed c.args.piece.now c.requires.found.tag (g.D.Folder.seen c.args.folder.now).counts (g.D.Folder.seen c.read_exact.new.folder).counts c.length.result c.length.ensures c.in_err-read_exact.field-0.0
-    c.in_err-read_exact.ensures.cause)
+    (subst (λ n. HasReadCause c.args.name.now n (g.D.Folder.seen c.args.folder.now).files (g.D.Folder.seen c.args.folder.now).counts (g.D.Folder.seen c.read_exact.new.folder).counts c.in_err-read_exact.field-0.0) c.length.ensures c.in_err-read_exact.ensures.cause)

@@ -6,7 +6,7 @@ use Rattle.sync_survey.specs.Faults.{tells}
 use Rattle.laying.specs.Relaid.{Part}
 use Rattle.commands.specs.One.{most_frames, holding, first_input}
 use Rattle.frame_edits.proofs.LaidPass.{appends-as_prefix}
-use Rattle.commands.proofs.OutputLaws.{output_whole, touches_whole, touches_prefix, pass_fault_over, not_begun}
+use Rattle.commands.proofs.OutputLaws.{output_whole, touches_whole, touches_prefix, pass_fault, not_begun}
 use Rattle.joining.specs.Join.{joined_file}
 use Rattle.joining.specs.Inputs.{told_parts}
 use Rattle.joining.specs.Laying.{AreSources}
@@ -64,8 +64,8 @@ returns-in-Err-clause-left g c =
     let at = (goal.at.returns-in-Err-clause-left g c).In-Ok in
     let cause = c.in-Err.ensures.cause in
     let part = appends-as_prefix _ _ (λ file holds. ap joined_file (beside g at).1) c.in-Err.ensures.prefix in
-    rw c.fault.ensures
-    (pass_fault_over _ c.name_at.result.now c.args.output.now (apart g at) _ _ _ c.in-Ok.ensures.answer.created (map string_bytes c.args.inputs.now) (ap first_input c.name_at.ensures) c.in-Err.stopped.place c.in-Err.stopped.fault cause.size
+    rw c.of_pass.ensures
+    (pass_fault _ c.name_at.result.now c.args.output.now (apart g at) _ _ _ c.in-Ok.ensures.answer.created (map string_bytes c.args.inputs.now) (ap first_input c.name_at.ensures) c.in-Err.stopped.place c.in-Err.stopped.fault cause.size
     (g.D.Folder.seen c.args.folder.now).counts _ _ c.in-Ok.ensures.answer.done part cause.cause)
 
 -- the output wasn't created

@@ -1,5 +1,5 @@
 -- A piece more that is whole, or begun.
-use Rattle.std.proofs.Common.{◌≡◌, ◌≢◌, ◌+◌, ◌∷◌, length, take, drop, refl, ◌∙◌, sym, subst, string_bytes, arith, rules}
+use Rattle.std.proofs.Common.{◌≡◌, ◌≢◌, ◌+◌, ◌∷◌, [], length, take, drop, refl, ◌∙◌, sym, subst, string_bytes, arith, rules}
 use Rattle.std.proofs.lemmas.List.{length-take, take_all}
 use Rattle.outside.specs.declared.pass.PassFault.TheVariants.{Write}
 use Rattle.outside.proofs.FilesLaws.{emptied_held_other, fails_touches}
@@ -68,14 +68,14 @@ returns-in-Err g c =
     let at = (goal.at.returns-in-Err g c).After-create in
     let made = selected_file (tells c.args.survey.now) (piece g at).selection in
     let touches = touches_prefix made _ _ (apart g at) _ _ _ c.in-Ok.ensures.answer.created c.in-Err.ensures.prefix in
-    let fault = pass_fault made _ _ (apart g at) _ _ _ c.in-Ok.ensures.answer.created c.in-Err.fault _ (g.D.Folder.seen c.loop-piece.folder).counts _ _ c.in-Ok.ensures.answer.done c.in-Err.ensures.prefix c.in-Err.ensures.cause in
+    let fault = pass_fault made _ _ (apart g at) _ _ _ c.in-Ok.ensures.answer.created (c.args.input.now ∷ []) refl 0 c.in-Err.fault _ (g.D.Folder.seen c.loop-piece.folder).counts _ _ c.in-Ok.ensures.answer.done c.in-Err.ensures.prefix c.in-Err.ensures.cause in
     let touches = touches_prefix _ _ _ (apart g at) _ _ _ c.in-Ok.ensures.answer.created c.in-Err.ensures.prefix in
     record {
       written = tt;
       touches = all-touched (tells c.args.survey.now) c.args.input.now c.args.pieces.now c.loop-piece.piece-index (piece g at) _ _ _ (next g at) c.loop-piece.invariant.wrote (rw c.as_str.ensures.value at touches);
       done = tt;
       left =
-          rw c.of_piece.ensures
+          rw c.of_pass.ensures
           (pieces-fault (tells c.args.survey.now) c.args.input.now c.args.pieces.now c.loop-piece.piece-index (piece g at) _ _ _ (next g at) c.loop-piece.invariant.wrote (rw c.as_str.ensures.value at touches) c.in-Err.fault c.loop-piece.place _ _ _ (place-is g at) c.loop-piece.invariant.counts
           (rw c.as_str.ensures.value at fault));
       numbers = search rules;
