@@ -1,5 +1,5 @@
--- Numbers as decimal digits.
-use Rattle.std.specs.Prelude.{ℕ, ◌&&◌, nat_le, if◌then◌else◌, List, length, Option, Some, None}
+-- Numbers as decimal digits, and steps of gain.
+use Rattle.std.specs.Prelude.{ℕ, ◌&&◌, ◌==◌, nat_le, if◌then◌else◌, List, [], ◌∷◌, length, Option, Some, None, option_map, ℤ, pos, neg_ℤ}
 use Rattle.std.specs.Str.{all_ascii_digits}
 use Rattle.std.specs.Str.Parse.{digits_value}
 
@@ -9,3 +9,15 @@ number_in least most greatest digits =
     if nat_le least (length digits) && nat_le (length digits) most && all_ascii_digits digits
     && nat_le (digits_value 10 digits) greatest
     then Some (digits_value 10 digits) else None
+
+-- one to three digits of a number up to 255
+abbrev pub size_in : List ℕ → Option ℤ
+size_in digits = option_map pos (number_in 1 3 255 digits)
+
+-- steps: such digits, after `+` or `-` or alone
+abbrev pub steps_in : List ℕ → Option ℤ
+steps_in [] = None
+steps_in (first ∷ rest) =
+    if first == 43 then size_in rest
+    else if first == 45 then option_map neg_ℤ (size_in rest)
+    else size_in (first ∷ rest)

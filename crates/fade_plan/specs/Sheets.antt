@@ -1,7 +1,7 @@
 -- Sheets of a fade: what a line says, the first line at fault, and the points. Lines and words are cut as those of a cue sheet.
-use Rattle.std.specs.Prelude.{ℕ, ◌+◌, ◌≤◌, ◌==◌, nat_le, if◌then◌else◌, Bool, true, false, List, [], ◌∷◌, ◌++◌, length, map, count_by, Option, Some, None, option_map, Result, Ok, Err, ℤ, pos, neg_ℤ, unsigned_abs}
+use Rattle.std.specs.Prelude.{ℕ, ◌+◌, ◌≤◌, ◌==◌, nat_le, if◌then◌else◌, Bool, true, false, List, [], ◌∷◌, ◌++◌, length, map, count_by, Option, Some, None, Result, Ok, Err, ℤ, unsigned_abs}
 use Rattle.cue_sheet.specs.declared.place.Place.{Place}
-use Rattle.cue_sheet.specs.Digits.{number_in}
+use Rattle.cue_sheet.specs.Digits.{steps_in}
 use Rattle.cue_sheet.specs.Lines.{words_of, lines_of, lines_from}
 use Rattle.cue_sheet.specs.Places.{place_of, IsPlace}
 use Rattle.fade_plan.specs.declared.entry.Entry.{Entry}
@@ -16,18 +16,6 @@ pub record EnvelopePoint : Type 0 where
   pub steps : ℤ
 
 -- ---- lines
-
--- one to three digits of a number up to 255
-abbrev pub size_in : List ℕ → Option ℤ
-size_in digits = option_map pos (number_in 1 3 255 digits)
-
--- such digits, after `+` or `-` or alone
-abbrev pub steps_in : List ℕ → Option ℤ
-steps_in [] = None
-steps_in (first ∷ rest) =
-    if first == 43 then size_in rest
-    else if first == 45 then option_map neg_ℤ (size_in rest)
-    else size_in (first ∷ rest)
 
 -- a word that begins with `#`
 abbrev pub is_comment : List ℕ → Bool

@@ -1,11 +1,10 @@
 //! What a line of a sheet says.
-ghost use Rattle.std.specs.Prelude.{◌≡◌, ◌≤◌, IfSome, unsigned_abs};
+ghost use Rattle.std.specs.Prelude.{◌≡◌};
 ghost use Rattle.cue_sheet.specs.Lines.{words_of};
-ghost use Rattle.fade_plan.specs.Sheets.{entry_of, point_of, size_in, steps_in, is_comment as is_comment_lem, IsEntry};
+ghost use Rattle.fade_plan.specs.Sheets.{entry_of, point_of, is_comment as is_comment_lem, IsEntry};
 
-use crate::point::opposite;
 use cue_sheet::Place;
-use cue_sheet::digits::read_number;
+use cue_sheet::digits::read_steps;
 use cue_sheet::words::{next_word, read_pair};
 
 /// What a line says by itself.
@@ -17,28 +16,6 @@ pub(crate) enum Entry {
     At(Place, i16),
     /// A line that breaks its rule.
     Broken,
-}
-
-/// One to three digits of a number up to 255.
-fn read_size(digits: &[u8]) -> Option<i16>
-    ensures size { result ≡ size_in digits.now }
-    ensures most { IfSome result (λ size. unsigned_abs size ≤ 255) }
-{
-    let size = read_number(digits, 1, 3, 255)?;
-    Some(size as i16)
-}
-
-/// Such digits, after `+` or `-` or alone.
-fn read_steps(word: &[u8]) -> Option<i16>
-    ensures steps { result ≡ steps_in word.now }
-    ensures most { IfSome result (λ steps. unsigned_abs steps ≤ 255) }
-{
-    match word {
-        [] => None,
-        [b'+', digits @ ..] => read_size(digits),
-        [b'-', digits @ ..] => Some(opposite(read_size(digits)?)),
-        _ => read_size(word),
-    }
 }
 
 fn is_comment(word: &[u8]) -> bool

@@ -7,10 +7,11 @@ ghost use Rattle.fade_plan.specs.Points.{IsKept, placed, first_low as first_low_
 use cue_sheet::Place;
 use frame_header::Class;
 
-/// A point, and the frame that its position is before.
+/// A point, and the frame that its position is before. An envelope becomes a curve without memory, so its list is the curve's,
+/// and both have points of this one type.
 #[derive(Clone, Copy)]
 pub(crate) struct Point {
-    /// The frame that the position is before, 0 until it is known.
+    /// The frame that the position is before; 0 in an envelope.
     pub(crate) frame: u64,
     pub(crate) place: Place,
     /// The line that it is in, counted from 1.

@@ -10,10 +10,10 @@ use Rattle.std.proofs.lemmas.List.{length-map, length-drop, drop_at}
 use Rattle.std.proofs.lemmas.List.Elements.{All-contains, All-from_recursion, All-map}
 use Rattle.std.proofs.lemmas.Slice.Zip.{AllZip-long}
 use Rattle.cue_sheet.specs.declared.place.Place.TheVariants.{Frame}
-use Rattle.cue_sheet.specs.Digits.{number_in}
+use Rattle.cue_sheet.specs.Digits.{number_in, size_in, steps_in}
 use Rattle.cue_sheet.specs.Places.{is_dot, time_in, seconds_in, hundredths_in, time_of, place_of, IsPlace}
 use Rattle.job_words.specs.declared.flags.Flag.{Flag}
-use Rattle.job_words.specs.Kinds.{Kind, Fixed, Name, Steps, Channel, Place, Rate, Seed, Count, Said, NameSaid, StepsSaid, PlaceSaid, SeedSaid, CountSaid, is_name, step_count, steps_of, seed_in, count_in, said, said_first, fits_kind, name_said, steps_said, place_said, seed_said, count_said, said_at, values_of}
+use Rattle.job_words.specs.Kinds.{Kind, Fixed, Name, Steps, Channel, Place, Rate, Seed, Count, Said, NameSaid, StepsSaid, PlaceSaid, SeedSaid, CountSaid, is_name, seed_in, count_in, said, said_first, fits_kind, name_said, steps_said, place_said, seed_said, count_said, said_at, values_of}
 use Rattle.job_words.specs.Forms.{Form, Shape, forms, help, short_help, version, list_form, gain_form, channel_form, undo_form, cut_form, pack_form, constant_form, floor_form, best_form, split_form, sheet_form, join_form, drill_form, fade_form, salvage_form, kinds_behind, front_of, reads_of, asked_of}
 use Rattle.job_words.specs.Words.{have_kinds, kinds_in, IsName, IsStepCount, IsSeed, IsCount, IsSound}
 use Rattle.job_words.proofs.Lists.{zipped, zip_drop, zip_replicate}
@@ -37,14 +37,15 @@ number_within least most greatest digits P each =
     cond_both (spelled && leb (digits_value 10 digits) greatest) (Some (digits_value 10 digits)) None (λ o. IfSome o P)
     (λ all. each (digits_value 10 digits) (leb-true _ _ (and_parts spelled (leb (digits_value 10 digits) greatest) all).1)) (λ other. tt)
 
-sized : (digits : List ℕ) → IfSome (option_map pos (step_count digits)) IsStepCount
-sized digits = mapped pos IsStepCount (step_count digits) (number_within 1 3 255 digits (λ size. IsStepCount (pos size)) (λ size le. record { low = omega (arith, ints); high = omega (arith, ints) }))
+sized : (digits : List ℕ) → IfSome (size_in digits) IsStepCount
+sized digits = mapped pos IsStepCount (number_in 1 3 255 digits) (number_within 1 3 255 digits (λ size. IsStepCount (pos size)) (λ size le. record { low = omega (arith, ints); high = omega (arith, ints) }))
 
-sized_down : (digits : List ℕ) → IfSome (option_map (λ size. neg_ℤ (pos size)) (step_count digits)) IsStepCount
+sized_down : (digits : List ℕ) → IfSome (option_map neg_ℤ (size_in digits)) IsStepCount
 sized_down digits =
-    mapped (λ size. neg_ℤ (pos size)) IsStepCount (step_count digits) (number_within 1 3 255 digits (λ size. IsStepCount (neg_ℤ (pos size))) (λ size le. record { low = omega (arith, ints); high = omega (arith, ints) }))
+    mapped neg_ℤ IsStepCount (size_in digits)
+    (mapped pos (λ size. IsStepCount (neg_ℤ size)) (number_in 1 3 255 digits) (number_within 1 3 255 digits (λ size. IsStepCount (neg_ℤ (pos size))) (λ size le. record { low = omega (arith, ints); high = omega (arith, ints) })))
 
-steps_in_range : (word : List ℕ) → IfSome (steps_of word) IsStepCount
+steps_in_range : (word : List ℕ) → IfSome (steps_in word) IsStepCount
 steps_in_range [] = tt
 steps_in_range (first ∷ rest) =
     cond_both (first == 43) _ _ (λ o. IfSome o IsStepCount) (λ plus. sized rest)
@@ -81,7 +82,7 @@ IsRight _ value = Unit {0}
 
 said_right : (kind : Kind) (word : List ℕ) → IfSome (said kind word) (IsRight kind)
 said_right Name word = cond_both (is_name word) (Some (NameSaid word)) None (λ o. IfSome o (IsRight Name)) (λ is. is) (λ other. tt)
-said_right Steps word = mapped StepsSaid (IsRight Steps) (steps_of word) (steps_in_range word)
+said_right Steps word = mapped StepsSaid (IsRight Steps) (steps_in word) (steps_in_range word)
 said_right Place word = mapped PlaceSaid (IsRight Place) (place_of word) (place_in_range word)
 said_right Seed word = mapped SeedSaid (IsRight Seed) (seed_in word) (number_within 1 10 2147483647 word IsSeed (λ seed le. omega arith))
 said_right Count word = mapped CountSaid (IsRight Count) (count_in word) (count_in_range (number_in 1 5 20000 word) (number_within 1 5 20000 word (λ count. count ≤ 20000) (λ count le. le)))

@@ -1,8 +1,8 @@
 -- What a single word can be, and what it says.
-use Rattle.std.specs.Prelude.{ℕ, ◌==◌, Bool, false, not, if◌then◌else◌, List, [], ◌∷◌, slice_index_or, Option, Some, None, option_map, option_and_then, is_some, ℤ, pos, neg_ℤ, codes, bytes_eq}
+use Rattle.std.specs.Prelude.{ℕ, ◌==◌, Bool, false, not, if◌then◌else◌, List, [], ◌∷◌, slice_index_or, Option, Some, None, option_map, option_and_then, is_some, ℤ, pos, codes, bytes_eq}
 use Rattle.cue_sheet.specs.declared.place.Place.{Place as StreamPlace}
 use Rattle.cue_sheet.specs.declared.place.Place.TheVariants.{End}
-use Rattle.cue_sheet.specs.Digits.{number_in}
+use Rattle.cue_sheet.specs.Digits.{number_in, steps_in}
 use Rattle.cue_sheet.specs.Places.{place_of}
 use Rattle.moved_gains.specs.declared.shift.Channels.{Channels}
 use Rattle.moved_gains.specs.declared.shift.Channels.TheVariants.{Both, Left, Right}
@@ -30,18 +30,6 @@ pub data Kind : Type 0 where
 abbrev pub is_name : List ℕ → Bool
 is_name [] = false
 is_name (first ∷ rest) = not (first == 45)
-
--- one to three digits, of a number up to 255
-abbrev pub step_count : List ℕ → Option ℕ
-step_count digits = number_in 1 3 255 digits
-
--- the same after `+` or `-`, or alone
-abbrev pub steps_of : List ℕ → Option ℤ
-steps_of [] = None
-steps_of (first ∷ rest) =
-    if first == 43 then option_map pos (step_count rest)
-    else if first == 45 then option_map (λ size. neg_ℤ (pos size)) (step_count rest)
-    else option_map pos (step_count (first ∷ rest))
 
 abbrev pub channel_of : List ℕ → Option Channels
 channel_of word = if bytes_eq word (codes "0") then Some Left else if bytes_eq word (codes "1") then Some Right else None
@@ -81,7 +69,7 @@ pub data Said : Type 0 where
 abbrev pub said : Kind → List ℕ → Option Said
 said (Fixed text) word = if bytes_eq word text then Some Itself else None
 said Name word = if is_name word then Some (NameSaid word) else None
-said Steps word = option_map StepsSaid (steps_of word)
+said Steps word = option_map StepsSaid (steps_in word)
 said Channel word = option_map ChannelSaid (channel_of word)
 said Place word = option_map PlaceSaid (place_of word)
 said Rate word = option_map RateSaid (rate_in word)

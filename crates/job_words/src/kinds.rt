@@ -1,10 +1,10 @@
 //! What a single word can be, and what it says.
-ghost use Rattle.std.specs.Prelude.{◌≡◌, option_map, pos};
-ghost use Rattle.job_words.specs.Kinds.{is_name, step_count, steps_of, channel_of, rate_in, seed_in, count_in, said, name_said, steps_said, channels_said, place_said, rate_said, seed_said, count_said};
+ghost use Rattle.std.specs.Prelude.{◌≡◌, option_map};
+ghost use Rattle.job_words.specs.Kinds.{is_name, channel_of, rate_in, seed_in, count_in, said, name_said, steps_said, channels_said, place_said, rate_said, seed_said, count_said};
 ghost use Rattle.job_words.specs.Code.{word_kind, value_said};
 
 use cue_sheet::Place;
-use cue_sheet::digits::read_number;
+use cue_sheet::digits::{read_number, read_steps};
 use moved_gains::Channels;
 
 /// What a word of a form is.
@@ -70,25 +70,6 @@ fn is_name(word: &str) -> bool
     !matches!(word.as_bytes(), [] | [b'-', ..])
 }
 
-// One to three digits, of a number up to 255.
-fn read_size(digits: &[u8]) -> Option<i16>
-    ensures { result ≡ option_map pos (step_count digits.now) }
-{
-    read_number(digits, 1, 3, 255).map(|size| size as i16)
-}
-
-// The same after `+` or `-`, or alone.
-fn read_steps(word: &str) -> Option<i16>
-    ensures { result ≡ steps_of word.now }
-{
-    match word.as_bytes() {
-        [] => None,
-        [b'+', digits @ ..] => read_size(digits),
-        [b'-', digits @ ..] => read_size(digits).map(|size| -size),
-        digits => read_size(digits),
-    }
-}
-
 // `0` is the left channel, `1` the right one.
 fn read_channel(word: &str) -> Option<Channels>
     ensures { result ≡ channel_of word.now }
@@ -130,7 +111,7 @@ impl WordKind {
         match self {
             WordKind::Fixed(text) if word == *text => Some(Value::Fixed),
             WordKind::Name if is_name(word) => Some(Value::Name(word)),
-            WordKind::Steps => Some(Value::Steps(read_steps(word)?)),
+            WordKind::Steps => Some(Value::Steps(read_steps(word.as_bytes())?)),
             WordKind::Channel => Some(Value::Channel(read_channel(word)?)),
             WordKind::Place => Some(Value::Place(Place::read(word)?)),
             WordKind::Rate => Some(Value::Rate(read_rate(word)?)),
