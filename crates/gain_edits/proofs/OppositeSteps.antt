@@ -25,16 +25,16 @@ use Rattle.outside.proofs.PassLaws.{between_split}
 use Rattle.moved_gains.specs.Moving.{row_length, row_end, moved_row_bytes}
 use Rattle.moved_gains.proofs.MovedGains.{GainsFit, IsNoStep, side_none}
 use Rattle.moved_gains.proofs.MovedFrame.{frame_none}
-use Rattle.moved_gains.proofs.MovingLaws.{written-edited, moved_from}
-use Rattle.moved_gains.proofs.WrittenLaws.{EndBy, end_rises, moved_to}
+use Rattle.moved_gains.proofs.MovingLaws.{written-edited, moved_to, moved_from}
+use Rattle.moved_gains.proofs.LostOffsets.{EndBy, end_rises}
 use Rattle.moved_gains.proofs.TagPlaces.{IsAmong, IsInFront, stands_somewhere, StandsSomewhere}
 use Rattle.moved_gains.proofs.MovedStream.{counts_shaped}
 use Rattle.moved_gains.proofs.FramesThere.{frame_of, IsFrameOf, AreFramesOf, row_shaped, frames_there}
-use Rattle.moved_gains.proofs.MovedAgain.{moved_whole_to, AreTogether, AllTogether, even_together, stood, AreMovedBy, moved_again}
+use Rattle.moved_gains.proofs.MovedAgain.{AreTogether, AllTogether, even_together, stood, AreMovedBy, moved_again}
 use Rattle.gain_edits.proofs.Proper.{made_of, even_stream, changed_survey, surveyed-changed, stream-changed, changed-ok}
 use Rattle.gain_edits.proofs.Refusals.{not_there}
 use Rattle.gain_edits.proofs.RangeAgain.{still, row_fits, even_opposite, range_back}
-use Rattle.moved_gains.proofs.TaggedAgain.{parted_front, parted_among}
+use Rattle.moved_gains.proofs.WrittenTag.{parted_front, parted_among}
 use Rattle.std.proofs.Math.IntN.{+ℤ_invr}
 use Rattle.sync_survey.specs.Survey.{survey_of}
 use Rattle.sync_survey.proofs.FoldersLaws.{survey_of-short}
@@ -86,8 +86,7 @@ edited_still steps none file allowed s are is =
     let known = stands_somewhere (even steps) file allowed s is in
     sym (written-edited (even steps) file allowed s is)
     ∙ ap (λ (l : List ℕ). take s.junk file ++ l)
-    (moved_whole_to (even steps) file s.first s.frames
-    ∙ still_to steps none file s.first (length file) s.frames (frames_there file allowed s are is) (subst (EndBy s.first s.frames) (sym known.size) known.ends)
+    (still_to steps none file s.first (length file) s.frames (frames_there file allowed s are is) (subst (EndBy s.first s.frames) (sym known.size) known.ends)
     ∙ take_all (length file - s.first) (drop s.first file) (omega (arith, length-drop s.first file)))
 
 -- the bytes of its own tag in their place give the edited file
@@ -250,7 +249,7 @@ module _ (one two : ℕ → Steps) (file : List ℕ) (s : SurveyFields) (sum : A
   rows = moved_to one file s.first (length file) s.frames
 
   stands : moved ≡ junk ++ rows
-  stands = sym (written-edited one file most_frames s is) ∙ ap (λ (l : List ℕ). junk ++ l) (moved_whole_to one file s.first s.frames)
+  stands = sym (written-edited one file most_frames s is)
 
   junk_long : length junk ≡ s.junk
   junk_long = length-take-le s.junk file (omega (arith, here.size, here.junk, here.first))
@@ -266,11 +265,9 @@ module _ (one two : ℕ → Steps) (file : List ℕ) (s : SurveyFields) (sum : A
 
   rows_again : moved_from two moved m.first m.frames ≡ moved_from (even still) file s.first s.frames
   rows_again =
-      moved_whole_to two moved m.first m.frames
-      ∙ ap₂ (λ k (l : List Row). moved_to two moved k (length moved) l) new_places.1 new_frames
+      ap₂ (λ k (l : List Row). moved_to two moved k (length moved) l) new_places.1 new_frames
       ∙ ap (λ k. moved_to two moved s.junk k (map (stood to one) s.frames)) (sym to_end)
       ∙ moved_again one two (even still) file moved to s.first (length file) s.junk s.frames [] sum frames (subst (EndBy s.first s.frames) (sym here.size) here.ends) (omega arith) by rows_stand
-      ∙ sym (moved_whole_to (even still) file s.first s.frames)
 
   junk_again : take m.junk moved ≡ junk
   junk_again = ap (λ k. take k moved) new_places.0 ∙ ap (take s.junk) stands ∙ take_at junk rows s.junk junk_long

@@ -1,8 +1,7 @@
 -- Two changes of gains, one after the other: where no gain leaves its range by either, none does by both together, nor by what takes the first back.
 use Rattle.std.proofs.Common.{◌≡◌, ℕ, ◌<◌, Bool, true, false, cond, ◌&&◌, ◌||◌, not, List, [], ◌∷◌, map, Option, Some, None, refl, sym, ◌∙◌, ap, ap₂, subst, arith, ℤ, pos, ◌+ℤ◌}
-use Rattle.std.specs.Option.{option_or}
 use Rattle.std.proofs.lemmas.Bool.{le-ltb}
-use Rattle.std.proofs.Math.IntN.{+ℤ_assoc, +ℤ_idr}
+use Rattle.std.proofs.Math.IntN.{+ℤ_idr}
 use Rattle.side_info.specs.declared.granule.Granule.{Granule}
 use Rattle.side_info.specs.declared.side.Side.{Side}
 use Rattle.side_info.proofs.FrameLaws.{fits-side_in}
@@ -12,45 +11,16 @@ use Rattle.frame_header.specs.Tables.{class_of}
 use Rattle.moved_gains.specs.Course.{even}
 use Rattle.moved_gains.specs.declared.gains.Stuck.{Stuck}
 use Rattle.moved_gains.specs.declared.shift.Steps.{Steps}
-use Rattle.moved_gains.specs.Gains.{is_silent_granule, is_outside, moved_gain, moved, moved_side, moved_unless, stuck_at, stuck_in}
+use Rattle.moved_gains.specs.Gains.{is_silent_granule, is_outside, moved, moved_side, moved_unless, stuck_in}
 use Rattle.moved_gains.specs.Edited.{stuck_of}
 use Rattle.gain_edits.specs.GainRange.{stuck_fault, range_at, range_fault}
-use Rattle.moved_gains.proofs.MovedGains.{rem, within, gain_as_is, moved-loud, is_stuck, GainsFit, IsNoStep, none_of, none_then, AreFree, free-parts, wrapped-free, side_then}
+use Rattle.moved_gains.proofs.MovedGains.{is_stuck, GainsFit, IsNoStep, free-parts, free-whole, granule_next, moved_with, wrapped-free, side_then}
 use Rattle.moved_gains.proofs.MovedFrame.{whole_class, gains_fit}
 use Rattle.commands.proofs.RefusingLaws.{none_first, none_both, first-nil, first-cons}
 use Rattle.moved_gains.proofs.FramesThere.{frame_of, IsFrameOf, AreFramesOf, row_shaped}
 use Rattle.moved_gains.proofs.MovedAgain.{AreTogether, stood}
 
 -- ---- two changes together
-
-gain_both : (a b : ℤ) (gain : ℕ) → is_outside (pos gain +ℤ a) ≡ false → is_outside (pos (moved_gain a gain) +ℤ b) ≡ false → is_outside (pos gain +ℤ (a +ℤ b)) ≡ false
-gain_both a b gain inside then =
-    let sum = within (pos gain +ℤ a) inside in
-    let to : pos (moved_gain a gain) ≡ pos gain +ℤ a = ap (λ z. pos (rem z)) sum.is ∙ ap pos (gain_as_is sum.gain sum.small) ∙ sym sum.is in
-    sym (ap (λ z. is_outside (z +ℤ b)) to ∙ ap is_outside (+ℤ_assoc (pos gain) a b)) ∙ then
-
-granule_both : (a b all : ℤ) → all ≡ a +ℤ b → (g : Granule) → is_stuck a g ≡ false → is_stuck b (moved a g) ≡ false → is_stuck all g ≡ false
-granule_both a b all sum g first second = ap (λ z. is_stuck z g) sum ∙ by_silence (is_silent_granule g) refl
-  where
-    by_silence : (silent : Bool) → is_silent_granule g ≡ silent → is_stuck (a +ℤ b) g ≡ false
-    by_silence true silent = ap (λ s. not s && is_outside (pos g.global_gain +ℤ (a +ℤ b))) silent
-    by_silence false loud =
-        let h : Granule = record g { global_gain = moved_gain a g.global_gain } in
-        let then : is_outside (pos h.global_gain +ℤ b) ≡ false =
-        sym (ap (λ s. not s && is_outside (pos h.global_gain +ℤ b)) loud) ∙ sym (ap (is_stuck b) (moved-loud a g loud)) ∙ second in
-        ap (λ s. not s && is_outside (pos g.global_gain +ℤ (a +ℤ b))) loud
-        ∙ gain_both a b g.global_gain (sym (ap (λ s. not s && is_outside (pos g.global_gain +ℤ a)) loud) ∙ first) then
-
-free-all : (steps : Steps) (m p a b : ℕ) (g h k l : Granule) → AreFree steps.left steps.right g h k l → steps.wrap ≡ false → stuck_in steps (side_with m p a b g h k l) ≡ None
-unfolding stuck_in
-free-all steps m p a b g h k l free strict =
-    let s = side_with m p a b g h k l in
-    ap (λ w. cond w None (option_or (stuck_at steps.left s 0 0) (option_or (stuck_at steps.right s 0 1) (option_or (stuck_at steps.left s 1 0) (stuck_at steps.right s 1 1))))) strict
-    ∙ none_then _ _ _ _ (none_of _ _ free.first) (none_of _ _ free.second) (none_of _ _ free.third) (none_of _ _ free.fourth)
-
-moved_with : (steps : Steps) (m p a b : ℕ) (g h k l : Granule) → moved_side steps (side_with m p a b g h k l) ≡ side_with m p a b (moved steps.left g) (moved steps.right h) (moved steps.left k) (moved steps.right l)
-unfolding moved_side
-moved_with steps m p a b g h k l = refl
 
 abbrev BothGoal : Steps → Steps → Steps → Side → Type 0
 BothGoal one two all s = stuck_in one s ≡ None → stuck_in two (moved_side one s) ≡ None → stuck_in all s ≡ None
@@ -61,8 +31,10 @@ both-with one two all strict_one strict_two strict_all sum m p a b g h k l first
     let w =
     free-parts two m p a b (moved one.left g) (moved one.right h) (moved one.left k) (moved one.right l) strict_two
     (sym (ap (stuck_in two) (moved_with one m p a b g h k l)) ∙ second) in
-    free-all all m p a b g h k l
-    (record { first = granule_both one.left two.left all.left sum.left g f.first w.first; second = granule_both one.right two.right all.right sum.right h f.second w.second; third = granule_both one.left two.left all.left sum.left k f.third w.third; fourth = granule_both one.right two.right all.right sum.right l f.fourth w.fourth })
+    let on_left = granule_next one.left two.left all.left sum.left in
+    let on_right = granule_next one.right two.right all.right sum.right in
+    free-whole all m p a b g h k l
+    (record { first = sym (on_left g f.first) ∙ w.first; second = sym (on_right h f.second) ∙ w.second; third = sym (on_left k f.third) ∙ w.third; fourth = sym (on_right l f.fourth) ∙ w.fourth })
     strict_all
 
 pub side_both : (one two all : Steps) (s : Side) → IsShaped s → all.wrap ≡ one.wrap || two.wrap → AreTogether one two all → stuck_in one s ≡ None → stuck_in two (moved_side one s) ≡ None → stuck_in all s ≡ None
@@ -89,7 +61,7 @@ StillGoal steps s = GainsFit s → stuck_in steps s ≡ None
 
 still-with : (steps : Steps) → IsNoStep steps → steps.wrap ≡ false → (m p a b : ℕ) (g h k l : Granule) → StillGoal steps (side_with m p a b g h k l)
 still-with steps none strict m p a b g h k l fits =
-    free-all steps m p a b g h k l
+    free-whole steps m p a b g h k l
     (record { first = still_granule steps.left none.0 g fits.first; second = still_granule steps.right none.1 h fits.second; third = still_granule steps.left none.0 k fits.third; fourth = still_granule steps.right none.1 l fits.fourth })
     strict
 

@@ -19,7 +19,7 @@ use Rattle.sync_survey.proofs.ItemBytes.{IsItem, header_front-four, frame-least,
 use Rattle.sync_survey.proofs.ItemLists.{AreItems}
 use Rattle.moved_gains.specs.declared.shift.Steps.{Steps}
 use Rattle.moved_gains.specs.Edited.{moved_unless_lost, moved_item, moved_items}
-use Rattle.moved_gains.proofs.MovedFrame.{IsWhole, moved_unless-whole, whole_item}
+use Rattle.moved_gains.proofs.MovedFrame.{IsWhole, moved_whole, whole_item}
 
 -- ---- one item
 
@@ -39,7 +39,7 @@ frame_whole file at h all is within =
 pub moved_own : (steps : Steps) (lost : Bool) (file : List ℕ) (at : ℕ) (item : Item) → AreBytes file → item_at file at ≡ item → belongs Stream item ≡ true → at + size_of item ≤ length file → IsItem item (moved_item steps lost item (take (size_of item) (drop at file)))
 moved_own steps lost file at (Frame h) all is belongs within =
     let frame = take (size_of (Frame h)) (drop at file) in
-    whole_item h (moved_unless_lost lost steps h frame) (moved_unless-whole lost steps h frame (frame_whole file at h all is within)).whole
+    whole_item h (moved_unless_lost lost steps h frame) (moved_whole lost steps h frame (frame_whole file at h all is within)).whole
 moved_own steps lost file at (Block b) all is belongs within = kept_item file at (Block b) is belongs within
 moved_own steps lost file at Zero all is belongs within = kept_item file at Zero is belongs within
 moved_own steps lost file at _ all is belongs within = absurd (false≢true belongs)

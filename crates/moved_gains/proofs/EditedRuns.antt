@@ -25,7 +25,7 @@ use Rattle.sync_survey.proofs.SurveyParts.{frames_from, told_from, IsRead}
 use Rattle.moved_gains.specs.declared.shift.Steps.{Steps}
 use Rattle.moved_gains.specs.Edited.{moved_unless_lost, moved_items, moved_stream, is_lost_at, edited}
 use Rattle.file_tag.proofs.WholeFiles.{front_end-is, start_by, not_in_front}
-use Rattle.moved_gains.proofs.MovedFrame.{IsWhole, moved_unless-whole, whole_item}
+use Rattle.moved_gains.proofs.MovedFrame.{IsWhole, moved_whole, whole_item}
 use Rattle.moved_gains.proofs.EditedItems.{frame_whole, moved-cons, moved_are, AreMovedAt, frames_moved}
 
 -- ---- the start of the edited file
@@ -150,7 +150,7 @@ module _ (steps : ℕ → Steps) (file : List ℕ) (allowed : ℕ) (start : Star
   first_frame = frame_whole file first h all first_whole.is first_whole.within
 
   own_by : (o : Option Head) → IsItem (Frame h) (first_bytes steps lost file start.first o)
-  own_by None = whole_item h (first_bytes steps lost file start.first None) (moved_unless-whole (lost first) (steps first) h (frame_bytes file start.first) first_frame).whole
+  own_by None = whole_item h (first_bytes steps lost file start.first None) (moved_whole (lost first) (steps first) h (frame_bytes file start.first) first_frame).whole
   own_by (Some found) = whole_item h (frame_bytes file start.first) first_frame
 
   before_are : AreItems front.items before
@@ -233,11 +233,11 @@ module _ (steps : ℕ → Steps) (file : List ℕ) (allowed : ℕ) (start : Star
 
   -- the first frame is the same there from two bytes before its area on
   end_by : (o : Option Head) → drop (overhead_of (class_of h) h.protected - 2) (first_bytes steps lost file start.first o) ≡ drop (overhead_of (class_of h) h.protected - 2) (frame_bytes file start.first)
-  end_by None = (moved_unless-whole (lost first) (steps first) h (frame_bytes file start.first) first_frame).same_end
+  end_by None = (moved_whole (lost first) (steps first) h (frame_bytes file start.first) first_frame).same_end
   end_by (Some found) = refl
 
   area_by : (o : Option Head) → drop (overhead_of (class_of h) h.protected) (first_bytes steps lost file start.first o) ≡ drop (overhead_of (class_of h) h.protected) (frame_bytes file start.first)
-  area_by None = (moved_unless-whole (lost first) (steps first) h (frame_bytes file start.first) first_frame).same_area
+  area_by None = (moved_whole (lost first) (steps first) h (frame_bytes file start.first) first_frame).same_area
   area_by (Some found) = refl
 
   new_own : frame_bytes new_file (moved_start start).first ≡ own

@@ -1,5 +1,5 @@
 -- The frames that a survey tells are whole in the file, with their side information, and with right check words.
-use Rattle.std.proofs.Common.{◌≡◌, ℕ, Bool, true, false, cond, List, [], ◌∷◌, length, take, drop, Ok, sym, ◌∙◌, ap, subst, pos}
+use Rattle.std.proofs.Common.{◌≡◌, ℕ, suc, Bool, true, false, cond, List, [], ◌∷◌, length, take, drop, Ok, refl, sym, ◌∙◌, ap, subst, pos}
 use Rattle.bit_fields.specs.Bits.{AreBytes}
 use Rattle.side_info.specs.Frame.{side_in, frame_with}
 use Rattle.side_info.specs.declared.side.Side.{Side}
@@ -9,6 +9,7 @@ use Rattle.sync_survey.specs.declared.places.PlacedFrame.{PlacedFrame}
 use Rattle.sync_survey.specs.declared.places.Start.{Start}
 use Rattle.sync_survey.specs.Row.{Row}
 use Rattle.sync_survey.specs.Walk.{head_of}
+use Rattle.sync_survey.specs.MainData.{row_of, rows_of}
 use Rattle.sync_survey.specs.Faults.{SurveyFields, surveyed}
 use Rattle.sync_survey.proofs.SurveyParts.{frames_from, told_from, IsRead, surveyed-parts}
 use Rattle.moved_gains.specs.declared.shift.Steps.{Steps}
@@ -17,8 +18,9 @@ use Rattle.moved_gains.specs.Moving.{row_length, moved_row_bytes}
 use Rattle.moved_gains.proofs.MovedFrame.{IsWhole, moved_whole}
 use Rattle.moved_gains.proofs.EditedItems.{AreMovedAt}
 use Rattle.moved_gains.proofs.LostOffsets.{rows_by, marked-by, walk_rising}
+use Rattle.moved_gains.proofs.Rows.{Each}
 use Rattle.moved_gains.proofs.EditedRuns.{gap_of, lost_from, new_file, frames-moved}
-use Rattle.moved_gains.proofs.MovedSurvey.{own-side, own-right, WordsAreRight, words}
+use Rattle.moved_gains.proofs.MovedSurvey.{own-side, own-right, AreRight, words}
 
 -- the bytes of a frame of the file
 abbrev pub frame_of : List ℕ → Row → List ℕ
@@ -30,8 +32,7 @@ pub record IsFrameOf (file : List ℕ) (row : Row) : Type 0 where
   pub right : IsRight row.header (frame_of file row)
 
 abbrev pub AreFramesOf : List ℕ → List Row → Type 0
-AreFramesOf file [] = Unit {0}
-AreFramesOf file (row ∷ rows) = IsFrameOf file row × AreFramesOf file rows
+AreFramesOf file rows = Each (IsFrameOf file) rows
 
 pub row_shaped : (file : List ℕ) (row : Row) → IsFrameOf file row → IsShaped row.side
 row_shaped file row here = subst IsShaped (sym here.side) (shaped-side_in row.header (frame_of file row))
@@ -44,13 +45,13 @@ row_sized steps file row here = by_lost row.lost
     by_lost true = here.whole.size
     by_lost false =
         ap (λ (s : Side). length (frame_with row.header (moved_side steps s) (frame_of file row))) here.side
-        ∙ (moved_whole steps row.header (frame_of file row) here.whole).whole.size
+        ∙ (moved_whole false steps row.header (frame_of file row) here.whole).whole.size
 
-each_there : (steps : ℕ → Steps) (lost : ℕ → Bool) (file new : List ℕ) (gap : ℕ) (ps : List PlacedFrame) → AreMovedAt steps lost file new gap ps → WordsAreRight file ps → AreFramesOf file (rows_by lost file ps)
+each_there : (steps : ℕ → Steps) (lost : ℕ → Bool) (file new : List ℕ) (gap : ℕ) (ps : List PlacedFrame) → AreMovedAt steps lost file new gap ps → AreRight file (rows_of file ps) → AreFramesOf file (rows_by lost file ps)
 each_there steps lost file new gap [] at right = tt
 each_there steps lost file new gap (p ∷ ps) at right = (
-  record { whole = at.0.whole; side = sym (own-side file p at.0.whole); right = own-right file p at.0.whole right.0 },
-  each_there steps lost file new gap ps at.1 right.1,
+  record { whole = at.0.whole; side = sym (own-side file p at.0.whole); right = own-right file p at.0.whole (right 0 (row_of file p) refl) },
+  each_there steps lost file new gap ps at.1 (λ i r is. right (suc i) r is),
 )
 
 pub frames_there : (file : List ℕ) (allowed : ℕ) (s : SurveyFields) → AreBytes file → surveyed file allowed ≡ Ok s → AreFramesOf file s.frames

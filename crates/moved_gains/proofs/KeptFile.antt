@@ -1,5 +1,5 @@
 -- A changed file differs from what it was in gains, check words, the tag and junk that is left out.
-use Rattle.std.proofs.Common.{◌≡◌, ℕ, zero, suc, ◌+◌, ◌-◌, ◌<◌, ◌≤◌, List, [], ◌∷◌, ◌++◌, take, drop, map, Option, Some, None, Ok, refl, sym, ◌∙◌, ap, ap₂, subst, arith, inl, inr, append_assoc, take-append-drop, append-nil}
+use Rattle.std.proofs.Common.{◌≡◌, ℕ, zero, suc, ◌+◌, ◌-◌, ◌<◌, ◌≤◌, List, [], ◌∷◌, ◌++◌, take, drop, map, Option, Some, None, Ok, refl, sym, ◌∙◌, ap, ap₂, subst, arith, inl, inr, append_assoc, take-append-drop}
 use Rattle.std.specs.Prelude.{◌⊎◌, slice_get}
 use Rattle.std.proofs.lemmas.List.{drop-drop}
 use Rattle.std.proofs.Math.Seq.{take-add}
@@ -14,10 +14,12 @@ use Rattle.moved_gains.specs.Moving.{row_length, row_end, moved_row_bytes}
 use Rattle.moved_gains.specs.Streams.{moved_survey}
 use Rattle.moved_gains.specs.Change.{retag, changed}
 use Rattle.moved_gains.specs.Kept.{Patch, patched, BeginsAfter, AreInOrder, LeavesJunk, ReplacesTag, MovesFrame, MayBecome, AreAllowed, KeepsAll, ChangesKeepAll}
-use Rattle.moved_gains.proofs.MovingLaws.{moved_from, moved_from-nil, moved_from-cons, written-edited}
-use Rattle.moved_gains.proofs.WrittenLaws.{EndBy, moved_to, append_three}
+use Rattle.moved_gains.proofs.MovingLaws.{moved_to, moved_from, moved_from-nil, written-edited}
+use Rattle.moved_gains.proofs.WrittenLaws.{append_three}
+use Rattle.moved_gains.proofs.LostOffsets.{EndBy}
 use Rattle.moved_gains.proofs.TagPlaces.{IsApart, IsInFront, StandsSomewhere, stands_somewhere, stands_apart}
-use Rattle.moved_gains.proofs.WrittenTag.{front_whole, among_whole}
+use Rattle.moved_gains.proofs.Rows.{Each, each_before, each_behind}
+use Rattle.moved_gains.proofs.WrittenTag.{parted_front, parted_among}
 use Rattle.moved_gains.proofs.FramesThere.{IsFrameOf, AreFramesOf, frames_there}
 use Rattle.moved_gains.proofs.KeptFrame.{row_differs}
 
@@ -55,9 +57,11 @@ module _ (T : List ℕ → Type 0) (steps : ℕ → Steps) (file : List ℕ) (s 
   abbrev row_patches : List Row → List Patch
   row_patches rows = map row_patch rows
 
+  abbrev Moves : Row → Type 0
+  Moves row = MovesFrame file s (row_patch row)
+
   abbrev AllMove : List Row → Type 0
-  AllMove [] = Unit {0}
-  AllMove (row ∷ rows) = MovesFrame file s (row_patch row) × AllMove rows
+  AllMove rows = Each Moves rows
 
   moves : (i : ℕ) (row : Row) → slice_get s.frames i ≡ Some row → IsFrameOf file row → MovesFrame file s (row_patch row)
   moves i row there here =
@@ -78,41 +82,24 @@ module _ (T : List ℕ → Type 0) (steps : ℕ → Steps) (file : List ℕ) (s 
     all_move (n + 1) rows (λ i r is. ap (slice_get s.frames) (omega arith) ∙ there (suc i) r is) here.1,
   )
 
-  front_move : (before behind : List Row) → AllMove (before ++ behind) → AllMove before
-  front_move [] behind all = tt
-  front_move (row ∷ before) behind all = (all.0, front_move before behind all.1)
-
-  behind_move : (before behind : List Row) → AllMove (before ++ behind) → AllMove behind
-  behind_move [] behind all = all
-  behind_move (row ∷ before) behind all = behind_move before behind all.1
-
   rows_allowed : (rows : List Row) (patches : List Patch) → AllMove rows → AreAllowed T file s patches → AreAllowed T file s (row_patches rows ++ patches)
   rows_allowed [] patches all later = later
   rows_allowed (row ∷ rows) patches all later = (inr (inr all.0), rows_allowed rows patches all.1 later)
 
-  rows_begin : (at : ℕ) (rows : List Row) (to : ℕ) → EndBy at rows to → (x : ℕ) → x < at → BeginsAfter x (row_patches rows)
-  rows_begin at [] to ends x low = tt
-  rows_begin at (row ∷ rows) to ends x low = omega (arith, low, ends.0)
+  -- frames up to an offset, and patches from it on
+  rows_begin : (at : ℕ) (rows : List Row) (patches : List Patch) (to : ℕ) → EndBy at rows to → AreInOrder to patches → (x : ℕ) → x < at → BeginsAfter x (row_patches rows ++ patches)
+  rows_begin at [] patches to ends order x low = begins_later x to patches (omega (arith, low, ends)) order
+  rows_begin at (row ∷ rows) patches to ends order x low = omega (arith, low, ends.0)
 
-  rows_ordered : (at : ℕ) (rows : List Row) (to : ℕ) → EndBy at rows to → AreInOrder at (row_patches rows)
-  rows_ordered at [] to ends = tt
-  rows_ordered at (row ∷ rows) to ends =
-      (ends.0, omega (arith, ends.1), rows_begin (row_end row) rows to ends.2 row.offset ends.1, rows_ordered (row_end row) rows to ends.2)
+  rows_ordered : (at : ℕ) (rows : List Row) (patches : List Patch) (to : ℕ) → EndBy at rows to → AreInOrder to patches → AreInOrder at (row_patches rows ++ patches)
+  rows_ordered at [] patches to ends order = ordered_earlier at to patches ends order
+  rows_ordered at (row ∷ rows) patches to ends order =
+      (ends.0, omega (arith, ends.1), rows_begin (row_end row) rows patches to ends.2 order row.offset ends.1, rows_ordered (row_end row) rows patches to ends.2 order)
 
-  -- frames before another patch
-  before_begin : (at : ℕ) (rows : List Row) (patch : Patch) (patches : List Patch) → EndBy at rows patch.from → (x : ℕ) → x < at → BeginsAfter x (row_patches rows ++ (patch ∷ patches))
-  before_begin at [] patch patches ends x low = omega (arith, low, ends)
-  before_begin at (row ∷ rows) patch patches ends x low = omega (arith, low, ends.0)
-
-  before_ordered : (at : ℕ) (rows : List Row) (patch : Patch) (patches : List Patch) → EndBy at rows patch.from → AreInOrder patch.from (patch ∷ patches) → AreInOrder at (row_patches rows ++ (patch ∷ patches))
-  before_ordered at [] patch patches ends order = (ends, order.1, order.2, order.3)
-  before_ordered at (row ∷ rows) patch patches ends order =
-      (ends.0, omega (arith, ends.1), before_begin (row_end row) rows patch patches ends.2 row.offset ends.1, before_ordered (row_end row) rows patch patches ends.2 order)
-
-  patches-moved : (at : ℕ) (rows : List Row) → patched file at (row_patches rows) ≡ moved_from steps file at rows
+  patches-moved : (at : ℕ) (rows : List Row) → patched file at (row_patches rows ++ []) ≡ moved_from steps file at rows
   patches-moved at [] = sym (moved_from-nil steps file at)
   patches-moved at (row ∷ rows) =
-      ap (λ (l : List ℕ). bytes_between file at row.offset ++ (moved_row_bytes (steps row.offset) file row ++ l)) (patches-moved (row_end row) rows) ∙ sym (moved_from-cons steps file at row rows)
+      ap (λ (l : List ℕ). bytes_between file at row.offset ++ (moved_row_bytes (steps row.offset) file row ++ l)) (patches-moved (row_end row) rows)
 
   patches-before : (at : ℕ) (rows : List Row) (patch : Patch) (patches : List Patch)
       → patched file at (row_patches rows ++ (patch ∷ patches)) ≡ moved_to steps file at patch.from rows ++ (patch.now ++ patched file patch.to patches)
@@ -173,9 +160,9 @@ module _ (file : List ℕ) (allowed : ℕ) (s : SurveyFields) (all : AreBytes fi
   keeps_none : KeepsAll (λ tag. None ≡ Some tag) file s (edited steps file s)
   keeps_none =
       let T : List ℕ → Type 0 = λ tag. None ≡ Some tag in
-      let patches = row_patches T steps file s s.frames in
-      let order = rows_ordered T steps file s s.first s.frames s.length known.ends in
-      let may : AreAllowed T file s patches = subst (AreAllowed T file s) (append-nil patches) (rows_allowed T steps file s s.frames [] (each_moves T) tt) in
+      let patches = row_patches T steps file s s.frames ++ [] in
+      let order = rows_ordered T steps file s s.first s.frames [] s.length known.ends tt in
+      let may : AreAllowed T file s patches = rows_allowed T steps file s s.frames [] (each_moves T) tt in
       let joined = after_junk T steps file s 0 patches (omega arith) known.junk order may in
       record {
         patches = joined.all;
@@ -209,12 +196,12 @@ module _ (file : List ℕ) (allowed : ℕ) (s : SurveyFields) (all : AreBytes fi
     tag_allowed = record { from = refl; to = refl; now = refl }
 
     abbrev rows : List Patch
-    rows = row_patches MayBe steps file s s.frames
+    rows = row_patches MayBe steps file s s.frames ++ []
 
     keeps_front : IsInFront s → KeepsAll MayBe file s with_new
     keeps_front front =
-        let order = rows_ordered MayBe steps file s s.first s.frames s.length known.ends in
-        let may : AreAllowed MayBe file s rows = subst (AreAllowed MayBe file s) (append-nil rows) (rows_allowed MayBe steps file s s.frames [] (each_moves MayBe) tt) in
+        let order = rows_ordered MayBe steps file s s.first s.frames [] s.length known.ends tt in
+        let may : AreAllowed MayBe file s rows = rows_allowed MayBe steps file s s.frames [] (each_moves MayBe) tt in
         let joined = after_junk MayBe steps file s (a + size) rows front.before known.junk order may in
         let zero_less : a - 0 ≡ a = omega arith in
         record {
@@ -222,7 +209,7 @@ module _ (file : List ℕ) (allowed : ℕ) (s : SurveyFields) (all : AreBytes fi
           in_order = (omega arith, omega arith, joined.begins a (omega (arith, front.some, front.before)), joined.in_order);
           allowed = (inr (inl tag_allowed), joined.allowed);
           written =
-              sym (front_whole steps file allowed s is bytes front)
+              (parted_front steps file allowed s is front).tagged bytes
               ∙ ap₂ (λ n (l : List ℕ). take n file ++ (bytes ++ (bytes_between file (a + size) s.junk ++ l))) (sym zero_less) (sym (patches-moved MayBe steps file s s.first s.frames))
               ∙ ap (λ (l : List ℕ). bytes_between file 0 a ++ (bytes ++ l)) (sym joined.written);
         }
@@ -231,29 +218,29 @@ module _ (file : List ℕ) (allowed : ℕ) (s : SurveyFields) (all : AreBytes fi
     keeps_among apart =
         let among = apart.among in
         let before = row_patches MayBe steps file s among.before in
-        let behind = row_patches MayBe steps file s among.behind in
+        let behind = row_patches MayBe steps file s among.behind ++ [] in
         let parts : AllMove MayBe steps file s (among.before ++ among.behind) = subst (AllMove MayBe steps file s) among.all (each_moves MayBe) in
-        let before_moves = front_move MayBe steps file s among.before among.behind parts in
-        let behind_moves = behind_move MayBe steps file s among.before among.behind parts in
-        let behind_allowed : AreAllowed MayBe file s behind = subst (AreAllowed MayBe file s) (append-nil behind) (rows_allowed MayBe steps file s among.behind [] behind_moves tt) in
-        let behind_order = rows_ordered MayBe steps file s (a + size) among.behind s.length among.rest in
+        let before_moves = each_before (Moves MayBe steps file s) among.before among.behind parts in
+        let behind_moves = each_behind (Moves MayBe steps file s) among.before among.behind parts in
+        let behind_allowed : AreAllowed MayBe file s behind = rows_allowed MayBe steps file s among.behind [] behind_moves tt in
+        let behind_order = rows_ordered MayBe steps file s (a + size) among.behind [] s.length among.rest tt in
         let all_allowed : AreAllowed MayBe file s (before ++ (tag_patch ∷ behind)) = rows_allowed MayBe steps file s among.before (tag_patch ∷ behind) before_moves (inr (inl tag_allowed), behind_allowed) in
         let tag_order : AreInOrder a (tag_patch ∷ behind) = (omega arith, omega arith, tag_begins among.behind among.rest apart.apart, behind_order) in
-        let order : AreInOrder s.first (before ++ (tag_patch ∷ behind)) = before_ordered MayBe steps file s s.first among.before tag_patch behind among.front tag_order in
+        let order : AreInOrder s.first (before ++ (tag_patch ∷ behind)) = rows_ordered MayBe steps file s s.first among.before (tag_patch ∷ behind) a among.front tag_order in
         let joined = after_junk MayBe steps file s 0 (before ++ (tag_patch ∷ behind)) (omega arith) known.junk order all_allowed in
         record {
           patches = joined.all;
           in_order = joined.in_order;
           allowed = joined.allowed;
           written =
-              sym (among_whole steps file allowed s is bytes among)
+              (parted_among steps file allowed s is among).tagged bytes
               ∙ append_assoc (take s.junk file) (moved_to steps file s.first a among.before) (bytes ++ moved_from steps file (a + size) among.behind)
               ∙ ap₂ (λ n (l : List ℕ). take n file ++ (moved_to steps file s.first a among.before ++ (bytes ++ l))) (sym none) (sym (patches-moved MayBe steps file s (a + size) among.behind))
               ∙ ap (λ (l : List ℕ). bytes_between file 0 s.junk ++ l) (sym (patches-before MayBe steps file s s.first among.before tag_patch behind))
               ∙ sym joined.written;
         }
       where
-        tag_begins : (behind : List Row) → EndBy (a + size) behind s.length → (behind ≡ []) ⊎ (0 < size) → BeginsAfter a (row_patches MayBe steps file s behind)
+        tag_begins : (behind : List Row) → EndBy (a + size) behind s.length → (behind ≡ []) ⊎ (0 < size) → BeginsAfter a (row_patches MayBe steps file s behind ++ [])
         tag_begins [] ends apart = tt
         tag_begins (row ∷ behind) ends (inl none) = absurd cc
         tag_begins (row ∷ behind) ends (inr some) = omega (arith, ends.0, some)

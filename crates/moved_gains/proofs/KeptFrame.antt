@@ -223,7 +223,7 @@ frame_differs : (steps : Steps) (h : HeaderFields) (frame : List ℕ) → IsWhol
 frame_differs steps h frame whole right =
     let class = whole_class h frame whole in
     let room = (whole_room h frame whole).0 in
-    let to = moved_whole steps h frame whole in
+    let to = moved_whole false steps h frame whole in
     record {
       size = to.whole.size ∙ sym whole.size;
       all = to.whole.all;

@@ -1,7 +1,7 @@
--- A frame is lost if a lost frame is at its offset, since no two frames are at one offset.
-use Rattle.std.proofs.Common.{◌≡◌, ℕ, zero, suc, ◌+◌, ◌<◌, ◌≤◌, ◌==◌, ◌&&◌, ◌||◌, Bool, true, false, List, [], ◌∷◌, ◌++◌, map, Option, Some, None, refl, sym, ◌∙◌, ap, ap₂, subst, arith, zero-add}
-use Rattle.std.specs.Prelude.{option_to_list, slice_get}
-use Rattle.std.specs.List.{enumerate_from}
+-- Frames are in order. So a frame is lost if a lost frame is at its offset, since no two frames are at one offset.
+use Rattle.std.proofs.Common.{◌≡◌, ℕ, zero, suc, ◌+◌, ◌<◌, ◌≤◌, ◌==◌, ◌&&◌, ◌||◌, Bool, true, false, List, [], ◌∷◌, map, Option, Some, None, refl, sym, ◌∙◌, ap, ap₂, subst, arith, zero-add}
+use Rattle.std.specs.Prelude.{slice_get}
+use Rattle.std.specs.List.{cons_option, enumerate_from}
 use Rattle.std.proofs.lemmas.Bool.{eq-eqb, ne_eqb}
 use Rattle.sync_survey.specs.declared.items.Item.{Item}
 use Rattle.sync_survey.specs.declared.items.Item.TheVariants.{Frame, Block, Zero}
@@ -15,8 +15,9 @@ use Rattle.sync_survey.specs.Items.{size_of}
 use Rattle.sync_survey.specs.Runs.{Placed, AreEndToEnd, frame_as, frames_of}
 use Rattle.sync_survey.specs.Walk.{stream_run, numbered}
 use Rattle.sync_survey.specs.MainData.{row_of, rows_of, is_lost, marked_row, marked}
-use Rattle.sync_survey.proofs.RunsLaws.{cons_list, item_of-is, run-ends}
+use Rattle.sync_survey.proofs.RunsLaws.{item_of-is, run-ends}
 use Rattle.moved_gains.specs.Edited.{is_lost_at}
+use Rattle.moved_gains.specs.Moving.{row_end}
 
 -- ---- frames at rising offsets
 
@@ -33,6 +34,47 @@ pub rising_get : (from : ℕ) (rows : List Row) (i : ℕ) (r : Row) → AreRisin
 rising_get from [] i r rise is = absurd cc
 rising_get from (q ∷ rows) zero r rise is = let same : q ≡ r = cc in subst (λ (x : Row). from ≤ x.offset) same rise.0
 rising_get from (q ∷ rows) (suc i) r rise is = omega (arith, rise.0, rising_get (suc q.offset) rows i r rise.1 is)
+
+-- ---- frames between two offsets
+
+-- these frames, none of which is empty, are in their order between two offsets
+abbrev pub EndBy : ℕ → List Row → ℕ → Type 0
+EndBy from [] to = from ≤ to
+EndBy from (row ∷ rows) to = (from ≤ row.offset) × (row.offset < row_end row) × EndBy (row_end row) rows to
+
+pub end_rises : (from : ℕ) (rows : List Row) (to : ℕ) → EndBy from rows to → from ≤ to
+end_rises from [] to ends = ends
+end_rises from (row ∷ rows) to ends = omega (arith, ends.0, ends.1, end_rises (row_end row) rows to ends.2)
+
+pub end_earlier : (from later : ℕ) (rows : List Row) (to : ℕ) → from ≤ later → EndBy later rows to → EndBy from rows to
+end_earlier from later [] to low ends = omega (arith, low, ends)
+end_earlier from later (row ∷ rows) to low ends = (omega (arith, low, ends.0), ends.1, ends.2)
+
+pub end_later : (from : ℕ) (rows : List Row) (to later : ℕ) → to ≤ later → EndBy from rows to → EndBy from rows later
+end_later from [] to later up ends = omega (arith, ends, up)
+end_later from (row ∷ rows) to later up ends = (ends.0, ends.1, end_later (row_end row) rows to later up ends.2)
+
+end_rising : (from : ℕ) (rows : List Row) (to : ℕ) → EndBy from rows to → AreRising from rows
+end_rising from [] to ends = tt
+end_rising from (row ∷ rows) to ends = (ends.0, rising_less (suc row.offset) (row_end row) rows (omega (arith, ends.1)) (end_rising (row_end row) rows to ends.2))
+
+-- placed frames, marked by their offsets
+abbrev pub rows_by : (ℕ → Bool) → List ℕ → List PlacedFrame → List Row
+rows_by lost file ps = map (λ (p : PlacedFrame). record (row_of file p) { lost = lost p.offset }) ps
+
+module _ (lost : ℕ → Bool) (file : List ℕ) where
+  end_more : (at : ℕ) (item : Item) (frames : List PlacedFrame) (to : ℕ) → 0 < size_of item → EndBy (at + size_of item) (rows_by lost file frames) to → EndBy at (rows_by lost file (cons_option (frame_as at item) frames)) to
+  end_more at (Frame h) frames to some ends = (omega arith, omega (arith, some), ends)
+  end_more at (Block b) frames to some ends = end_earlier at (at + b.length) (rows_by lost file frames) to (omega arith) ends
+  end_more at Zero frames to some ends = end_earlier at (at + 1) (rows_by lost file frames) to (omega arith) ends
+  end_more at _ frames to some ends = end_earlier at (at + 0) (rows_by lost file frames) to (omega arith) ends
+
+  -- the frames of items that follow end to end
+  pub items_end : (part : Part) (from : ℕ) (ps : List Placed) (to : ℕ) → AreEndToEnd part file from ps to → EndBy from (rows_by lost file (frames_of ps)) to
+  items_end part from [] to ends = omega (arith, ends)
+  items_end part from (p ∷ ps) to ends =
+      subst (λ n. EndBy n (rows_by lost file (frames_of (p ∷ ps))) to) ends.0
+      (end_more p.offset p.item (frames_of ps) to (item_of-is part file p.offset p.item ends.1).some (items_end part (p.offset + size_of p.item) ps to ends.2))
 
 -- ---- the lost frame at an offset
 
@@ -87,10 +129,6 @@ marked_get head rows i r is = each_get head rows 0 rows i r is ∙ ap (λ m. Som
 pub lost-at : (head : Option Head) (from : ℕ) (rows : List Row) → AreRising from rows → (i : ℕ) (r : Row) → slice_get rows i ≡ Some r → is_lost_at (marked head rows) r.offset ≡ is_lost head rows i r
 lost-at head from rows rise i r is = lost_get from (marked head rows) i (marked_row head rows i r) (marked_rising head from rows rise) (marked_get head rows i r is)
 
--- the same frames, marked by their offsets
-abbrev pub rows_by : (ℕ → Bool) → List ℕ → List PlacedFrame → List Row
-rows_by lost file ps = map (λ (p : PlacedFrame). record (row_of file p) { lost = lost p.offset }) ps
-
 by_each : (lost : ℕ → Bool) (file : List ℕ) (head : Option Head) (all : List Row) (n : ℕ) (ps : List PlacedFrame)
     → ((i : ℕ) (r : Row) → slice_get (rows_of file ps) i ≡ Some r → lost r.offset ≡ is_lost head all (n + i) r)
     → map (λ (p : ℕ × Row). marked_row head all p.0 p.1) (enumerate_from n (rows_of file ps)) ≡ rows_by lost file ps
@@ -110,20 +148,10 @@ marked-by file head from ps rise =
 
 -- ---- the frames of a walk
 
-rising_more : (file : List ℕ) (at : ℕ) (item : Item) (frames : List PlacedFrame) → 0 < size_of item → AreRising (at + size_of item) (rows_of file frames) → AreRising at (rows_of file (option_to_list (frame_as at item) ++ frames))
-rising_more file at (Frame h) frames some rise = (omega arith, rising_less (suc at) (at + size_of (Frame h)) (rows_of file frames) (omega (arith, some)) rise)
-rising_more file at (Block b) frames some rise = rising_less at (at + b.length) (rows_of file frames) (omega arith) rise
-rising_more file at Zero frames some rise = rising_less at (at + 1) (rows_of file frames) (omega arith) rise
-rising_more file at _ frames some rise = rising_less at (at + 0) (rows_of file frames) (omega arith) rise
+items_rising : (file : List ℕ) (part : Part) (from : ℕ) (ps : List Placed) (to : ℕ) → AreEndToEnd part file from ps to → AreRising from (rows_of file (frames_of ps))
+items_rising file part from ps to ends = end_rising from (rows_of file (frames_of ps)) to (items_end (λ at. false) file part from ps to ends)
 
-pub items_rising : (file : List ℕ) (part : Part) (from : ℕ) (ps : List Placed) (to : ℕ) → AreEndToEnd part file from ps to → AreRising from (rows_of file (frames_of ps))
-items_rising file part from [] to ends = tt
-items_rising file part from (p ∷ ps) to ends =
-    subst (λ n. AreRising n (rows_of file (frames_of (p ∷ ps)))) ends.0
-    (subst (λ l. AreRising p.offset (rows_of file l)) (sym (cons_list (frame_as p.offset p.item) (frames_of ps)))
-    (rising_more file p.offset p.item (frames_of ps) (item_of-is part file p.offset p.item ends.1).some (items_rising file part (p.offset + size_of p.item) ps to ends.2)))
-
-pub numbered_rising : (file : List ℕ) (from : ℕ) (o : Option Head) (ps : List PlacedFrame) → AreRising from (rows_of file ps) → AreRising from (rows_of file (numbered o ps))
+numbered_rising : (file : List ℕ) (from : ℕ) (o : Option Head) (ps : List PlacedFrame) → AreRising from (rows_of file ps) → AreRising from (rows_of file (numbered o ps))
 numbered_rising file from None ps rise = rise
 numbered_rising file from (Some head) [] rise = rise
 numbered_rising file from (Some head) (p ∷ ps) rise = rising_less from (suc p.offset) (rows_of file ps) (omega (arith, rise.0)) rise.1

@@ -1,6 +1,6 @@
 -- Frames that are in another file with moved gains, moved again: what is written of them there is what is written here with all steps together.
-use Rattle.std.proofs.Common.{◌≡◌, ℕ, ◌+◌, ◌-◌, ◌<◌, ◌≤◌, Bool, true, false, cond, List, [], ◌∷◌, ◌++◌, length, take, drop, map, ◌+ℤ◌, refl, sym, ◌∙◌, ap, ap₂, subst, arith, length-drop}
-use Rattle.std.proofs.lemmas.List.{drop-drop, take_all, take_at, drop_at}
+use Rattle.std.proofs.Common.{◌≡◌, ℕ, ◌+◌, ◌-◌, ◌<◌, ◌≤◌, Bool, true, false, cond, List, [], ◌∷◌, ◌++◌, length, take, drop, map, ◌+ℤ◌, refl, sym, ◌∙◌, ap, ap₂, subst, arith}
+use Rattle.std.proofs.lemmas.List.{drop-drop, take_at, drop_at}
 use Rattle.frame_header.specs.Fields.{HeaderFields}
 use Rattle.side_info.specs.declared.side.Side.{Side}
 use Rattle.side_info.specs.Side.{granule_in}
@@ -14,8 +14,10 @@ use Rattle.outside.specs.Pass.{bytes_between}
 use Rattle.moved_gains.specs.Moving.{row_length, row_end, moved_bytes, moved_row_bytes}
 use Rattle.moved_gains.proofs.MovedGains.{sum_of, side_twice, IsShaped-moved}
 use Rattle.moved_gains.proofs.MovedFrame.{whole_class, whole_room}
-use Rattle.moved_gains.proofs.MovingLaws.{moved_from, moved_from-nil, moved_from-cons}
-use Rattle.moved_gains.proofs.WrittenLaws.{EndBy, end_rises, moved_to, between_long, append_three}
+use Rattle.moved_gains.proofs.Rows.{Each}
+use Rattle.moved_gains.proofs.MovingLaws.{moved_to}
+use Rattle.moved_gains.proofs.WrittenLaws.{between_long, append_three}
+use Rattle.moved_gains.proofs.LostOffsets.{EndBy, end_rises}
 use Rattle.moved_gains.proofs.FramesThere.{frame_of, IsFrameOf, AreFramesOf, row_shaped, row_sized}
 
 -- all these steps are those of the one change and of the other together
@@ -41,9 +43,11 @@ abbrev pub stood : (ℕ → ℕ) → (ℕ → Steps) → Row → Row
 stood to steps row = record row { offset = to row.offset; side = moved_unless row.lost (steps row.offset) row.side }
 
 -- for each of these frames all steps are those of the one change at its offset and of the other at its offset there
+abbrev pub IsTogether : (ℕ → Steps) → (ℕ → Steps) → (ℕ → Steps) → (ℕ → ℕ) → Row → Type 0
+IsTogether one two all to row = AreTogether (one row.offset) (two (to row.offset)) (all row.offset)
+
 abbrev pub AllTogether : (ℕ → Steps) → (ℕ → Steps) → (ℕ → Steps) → (ℕ → ℕ) → List Row → Type 0
-AllTogether one two all to [] = Unit {0}
-AllTogether one two all to (row ∷ rows) = AreTogether (one row.offset) (two (to row.offset)) (all row.offset) × AllTogether one two all to rows
+AllTogether one two all to rows = Each (IsTogether one two all to) rows
 
 -- the same steps for every frame
 pub even_together : (one two all : Steps) → AreTogether one two all → (to : ℕ → ℕ) (rows : List Row) → AllTogether (λ at. one) (λ at. two) (λ at. all) to rows
@@ -121,10 +125,3 @@ module _ (one two all : ℕ → Steps) (file new : List ℕ) (to : ℕ → ℕ) 
       ap (λ k. moved_to two new next k (map (stood to one) rows)) (sym total)
       ∙ moved_again (row_end row) end next rows tail sum.1 frames.1 ends.2 within (λ x low high. place x (omega (arith, low, ends.0, ends.1)) high ∙ omega (arith, here, low, ends.0, ends.1)) rest_there in
       ap₂ (λ (a b : List ℕ). a ++ b) first (ap₂ (λ (a b : List ℕ). a ++ b) own_again rest_again)
-
--- the bytes up to the end of the file
-pub moved_whole_to : (steps : ℕ → Steps) (file : List ℕ) (at : ℕ) (rows : List Row) → moved_from steps file at rows ≡ moved_to steps file at (length file) rows
-moved_whole_to steps file at [] = moved_from-nil steps file at ∙ sym (take_all (length file - at) (drop at file) (omega (arith, length-drop at file)))
-moved_whole_to steps file at (row ∷ rows) =
-    moved_from-cons steps file at row rows
-    ∙ ap (λ (l : List ℕ). bytes_between file at row.offset ++ (moved_row_bytes (steps row.offset) file row ++ l)) (moved_whole_to steps file (row_end row) rows)

@@ -101,17 +101,17 @@ whole_room h frame whole =
 
 -- ---- with moved gains
 
--- what it has in common with the frame, its side information, and that its check word is right
-pub record IsMoved (steps : Steps) (h : HeaderFields) (frame new : List ℕ) : Type 0 where
-  pub is : new ≡ frame_with h (moved_side steps (side_in h frame)) frame
+-- what it has in common with the frame, its side information, and that its check word is right, if a lost frame, which stays, has the right one
+pub record IsMoved (lost : Bool) (steps : Steps) (h : HeaderFields) (frame new : List ℕ) : Type 0 where
   pub whole : IsWhole h new
   pub same_end : drop (overhead_of (class_of h) h.protected - 2) new ≡ drop (overhead_of (class_of h) h.protected - 2) frame
   pub same_area : drop (overhead_of (class_of h) h.protected) new ≡ drop (overhead_of (class_of h) h.protected) frame
-  pub side : side_in h new ≡ moved_side steps (side_in h frame)
-  pub right : IsRight h new
+  pub side : side_in h new ≡ moved_unless lost steps (side_in h frame)
+  pub right : (lost ≡ true → IsRight h frame) → IsRight h new
 
-pub moved_whole : (steps : Steps) (h : HeaderFields) (frame : List ℕ) → IsWhole h frame → IsMoved steps h frame (moved_frame steps h frame)
-moved_whole steps h frame whole =
+pub moved_whole : (lost : Bool) (steps : Steps) (h : HeaderFields) (frame : List ℕ) → IsWhole h frame → IsMoved lost steps h frame (moved_unless_lost lost steps h frame)
+moved_whole true steps h frame whole = record { whole = whole; same_end = refl; same_area = refl; side = refl; right = λ was. was refl }
+moved_whole false steps h frame whole =
     let s = moved_side steps (side_in h frame) in
     let class = whole_class h frame whole in
     let room = (whole_room h frame whole).0 in
@@ -119,7 +119,6 @@ moved_whole steps h frame whole =
     let fits = SideFits-moved_side (class_of h) steps (side_in h frame) (fits-side_in h frame class) in
     let side : side_in h (frame_with h s frame) ≡ s = side_in-frame_with h s frame class shaped fits room in
     record {
-      is = refl;
       whole = record {
         header = header_front-four (frame_with h s frame) frame (header-frame_with h s frame room) ∙ whole.header;
         size = length-frame_with h s frame class shaped room ∙ whole.size;
@@ -128,22 +127,8 @@ moved_whole steps h frame whole =
       same_end = last_bytes-moved steps h frame class whole.all room;
       same_area = area-frame_with h s frame class shaped room;
       side = side;
-      right = λ protected. word_said-frame_with h s frame protected room ∙ ap (check_word_of h) (sym side);
+      right = λ was protected. word_said-frame_with h s frame protected room ∙ ap (check_word_of h) (sym side);
     }
-
--- the same of a frame that stays where it is lost: its check word is right where it was
-pub record IsMovedUnless (lost : Bool) (steps : Steps) (h : HeaderFields) (frame new : List ℕ) : Type 0 where
-  pub whole : IsWhole h new
-  pub same_end : drop (overhead_of (class_of h) h.protected - 2) new ≡ drop (overhead_of (class_of h) h.protected - 2) frame
-  pub same_area : drop (overhead_of (class_of h) h.protected) new ≡ drop (overhead_of (class_of h) h.protected) frame
-  pub side : side_in h new ≡ moved_unless lost steps (side_in h frame)
-  pub right : (lost ≡ true → IsRight h frame) → IsRight h new
-
-pub moved_unless-whole : (lost : Bool) (steps : Steps) (h : HeaderFields) (frame : List ℕ) → IsWhole h frame → IsMovedUnless lost steps h frame (moved_unless_lost lost steps h frame)
-moved_unless-whole true steps h frame whole = record { whole = whole; same_end = refl; same_area = refl; side = refl; right = λ was. was refl }
-moved_unless-whole false steps h frame whole =
-    let to = moved_whole steps h frame whole in
-    record { whole = to.whole; same_end = to.same_end; same_area = to.same_area; side = to.side; right = λ was. to.right }
 
 -- it is an item of its own
 pub whole_item : (h : HeaderFields) (frame : List ℕ) → IsWhole h frame → IsItem (Frame h) frame

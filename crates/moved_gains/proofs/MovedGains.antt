@@ -60,11 +60,11 @@ within (pos n) inside = record { gain = n; is = refl; small = omega (arith, ltb-
 within (negsuc n) inside = absurd (false≢true (sym inside))
 
 -- if the first sum is within the range, the second is the sum of all
-gain_then : (a b : ℤ) (gain : ℕ) → is_outside (pos gain +ℤ a) ≡ false → is_outside (pos gain +ℤ (a +ℤ b)) ≡ false → is_outside (pos (moved_gain a gain) +ℤ b) ≡ false
-gain_then a b gain inside all =
+gain_next : (a b : ℤ) (gain : ℕ) → is_outside (pos gain +ℤ a) ≡ false → is_outside (pos (moved_gain a gain) +ℤ b) ≡ is_outside (pos gain +ℤ (a +ℤ b))
+gain_next a b gain inside =
     let sum = within (pos gain +ℤ a) inside in
     let to : pos (moved_gain a gain) ≡ pos gain +ℤ a = ap (λ z. pos (rem z)) sum.is ∙ ap pos (gain_as_is sum.gain sum.small) ∙ sym sum.is in
-    ap (λ z. is_outside (z +ℤ b)) to ∙ ap is_outside (+ℤ_assoc (pos gain) a b) ∙ all
+    ap (λ z. is_outside (z +ℤ b)) to ∙ ap is_outside (+ℤ_assoc (pos gain) a b)
 
 -- ---- one granule
 
@@ -97,16 +97,21 @@ granule_none g small = by_silence (is_silent_granule g) refl
     by_silence true silent = moved-silent (pos 0) g silent
     by_silence false loud = moved-loud (pos 0) g loud ∙ ap (λ n. record g { global_gain = n }) (gain_none g.global_gain small)
 
-granule_then : (a b : ℤ) (g : Granule) → is_stuck a g ≡ false → is_stuck (a +ℤ b) g ≡ false → is_stuck b (moved a g) ≡ false
-granule_then a b g first all = by_silence (is_silent_granule g) refl
+-- after a change by which it doesn't leave the range, a gain leaves it by another exactly if it does by both together
+pub granule_next : (a b all : ℤ) → all ≡ a +ℤ b → (g : Granule) → is_stuck a g ≡ false → is_stuck b (moved a g) ≡ is_stuck all g
+granule_next a b all sum g first = by_silence (is_silent_granule g) refl ∙ ap (λ z. is_stuck z g) (sym sum)
   where
-    by_silence : (silent : Bool) → is_silent_granule g ≡ silent → is_stuck b (moved a g) ≡ false
-    by_silence true silent = ap (is_stuck b) (moved-silent a g silent) ∙ ap (λ s. not s && is_outside (pos g.global_gain +ℤ b)) silent
+    by_silence : (silent : Bool) → is_silent_granule g ≡ silent → is_stuck b (moved a g) ≡ is_stuck (a +ℤ b) g
+    by_silence true silent =
+        ap (is_stuck b) (moved-silent a g silent)
+        ∙ ap (λ s. not s && is_outside (pos g.global_gain +ℤ b)) silent
+        ∙ sym (ap (λ s. not s && is_outside (pos g.global_gain +ℤ (a +ℤ b))) silent)
     by_silence false loud =
         let h : Granule = record g { global_gain = moved_gain a g.global_gain } in
         ap (is_stuck b) (moved-loud a g loud)
         ∙ ap (λ s. not s && is_outside (pos h.global_gain +ℤ b)) loud
-        ∙ gain_then a b g.global_gain (sym (ap (λ s. not s && is_outside (pos g.global_gain +ℤ a)) loud) ∙ first) (sym (ap (λ s. not s && is_outside (pos g.global_gain +ℤ (a +ℤ b))) loud) ∙ all)
+        ∙ gain_next a b g.global_gain (sym (ap (λ s. not s && is_outside (pos g.global_gain +ℤ a)) loud) ∙ first)
+        ∙ sym (ap (λ s. not s && is_outside (pos g.global_gain +ℤ (a +ℤ b))) loud)
 
 moved-payload : (steps : ℤ) (g : Granule) → (moved steps g).part2_3_length ≡ g.part2_3_length
 moved-payload steps g = elim (is_silent_granule g) as (λ b. (cond b g (record g { global_gain = moved_gain steps g.global_gain })).part2_3_length ≡ g.part2_3_length) [ true ↦ refl | false ↦ refl ]
@@ -159,7 +164,7 @@ free_of : (b : Bool) (stuck : Stuck) → cond b (Some stuck) None ≡ None → b
 free_of true stuck e = absurd cc
 free_of false stuck e = refl
 
-pub none_of : (b : Bool) (stuck : Stuck) → b ≡ false → cond b (Some stuck) None ≡ None
+none_of : (b : Bool) (stuck : Stuck) → b ≡ false → cond b (Some stuck) None ≡ None
 none_of b stuck e = ap (λ a. cond a (Some stuck) None) e
 
 record AllNone (a b c d : Option Stuck) : Type 0 where
@@ -174,7 +179,7 @@ all_none None (Some x) c d e = absurd cc
 all_none None None (Some x) d e = absurd cc
 all_none None None None d e = record { first = refl; second = refl; third = refl; fourth = e }
 
-pub none_then : (a b c d : Option Stuck) → a ≡ None → b ≡ None → c ≡ None → d ≡ None → option_or a (option_or b (option_or c d)) ≡ None
+none_then : (a b c d : Option Stuck) → a ≡ None → b ≡ None → c ≡ None → d ≡ None → option_or a (option_or b (option_or c d)) ≡ None
 none_then (Some x) b c d p q r s = absurd cc
 none_then None (Some x) c d p q r s = absurd cc
 none_then None None (Some x) d p q r s = absurd cc
@@ -195,17 +200,20 @@ free-parts steps m p a b g h k l strict free =
     (sym (ap (λ w. cond w None (option_or (stuck_at steps.left s 0 0) (option_or (stuck_at steps.right s 0 1) (option_or (stuck_at steps.left s 1 0) (stuck_at steps.right s 1 1))))) strict) ∙ free) in
     record { first = free_of _ _ nones.first; second = free_of _ _ nones.second; third = free_of _ _ nones.third; fourth = free_of _ _ nones.fourth }
 
-free-whole : (one two : Steps) (m p a b : ℕ) (g h k l : Granule) → AreFree two.left two.right (moved one.left g) (moved one.right h) (moved one.left k) (moved one.right l) → two.wrap ≡ false
-    → stuck_in two (moved_side one (side_with m p a b g h k l)) ≡ None
-unfolding stuck_in moved_side
-free-whole one two m p a b g h k l free strict =
-    let s = moved_side one (side_with m p a b g h k l) in
-    ap (λ w. cond w None (option_or (stuck_at two.left s 0 0) (option_or (stuck_at two.right s 0 1) (option_or (stuck_at two.left s 1 0) (stuck_at two.right s 1 1))))) strict
+pub free-whole : (steps : Steps) (m p a b : ℕ) (g h k l : Granule) → AreFree steps.left steps.right g h k l → steps.wrap ≡ false → stuck_in steps (side_with m p a b g h k l) ≡ None
+unfolding stuck_in
+free-whole steps m p a b g h k l free strict =
+    let s = side_with m p a b g h k l in
+    ap (λ w. cond w None (option_or (stuck_at steps.left s 0 0) (option_or (stuck_at steps.right s 0 1) (option_or (stuck_at steps.left s 1 0) (stuck_at steps.right s 1 1))))) strict
     ∙ none_then _ _ _ _ (none_of _ _ free.first) (none_of _ _ free.second) (none_of _ _ free.third) (none_of _ _ free.fourth)
 
 pub wrapped-free : (steps : Steps) (s : Side) → steps.wrap ≡ true → stuck_in steps s ≡ None
 unfolding stuck_in
 wrapped-free steps s wraps = ap (λ w. cond w None (option_or (stuck_at steps.left s 0 0) (option_or (stuck_at steps.right s 0 1) (option_or (stuck_at steps.left s 1 0) (stuck_at steps.right s 1 1))))) wraps
+
+pub moved_with : (steps : Steps) (m p a b : ℕ) (g h k l : Granule) → moved_side steps (side_with m p a b g h k l) ≡ side_with m p a b (moved steps.left g) (moved steps.right h) (moved steps.left k) (moved steps.right l)
+unfolding moved_side
+moved_with steps m p a b g h k l = refl
 
 abbrev ThenGoal : Steps → Steps → Steps → Side → Type 0
 ThenGoal one two all s = stuck_in one s ≡ None → stuck_in all s ≡ None → stuck_in two (moved_side one s) ≡ None
@@ -215,12 +223,11 @@ then-with : (one two all : Steps) → one.wrap ≡ false → two.wrap ≡ false 
 then-with one two all strict_one strict_two strict_all left right m p a b g h k l first whole =
     let f = free-parts one m p a b g h k l strict_one first in
     let w = free-parts all m p a b g h k l strict_all whole in
-    let on_left : (x : Granule) → is_stuck one.left x ≡ false → is_stuck all.left x ≡ false → is_stuck two.left (moved one.left x) ≡ false =
-    λ x e d. granule_then one.left two.left x e (sym (ap (λ z. is_stuck z x) left) ∙ d) in
-    let on_right : (x : Granule) → is_stuck one.right x ≡ false → is_stuck all.right x ≡ false → is_stuck two.right (moved one.right x) ≡ false =
-    λ x e d. granule_then one.right two.right x e (sym (ap (λ z. is_stuck z x) right) ∙ d) in
-    free-whole one two m p a b g h k l
-    (record { first = on_left g f.first w.first; second = on_right h f.second w.second; third = on_left k f.third w.third; fourth = on_right l f.fourth w.fourth })
+    let on_left = granule_next one.left two.left all.left left in
+    let on_right = granule_next one.right two.right all.right right in
+    ap (stuck_in two) (moved_with one m p a b g h k l)
+    ∙ free-whole two m p a b (moved one.left g) (moved one.right h) (moved one.left k) (moved one.right l)
+    (record { first = on_left g f.first ∙ w.first; second = on_right h f.second ∙ w.second; third = on_left k f.third ∙ w.third; fourth = on_right l f.fourth ∙ w.fourth })
     strict_two
 
 -- if no gain leaves the range by one change nor by both together, none leaves it by the other change after the one; with wrap none ever
@@ -246,33 +253,26 @@ payload-with steps m p a b g h k l =
     let lp = moved-payload steps.right l in
     λ i. 0 + (0 + gp i + hp i) + (0 + kp i + lp i)
 
-pub payload-moved : (steps : Steps) (s : Side) → IsShaped s → payload_bytes (moved_side steps s) ≡ payload_bytes s
-unfolding payload_bytes
-payload-moved steps s shaped = ap (λ n. (n + 7) / 8) (each_shaped (λ t. payload_bits (moved_side steps t) ≡ payload_bits t) (payload-with steps) s shaped)
-
 pub payload_bits-moved : (steps : Steps) (s : Side) → IsShaped s → payload_bits (moved_side steps s) ≡ payload_bits s
 payload_bits-moved steps s shaped = each_shaped (λ t. payload_bits (moved_side steps t) ≡ payload_bits t) (payload-with steps) s shaped
-
-pub begin-moved : (steps : Steps) (s : Side) → (moved_side steps s).main_data_begin ≡ s.main_data_begin
-unfolding moved_side
-begin-moved steps s = refl
 
 pub IsShaped-moved : (steps : Steps) (s : Side) → IsShaped s → IsShaped (moved_side steps s)
 unfolding moved_side
 IsShaped-moved steps s shaped = record { scfsi = shaped.scfsi; granules = refl; first = refl; second = refl }
 
 -- the same where a lost frame stays
-pub payload-unless : (lost : Bool) (steps : Steps) (s : Side) → IsShaped s → payload_bytes (moved_unless lost steps s) ≡ payload_bytes s
-payload-unless true steps s shaped = refl
-payload-unless false steps s shaped = payload-moved steps s shaped
-
 pub payload_bits-unless : (lost : Bool) (steps : Steps) (s : Side) → IsShaped s → payload_bits (moved_unless lost steps s) ≡ payload_bits s
 payload_bits-unless true steps s shaped = refl
 payload_bits-unless false steps s shaped = payload_bits-moved steps s shaped
 
+pub payload-unless : (lost : Bool) (steps : Steps) (s : Side) → IsShaped s → payload_bytes (moved_unless lost steps s) ≡ payload_bytes s
+unfolding payload_bytes
+payload-unless lost steps s shaped = ap (λ n. (n + 7) / 8) (payload_bits-unless lost steps s shaped)
+
 pub begin-unless : (lost : Bool) (steps : Steps) (s : Side) → (moved_unless lost steps s).main_data_begin ≡ s.main_data_begin
+unfolding moved_side
 begin-unless true steps s = refl
-begin-unless false steps s = begin-moved steps s
+begin-unless false steps s = refl
 
 -- the lengths of the main data of each granule and channel that a class has
 abbrev lengths_of : Version → Bool → Side → List ℕ

@@ -36,7 +36,7 @@ use Rattle.moved_gains.specs.Gains.{moved_unless}
 use Rattle.moved_gains.specs.Edited.{moved_unless_lost, edited}
 use Rattle.moved_gains.specs.Streams.{moved_row, moved_head, moved_block, moved_survey}
 use Rattle.moved_gains.proofs.MovedGains.{payload_bits-unless, payload-unless, begin-unless}
-use Rattle.moved_gains.proofs.MovedFrame.{IsWhole, whole_room, IsMovedUnless, moved_unless-whole}
+use Rattle.moved_gains.proofs.MovedFrame.{IsWhole, whole_room, IsMoved, moved_whole}
 use Rattle.moved_gains.proofs.EditedItems.{IsMovedAt, AreMovedAt}
 use Rattle.moved_gains.proofs.LostOffsets.{lost-at, walk_rising}
 use Rattle.moved_gains.proofs.EditedRuns.{gap_of, lost_from, moved_start, new_file, front_low, stream_is, stop_is, front_stop, new-length, new-stream, new-start, new-head, new-frames, new-blocks, frames-moved}
@@ -66,14 +66,9 @@ own-right file p whole word protected =
     ∙ right_by h.protected (word_said bytes) (check_word_of h (side_in h bytes)) word protected
     ∙ ap (check_word_of h) (sym (own-side file p whole))
 
--- the check word of each of these frames is right
-abbrev pub WordsAreRight : List ℕ → List PlacedFrame → Type 0
-WordsAreRight file [] = Unit {0}
-WordsAreRight file (p ∷ ps) = (has_wrong_word (word_said (drop p.offset file)) (row_of file p) ≡ false) × WordsAreRight file ps
-
-pub words_right : (file : List ℕ) (ps : List PlacedFrame) → ((i : ℕ) (r : Row) → slice_get (rows_of file ps) i ≡ Some r → has_wrong_word (word_said (drop r.offset file)) r ≡ false) → WordsAreRight file ps
-words_right file [] each = tt
-words_right file (p ∷ ps) each = (each 0 (row_of file p) refl, words_right file ps (λ i r is. each (suc i) r is))
+-- the check words of these frames are right
+abbrev pub AreRight : List ℕ → List Row → Type 0
+AreRight file rows = (i : ℕ) (r : Row) → slice_get rows i ≡ Some r → has_wrong_word (word_said (drop r.offset file)) r ≡ false
 
 -- ---- a frame that is in another file, with moved gains where it isn't lost
 
@@ -91,8 +86,8 @@ module _ (steps : ℕ → Steps) (lost : ℕ → Bool) (file new : List ℕ) (ga
   abbrev size : ℕ
   size = length_of (class_of p.header) p.header.slot
 
-  pub to : IsMovedUnless (lost p.offset) (steps p.offset) p.header frame new_frame
-  to = moved_unless-whole (lost p.offset) (steps p.offset) p.header frame at.whole
+  pub to : IsMoved (lost p.offset) (steps p.offset) p.header frame new_frame
+  to = moved_whole (lost p.offset) (steps p.offset) p.header frame at.whole
 
   pub frame_there : take size (drop (p.offset - gap) new) ≡ new_frame
   frame_there = ap (take size) at.stands ∙ take_at new_frame at.rest size to.whole.size
@@ -224,19 +219,12 @@ module _ (steps : ℕ → Steps) (lost : ℕ → Bool) (gap : ℕ) (o : Option H
   unfolding marked
   marked-moved agree = marks_moved 0 rows (λ i r is. agree i r is ∙ ap (λ m. is_lost o rows m r) (sym (zero-add i)))
 
--- the check words are right
-abbrev AreRight : List ℕ → List Row → Type 0
-AreRight file [] = Unit {0}
-AreRight file (r ∷ rows) = (has_wrong_word (word_said (drop r.offset file)) r ≡ false) × AreRight file rows
-
-right_get : (file : List ℕ) (rows : List Row) (i : ℕ) (r : Row) → AreRight file rows → slice_get rows i ≡ Some r → has_wrong_word (word_said (drop r.offset file)) r ≡ false
-right_get file [] i r right is = absurd cc
-right_get file (q ∷ rows) zero r right is = let same : q ≡ r = cc in subst (λ x. has_wrong_word (word_said (drop x.offset file)) x ≡ false) same right.0
-right_get file (q ∷ rows) (suc i) r right is = right_get file rows i r right.1 is
-
-rows_right : (steps : ℕ → Steps) (lost : ℕ → Bool) (file new : List ℕ) (gap : ℕ) (ps : List PlacedFrame) → AreMovedAt steps lost file new gap ps → WordsAreRight file ps → AreRight new (map (moved_plain steps lost gap) (rows_of file ps))
-rows_right steps lost file new gap [] at words = tt
-rows_right steps lost file new gap (p ∷ ps) at words = (right_word steps lost file new gap p at.0 words.0, rows_right steps lost file new gap ps at.1 words.1)
+rows_right : (steps : ℕ → Steps) (lost : ℕ → Bool) (file new : List ℕ) (gap : ℕ) (ps : List PlacedFrame) → AreMovedAt steps lost file new gap ps → AreRight file (rows_of file ps) → AreRight new (map (moved_plain steps lost gap) (rows_of file ps))
+rows_right steps lost file new gap [] at right i r is = absurd cc
+rows_right steps lost file new gap (p ∷ ps) at right zero r is =
+    let same : moved_plain steps lost gap (row_of file p) ≡ r = cc in
+    subst (λ x. has_wrong_word (word_said (drop x.offset new)) x ≡ false) same (right_word steps lost file new gap p at.0 (right 0 (row_of file p) refl))
+rows_right steps lost file new gap (p ∷ ps) at right (suc i) r is = rows_right steps lost file new gap ps at.1 (λ i r is. right (suc i) r is) i r is
 
 sound-moved : (steps : ℕ → Steps) (lost : ℕ → Bool) (said new_said : ℕ) (gap : ℕ) (class : ClassFields) (allowed place_now ended count new_place new_ended : ℕ) (r : Row) → new_place ≡ place_now → new_ended ≡ ended → IsShaped r.side
     → has_wrong_word new_said (moved_plain steps lost gap r) ≡ false → IsSound said class allowed place_now ended count r → IsSound new_said class allowed new_place new_ended count (moved_plain steps lost gap r)
@@ -269,7 +257,7 @@ all_sound : (steps : ℕ → Steps) (lost : ℕ → Bool) (file new : List ℕ) 
 all_sound steps lost file new gap o class allowed rows shaped right sound = λ i r is.
     let found = moved_get steps lost gap rows i r is in
     let q = found.0 in
-    let word = right_get new (map (moved_plain steps lost gap) rows) i r right is in
+    let word = right i r is in
     subst (IsSoundAt new (option_map (moved_head gap) o) class allowed (map (moved_plain steps lost gap) rows) i) found.2
     (sound-moved steps lost (word_said (drop q.offset file)) (word_said (drop (q.offset - gap) new)) gap class allowed (place o rows i) (end_before o rows i) i _ _ q (place-moved steps lost gap o rows i)
     (end-moved steps lost gap o rows shaped i) (some_shaped rows i q shaped found.1) (subst (λ x. has_wrong_word (word_said (drop x.offset new)) x ≡ false) (sym found.2) word) (sound i q found.1))
@@ -317,8 +305,8 @@ module _ (steps : ℕ → Steps) (file : List ℕ) (allowed : ℕ) (start : Star
   sound : AreSound file head (class_from start) allowed rows
   sound = all_faults-none_sound file head (class_from start) allowed rows read.frames
 
-  pub words : WordsAreRight file (frames_from file start)
-  words = words_right file (frames_from file start) (λ i r is. (sound i r is).word)
+  pub words : AreRight file rows
+  words i r is = (sound i r is).word
 
   no_faults : all_faults new (head_of new (moved_start start).first) (class_from (moved_start start)) allowed (rows_of new (frames_from new (moved_start start))) ≡ []
   no_faults =

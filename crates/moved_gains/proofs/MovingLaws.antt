@@ -1,7 +1,7 @@
 -- What is written is the edited file.
 use Rattle.std.proofs.Common.{◌≡◌, ℕ, ◌+◌, ◌-◌, ◌≤◌, List, [], ◌∷◌, ◌++◌, length, take, drop, Option, Some, None, Ok, refl, sym, ◌∙◌, ap, ap₂, subst, arith, append_assoc, take-append-drop, append-nil, length-drop, length-append}
 use Rattle.std.specs.Prelude.{option_to_list, Bool, cond}
-use Rattle.std.proofs.lemmas.List.{drop-drop, take_at}
+use Rattle.std.proofs.lemmas.List.{drop-drop, take_at, take_all}
 use Rattle.std.proofs.Math.Seq.{take-add}
 use Rattle.frame_header.specs.Fields.{HeaderFields}
 use Rattle.frame_header.specs.Tables.{class_of, length_of}
@@ -35,21 +35,19 @@ use Rattle.moved_gains.specs.Edited.{moved_unless_lost, moved_item, moved_items,
 use Rattle.outside.specs.Pass.{bytes_between}
 use Rattle.moved_gains.specs.Moving.{row_end, AreRowsOf, moved_row_bytes}
 use Rattle.moved_gains.proofs.EditedItems.{moved-nil, moved-cons}
-use Rattle.moved_gains.proofs.LostOffsets.{rows_by, marked-by, walk_rising}
+use Rattle.moved_gains.proofs.LostOffsets.{EndBy, rows_by, items_end, marked-by, walk_rising}
 
--- the bytes of the file from an offset on, with the gains of these frames moved, which are after it in their order
-unfoldable pub moved_from : (ℕ → Steps) → List ℕ → ℕ → List Row → List ℕ
-moved_from steps file at [] = drop at file
-moved_from steps file at (row ∷ rows) = bytes_between file at row.offset ++ (moved_row_bytes (steps row.offset) file row ++ moved_from steps file (row_end row) rows)
+-- the bytes of the file from one offset up to another, with the gains of these frames moved, which are between the two in their order
+abbrev pub moved_to : (ℕ → Steps) → List ℕ → ℕ → ℕ → List Row → List ℕ
+moved_to steps file at to [] = bytes_between file at to
+moved_to steps file at to (row ∷ rows) = bytes_between file at row.offset ++ (moved_row_bytes (steps row.offset) file row ++ moved_to steps file (row_end row) to rows)
+
+-- those up to the end of the file
+abbrev pub moved_from : (ℕ → Steps) → List ℕ → ℕ → List Row → List ℕ
+moved_from steps file at rows = moved_to steps file at (length file) rows
 
 pub moved_from-nil : (steps : ℕ → Steps) (file : List ℕ) (at : ℕ) → moved_from steps file at [] ≡ drop at file
-unfolding moved_from
-moved_from-nil steps file at = refl
-
-pub moved_from-cons : (steps : ℕ → Steps) (file : List ℕ) (at : ℕ) (row : Row) (rows : List Row)
-    → moved_from steps file at (row ∷ rows) ≡ bytes_between file at row.offset ++ (moved_row_bytes (steps row.offset) file row ++ moved_from steps file (row_end row) rows)
-unfolding moved_from
-moved_from-cons steps file at row rows = refl
+moved_from-nil steps file at = take_all (length file - at) (drop at file) (omega (arith, length-drop at file))
 
 -- the first of these frames is at this offset or after it
 abbrev pub IsBehind : ℕ → List Row → Type 0
@@ -66,11 +64,9 @@ moved_from-later steps file at size [] behind =
 moved_from-later steps file at size (row ∷ rows) behind =
     let rest = moved_row_bytes (steps row.offset) file row ++ moved_from steps file (row_end row) rows in
     let sum : row.offset - at ≡ size + (row.offset - (at + size)) = omega (arith, behind) in
-    moved_from-cons steps file at row rows
-    ∙ ap (λ n. take n (drop at file) ++ rest) sum
+    ap (λ n. take n (drop at file) ++ rest) sum
     ∙ ap (λ (l : List ℕ). l ++ rest) (take-add size (row.offset - (at + size)) (drop at file) ∙ ap (λ (l : List ℕ). take size (drop at file) ++ take (row.offset - (at + size)) l) (drop-drop size at file))
     ∙ append_assoc (take size (drop at file)) (bytes_between file (at + size) row.offset) rest
-    ∙ ap (λ (l : List ℕ). take size (drop at file) ++ l) (sym (moved_from-cons steps file (at + size) row rows))
 
 -- ---- the items one after another
 
@@ -78,19 +74,13 @@ pub behind_earlier : (at later : ℕ) (rows : List Row) → at ≤ later → IsB
 behind_earlier at later [] le behind = tt
 behind_earlier at later (row ∷ rows) le behind = omega (arith, le, behind)
 
-behind_item : (lost : ℕ → Bool) (file : List ℕ) (at : ℕ) (item : Item) (frames : List PlacedFrame) → IsBehind (at + size_of item) (rows_by lost file frames) → IsBehind at (rows_by lost file (option_to_list (frame_as at item) ++ frames))
-behind_item lost file at (Frame h) frames behind = omega arith
-behind_item lost file at (Block b) frames behind = behind_earlier at (at + b.length) (rows_by lost file frames) (omega arith) behind
-behind_item lost file at Zero frames behind = behind_earlier at (at + 1) (rows_by lost file frames) (omega arith) behind
-behind_item lost file at _ frames behind = behind_earlier at (at + 0) (rows_by lost file frames) (omega arith) behind
+pub is_behind : (at : ℕ) (rows : List Row) (to : ℕ) → EndBy at rows to → IsBehind at rows
+is_behind at [] to ends = tt
+is_behind at (row ∷ rows) to ends = ends.0
 
 -- the frames of items that follow end to end
 frames_behind : (lost : ℕ → Bool) (file : List ℕ) (part : Part) (ps : List Placed) (from to : ℕ) → AreEndToEnd part file from ps to → IsBehind from (rows_by lost file (frames_of ps))
-frames_behind lost file part [] from to e = tt
-frames_behind lost file part (p ∷ ps) from to e =
-    subst (λ n. IsBehind n (rows_by lost file (frames_of (p ∷ ps)))) e.0
-    (subst (λ l. IsBehind p.offset (rows_by lost file l)) (sym (cons_list (frame_as p.offset p.item) (frames_of ps)))
-    (behind_item lost file p.offset p.item (frames_of ps) (frames_behind lost file part ps (p.offset + size_of p.item) to e.2)))
+frames_behind lost file part ps from to e = is_behind from (rows_by lost file (frames_of ps)) to (items_end lost file part from ps to e)
 
 abbrev item_bytes : List ℕ → ℕ → Item → List ℕ
 item_bytes file at item = take (size_of item) (drop at file)
@@ -108,8 +98,7 @@ frame_step steps lost part file frames at h here =
     let len = length_of (class_of h) h.slot in
     let room = overhead-within h (header_front-in_range (drop at file) h (stands-at file at (Frame h) here.is)) in
     let none : at - at ≡ 0 = omega arith in
-    moved_from-cons steps file at row (rows_by lost file frames)
-    ∙ ap (λ n. take n (drop at file) ++ (moved_row_bytes (steps row.offset) file row ++ moved_from steps file (row_end row) (rows_by lost file frames))) none
+    ap (λ n. take n (drop at file) ++ (moved_row_bytes (steps row.offset) file row ++ moved_from steps file (row_end row) (rows_by lost file frames))) none
     ∙ ap (λ (s : Side). cond (lost at) (item_bytes file at (Frame h)) (frame_with h (moved_side (steps at) s) (item_bytes file at (Frame h))) ++ moved_from steps file (at + len) (rows_by lost file frames)) (sym (side_in-take h len (drop at file) room))
 
 item_step : (steps : ℕ → Steps) (lost : ℕ → Bool) (part : Part) (file : List ℕ) (frames : List PlacedFrame) (at : ℕ) (item : Item) → IsItemOf part file at item → IsBehind (at + size_of item) (rows_by lost file frames)

@@ -9,13 +9,6 @@ use Rattle.file_tag.proofs.ReadingLaws.{place-some}
 use Rattle.moved_gains.proofs.TagPlaces.{tag_none}
 
 -- the tag, or the place for one, is within the file
-pub tag_at-most : (s : SurveyFields) → IsLaidOut s → tag_at s ≤ longest_file
-tag_at-most s laid = at (tag_block s) refl
-  where
-    at : (o : Option Piece) → tag_block s ≡ o → tag_at s ≤ longest_file
-    at None none = omega (arith, (tag_none s none).0, last-within s laid)
-    at (Some b) some = omega (arith, (place-some s b some).0, tag-within s b laid some, laid.few)
-
 pub tag_end-most : (s : SurveyFields) → IsLaidOut s → tag_at s + tag_length s ≤ longest_file
 tag_end-most s laid = at (tag_block s) refl
   where

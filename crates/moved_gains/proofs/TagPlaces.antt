@@ -42,35 +42,12 @@ use Rattle.moved_gains.specs.Gains.{moved_side}
 use Rattle.moved_gains.specs.Edited.{is_lost_at}
 use Rattle.moved_gains.specs.Moving.{row_end}
 use Rattle.moved_gains.proofs.MovedGains.{IsShaped-moved}
-use Rattle.moved_gains.proofs.LostOffsets.{rows_by, marked-by, walk_rising}
-use Rattle.moved_gains.proofs.WrittenLaws.{EndBy, AreSized, end_rises}
-
--- ---- frames in order
-
-pub end_earlier : (from later : ℕ) (rows : List Row) (to : ℕ) → from ≤ later → EndBy later rows to → EndBy from rows to
-end_earlier from later [] to low ends = omega (arith, low, ends)
-end_earlier from later (row ∷ rows) to low ends = (omega (arith, low, ends.0), ends.1, ends.2)
-
-pub end_later : (from : ℕ) (rows : List Row) (to later : ℕ) → to ≤ later → EndBy from rows to → EndBy from rows later
-end_later from [] to later up ends = omega (arith, ends, up)
-end_later from (row ∷ rows) to later up ends = (ends.0, ends.1, end_later (row_end row) rows to later up ends.2)
+use Rattle.moved_gains.proofs.LostOffsets.{EndBy, end_rises, end_earlier, end_later, rows_by, items_end, marked-by, walk_rising}
+use Rattle.moved_gains.proofs.WrittenLaws.{AreSized}
 
 module _ (lost : ℕ → Bool) (file : List ℕ) where
   abbrev pub by : List PlacedFrame → List Row
   by frames = rows_by lost file frames
-
-  end_more : (part : Part) (at : ℕ) (item : Item) (frames : List PlacedFrame) (to : ℕ) → 0 < size_of item → EndBy (at + size_of item) (by frames) to → EndBy at (by (cons_option (frame_as at item) frames)) to
-  end_more part at (Frame h) frames to some ends = (omega arith, omega (arith, some), ends)
-  end_more part at (Block b) frames to some ends = end_earlier at (at + b.length) (by frames) to (omega arith) ends
-  end_more part at Zero frames to some ends = end_earlier at (at + 1) (by frames) to (omega arith) ends
-  end_more part at _ frames to some ends = end_earlier at (at + 0) (by frames) to (omega arith) ends
-
-  -- the frames of items that follow end to end
-  pub items_end : (part : Part) (from : ℕ) (ps : List Placed) (to : ℕ) → AreEndToEnd part file from ps to → EndBy from (by (frames_of ps)) to
-  items_end part from [] to ends = omega (arith, ends)
-  items_end part from (p ∷ ps) to ends =
-      subst (λ n. EndBy n (by (frames_of (p ∷ ps))) to) ends.0
-      (end_more part p.offset p.item (frames_of ps) to (item_of-is part file p.offset p.item ends.1).some (items_end part (p.offset + size_of p.item) ps to ends.2))
 
   -- ---- a moved frame keeps its length
 
@@ -148,7 +125,7 @@ module _ (lost : ℕ → Bool) (file : List ℕ) where
       let here = item_of-is part file p.offset p.item ends.1 in
       let next = p.offset + size_of p.item in
       subst (λ n. IsCut n (frames_of (p ∷ ps)) b to) ends.0
-      (cut_more part p.offset p.item ps b to here (items_end part next ps to ends.2) (λ found. items_cut part next ps b to ends.2 found) e)
+      (cut_more part p.offset p.item ps b to here (items_end lost file part next ps to ends.2) (λ found. items_cut part next ps b to ends.2 found) e)
 
   -- ---- a block before all frames
 

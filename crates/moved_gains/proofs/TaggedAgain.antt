@@ -1,9 +1,8 @@
 -- A file with moved gains and another tag, changed again: it is the file with all steps together and with the last tag.
-use Rattle.std.proofs.Common.{◌≡◌, ℕ, ◌+◌, ◌-◌, ◌<◌, ◌≤◌, ltb, Bool, true, false, cond, List, [], ◌∷◌, ◌++◌, length, take, drop, map, Some, Ok, refl, sym, ◌∙◌, ap, ap₂, subst, arith, inl, inr, append_assoc, append-nil, length-append, length-drop}
+use Rattle.std.proofs.Common.{◌≡◌, ℕ, ◌+◌, ◌-◌, ◌<◌, ◌≤◌, ltb, Bool, true, false, cond, List, [], ◌∷◌, ◌++◌, length, take, drop, map, Some, Ok, refl, sym, ◌∙◌, ap, ap₂, subst, arith, inl, inr, append_assoc, append-nil, length-drop}
 use Rattle.std.specs.Prelude.{◌⊎◌}
 use Rattle.std.proofs.lemmas.Bool.{lt-ltb, le-ltb}
 use Rattle.std.proofs.lemmas.List.{drop-drop, take_at, drop_at, length-take-le, map-append}
-use Rattle.std.proofs.Math.Seq.{take-add}
 use Rattle.bit_fields.specs.Bits.{AreBytes}
 use Rattle.tag_blocks.specs.declared.block.Kind.TheVariants.{Ape}
 use Rattle.tag_blocks.specs.Blocks.{block_front}
@@ -11,133 +10,23 @@ use Rattle.tag_blocks.proofs.BlocksLaws.{block_front-least}
 use Rattle.sync_survey.specs.Row.{Row}
 use Rattle.sync_survey.specs.Faults.{SurveyFields, surveyed}
 use Rattle.file_tag.specs.Places.{tag_at, tag_length, with_tag, moved_at, moved_row as tagged_row, retagged}
-use Rattle.file_tag.specs.Laws.{own_bytes, HasNewTag}
+use Rattle.file_tag.specs.Laws.{HasNewTag}
 use Rattle.file_tag.proofs.Retagged.{surveyed-retagged}
 use Rattle.file_tag.proofs.NewTag.{tagged-again}
 use Rattle.moved_gains.specs.declared.shift.Steps.{Steps}
 use Rattle.moved_gains.specs.Edited.{edited}
 use Rattle.moved_gains.specs.Streams.{moved_row, junk_length, moved_survey}
 use Rattle.outside.specs.Pass.{bytes_between}
-use Rattle.moved_gains.proofs.MovingLaws.{moved_from, IsBehind, moved_from-later, written-edited, behind_earlier}
-use Rattle.moved_gains.proofs.WrittenLaws.{EndBy, moved_to, AreSized, moved_to-long, moved_split}
+use Rattle.moved_gains.proofs.Rows.{each_before, each_behind}
+use Rattle.moved_gains.proofs.MovingLaws.{moved_to}
+use Rattle.moved_gains.proofs.LostOffsets.{EndBy}
 use Rattle.moved_gains.proofs.TagPlaces.{IsAmong, IsInFront, StandsSomewhere, stands_somewhere}
-use Rattle.moved_gains.proofs.WrittenTag.{length_moved, at_front, at_behind, is_behind, sized_front}
+use Rattle.moved_gains.proofs.WrittenTag.{length_moved, at_front, at_behind, IsParted, parted_front, parted_among}
 use Rattle.moved_gains.proofs.MovedSurvey.{surveyed-edited}
-use Rattle.moved_gains.proofs.FramesThere.{AreFramesOf, frames_there}
-use Rattle.moved_gains.proofs.MovedAgain.{AllTogether, stood, AreMovedBy, ends_again, moved_again, moved_whole_to}
-
--- ---- the edited file is what is before its tag, the tag, and what is after it
-
-pub record IsParted (steps : ℕ → Steps) (file : List ℕ) (s : SurveyFields) (before behind : List ℕ) : Type 0 where
-  pub place : tag_at (moved_survey steps s) ≡ length before
-  pub own : edited steps file s ≡ before ++ (own_bytes file s ++ behind)
-  pub tagged : (bytes : List ℕ) → with_tag bytes (moved_survey steps s) (edited steps file s) ≡ before ++ (bytes ++ behind)
-
-tagged_by : (bytes before own behind moved : List ℕ) (m : SurveyFields) → tag_at m ≡ length before → tag_length m ≡ length own → moved ≡ before ++ (own ++ behind) → with_tag bytes m moved ≡ before ++ (bytes ++ behind)
-unfolding with_tag
-tagged_by bytes before own behind moved m at size is =
-    let front : take (tag_at m) moved ≡ before = ap (take (tag_at m)) is ∙ take_at before (own ++ behind) (tag_at m) (sym at) in
-    let rest : drop (tag_at m + tag_length m) moved ≡ behind =
-    sym (drop-drop (tag_length m) (tag_at m) moved)
-    ∙ ap (λ (l : List ℕ). drop (tag_length m) (drop (tag_at m) l)) is
-    ∙ ap (drop (tag_length m)) (drop_at before (own ++ behind) (tag_at m) (sym at))
-    ∙ drop_at own behind (tag_length m) (sym size) in
-    ap₂ (λ (a b : List ℕ). a ++ (bytes ++ b)) front rest
-
-parted_by : (steps : ℕ → Steps) (file : List ℕ) (s : SurveyFields) (before behind : List ℕ) → tag_at (moved_survey steps s) ≡ length before → length (own_bytes file s) ≡ tag_length s
-    → edited steps file s ≡ before ++ (own_bytes file s ++ behind) → IsParted steps file s before behind
-parted_by steps file s before behind place size own = record {
-  place = place;
-  own = own;
-  tagged = λ bytes. tagged_by bytes before (own_bytes file s) behind (edited steps file s) (moved_survey steps s) place (length_moved steps s ∙ sym size) own;
-}
-
-module _ (steps : ℕ → Steps) (file : List ℕ) (allowed : ℕ) (s : SurveyFields) (is : surveyed file allowed ≡ Ok s) where
-  known : StandsSomewhere steps file s
-  known = stands_somewhere steps file allowed s is
-
-  moved_is : edited steps file s ≡ take s.junk file ++ moved_from steps file s.first s.frames
-  moved_is = sym (written-edited steps file allowed s is)
-
-  -- where the tag is before the frames
-  abbrev pub rest_front : List ℕ
-  rest_front = bytes_between file (tag_at s + tag_length s) s.junk ++ moved_to steps file s.first (length file) s.frames
-
-  pub parted_front : IsInFront s → IsParted steps file s (take (tag_at s) file) rest_front
-  parted_front front =
-      let a = tag_at s in
-      let size = tag_length s in
-      let junk = s.junk in
-      let own = own_bytes file s in
-      let between = bytes_between file (a + size) junk in
-      let all = moved_to steps file s.first (length file) s.frames in
-      let within : junk ≤ length file = omega (arith, known.size, known.junk, known.first) in
-      let sum : junk ≡ (a + size) + (junk - (a + size)) = omega (arith, front.before) in
-      let to_junk : take junk file ≡ take a file ++ (own ++ between) =
-      ap (λ n. take n file) sum
-      ∙ take-add (a + size) (junk - (a + size)) file
-      ∙ ap (λ (l : List ℕ). l ++ between) (take-add a size file)
-      ∙ append_assoc (take a file) own between in
-      let front_long : length (take a file) ≡ a = length-take-le a file (omega (arith, front.before, within)) in
-      let own_long : length own ≡ size = length-take-le size (drop a file) (omega (arith, length-drop a file, front.before, within)) in
-      parted_by steps file s (take a file) rest_front
-      (at_front steps s (omega (arith, front.some, front.before, known.junk)) front.some ∙ sym front_long)
-      own_long
-      (moved_is
-      ∙ ap₂ (λ (l m : List ℕ). l ++ m) to_junk (moved_whole_to steps file s.first s.frames)
-      ∙ append_assoc (take a file) (own ++ between) all
-      ∙ ap (λ (l : List ℕ). take a file ++ l) (append_assoc own between all))
-
-  -- where it is after some frames and before the others
-  module _ (among : IsAmong s) where
-    abbrev pub to_tag : List ℕ
-    to_tag = take s.junk file ++ moved_to steps file s.first (tag_at s) among.before
-
-    abbrev pub from_tag : List ℕ
-    from_tag = moved_to steps file (tag_at s + tag_length s) (length file) among.behind
-
-    pub to_long : length (moved_to steps file s.first (tag_at s) among.before) ≡ tag_at s - s.first
-    to_long =
-        moved_to-long steps file s.first (tag_at s) among.before (sized_front steps file among.before among.behind (subst (AreSized steps file) among.all known.sized)) among.front (omega (arith, known.size, among.up))
-
-    pub parted_among : IsParted steps file s to_tag from_tag
-    parted_among =
-        let a = tag_at s in
-        let size = tag_length s in
-        let junk = s.junk in
-        let own = own_bytes file s in
-        let before = moved_to steps file s.first a among.before in
-        let long : length (take junk file) ≡ junk = length-take-le junk file (omega (arith, known.size, known.junk, known.first)) in
-        let own_long : length own ≡ size = length-take-le size (drop a file) (omega (arith, length-drop a file, known.size, among.up)) in
-        let next : IsBehind (a + size) among.behind = is_behind (a + size) among.behind s.length among.rest in
-        parted_by steps file s to_tag from_tag
-        (at_behind steps s s.length (omega (arith, among.low)) known.ends known.some
-        ∙ omega (arith, length-append (take junk file) before, long, to_long, known.junk, among.low))
-        own_long
-        (moved_is
-        ∙ ap (λ (l : List ℕ). take junk file ++ l)
-        (ap (moved_from steps file s.first) among.all
-        ∙ moved_split steps file s.first a among.before among.behind among.front (behind_earlier a (a + size) among.behind (omega arith) next)
-        ∙ ap (λ (l : List ℕ). before ++ l) (moved_from-later steps file a size among.behind next ∙ ap (λ (l : List ℕ). own ++ l) (moved_whole_to steps file (a + size) among.behind)))
-        ∙ sym (append_assoc (take junk file) before (own ++ from_tag)))
+use Rattle.moved_gains.proofs.FramesThere.{IsFrameOf, AreFramesOf, frames_there}
+use Rattle.moved_gains.proofs.MovedAgain.{IsTogether, AllTogether, stood, AreMovedBy, ends_again, moved_again}
 
 -- ---- changed again
-
-frames_before : (file : List ℕ) (before behind : List Row) → AreFramesOf file (before ++ behind) → AreFramesOf file before
-frames_before file [] behind frames = tt
-frames_before file (row ∷ before) behind frames = (frames.0, frames_before file before behind frames.1)
-
-frames_behind : (file : List ℕ) (before behind : List Row) → AreFramesOf file (before ++ behind) → AreFramesOf file behind
-frames_behind file [] behind frames = frames
-frames_behind file (row ∷ before) behind frames = frames_behind file before behind frames.1
-
-together_before : (one two all : ℕ → Steps) (to : ℕ → ℕ) (before later : List Row) → AllTogether one two all to (before ++ later) → AllTogether one two all to before
-together_before one two all to [] later together = tt
-together_before one two all to (row ∷ before) later together = (together.0, together_before one two all to before later together.1)
-
-together_behind : (one two all : ℕ → Steps) (to : ℕ → ℕ) (before later : List Row) → AllTogether one two all to (before ++ later) → AllTogether one two all to later
-together_behind one two all to [] later together = together
-together_behind one two all to (row ∷ before) later together = together_behind one two all to before later together.1
 
 module _ (one : ℕ → Steps) (file : List ℕ) (allowed : ℕ) (s : SurveyFields) (are : AreBytes file) (is : surveyed file allowed ≡ Ok s) (block : List ℕ) (front : block_front block ≡ Some (record { kind = Ape; length = length block })) where
   abbrev m : SurveyFields
@@ -216,7 +105,7 @@ module _ (one : ℕ → Steps) (file : List ℕ) (allowed : ℕ) (s : SurveyFiel
   old_size = length_moved one s
 
   here : StandsSomewhere one file s
-  here = known one file allowed s is
+  here = stands_somewhere one file allowed s is
 
   frames : AreFramesOf file s.frames
   frames = frames_there file allowed s are is
@@ -225,7 +114,7 @@ module _ (one : ℕ → Steps) (file : List ℕ) (allowed : ℕ) (s : SurveyFiel
   new_size = has_block.size
 
   whole : length new ≡ new_survey.length
-  whole = (known one new allowed new_survey new_is).size
+  whole = (stands_somewhere one new allowed new_survey new_is).size
 
   -- where the tag is after some frames and before the others, so is the new one
   module _ (at : IsAmong s) where
@@ -279,7 +168,7 @@ module _ (one : ℕ → Steps) (file : List ℕ) (allowed : ℕ) (s : SurveyFiel
     n = new_survey
 
     there : StandsSomewhere two new n
-    there = known two new allowed n new_is
+    there = stands_somewhere two new allowed n new_is
 
     -- the tag is before the frames
     front_again : IsInFront s → (bytes : List ℕ) → with_tag bytes (moved_survey two n) (edited two new n) ≡ with_tag bytes (moved_survey all s) (edited all file s)
@@ -366,7 +255,7 @@ module _ (one : ℕ → Steps) (file : List ℕ) (allowed : ℕ) (s : SurveyFiel
       before_again : moved_to two new n.first (tag_at n) (map (stood to one) at.before) ≡ moved_to all file s.first a at.before
       before_again =
           ap (λ k. moved_to two new n.first k (map (stood to one) at.before)) (sym (to_place at))
-          ∙ moved_again one two all file new to s.first a n.first at.before (block ++ behind) (together_before one two all to at.before at.behind sum_both) (frames_before file at.before at.behind both) at.front (omega (arith, up)) (by_before at) before_stands
+          ∙ moved_again one two all file new to s.first a n.first at.before (block ++ behind) (each_before (IsTogether one two all to) at.before at.behind sum_both) (each_before (IsFrameOf file) at.before at.behind both) at.front (omega (arith, up)) (by_before at) before_stands
 
       front_long : length (junk ++ before) ≡ tag_at n
       front_long = sym (has_block.place ∙ parted.place)
@@ -383,7 +272,7 @@ module _ (one : ℕ → Steps) (file : List ℕ) (allowed : ℕ) (s : SurveyFiel
       behind_again : moved_to two new after (length new) (map (stood to one) at.behind) ≡ moved_to all file (a + old) (length file) at.behind
       behind_again =
           ap (λ k. moved_to two new after k (map (stood to one) at.behind)) (sym (to_end at))
-          ∙ moved_again one two all file new to (a + old) (length file) after at.behind [] (together_behind one two all to at.before at.behind sum_both) (frames_behind file at.before at.behind both) (rest_file at) (omega arith) (by_behind at) behind_stands
+          ∙ moved_again one two all file new to (a + old) (length file) after at.behind [] (each_behind (IsTogether one two all to) at.before at.behind sum_both) (each_behind (IsFrameOf file) at.before at.behind both) (rest_file at) (omega arith) (by_behind at) behind_stands
 
       among_again : (bytes : List ℕ) → with_tag bytes (moved_survey two n) (edited two new n) ≡ with_tag bytes (moved_survey all s) (edited all file s)
       among_again bytes =

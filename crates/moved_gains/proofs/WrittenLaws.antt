@@ -1,13 +1,15 @@
 -- What is written, with the new tag in its place, is the changed file.
 use Rattle.std.proofs.Common.{◌≡◌, ℕ, ◌+◌, ◌-◌, ◌<◌, ◌≤◌, leb, Bool, true, false, cond, ◌&&◌, List, [], ◌∷◌, ◌++◌, length, drop, Option, Some, None, refl, sym, ◌∙◌, ap, ap₂, subst, arith, append_assoc, length-append, length-drop}
 use Rattle.std.proofs.lemmas.Bool.{le-leb, lt-leb}
-use Rattle.std.proofs.lemmas.List.{take_all, length-take-le}
+use Rattle.std.proofs.lemmas.List.{length-take-le}
 use Rattle.sync_survey.specs.Row.{Row}
 use Rattle.moved_gains.specs.declared.moving.NewTag.{NewTag}
 use Rattle.moved_gains.specs.declared.shift.Steps.{Steps}
 use Rattle.outside.specs.Pass.{bytes_between}
 use Rattle.moved_gains.specs.Moving.{row_length, row_end, moved_row_bytes, copied, written_from}
-use Rattle.moved_gains.proofs.MovingLaws.{moved_from, moved_from-nil, moved_from-cons, IsBehind, moved_from-later}
+use Rattle.moved_gains.proofs.Rows.{Each}
+use Rattle.moved_gains.proofs.LostOffsets.{EndBy, end_rises}
+use Rattle.moved_gains.proofs.MovingLaws.{moved_to, moved_from, IsBehind, moved_from-later}
 
 -- ---- one frame more
 
@@ -31,36 +33,20 @@ left_behind steps tag file at size rows none is = ap (written_from steps tag fil
 
 -- ---- without a new tag
 
-rest-is : (file : List ℕ) (at : ℕ) → bytes_between file at (length file) ≡ drop at file
-rest-is file at = take_all (length file - at) (drop at file) (omega (arith, length-drop at file))
-
 pub written-none : (steps : ℕ → Steps) (file : List ℕ) (at : ℕ) (rows : List Row) → written_from steps None file at rows ≡ moved_from steps file at rows
-written-none steps file at [] = written-nil steps None file at ∙ rest-is file at ∙ sym (moved_from-nil steps file at)
+written-none steps file at [] = written-nil steps None file at
 written-none steps file at (row ∷ rows) =
     written-cons steps None file at row rows
     ∙ ap (λ (l : List ℕ). bytes_between file at row.offset ++ (moved_row_bytes (steps row.offset) file row ++ l)) (written-none steps file (row_end row) rows)
-    ∙ sym (moved_from-cons steps file at row rows)
 
 -- ---- frames before the tag, and frames after it
 
--- these frames, none of which is empty, are in their order between two offsets
-abbrev pub EndBy : ℕ → List Row → ℕ → Type 0
-EndBy from [] to = from ≤ to
-EndBy from (row ∷ rows) to = (from ≤ row.offset) × (row.offset < row_end row) × EndBy (row_end row) rows to
-
-pub end_rises : (from : ℕ) (rows : List Row) (to : ℕ) → EndBy from rows to → from ≤ to
-end_rises from [] to ends = ends
-end_rises from (row ∷ rows) to ends = omega (arith, ends.0, ends.1, end_rises (row_end row) rows to ends.2)
-
--- the bytes up to an offset, with the gains of these frames moved
-abbrev pub moved_to : (ℕ → Steps) → List ℕ → ℕ → ℕ → List Row → List ℕ
-moved_to steps file at to [] = bytes_between file at to
-moved_to steps file at to (row ∷ rows) = bytes_between file at row.offset ++ (moved_row_bytes (steps row.offset) file row ++ moved_to steps file (row_end row) to rows)
-
 -- the length of each frame stays
+abbrev pub IsSized : (ℕ → Steps) → List ℕ → Row → Type 0
+IsSized steps file row = length (moved_row_bytes (steps row.offset) file row) ≡ row_length row
+
 abbrev pub AreSized : (ℕ → Steps) → List ℕ → List Row → Type 0
-AreSized steps file [] = Unit {0}
-AreSized steps file (row ∷ rows) = (length (moved_row_bytes (steps row.offset) file row) ≡ row_length row) × AreSized steps file rows
+AreSized steps file rows = Each (IsSized steps file) rows
 
 pub between_long : (file : List ℕ) (from to : ℕ) → from ≤ to → to ≤ length file → length (bytes_between file from to) ≡ to - from
 between_long file from to up within = length-take-le (to - from) (drop from file) (omega (arith, length-drop from file, up, within))
@@ -92,8 +78,7 @@ moved_split steps file at to [] behind ends next =
     moved_from-later steps file at (to - at) behind (subst (λ n. IsBehind n behind) (sym sum) next)
     ∙ ap (λ n. bytes_between file at to ++ moved_from steps file n behind) sum
 moved_split steps file at to (row ∷ before) behind ends next =
-    moved_from-cons steps file at row (before ++ behind)
-    ∙ ap (λ (l : List ℕ). bytes_between file at row.offset ++ (moved_row_bytes (steps row.offset) file row ++ l)) (moved_split steps file (row_end row) to before behind ends.2 next)
+    ap (λ (l : List ℕ). bytes_between file at row.offset ++ (moved_row_bytes (steps row.offset) file row ++ l)) (moved_split steps file (row_end row) to before behind ends.2 next)
     ∙ sym (append_three (bytes_between file at row.offset) (moved_row_bytes (steps row.offset) file row) (moved_to steps file (row_end row) to before) (moved_from steps file to behind))
 
 -- ---- with a new tag
@@ -124,11 +109,10 @@ module _ (steps : ℕ → Steps) (file : List ℕ) (tag : NewTag) where
 
   -- all frames are after the tag
   pub written-behind : (at : ℕ) (rows : List Row) (to : ℕ) → tag.at < at → EndBy at rows to → written_from steps (Some tag) file at rows ≡ moved_from steps file at rows
-  written-behind at [] to past ends = written-nil steps (Some tag) file at ∙ behind_tag at (length file) past ∙ rest-is file at ∙ sym (moved_from-nil steps file at)
+  written-behind at [] to past ends = written-nil steps (Some tag) file at ∙ behind_tag at (length file) past
   written-behind at (row ∷ rows) to past ends =
       written-cons steps (Some tag) file at row rows
       ∙ ap₂ (λ (a b : List ℕ). a ++ (moved_row_bytes (steps row.offset) file row ++ b)) (behind_tag at row.offset past) (written-behind (row_end row) rows to (omega (arith, past, ends.0, ends.1)) ends.2)
-      ∙ sym (moved_from-cons steps file at row rows)
 
   -- the tag is before these frames, or at the end
   written-next : (at : ℕ) (behind : List Row) (to : ℕ) → at ≤ tag.at → tag.at ≤ tag.end → tag.end ≤ length file → EndBy tag.end behind to
@@ -136,13 +120,11 @@ module _ (steps : ℕ → Steps) (file : List ℕ) (tag : NewTag) where
   written-next at [] to low up within ends =
       written-nil steps (Some tag) file at
       ∙ around_tag at (length file) low up within
-      ∙ ap (λ (l : List ℕ). bytes_between file at tag.at ++ (new ++ l)) (rest-is file tag.end ∙ sym (moved_from-nil steps file tag.end))
   written-next at (row ∷ behind) to low up within ends =
       let rest = moved_row_bytes (steps row.offset) file row ++ moved_from steps file (row_end row) behind in
       written-cons steps (Some tag) file at row behind
       ∙ ap₂ (λ (a b : List ℕ). a ++ (moved_row_bytes (steps row.offset) file row ++ b)) (around_tag at row.offset low up ends.0) (written-behind (row_end row) behind to (omega (arith, up, ends.0, ends.1)) ends.2)
       ∙ append_three (bytes_between file at tag.at) new (bytes_between file tag.end row.offset) rest
-      ∙ ap (λ (l : List ℕ). bytes_between file at tag.at ++ (new ++ l)) (sym (moved_from-cons steps file tag.end row behind))
 
   -- it is after some frames, and before the others
   pub written-split : (at : ℕ) (before behind : List Row) (to : ℕ) → EndBy at before tag.at → tag.at ≤ tag.end → tag.end ≤ length file → EndBy tag.end behind to

@@ -3,11 +3,13 @@ use Rattle.std.proofs.Common.{◌≡◌, ℕ, ◌+◌, ◌-◌, ◌<◌, ◌≤�
 use Rattle.std.specs.Prelude.{◌⊎◌}
 use Rattle.std.specs.List.{find}
 use Rattle.std.proofs.lemmas.Bool.{lt-ltb, le-ltb}
-use Rattle.std.proofs.lemmas.List.{drop-drop, take_at, drop_at, take-take, drop-take, take-append-le, drop-append-le, length-take-le}
+use Rattle.std.proofs.lemmas.List.{drop-drop, take_at, drop_at, length-take-le}
+use Rattle.std.proofs.Math.Seq.{take-add}
 use Rattle.sync_survey.specs.declared.places.Piece.{Piece}
 use Rattle.sync_survey.specs.Row.{Row}
 use Rattle.sync_survey.specs.Faults.{SurveyFields, surveyed}
 use Rattle.file_tag.specs.Places.{is_tag, tag_block, tag_at, tag_length, last_end, with_tag}
+use Rattle.file_tag.specs.Laws.{own_bytes}
 use Rattle.file_tag.proofs.FoundTag.{last_more}
 use Rattle.file_tag.proofs.ReadingLaws.{place-some}
 use Rattle.file_tag.proofs.TaggedBytes.{with_tag-is}
@@ -18,8 +20,10 @@ use Rattle.moved_gains.specs.Streams.{moved_row, moved_block, junk_length, moved
 use Rattle.moved_gains.specs.Change.{Change, retag, changed}
 use Rattle.outside.specs.Pass.{bytes_between}
 use Rattle.moved_gains.specs.Moving.{row_end, copied, written_from, IsTagOf, IsNewTag}
-use Rattle.moved_gains.proofs.MovingLaws.{moved_from, IsBehind, moved_from-later, written-edited, behind_earlier}
-use Rattle.moved_gains.proofs.WrittenLaws.{written-none, EndBy, moved_to, AreSized, moved_to-long, moved_split, append_three, before_tag, around_tag, written-behind, written-split}
+use Rattle.moved_gains.proofs.Rows.{each_before}
+use Rattle.moved_gains.proofs.MovingLaws.{moved_to, moved_from, IsBehind, moved_from-later, is_behind, written-edited, behind_earlier}
+use Rattle.moved_gains.proofs.WrittenLaws.{written-none, IsSized, AreSized, moved_to-long, moved_split, append_three, before_tag, around_tag, written-behind, written-split}
+use Rattle.moved_gains.proofs.LostOffsets.{EndBy}
 use Rattle.moved_gains.proofs.TagPlaces.{tag_none, IsAmong, IsInFront, StandsSomewhere, stands_somewhere}
 
 -- ---- the tag of the edited file
@@ -105,88 +109,89 @@ module _ (steps : ℕ → Steps) (s : SurveyFields) where
           ∙ ap (λ c. (cond c b (record b { offset = b.offset - gap })).offset) high
           ∙ ap (λ n. n - gap) (sym place)
 
--- ---- the bytes
+-- ---- the edited file is what is before its tag, the tag, and what is after it
 
-pub is_behind : (at : ℕ) (rows : List Row) (to : ℕ) → EndBy at rows to → IsBehind at rows
-is_behind at [] to ends = tt
-is_behind at (row ∷ rows) to ends = ends.0
+pub record IsParted (steps : ℕ → Steps) (file : List ℕ) (s : SurveyFields) (before behind : List ℕ) : Type 0 where
+  pub place : tag_at (moved_survey steps s) ≡ length before
+  pub own : edited steps file s ≡ before ++ (own_bytes file s ++ behind)
+  pub tagged : (bytes : List ℕ) → with_tag bytes (moved_survey steps s) (edited steps file s) ≡ before ++ (bytes ++ behind)
 
-pub sized_front : (steps : ℕ → Steps) (file : List ℕ) (before behind : List Row) → AreSized steps file (before ++ behind) → AreSized steps file before
-sized_front steps file [] behind sized = tt
-sized_front steps file (row ∷ before) behind sized = (sized.0, sized_front steps file before behind sized.1)
+parted_by : (steps : ℕ → Steps) (file : List ℕ) (s : SurveyFields) (before behind : List ℕ) → tag_at (moved_survey steps s) ≡ length before → length (own_bytes file s) ≡ tag_length s
+    → edited steps file s ≡ before ++ (own_bytes file s ++ behind) → IsParted steps file s before behind
+parted_by steps file s before behind place size own =
+    let m = moved_survey steps s in
+    let moved = edited steps file s in
+    let front : take (tag_at m) moved ≡ before = ap (take (tag_at m)) own ∙ take_at before (own_bytes file s ++ behind) (tag_at m) (sym place) in
+    let rest : drop (tag_at m + tag_length m) moved ≡ behind =
+    sym (drop-drop (tag_length m) (tag_at m) moved)
+    ∙ ap (λ (l : List ℕ). drop (tag_length m) (drop (tag_at m) l)) own
+    ∙ ap (drop (tag_length m)) (drop_at before (own_bytes file s ++ behind) (tag_at m) (sym place))
+    ∙ drop_at (own_bytes file s) behind (tag_length m) (size ∙ sym (length_moved steps s)) in
+    record {
+      place = place;
+      own = own;
+      tagged = λ bytes. with_tag-is bytes m moved ∙ ap₂ (λ (a b : List ℕ). a ++ (bytes ++ b)) front rest;
+    }
 
-module _ (steps : ℕ → Steps) (file : List ℕ) (allowed : ℕ) (s : SurveyFields) (is : surveyed file allowed ≡ Ok s) (bytes : List ℕ) where
-  abbrev m2 : SurveyFields
-  m2 = moved_survey steps s
-
-  abbrev moved : List ℕ
-  moved = edited steps file s
-
-  abbrev a : ℕ
-  a = tag_at s
-
-  abbrev size : ℕ
-  size = tag_length s
-
+module _ (steps : ℕ → Steps) (file : List ℕ) (allowed : ℕ) (s : SurveyFields) (is : surveyed file allowed ≡ Ok s) where
   known : StandsSomewhere steps file s
   known = stands_somewhere steps file allowed s is
 
-  moved_is : moved ≡ take s.junk file ++ moved_from steps file s.first s.frames
+  moved_is : edited steps file s ≡ take s.junk file ++ moved_from steps file s.first s.frames
   moved_is = sym (written-edited steps file allowed s is)
 
-  goal_from : (place : ℕ) → tag_at m2 ≡ place → take place moved ++ (bytes ++ drop (place + size) moved) ≡ with_tag bytes m2 moved
-  goal_from place at =
-      ap₂ (λ n k. take n moved ++ (bytes ++ drop (n + k) moved)) (sym at) (sym (length_moved steps s))
-      ∙ sym (with_tag-is bytes m2 moved)
-
   -- the tag is before the junk
-  pub front_whole : IsInFront s → take a file ++ (bytes ++ (bytes_between file (a + size) s.junk ++ moved_from steps file s.first s.frames)) ≡ with_tag bytes m2 moved
-  front_whole front =
+  pub parted_front : IsInFront s → IsParted steps file s (take (tag_at s) file) (bytes_between file (tag_at s + tag_length s) s.junk ++ moved_from steps file s.first s.frames)
+  parted_front front =
+      let a = tag_at s in
+      let size = tag_length s in
       let junk = s.junk in
-      let rest = moved_from steps file s.first s.frames in
+      let own = own_bytes file s in
+      let between = bytes_between file (a + size) junk in
+      let all = moved_from steps file s.first s.frames in
       let within : junk ≤ length file = omega (arith, known.size, known.junk, known.first) in
-      let long : length (take junk file) ≡ junk = length-take-le junk file within in
-      let high : a + size ≤ junk = front.before in
-      let taken : take a moved ≡ take a file =
-      ap (take a) moved_is ∙ take-append-le a (take junk file) rest (omega (arith, long, high)) ∙ take-take a junk file (omega (arith, high)) in
-      let sum : junk ≡ (a + size) + (junk - (a + size)) = omega (arith, high) in
-      let dropped : drop (a + size) moved ≡ bytes_between file (a + size) junk ++ rest =
-      ap (drop (a + size)) moved_is
-      ∙ drop-append-le (a + size) (take junk file) rest (omega (arith, long, high))
-      ∙ ap (λ (l : List ℕ). l ++ rest) (ap (λ n. drop (a + size) (take n file)) sum ∙ drop-take (a + size) (junk - (a + size)) file) in
-      ap₂ (λ (l r : List ℕ). l ++ (bytes ++ r)) (sym taken) (sym dropped)
-      ∙ goal_from a (at_front steps s (omega (arith, front.some, high, known.junk)) front.some)
+      let sum : junk ≡ (a + size) + (junk - (a + size)) = omega (arith, front.before) in
+      let to_junk : take junk file ≡ take a file ++ (own ++ between) =
+      ap (λ n. take n file) sum
+      ∙ take-add (a + size) (junk - (a + size)) file
+      ∙ ap (λ (l : List ℕ). l ++ between) (take-add a size file)
+      ∙ append_assoc (take a file) own between in
+      let front_long : length (take a file) ≡ a = length-take-le a file (omega (arith, front.before, within)) in
+      let own_long : length own ≡ size = length-take-le size (drop a file) (omega (arith, length-drop a file, front.before, within)) in
+      parted_by steps file s (take a file) (between ++ all)
+      (at_front steps s (omega (arith, front.some, front.before, known.junk)) front.some ∙ sym front_long)
+      own_long
+      (moved_is
+      ∙ ap (λ (l : List ℕ). l ++ all) to_junk
+      ∙ append_assoc (take a file) (own ++ between) all
+      ∙ ap (λ (l : List ℕ). take a file ++ l) (append_assoc own between all))
 
   -- it is among the frames, or after them
-  pub among_whole : (among : IsAmong s) → (take s.junk file ++ moved_to steps file s.first a among.before) ++ (bytes ++ moved_from steps file (a + size) among.behind) ≡ with_tag bytes m2 moved
-  among_whole among =
+  pub parted_among : (among : IsAmong s) → IsParted steps file s (take s.junk file ++ moved_to steps file s.first (tag_at s) among.before) (moved_from steps file (tag_at s + tag_length s) among.behind)
+  parted_among among =
+      let a = tag_at s in
+      let size = tag_length s in
       let junk = s.junk in
-      let within : junk ≤ length file = omega (arith, known.size, known.junk, known.first) in
-      let long : length (take junk file) ≡ junk = length-take-le junk file within in
-      let up : a + size ≤ length file = omega (arith, known.size, among.up) in
+      let own = own_bytes file s in
       let before = moved_to steps file s.first a among.before in
-      let own = take size (drop a file) in
       let rest = moved_from steps file (a + size) among.behind in
-      let front = take junk file ++ before in
-      let behind_rest : IsBehind (a + size) among.behind = is_behind (a + size) among.behind s.length among.rest in
-      let before_long : length before ≡ a - s.first = moved_to-long steps file s.first a among.before (sized_front steps file among.before among.behind (subst (AreSized steps file) among.all known.sized)) among.front (omega (arith, up)) in
+      let up : a + size ≤ length file = omega (arith, known.size, among.up) in
+      let long : length (take junk file) ≡ junk = length-take-le junk file (omega (arith, known.size, known.junk, known.first)) in
+      let before_long : length before ≡ a - s.first = moved_to-long steps file s.first a among.before (each_before (IsSized steps file) among.before among.behind (subst (AreSized steps file) among.all known.sized)) among.front (omega (arith, up)) in
       let own_long : length own ≡ size = length-take-le size (drop a file) (omega (arith, length-drop a file, up)) in
-      let all : moved ≡ front ++ (own ++ rest) =
-      moved_is
+      let next : IsBehind (a + size) among.behind = is_behind (a + size) among.behind s.length among.rest in
+      parted_by steps file s (take junk file ++ before) rest
+      (at_behind steps s s.length (omega (arith, among.low)) known.ends known.some
+      ∙ omega (arith, length-append (take junk file) before, long, before_long, known.junk, among.low))
+      own_long
+      (moved_is
       ∙ ap (λ (l : List ℕ). take junk file ++ l)
       (ap (moved_from steps file s.first) among.all
-      ∙ moved_split steps file s.first a among.before among.behind among.front (behind_earlier a (a + size) among.behind (omega arith) behind_rest)
-      ∙ ap (λ (l : List ℕ). before ++ l) (moved_from-later steps file a size among.behind behind_rest))
-      ∙ sym (append_assoc (take junk file) before (own ++ rest)) in
-      let place : length front ≡ a - junk_length s = omega (arith, length-append (take junk file) before, long, before_long, known.junk, among.low) in
-      let taken : take (a - junk_length s) moved ≡ front = ap (take (a - junk_length s)) all ∙ take_at front (own ++ rest) (a - junk_length s) place in
-      let dropped : drop (a - junk_length s + size) moved ≡ rest =
-      sym (drop-drop size (a - junk_length s) moved)
-      ∙ ap (λ (l : List ℕ). drop size (drop (a - junk_length s) l)) all
-      ∙ ap (drop size) (drop_at front (own ++ rest) (a - junk_length s) place)
-      ∙ drop_at own rest size own_long in
-      ap₂ (λ (l r : List ℕ). l ++ (bytes ++ r)) (sym taken) (sym dropped)
-      ∙ goal_from (a - junk_length s) (at_behind steps s s.length (omega (arith, among.low)) known.ends known.some)
+      ∙ moved_split steps file s.first a among.before among.behind among.front (behind_earlier a (a + size) among.behind (omega arith) next)
+      ∙ ap (λ (l : List ℕ). before ++ l) (moved_from-later steps file a size among.behind next))
+      ∙ sym (append_assoc (take junk file) before (own ++ rest)))
+
+-- ---- what is written
 
 module _ (steps : ℕ → Steps) (file : List ℕ) (allowed : ℕ) (s : SurveyFields) (is : surveyed file allowed ≡ Ok s) (tag : NewTag) (bytes : List ℕ) (new : IsTagOf s (Some bytes) (Some tag)) where
   abbrev at_tag : ℕ
@@ -214,7 +219,7 @@ module _ (steps : ℕ → Steps) (file : List ℕ) (allowed : ℕ) (s : SurveyFi
       ∙ ap₂ (λ n (l : List ℕ). take n file ++ (l ++ between)) none new.2)
       (written-behind steps file tag s.first s.frames s.length (omega (arith, new.0, front.some, high, there.junk)) there.ends)
       ∙ append_three (take at_tag file) bytes between rest
-      ∙ front_whole steps file allowed s is bytes front
+      ∙ sym ((parted_front steps file allowed s is front).tagged bytes)
 
   among_case : IsAmong s → copied (Some tag) file 0 s.junk ++ written_from steps (Some tag) file s.first s.frames ≡ with_new
   among_case among =
@@ -229,7 +234,7 @@ module _ (steps : ℕ → Steps) (file : List ℕ) (allowed : ℕ) (s : SurveyFi
       ∙ ap₂ (λ n k. moved_to steps file s.first n among.before ++ (tag.bytes.now ++ moved_from steps file k among.behind)) new.0 new.1
       ∙ ap (λ (l : List ℕ). before ++ (l ++ rest)) new.2)
       ∙ sym (append_assoc (take s.junk file) before (bytes ++ rest))
-      ∙ among_whole steps file allowed s is bytes among
+      ∙ sym ((parted_among steps file allowed s is among).tagged bytes)
 
   tag_case : copied (Some tag) file 0 s.junk ++ written_from steps (Some tag) file s.first s.frames ≡ with_new
   tag_case = at there.place
