@@ -1,21 +1,20 @@
 -- What is in a damaged file, thing by thing.
-use Rattle.std.proofs.Common.{◌≡◌, ℕ, zero, suc, ◌+◌, ◌-◌, ◌<◌, ◌≤◌, ◌==◌, Bool, true, false, cond, ltb, List, [], ◌∷◌, ◌++◌, length, take, drop, Option, Some, None, refl, sym, ◌∙◌, ap, subst, arith, length-drop}
+use Rattle.std.proofs.Common.{◌≡◌, ℕ, zero, suc, ◌+◌, ◌-◌, ◌<◌, ◌≤◌, Bool, true, false, cond, ltb, List, [], ◌∷◌, ◌++◌, length, drop, Option, Some, None, refl, sym, ◌∙◌, ap, subst, arith}
 use Rattle.std.specs.Prelude.{option_to_list}
 use Rattle.std.specs.List.{prefix_len}
-use Rattle.std.proofs.lemmas.Bool.{eqb-true, lt-ltb, le-ltb, ltb-true}
-use Rattle.std.proofs.lemmas.List.{drop-drop, take-append-drop}
+use Rattle.std.proofs.lemmas.Bool.{lt-ltb, le-ltb, ltb-true}
 use Rattle.frame_header.specs.Fields.{ClassFields}
 use Rattle.sync_survey.specs.declared.items.Item.{Item}
-use Rattle.sync_survey.specs.declared.items.Item.TheVariants.{Frame, Free, Block, Zero, End, Nothing}
+use Rattle.sync_survey.specs.declared.items.Item.TheVariants.{Frame, Zero}
 use Rattle.sync_survey.specs.declared.places.PlacedFrame.{PlacedFrame}
 use Rattle.sync_survey.specs.declared.rows.Before.{Before}
 use Rattle.sync_survey.specs.declared.runs.Part.TheVariants.{Stream}
 use Rattle.sync_survey.specs.Items.{size_of}
 use Rattle.sync_survey.specs.Runs.{item_of, block_as}
 use Rattle.sync_survey.specs.Start.{anchored_frame}
-use Rattle.sync_survey.specs.Looks.{look_size, Shows}
-use Rattle.sync_survey.proofs.RunsLaws.{IsItemOf, item_of-is, item_of-whole, cons_list, whole_cases}
-use Rattle.sync_survey.proofs.OneItem.{stands-only_at}
+use Rattle.sync_survey.specs.Looks.{Shows}
+use Rattle.sync_survey.proofs.RunsLaws.{IsItemOf, item_of-is, cons_list, whole_cases}
+use Rattle.sync_survey.proofs.LooksLaws.{zero_at, zero_test, zeros_shown}
 use Rattle.sync_survey.proofs.StartLaws.{IsAnchoredAt, anchored_frame-is, first_of-is}
 use Rattle.salvage.specs.declared.usable.Role.{Role}
 use Rattle.salvage.specs.declared.usable.Role.TheVariants.{Later}
@@ -148,52 +147,9 @@ module _ (file : List ℕ) (class : ClassFields) where
       let end : at + (gap_end file class at - at) ≡ gap_end file class at = omega (arith, ends.some) in
       things-next at (IsGap (gap_end file class at - at)) before (thing_read at None is) ∙ ap (λ n. record { offset = at; thing = IsGap (gap_end file class at - at) } ∷ things file class n) end
 
-  -- ---- zero bytes
-
-  -- what is between two offsets is neither a frame nor a block nor a gap
-  record IsSkipped (at to : ℕ) : Type 0 where
-    rows : (b : Before) → rows_left file b (things file class at) ≡ rows_left file b (things file class to)
-    blocks : blocks_in (things file class at) ≡ blocks_in (things file class to)
-    gaps : gaps_of (things file class at) ≡ gaps_of (things file class to)
-
-  skipped_none : (at to : ℕ) → at ≡ to → IsSkipped at to
-  skipped_none at to same = record {
-    rows = λ b. ap (λ n. rows_left file b (things file class n)) same;
-    blocks = ap (λ n. blocks_in (things file class n)) same;
-    gaps = ap (λ n. gaps_of (things file class n)) same;
-  }
-
-  skipped_then : (at mid to : ℕ) → IsSkipped at mid → IsSkipped mid to → IsSkipped at to
-  skipped_then at mid to first later = record { rows = λ b. first.rows b ∙ later.rows b; blocks = first.blocks ∙ later.blocks; gaps = first.gaps ∙ later.gaps }
-
-  zero_at : (bytes : List ℕ) (at : ℕ) → drop at file ≡ 0 ∷ bytes → item_of Stream file at ≡ Some Zero
-  zero_at bytes at is = item_of-whole Stream file at Zero (sym (stands-only_at file at Zero (ap (take 1) is))) refl (omega (arith, ap length is, length-drop at file))
-
-  zero_read : (bytes : List ℕ) (at : ℕ) → drop at file ≡ 0 ∷ bytes → item_read file (Later class) at ≡ Some Zero
+  zero_next : (bytes : List ℕ) (at : ℕ) → drop at file ≡ 0 ∷ bytes → things file class at ≡ record { offset = at; thing = IsItem Zero } ∷ things file class (at + 1)
   unfolding item_read
-  zero_read bytes at is = ap (if_read file (Later class) at) (zero_at bytes at is)
-
-  one_skipped : (bytes : List ℕ) (at : ℕ) → drop at file ≡ 0 ∷ bytes → IsSkipped at (at + 1)
-  one_skipped bytes at is =
-      let here = things-item at Zero (zero_read bytes at is) in record {
-        rows = λ b. ap (rows_left file b) here;
-        blocks = ap blocks_in here;
-        gaps = ap gaps_of here;
-      }
-
-  abbrev zero_test : ℕ → Bool
-  zero_test b = b == 0
-
-  skip_more : (rest : List ℕ) (at n b : ℕ) → drop at file ≡ b ∷ rest → (drop (at + 1) file ≡ rest → IsSkipped (at + 1) (at + 1 + n)) → (zero : Bool) → zero_test b ≡ zero → IsSkipped at (at + cond zero (1 + n) 0)
-  skip_more rest at n b is later false e = skipped_none at (at + 0) (omega arith)
-  skip_more rest at n b is later true e =
-      let first : b ≡ 0 = eqb-true b 0 e in
-      skipped_then at (at + 1) (at + (1 + n)) (one_skipped rest at (is ∙ ap (λ x. x ∷ rest) first))
-      (skipped_then (at + 1) (at + 1 + n) (at + (1 + n)) (later (sym (drop-drop 1 at file) ∙ ap (drop 1) is)) (skipped_none (at + 1 + n) (at + (1 + n)) (omega arith)))
-
-  zeros_skipped : (front rest : List ℕ) (at : ℕ) → drop at file ≡ front ++ rest → IsSkipped at (at + prefix_len zero_test front)
-  zeros_skipped [] rest at is = skipped_none at (at + 0) (omega arith)
-  zeros_skipped (b ∷ bs) rest at is = skip_more (bs ++ rest) at (prefix_len zero_test bs) b is (zeros_skipped bs rest (at + 1)) (zero_test b) refl
+  zero_next bytes at is = things-item at Zero (ap (if_read file (Later class) at) (zero_at Stream file bytes at is))
 
   -- ---- what is passed with an item
 
@@ -212,18 +168,15 @@ module _ (file : List ℕ) (class : ClassFields) where
         gaps = ap gaps_of here;
       })
 
-  passed_zeros : (at : ℕ) (front : List ℕ) (size : ℕ) → front ≡ take look_size (drop at file) → size ≡ prefix_len zero_test front → IsPassed at Zero size
-  passed_zeros at front size front_is many =
-      let split : drop at file ≡ front ++ drop look_size (drop at file) = sym (take-append-drop look_size (drop at file)) ∙ ap (λ l. l ++ drop look_size (drop at file)) (sym front_is) in
-      let skipped = zeros_skipped front (drop look_size (drop at file)) at split in
-      subst (IsPassed at Zero) (sym many) (record { rows = skipped.rows; blocks = skipped.blocks; gaps = skipped.gaps })
+  passed_zeros : (at : ℕ) (front : List ℕ) (left : ℕ) (size : ℕ) → Shows file at front left → size ≡ prefix_len zero_test front → IsPassed at Zero size
+  passed_zeros at front left size shows many = record {
+    rows = λ b. zeros_shown file at front left shows (λ n. rows_left file b (things file class n)) size many (λ bytes n zero. ap (rows_left file b) (zero_next bytes n zero));
+    blocks = zeros_shown file at front left shows (λ n. blocks_in (things file class n)) size many (λ bytes n zero. ap blocks_in (zero_next bytes n zero));
+    gaps = zeros_shown file at front left shows (λ n. gaps_of (things file class n)) size many (λ bytes n zero. ap gaps_of (zero_next bytes n zero));
+  }
 
   -- an item that is read, with all zero bytes that are shown after a zero byte
   pub item_passed : (at : ℕ) (front : List ℕ) (left : ℕ) (item : Item) (size : ℕ) → Shows file at front left → item_read file (Later class) at ≡ Some item
       → (item ≡ Zero → size ≡ prefix_len zero_test front) → ((item ≡ Zero → ⊥) → size ≡ size_of item) → IsPassed at item size
-  item_passed at front left (Frame h) size shows is zeros own = passed_own at (Frame h) size is (own (λ e. cc))
-  item_passed at front left Free size shows is zeros own = passed_own at Free size is (own (λ e. cc))
-  item_passed at front left (Block b) size shows is zeros own = passed_own at (Block b) size is (own (λ e. cc))
-  item_passed at front left Zero size shows is zeros own = passed_zeros at front size shows.front_is (zeros refl)
-  item_passed at front left End size shows is zeros own = passed_own at End size is (own (λ e. cc))
-  item_passed at front left Nothing size shows is zeros own = passed_own at Nothing size is (own (λ e. cc))
+  item_passed at front left Zero size shows is zeros own = passed_zeros at front left size shows (zeros refl)
+  item_passed at front left item size shows is zeros own = passed_own at item size is (own (λ e. cc))

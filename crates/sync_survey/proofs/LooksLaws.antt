@@ -33,49 +33,25 @@ item_front-take n bytes many =
 
 -- ---- zero bytes
 
--- what is between two offsets of a run is neither a frame nor a block
-record IsSkipped (part : Part) (file : List ℕ) (at to : ℕ) : Type 0 where
-  frames : frames_of (run part file at).items ≡ frames_of (run part file to).items
-  blocks : blocks_of (run part file at).items ≡ blocks_of (run part file to).items
-  stop : (run part file at).stop ≡ (run part file to).stop
-
-skipped_none : (part : Part) (file : List ℕ) (at to : ℕ) → at ≡ to → IsSkipped part file at to
-skipped_none part file at to same = record {
-  frames = ap (λ n. frames_of (run part file n).items) same;
-  blocks = ap (λ n. blocks_of (run part file n).items) same;
-  stop = ap (λ n. (run part file n).stop) same;
-}
-
-skipped_then : (part : Part) (file : List ℕ) (at mid to : ℕ) → IsSkipped part file at mid → IsSkipped part file mid to → IsSkipped part file at to
-skipped_then part file at mid to first later = record { frames = first.frames ∙ later.frames; blocks = first.blocks ∙ later.blocks; stop = first.stop ∙ later.stop }
-
-zero_at : (part : Part) (file bytes : List ℕ) (at : ℕ) → drop at file ≡ 0 ∷ bytes → item_of part file at ≡ Some Zero
+pub zero_at : (part : Part) (file bytes : List ℕ) (at : ℕ) → drop at file ≡ 0 ∷ bytes → item_of part file at ≡ Some Zero
 zero_at part file bytes at is =
     item_of-whole part file at Zero (sym (stands-only_at file at Zero (ap (take 1) is))) refl (omega (arith, ap length is, length-drop at file))
 
-one_skipped : (part : Part) (file bytes : List ℕ) (at : ℕ) → drop at file ≡ 0 ∷ bytes → IsSkipped part file at (at + 1)
-one_skipped part file bytes at is =
-    let here = zero_at part file bytes at is in record {
-      frames = frames-next part file at Zero here;
-      blocks = blocks-next part file at Zero here;
-      stop = ap (λ r. r.stop) (run-next part file at Zero here);
-    }
-
-abbrev zero_test : ℕ → Bool
+abbrev pub zero_test : ℕ → Bool
 zero_test b = b == 0
 
-skip_more : (part : Part) (file rest : List ℕ) (at n b : ℕ) → drop at file ≡ b ∷ rest → (drop (at + 1) file ≡ rest → IsSkipped part file (at + 1) (at + 1 + n)) → (zero : Bool) → zero_test b ≡ zero
-    → IsSkipped part file at (at + cond zero (1 + n) 0)
-skip_more part file rest at n b is later false e = skipped_none part file at (at + 0) (omega arith)
-skip_more part file rest at n b is later true e =
-    let first : b ≡ 0 = eqb-true b 0 e in
-    skipped_then part file at (at + 1) (at + (1 + n)) (one_skipped part file rest at (is ∙ ap (λ x. x ∷ rest) first))
-    (skipped_then part file (at + 1) (at + 1 + n) (at + (1 + n)) (later (sym (drop-drop 1 at file) ∙ ap (drop 1) is)) (skipped_none part file (at + 1 + n) (at + (1 + n)) (omega arith)))
+-- what a zero byte doesn't change is the same after all zero bytes with which these bytes begin
+module _ {X : Type 0} (file : List ℕ) (f : ℕ → X) (one : (bytes : List ℕ) (at : ℕ) → drop at file ≡ 0 ∷ bytes → f at ≡ f (at + 1)) where
+  zeros_more : (rest : List ℕ) (at n b : ℕ) → drop at file ≡ b ∷ rest → (drop (at + 1) file ≡ rest → f (at + 1) ≡ f (at + 1 + n)) → (zero : Bool) → zero_test b ≡ zero
+      → f at ≡ f (at + cond zero (1 + n) 0)
+  zeros_more rest at n b is later false e = let end : at ≡ at + 0 = omega arith in ap f end
+  zeros_more rest at n b is later true e =
+      let end : at + 1 + n ≡ at + (1 + n) = omega arith in
+      one rest at (is ∙ ap (λ x. x ∷ rest) (eqb-true b 0 e)) ∙ later (sym (drop-drop 1 at file) ∙ ap (drop 1) is) ∙ ap f end
 
-zeros_skipped : (part : Part) (file front rest : List ℕ) (at : ℕ) → drop at file ≡ front ++ rest → IsSkipped part file at (at + prefix_len zero_test front)
-zeros_skipped part file [] rest at is = skipped_none part file at (at + 0) (omega arith)
-zeros_skipped part file (b ∷ bs) rest at is =
-    skip_more part file (bs ++ rest) at (prefix_len zero_test bs) b is (zeros_skipped part file bs rest (at + 1)) (zero_test b) refl
+  zeros_same : (front rest : List ℕ) (at : ℕ) → drop at file ≡ front ++ rest → f at ≡ f (at + prefix_len zero_test front)
+  zeros_same [] rest at is = let end : at ≡ at + 0 = omega arith in ap f end
+  zeros_same (b ∷ bs) rest at is = zeros_more (bs ++ rest) at (prefix_len zero_test bs) b is (zeros_same bs rest (at + 1)) (zero_test b) refl
 
 -- ---- how many bytes are passed
 
@@ -147,12 +123,20 @@ module _ (file : List ℕ) (at : ℕ) (front : List ℕ) (left : ℕ) (shows : S
   whole_here : (part : Part) (item : Item) → item ≡ item_front front → belongs part item ≡ true → 0 < size_of item → size_of item ≤ left → item_of part file at ≡ Some item
   whole_here part item is here some within = item_of-whole part file at item (sym item_at-shown ∙ sym is) here (omega (arith, some, within, shows.left_is))
 
+  -- after all zero bytes that are shown too
+  pub zeros_shown : {X : Type 0} (f : ℕ → X) (size : ℕ) → size ≡ prefix_len zero_test front → ((bytes : List ℕ) (place : ℕ) → drop place file ≡ 0 ∷ bytes → f place ≡ f (place + 1)) → f at ≡ f (at + size)
+  zeros_shown f size many one =
+      let rest : List ℕ = drop look_size (drop at file) in
+      let split : drop at file ≡ front ++ rest = sym (take-append-drop look_size (drop at file)) ∙ ap (λ l. l ++ rest) (sym shows.front_is) in
+      zeros_same file f one front rest at split ∙ ap (λ n. f (at + n)) (sym many)
+
   -- a whole item and all zero bytes that are shown after a zero byte are passed
-  pub passes_zeros : (part : Part) (item : Item) (size : ℕ) → item ≡ Zero → size ≡ prefix_len zero_test front → Passes part file at item size
-  passes_zeros part item size is many =
-      let split : drop at file ≡ front ++ drop look_size (drop at file) = sym (take-append-drop look_size (drop at file)) ∙ ap (λ l. l ++ drop look_size (drop at file)) (sym shows.front_is) in
-      let skipped = zeros_skipped part file front (drop look_size (drop at file)) at split in
-      subst (λ (i : Item). Passes part file at i size) (sym is) (subst (Passes part file at Zero) (sym many) (record { frames = skipped.frames; blocks = skipped.blocks; stop = skipped.stop }))
+  pub passes_zeros : (part : Part) (size : ℕ) → size ≡ prefix_len zero_test front → Passes part file at Zero size
+  passes_zeros part size many = record {
+    frames = zeros_shown (λ n. frames_of (run part file n).items) size many (λ bytes place zero. frames-next part file place Zero (zero_at part file bytes place zero));
+    blocks = zeros_shown (λ n. blocks_of (run part file n).items) size many (λ bytes place zero. blocks-next part file place Zero (zero_at part file bytes place zero));
+    stop = zeros_shown (λ n. (run part file n).stop) size many (λ bytes place zero. ap (λ r. r.stop) (run-next part file place Zero (zero_at part file bytes place zero)));
+  }
 
   pub passes_whole : (part : Part) (item : Item) (size : ℕ) → item_of part file at ≡ Some item → size ≡ size_of item → Passes part file at item size
   passes_whole part item size here is =
@@ -160,12 +144,8 @@ module _ (file : List ℕ) (at : ℕ) (front : List ℕ) (left : ℕ) (shows : S
       (record { frames = frames-next part file at item here; blocks = blocks-next part file at item here; stop = ap (λ r. r.stop) (run-next part file at item here) })
 
   step_by : (part : Part) (item : Item) (size : ℕ) → item_of part file at ≡ Some item → Counts item front size → Passes part file at item size
-  step_by part (Frame h) size here counts = passes_whole part (Frame h) size here (counts.1 (λ e. cc))
-  step_by part Free size here counts = passes_whole part Free size here (counts.1 (λ e. cc))
-  step_by part (Block b) size here counts = passes_whole part (Block b) size here (counts.1 (λ e. cc))
-  step_by part Zero size here counts = passes_zeros part Zero size refl (counts.0 refl)
-  step_by part End size here counts = passes_whole part End size here (counts.1 (λ e. cc))
-  step_by part Nothing size here counts = passes_whole part Nothing size here (counts.1 (λ e. cc))
+  step_by part Zero size here counts = passes_zeros part size (counts.0 refl)
+  step_by part item size here counts = passes_whole part item size here (counts.1 (λ e. cc))
 
   pub step_passes : (part : Part) (size : ℕ) (item : Item) → item ≡ item_front front → belongs part item ≡ true → size_of item ≤ left → (item ≡ Zero → size ≡ prefix_len zero_test front)
       → ((item ≡ Zero → ⊥) → size ≡ size_of item) → Passes part file at item size
