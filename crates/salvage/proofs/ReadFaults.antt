@@ -4,6 +4,7 @@ use Rattle.std.proofs.lemmas.Bool.{lt-ltb, le-ltb}
 use Rattle.outside.specs.Files.{Files, Holds}
 use Rattle.outside.specs.Counts.{Counts}
 use Rattle.outside.specs.Feed.{Fed}
+use Rattle.outside.specs.Seen.{Seen}
 use Rattle.sync_survey.specs.declared.survey_fault.SurveyFault.{SurveyFault}
 use Rattle.sync_survey.specs.declared.survey_fault.SurveyFault.TheVariants.{TooLong, Memory}
 use Rattle.sync_survey.specs.Faults.{longest_file}
@@ -48,11 +49,9 @@ pub look_refusal : {feed : Fed} {name : List ℕ} {files mid : Files} {before be
     → IsReadRefusal name files before after fault
 look_refusal {name = name} {files = files} {before = before} {after = after} {fault = fault} read is outside = outside_refusal name files before after fault (refusal_after read is) outside
 
--- files and counts are the same before it
-pub refusal_same : {name : List ℕ} {files mid : Files} {before between after : Counts} {fault : SurveyFault} → mid ≡ files → between ≡ before → IsReadRefusal name mid between after fault
-    → IsReadRefusal name files before after fault
-refusal_same {name = name} {files = files} {between = between} {after = after} {fault = fault} same counts is =
-    subst (λ counted. IsReadRefusal name files counted after fault) counts (subst (λ held. IsReadRefusal name held between after fault) same is)
+-- files and counts are the same
+pub seen_same : {now was : Seen} → now.files ≡ was.files → now.counts ≡ was.counts → now ≡ was
+seen_same files counts = λ i. record { files = files i; counts = counts i }
 
 -- ---- by the length
 

@@ -1,5 +1,5 @@
 -- What the walk over a damaged file answers.
-use Rattle.std.specs.Prelude.{◌≡◌, ◌+◌, ◌≤◌, ℕ, List, [], Result, IfOk, IfErr, OnOk}
+use Rattle.std.specs.Prelude.{◌≡◌, ◌≤◌, ℕ, List, Result, IfOk, IfErr, OnOk}
 use Rattle.outside.specs.Files.{IsThere}
 use Rattle.outside.specs.Counts.{OnlyReads}
 use Rattle.outside.specs.Feed.{Fed}
@@ -23,26 +23,6 @@ pub record ThingAnswer (name : List ℕ) (begun : Begun) (was now : Found) (fed 
 pub record ThingsAnswer (name : List ℕ) (begun : Begun) (now : Found) (old new : Seen) (result : Result (Unit {0}) SurveyFault) : Type 0 where
   pub reading : OnOk result (IsReading old.files name begun now)
   pub end : OnOk result (begun.size ≤ now.at)
-  pub done : OnOk result (new.counts ≡ old.counts)
-  pub refused : IfErr result (IsReadRefusal name old.files old.counts new.counts)
-  pub files : new.files ≡ old.files
-  pub counts : OnlyReads old.counts new.counts
-
--- A damaged file whose beginning is known was read, or why it could not be.
-pub record WalkAnswer (name : List ℕ) (old new : Seen) (result : Result Damaged SurveyFault) : Type 0 where
-  pub exact : IfOk result (λ d. IsReadOf name old.files (tells_of d))
-  pub laid : IfOk result (λ d. IsLaidOut (tells_of d))
-  pub done : OnOk result (new.counts ≡ old.counts)
-  pub refused : IfErr result (IsReadRefusal name old.files old.counts new.counts)
-  pub files : new.files ≡ old.files
-  pub counts : OnlyReads old.counts new.counts
-
--- A damaged file was read, or why it could not be.
-pub record FileAnswer (name : List ℕ) (old new : Seen) (result : Result Damaged SurveyFault) : Type 0 where
-  pub exact : IfOk result (λ d. IsReadOf name old.files (tells_of d))
-  pub laid : IfOk result (λ d. IsLaidOut (tells_of d))
-  pub there : OnOk result (IsThere old.files name)
-  pub octets : OnOk result (HoldsOctets name old.files)
   pub done : OnOk result (new.counts ≡ old.counts)
   pub refused : IfErr result (IsReadRefusal name old.files old.counts new.counts)
   pub files : new.files ≡ old.files

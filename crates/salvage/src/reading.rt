@@ -16,7 +16,7 @@ ghost use Rattle.sync_survey.specs.Survey.{HasLength, IsWholeFrom, ReadsBy, Hold
 ghost use Rattle.salvage.specs.declared.usable.Role.TheVariants.{Later};
 ghost use Rattle.salvage.specs.Walk.{item_read, end_by};
 ghost use Rattle.salvage.specs.Damaged.{tells_of, IsReadOf, IsReadFault, IsReadRefusal, gap_between};
-ghost use Rattle.salvage.specs.Answers.{ThingAnswer, ThingsAnswer, WalkAnswer, FileAnswer, DamagedAnswer};
+ghost use Rattle.salvage.specs.Answers.{ThingAnswer, ThingsAnswer, DamagedAnswer};
 ghost use Rattle.salvage.specs.Progress.{class_in, told_of, IsBegun, IsReading, ReadsOn, IsLaidOut};
 ghost use Rattle.frame_header.specs.Limits.{most_frame_length};
 
@@ -283,24 +283,14 @@ fn read_on<D: Folder>(
     requires blocks { OnFile (D.seen folder.old) name.now
         (λ bytes. pieces.items ≡ blocks_of (run Front bytes 0).items) }
     requires laid { BlocksAreLaid 0 pieces.items begun.now.start.front_end }
-    ensures { WalkAnswer name.now (D.seen folder.old) (D.seen folder.new) result }
+    requires octets { HoldsOctets name.now (D.seen folder.old).files }
+    ensures { DamagedAnswer name.now (D.seen folder.old) (D.seen folder.new) result }
 {
     let Ok(mut found) = found_first(alloc, begun, pieces) else {
         return Err(SurveyFault::Memory);
     };
     read_things(feed, folder, name, begun, &mut found)?;
     damaged_by(begun, found)
-}
-
-/// What is read of a damaged file, as `read_damaged` has it.
-fn read_file<D: Folder>(alloc: Global, folder: &mut D, name: &str) -> Result<Damaged, SurveyFault>
-    ensures { FileAnswer name.now (D.seen folder.old) (D.seen folder.new) result }
-{
-    let size = find_length(folder, name)?;
-    let mut feed = Feed::new(alloc)?;
-    let mut pieces = Vec::new(alloc);
-    let begun = begin(&mut feed, folder, name, size, &mut pieces)?;
-    read_on(alloc, &mut feed, folder, name, &begun, pieces)
 }
 
 /// What is read of a damaged file. The files stay.
@@ -323,5 +313,9 @@ pub fn read_damaged<D: Folder>(
 ) -> Result<Damaged, SurveyFault>
     ensures { DamagedAnswer name.now (D.seen folder.old) (D.seen folder.new) result }
 {
-    read_file(alloc, folder, name)
+    let size = find_length(folder, name)?;
+    let mut feed = Feed::new(alloc)?;
+    let mut pieces = Vec::new(alloc);
+    let begun = begin(&mut feed, folder, name, size, &mut pieces)?;
+    read_on(alloc, &mut feed, folder, name, &begun, pieces)
 }

@@ -1,11 +1,12 @@
 -- What was found up to the end is all that is read.
 use Rattle.std.proofs.Common.{rules, ◌≡◌, [], Ok, refl, sym, ◌∙◌, ap, subst, arith}
 use Rattle.sync_survey.specs.declared.survey_fault.SurveyFault.TheVariants.{NoFrame}
+use Rattle.sync_survey.specs.Kinds.{HasRightNumbers}
 use Rattle.sync_survey.specs.Survey.{BlocksAreLaid}
-use Rattle.salvage.specs.Damaged.{tells_of, IsReadRefusal}
+use Rattle.salvage.specs.Damaged.{tells_of, IsReadFault}
 use Rattle.salvage.specs.Progress.{told_of, IsLaidOut}
 use Rattle.std.proofs.lemmas.Result.{IfErr-weaker}
-use Rattle.salvage.proofs.Results.{if_ok}
+use Rattle.salvage.proofs.Results.{if_ok, on_ok}
 use Rattle.salvage.proofs.ReadFaults.{bytes_refusal}
 use Rattle.salvage.proofs.ProgressLaws.{IsFirst, begun_read, begun_laid, read_whole, all_read, no_frames, laid_out}
 use Rattle.salvage.proofs.reading.read_on.Goals as goal
@@ -36,6 +37,8 @@ returns g c = record {
       let found = c.read_things.new.found in
       if_ok c.damaged_by.result (λ d. tells_of d ≡ told_of begun found) (λ d. IsLaidOut (tells_of d)) (found.rows.items ≡ [] → ⊥) c.damaged_by.ensures.told c.damaged_by.ensures.some (λ d told some.
       subst IsLaidOut (sym told) (laid_out begun found c.requires.begun.junk c.requires.begun.whole c.requires.begun.same c.in_ok-read_things.ensures.reading.laid some c.requires.begun.known.few));
+  there = on_ok c.damaged_by.result _ c.requires.begun.known.there;
+  octets = on_ok c.damaged_by.result _ c.requires.octets;
   done = search rules;
   refused = let begun = c.args.begun.now in
       let found = c.read_things.new.found in
@@ -43,12 +46,14 @@ returns g c = record {
       let files = (g.D.Folder.seen c.args.folder.now).files in
       let before = (g.D.Folder.seen c.args.folder.now).counts in
       let after = (g.D.Folder.seen c.read_things.new.folder).counts in
-      IfErr-weaker c.damaged_by.result (λ fault. (fault ≡ NoFrame begun.start.front_end) × (found.rows.items ≡ [])) (IsReadRefusal name files before after) (λ fault is.
-      subst (IsReadRefusal name files before after) (sym is.0)
+      IfErr-weaker c.damaged_by.result (λ fault. (fault ≡ NoFrame begun.start.front_end) × (found.rows.items ≡ [])) (IsReadFault name files before after) (λ fault is.
+      subst (IsReadFault name files before after) (sym is.0)
       (bytes_refusal name files before after (NoFrame begun.start.front_end) begun.size c.requires.begun.known c.in_ok-read_things.ensures.done (refl, tt) (λ bytes holds.
       let known = c.requires.begun.known.long bytes holds in
       no_frames bytes begun found (c.requires.begun.told bytes holds) (omega (arith, known, c.requires.begun.known.few))
-      (read_whole bytes begun found (c.in_ok-read_things.ensures.reading.told bytes holds) (omega (arith, known, c.in_ok-read_things.ensures.end))) is.1)))
+      (read_whole bytes begun found (c.in_ok-read_things.ensures.reading.told bytes holds) (omega (arith, known, c.in_ok-read_things.ensures.end))) is.1)).cause)
+      c.damaged_by.ensures.none;
+  numbers = IfErr-weaker c.damaged_by.result (λ fault. (fault ≡ NoFrame c.args.begun.now.start.front_end) × (c.read_things.new.found.rows.items ≡ [])) HasRightNumbers (λ fault is. subst HasRightNumbers (sym is.0) tt)
       c.damaged_by.ensures.none;
   files = search rules;
   counts = search rules;

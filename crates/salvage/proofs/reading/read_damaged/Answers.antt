@@ -1,0 +1,37 @@
+-- The file isn't found, or is too long; or what is read after that is read of files and counts that are the same.
+use Rattle.std.proofs.Common.{rules, sym, ◌∙◌, subst}
+use Rattle.outside.proofs.PassedLaws.{err_at}
+use Rattle.sync_survey.specs.Survey.{HoldsOctets}
+use Rattle.salvage.specs.Answers.{DamagedAnswer}
+use Rattle.salvage.specs.Progress.{IsBegun}
+use Rattle.salvage.proofs.ReadFaults.{find_refusal, seen_same}
+use Rattle.salvage.proofs.reading.read_damaged.Goals as goal
+
+pub returns-in_err-size : goal.returns-in_err-size
+returns-in_err-size g c =
+    let refusal = find_refusal _ _ _ _ _ (c.in_err-size.ensures.refused 0) c.in_err-size.ensures.length in
+    record {
+      exact = search rules;
+      laid = search rules;
+      there = search rules;
+      octets = search rules;
+      done = search rules;
+      refused = err_at _ _ c.from_residual.ensures.1 refusal.cause;
+      numbers = err_at _ _ c.from_residual.ensures.1 refusal.numbers;
+      files = search rules;
+      counts = search rules;
+    }
+
+pub read_on-requires-clause-begun : goal.read_on-requires-clause-begun
+read_on-requires-clause-begun g c =
+    subst (λ files. IsBegun files c.args.name.now c.in_ok-begun.begun) (sym c.in_ok-begun.ensures.reads.files) c.in_ok-begun.ensures.begun
+
+pub read_on-requires-clause-octets : goal.read_on-requires-clause-octets
+read_on-requires-clause-octets g c =
+    subst (HoldsOctets c.args.name.now) (sym (c.in_ok-begun.ensures.reads.files ∙ c.in_ok-size.ensures.files)) c.in_ok-size.ensures.octets
+
+pub returns : goal.returns
+returns g c =
+    subst (λ old. DamagedAnswer c.args.name.now old (g.D.Folder.seen c.read_on.new.folder) c.read_on.result)
+    (seen_same (c.in_ok-begun.ensures.reads.files ∙ c.in_ok-size.ensures.files) (c.in_ok-begun.ensures.reads.done ∙ c.in_ok-size.ensures.done))
+    c.read_on.ensures
