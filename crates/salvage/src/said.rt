@@ -11,6 +11,8 @@ use side_info::{check_word_of_bytes, word_said};
 
 /// The length in bytes of a frame without padding, by the two bits of its version and, in rows of 64, the six bits of
 /// its bit rate and its sampling frequency; where no header has these, any number.
+// `Class::length_of` has them too. A search asks for a length at every place where a header may begin, which this table
+// answers by two bytes, before a header is read.
 static LENGTHS: [u16; 256] = [
     52, 48, 72, 0, 52, 48, 72, 0, 104, 96, 144, 0, 156, 144, 216, 0, 208, 192, 288, 0, 261, 240,
     360, 0, 313, 288, 432, 0, 365, 336, 504, 0, 417, 384, 576, 0, 522, 480, 720, 0, 626, 576, 864,
@@ -86,6 +88,7 @@ pub(crate) fn may_anchor(own: &[u8], next: &[u8]) -> bool
 }
 
 /// The bytes of the side information of a frame whose header has these second and fourth bytes.
+// As `Class::side_size`, but by the bytes alone, before a header is read.
 fn side_said(second: u8, fourth: u8) -> usize
     ensures size { result ≡ side_said_lem second fourth }
     ensures most { result ≤ 32 }
