@@ -77,11 +77,7 @@ read_by file class at item here reads = ap (if_read file (Later class) at) here 
 
 item_reads : (file : List ℕ) (class : ClassFields) (at : ℕ) (item : Item) (ps : List PlacedFrame) → AreUsable file class (cons_option (frame_as at item) ps) → is_read file (Later class) at item ≡ true
 item_reads file class at (Frame h) ps usable = usable.0
-item_reads file class at Free ps usable = refl
-item_reads file class at (Block b) ps usable = refl
-item_reads file class at Zero ps usable = refl
-item_reads file class at End ps usable = refl
-item_reads file class at Nothing ps usable = refl
+item_reads file class at _ ps usable = refl
 
 rest_usable : (file : List ℕ) (class : ClassFields) (o : Option PlacedFrame) (ps : List PlacedFrame) → AreUsable file class (cons_option o ps) → AreUsable file class ps
 rest_usable file class None ps usable = usable
@@ -241,9 +237,7 @@ module _ (file : List ℕ) (at : ℕ) (start : Start) (within : start.first.offs
   first_by (Frame h) is e here some = here_first h (fits file at (Frame h)) _ here e
   first_by Free is e here some = absurd cc
   first_by (Block b) is e here some = absurd cc
-  first_by Zero is e here some = junk_first Zero is (λ h e. absurd cc) (start_same _ e) some
-  first_by End is e here some = junk_first End is (λ h e. absurd cc) (start_same _ e) some
-  first_by Nothing is e here some = junk_first Nothing is (λ h e. absurd cc) (start_same _ e) some
+  first_by item is e here some = junk_first item is (λ h e. absurd cc) (start_same _ e) some
 
 -- ---- all that is read
 

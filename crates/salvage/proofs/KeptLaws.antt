@@ -1,14 +1,12 @@
 -- The main data of the frames that are kept are where they may be among those of all runs.
-use Rattle.std.proofs.Common.{◌≡◌, ℕ, ◌+◌, ◌-◌, ◌≤◌, ◌&&◌, ◌||◌, Bool, true, false, cond, not, List, [], ◌∷◌, ◌++◌, length, length-append, Option, Some, inl, inr, refl, sym, ◌∙◌, ap, ap₂, subst, arith}
-use Rattle.std.specs.Prelude.{slice_get}
-use Rattle.std.proofs.lemmas.Bool.{ltb-false, le-ltb, cases_lt, and_parts}
-use Rattle.std.proofs.lemmas.Option.{slice_get_within}
+use Rattle.std.proofs.Common.{◌≡◌, ℕ, ◌+◌, ◌-◌, ◌≤◌, ◌&&◌, ◌||◌, Bool, true, false, cond, not, List, [], ◌∷◌, ◌++◌, length, Option, refl, ◌∙◌, ap, ap₂, arith}
+use Rattle.std.proofs.lemmas.Bool.{ltb-false, le-ltb, and_parts}
 use Rattle.side_info.specs.Side.{payload_bytes}
 use Rattle.sync_survey.specs.declared.places.Head.{Head}
 use Rattle.sync_survey.specs.Row.{Row}
 use Rattle.sync_survey.specs.declared.rows.Before.{Before}
 use Rattle.sync_survey.specs.MainData.{own_area, head_area, place, is_silent, end_of_data}
-use Rattle.sync_survey.proofs.FaultsLaws.{get_more, get_next, place-more, place-next, place-none, IsRuled, ruled}
+use Rattle.sync_survey.proofs.FaultsLaws.{each_push, place-more, place-next, place-none, IsRuled, ruled}
 use Rattle.salvage.specs.Sound.{is_sound}
 use Rattle.salvage.specs.Judged.{judged_by, before_next, none_before}
 use Rattle.salvage.specs.Kept.{kept_end, end_of_kept, IsKeptWell, AreKeptWell, AreKeptTo}
@@ -98,21 +96,13 @@ module _ (head : Option Head) where
         ap₂ (λ m n. is_sound m n r) (place-more head rows (marked_one ∷ []) (length rows) (omega arith)) (kept_ends.more rows (marked_one ∷ []) (length rows) (omega arith)) ∙ sound_by mark
 
     each_kept : AreKeptWell head (rows ++ marked_one ∷ [])
-    each_kept i q found =
-        elim (cases_lt i (length rows)) as (λ _. IsKeptWell head (rows ++ marked_one ∷ []) i q) [
-          | inl before ↦
-              let place_is = place-more head rows (marked_one ∷ []) i (omega (arith, before)) in
-              let end_is = kept_ends.more rows (marked_one ∷ []) i (omega (arith, before)) in
-              let is = kept.frames i q (sym (get_more rows (marked_one ∷ []) i before) ∙ found) in
-              record { before = omega (arith, place_is, end_is, is.before); sound = λ mark. ap₂ (λ m n. is_sound m n q) place_is end_is ∙ is.sound mark }
-          | inr behind ↦
-              let at : i ≡ length rows = omega (arith, behind, slice_get_within (rows ++ marked_one ∷ []) i q found, length-append rows (marked_one ∷ [])) in
-              let one : Some marked_one ≡ Some q = sym (get_next rows marked_one) ∙ ap (slice_get (rows ++ marked_one ∷ [])) (sym at) ∙ found in
-              let same : marked_one ≡ q = cc in
-              subst (IsKeptWell head (rows ++ marked_one ∷ []) i) same
-              (subst (λ n. IsKeptWell head (rows ++ marked_one ∷ []) n marked_one) (sym at)
-              (record { before = omega (arith, place-more head rows (marked_one ∷ []) (length rows) (omega arith), kept_ends.more rows (marked_one ∷ []) (length rows) (omega arith), kept.within); sound = last_kept }))
-        ]
+    each_kept =
+        each_push (IsKeptWell head (rows ++ marked_one ∷ [])) rows marked_one (λ i q before found.
+        let place_is = place-more head rows (marked_one ∷ []) i (omega (arith, before)) in
+        let end_is = kept_ends.more rows (marked_one ∷ []) i (omega (arith, before)) in
+        let is = kept.frames i q found in
+        record { before = omega (arith, place_is, end_is, is.before); sound = λ mark. ap₂ (λ m n. is_sound m n q) place_is end_is ∙ is.sound mark })
+        (record { before = omega (arith, place-more head rows (marked_one ∷ []) (length rows) (omega arith), kept_ends.more rows (marked_one ∷ []) (length rows) (omega arith), kept.within); sound = last_kept })
 
     pub kept_frame : AreKeptTo head (rows ++ marked_one ∷ []) (before_next b r)
     kept_frame =

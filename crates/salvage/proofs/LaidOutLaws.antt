@@ -10,7 +10,7 @@ use Rattle.frame_header.specs.Tables.{class_of}
 use Rattle.frame_header.proofs.HeaderLaws.{IsClass-class_of}
 use Rattle.side_info.proofs.FrameLaws.{fits-side_in}
 use Rattle.sync_survey.specs.declared.items.Item.{Item}
-use Rattle.sync_survey.specs.declared.items.Item.TheVariants.{Frame, Free, Block, Zero, End, Nothing}
+use Rattle.sync_survey.specs.declared.items.Item.TheVariants.{Frame, Free, Block, Zero}
 use Rattle.sync_survey.specs.declared.places.Head.{Head}
 use Rattle.sync_survey.specs.declared.places.Piece.{Piece}
 use Rattle.sync_survey.specs.declared.places.PlacedFrame.{PlacedFrame}
@@ -164,9 +164,7 @@ module _ (file : List ℕ) (class : ClassFields) where
       gaps = gaps-earlier at (at + block.length) (gaps_of ts) (length file) (omega arith) order.gaps;
       kept = order.kept;
     }
-    order-more (IsItem Zero) met order = order-other Zero (λ b. refl) refl order
-    order-more (IsItem End) met order = order-other End (λ b. refl) refl order
-    order-more (IsItem Nothing) met order = order-other Nothing (λ b. refl) refl order
+    order-more (IsItem item) met order = order-other item (λ b. refl) refl order
 
   order-by : (n at : ℕ) (b : Bool) → ltb at (length file) ≡ b → at ≤ length file → ((later : ℕ) → later ≤ length file → AreInOrder later (things_up_to n file class later))
       → AreInOrder at (cond b (record { offset = at; thing = thing_at file class at } ∷ things_up_to n file class (at + size_of_thing (thing_at file class at))) [])
@@ -190,10 +188,8 @@ module _ (file : List ℕ) (class : ClassFields) where
 block-first : (from at : ℕ) (item : Item) (blocks : List Piece) (to : ℕ) → from ≤ at → BlocksAreLaid (at + size_of item) blocks to → BlocksAreLaid from (cons_option (block_as at item) blocks) to
 block-first from at (Block b) blocks to low laid = (low, laid)
 block-first from at (Frame h) blocks to low laid = blocks-earlier from (at + size_of (Frame h)) blocks to (omega (arith, low)) laid
-block-first from at Free blocks to low laid = blocks-earlier from (at + 0) blocks to (omega (arith, low)) laid
 block-first from at Zero blocks to low laid = blocks-earlier from (at + 1) blocks to (omega (arith, low)) laid
-block-first from at End blocks to low laid = blocks-earlier from (at + 0) blocks to (omega (arith, low)) laid
-block-first from at Nothing blocks to low laid = blocks-earlier from (at + 0) blocks to (omega (arith, low)) laid
+block-first from at _ blocks to low laid = blocks-earlier from (at + 0) blocks to (omega (arith, low)) laid
 
 ends-order : (part : Part) (file : List ℕ) (from : ℕ) (ps : List Placed) (to : ℕ) → AreEndToEnd part file from ps to → BlocksAreLaid from (blocks_of ps) to
 ends-order part file from [] to ends = omega (arith, ends)
@@ -212,11 +208,7 @@ first-by : (file : List ℕ) (at : ℕ) (o : Option Item) (next : Option PlacedF
 first-by file at (Some (Frame h)) next first is follows e =
     let same : record { offset = at; header = h } ≡ first = cc in
     subst (IsNext file at) same (record { low = omega arith; frame = is (Frame h) refl })
-first-by file at (Some Free) next first is follows e = let found = follows first e in record { low = omega (arith, found.low); frame = found.frame }
-first-by file at (Some (Block b)) next first is follows e = let found = follows first e in record { low = omega (arith, found.low); frame = found.frame }
-first-by file at (Some Zero) next first is follows e = let found = follows first e in record { low = omega (arith, found.low); frame = found.frame }
-first-by file at (Some End) next first is follows e = let found = follows first e in record { low = omega (arith, found.low); frame = found.frame }
-first-by file at (Some Nothing) next first is follows e = let found = follows first e in record { low = omega (arith, found.low); frame = found.frame }
+first-by file at (Some _) next first is follows e = let found = follows first e in record { low = omega (arith, found.low); frame = found.frame }
 first-by file at None next first is follows e = let found = follows first e in record { low = omega (arith, found.low); frame = found.frame }
 
 -- it is whole in the file, not before the front's end
@@ -353,11 +345,7 @@ read-laid file d e = let read = damaged_of-is file d e in damaged-laid file d re
 row-many : (file : List ℕ) (b : Before) (at : ℕ) (thing : Thing) (rows : List Row) (frames : List PlacedFrame) → length rows ≡ length frames → length (rows_here file b at thing ++ rows) ≡ length (cons_option (frame_in at thing) frames)
 row-many file b at (IsGap n) rows frames same = same
 row-many file b at (IsItem (Frame h)) rows frames same = ap suc same
-row-many file b at (IsItem Free) rows frames same = same
-row-many file b at (IsItem (Block block)) rows frames same = same
-row-many file b at (IsItem Zero) rows frames same = same
-row-many file b at (IsItem End) rows frames same = same
-row-many file b at (IsItem Nothing) rows frames same = same
+row-many file b at (IsItem _) rows frames same = same
 
 rows-many : (file : List ℕ) (b : Before) (ts : List PlacedThing) → length (rows_left file b ts) ≡ length (frames_in ts)
 rows-many file b [] = refl

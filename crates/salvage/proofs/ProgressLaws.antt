@@ -7,7 +7,7 @@ use Rattle.frame_header.specs.Tables.{class_of}
 use Rattle.frame_header.proofs.HeaderLaws.{IsClass-class_of}
 use Rattle.side_info.proofs.FrameLaws.{fits-side_in, overhead-few}
 use Rattle.sync_survey.specs.declared.items.Item.{Item}
-use Rattle.sync_survey.specs.declared.items.Item.TheVariants.{Frame, Free, Block, Zero, End, Nothing}
+use Rattle.sync_survey.specs.declared.items.Item.TheVariants.{Frame, Zero}
 use Rattle.sync_survey.specs.declared.places.Piece.{Piece}
 use Rattle.sync_survey.specs.Row.{Row}
 use Rattle.sync_survey.specs.declared.rows.Before.{Before}
@@ -76,19 +76,11 @@ module _ (file : List ℕ) (b : Begun) (old new : Found) where
 
   rows_shown : (item : Item) (front : List ℕ) (left : ℕ) → Shows file old.at front left → rows_in old.before old.at front item ≡ rows_in old.before old.at (drop old.at file) item
   rows_shown (Frame h) front left shows = ap (λ (r : Row). judged_by old.before r ∷ []) (row_shown file old.at front left shows h (omega (arith, overhead-few (class_of h) h.protected)))
-  rows_shown Free front left shows = refl
-  rows_shown (Block block) front left shows = refl
-  rows_shown Zero front left shows = refl
-  rows_shown End front left shows = refl
-  rows_shown Nothing front left shows = refl
+  rows_shown _ front left shows = refl
 
   before_shown : (item : Item) (front : List ℕ) (left : ℕ) → Shows file old.at front left → before_behind old.before old.at front item ≡ before_behind old.before old.at (drop old.at file) item
   before_shown (Frame h) front left shows = ap (before_next old.before) (row_shown file old.at front left shows h (omega (arith, overhead-few (class_of h) h.protected)))
-  before_shown Free front left shows = refl
-  before_shown (Block block) front left shows = refl
-  before_shown Zero front left shows = refl
-  before_shown End front left shows = refl
-  before_shown Nothing front left shows = refl
+  before_shown _ front left shows = refl
 
   -- an item more
   pub item_more : (item : Item) (size : ℕ) (front : List ℕ) (left : ℕ) → IsReadTo file b old → Shows file old.at front left → item_read file (Later (class_in b)) old.at ≡ Some item
@@ -200,11 +192,7 @@ module _ (b : Begun) (old new : Found) (laid : IsLaidTo b old) where
   item_laid (Frame h) size front few is admits least within adds =
       let same : class_of h ≡ class_in b = same_class-is (class_of h) (class_in b) (and_parts _ _ admits).0 in
       frame_laid h size front few (item_header front (Frame h) is h refl) same least within adds
-  item_laid Free size front few is admits least within adds = other_laid Free size front least within refl refl adds
-  item_laid (Block block) size front few is admits least within adds = other_laid (Block block) size front least within refl refl adds
-  item_laid Zero size front few is admits least within adds = other_laid Zero size front least within refl refl adds
-  item_laid End size front few is admits least within adds = other_laid End size front least within refl refl adds
-  item_laid Nothing size front few is admits least within adds = other_laid Nothing size front least within refl refl adds
+  item_laid item size front few is admits least within adds = other_laid item size front least within refl refl adds
 
 -- ---- what is read of the whole file
 
@@ -234,11 +222,7 @@ past_most file b found (Frame h) fault begins few so_far is past =
     ∙ damaged_is file b begins
     ∙ many_counted b.start.front_end (whole_of file b).survey.frames (whole_of file b) row (ap (λ l. slice_get l most_frames) (sym rows) ∙ get_first found.rows.items rest row most_frames past.1)
     ∙ ap Err (sym past.0)
-past_most file b found Free fault begins few so_far is past = absurd past
-past_most file b found (Block block) fault begins few so_far is past = absurd past
-past_most file b found Zero fault begins few so_far is past = absurd past
-past_most file b found End fault begins few so_far is past = absurd past
-past_most file b found Nothing fault begins few so_far is past = absurd past
+past_most file b found _ fault begins few so_far is past = absurd past
 
 -- no frame besides the head
 none_counted : (front_end : ℕ) (rows : List Row) (d : DamagedFields) → rows ≡ [] → counted front_end rows d ≡ Err (NoFrame front_end)
@@ -291,11 +275,7 @@ all_read file b found begins few size read some most =
 
 pub past_rightly : (item : Item) (found : Found) (fault : SurveyFault) → IsPastMost item found fault → RefusesRightly fault
 past_rightly (Frame h) found fault past = subst RefusesRightly (sym past.0) (refl, tt)
-past_rightly Free found fault past = absurd past
-past_rightly (Block block) found fault past = absurd past
-past_rightly Zero found fault past = absurd past
-past_rightly End found fault past = absurd past
-past_rightly Nothing found fault past = absurd past
+past_rightly _ found fault past = absurd past
 
 -- ---- where the reading begins
 

@@ -19,7 +19,7 @@ use Rattle.tag_blocks.specs.Blocks.{begins_with, is_id3v2, is_id3v1, is_ape, beg
 use Rattle.tag_blocks.proofs.BlocksLaws.{block_front-begins}
 use Rattle.sync_survey.proofs.ItemsLaws.{stands}
 use Rattle.sync_survey.specs.declared.items.Item.{Item}
-use Rattle.sync_survey.specs.declared.items.Item.TheVariants.{Frame, Free, Block, Zero, End, Nothing}
+use Rattle.sync_survey.specs.declared.items.Item.TheVariants.{Frame, Block, End}
 use Rattle.sync_survey.specs.Items.{Stands, header_front, item_front}
 use Rattle.sync_survey.specs.Start.{is_anchor}
 use Rattle.std.specs.Prelude.{is_some, option_map}
@@ -298,11 +298,9 @@ not_anchor own next h own_few next_few many is bare letters = by_item (item_fron
   where
     by_item : (item : Item) → item_front next ≡ item → Stands next item → is_anchor (class_of h) item ≡ false
     by_item (Frame g) at here = not_same own next h g (header_says own h own_few is) (header_says next g next_few here) bare (same_class (class_of g) (class_of h)) refl
-    by_item Free at here = refl
     by_item (Block b) at here = absurd (false≢true (sym letters ∙ block_named b.kind next (block_front-begins next b here).0))
-    by_item Zero at here = refl
     by_item End at here = absurd (omega (arith, ap length here, many))
-    by_item Nothing at here = refl
+    by_item _ at here = refl
 
 -- ---- a check word that is wrong
 

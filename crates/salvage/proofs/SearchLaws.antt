@@ -4,7 +4,7 @@ use Rattle.std.proofs.lemmas.Bool.{false≢true, leb-true, leb-false}
 use Rattle.frame_header.specs.Fields.{HeaderFields}
 use Rattle.frame_header.specs.Tables.{class_of, length_of}
 use Rattle.sync_survey.specs.declared.items.Item.{Item}
-use Rattle.sync_survey.specs.declared.items.Item.TheVariants.{Frame, Free, Block, Zero, End, Nothing}
+use Rattle.sync_survey.specs.declared.items.Item.TheVariants.{Frame}
 use Rattle.sync_survey.specs.declared.places.PlacedFrame.{PlacedFrame}
 use Rattle.sync_survey.specs.Items.{Stands, header_front, item_front, item_at, fits}
 use Rattle.sync_survey.specs.Start.{is_anchor, has_anchor, anchored, anchored_frame}
@@ -118,11 +118,7 @@ module _ (file : List ℕ) (at : ℕ) (front : List ℕ) (left : ℕ) (shows : S
   bare_by role k (Frame h) shown bare =
       let found = bare h shown in
       bare_frame role k h shown found.0 found.1
-  bare_by role k Free shown bare = refl
-  bare_by role k (Block b) shown bare = refl
-  bare_by role k Zero shown bare = refl
-  bare_by role k End shown bare = refl
-  bare_by role k Nothing shown bare = refl
+  bare_by role k _ shown bare = refl
 
   bare_usable : (role : Role) (k : ℕ) → k ≤ 4064 → IsBare role at front k → usable_anchored file role (at + k) ≡ None
   unfolding usable_anchored anchored_frame

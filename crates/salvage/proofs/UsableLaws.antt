@@ -16,7 +16,7 @@ use Rattle.side_info.specs.Side.{side_at}
 use Rattle.side_info.specs.Frame.{side_place, side_part, side_in}
 use Rattle.side_info.proofs.FrameLaws.{side_in-take, word_said-take, overhead-few}
 use Rattle.sync_survey.specs.declared.items.Item.{Item}
-use Rattle.sync_survey.specs.declared.items.Item.TheVariants.{Frame, Free, Block, Zero, End, Nothing}
+use Rattle.sync_survey.specs.declared.items.Item.TheVariants.{Frame, Block, Zero}
 use Rattle.sync_survey.specs.declared.places.PlacedFrame.{PlacedFrame}
 use Rattle.sync_survey.specs.declared.runs.Part.TheVariants.{Stream}
 use Rattle.sync_survey.specs.Items.{header_front, item_front, size_of}
@@ -121,11 +121,7 @@ module _ (file : List ℕ) (at : ℕ) (front : List ℕ) (left : ℕ) (shows : S
 
   read_shown : (role : Role) (item : Item) → item_front front ≡ item → admits_item role at item front ≡ is_read file role at item
   read_shown role (Frame h) is = usable_shown role (record { offset = at; header = h }) refl is
-  read_shown role Free is = refl
-  read_shown role (Block b) is = refl
-  read_shown role Zero is = refl
-  read_shown role End is = refl
-  read_shown role Nothing is = refl
+  read_shown role _ is = refl
 
   whole_by : (item : Item) (size : ℕ) → item ≡ item_front front → belongs Stream item ≡ true → 0 < size_of item → size_of item ≤ size → size ≤ left → item_of Stream file at ≡ Some item
   whole_by item size is here some least within =
@@ -134,11 +130,9 @@ module _ (file : List ℕ) (at : ℕ) (front : List ℕ) (left : ℕ) (shows : S
   -- the item that is passed is whole
   pub step_whole : (item : Item) (size : ℕ) → item ≡ item_front front → ((item ≡ Zero → ⊥) → size ≡ size_of item) → 0 < size → size_of item ≤ size → size ≤ left → item_of Stream file at ≡ Some item
   step_whole (Frame h) size is own some least within = whole_by (Frame h) size is refl (omega (arith, own (λ e. cc), some)) least within
-  step_whole Free size is own some least within = absurd (omega (arith, own (λ e. cc), some))
   step_whole (Block b) size is own some least within = whole_by (Block b) size is refl (omega (arith, own (λ e. cc), some)) least within
   step_whole Zero size is own some least within = whole_by Zero size is refl (omega arith) least within
-  step_whole End size is own some least within = absurd (omega (arith, own (λ e. cc), some))
-  step_whole Nothing size is own some least within = absurd (omega (arith, own (λ e. cc), some))
+  step_whole _ size is own some least within = absurd (omega (arith, own (λ e. cc), some))
 
   -- it is read, or not
   pub item_taken : (role : Role) (item : Item) → item_of Stream file at ≡ Some item → item ≡ item_front front → admits_item role at item front ≡ true → item_read file role at ≡ Some item

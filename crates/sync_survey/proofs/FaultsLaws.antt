@@ -1,8 +1,10 @@
 -- The first of several faults, and the faults of a frame in their order.
-use Rattle.std.proofs.Common.{◌≡◌, ℕ, zero, suc, ◌+◌, ◌<◌, ◌≤◌, true, false, List, [], ◌∷◌, ◌++◌, length, get_or, drop, Option, Some, None, refl, sym, ◌∙◌, ap, ap₂, arith, map, length-append}
+use Rattle.std.proofs.Common.{◌≡◌, ℕ, zero, suc, ◌+◌, ◌<◌, ◌≤◌, true, false, List, [], ◌∷◌, ◌++◌, length, get_or, drop, Option, Some, None, refl, sym, ◌∙◌, ap, ap₂, subst, inl, inr, arith, map, length-append}
 use Rattle.std.specs.Prelude.{slice_set, flat_map, slice_get, sum_by}
 use Rattle.std.specs.List.{enumerate_from}
 use Rattle.std.specs.Option.{option_or}
+use Rattle.std.proofs.lemmas.Bool.{cases_lt}
+use Rattle.std.proofs.lemmas.Option.{slice_get_within}
 use Rattle.std.proofs.lemmas.List.{take-append-le, take_all, map-append, length-map}
 use Rattle.std.proofs.lemmas.List.Concat.{flat_map-append}
 use Rattle.std.proofs.lemmas.List.Sums.{sum_by_push}
@@ -71,6 +73,19 @@ get_more (r ∷ rows) more (suc i) lt = get_more rows more i (omega (arith, lt))
 pub get_next : (rows : List Row) (r : Row) → slice_get (rows ++ r ∷ []) (length rows) ≡ Some r
 get_next [] r = refl
 get_next (q ∷ rows) r = get_next rows r
+
+-- what holds of each of these, and of one more
+pub each_push : (P : ℕ → Row → Type 0) (rows : List Row) (r : Row) → ((i : ℕ) (q : Row) → i < length rows → slice_get rows i ≡ Some q → P i q) → P (length rows) r
+    → (i : ℕ) (q : Row) → slice_get (rows ++ r ∷ []) i ≡ Some q → P i q
+each_push P rows r each last i q found =
+    elim (cases_lt i (length rows)) as (λ _. P i q) [
+      | inl before ↦ each i q before (sym (get_more rows (r ∷ []) i before) ∙ found)
+      | inr behind ↦
+          let at : i ≡ length rows = omega (arith, behind, slice_get_within (rows ++ r ∷ []) i q found, length-append rows (r ∷ [])) in
+          let one : Some r ≡ Some q = sym (get_next rows r) ∙ ap (slice_get (rows ++ r ∷ [])) (sym at) ∙ found in
+          let same : r ≡ q = cc in
+          subst (P i) same (subst (λ n. P n r) (sym at) last)
+    ]
 
 pub get_last : (rows : List Row) (r other : Row) → get_or (rows ++ r ∷ []) (length rows) other ≡ r
 get_last [] r other = refl

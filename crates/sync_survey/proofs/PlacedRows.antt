@@ -1,9 +1,7 @@
 -- The main data of the frames so far are where they may be, whatever is told of the file.
-use Rattle.std.proofs.Common.{◌≡◌, ℕ, zero, suc, ◌+◌, ◌<◌, Bool, true, false, List, [], ◌∷◌, ◌++◌, length, length-append, take, map, Option, Some, None, Ok, refl, sym, ◌∙◌, ap, ap₂, subst, inl, inr, arith}
+use Rattle.std.proofs.Common.{◌≡◌, ℕ, zero, suc, ◌+◌, ◌<◌, Bool, true, false, List, [], ◌∷◌, ◌++◌, length, take, map, Option, Some, None, Ok, refl, sym, ◌∙◌, ap, ap₂, subst, arith}
 use Rattle.std.specs.Prelude.{not, slice_get, sum_by, option_map}
 use Rattle.std.specs.List.{enumerate_from, cons_option}
-use Rattle.std.proofs.lemmas.Bool.{cases_lt}
-use Rattle.std.proofs.lemmas.Option.{slice_get_within}
 use Rattle.std.proofs.lemmas.List.Sums.{sum_by-cons}
 use Rattle.frame_header.specs.Fields.{ClassFields, IsClass, IsHeader, same_class}
 use Rattle.frame_header.specs.Tables.{class_of}
@@ -32,7 +30,7 @@ use Rattle.sync_survey.specs.Survey.{IsWellPlaced, AreWellPlaced}
 use Rattle.sync_survey.proofs.ItemsLaws.{header_front-in_range, stands-at}
 use Rattle.sync_survey.proofs.RunsLaws.{item_of-is, run-ends}
 use Rattle.sync_survey.proofs.StartLaws.{start-first}
-use Rattle.sync_survey.proofs.FaultsLaws.{none-of, get_more, get_next, place-more, place-next, place-none, end-more, end-next}
+use Rattle.sync_survey.proofs.FaultsLaws.{none-of, each_push, place-more, place-next, place-none, end-more, end-next}
 use Rattle.sync_survey.proofs.SurveyParts.{frames_from, surveyed-parts, IsSound, faults-none_sound, sound-no_data, AreSound, all_faults-none_sound}
 
 -- ---- the same class
@@ -96,15 +94,7 @@ module _ (head : Option Head) (class : ClassFields) (said allowed : ℕ) (r : Ro
       known class_is (subst (λ c. SideFits c r.side) class_is fits) refl (sound-no_data said class allowed place_now ended count r sound)
 
   each : (i : ℕ) (q : Row) → slice_get (rows ++ frame ∷ []) i ≡ Some q → IsWellPlaced head class (rows ++ frame ∷ []) i q
-  each i q found =
-      elim (cases_lt i (length rows)) as (λ _. IsWellPlaced head class (rows ++ frame ∷ []) i q) [
-        | inl before ↦ placed_before head class rows (frame ∷ []) i q before (placed.frames i q (sym (get_more rows (frame ∷ []) i before) ∙ found))
-        | inr behind ↦
-            let at : i ≡ length rows = omega (arith, behind, slice_get_within (rows ++ frame ∷ []) i q found, length-append rows (frame ∷ [])) in
-            let one : Some frame ≡ Some q = sym (get_next rows frame) ∙ ap (slice_get (rows ++ frame ∷ [])) (sym at) ∙ found in
-            let same : frame ≡ q = cc in
-            subst (IsWellPlaced head class (rows ++ frame ∷ []) i) same (subst (λ n. IsWellPlaced head class (rows ++ frame ∷ []) n frame) (sym at) last)
-      ]
+  each = each_push (IsWellPlaced head class (rows ++ frame ∷ [])) rows frame (λ i q before found. placed_before head class rows (frame ∷ []) i q before (placed.frames i q found)) last
 
   one_more : ArePlacedTo head class (rows ++ frame ∷ []) (place_now + own_area r.header) (end_behind place_now ended (Some r))
   one_more = record {

@@ -194,11 +194,8 @@ module _ (head : Option Head) (first : ℕ) (class : ClassFields) (allowed at : 
     low = omega (arith, keeps.place, area_within h, laid.low, least);
     placed = placed_next head class (word_said front) allowed (row_in at h front) old new (known h refl) keeps laid.placed;
   }
-  laid_more Free known least keeps = laid_blocks Free [] refl least keeps
   laid_more (Block b) known least keeps = laid_blocks (Block b) (record { offset = at; block = b } ∷ []) refl least keeps
-  laid_more Zero known least keeps = laid_blocks Zero [] refl least keeps
-  laid_more End known least keeps = laid_blocks End [] refl least keeps
-  laid_more Nothing known least keeps = laid_blocks Nothing [] refl least keeps
+  laid_more item known least keeps = laid_blocks item [] refl least keeps
 
 -- ---- how many frames there are
 
