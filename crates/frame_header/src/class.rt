@@ -3,7 +3,7 @@ ghost use Rattle.std.specs.Prelude.{◌≡◌, ◌+◌, ◌<◌, ◌≤◌, ◌�
 ghost use Rattle.frame_header.specs.Fields.{SlotFields, IsSlot, same_class};
 ghost use Rattle.frame_header.specs.Tables.{rate_of, frequency_of, samples_of, side_size_of, window_of, version_place as version_place_lem, length_of, overhead_of, area_of};
 ghost use Rattle.frame_header.specs.Slots.{all_slots, areas_of, largest_slot};
-ghost use Rattle.frame_header.specs.Limits.{most_frame_length};
+ghost use Rattle.frame_header.specs.Limits.{most_frame_length, most_front};
 
 use crate::slot::Slot;
 use crate::version::Version;
@@ -116,6 +116,19 @@ impl Class {
         u32::from(length) + u32::from(slot.padding)
     }
 
+    /// How many bytes of a frame are before its area: header, check word where it is protected, and side
+    /// information. From 13 to 38.
+    #[inline(always)]
+    pub fn overhead(&self, protected: bool) -> u32
+        ensures overhead { result ≡ overhead_of self.now protected }
+        ensures most { result ≤ most_front }
+        // So they leave room for main data in each frame, by the clause `room` of `length_of`.
+        ensures within { result ≤ 6 + side_size_of self.now }
+    {
+        let check_word = if protected { 2 } else { 0 };
+        4 + check_word + self.side_size()
+    }
+
     /// The length of a frame's area in bytes, in which main data are: its length without header, check word
     /// and side information. From 1 to 1,441.
     pub fn area_of(&self, slot: Slot, protected: bool) -> u32
@@ -125,9 +138,7 @@ impl Class {
         // Area and what is before it add up to the frame.
         ensures whole { overhead_of self.now protected + result ≡ length_of self.now slot }
     {
-        let check_word = if protected { 2 } else { 0 };
-        let overhead = 4 + check_word + self.side_size();
-        self.length_of(slot) - overhead
+        self.length_of(slot) - self.overhead(protected)
     }
 
     /// All 28 slots, by ascending areas, whether or not the frames have check words.

@@ -6,7 +6,7 @@ ghost use Rattle.frame_header.specs.Tables.{class_of, length_of, overhead_of, ar
 ghost use Rattle.frame_header.specs.Reading.{header_at, header_in, rate_bits, frequency_bits, header_of_class, is_readable as is_readable_lem, version_of as version_of_lem};
 ghost use Rattle.frame_header.specs.Fields.{HeaderFields, version_number};
 ghost use Rattle.frame_header.specs.HeaderBits.{header_bits};
-ghost use Rattle.frame_header.specs.Limits.{most_frame_length};
+ghost use Rattle.frame_header.specs.Limits.{most_frame_length, most_front};
 
 use crate::class::Class;
 use crate::slot::Slot;
@@ -278,6 +278,17 @@ impl Header {
         ensures most { result ≤ most_frame_length }
     {
         self.class().length_of(self.slot)
+    }
+
+    /// How many bytes of the frame are before its area: header, check word and side information. From 13 to
+    /// 38.
+    pub fn overhead(&self) -> u32
+        ensures overhead { result ≡ overhead_of (class_of self.now) self.now.protected }
+        ensures most { result ≤ most_front }
+        ensures whole { result + area_of (class_of self.now) self.now.slot self.now.protected
+            ≡ length_of (class_of self.now) self.now.slot }
+    {
+        self.class().overhead(self.protected)
     }
 
     /// The length of the frame's area in bytes, in which main data are. From 1 to 1,441.

@@ -13,15 +13,11 @@ ghost use Rattle.outside.specs.Answers.{PassAnswer};
 ghost use Rattle.frame_header.specs.Limits.{most_frame_length, most_front};
 
 use crate::areas::Areas;
-use frame_header::Class;
+use frame_header::{Class, MOST_FRONT};
 use outside::{Failed, Folder, WriteBuffer};
 use reservoir::Payload;
 use side_info::FrameFront;
 use std::marker::Model;
-
-/// The greatest length of what is before the area of a frame, in bytes: header, check word and side
-/// information.
-const FRONT: usize = 38;
 
 /// Header and side information of a frame, and how many bytes its area has, so that this isn't computed again while it
 /// waits. Contracts see the fields of header and side information.
@@ -164,7 +160,7 @@ pub(crate) fn add_frame<D: Folder>(
     ensures { PassAnswer name.now unsent.old (first_bytes first.now areas.now.bytes) unsent.new
         (D.seen folder.old) (D.seen folder.new) result }
 {
-    let mut room = [0; FRONT];
+    let mut room = [0; MOST_FRONT];
     let size = first.put_in(class, &mut room);
     unsent.push_first(folder, name, &room, size)?;
     areas.add_first(first.area() as usize, folder, name, unsent)

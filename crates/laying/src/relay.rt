@@ -17,13 +17,13 @@ ghost use Rattle.laying.specs.Relaid.{payload_of, lead_in_before};
 ghost use Rattle.laying.specs.Fits.{bytes_at, area_at};
 ghost use Rattle.laying.specs.Calls.{Stands, StandsBefore, IsNext, Follows, ReadsOn, GivesArea, CanCut, TakesFrame, Gives, HandsOn, AddsMade};
 ghost use Rattle.laying.specs.Passing.{Reaches, IsReady, IsAreaOf, KeepsReach, IsOver, HoldsLast, HoldsWith, IsOverLast, moved_frame, placed_frame, planned_frames, own_reach, reach_at, reach_behind_all, FitsBehind, GivesFrames, GivesPart, IsSection, section_frames};
-ghost use Rattle.frame_header.specs.Limits.{most_back, most_frame_length, most_front};
+ghost use Rattle.frame_header.specs.Limits.{most_back, most_frame_length};
 ghost use Rattle.outside.specs.Feed.{most_given};
 ghost use Rattle.frame_writer.specs.Laid.{most_waiting};
 
 use crate::buffers::Buffers;
 use crate::section::Section;
-use frame_header::{Class, Header};
+use frame_header::Class;
 use frame_writer::{Frame, FrameQueue};
 use outside::{Feed, Folder, Pass, PassFault, WriteBuffer};
 use reservoir::{Payload, Window};
@@ -74,25 +74,6 @@ struct Held<'w> {
     own: &'w [u8],
 }
 
-/// How many bytes of a frame are before its area: header, check word and side information.
-fn overhead(header: &Header) -> u32
-    ensures overhead { result ≡ overhead_of (class_of header.now) header.now.protected }
-    ensures most { result ≤ most_front }
-{
-    overhead_in(header.class(), header.protected)
-}
-
-/// The same of a frame of this class.
-#[inline(always)]
-#[tactic(auto, unfolding(frame_header::specs::Tables::overhead_of))]
-fn overhead_in(class: Class, protected: bool) -> u32
-    ensures overhead { result ≡ overhead_of class protected }
-    ensures most { result ≤ most_front }
-{
-    let word = if protected { 2 } else { 0 };
-    4 + word + class.side_size()
-}
-
 /// Where the area of a frame is in the input: the offset at which it begins, and how many bytes it has.
 #[derive(Clone, Copy)]
 struct AreaPlace {
@@ -114,7 +95,7 @@ fn area_place(class: Class, row: &Row) -> AreaPlace
     let front = row.front();
     let protected = front.protected();
     AreaPlace {
-        at: u64::from(row.offset()) + u64::from(overhead_in(class, protected)),
+        at: u64::from(row.offset()) + u64::from(class.overhead(protected)),
         size: class.area_of(front.slot(), protected) as usize,
     }
 }
@@ -232,7 +213,7 @@ impl<'a> Relay<'a> {
             return Ok(());
         };
         let area = head.header.area();
-        let at = head.offset + u64::from(overhead(&head.header));
+        let at = head.offset + u64::from(head.header.overhead());
         self.pass.fill(folder, at, area as usize, feed)?;
         window.push_area(feed.bytes());
         Ok(())

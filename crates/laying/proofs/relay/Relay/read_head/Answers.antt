@@ -30,7 +30,7 @@ pub fill-requires-clause-within : goal.fill-requires-clause-within
 fill-requires-clause-within g c =
     let s = tells c.args.self.now.survey.now in
     let laid = c.requires.ready.laid in
-    omega (arith, head-within s c.in-Some.head laid (sym c.head.ensures ∙ c.in-Some.is), c.requires.ready.length_is, c.from.ensures, c.overhead.ensures.overhead, c.area-area.ensures.whole)
+    omega (arith, head-within s c.in-Some.head laid (sym c.head.ensures ∙ c.in-Some.is), c.requires.ready.length_is, c.from.ensures, c.overhead.ensures.whole, c.area-area.ensures.area)
 
 pub returns-clause-over : goal.returns-clause-over
 returns-clause-over g c =
