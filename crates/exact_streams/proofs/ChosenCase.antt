@@ -26,7 +26,7 @@ use Rattle.commands.proofs.RefusingLaws.{then_ok, unless_ok}
 use Rattle.commands.proofs.MadeLaws.{makes-parts, made-of}
 use Rattle.frame_edits.specs.declared.chosen.Slots.{Slots}
 use Rattle.frame_edits.specs.declared.chosen.Slots.TheVariants.{Own, Least}
-use Rattle.frame_edits.specs.Laid.{Laid, file_laid, stream_laid}
+use Rattle.laying.specs.Laid.{Laid, file_laid, stream_laid}
 use Rattle.frame_edits.specs.Chosen.{Chosen, outside_fault, chosen_with, Choosing, choosing, chosen_task, stream_with, stream_chosen_by, stream_chosen, chosen_stream, cut_choice, all_choice, cut_refuses, pack_refuses, slots_of, laid_by, part_of}
 use Rattle.frame_edits.proofs.ChosenLaws.{chosen-within, with-parts, IsRight, all_right}
 use Rattle.laying.specs.Written.{head_info}

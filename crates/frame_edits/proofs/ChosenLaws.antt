@@ -13,18 +13,19 @@ use Rattle.slot_plan.specs.Parts.{parts_of, window_in}
 use Rattle.slot_plan.specs.Plans.{IsPlan}
 use Rattle.slot_plan.specs.Laws.{ChooseInOrder}
 use Rattle.slot_plan.proofs.AreaLaws.{only_one}
-use Rattle.part_needs.specs.Needs.{Asked, need_of, needs_of, asked_of}
+use Rattle.part_needs.specs.Needs.{Asked, need_of, asked_of}
 use Rattle.part_needs.specs.Fit.{IsPlaced, AreFit}
-use Rattle.part_needs.proofs.FitLaws.{part-known}
-use Rattle.part_needs.proofs.PartsLaws.{one-part-fits, parts-plan, parts_are}
+use Rattle.part_needs.proofs.FitLaws.{AreKnown, part-known}
+use Rattle.part_needs.proofs.PartsLaws.{one-part-fits, parts-plan}
 use Rattle.laying.specs.Surveys.{HasSurvey}
 use Rattle.laying.specs.Relaid.{AreSlots}
-use Rattle.laying.specs.Fits.{FitsFrom, IsFitting}
-use Rattle.laying.specs.Written.{slot_in, head_info}
+use Rattle.laying.specs.Fits.{IsFitting}
+use Rattle.laying.specs.Laid.{Laid, file_laid}
+use Rattle.laying.specs.Written.{head_info}
 use Rattle.laying.proofs.ChosenFrames.{survey-had}
-use Rattle.laying.proofs.FitLaws.{plans-fit}
+use Rattle.laying.proofs.FitLaws.{AreHeaders, parts-fitting, asked-plans}
+use Rattle.laying.proofs.LaidLaws.{laid-holds}
 use Rattle.laying.proofs.PlannedFrames.{slot_among}
-use Rattle.frame_edits.proofs.LaidLaws.{laid-slots, laid-holds, plan-slots}
 use Rattle.sync_survey.specs.Row.{Row}
 use Rattle.sync_survey.specs.declared.places.Head.{Head}
 use Rattle.sync_survey.specs.declared.survey_fault.SurveyFault.{SurveyFault}
@@ -35,7 +36,7 @@ use Rattle.commands.specs.declared.fault.Refusal.{Refusal}
 use Rattle.commands.specs.declared.fault.Refusal.TheVariants.{Range}
 use Rattle.frame_edits.specs.declared.chosen.Slots.{Slots}
 use Rattle.frame_edits.specs.declared.chosen.Slots.TheVariants.{Own, Least}
-use Rattle.frame_edits.specs.Chosen.{Chosen, laid_of, outside_fault, choices_by, IsPlanOf, chosen_rows, plan_of, laid_frames, chosen_file, chosen_stream, Choosing, laid_with, choosing, stream_with, stream_chosen_by, stream_chosen, chosen_with, cut_choice, all_choice, laid_by}
+use Rattle.frame_edits.specs.Chosen.{Chosen, laid_of, outside_fault, choices_by, chosen_rows, plan_of, chosen_file, chosen_stream, Choosing, laid_with, choosing, stream_with, stream_chosen_by, stream_chosen, chosen_with, cut_choice, all_choice}
 use Rattle.commands.specs.One.{most_frames, IsMaking, IsProper}
 use Rattle.commands.specs.Left.{IsLate}
 use Rattle.commands.proofs.InputLaws.{IsProperMaking, file_makes, file_proper}
@@ -45,7 +46,6 @@ use Rattle.outside.specs.Files.{Files, Holds, IsThere}
 use Rattle.frame_edits.specs.declared.choice.Choice.{Choice}
 use Rattle.frame_edits.specs.declared.choice.Choice.TheVariants.{Between, All as AllFrames}
 use Rattle.frame_edits.specs.Choices.{choosing_by, refused_by, task_of}
-use Rattle.frame_edits.specs.Laid.{file_laid}
 use Rattle.frame_edits.proofs.LaidPass.{file-is}
 
 -- ---- the choice
@@ -64,6 +64,10 @@ chosen_kind : (slots : Slots) (c : ClassFields) (rows : List Row) → AreFit c (
 chosen_kind Least c rows fit = fit.least
 chosen_kind Own c rows fit = fit.kept
 
+headers-known : (rows : List Row) → AreKnown rows → AreHeaders (map need_of rows)
+headers-known [] known = tt
+headers-known (r ∷ rows) known = (known.0, headers-known rows known.1)
+
 -- frames that a command chooses from a survey
 module _ (chosen : Chosen) (s : SurveyFields) (placed : IsPlaced s) (some : chosen.from < chosen.to) (within : chosen.to ≤ length s.frames) where
   abbrev part_rows : List Row
@@ -75,9 +79,6 @@ module _ (chosen : Chosen) (s : SurveyFields) (placed : IsPlaced s) (some : chos
   pub rows-fit : AreFit s.class asked
   rows-fit = one-part-fits s chosen.from chosen.to placed some within
 
-  part_is : parts_of asked.needs asked.places ≡ map need_of part_rows ∷ []
-  part_is = parts_are [] 0 (part_rows ∷ []) refl
-
   one_plan : (ps : List Placed) → IsPlan (window_of s.class.version) (choices_by chosen.slots) (map need_of part_rows ∷ []) ps ↔ (ps ≡ plan_of chosen s)
   one_plan ps = parts-plan s.class (choices_by chosen.slots) (part_rows ∷ []) ps rows-fit (chosen_kind chosen.slots s.class part_rows rows-fit)
 
@@ -85,37 +86,19 @@ module _ (chosen : Chosen) (s : SurveyFields) (placed : IsPlaced s) (some : chos
   the-plan = (one_plan (plan_of chosen s)).1 refl
 
   -- what the planner answers where it is given these frames alone
-  of_part : (given : Asked) (choices : HeaderFields → List SlotFields) (ps : List Placed) → given ≡ asked → choices ≡ choices_by chosen.slots → IsPlan (window_in given.needs) choices (parts_of given.needs given.places) ps
-      → IsPlan (window_of s.class.version) (choices_by chosen.slots) (map need_of part_rows ∷ []) ps
-  of_part given choices ps same by plan =
-      subst (λ (n : ℕ). IsPlan n (choices_by chosen.slots) (map need_of part_rows ∷ []) ps) rows-fit.window
-      (subst (λ (parts : List (List Need)). IsPlan (window_in asked.needs) (choices_by chosen.slots) parts ps) part_is (rw (same, by) at plan))
-
-  fits_by : (ps : List Placed) → IsPlan (window_of s.class.version) (choices_by chosen.slots) (map need_of part_rows ∷ []) ps → FitsFrom (window_of s.class.version) 0 (map need_of part_rows) ps
-  unfolding needs_of
-  fits_by ps plan = subst (λ (needs : List Need). FitsFrom (window_of s.class.version) 0 needs ps) (append-nil (map need_of part_rows)) (plans-fit (window_of s.class.version) (choices_by chosen.slots) (part_rows ∷ []) ps plan)
-
-  pub plan_is : (given : Asked) (choices : HeaderFields → List SlotFields) (ps : List Placed) → given ≡ asked → choices ≡ choices_by chosen.slots → IsPlan (window_in given.needs) choices (parts_of given.needs given.places) ps → IsPlanOf chosen s ps
-  plan_is given choices ps same by answer = let plan = of_part given choices ps same by answer in record { plan = (one_plan ps).0 plan; fits = fits_by ps plan }
+  pub plan_is : (given : Asked) (choices : HeaderFields → List SlotFields) (ps : List Placed) → given ≡ asked → choices ≡ choices_by chosen.slots → IsPlan (window_in given.needs) choices (parts_of given.needs given.places) ps → ps ≡ plan_of chosen s
+  plan_is given choices ps same by answer = (one_plan ps).0 (asked-plans s.class (choices_by chosen.slots) (part_rows ∷ []) ps rows-fit (rw (same, by) at answer))
 
   -- and it can be laid
   pub plan-fitting : IsFitting (window_of s.class.version) (map need_of part_rows) (plan_of chosen s)
-  plan-fitting = record {
-    fits = fits_by (plan_of chosen s) the-plan;
-    slots = plan-slots (window_of s.class.version) (choices_by chosen.slots) part_rows (plan_of chosen s) (choice_slots chosen.slots) (part-known s chosen.from chosen.to placed) the-plan;
-  }
+  plan-fitting =
+      subst (λ (needs : List Need). IsFitting (window_of s.class.version) needs (plan_of chosen s)) (append-nil (map need_of part_rows))
+      (parts-fitting (window_of s.class.version) (choices_by chosen.slots) (choice_slots chosen.slots) (map need_of part_rows ∷ []) (plan_of chosen s) (headers-known part_rows (part-known s chosen.from chosen.to placed), tt) the-plan)
 
 module _ (chosen : Chosen) (file : List ℕ) (s : SurveyFields) (is : HasSurvey file s) (some : chosen.from < chosen.to) (within : chosen.to ≤ length s.frames) where
-  fitting : IsFitting (window_of s.class.version) (map need_of (chosen_rows chosen s)) (plan_of chosen s)
-  fitting = plan-fitting chosen s is.placed some within
-
-  -- the frames are in the slots of the plan
-  pub frame-slots : map slot_in (laid_frames chosen file s) ≡ map (λ (p : Placed). p.slot) (plan_of chosen s)
-  frame-slots = laid-slots (laid_of chosen s) file s is some within fitting
-
   pub chosen-holds : length chosen.extension ≡ 36 → HoldsStream (chosen_file chosen file s) (chosen_stream chosen file s)
   unfolding chosen_file chosen_stream
-  chosen-holds extension = laid-holds (laid_of chosen s) file s is some within fitting extension
+  chosen-holds extension = laid-holds (laid_of chosen s) file s is some within (plan-fitting chosen s is.placed some within) extension
 
 -- ---- a command that lays chosen frames
 
@@ -197,11 +180,11 @@ proper : (choice : Choice) → IsProperMaking (choosing (choosing_by choice)) (s
 proper (Between from to slots) = cut_proper from.now to.now slots
 proper (AllFrames slots) = all_proper slots
 
-pub edit_makes : (choice : Choice) (input : List ℕ) (s : SurveyFields) (chosen : Chosen) (placed : List Placed) (files : Files) → IsThere files input → ((bytes : List ℕ) → Holds files input bytes → survey_of bytes most_frames ≡ Ok s) → ((bytes : List ℕ) → Holds files input bytes → AreBytes bytes)
-    → ((bytes : List ℕ) → Holds files input bytes → choosing_by choice bytes s ≡ Ok chosen) → placed ≡ plan_of chosen s → IsMaking (task_of choice input) (λ file. file_laid (laid_by chosen placed) file s) files
-edit_makes choice input s chosen placed files there surveyed octets chose plan =
+pub edit_makes : (choice : Choice) (input : List ℕ) (s : SurveyFields) (chosen : Chosen) (laid : Laid) (files : Files) → IsThere files input → ((bytes : List ℕ) → Holds files input bytes → survey_of bytes most_frames ≡ Ok s) → ((bytes : List ℕ) → Holds files input bytes → AreBytes bytes)
+    → ((bytes : List ℕ) → Holds files input bytes → choosing_by choice bytes s ≡ Ok chosen) → laid ≡ laid_of chosen s → IsMaking (task_of choice input) (λ file. file_laid laid file s) files
+edit_makes choice input s chosen laid files there surveyed octets chose own =
     file_makes (choosing (choosing_by choice)) (stream_chosen (choosing_by choice)) (refused_by choice) input files _ s there surveyed octets
-    (λ bytes holds. ap (laid_with bytes s) (chose bytes holds) ∙ ap Ok (sym (file-is chosen placed bytes s plan)))
+    (λ bytes holds. ap (laid_with bytes s) (chose bytes holds) ∙ ap Ok (sym (file-is chosen laid bytes s own)))
 
 pub edit_proper : (choice : Choice) (input : List ℕ) → IsProper (task_of choice input)
 edit_proper choice input = file_proper (choosing (choosing_by choice)) (stream_chosen (choosing_by choice)) (proper choice) (refused_by choice) input

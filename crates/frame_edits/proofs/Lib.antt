@@ -1,4 +1,3 @@
 -- The lemmas of this crate.
-pub mod LaidLaws
 pub mod LaidPass
 pub mod ChosenLaws

@@ -8,9 +8,8 @@ use Rattle.slot_plan.specs.declared.needs.Placed.{Placed}
 use Rattle.slot_plan.specs.LeastPlan.{least_plan}
 use Rattle.part_needs.specs.Needs.{need_of}
 use Rattle.part_needs.specs.Fit.{own_choice, any_choice}
-use Rattle.frame_writer.specs.Frames.{Frame}
-use Rattle.info_header.specs.declared.fields.Info.{Info}
-use Rattle.laying.specs.Fits.{FitsFrom}
+use Rattle.laying.specs.declared.selected.Selected.{Selected}
+use Rattle.laying.specs.Laid.{Laid, part_laid, file_laid, stream_laid, laid_in, IsWritable}
 use Rattle.laying.specs.Relaid.{Part}
 use Rattle.laying.specs.Written.{head_info}
 use Rattle.sync_survey.specs.Row.{Row}
@@ -18,7 +17,6 @@ use Rattle.sync_survey.specs.declared.survey_fault.SurveyFault.{SurveyFault}
 use Rattle.sync_survey.specs.MainData.{StreamFrame}
 use Rattle.sync_survey.specs.Faults.{SurveyFields}
 use Rattle.sync_survey.specs.Survey.{survey_of, IsLaidOut}
-use Rattle.frame_edits.specs.Laid.{Laid, part_laid, frames_laid, file_laid, stream_laid, IsLaidInfo}
 use Rattle.frame_edits.specs.declared.chosen.Chosen.{Chosen as CodeChosen}
 use Rattle.frame_edits.specs.declared.chosen.Slots.{Slots}
 use Rattle.frame_edits.specs.declared.chosen.Slots.TheVariants.{Own, Least}
@@ -69,11 +67,6 @@ chosen_rows chosen s = slice_range s.frames chosen.from chosen.to
 abbrev pub plan_of : Chosen → SurveyFields → List Placed
 plan_of chosen s = least_plan (window_of s.class.version) (choices_by chosen.slots) (map need_of (chosen_rows chosen s) ∷ [])
 
--- these are the slots of their plan, which can be written frame by frame
-pub record IsPlanOf (chosen : Chosen) (s : SurveyFields) (placed : List Placed) : Type 0 where
-  pub plan : placed ≡ plan_of chosen s
-  pub fits : FitsFrom (window_of s.class.version) 0 (map need_of (chosen_rows chosen s)) placed
-
 -- the chosen frames in the slots of a plan
 abbrev pub laid_by : Chosen → List Placed → Laid
 laid_by chosen placed = record { from = chosen.from; to = chosen.to; placed = placed; quality = chosen.quality; extension = chosen.extension }
@@ -85,15 +78,13 @@ laid_of chosen s = laid_by chosen (plan_of chosen s)
 abbrev pub part_of : Chosen → List ℕ → SurveyFields → Part
 part_of chosen file s = part_laid (laid_of chosen s) file s
 
-abbrev pub laid_frames : Chosen → List ℕ → SurveyFields → List Frame
-laid_frames chosen file s = frames_laid (laid_of chosen s) file s
-
 unfoldable pub chosen_file : Chosen → List ℕ → SurveyFields → List ℕ
 chosen_file chosen file s = file_laid (laid_of chosen s) file s
 
--- these are the bytes of the Info frame
-abbrev pub IsChosenInfo : Chosen → List ℕ → SurveyFields → List ℕ → Type 0
-IsChosenInfo chosen file s bytes = IsLaidInfo (laid_of chosen s) file s bytes
+-- these were made ready: the chosen frames in the slots of their own plan, which can be written
+pub record IsSelected (chosen : Chosen) (s : SurveyFields) (selected : Selected) : Type 0 where
+  pub laid : laid_in selected ≡ laid_of chosen s
+  pub writable : IsWritable s selected
 
 -- its stream: at most one lead-in, and the frames as they are in the stream of the file
 unfoldable pub chosen_stream : Chosen → List ℕ → SurveyFields → List StreamFrame

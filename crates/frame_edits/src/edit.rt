@@ -2,7 +2,7 @@
 ghost use Rattle.frame_edits.specs.Choices.{task_of, IsChoice};
 
 use crate::choice::Choice;
-use crate::plans::{Selection, plan_file};
+use crate::plans::plan_file;
 use crate::work::Work;
 use commands::{Edit, EditFault, Inputs, MOST_FRAMES, survey_at};
 use outside::Folder;
@@ -29,8 +29,8 @@ impl<'a> Edit for FrameEdit<'a> {
     fn prepare<D: Folder>(&self, alloc: Global, folder: &mut D) -> Result<Work, EditFault> {
         let survey = survey_at(alloc, folder, self.input, 0, MOST_FRAMES)?;
         let chosen = self.choice.find(folder, self.input, &survey)?;
-        let planned = plan_file(alloc, &survey, &chosen)?;
-        let work = Work::new(alloc, survey, Selection { chosen, planned })?;
+        let selected = plan_file(alloc, &survey, &chosen)?;
+        let work = Work::new(alloc, survey, selected)?;
         Ok(work)
     }
 }

@@ -2,10 +2,8 @@
 ghost use Rattle.std.specs.Prelude.{IfOk};
 ghost use Rattle.frame_edits.specs.Layable.{work_file, IsLayable, IsWorkOf};
 
-use crate::plans::Selection;
-use crate::writing::write_laid;
 use commands::OutputPass;
-use laying::{Buffers, Relay};
+use laying::{Buffers, Relay, Selected};
 use outside::{Folder, Pass, PassFault};
 use std::alloc::{AllocError, Global};
 use sync_survey::Survey;
@@ -14,7 +12,7 @@ use sync_survey::Survey;
 #[derive(Drop)]
 pub struct Work {
     pub survey: Survey,
-    pub selection: Selection,
+    pub selected: Selected,
     pub buffers: Buffers,
 }
 
@@ -23,13 +21,13 @@ impl Work {
     ///
     /// # Errors
     /// Where there is no memory.
-    pub fn new(alloc: Global, survey: Survey, selection: Selection) -> Result<Work, AllocError>
-        ensures { IfOk result (IsWorkOf survey selection) }
+    pub fn new(alloc: Global, survey: Survey, selected: Selected) -> Result<Work, AllocError>
+        ensures { IfOk result (IsWorkOf survey selected) }
     {
         let buffers = Buffers::new(alloc, survey.class())?;
         Ok(Work {
             survey,
-            selection,
+            selected,
             buffers,
         })
     }
@@ -48,7 +46,7 @@ impl OutputPass for Work {
     ) -> Result<(), PassFault> {
         let Work {
             survey,
-            selection,
+            selected,
             buffers,
         } = self;
         let pass = Pass {
@@ -56,6 +54,6 @@ impl OutputPass for Work {
             output,
             length: survey.length(),
         };
-        write_laid(folder, &Relay { pass, survey }, selection, buffers)
+        Relay { pass, survey }.write(folder, selected, buffers)
     }
 }

@@ -1,6 +1,6 @@
 -- The plan of all frames of several surveys.
-use Rattle.std.proofs.Common.{◌≡◌, ℕ, zero, suc, ◌+◌, ◌<◌, ◌≤◌, List, [], ◌∷◌, ◌++◌, length, map, take, All, refl, sym, ◌∙◌, ap, ap₂, subst, arith, length-append}
-use Rattle.std.specs.Prelude.{◌↔◌, flat_map}
+use Rattle.std.proofs.Common.{◌≡◌, ℕ, zero, suc, ◌+◌, ◌<◌, ◌≤◌, List, [], ◌∷◌, length, map, take, All, refl, sym, ◌∙◌, ap, ap₂, subst, arith, length-append}
+use Rattle.std.specs.Prelude.{◌↔◌}
 use Rattle.std.proofs.lemmas.List.{length-map, take-map}
 use Rattle.std.proofs.lemmas.List.Elements.{All-nil, All-cons}
 use Rattle.frame_header.specs.Fields.{ClassFields}
@@ -13,7 +13,7 @@ use Rattle.slot_plan.specs.Plans.{IsPlan}
 use Rattle.part_needs.specs.Needs.{Asked, need_of, needs_of, places_from, asked_of}
 use Rattle.part_needs.specs.Fit.{own_choice, IsPartOf, AreFit}
 use Rattle.part_needs.proofs.PartsLaws.{parts-fit, parts-plan}
-use Rattle.laying.proofs.FitLaws.{plans-fit, asked-plans}
+use Rattle.laying.proofs.FitLaws.{needs-flat, plans-fit, asked-plans}
 use Rattle.laying.proofs.PlacesLaws.{range-whole, plan-length}
 use Rattle.sync_survey.specs.Row.{Row}
 use Rattle.sync_survey.specs.Faults.{SurveyFields}
@@ -59,11 +59,6 @@ alike-parts class (s ∷ ss) are =
     All-cons (IsPartOf class) s.frames (rows_of ss)
     (record { survey = s; from = 0; to = length s.frames; placed = are.1.placed; same = are.2; some = are.0; within = omega arith; are = sym (range-whole s.frames) })
     (alike-parts class ss are.3)
-
-needs-flat : (parts : List (List Row)) → flat_map (λ (part : List Need). part) (map (map need_of) parts) ≡ needs_of parts
-unfolding needs_of
-needs-flat [] = refl
-needs-flat (rows ∷ parts) = ap (λ (l : List Need). map need_of rows ++ l) (needs-flat parts)
 
 module _ (ss : List SurveyFields) (can : CanBeJoined ss) where
   abbrev parts : List (List Need)

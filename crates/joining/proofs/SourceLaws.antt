@@ -22,8 +22,8 @@ use Rattle.info_header.specs.InfoFrame.{info_frame}
 use Rattle.laid_files.specs.LaidFiles.{HasInfoSizes, laid_file}
 use Rattle.laying.specs.Relaid.{Part, frames_in, AreParts, needs_in, AreSlots, relaid}
 use Rattle.laying.specs.Written.{front_blocks, slot_in, table_entry, plain_info}
-use Rattle.laying.proofs.HoldLaws.{files-hold, blocks-kept}
-use Rattle.laying.proofs.SlotLaws.{slots-planned}
+use Rattle.laying.proofs.FittingFrames.{files-hold, slots-planned}
+use Rattle.laying.proofs.HoldLaws.{blocks-kept}
 use Rattle.laying.proofs.ChosenFrames.{survey-had}
 use Rattle.laying.proofs.PlacesLaws.{range-whole}
 use Rattle.sync_survey.specs.Row.{Row}

@@ -57,8 +57,8 @@ pub record IsPlanOf (ss : List SurveyFields) (placed : List Placed) : Type 0 whe
 -- the inputs can be joined, this is their plan, with the Info frame before it, and the buffers are for frames of their class
 pub record IsReady (ss : List SurveyFields) (work : Work) : Type 0 where
   pub joined : CanBeJoined ss
-  pub plan : IsPlanOf ss (entries work.planned.plan)
-  pub info : IsJoinedInfo ss (entries work.planned.plan) work.planned.info.items
+  pub plan : IsPlanOf ss (entries work.plan)
+  pub info : IsJoinedInfo ss (entries work.plan) work.info.items
   pub fresh : IfSome (class_in ss) (λ class. IsFresh class work.buffers)
 
 -- all frames of the inputs in the slots of the plan, by what the folder tells

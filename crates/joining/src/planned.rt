@@ -8,9 +8,7 @@ ghost use Rattle.joining.specs.Laying.{IsPlanOf, IsReady};
 
 use crate::inputs::known_at;
 use arrayvec::ArrayVec;
-use frame_edits::Planned;
-use info_header::write_info;
-use laying::{Buffers, Kept, info_of};
+use laying::{Buffers, Kept, info_bytes};
 use part_needs::Parts;
 use slot_plan::{Keep, Plan};
 use std::alloc::{AllocError, Global};
@@ -37,11 +35,12 @@ fn plan_all(alloc: Global, surveys: &[Survey]) -> Result<Plan, AllocError>
     parts.plan(alloc, &Keep)
 }
 
-/// The plan of all frames, with the Info frame before them, whose header is that of the first frame, and the memory of the
-/// second pass.
+/// The plan of all frames, the bytes of the Info frame before them, at most 1,441, whose header is that of the first frame,
+/// and the memory of the second pass.
 #[derive(Drop)]
 pub(crate) struct Work {
-    pub planned: Planned,
+    pub plan: Plan,
+    pub info: ArrayVec<u8, 1441>,
     pub buffers: Buffers,
 }
 
@@ -52,13 +51,11 @@ pub(crate) fn prepare(alloc: Global, surveys: &[Survey]) -> Result<Work, AllocEr
 {
     let plan = plan_all(alloc, surveys)?;
     let first = known_at(surveys, 0);
-    let fields = info_of(first.class(), plan.placed(), &Kept::none());
-    let header = &first.frames()[0].header();
-    let mut info = ArrayVec::new();
-    write_info(header, &fields, &mut info);
+    let info = info_bytes(first, 0, &Kept::none(), plan.placed());
     let buffers = Buffers::new(alloc, first.class())?;
     Ok(Work {
-        planned: Planned { plan, info },
+        plan,
+        info,
         buffers,
     })
 }

@@ -65,19 +65,15 @@ fn append_joined<'a, D: Folder>(
         (joined_of (D.seen folder.old).files (map string_bytes inputs.now) (map tells surveys.now))
         (D.seen folder.old) (D.seen folder.new) result }
 {
-    let Work { planned, buffers } = work;
-    let info = planned.info.as_slice();
-    if let Err(fault) = append_front(first, folder, info, buffers) {
+    let Work {
+        plan,
+        info,
+        buffers,
+    } = work;
+    if let Err(fault) = append_front(first, folder, info.as_slice(), buffers) {
         return Err(Stopped { place: 0, fault });
     }
-    lay_all(
-        first,
-        folder,
-        inputs,
-        surveys,
-        planned.plan.placed(),
-        buffers,
-    )?;
+    lay_all(first, folder, inputs, surveys, plan.placed(), buffers)?;
     match first.pass.finish(folder, &mut buffers.waiting) {
         Ok(()) => Ok(()),
         Err(fault) => Err(Stopped { place: 0, fault }),

@@ -1,8 +1,8 @@
--- A plan can be written frame by frame: its starts are as early as they may be, so no later than those of a layout.
-use Rattle.std.proofs.Common.{◌≡◌, ℕ, ◌+◌, ◌-◌, ◌≤◌, min, cond, Bool, true, false, List, [], ◌∷◌, ◌++◌, map, get_or, drop, Option, Some, None, refl, sym, ap, ap₂, subst, arith}
+-- A plan can be written frame by frame: its starts are as early as they may be, so no later than those of a layout. Its slots are some of the 28.
+use Rattle.std.proofs.Common.{◌≡◌, ℕ, ◌+◌, ◌-◌, ◌≤◌, min, cond, Bool, true, false, List, [], ◌∷◌, ◌++◌, map, get_or, drop, Contains, Option, Some, None, refl, sym, ap, ap₂, subst, arith}
 use Rattle.std.specs.Prelude.{max, flat_map}
 use Rattle.std.proofs.Math.Nat.{le-max_left, le-max_right, max-le}
-use Rattle.frame_header.specs.Fields.{SlotFields, HeaderFields}
+use Rattle.frame_header.specs.Fields.{SlotFields, HeaderFields, IsSlot, IsHeader}
 use Rattle.frame_header.specs.Tables.{class_of, area_of}
 use Rattle.slot_plan.specs.declared.needs.Need.{Need}
 use Rattle.slot_plan.specs.declared.needs.Placed.{Placed}
@@ -11,12 +11,14 @@ use Rattle.slot_plan.specs.Lists.{frames_of}
 use Rattle.slot_plan.specs.Parts.{Item, area_in, open_of, item_of, items_of, IsLeadIn, AreLeadIns, whole_of}
 use Rattle.slot_plan.specs.Plans.{AreFor, areas_in, IsPlan}
 use Rattle.slot_plan.specs.Parts.{window_in}
+use Rattle.slot_plan.proofs.AreaLaws.{only_one}
 use Rattle.part_needs.specs.Needs.{need_of, needs_of}
 use Rattle.part_needs.proofs.PartsLaws.{parts_are}
 use Rattle.sync_survey.specs.Row.{Row}
-use Rattle.laying.specs.Relaid.{left_behind}
-use Rattle.laying.specs.Fits.{bytes_at, reach_behind, FitsFrom}
+use Rattle.laying.specs.Relaid.{left_behind, AreSlots}
+use Rattle.laying.specs.Fits.{bytes_at, reach_behind, FitsFrom, AreInSlots, IsFitting}
 use Rattle.laying.specs.Laws.{PlansFit, AskedPlans}
+use Rattle.laying.proofs.PlannedFrames.{slot_among}
 
 -- ---- items of a plan, as they were asked for
 
@@ -95,18 +97,76 @@ asks-part window choices part None rest more lead asks = asks-items choices part
 asks-part window choices [] (Some slot) rest more lead asks = absurd lead
 asks-part window choices (need ∷ part) (Some slot) rest more lead asks = ((refl, refl, refl), asks-items choices (need ∷ part) rest more asks)
 
-asks-whole : (window : ℕ) (choices : HeaderFields → List SlotFields) (parts : List (List Row)) (lead_ins : List (Option SlotFields)) → AreLeadIns window choices (map (map need_of) parts) lead_ins
-    → Asks (whole_of choices (map (map need_of) parts) lead_ins) (flat_map (map need_of) parts)
+asks-whole : (window : ℕ) (choices : HeaderFields → List SlotFields) (parts : List (List Need)) (lead_ins : List (Option SlotFields)) → AreLeadIns window choices parts lead_ins
+    → Asks (whole_of choices parts lead_ins) (flat_map (λ (part : List Need). part) parts)
 unfolding whole_of AreLeadIns
 asks-whole window choices [] lead_ins leads = tt
 asks-whole window choices (part ∷ parts) [] leads = absurd leads
 asks-whole window choices (part ∷ parts) (lead_in ∷ lead_ins) leads =
-    asks-part window choices (map need_of part) lead_in (whole_of choices (map (map need_of) parts) lead_ins) (flat_map (map need_of) parts) leads.0 (asks-whole window choices parts lead_ins leads.1)
+    asks-part window choices part lead_in (whole_of choices parts lead_ins) (flat_map (λ (part : List Need). part) parts) leads.0 (asks-whole window choices parts lead_ins leads.1)
+
+pub parts-fit : (window : ℕ) (choices : HeaderFields → List SlotFields) (parts : List (List Need)) (placed : List Placed) → IsPlan window choices parts placed → FitsFrom window 0 (flat_map (λ (part : List Need). part) parts) placed
+parts-fit window choices parts placed plan =
+    items-fit window (whole_of choices parts plan.lead_ins) (flat_map (λ (part : List Need). part) parts) placed (asks-whole window choices parts plan.lead_ins plan.alone) plan.whole.slots plan.whole.least.feasible plan.whole.begins
+
+pub needs-flat : (parts : List (List Row)) → flat_map (λ (part : List Need). part) (map (map need_of) parts) ≡ needs_of parts
+unfolding needs_of
+needs-flat [] = refl
+needs-flat (rows ∷ parts) = ap (λ (l : List Need). map need_of rows ++ l) (needs-flat parts)
 
 pub plans-fit : PlansFit
-unfolding needs_of
-plans-fit window choices parts placed plan =
-    items-fit window (whole_of choices (map (map need_of) parts) plan.lead_ins) (flat_map (map need_of) parts) placed (asks-whole window choices parts plan.lead_ins plan.alone) plan.whole.slots plan.whole.least.feasible plan.whole.begins
+plans-fit window choices parts placed plan = subst (λ needs. FitsFrom window 0 needs placed) (needs-flat parts) (parts-fit window choices (map (map need_of) parts) placed plan)
+
+-- ---- the slots of a plan are some of the 28
+
+abbrev pub AllSlots : Item → Type 0
+AllSlots item = (slot : SlotFields) → Contains item.choices slot → IsSlot slot
+
+-- the slots of all of them are open to slots alone
+abbrev pub AreOpen : List Item → Type 0
+AreOpen [] = Unit {0}
+AreOpen (item ∷ items) = AllSlots item × AreOpen items
+
+pub open-in_slots : (items : List Item) (placed : List Placed) → AreOpen items → AreFor items placed → AreInSlots placed
+unfolding AreFor
+open-in_slots [] [] are for_items = tt
+open-in_slots [] (p ∷ placed) are for_items = absurd for_items
+open-in_slots (item ∷ items) [] are for_items = absurd for_items
+open-in_slots (item ∷ items) (p ∷ placed) are for_items = (are.0 p.slot for_items.1, open-in_slots items placed are.1 for_items.2)
+
+-- the headers are those of frames
+abbrev pub AreHeaders : List Need → Type 0
+AreHeaders [] = Unit {0}
+AreHeaders (need ∷ needs) = IsHeader need.header × AreHeaders needs
+
+abbrev pub AllHeaders : List (List Need) → Type 0
+AllHeaders [] = Unit {0}
+AllHeaders (part ∷ parts) = AreHeaders part × AllHeaders parts
+
+module _ (window : ℕ) (choices : HeaderFields → List SlotFields) (slots : AreSlots choices) where
+  open-items : (needs : List Need) (rest : List Item) → AreHeaders needs → AreOpen rest → AreOpen (map (item_of choices) needs ++ rest)
+  open-items [] rest are others = others
+  open-items (need ∷ needs) rest are others = ((λ slot has. slots need.header slot are.0 has), open-items needs rest are.1 others)
+
+  open-part : (part : List Need) (lead_in : Option SlotFields) (rest : List Item) → AreHeaders part → IsLeadIn window choices part lead_in → AreOpen rest → AreOpen (items_of choices part lead_in ++ rest)
+  unfolding items_of IsLeadIn
+  open-part part None rest are lead others = open-items part rest are others
+  open-part [] (Some slot) rest are lead others = absurd lead
+  open-part (need ∷ part) (Some slot) rest are lead others = ((λ other has. subst IsSlot (only_one slot other has) (slot_among slot lead.2)), open-items (need ∷ part) rest are others)
+
+  open-whole : (parts : List (List Need)) (lead_ins : List (Option SlotFields)) → AllHeaders parts → AreLeadIns window choices parts lead_ins → AreOpen (whole_of choices parts lead_ins)
+  unfolding whole_of AreLeadIns
+  open-whole [] lead_ins are leads = tt
+  open-whole (part ∷ parts) [] are leads = absurd leads
+  open-whole (part ∷ parts) (lead_in ∷ lead_ins) are leads = open-part part lead_in (whole_of choices parts lead_ins) are.0 leads.0 (open-whole parts lead_ins are.1 leads.1)
+
+  pub parts-fitting : (parts : List (List Need)) (placed : List Placed) → AllHeaders parts → IsPlan window choices parts placed → IsFitting window (flat_map (λ (part : List Need). part) parts) placed
+  parts-fitting parts placed are plan = record {
+    fits = parts-fit window choices parts placed plan;
+    slots = open-in_slots (whole_of choices parts plan.lead_ins) placed (open-whole parts plan.lead_ins are plan.alone) plan.whole.slots;
+  }
+
+-- ---- as they were asked for
 
 pub asked-plans : AskedPlans
 asked-plans c choices parts placed fit plan =

@@ -1,21 +1,25 @@
 -- Frames in the slots and with the main_data_begin of any plan that can be written frame by frame: they can be laid, and are what they were.
+-- So are those of parts as they were planned.
+use Rattle.std.specs.Prelude.{flat_map}
 use Rattle.std.proofs.Common.{◌≡◌, ℕ, ◌+◌, ◌-◌, ◌<◌, ◌≤◌, cond, Bool, true, false, List, [], ◌∷◌, length, map, refl, sym, ◌∙◌, ap, ap₂, subst, arith}
-use Rattle.frame_header.specs.Fields.{SlotFields, HeaderFields, ClassFields}
+use Rattle.frame_header.specs.Fields.{SlotFields, HeaderFields, ClassFields, IsHeader}
+use Rattle.info_header.specs.declared.fields.Info.{Info}
 use Rattle.frame_header.specs.Tables.{class_of, area_of, window_of}
 use Rattle.slot_plan.specs.declared.needs.Need.{Need}
 use Rattle.slot_plan.specs.declared.needs.Placed.{Placed}
 use Rattle.frame_writer.specs.Frames.{Frame, area_in as kept_area}
 use Rattle.sync_survey.specs.MainData.{StreamFrame}
 use Rattle.sync_survey.specs.Faults.{HoldsStream}
-use Rattle.laid_files.specs.LaidFiles.{AreEntries, entry_of, laid_file}
+use Rattle.laid_files.specs.LaidFiles.{AreEntries, entry_of, laid_file, IsBlocks, HasInfoSizes}
 use Rattle.laid_files.proofs.LaidLaws.{laid-stream}
-use Rattle.laying.specs.Relaid.{Part, frames_in, IsPart, needs_in, relaid, with_lead_ins, left_behind}
+use Rattle.laying.specs.Relaid.{Part, frames_in, stream_in, IsPart, needs_in, relaid, with_lead_ins, left_behind}
 use Rattle.laying.specs.Fits.{bytes_at, area_at, reach_behind, FitsFrom, AreInSlots, IsFitting}
 use Rattle.laying.specs.Written.{slot_in}
-use Rattle.laying.specs.Laws.{FittingFilesHold, FittingSlots}
+use Rattle.laying.specs.Laws.{AreLaidAs, EntriesHold, FilesHold, FittingFilesHold, FittingSlots}
+use Rattle.laying.specs.InfoLaws.{SlotsArePlanned}
 use Rattle.laying.proofs.PlannedFrames.{one, one_in_stream, relaid-cons, stream-cons, one-entry, one-stream, next-map, next-entries, AreLaidFrom, none_laid, laid_more, AreNeedsOf}
-use Rattle.laying.proofs.HoldLaws.{part-entries, part-needs, part-stream, part-some}
-use Rattle.laying.proofs.SlotLaws.{one-slot}
+use Rattle.laying.proofs.HoldLaws.{part-entries, part-needs, part-stream, part-some, parts-entries, parts-needs, parts-headers, parts-stream, parts-some}
+use Rattle.laying.proofs.FitLaws.{parts-fit, parts-fitting}
 
 -- ---- one frame
 
@@ -55,6 +59,10 @@ laid-fitting c (need ∷ needs) (f ∷ fs) (p ∷ placed) reach end before are n
     (laid_more c end before bytes area g (relaid (left_behind p.lead_in f fs) placed) (one_in_stream p.lead_in (entry_of f)) (with_lead_ins placed (left_behind p.lead_in (entry_of f) (map entry_of fs)))
     (one-entry c p f slots.0 (omega (arith, fits.0, near)) are.0 p.lead_in) (one-stream p.lead_in p f) piece.0 piece.2 (omega (arith, begins, fits.0, room)) (omega (arith, begins, fits.0, fits.1, room)) there))
 
+one-slot : (b : Bool) (p : Placed) (f : Frame) → slot_in (one b p f) ≡ p.slot
+one-slot true p f = refl
+one-slot false p f = refl
+
 slots-by : (window reach : ℕ) (needs : List Need) (fs : List Frame) (placed : List Placed) → AreNeedsOf needs fs → FitsFrom window reach needs placed → map slot_in (relaid fs placed) ≡ map (λ (p : Placed). p.slot) placed
 unfolding FitsFrom relaid
 slots-by window reach [] [] [] are fits = refl
@@ -83,9 +91,43 @@ pub fitting-laid : (c : ClassFields) (part : Part) (placed : List Placed) → Is
     → AreLaidFrom c 0 0 (relaid (frames_in part) placed) (with_lead_ins placed (map entry_of (frames_in part)))
 fitting-laid c part placed is fitting = laid-fitting c (needs_in part) (frames_in part) placed 0 0 0 (part-entries c part is) (part-needs c part is) fitting.slots fitting.fits (omega arith) (omega arith)
 
+-- frames that can be laid, in a file
+file-holds : (c : ClassFields) (frames : List Frame) (stream : List StreamFrame) → AreLaidAs c frames stream
+    → (front : List (List ℕ)) (first : HeaderFields) (info : Info) (back : List (List ℕ)) → IsBlocks front → IsHeader first → class_of first ≡ c → HasInfoSizes info → IsBlocks back
+    → HoldsStream (laid_file front first info frames back) stream
+file-holds c frames stream hold front first info back before header class sizes behind =
+    subst (HoldsStream (laid_file front first info frames back)) hold.stream_is
+    (laid-stream c front first info frames back
+    (record { blocks_before = before; header = header; class = class; sizes = sizes; some = hold.some; entries = hold.entries; laid = hold.fit; blocks_behind = behind }))
+
 pub fitting-files-hold : FittingFilesHold
-fitting-files-hold c part placed is fitting front first info back before header class sizes behind =
+fitting-files-hold c part placed is fitting =
     let laid = fitting-laid c part placed is fitting in
-    subst (HoldsStream (laid_file front first info (relaid (frames_in part) placed) back)) (laid.stream_is ∙ ap (with_lead_ins placed) (part-stream c part is))
-    (laid-stream c front first info (relaid (frames_in part) placed) back
-    (record { blocks_before = before; header = header; class = class; sizes = sizes; some = some-by (window_of c.version) 0 (needs_in part) (frames_in part) placed (part-needs c part is) fitting.fits (part-some c part is); entries = laid.entries; laid = laid.fit; blocks_behind = behind }))
+    file-holds c (relaid (frames_in part) placed) (with_lead_ins placed (stream_in part)) (record {
+      some = some-by (window_of c.version) 0 (needs_in part) (frames_in part) placed (part-needs c part is) fitting.fits (part-some c part is);
+      entries = laid.entries;
+      fit = laid.fit;
+      stream_is = laid.stream_is ∙ ap (with_lead_ins placed) (part-stream c part is);
+    })
+
+-- ---- of parts, as they were planned
+
+pub entries-hold : EntriesHold
+entries-hold c choices parts placed some are slots plan =
+    let window = window_of c.version in
+    let needs = flat_map (λ (part : List Need). part) (map needs_in parts) in
+    let fitting = parts-fitting window choices slots (map needs_in parts) placed (parts-headers c parts are) plan in
+    let laid = laid-fitting c needs (flat_map frames_in parts) placed 0 0 0 (parts-entries c parts are) (parts-needs c parts are) fitting.slots fitting.fits (omega arith) (omega arith) in
+    record {
+      some = some-by window 0 needs (flat_map frames_in parts) placed (parts-needs c parts are) fitting.fits (parts-some c parts some are);
+      entries = laid.entries;
+      fit = laid.fit;
+      stream_is = laid.stream_is ∙ ap (with_lead_ins placed) (parts-stream c parts are);
+    }
+
+pub files-hold : FilesHold
+files-hold c choices parts placed some are slots plan = file-holds c (relaid (flat_map frames_in parts) placed) (with_lead_ins placed (flat_map stream_in parts)) (entries-hold c choices parts placed some are slots plan)
+
+pub slots-planned : SlotsArePlanned
+slots-planned c choices parts placed are slots plan =
+    slots-by (window_of c.version) 0 (flat_map (λ (part : List Need). part) (map needs_in parts)) (flat_map frames_in parts) placed (parts-needs c parts are) (parts-fit (window_of c.version) choices (map needs_in parts) placed plan)

@@ -1,27 +1,26 @@
--- The frames of parts as they were planned.
+-- The frames of parts, what a plan is given of them, and the blocks of a file.
 use Rattle.std.proofs.Common.{◌≡◌, ℕ, zero, suc, ◌+◌, ◌-◌, cond, Bool, true, false, List, [], ◌∷◌, ◌++◌, length, map, take, drop, refl, sym, ◌∙◌, ap, ap₂, subst, arith, length-append, length-drop}
 use Rattle.std.specs.Prelude.{flat_map, slice_range, filter, not, ◌<◌, ◌≤◌}
 use Rattle.std.specs.List.{enumerate_from}
 use Rattle.std.proofs.lemmas.List.{take-map, drop-map, map-append, length-map, length-take}
 use Rattle.std.proofs.lemmas.List.FromFn.{length-enumerate_from}
-use Rattle.frame_header.specs.Fields.{ClassFields}
+use Rattle.frame_header.specs.Fields.{ClassFields, IsHeader}
 use Rattle.side_info.specs.declared.side.Side.{Side}
 use Rattle.side_info.specs.Side.{no_side, payload_bytes}
 use Rattle.slot_plan.specs.declared.needs.Need.{Need}
 use Rattle.part_needs.specs.Needs.{need_of}
-use Rattle.frame_writer.specs.Laid.{CanBeLaid}
-use Rattle.frame_writer.specs.Frames.{Frame, pieces}
+use Rattle.frame_writer.specs.Frames.{Frame}
 use Rattle.sync_survey.specs.Row.{Row}
 use Rattle.sync_survey.specs.MainData.{StreamFrame}
-use Rattle.sync_survey.specs.Faults.{SurveyFields, HoldsStream}
+use Rattle.sync_survey.specs.Faults.{SurveyFields}
 use Rattle.sync_survey.specs.declared.places.Piece.{Piece}
-use Rattle.laid_files.specs.LaidFiles.{IsBlock, IsBlocks, block_bytes, AreEntries, entry_of, laid_file}
-use Rattle.laid_files.proofs.LaidLaws.{laid-stream}
+use Rattle.laid_files.specs.LaidFiles.{IsBlock, IsBlocks, block_bytes, AreEntries, entry_of}
 use Rattle.laying.specs.Written.{goes_in_front}
 use Rattle.laying.specs.Surveys.{HasSurvey}
-use Rattle.laying.specs.Relaid.{frame_of, all_frames, Part, frames_in, stream_in, IsPart, AreParts, needs_in, relaid, with_lead_ins}
-use Rattle.laying.specs.Laws.{EntriesHold, FilesHold, BlocksAreKept}
-use Rattle.laying.proofs.PlannedFrames.{no_bytes, AreNeedsOf, AllNeedsOf, AllEntries, joined, plan-laid, plan-some}
+use Rattle.laying.specs.Relaid.{frame_of, all_frames, Part, frames_in, stream_in, IsPart, AreParts, needs_in}
+use Rattle.laying.specs.Laws.{BlocksAreKept}
+use Rattle.laying.proofs.PlannedFrames.{no_bytes, AreNeedsOf}
+use Rattle.laying.proofs.FitLaws.{AreHeaders, AllHeaders}
 use Rattle.laying.proofs.ChosenFrames.{frames-of}
 
 -- ---- some of the frames
@@ -92,22 +91,37 @@ part-stream c p is =
 
 -- ---- all parts
 
-pub parts-entries : (c : ClassFields) (parts : List Part) → AreParts c parts → AllEntries c (map frames_in parts)
+entries-append : (c : ClassFields) (fs gs : List Frame) → AreEntries c fs → AreEntries c gs → AreEntries c (fs ++ gs)
+entries-append c [] gs front back = back
+entries-append c (f ∷ fs) gs front back = (front.0, entries-append c fs gs front.1 back)
+
+pub parts-entries : (c : ClassFields) (parts : List Part) → AreParts c parts → AreEntries c (flat_map frames_in parts)
 parts-entries c [] are = tt
-parts-entries c (p ∷ parts) are = (part-entries c p are.0, parts-entries c parts are.1)
+parts-entries c (p ∷ parts) are = entries-append c (frames_in p) (flat_map frames_in parts) (part-entries c p are.0) (parts-entries c parts are.1)
 
-pub parts-needs : (c : ClassFields) (parts : List Part) → AreParts c parts → AllNeedsOf (map needs_in parts) (map frames_in parts)
+needs-append : (needs more : List Need) (fs gs : List Frame) → AreNeedsOf needs fs → AreNeedsOf more gs → AreNeedsOf (needs ++ more) (fs ++ gs)
+needs-append [] more [] gs front back = back
+needs-append [] more (f ∷ fs) gs front back = absurd front
+needs-append (need ∷ needs) more [] gs front back = absurd front
+needs-append (need ∷ needs) more (f ∷ fs) gs front back = (front.0, front.1, needs-append needs more fs gs front.2 back)
+
+pub parts-needs : (c : ClassFields) (parts : List Part) → AreParts c parts → AreNeedsOf (flat_map (λ (part : List Need). part) (map needs_in parts)) (flat_map frames_in parts)
 parts-needs c [] are = tt
-parts-needs c (p ∷ parts) are = (part-needs c p are.0, parts-needs c parts are.1)
+parts-needs c (p ∷ parts) are = needs-append (needs_in p) (flat_map (λ (part : List Need). part) (map needs_in parts)) (frames_in p) (flat_map frames_in parts) (part-needs c p are.0) (parts-needs c parts are.1)
 
-parts-stream : (c : ClassFields) (parts : List Part) → AreParts c parts → map entry_of (flat_map frames_in parts) ≡ flat_map stream_in parts
+headers-of : (c : ClassFields) (needs : List Need) (fs : List Frame) → AreEntries c fs → AreNeedsOf needs fs → AreHeaders needs
+headers-of c [] fs are needs_are = tt
+headers-of c (need ∷ needs) [] are needs_are = absurd needs_are
+headers-of c (need ∷ needs) (f ∷ fs) are needs_are = (subst IsHeader (sym needs_are.0) are.0.header, headers-of c needs fs are.1 needs_are.2)
+
+pub parts-headers : (c : ClassFields) (parts : List Part) → AreParts c parts → AllHeaders (map needs_in parts)
+parts-headers c [] are = tt
+parts-headers c (p ∷ parts) are = (headers-of c (needs_in p) (frames_in p) (part-entries c p are.0) (part-needs c p are.0), parts-headers c parts are.1)
+
+pub parts-stream : (c : ClassFields) (parts : List Part) → AreParts c parts → map entry_of (flat_map frames_in parts) ≡ flat_map stream_in parts
 parts-stream c [] are = refl
 parts-stream c (p ∷ parts) are =
     map-append entry_of (frames_in p) (flat_map frames_in parts) ∙ ap₂ (λ (x y : List StreamFrame). x ++ y) (part-stream c p are.0) (parts-stream c parts are.1)
-
-pub joined-is : (parts : List Part) → joined (map frames_in parts) ≡ flat_map frames_in parts
-joined-is [] = refl
-joined-is (p ∷ parts) = ap (λ (l : List Frame). frames_in p ++ l) (joined-is parts)
 
 pub all-length : (file : List ℕ) (s : SurveyFields) → length (all_frames file s) ≡ length s.frames
 unfolding all_frames
@@ -116,31 +130,9 @@ all-length file s = length-map (enumerate_from 0 s.frames) (λ (p : ℕ × Row).
 pub part-some : (c : ClassFields) (p : Part) → IsPart c p → 0 < length (frames_in p)
 part-some c p is = omega (arith, is.some, is.within, all-length p.file p.survey, length-drop p.from (all_frames p.file p.survey), length-take (p.to - p.from) (drop p.from (all_frames p.file p.survey)))
 
-parts-some : (c : ClassFields) (parts : List Part) → 1 ≤ length parts → AreParts c parts → 0 < length (joined (map frames_in parts))
+pub parts-some : (c : ClassFields) (parts : List Part) → 1 ≤ length parts → AreParts c parts → 0 < length (flat_map frames_in parts)
 parts-some c [] some are = absurd (omega (arith, some))
-parts-some c (p ∷ parts) some are = omega (arith, part-some c p are.0, length-append (frames_in p) (joined (map frames_in parts)))
-
-pub entries-hold : EntriesHold
-entries-hold c choices parts placed some are slots plan =
-    let laid = plan-laid c choices (map needs_in parts) (map frames_in parts) placed slots (parts-entries c parts are) (parts-needs c parts are) plan in
-    let same = joined-is parts in
-    record {
-      some =
-          subst (λ (l : List Frame). 0 < length (relaid l placed)) same
-          (plan-some c choices (map needs_in parts) (map frames_in parts) placed slots (parts-some c parts some are) (parts-entries c parts are) (parts-needs c parts are) plan);
-      entries = subst (λ (l : List Frame). AreEntries c (relaid l placed)) same laid.entries;
-      fit = subst (λ (l : List Frame). CanBeLaid (pieces (relaid l placed))) same laid.fit;
-      stream_is =
-          subst (λ (l : List Frame). map entry_of (relaid l placed) ≡ with_lead_ins placed (map entry_of l)) same laid.stream_is
-          ∙ ap (with_lead_ins placed) (parts-stream c parts are);
-    }
-
-pub files-hold : FilesHold
-files-hold c choices parts placed some are slots plan front first info back before is class sizes behind =
-    let hold = entries-hold c choices parts placed some are slots plan in
-    subst (HoldsStream (laid_file front first info (relaid (flat_map frames_in parts) placed) back)) hold.stream_is
-    (laid-stream c front first info (relaid (flat_map frames_in parts) placed) back
-    (record { blocks_before = before; header = is; class = class; sizes = sizes; some = hold.some; entries = hold.entries; laid = hold.fit; blocks_behind = behind }))
+parts-some c (p ∷ parts) some are = omega (arith, part-some c p are.0, length-append (frames_in p) (flat_map frames_in parts))
 
 -- ---- blocks
 

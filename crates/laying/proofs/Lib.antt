@@ -7,9 +7,9 @@ pub mod PassLaws
 pub mod RelayLaws
 pub mod FitLaws
 pub mod EndLaws
-pub mod SlotLaws
 pub mod InfoLaws
 pub mod KeptLaws
 pub mod CopyLaws
 pub mod FittingFrames
+pub mod LaidLaws
 pub mod PlacesLaws

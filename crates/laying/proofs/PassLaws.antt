@@ -9,7 +9,7 @@ use Rattle.outside.specs.Pass.{IsReady as PassReady, IsOfRead}
 use Rattle.outside.specs.declared.pass.PassFault.{PassFault}
 use Rattle.outside.proofs.FilesLaws.{appended_twice, appended_nothing}
 use Rattle.outside.proofs.PassLaws.{input_holds, input_held, ready_later}
-use Rattle.frame_writer.specs.Laid.{BeginsWithin}
+use Rattle.frame_writer.specs.Laid.{Piece, BeginsWithin}
 use Rattle.frame_writer.specs.Frames.{Frame, Held, pieces}
 use Rattle.frame_writer.specs.Writing.{Writing, AreBehind, IsWriterOf, WritesOn, WritesPart}
 use Rattle.sync_survey.specs.Faults.{SurveyFields}
@@ -57,6 +57,10 @@ ends-short part = record { count = part.count; within = omega (arith, part.short
 
 -- ---- frames that were given to the writer
 
+pub begins_more : (reach free : ℕ) (ps : List Piece) → reach ≤ free → BeginsWithin reach ps → BeginsWithin free ps
+begins_more reach free [] within begins = tt
+begins_more reach free (p ∷ ps) within begins = omega (arith, within, begins)
+
 module _ (input output : List ℕ) where
   -- none yet
   pub lays_none : (made : List ℕ → List Frame) (w : Writing) (files : Files) → IsThere files output → ((file : List ℕ) → Holds files input file → [] ≡ made file) → Lays input output made w w files files
@@ -86,12 +90,8 @@ module _ (input output : List ℕ) where
     done = f ∷ [];
     held = held;
     writer = part.writer;
-    is = λ file holds more begins. (more, ap (λ (l : List Frame). l ++ more) (is file holds), begins_more reach held.waiting.free more within begins);
+    is = λ file holds more begins. (more, ap (λ (l : List Frame). l ++ more) (is file holds), begins_more reach held.waiting.free (pieces more) within begins);
   }
-    where
-      begins_more : (reach free : ℕ) (more : List Frame) → reach ≤ free → BeginsWithin reach (pieces more) → BeginsWithin free (pieces more)
-      begins_more reach free [] within begins = tt
-      begins_more reach free (g ∷ gs) within begins = omega (arith, within, begins)
 
   -- none of them, where a read failed
   pub part_none : (made : List ℕ → List Frame) (reach : ℕ) (w : Writing) (files : Files) {fault : PassFault} → IsOfRead fault → IsThere files output

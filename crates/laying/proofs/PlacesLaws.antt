@@ -12,7 +12,7 @@ use Rattle.slot_plan.specs.Layouts.{begins_of}
 use Rattle.slot_plan.specs.LeastPlan.{in_slots, first_list, placed_in, laid_early, lead_in_alone, least_plan}
 use Rattle.slot_plan.specs.Parts.{Item, item_of, whole_of, items_of}
 use Rattle.part_needs.specs.Needs.{need_of}
-use Rattle.frame_writer.specs.Laid.{Piece, BeginsWithin}
+use Rattle.frame_writer.specs.Laid.{BeginsWithin}
 use Rattle.frame_writer.specs.Frames.{Frame, pieces}
 use Rattle.frame_writer.specs.Writing.{Writing}
 use Rattle.sync_survey.specs.Row.{Row}
@@ -24,7 +24,7 @@ use Rattle.laying.specs.Passing.{Lays, LaysPart}
 use Rattle.laying.specs.Places.{frames_behind, places_for, own_places, whole_frames, whole_reach}
 use Rattle.laying.proofs.PlannedFrames.{one, AreNeedsOf}
 use Rattle.laying.proofs.HoldLaws.{needs-range, all-length}
-use Rattle.laying.proofs.PassLaws.{lays_as}
+use Rattle.laying.proofs.PassLaws.{lays_as, begins_more}
 use Rattle.laying.proofs.RelayLaws.{relaid-end, begins-left, part_more}
 
 -- ---- how many places a plan has
@@ -163,15 +163,11 @@ reach-own reach s placed =
     ap (λ n. last_reach (window_of s.class.version) reach (map need_of s.frames) (own_places n placed)) (sym (length-map s.frames need_of))
     ∙ last-own (window_of s.class.version) reach (map need_of s.frames) placed
 
-begins-more : (reach free : ℕ) (ps : List Piece) → reach ≤ free → BeginsWithin reach ps → BeginsWithin free ps
-begins-more reach free [] within begins = tt
-begins-more reach free (p ∷ ps) within begins = omega (arith, within, begins)
-
 -- where they are told, they begin within reach
 pub whole-begins : (file : List ℕ) (s : SurveyFields) (placed : List Placed) (reach free : ℕ) (more : List Frame) → HasSurvey file s → reach ≤ free → FitsFrom (window_of s.class.version) reach (map need_of s.frames) (own_places (length s.frames) placed)
     → BeginsWithin (whole_reach reach s placed) (pieces more) → BeginsWithin free (pieces (whole_frames s placed file ++ more))
 whole-begins file s placed reach free more has within fits begins =
-    begins-more reach free (pieces (whole_frames s placed file ++ more)) within
+    begins_more reach free (pieces (whole_frames s placed file ++ more)) within
     (subst (λ (fs : List Frame). BeginsWithin reach (pieces (fs ++ more))) (whole-own file s placed)
     (begins-left (window_of s.class.version) reach (map need_of s.frames) (slice_range (all_frames file s) 0 (length s.frames)) (own_places (length s.frames) placed) more (whole-needs file s has) fits
     (subst (λ n. BeginsWithin n (pieces more)) (sym (reach-own reach s placed)) begins)))

@@ -2,8 +2,8 @@
 use Rattle.std.proofs.Common.{◌≡◌, ℕ, suc, min, ◌+◌, ◌-◌, ◌<◌, ◌≤◌, cond, Bool, true, false, List, ◌++◌, length, take, drop, Some, inl, inr, refl, sym, ◌∙◌, ap, ap₂, append-nil, subst, arith, length-drop, length-append, append_assoc}
 use Rattle.std.specs.Prelude.{◌||◌, slice_get}
 use Rattle.std.proofs.lemmas.Bool.{ltb-false, cases_lt}
-use Rattle.std.proofs.lemmas.List.{take-append-drop, drop-drop}
-use Rattle.outside.specs.Files.{Files, Holds}
+use Rattle.std.proofs.lemmas.List.{take-append-drop}
+use Rattle.outside.specs.Files.{Files}
 use Rattle.frame_header.specs.Tables.{class_of, overhead_of}
 use Rattle.side_info.specs.Side.{SideFits, payload_bytes}
 use Rattle.reservoir.specs.Window.{IsWindowOver}
@@ -12,12 +12,12 @@ use Rattle.reservoir.proofs.WindowLaws.{window-last}
 use Rattle.part_needs.specs.Needs.{need_of}
 use Rattle.part_needs.proofs.FitLaws.{silent_bytes, end_more}
 use Rattle.sync_survey.specs.Row.{Row}
-use Rattle.sync_survey.specs.MainData.{own_area, is_silent, end_of_data, area_bytes, place, end_before}
+use Rattle.sync_survey.specs.MainData.{own_area, is_silent, end_of_data, place, end_before}
 use Rattle.sync_survey.specs.Faults.{SurveyFields}
 use Rattle.sync_survey.specs.Survey.{IsWellPlaced}
 use Rattle.sync_survey.proofs.SurveyParts.{StandWell, data-none_well}
-use Rattle.laying.specs.Passing.{IsAreaOf, KeepsReach, IsOver, HoldsLast, HoldsWith}
-use Rattle.laying.proofs.ReadLaws.{place-next, main-next, window-holds}
+use Rattle.laying.specs.Passing.{IsGiven, IsAreaOf, KeepsReach, IsOver, HoldsLast, HoldsWith}
+use Rattle.laying.proofs.ReadLaws.{place-next, main-next, window-holds, area-at}
 
 -- ---- how far back later main data may begin
 
@@ -79,14 +79,13 @@ over-holds window input files s i over =
     }
 
 -- the bytes after a window are those of the input
-pub holds-given : (window last input : List ℕ) (files : Files) (s : SurveyFields) (at count i : ℕ) → HoldsLast window input files s at count i → length last ≡ count
-    → ((file : List ℕ) → Holds files input file → last ≡ take count (drop at file)) → HoldsWith window last input files s i
-holds-given window last input files s at count i over long is = record {
+pub holds-given : (window last input : List ℕ) (files : Files) (s : SurveyFields) (at count i : ℕ) → HoldsLast window input files s at count i → IsGiven last input files at count → HoldsWith window last input files s i
+holds-given window last input files s at count i over given = record {
   passed = over.passed;
-  long = omega (arith, over.long, long);
-  reaches = omega (arith, over.reaches, long);
-  few = omega (arith, over.few, long);
-  is = λ file holds. ap (λ (l : List ℕ). (over.passed ++ window) ++ l) (is file holds) ∙ over.is file holds;
+  long = omega (arith, over.long, given.long);
+  reaches = omega (arith, over.reaches, given.long);
+  few = omega (arith, over.few, given.long);
+  is = λ file holds. ap (λ (l : List ℕ). (over.passed ++ window) ++ l) (given.is file holds) ∙ over.is file holds;
 }
 
 module _ (before after last input : List ℕ) (files : Files) (s : SurveyFields) (i : ℕ) (over : HoldsWith before last input files s i) where
@@ -132,9 +131,7 @@ module _ (before after last input : List ℕ) (files : Files) (s : SurveyFields)
           within = within;
           few = omega (arith, has.long, area-held s i r well);
           is = λ file holds.
-              let area : take (length own) (drop at file) ≡ area_bytes file r.offset r.header =
-              ap₂ (λ m n. take m (drop n file)) has.long at_is ∙ ap (take (own_area r.header)) (sym (drop-drop (overhead_of (class_of r.header) r.header.protected) r.offset file)) in
-              ap₂ (λ (l m : List ℕ). l ++ m) (by.3 ∙ over.is file holds) area ∙ sym (main-next file s.head s.frames i r found);
+              ap₂ (λ (l m : List ℕ). l ++ m) (by.3 ∙ over.is file holds) (area-at file r.offset r.header at (length own) at_is has.long) ∙ sym (main-next file s.head s.frames i r found);
         }
 
     pub holds-next : IsWellPlaced s.head s.class s.frames i r → (taken : ℕ) → IsTaken (length last) (need_of r).bytes r.side.main_data_begin taken → KeepsReach before after last (length own) taken

@@ -3,7 +3,7 @@ use Rattle.std.proofs.Common.{◌≡◌, ◌≢◌, eqb, ℕ, zero, suc, min, �
 use Rattle.std.specs.Prelude.{IfSome, ◌⊎◌, ◌==◌, flat_map, slice_get, sum_by, replicate}
 use Rattle.std.proofs.lemmas.Bool.{ltb-false}
 use Rattle.std.proofs.lemmas.Bool.Decides.{eqb_tells}
-use Rattle.std.proofs.lemmas.List.{length-replicate, length-take-le, take-append-drop}
+use Rattle.std.proofs.lemmas.List.{length-replicate, length-take-le, take-append-drop, drop-drop}
 use Rattle.std.proofs.Math.Seq.{drop-append-add}
 use Rattle.std.proofs.lemmas.List.Sums.{sum_by-cons}
 use Rattle.outside.specs.Files.{Files, Holds, IsThere, Told, Untold}
@@ -12,8 +12,8 @@ use Rattle.bit_fields.specs.Bits.{bits, bytes, AreBits, AreBytes}
 use Rattle.bit_fields.proofs.BitsLaws.{length-bits, bits-injective, AreBelow-take, AreBelow-drop, AreBits-bits, bits-front}
 use Rattle.frame_header.specs.declared.version.Version.{Version}
 use Rattle.frame_header.specs.declared.version.Version.TheVariants.{One, Two, TwoFive}
-use Rattle.frame_header.specs.Fields.{ClassFields}
-use Rattle.frame_header.specs.Tables.{class_of, length_of, window_of}
+use Rattle.frame_header.specs.Fields.{ClassFields, HeaderFields}
+use Rattle.frame_header.specs.Tables.{class_of, length_of, overhead_of, window_of}
 use Rattle.side_info.specs.declared.side.Side.{Side}
 use Rattle.side_info.specs.Side.{no_side, payload_bits, payload_bytes}
 use Rattle.reservoir.specs.Window.{IsWindowOver, main_bits, ArePacked}
@@ -31,6 +31,10 @@ use Rattle.laying.specs.Passing.{IsAreaOf, IsOver, skipped_before, IsOverLast}
 use Rattle.laying.proofs.ChosenFrames.{main-place, packed-bits, packed-bytes, filling}
 
 -- ---- a frame within the file
+
+-- the bytes of an area are at its place
+pub area-at : (file : List ℕ) (offset : ℕ) (h : HeaderFields) (at size : ℕ) → at ≡ offset + overhead_of (class_of h) h.protected → size ≡ own_area h → take size (drop at file) ≡ area_bytes file offset h
+area-at file offset h at size at_is size_is = ap₂ (λ m n. take m (drop n file)) size_is at_is ∙ ap (take (own_area h)) (sym (drop-drop (overhead_of (class_of h) h.protected) offset file))
 
 pub laid-behind : (from to : ℕ) (rows : List Row) → AreLaid from rows to → from ≤ to
 laid-behind from to [] laid = laid

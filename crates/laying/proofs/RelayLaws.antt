@@ -1,6 +1,7 @@
 -- Frames one after another, as they are planned.
 use Rattle.std.proofs.Common.{◌≡◌, ℕ, zero, suc, ◌+◌, ◌-◌, ◌<◌, ◌≤◌, min, cond, Bool, true, false, List, [], ◌∷◌, ◌++◌, length, get_or, map, take, drop, Some, refl, sym, ◌∙◌, ap, ap₂, subst, arith, append_assoc, append-nil, ◌⊎◌, inl, inr}
 use Rattle.std.proofs.lemmas.Bool.{cases_lt}
+use Rattle.std.proofs.lemmas.Option.{slice_get-get_or}
 use Rattle.std.specs.Prelude.{slice_get, slice_range}
 use Rattle.std.specs.List.{enumerate_from}
 use Rattle.frame_header.specs.Tables.{class_of, area_of}
@@ -37,12 +38,12 @@ range-next xs i to x is within =
 pub range-none : {X : Type 0} (xs : List X) (i to : ℕ) → to ≤ i → slice_range xs i to ≡ []
 range-none xs i to past = let none : to - i ≡ 0 = omega (arith, past) in ap (λ n. take n (drop i xs)) none
 
+-- the item at a place of a list
+pub found-at : {X : Type 0} (xs : List X) (i : ℕ) (x : X) → i < length xs → x ≡ get_or xs i x → slice_get xs i ≡ Some x
+found-at xs i x within is = slice_get-get_or xs i x within ∙ ap (λ y. Some y) (sym is)
+
 pub item-next : {X : Type 0} (xs : List X) (i : ℕ) (x : X) → i < length xs → x ≡ get_or xs i x → drop i xs ≡ x ∷ drop (i + 1) xs
-item-next [] i x within is = absurd (omega (arith, within))
-item-next (y ∷ xs) zero x within is = ap (λ z. z ∷ xs) (sym is)
-item-next (y ∷ xs) (suc i) x within is =
-    let more : suc i + 1 ≡ suc (i + 1) = omega arith in
-    item-next xs i x (omega (arith, within)) is ∙ ap (λ n. x ∷ drop n (y ∷ xs)) (sym more)
+item-next xs i x within is = drop-next xs i x (found-at xs i x within is)
 
 -- what is left after a lead-in or a frame
 pub left-range : {X : Type 0} (xs : List X) (i to next : ℕ) (x : X) (b : Bool) → slice_get xs i ≡ Some x → i < to → next ≡ i + cond b 0 1 → left_behind b x (slice_range xs (i + 1) to) ≡ slice_range xs next to
@@ -113,12 +114,6 @@ fits-some window reach s i to p placed fits = by_cases (cases_lt i to)
     by_cases : (i < to) ⊎ (to ≤ i) → i < to
     by_cases (inl within) = within
     by_cases (inr past) = absurd (none-fits (map need_of (slice_range s.frames i to)) (ap (map need_of) (range-none s.frames i to past)) fits)
-
--- the item at a place of a list
-pub found-at : {X : Type 0} (xs : List X) (i : ℕ) (x : X) → i < length xs → x ≡ get_or xs i x → slice_get xs i ≡ Some x
-found-at [] i x within is = absurd (omega (arith, within))
-found-at (y ∷ xs) zero x within is = ap (λ z. Some z) (sym is)
-found-at (y ∷ xs) (suc i) x within is = found-at xs i x (omega (arith, within)) is
 
 -- ---- the end
 

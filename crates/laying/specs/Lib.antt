@@ -2,6 +2,7 @@ pub mod Surveys
 pub mod Relaid
 pub mod Written
 pub mod Fits
+pub mod Laid
 pub mod Passing
 pub mod Calls
 pub mod Copying

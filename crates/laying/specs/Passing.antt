@@ -1,6 +1,5 @@
 -- What a pass that lays frames out again makes of its output.
 use Rattle.std.specs.Prelude.{◌≡◌, ℕ, ◌+◌, ◌-◌, ◌==◌, ◌<◌, ◌≤◌, min, if◌then◌else◌, List, [], ◌∷◌, ◌++◌, length, take, drop, map, slice_range}
-use Rattle.std.specs.List.{concat}
 use Rattle.frame_header.specs.Fields.{ClassFields}
 use Rattle.frame_header.specs.Tables.{class_of, area_of, window_of}
 use Rattle.outside.specs.Files.{Files, appended, Holds}
@@ -13,7 +12,7 @@ use Rattle.slot_plan.specs.declared.needs.Need.{Need}
 use Rattle.slot_plan.specs.declared.needs.Placed.{Placed}
 use Rattle.part_needs.specs.Needs.{need_of}
 use Rattle.frame_writer.specs.Laid.{BeginsWithin}
-use Rattle.frame_writer.specs.Frames.{Frame, Held, pieces, frame_bytes}
+use Rattle.frame_writer.specs.Frames.{Frame, Held, pieces}
 use Rattle.frame_writer.specs.Writing.{Writing, writing, IsNew, AreBehind, IsWriterOf}
 use Rattle.sync_survey.specs.Row.{Row}
 use Rattle.sync_survey.specs.MainData.{own_area, area_bytes, place, end_before, main_bytes}
@@ -21,11 +20,9 @@ use Rattle.sync_survey.specs.Faults.{SurveyFields, tells}
 use Rattle.sync_survey.specs.Survey.{IsLaidOut}
 use Rattle.laying.specs.declared.buffers.Buffers.{Buffers}
 use Rattle.laying.specs.declared.relay.Relay.{Relay}
-use Rattle.laying.specs.declared.section.Section.{Section}
 use Rattle.laying.specs.Surveys.{HasSurvey}
 use Rattle.laying.specs.Relaid.{frame_of, all_frames, moved_to, placed_as, relaid}
 use Rattle.laying.specs.Fits.{reach_behind, FitsFrom, last_reach}
-use Rattle.laying.specs.Written.{front_blocks, back_blocks}
 
 -- The survey is that of the input, which is read while the output is written, and the feed holds bytes of the input.
 pub record IsReady (relay : Relay) (files : Files) (fed : Fed) : Type 0 where
@@ -85,6 +82,11 @@ pub record IsOverLast (window input : List ℕ) (files : Files) (s : SurveyField
   pub held : IsWindowOver window main
   pub long : skipped_before s first + length main ≡ place s.head s.frames i
   pub is : (file : List ℕ) → Holds files input file → (skipped : List ℕ) × (length skipped ≡ skipped_before s first) × (main_bytes file s.head (take i s.frames) ≡ skipped ++ main)
+
+-- So many bytes were given from an offset of the input on. If the input is told, these are they.
+pub record IsGiven (given input : List ℕ) (files : Files) (at count : ℕ) : Type 0 where
+  pub long : length given ≡ count
+  pub is : (file : List ℕ) → Holds files input file → given ≡ take count (drop at file)
 
 -- These are as many bytes as the area of a frame has. If the input is told, they are its bytes.
 pub record IsAreaOf (area input : List ℕ) (files : Files) (row : Row) : Type 0 where
@@ -168,23 +170,3 @@ reach_behind_all reach relay from to placed = last_reach (window_in (tells relay
 -- the plan can be written frame by frame, if main data may begin so many bytes before the first area
 abbrev pub FitsBehind : ℕ → Relay → ℕ → ℕ → List Placed → Type 0
 FitsBehind reach relay from to placed = FitsFrom (window_in (tells relay.survey.now)) reach (needs_from (tells relay.survey.now) from to) placed
-
--- ---- the file of a section
-
--- the frames are there, and their plan can be written frame by frame
-pub record IsSection (s : SurveyFields) (section : Section) : Type 0 where
-  pub ordered : section.from ≤ section.to
-  pub within : section.to ≤ length s.frames
-  pub fits : FitsFrom (window_in s) 0 (needs_from s section.from section.to) section.placed.now
-
--- its frames as they were planned
-abbrev pub section_frames : SurveyFields → Section → List ℕ → List Frame
-section_frames s section file = relaid (slice_range (all_frames file s) section.from section.to) section.placed.now
-
--- the blocks before the frames, the Info frame and the frames
-abbrev pub section_front : SurveyFields → Section → List ℕ → List ℕ
-section_front s section file = (concat (front_blocks file s) ++ section.info.now) ++ frame_bytes (section_frames s section file)
-
--- the whole file
-abbrev pub section_file : SurveyFields → Section → List ℕ → List ℕ
-section_file s section file = concat (front_blocks file s) ++ (section.info.now ++ (frame_bytes (section_frames s section file) ++ concat (back_blocks file s)))

@@ -1,4 +1,4 @@
-//! A whole file of the frames of one part.
+//! A whole file of frames of one input.
 ghost use Rattle.std.specs.Prelude.{◌≡◌, ◌++◌, [], IfErr, OnOk, OnErr};
 ghost use Rattle.outside.specs.Files.{IsThere};
 ghost use Rattle.outside.specs.Passed.{PassedOn, AppendedPrefix};
@@ -7,11 +7,12 @@ ghost use Rattle.outside.specs.Pass.{Writes, WritesPrefix, Appends, AppendsPrefi
 ghost use Rattle.sync_survey.specs.Faults.{tells};
 ghost use Rattle.laying.specs.Written.{front_blocks};
 ghost use Rattle.laying.specs.Calls.{HandsOn, AddsMade, AppendsMade};
-ghost use Rattle.laying.specs.Passing.{IsReady, IsSection, section_front, section_file};
+ghost use Rattle.laying.specs.Passing.{IsReady};
+ghost use Rattle.laying.specs.Laid.{laid_in, file_laid, selected_front, IsWritable};
 
 use crate::buffers::Buffers;
 use crate::relay::Relay;
-use crate::section::Section;
+use crate::selected::Selected;
 use outside::{Feed, Folder, PassFault, WriteBuffer};
 
 impl<'a> Relay<'a> {
@@ -56,35 +57,35 @@ impl<'a> Relay<'a> {
         self.send(folder, info, waiting)
     }
 
-    /// Adds to what waits for the output the file of a section, except the blocks after its frames.
+    /// Adds to what waits for the output the file of these frames, except the blocks after them.
     ///
     /// # Errors
     /// As `lay`.
     fn write_frames<D: Folder>(
         &self,
         folder: &mut D,
-        section: &Section<'_>,
+        selected: &Selected,
         buffers: &mut Buffers,
     ) -> Result<(), PassFault>
         requires ready { IsReady self.now (D.seen folder.old).files buffers.old.feed }
-        requires section { IsSection (tells self.now.survey.now) section.now }
-        ensures { AddsMade self.now (section_front (tells self.now.survey.now) section.now)
+        requires writable { IsWritable (tells self.now.survey.now) selected.now }
+        ensures { AddsMade self.now (selected_front (tells self.now.survey.now) selected.now)
             buffers.old.waiting buffers.new.waiting buffers.new.feed (D.seen folder.old)
             (D.seen folder.new) result }
     {
         self.write_front(
             folder,
-            section.info,
+            selected.info.as_slice(),
             &mut buffers.feed,
             &mut buffers.waiting,
         )?;
         buffers.writer.restart(self.survey.class());
-        self.lay(folder, section, buffers)
+        self.lay(folder, selected, buffers)
     }
 
-    /// Appends to the output a file of the frames of a section of the input: the input's ID3v2 blocks that
-    /// are before its first frame, an Info frame of these bytes, the frames as `lay` gives them, and all
-    /// other blocks of the input. Nothing waits for the output at first; what else the buffers hold may be
+    /// Appends to the output the file of these frames of the input: the input's ID3v2 blocks that are before
+    /// its first frame, the Info frame, the frames in the slots and with the lead-ins of their plan, with all
+    /// main data laid out again, and all other blocks of the input. Nothing waits for the output at first; what else the buffers hold may be
     /// of whatever was written before. It takes no memory.
     ///
     /// # Errors
@@ -94,16 +95,17 @@ impl<'a> Relay<'a> {
     pub fn write<D: Folder>(
         &self,
         folder: &mut D,
-        section: &Section<'_>,
+        selected: &Selected,
         buffers: &mut Buffers,
     ) -> Result<(), PassFault>
         requires ready { IsReady self.now (D.seen folder.old).files buffers.old.feed }
-        requires section { IsSection (tells self.now.survey.now) section.now }
+        requires writable { IsWritable (tells self.now.survey.now) selected.now }
         requires none { buffers.old.waiting ≡ [] }
-        ensures { AppendsMade self.now (section_file (tells self.now.survey.now) section.now)
+        ensures { AppendsMade self.now
+            (λ file. file_laid (laid_in selected.now) file (tells self.now.survey.now))
             buffers.new (D.seen folder.old) (D.seen folder.new) result }
     {
-        self.write_frames(folder, section, buffers)?;
+        self.write_frames(folder, selected, buffers)?;
         self.copy_blocks(folder, false, &mut buffers.feed, &mut buffers.waiting)?;
         self.pass.finish(folder, &mut buffers.waiting)
     }

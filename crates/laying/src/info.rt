@@ -1,12 +1,14 @@
 //! The fields of the Info frame before the frames of a plan.
-ghost use Rattle.std.specs.Prelude.{◌≡◌, ◌≤◌, List, ℕ, length, drop, map, replicate, None, Some, Ok, IfOk, IfErr, OnOk, IsErrOf};
+ghost use Rattle.std.specs.Prelude.{◌≡◌, ◌<◌, ◌≤◌, List, ℕ, length, drop, map, replicate, slice_get, None, Some, Ok, IfOk, IfErr, OnOk, IsErrOf};
 ghost use Rattle.frame_header.specs.Limits.{most_placed};
 ghost use Rattle.outside.specs.Files.{IsThere};
 ghost use Rattle.outside.specs.Counts.{OnlyReads};
 ghost use Rattle.outside.specs.Seen.{OnFile};
 ghost use Rattle.outside.specs.Pass.{HasInputCause};
 ghost use Rattle.info_header.specs.Info.{info_in};
+ghost use Rattle.info_header.specs.InfoFrame.{info_frame};
 ghost use Rattle.frame_writer.specs.Frames.{Frame};
+ghost use Rattle.sync_survey.specs.Row.{Row as RowFields};
 ghost use Rattle.sync_survey.specs.Faults.{tells};
 ghost use Rattle.sync_survey.specs.Survey.{IsLaidOut};
 ghost use Rattle.slot_plan.specs.declared.needs.Placed.{Placed as PlacedFields};
@@ -15,8 +17,9 @@ ghost use Rattle.laying.specs.Written.{slot_in, info_for, head_info};
 ghost use Rattle.laying.specs.KeptFields.{KeptAnswer};
 ghost use Rattle.laying.specs.Surveys.{HasSurvey};
 
+use arrayvec::ArrayVec;
 use frame_header::Class;
-use info_header::{Info, info_over};
+use info_header::{Info, info_over, write_info};
 use outside::{Folder, PassFault, read_exact};
 use slot_plan::Placed;
 use sync_survey::Survey;
@@ -86,6 +89,29 @@ pub fn info_of(class: Class, placed: &[Placed], kept: &Kept) -> Info
         ..info_over(class, placed)
     };
     are_sized(&info);
+    info
+}
+
+/// The bytes of the Info frame before frames of a surveyed input in the slots of a plan, of which there are at most
+/// 2,900,064. The first of the frames is frame `from`, whose header it has.
+pub fn info_bytes(
+    survey: &Survey,
+    from: usize,
+    kept: &Kept,
+    placed: &[Placed],
+) -> ArrayVec<u8, 1441>
+    requires within { from < length (tells survey.now).frames }
+    requires few { length placed.now ≤ most_placed }
+    ensures { (first : RowFields) (frames : List Frame)
+        → slice_get (tells survey.now).frames from ≡ Some first
+        → map slot_in frames ≡ map (λ (p : PlacedFields). p.slot) placed.now
+        → result.items ≡ info_frame first.header (info_for (tells survey.now).class frames
+        kept.now.quality kept.now.extension) }
+{
+    let fields = info_of(survey.class(), placed, kept);
+    let first = &survey.frames()[from].header();
+    let mut info = ArrayVec::new();
+    write_info(first, &fields, &mut info);
     info
 }
 

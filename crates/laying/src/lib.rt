@@ -9,15 +9,15 @@ mod info;
 mod info_laws;
 mod laws;
 mod relay;
-mod section;
+mod selected;
 mod whole;
 
 pub use buffers::Buffers;
-pub use info::{Kept, info_of, kept_fields};
+pub use info::{Kept, info_bytes, info_of, kept_fields};
 pub use info_laws::slots_are_planned;
 pub use laws::{
     asked_plans, blocks_are_kept, entries_hold, files_hold, fitting_files_hold, fitting_slots,
     plans_fit, surveys_are_had,
 };
 pub use relay::Relay;
-pub use section::Section;
+pub use selected::Selected;

@@ -16,13 +16,14 @@ ghost use Rattle.part_needs.specs.Needs.{need_of};
 ghost use Rattle.laying.specs.Relaid.{payload_of, lead_in_before};
 ghost use Rattle.laying.specs.Fits.{bytes_at, area_at};
 ghost use Rattle.laying.specs.Calls.{Stands, StandsBefore, IsNext, Follows, ReadsOn, GivesArea, CanCut, TakesFrame, Gives, HandsOn, AddsMade};
-ghost use Rattle.laying.specs.Passing.{Reaches, IsReady, IsAreaOf, KeepsReach, IsOver, HoldsLast, HoldsWith, IsOverLast, moved_frame, placed_frame, planned_frames, own_reach, reach_at, reach_behind_all, FitsBehind, GivesFrames, GivesPart, IsSection, section_frames};
+ghost use Rattle.laying.specs.Passing.{Reaches, IsReady, IsGiven, IsAreaOf, KeepsReach, IsOver, HoldsLast, HoldsWith, IsOverLast, moved_frame, placed_frame, planned_frames, own_reach, reach_at, reach_behind_all, FitsBehind, GivesFrames, GivesPart};
+ghost use Rattle.laying.specs.Laid.{selected_frames, IsWritable};
 ghost use Rattle.frame_header.specs.Limits.{most_back, most_frame_length};
 ghost use Rattle.outside.specs.Feed.{most_given};
 ghost use Rattle.frame_writer.specs.Laid.{most_waiting};
 
 use crate::buffers::Buffers;
-use crate::section::Section;
+use crate::selected::Selected;
 use frame_header::Class;
 use frame_writer::{Frame, FrameQueue};
 use outside::{Feed, Folder, Pass, PassFault, WriteBuffer};
@@ -171,6 +172,28 @@ impl<'a> Relay<'a> {
         self.write_frame(folder, &frame, writer, unsent)
     }
 
+    /// Gives bytes of the input by the feed, from an offset on.
+    ///
+    /// # Errors
+    /// `Read` or `Shrunk` where the input can't be read.
+    #[inline(always)]
+    fn fill<D: Folder>(
+        &self,
+        folder: &mut D,
+        at: u64,
+        count: usize,
+        feed: &mut Feed,
+    ) -> Result<(), PassFault>
+        requires ready { IsReady self.now (D.seen folder.old).files feed.old }
+        requires few { count ≤ most_given }
+        requires within { at + count ≤ (tells self.now.survey.now).length }
+        ensures given { OnOk result (IsGiven feed.new.given self.now.pass.input.now
+            (D.seen folder.new).files at count) }
+        ensures reads { ReadsOn self.now feed.new (D.seen folder.old) (D.seen folder.new) result }
+    {
+        self.pass.fill(folder, at, count, feed)
+    }
+
     /// Gives the area of frame `i` by the feed.
     ///
     /// # Errors
@@ -190,7 +213,7 @@ impl<'a> Relay<'a> {
         ensures reads { ReadsOn self.now feed.new (D.seen folder.old) (D.seen folder.new) result }
     {
         let own = area_place(self.survey.class(), row);
-        self.pass.fill(folder, own.at, own.size, feed)
+        self.fill(folder, own.at, own.size, feed)
     }
 
     /// Reads the area of the head, if there is one, into a window over no areas.
@@ -214,7 +237,7 @@ impl<'a> Relay<'a> {
         };
         let area = head.header.area();
         let at = head.offset + u64::from(head.header.overhead());
-        self.pass.fill(folder, at, area as usize, feed)?;
+        self.fill(folder, at, area as usize, feed)?;
         window.push_area(feed.bytes());
         Ok(())
     }
@@ -314,7 +337,7 @@ impl<'a> Relay<'a> {
             (tells self.now.survey.now) at 0 reading.now.next) }
         ensures reads { ReadsOn self.now feed.new (D.seen folder.old) (D.seen folder.new) result }
     {
-        self.pass.fill(folder, reading.at, reading.count, feed)?;
+        self.fill(folder, reading.at, reading.count, feed)?;
         window.push_area(feed.bytes());
         Ok(())
     }
@@ -378,7 +401,7 @@ impl<'a> Relay<'a> {
         let own = area_place(known.class, known.row);
         let (first, before) = self.first_byte(folder, reading, own, feed, window)?;
         let skip = (own.at - first) as usize;
-        self.pass.fill(folder, first, skip + own.size, feed)?;
+        self.fill(folder, first, skip + own.size, feed)?;
         Ok(Span {
             before,
             skip,
@@ -545,8 +568,8 @@ impl<'a> Relay<'a> {
         }
     }
 
-    /// Adds to what waits for the output the frames of a section, in the slots and with the lead-ins of
-    /// their plan, with all main data laid out again. The writer is new; the window may hold anything. It
+    /// Adds to what waits for the output frames of the input, in the slots and with the lead-ins of their
+    /// plan, with all main data laid out again. The writer is new; the window may hold anything. It
     /// takes no memory.
     ///
     /// # Errors
@@ -556,18 +579,19 @@ impl<'a> Relay<'a> {
     pub(crate) fn lay<D: Folder>(
         &self,
         folder: &mut D,
-        section: &Section<'_>,
+        selected: &Selected,
         buffers: &mut Buffers,
     ) -> Result<(), PassFault>
         requires ready { IsReady self.now (D.seen folder.old).files buffers.old.feed }
-        requires section { IsSection (tells self.now.survey.now) section.now }
+        requires writable { IsWritable (tells self.now.survey.now) selected.now }
         requires new { IsNew (tells self.now.survey.now).class buffers.old.writer }
         ensures { AddsMade self.now (λ file. frame_bytes
-            (section_frames (tells self.now.survey.now) section.now file)) buffers.old.waiting
+            (selected_frames (tells self.now.survey.now) selected.now file)) buffers.old.waiting
             buffers.new.waiting buffers.new.feed (D.seen folder.old) (D.seen folder.new) result }
     {
-        self.read_before(folder, section.from, &mut buffers.feed, &mut buffers.window)?;
-        self.frames(folder, section.from, section.to, section.placed, buffers)?;
+        let from = selected.from;
+        self.read_before(folder, from, &mut buffers.feed, &mut buffers.window)?;
+        self.frames(folder, from, selected.to, selected.plan.placed(), buffers)?;
         self.finish(folder, &mut buffers.writer, &mut buffers.waiting)
     }
 }

@@ -30,7 +30,7 @@ use Rattle.commands.proofs.RefusingLaws.{then_ok, unless_ok}
 use Rattle.commands.proofs.MadeLaws.{some-frames}
 use Rattle.frame_edits.specs.declared.chosen.Slots.{Slots}
 use Rattle.frame_edits.specs.declared.chosen.Slots.TheVariants.{Least}
-use Rattle.frame_edits.specs.Laid.{file_laid}
+use Rattle.laying.specs.Laid.{file_laid}
 use Rattle.frame_edits.specs.Chosen.{Chosen, chosen_rows, all_choice, laid_by}
 use Rattle.packing.specs.declared.mode.Rates.{Rates}
 use Rattle.packing.specs.declared.mode.Rates.TheVariants.{Only, From}

@@ -23,8 +23,8 @@ use Rattle.laying.specs.Written.{front_blocks, back_blocks, slot_in}
 use Rattle.laying.proofs.FittingFrames.{fitting-laid}
 use Rattle.sync_survey.specs.Row.{Row}
 use Rattle.sync_survey.specs.Faults.{SurveyFields}
-use Rattle.frame_edits.specs.Laid.{Laid, part_laid, needs_laid, frames_laid, info_laid, file_from, file_laid}
-use Rattle.frame_edits.proofs.LaidLaws.{part_is, laid-slots, sizes, first-header}
+use Rattle.laying.specs.Laid.{Laid, part_laid, needs_laid, frames_laid, info_laid, file_from, file_laid}
+use Rattle.laying.proofs.LaidLaws.{part_is, laid-slots, sizes, first-header}
 
 -- ---- the bytes of all areas
 

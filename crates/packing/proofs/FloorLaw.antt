@@ -15,7 +15,7 @@ use Rattle.commands.specs.declared.fault.Refusal.TheVariants.{NoRate, Range, Unf
 use Rattle.commands.specs.Refusing.{unless, then_made}
 use Rattle.commands.specs.One.{most_frames, made_by, made_file}
 use Rattle.frame_edits.specs.declared.chosen.Slots.TheVariants.{Least}
-use Rattle.frame_edits.specs.Laid.{file_laid}
+use Rattle.laying.specs.Laid.{file_laid}
 use Rattle.frame_edits.specs.Chosen.{Chosen, all_choice, laid_by}
 use Rattle.frame_edits.proofs.ChosenLaws.{all_right}
 use Rattle.packing.specs.declared.mode.Rates.TheVariants.{From}

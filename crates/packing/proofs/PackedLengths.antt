@@ -23,7 +23,7 @@ use Rattle.commands.specs.Runs.{IsRunOf}
 use Rattle.commands.specs.One.{most_frames, made_by, made_file, made_where, unless_clash, made_result, made_of}
 use Rattle.commands.proofs.RefusingLaws.{unless_ok, then_ok}
 use Rattle.frame_edits.specs.declared.chosen.Slots.TheVariants.{Least as LeastSlots}
-use Rattle.frame_edits.specs.Laid.{Laid, file_laid}
+use Rattle.laying.specs.Laid.{Laid, file_laid}
 use Rattle.frame_edits.specs.Chosen.{Chosen, outside_fault, choices_by, plan_of, laid_by, laid_with, choosing, chosen_file, all_choice}
 use Rattle.frame_edits.proofs.ChosenLaws.{IsRight, all_right, the-plan, plan-fitting}
 use Rattle.pack_mode.specs.declared.mode.PackMode.{PackMode}

@@ -25,10 +25,10 @@ use Rattle.commands.specs.One.{Making, most_frames, IsInputFault, IsMaking, IsPr
 use Rattle.commands.proofs.RefusingLaws.{then_late, then_ok}
 use Rattle.commands.proofs.InputLaws.{IsProperMaking, file_makes, file_proper, refused_is_input, memory_is_input}
 use Rattle.frame_edits.specs.declared.chosen.Slots.TheVariants.{Least}
-use Rattle.frame_edits.specs.Laid.{Laid, file_laid, stream_laid}
+use Rattle.laying.specs.Laid.{Laid, file_laid, stream_laid}
 use Rattle.frame_edits.specs.Chosen.{Chosen, all_choice, laid_by}
 use Rattle.frame_edits.proofs.ChosenLaws.{all_late, all_right}
-use Rattle.frame_edits.proofs.LaidLaws.{laid-holds}
+use Rattle.laying.proofs.LaidLaws.{laid-holds}
 use Rattle.packing.specs.Packing.{Planning, needs_of, laid_as, packed, packing, stream_with, stream_by, packed_stream, packed_task, IsPlanFault}
 
 -- a planner whose refusals come once memory was taken, and by whose plans frames can be laid

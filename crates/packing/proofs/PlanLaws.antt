@@ -23,7 +23,7 @@ use Rattle.rate_plan.specs.LeastMenuPlan.{least_menu_plan, IsMenuFault}
 use Rattle.rate_plan.proofs.LeastMenuPlan.{least_menu_plan-is}
 use Rattle.rate_plan.proofs.LargestLaw.{largest-fits}
 use Rattle.laying.specs.Fits.{IsFitting}
-use Rattle.laying.proofs.FitLaws.{Asks, items-fit, asks-each}
+use Rattle.laying.proofs.FitLaws.{Asks, items-fit, asks-each, AreOpen, open-in_slots}
 use Rattle.sync_survey.specs.Row.{Row}
 use Rattle.sync_survey.specs.Faults.{SurveyFields}
 use Rattle.commands.specs.declared.fault.Refusal.TheVariants.{Unfit as UnfitFrame}
@@ -31,7 +31,6 @@ use Rattle.commands.specs.Left.{IsLate}
 use Rattle.commands.specs.Refusing.{unless, then_made}
 use Rattle.commands.proofs.RefusingLaws.{unless_late, unless_ok, then_late, then_ok}
 use Rattle.frame_edits.specs.Chosen.{Chosen, chosen_rows}
-use Rattle.frame_edits.proofs.LaidLaws.{AreOpen, open-in_slots}
 use Rattle.packing.specs.declared.mode.Rates.{Rates}
 use Rattle.packing.specs.declared.mode.Rates.TheVariants.{Only, From}
 use Rattle.packing.specs.Packing.{needs_of, IsPlanFault}

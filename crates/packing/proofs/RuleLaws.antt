@@ -13,7 +13,7 @@ use Rattle.commands.specs.Left.{IsOfSurvey, IsOfInput}
 use Rattle.commands.specs.One.{most_frames, IsFileFault, IsInputFault, IsEarlyFault, IsOfInputs, IsMaking, IsProper}
 use Rattle.commands.proofs.InputLaws.{fault_is_input, of_survey_input, input_is_early, input_numbers}
 use Rattle.frame_edits.specs.Chosen.{Chosen, pack_refuses}
-use Rattle.frame_edits.specs.Laid.{Laid, file_laid}
+use Rattle.laying.specs.Laid.{Laid, file_laid}
 use Rattle.packing.specs.declared.mode.Rates.{Rates as BitRates}
 use Rattle.packing.specs.declared.mode.Rule.{Rule}
 use Rattle.packing.specs.declared.mode.Rule.TheVariants.{Rates, Best}

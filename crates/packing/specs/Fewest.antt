@@ -9,7 +9,7 @@ use Rattle.laying.specs.Fits.{IsFitting}
 use Rattle.commands.specs.One.{most_frames}
 use Rattle.pack_mode.specs.declared.mode.PackMode.{PackMode}
 use Rattle.pack_mode.specs.declared.mode.PackMode.TheVariants.{Best}
-use Rattle.frame_edits.specs.Laid.{Laid, needs_laid, file_laid}
+use Rattle.laying.specs.Laid.{Laid, needs_laid, file_laid}
 
 -- which of the places of a plan are those of lead-ins
 abbrev pub lead_ins : List Placed → List Bool

@@ -14,7 +14,7 @@ use Rattle.commands.specs.declared.fault.Refusal.{Refusal}
 use Rattle.commands.specs.Refusing.{then_made}
 use Rattle.commands.specs.One.{Making, most_frames, Task, file_task}
 use Rattle.frame_edits.specs.declared.chosen.Slots.TheVariants.{Least}
-use Rattle.frame_edits.specs.Laid.{Laid, file_laid, stream_laid}
+use Rattle.laying.specs.Laid.{Laid, file_laid, stream_laid}
 use Rattle.frame_edits.specs.Chosen.{Chosen, chosen_rows, all_choice, laid_by}
 
 -- the plan of frames of a class, or why there is none

@@ -5,7 +5,7 @@ use crate::inputs::survey_packed;
 use crate::mode::Rule;
 use crate::plans::plan_packed;
 use commands::{Edit, EditFault, Inputs};
-use frame_edits::{Selection, Slots, Work, all_choice};
+use frame_edits::{Slots, Work, all_choice};
 use outside::Folder;
 use std::alloc::Global;
 
@@ -30,8 +30,8 @@ impl<'a> Edit for PackEdit<'a> {
     fn prepare<D: Folder>(&self, alloc: Global, folder: &mut D) -> Result<Work, EditFault> {
         let survey = survey_packed(alloc, folder, self.input, self.rule)?;
         let chosen = all_choice(folder, self.input, &survey, Slots::Least)?;
-        let planned = plan_packed(alloc, &survey, &chosen, self.rule)?;
-        let work = Work::new(alloc, survey, Selection { chosen, planned })?;
+        let selected = plan_packed(alloc, &survey, &chosen, self.rule)?;
+        let work = Work::new(alloc, survey, selected)?;
         Ok(work)
     }
 }

@@ -1,5 +1,5 @@
 //! The plan of all frames of a file by a rule, and the Info frame before them.
-ghost use Rattle.std.specs.Prelude.{◌≡◌, ◌≤◌, ℕ, List, [], ◌∷◌, length, map, Some, Ok, IfOk, IfErr, MatchResult};
+ghost use Rattle.std.specs.Prelude.{◌≡◌, ◌≤◌, [], ◌∷◌, length, map, Some, Ok, IfOk, IfErr, MatchResult};
 ghost use Rattle.frame_header.specs.Tables.{window_of};
 ghost use Rattle.slot_plan.specs.Layouts.{IsFeasible};
 ghost use Rattle.slot_plan.specs.Parts.{AreOfClass, own_frame};
@@ -11,11 +11,9 @@ ghost use Rattle.best_plan.specs.BestOf.{best_plan_of};
 ghost use Rattle.rate_plan.specs.Menus.{AreAscending};
 ghost use Rattle.rate_plan.specs.LeastMenuPlan.{least_menu_plan, IsMenuFault};
 ghost use Rattle.sync_survey.specs.Faults.{tells};
-ghost use Rattle.frame_edits.specs.Laid.{IsLaidInfo};
 ghost use Rattle.commands.specs.One.{most_frames};
 ghost use Rattle.frame_edits.specs.Chosen.{chosen_in, laid_by, AreThere};
-ghost use Rattle.laying.specs.Surveys.{HasSurvey};
-ghost use Rattle.laying.specs.Fits.{IsFitting};
+ghost use Rattle.laying.specs.Laid.{laid_in, IsWritable};
 ghost use Rattle.packing.specs.Packing.{needs_of, IsPlanFault};
 ghost use Rattle.packing.specs.Rates.{no_rate as no_rate_lem, of_rate as of_rate_lem, rates_plan as rates_plan_lem, rates_refuse};
 ghost use Rattle.packing.specs.Rules.{allowed_by, plan_by as plan_by_lem, refuses_by};
@@ -24,8 +22,9 @@ use crate::menu::menu_of;
 use crate::mode::{Rates, Rule};
 use best_plan::best;
 use commands::{EditFault, Refusal};
-use frame_edits::{Chosen, Planned, info_bytes};
+use frame_edits::Chosen;
 use frame_header::{Class, Slot};
+use laying::Selected;
 use part_needs::Parts;
 use rate_plan::{RateFault, rate_plan};
 use slot_plan::{Least, Plan};
@@ -138,7 +137,7 @@ fn plan_by(alloc: Global, survey: &Survey, chosen: &Chosen, rule: Rule) -> Resul
     }
 }
 
-/// The plan of chosen frames by a rule, and their Info frame.
+/// Chosen frames with their plan by a rule, and their Info frame.
 ///
 /// # Errors
 /// By bit rates `NoRate` where the named one isn't one of the class, and `Unfit` where the frames don't fit; `Memory`.
@@ -147,20 +146,16 @@ pub(crate) fn plan_packed(
     survey: &Survey,
     chosen: &Chosen,
     rule: Rule,
-) -> Result<Planned, EditFault>
+) -> Result<Selected, EditFault>
     requires { AreThere (allowed_by rule) (chosen_in chosen.now) (tells survey.now) }
-    ensures plan { IfOk result (λ p. plan_by_lem rule (tells survey.now).class
-        (needs_of (chosen_in chosen.now) (tells survey.now)) ≡ Ok (entries p.plan)) }
-    ensures fits { IfOk result (λ p. IsFitting (window_of (tells survey.now).class.version)
-        (needs_of (chosen_in chosen.now) (tells survey.now)) (entries p.plan)) }
-    ensures info { IfOk result (λ p. (file : List ℕ)
-        → HasSurvey file (tells survey.now)
-        → IsLaidInfo (laid_by (chosen_in chosen.now) (entries p.plan)) file (tells survey.now)
-        p.info.items) }
+    ensures plan { IfOk result (λ l. plan_by_lem rule (tells survey.now).class
+        (needs_of (chosen_in chosen.now) (tells survey.now)) ≡ Ok (entries l.plan)) }
+    ensures laid { IfOk result (λ l. laid_in l
+        ≡ laid_by (chosen_in chosen.now) (entries l.plan)) }
+    ensures writable { IfOk result (IsWritable (tells survey.now)) }
     ensures refused { IfErr result (IsPlanFault (plan_by_lem rule) (refuses_by rule)
         (tells survey.now).class (needs_of (chosen_in chosen.now) (tells survey.now))) }
 {
     let plan = plan_by(alloc, survey, chosen, rule)?;
-    let info = info_bytes(survey, chosen, plan.placed());
-    Ok(Planned { plan, info })
+    Ok(Selected::new(survey, chosen.from, chosen.to, chosen.kept, plan))
 }

@@ -35,13 +35,12 @@ use Rattle.commands.proofs.RefusingLaws.{before_first}
 use Rattle.commands.specs.Kinds.{of_input}
 use Rattle.commands.specs.Left.{IsLate, IsDone, Leaves, IsOfPass, HasNumbers}
 use Rattle.commands.specs.One.{Refuses, NeedsMemory, IsEarlyFault, IsOfInputs, IsMaking, IsPassFault, clash_in, holding, one_command}
-use Rattle.frame_edits.specs.declared.plans.Selection.{Selection}
-use Rattle.frame_edits.specs.Chosen.{Chosen, chosen_in, chosen_file, plan_of}
+use Rattle.laying.specs.declared.selected.Selected.{Selected}
+use Rattle.laying.specs.Laid.{laid_in}
+use Rattle.frame_edits.specs.Chosen.{chosen_file, IsSelected}
 use Rattle.frame_edits.specs.Layable.{IsWorkOf, work_file}
-use Rattle.frame_edits.specs.Selected.{IsSelected}
-use Rattle.frame_edits.proofs.LaidPass.{work_layable, file-is, selected-writable}
+use Rattle.frame_edits.proofs.LaidPass.{work_layable, file-is}
 use Rattle.laying.specs.Surveys.{HasSurvey}
-use Rattle.slot_plan.specs.Plans.{entries}
 use Rattle.salvage.specs.declared.mended.Mended.{Mended}
 use Rattle.salvaging.specs.declared.work.Work.{Work}
 use Rattle.salvaging.specs.Salvaged.{all_of, salvaged_file, left_stream, made_by, made_where, stream_by, stream_where, text_by, text_where, salvage_task, salvage_command}
@@ -170,20 +169,17 @@ module _ (input : List ℕ) where
   mended-has : (files : Files) (m : Mended) (is : IsMended input files m) → (bytes : List ℕ) → Holds files input bytes → HasSurvey bytes (tells m.survey)
   mended-has files m is bytes holds = subst (HasSurvey bytes) (sym is.survey) (damaged-had bytes is.of (damaged_of-is bytes is.of (is.read bytes holds)).1 is.laid)
 
-  pub ready-of : (files : Files) (m : Mended) (selection : Selection) (work : Work) → IsMended input files m → IsWorkOf m.survey selection work.laid → IsThere files input → HoldsOctets input files → IsLaidSurvey (tells m.survey)
-      → chosen_in selection.chosen ≡ all_of (tells m.survey) → IsSelected (tells m.survey) selection → work.sending ≡ [] → ((d : DamagedFields) → m.emptied.items ≡ emptied_from 0 d.survey.frames → m.gaps.items ≡ d.gaps → Reports d work.report)
+  pub ready-of : (files : Files) (m : Mended) (selected : Selected) (work : Work) → IsMended input files m → IsWorkOf m.survey selected work.laid → IsThere files input → HoldsOctets input files → IsLaidSurvey (tells m.survey)
+      → IsSelected (all_of (tells m.survey)) (tells m.survey) selected → work.sending ≡ [] → ((d : DamagedFields) → m.emptied.items ≡ emptied_from 0 d.survey.frames → m.gaps.items ≡ d.gaps → Reports d work.report)
       → IsReady input files work
-  ready-of files m selection work is made there octets placed chosen selected unsaid reports = record {
+  ready-of files m selected work is made there octets placed own unsaid reports = record {
     octets = octets;
     of = is.of;
     read = is.read;
     laid = is.laid;
-    layable = work_layable m.survey selection work.laid made input files there placed (mended-has files m is) (selected-writable (tells m.survey) selection selected);
+    layable = work_layable m.survey selected work.laid made input files there placed (mended-has files m is) own.writable;
     survey = ap tells made.survey_is ∙ is.survey;
-    chosen = subst (λ (s : Survey). chosen_in work.laid.selection.chosen ≡ all_of (tells s)) (sym made.survey_is) (subst (λ (l : Selection). chosen_in l.chosen ≡ all_of (tells m.survey)) (sym made.selection_is) chosen);
-    plan =
-        subst (λ (s : Survey). entries work.laid.selection.planned.plan ≡ plan_of (chosen_in work.laid.selection.chosen) (tells s)) (sym made.survey_is)
-        (subst (λ (l : Selection). entries l.planned.plan ≡ plan_of (chosen_in l.chosen) (tells m.survey)) (sym made.selection_is) selected.plan);
+    selected = subst (λ (s : Survey). IsSelected (all_of (tells s)) (tells s) work.laid.selected) (sym made.survey_is) (subst (IsSelected (all_of (tells m.survey)) (tells m.survey)) (sym made.selected_is) own);
     unsaid = unsaid;
     reports = reports is.of is.emptied is.gaps;
   }
@@ -195,8 +191,8 @@ module _ (input : List ℕ) where
     salvaged-is : (bytes : List ℕ) → file_of bytes ≡ salvaged_file bytes ready.of
     unfolding salvaged_file
     salvaged-is bytes =
-        file-is (chosen_in work.laid.selection.chosen) (entries work.laid.selection.planned.plan) bytes (tells work.laid.survey) ready.plan
-        ∙ ap (λ (c : Chosen). chosen_file c bytes (tells work.laid.survey)) ready.chosen ∙ ap (λ (s : SurveyFields). chosen_file (all_of s) bytes s) ready.survey
+        file-is (all_of (tells work.laid.survey)) (laid_in work.laid.selected) bytes (tells work.laid.survey) ready.selected.laid
+        ∙ ap (λ (s : SurveyFields). chosen_file (all_of s) bytes s) ready.survey
 
     pub ready-makes : IsMaking (salvage_task input) file_of files
     ready-makes = record { there = ready.layable.there; makes = at files ready.read ready.octets }

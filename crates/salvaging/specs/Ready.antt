@@ -3,7 +3,6 @@ use Rattle.std.specs.Prelude.{◌≡◌, ℕ, List, [], Result, OnOk, IfErr}
 use Rattle.outside.specs.Files.{Files}
 use Rattle.outside.specs.Counts.{OnlyReads}
 use Rattle.outside.specs.Seen.{Seen}
-use Rattle.slot_plan.specs.Plans.{entries}
 use Rattle.sync_survey.specs.Faults.{tells}
 use Rattle.sync_survey.specs.Survey.{HoldsOctets}
 use Rattle.salvage.specs.declared.mended.Mended.{Mended}
@@ -12,7 +11,7 @@ use Rattle.salvage.specs.Progress.{IsLaidOut}
 use Rattle.salvage.specs.Mended.{mended, emptied_from}
 use Rattle.commands.specs.declared.fault.EditFault.{EditFault}
 use Rattle.commands.specs.One.{IsEarlyFault, IsOfInputs}
-use Rattle.frame_edits.specs.Chosen.{chosen_in, plan_of}
+use Rattle.frame_edits.specs.Chosen.{IsSelected}
 use Rattle.frame_edits.specs.Layable.{IsLayable}
 use Rattle.salvaging.specs.declared.report.Report.{Report}
 use Rattle.salvaging.specs.declared.work.Work.{Work}
@@ -49,7 +48,6 @@ pub record IsReady (input : List ℕ) (files : Files) (work : Work) : Type 0 whe
   pub laid : IsLaidOut of
   pub layable : IsLayable input work.laid files
   pub survey : tells work.laid.survey ≡ mended of.survey
-  pub chosen : chosen_in work.laid.selection.chosen ≡ all_of (tells work.laid.survey)
-  pub plan : entries work.laid.selection.planned.plan ≡ plan_of (chosen_in work.laid.selection.chosen) (tells work.laid.survey)
+  pub selected : IsSelected (all_of (tells work.laid.survey)) (tells work.laid.survey) work.laid.selected
   pub unsaid : work.sending ≡ []
   pub reports : Reports of work.report

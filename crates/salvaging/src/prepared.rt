@@ -11,7 +11,7 @@ ghost use Rattle.salvaging.specs.Ready.{IsMended, IsReady, ReadsInput};
 use crate::report::Report;
 use crate::work::Work;
 use commands::EditFault;
-use frame_edits::{Chosen, Selection, Slots, Work as LaidWork, plan_file};
+use frame_edits::{Chosen, Slots, Work as LaidWork, plan_file};
 use laying::Kept;
 use outside::{Folder, SendBuffer};
 use salvage::{Mended, read_damaged};
@@ -69,9 +69,8 @@ fn make_ready(alloc: Global, mended: Mended) -> Result<Work, AllocError>
         emptied,
         gaps,
     } = mended;
-    let chosen = all_frames(&survey);
-    let planned = plan_file(alloc, &survey, &chosen)?;
-    let laid = LaidWork::new(alloc, survey, Selection { chosen, planned })?;
+    let selected = plan_file(alloc, &survey, &all_frames(&survey))?;
+    let laid = LaidWork::new(alloc, survey, selected)?;
     let sending = SendBuffer::new(alloc)?;
     Ok(Work {
         laid,

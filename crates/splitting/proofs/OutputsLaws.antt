@@ -12,7 +12,7 @@ use Rattle.outside.specs.declared.pass.PassFault.{PassFault}
 use Rattle.outside.specs.declared.pass.PassFault.TheVariants.{Read, Shrunk, Write}
 use Rattle.outside.specs.Seen.{seen}
 use Rattle.commands.specs.Command.{Output, begun, LacksBytes, written}
-use Rattle.frame_edits.specs.Chosen.{chosen_in, chosen_file}
+use Rattle.laying.specs.Laid.{laid_in, file_laid}
 use Rattle.commands.specs.One.{holding, HoldsPrefix, HoldsLess, IsPassFault}
 use Rattle.commands.specs.PassFaults.{of_pass}
 use Rattle.splitting.specs.declared.piece.Piece.{Piece}
@@ -82,8 +82,8 @@ pub record Wrote (s : SurveyFields) (input : List ℕ) (done : List Piece) (old 
 pub none-wrote : (s : SurveyFields) (input : List ℕ) (files : Files) → IsThere files input → Wrote s input [] files files
 none-wrote s input files there = record { files = λ bytes holds. none-written files; touches = touches_none [] files; stands = record { there = there; before = λ bytes holds. holds; after = λ bytes holds. holds } }
 
-abbrev piece_made : SurveyFields → Piece → List ℕ → List ℕ
-piece_made s piece file = chosen_file (chosen_in piece.selection.chosen) file s
+abbrev pub piece_made : SurveyFields → Piece → List ℕ → List ℕ
+piece_made s piece file = file_laid (laid_in piece.selected) file s
 
 -- the next one was written, or begun
 module _ (s : SurveyFields) (input : List ℕ) (all : List Piece) (k : ℕ) (piece : Piece) (old now new : Files) (next : drop k all ≡ piece ∷ drop (k + 1) all) (wrote : Wrote s input (take k all) old now) (touches : OnlyTouches (string_bytes piece.name ∷ []) now new) where

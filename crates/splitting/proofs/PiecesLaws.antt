@@ -16,7 +16,10 @@ use Rattle.sync_survey.specs.Faults.{SurveyFields}
 use Rattle.commands.specs.declared.fault.EditFault.{EditFault}
 use Rattle.commands.specs.declared.fault.EditFault.TheVariants.{Memory}
 use Rattle.commands.specs.Left.{IsRefusal}
-use Rattle.frame_edits.specs.Chosen.{Chosen, chosen_in, chosen_file, cut_refuses}
+use Rattle.commands.specs.Command.{Output}
+use Rattle.laying.specs.Laid.{laid_in, IsWritable}
+use Rattle.frame_edits.specs.Chosen.{Chosen, cut_refuses}
+use Rattle.frame_edits.proofs.LaidPass.{file-is}
 use Rattle.splitting.specs.declared.piece.Piece.{Piece}
 use Rattle.piece_names.proofs.NamesLaws.{names-length, name-at}
 use Rattle.piece_names.specs.Names.{piece_name, piece_names}
@@ -80,7 +83,8 @@ pieces-push prefix s k n (first ∷ pieces) piece are is named ready = (are.0, a
 pub outputs-are : (prefix : List ℕ) (s : SurveyFields) (k : ℕ) (pieces : List Piece) (bytes : List ℕ) → ArePieces prefix s k pieces → outputs_of s pieces bytes ≡ pieces_from prefix k bytes s (map chosen_of pieces)
 outputs-are prefix s k [] bytes are = refl
 outputs-are prefix s k (piece ∷ pieces) bytes are =
-    ap₂ (λ name outputs. record { name = name; bytes = chosen_file (chosen_in piece.selection.chosen) bytes s } ∷ outputs) are.0 (outputs-are prefix s (k + 1) pieces bytes are.2)
+    ap₂ (λ (output : Output) outputs. output ∷ outputs) (ap₂ (λ name made. record { name = name; bytes = made }) are.0 (file-is (chosen_of piece) (laid_in piece.selected) bytes s are.1.laid))
+    (outputs-are prefix s (k + 1) pieces bytes are.2)
 
 -- an input that has the name of no piece
 other-name : (prefix input : List ℕ) (k : ℕ) → list_any (bytes_eq input) (piece_names prefix) ≡ false → 1 ≤ k → k ≤ 99 → input ≢ piece_name prefix k
@@ -91,9 +95,9 @@ other-name prefix input k none from to same =
     absurd cc
 
 pub can-be-written : (prefix input : List ℕ) (s : SurveyFields) (k : ℕ) (pieces : List Piece) → list_any (bytes_eq input) (piece_names prefix) ≡ false → 1 ≤ k → k + length pieces ≤ 100 → ArePieces prefix s k pieces → CanBeWritten input s pieces
-can-be-written prefix input s k [] none from to are = All-nil (λ piece. (input ≢ string_bytes piece.name) × IsReady s piece)
+can-be-written prefix input s k [] none from to are = All-nil (λ piece. (input ≢ string_bytes piece.name) × IsWritable s piece.selected)
 can-be-written prefix input s k (piece ∷ pieces) none from to are =
-    All-cons (λ p. (input ≢ string_bytes p.name) × IsReady s p) piece pieces ((λ same. other-name prefix input k none from (omega (arith, to)) (same ∙ are.0)), are.1) (can-be-written prefix input s (k + 1) pieces none (omega arith) (omega (arith, to)) are.2)
+    All-cons (λ p. (input ≢ string_bytes p.name) × IsWritable s p.selected) piece pieces ((λ same. other-name prefix input k none from (omega (arith, to)) (same ∙ are.0)), are.1.writable) (can-be-written prefix input s (k + 1) pieces none (omega arith) (omega (arith, to)) are.2)
 
 -- ---- their names are the first of the 99
 

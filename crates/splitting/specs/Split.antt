@@ -30,7 +30,11 @@ use Rattle.frame_edits.specs.Chosen.{Chosen, cut_refuses, chosen_with, chosen_fi
 
 -- ---- pieces
 
--- the frames from one up to, but not including, another, in their own slots
+-- the frames from one up to, but not including, another, in their own slots; the Info frame has no quality, and its extension is all 0
+abbrev pub own_frames : ℕ → ℕ → Chosen
+own_frames from to = record { from = from; to = to; slots = Own; quality = None; extension = replicate 36 0 }
+
+-- these, if there is one and all are there
 abbrev pub frames_between : ℕ → ℕ → ℕ → Result Chosen EditFault
 frames_between frames from to = chosen_with None (replicate 36 0) from to Own frames
 

@@ -15,13 +15,13 @@ use Rattle.commands.specs.Command.{Output, written, LacksBytes, written_to}
 use Rattle.commands.specs.Left.{by_why, never, why_of, EndsEarly}
 use Rattle.commands.specs.One.{most_frames, first_input, ReadsNothing, LosesInput}
 use Rattle.commands.specs.Sheet.{MissesSheet, IsOfSheet as IsOfRead}
-use Rattle.frame_edits.specs.Chosen.{Chosen, chosen_in, chosen_file}
-use Rattle.frame_edits.specs.Selected.{IsSelected}
+use Rattle.laying.specs.Laid.{laid_in, file_laid, IsWritable}
+use Rattle.frame_edits.specs.Chosen.{Chosen, IsSelected}
 use Rattle.splitting.specs.declared.piece.Piece.{Piece}
 use Rattle.splitting.specs.declared.split_file.Points.{Points}
 use Rattle.splitting.specs.declared.split_file.Points.TheVariants.{Places, Sheet as InSheet}
 use Rattle.piece_names.specs.Names.{piece_name}
-use Rattle.splitting.specs.Split.{places_where, sheet_refuses, Placing}
+use Rattle.splitting.specs.Split.{own_frames, places_where, sheet_refuses, Placing}
 
 -- ---- the sheet
 
@@ -74,9 +74,13 @@ IsOfPlaces (InSheet sheet) fault = IsOfSheet fault
 
 -- ---- pieces that are to be written
 
+-- the frames of a piece, in their own slots
+abbrev pub chosen_of : Piece → Chosen
+chosen_of piece = own_frames piece.selected.from piece.selected.to
+
 -- a piece has a plan, and the bytes of its Info frame
 abbrev pub IsReady : SurveyFields → Piece → Type 0
-IsReady s piece = IsSelected s piece.selection
+IsReady s piece = IsSelected (chosen_of piece) s piece.selected
 
 -- the pieces are ready, and have the names of the prefix with the numbers from this one on
 abbrev pub ArePieces : List ℕ → SurveyFields → ℕ → List Piece → Type 0
@@ -85,7 +89,7 @@ ArePieces prefix s k (piece ∷ pieces) = (string_bytes piece.name ≡ piece_nam
 
 -- they are ready to be written beside this input
 abbrev pub CanBeWritten : List ℕ → SurveyFields → List Piece → Type 0
-CanBeWritten input s pieces = All (λ piece. (input ≢ string_bytes piece.name) × IsReady s piece) pieces
+CanBeWritten input s pieces = All (λ piece. (input ≢ string_bytes piece.name) × IsWritable s piece.selected) pieces
 
 -- The input is there with its survey, and no more pieces than there are names are ready to be written beside it.
 pub record IsSplit (input : List ℕ) (s : SurveyFields) (pieces : List Piece) (now : Seen) : Type 0 where
@@ -95,12 +99,9 @@ pub record IsSplit (input : List ℕ) (s : SurveyFields) (pieces : List Piece) (
   pub few : length pieces ≤ 99
   pub ready : CanBeWritten input s pieces
 
-abbrev pub chosen_of : Piece → Chosen
-chosen_of piece = chosen_in piece.selection.chosen
-
 -- their files
 abbrev pub output_of : List ℕ → SurveyFields → Piece → Output
-output_of file s piece = record { name = string_bytes piece.name; bytes = chosen_file (chosen_in piece.selection.chosen) file s }
+output_of file s piece = record { name = string_bytes piece.name; bytes = file_laid (laid_in piece.selected) file s }
 
 abbrev pub outputs_of : SurveyFields → List Piece → List ℕ → List Output
 outputs_of s pieces file = map (output_of file s) pieces

@@ -3,7 +3,7 @@ ghost use Rattle.std.specs.Prelude.{◌≡◌, ◌⊎◌, ◌+◌, ◌≤◌, le
 ghost use Rattle.sync_survey.specs.Faults.{tells};
 ghost use Rattle.sync_survey.specs.Survey.{IsLaidOut};
 ghost use Rattle.commands.specs.One.{most_frames};
-ghost use Rattle.frame_edits.specs.Chosen.{chosen_in, cut_refuses};
+ghost use Rattle.frame_edits.specs.Chosen.{cut_refuses};
 ghost use Rattle.commands.specs.Left.{IsRefusal};
 ghost use Rattle.piece_names.specs.Names.{piece_name as piece_name_lem};
 ghost use Rattle.splitting.specs.Split.{frames_between, chosen_at, ArePositions};
@@ -11,8 +11,8 @@ ghost use Rattle.splitting.specs.Steps.{IsReady, ArePieces, chosen_of};
 
 use commands::EditFault;
 use cue_sheet::Place;
-use frame_edits::{Selection, Slots, choose, plan_file};
-use laying::Kept;
+use frame_edits::{Slots, choose, plan_file};
+use laying::{Kept, Selected};
 use piece_names::piece_name;
 use std::alloc::Global;
 use sync_survey::Survey;
@@ -21,7 +21,7 @@ use sync_survey::Survey;
 #[derive(Drop)]
 pub(crate) struct Piece {
     pub name: String,
-    pub selection: Selection,
+    pub selected: Selected,
 }
 
 /// The piece with this number, of the frames from `from` up to, but not including, `to`: `Range` where there is none between
@@ -42,15 +42,15 @@ fn make_piece(
     ensures ready { IfOk result (IsReady (tells survey.now)) }
     ensures chosen { MatchResult result
         (λ piece. frames_between (length (tells survey.now).frames) from to
-        ≡ Ok (chosen_in piece.selection.chosen))
+        ≡ Ok (chosen_of piece))
         (λ fault. (fault ≡ EditFault.Memory) ⊎ (IsRefusal cut_refuses fault
         × (frames_between (length (tells survey.now).frames) from to ≡ Err fault))) }
 {
     let chosen = choose(from, to, survey.frames().len(), Slots::Own, Kept::none())?;
-    let planned = plan_file(alloc, survey, &chosen)?;
+    let selected = plan_file(alloc, survey, &chosen)?;
     Ok(Piece {
         name: piece_name(alloc, prefix, number)?,
-        selection: Selection { chosen, planned },
+        selected,
     })
 }
 

@@ -6,7 +6,6 @@ ghost use Rattle.splitting.specs.Steps.{IsSplit, pieces_of, WritesPieces};
 
 use crate::piece::Piece;
 use commands::EditFault;
-use frame_edits::write_selection;
 use laying::{Buffers, Relay};
 use outside::{Folder, Pass};
 use sync_survey::Survey;
@@ -41,7 +40,7 @@ pub(crate) fn write_pieces<D: Folder>(
         let Ok(()) = folder.create(pass.output) else {
             return Err(EditFault::Write(place));
         };
-        if let Err(fault) = write_selection(folder, &relay, &piece.selection, buffers) {
+        if let Err(fault) = relay.write(folder, &piece.selected, buffers) {
             return Err(EditFault::of_pass(0, place, fault));
         }
         place += 1;

@@ -40,14 +40,14 @@ module _ (g : given.Over) (c : After-append_front g) where
   abbrev frames : Files → List Placed → List ℕ
   frames mid placed = frame_bytes (relaid (told_frames mid (map string_bytes c.args.inputs.now) (map tells c.args.surveys.now)) placed)
 
-  all : (mid : Files) (placed : List Placed) → placed ≡ entries c.args.work.now.planned.plan → OnlyTouches (c.args.first.now.pass.output.now ∷ []) old mid → (file : List ℕ) → Holds old c.args.first.now.pass.input.now file
-      → (concat (front_blocks file (tells c.args.first.now.survey.now)) ++ c.as_slice-info.result.now) ++ frames mid placed ≡ whole file
+  all : (mid : Files) (placed : List Placed) → placed ≡ entries c.args.work.now.plan → OnlyTouches (c.args.first.now.pass.output.now ∷ []) old mid → (file : List ℕ) → Holds old c.args.first.now.pass.input.now file
+      → (concat (front_blocks file (tells c.args.first.now.survey.now)) ++ c.as_slice.result.now) ++ frames mid placed ≡ whole file
   all mid placed is only =
-      whole-is _ old mid placed c.as_slice-info.result.now c.requires.join.names c.requires.join.known c.requires.ready.joined c.requires.join.sources (is ∙ c.requires.ready.plan.plan) (rw (is, c.as_slice-info.ensures.value) c.requires.ready.info) only
+      whole-is _ old mid placed c.as_slice.result.now c.requires.join.names c.requires.join.known c.requires.ready.joined c.requires.join.sources (is ∙ c.requires.ready.plan.plan) (rw (is, c.as_slice.ensures.value) c.requires.ready.info) only
 
   -- the front, and then the frames, or a part of them
-  module _ (mid : Files) (placed : List Placed) (is : placed ≡ entries c.args.work.now.planned.plan) {waiting : List ℕ} (none : waiting ≡ []) (front : Appends c.args.first.now.pass.input.now c.args.first.now.pass.output.now (λ file. concat (front_blocks file (tells c.args.first.now.survey.now)) ++ c.as_slice-info.result.now) old mid) where
-    begun : Writes c.args.first.now.pass (λ file. concat (front_blocks file (tells c.args.first.now.survey.now)) ++ c.as_slice-info.result.now) [] waiting old mid
+  module _ (mid : Files) (placed : List Placed) (is : placed ≡ entries c.args.work.now.plan) {waiting : List ℕ} (none : waiting ≡ []) (front : Appends c.args.first.now.pass.input.now c.args.first.now.pass.output.now (λ file. concat (front_blocks file (tells c.args.first.now.survey.now)) ++ c.as_slice.result.now) old mid) where
+    begun : Writes c.args.first.now.pass (λ file. concat (front_blocks file (tells c.args.first.now.survey.now)) ++ c.as_slice.result.now) [] waiting old mid
     begun = rw none (record { piece = front.bytes; is = front.is; passed = record { passed = front.bytes; split = sym (append-nil front.bytes); files = front.files } })
 
     apart : c.args.first.now.pass.input.now ≢ c.args.first.now.pass.output.now
@@ -65,7 +65,7 @@ module _ (g : given.Over) (c : After-append_front g) where
 pub returns-in-Err : goal.returns-in-Err
 returns-in-Err g c =
     let at = (goal.at.returns-in-Err g c).After-append_front in
-    let placed = entries c.args.work.now.planned.plan in
+    let placed = entries c.args.work.now.plan in
     record {
       written = tt;
       prefix =

@@ -1,5 +1,5 @@
--- By the walk over the items of the plan.
-use Rattle.laying.proofs.SlotLaws.{slots-planned}
+-- By the plan, which can be written frame by frame.
+use Rattle.laying.proofs.FittingFrames.{slots-planned}
 use Rattle.laying.proofs.info_laws.slots_are_planned.Goals as goal
 
 pub returns : goal.returns

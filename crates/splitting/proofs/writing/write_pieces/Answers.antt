@@ -8,11 +8,10 @@ use Rattle.laying.proofs.RelayLaws.{item-next}
 use Rattle.sync_survey.specs.Faults.{tells}
 use Rattle.commands.specs.One.{most_frames}
 use Rattle.commands.proofs.OutputLaws.{output_whole, touches_whole, touches_prefix, pass_fault, not_begun}
-use Rattle.frame_edits.specs.Selected.{selected_file}
+use Rattle.laying.specs.Laid.{IsWritable}
 use Rattle.frame_edits.proofs.LaidPass.{relay-ready}
 use Rattle.splitting.specs.declared.piece.Piece.{Piece}
-use Rattle.splitting.specs.Steps.{IsReady}
-use Rattle.splitting.proofs.OutputsLaws.{Wrote, none-wrote, more-wrote, all-touched, pieces-fault}
+use Rattle.splitting.proofs.OutputsLaws.{Wrote, piece_made, none-wrote, more-wrote, all-touched, pieces-fault}
 use Rattle.splitting.proofs.writing.write_pieces.Given as given
 use Rattle.splitting.proofs.writing.write_pieces.Goals as goal
 use Rattle.splitting.proofs.writing.write_pieces.Goals.{After-create, After-loop-piece}
@@ -25,8 +24,8 @@ module _ (g : given.Over) (c : After-create g) where
   abbrev piece : Piece
   piece = c.piece-item.result
 
-  ready : (c.args.input.now ≢ string_bytes piece.name) × IsReady (tells c.args.survey.now) piece
-  ready = subst (λ (p : Piece). (c.args.input.now ≢ string_bytes p.name) × IsReady (tells c.args.survey.now) p) (sym c.piece-item.is) (c.requires.split.ready c.loop-piece.piece-index piece (omega (arith, c.loop-piece-test.true)))
+  ready : (c.args.input.now ≢ string_bytes piece.name) × IsWritable (tells c.args.survey.now) piece.selected
+  ready = subst (λ (p : Piece). (c.args.input.now ≢ string_bytes p.name) × IsWritable (tells c.args.survey.now) p.selected) (sym c.piece-item.is) (c.requires.split.ready c.loop-piece.piece-index piece (omega (arith, c.loop-piece-test.true)))
 
   next : drop c.loop-piece.piece-index c.args.pieces.now ≡ piece ∷ drop (c.loop-piece.piece-index + 1) c.args.pieces.now
   next = item-next c.args.pieces.now c.loop-piece.piece-index piece (omega (arith, c.loop-piece-test.true)) c.piece-item.is
@@ -37,16 +36,16 @@ module _ (g : given.Over) (c : After-create g) where
   apart : c.args.input.now ≢ c.as_str.result.now
   apart same = ready.0 (same ∙ c.as_str.ensures.value)
 
-pub write_selection-requires-clause-ready : goal.write_selection-requires-clause-ready
-write_selection-requires-clause-ready g c =
-    let away = apart g (goal.at.write_selection-requires-clause-ready g c).After-create in
+pub write-requires-clause-ready : goal.write-requires-clause-ready
+write-requires-clause-ready g c =
+    let away = apart g (goal.at.write-requires-clause-ready g c).After-create in
     let stands = c.loop-piece.invariant.wrote.stands in
     relay-ready _ (g.D.Folder.seen c.loop-piece.folder).files (g.D.Folder.seen c.create.new.self).files _ away stands.there c.requires.split.laid
     (λ file holds. survey-had file most_frames (tells c.args.survey.now) (c.requires.split.surveyed file (stands.before file holds))) c.length.ensures c.in-Ok.ensures.answer.created
     (record { same = λ bytes holds. c.loop-piece.invariant.fed.same bytes (emptied_held_other _ _ c.args.input.now bytes away (rw c.in-Ok.ensures.answer.created at holds)) })
 
-pub write_selection-requires-clause-selected : goal.write_selection-requires-clause-selected
-write_selection-requires-clause-selected g c = (ready g (goal.at.write_selection-requires-clause-selected g c).After-create).1
+pub write-requires-clause-writable : goal.write-requires-clause-writable
+write-requires-clause-writable g c = (ready g (goal.at.write-requires-clause-writable g c).After-create).1
 
 pub returns-in_default : goal.returns-in_default
 returns-in_default g c =
@@ -66,7 +65,7 @@ returns-in_default g c =
 pub returns-in-Err : goal.returns-in-Err
 returns-in-Err g c =
     let at = (goal.at.returns-in-Err g c).After-create in
-    let made = selected_file (tells c.args.survey.now) (piece g at).selection in
+    let made = piece_made (tells c.args.survey.now) (piece g at) in
     let touches = touches_prefix made _ _ (apart g at) _ _ _ c.in-Ok.ensures.answer.created c.in-Err.ensures.prefix in
     let fault = pass_fault made _ _ (apart g at) _ _ _ c.in-Ok.ensures.answer.created (c.args.input.now ∷ []) refl 0 c.in-Err.fault _ (g.D.Folder.seen c.loop-piece.folder).counts _ _ c.in-Ok.ensures.answer.done c.in-Err.ensures.prefix c.in-Err.ensures.cause in
     let touches = touches_prefix _ _ _ (apart g at) _ _ _ c.in-Ok.ensures.answer.created c.in-Err.ensures.prefix in
@@ -85,14 +84,14 @@ returns-in-Err g c =
 pub loop-piece-preserved : goal.loop-piece-preserved
 loop-piece-preserved g c =
     let at = (goal.at.loop-piece-preserved g c).After-create in
-    let touches = touches_whole _ _ _ (apart g at) _ _ _ c.in-Ok.ensures.answer.created c.in_default-write_selection.ensures.written in
-    let whole = output_whole (selected_file (tells c.args.survey.now) (piece g at).selection) _ _ (apart g at) _ _ _ c.in-Ok.ensures.answer.created c.in_default-write_selection.ensures.written in
+    let touches = touches_whole _ _ _ (apart g at) _ _ _ c.in-Ok.ensures.answer.created c.in_default-write.ensures.written in
+    let whole = output_whole (piece_made (tells c.args.survey.now) (piece g at)) _ _ (apart g at) _ _ _ c.in-Ok.ensures.answer.created c.in_default-write.ensures.written in
     record {
       wrote = more-wrote (tells c.args.survey.now) c.args.input.now c.args.pieces.now c.loop-piece.piece-index (piece g at) _ _ _ (next g at) c.loop-piece.invariant.wrote (rw c.as_str.ensures.value at touches) (ready g at).0 (rw c.as_str.ensures.value at whole);
       place = omega (arith, c.loop-piece.invariant.place);
-      fed = c.in_default-write_selection.ensures.ready.pass.fed_from;
-      unsent = c.in_default-write_selection.ensures.none;
-      counts = c.in_default-write_selection.ensures.done ∙ c.in-Ok.ensures.answer.done ∙ c.loop-piece.invariant.counts;
+      fed = c.in_default-write.ensures.ready.pass.fed_from;
+      unsent = c.in_default-write.ensures.none;
+      counts = c.in_default-write.ensures.done ∙ c.in-Ok.ensures.answer.done ∙ c.loop-piece.invariant.counts;
     }
 
 -- all of them

@@ -2,18 +2,17 @@
 use Rattle.std.proofs.Common.{ap₂, sym, ◌∙◌, subst}
 use Rattle.outside.specs.Files.{Holds}
 use Rattle.outside.specs.Seen.{seen}
-use Rattle.slot_plan.specs.Plans.{entries}
+use Rattle.laying.specs.Laid.{laid_in}
 use Rattle.laying.proofs.ChosenFrames.{survey-had}
 use Rattle.sync_survey.specs.Faults.{tells}
 use Rattle.commands.specs.declared.fault.EditFault.TheVariants.{Memory}
 use Rattle.commands.specs.One.{most_frames, IsInputFault, IsEarlyFault}
 use Rattle.commands.proofs.InputLaws.{fault_is_input, of_survey_input, input_is_early, input_numbers, memory_is_input}
 use Rattle.commands.proofs.RefusingLaws.{err_with}
-use Rattle.frame_edits.specs.declared.plans.Selection.{Selection}
 use Rattle.frame_edits.specs.Chosen.{chosen_in, choosing, stream_chosen}
 use Rattle.frame_edits.specs.Choices.{choosing_by, refused_by, task_of}
 use Rattle.frame_edits.proofs.ChosenLaws.{edit_makes}
-use Rattle.frame_edits.proofs.LaidPass.{selected-writable, work_layable, work_makes}
+use Rattle.frame_edits.proofs.LaidPass.{work_layable, work_makes}
 use Rattle.frame_edits.proofs.edit.FrameEditEdit.prepare.Given as given
 use Rattle.frame_edits.proofs.edit.FrameEditEdit.prepare.Goals as goal
 use Rattle.frame_edits.proofs.edit.FrameEditEdit.prepare.Goals.{In_ok-chosen}
@@ -46,9 +45,9 @@ forgot g c =
     (memory_is_input choosing_it input _ _ (tells c.in_ok-survey.survey) c.in_ok-survey.ensures.there c.in_ok-survey.ensures.surveyed
     (ap₂ seen (c.find.ensures.reads.files ∙ c.survey_at.ensures.reads.files) (c.in_ok-chosen.ensures.reads.done ∙ c.in_ok-survey.ensures.reads.done)))
 
-pub returns-in_err-planned-clause-refused : goal.returns-in_err-planned-clause-refused
-returns-in_err-planned-clause-refused g c =
-    err_with _ _ c.from_residual-in_err-planned.ensures.1 (forgot g (goal.at.returns-in_err-planned-clause-refused g c).In_ok-chosen)
+pub returns-in_err-selected-clause-refused : goal.returns-in_err-selected-clause-refused
+returns-in_err-selected-clause-refused g c =
+    err_with _ _ c.from_residual-in_err-selected.ensures.1 (forgot g (goal.at.returns-in_err-selected-clause-refused g c).In_ok-chosen)
 
 pub returns-in_err-work-clause-refused : goal.returns-in_err-work-clause-refused
 returns-in_err-work-clause-refused g c =
@@ -56,18 +55,14 @@ returns-in_err-work-clause-refused g c =
 
 pub returns-clause-ready : goal.returns-clause-ready
 returns-clause-ready g c =
-    let s = tells c.in_ok-survey.survey in
-    let selection : Selection = record { chosen = c.in_ok-chosen.chosen; planned = c.in_ok-planned.planned } in
-    work_layable c.in_ok-survey.survey selection c.in_ok-work.work c.in_ok-work.ensures c.args.self.now.input.now (g.D.Folder.seen c.args.folder.now).files c.in_ok-survey.ensures.there c.in_ok-survey.ensures.laid
-    (λ bytes holds. survey-had bytes most_frames s (c.in_ok-survey.ensures.surveyed bytes holds))
-    (selected-writable s selection (record { some = c.in_ok-chosen.ensures.some; within = c.in_ok-chosen.ensures.within; plan = c.in_ok-planned.ensures.plan; fits = c.in_ok-planned.ensures.fits; info = c.in_ok-planned.ensures.info }))
+    work_layable c.in_ok-survey.survey c.in_ok-selected.selected c.in_ok-work.work c.in_ok-work.ensures c.args.self.now.input.now (g.D.Folder.seen c.args.folder.now).files c.in_ok-survey.ensures.there c.in_ok-survey.ensures.laid
+    (λ bytes holds. survey-had bytes most_frames (tells c.in_ok-survey.survey) (c.in_ok-survey.ensures.surveyed bytes holds)) c.in_ok-selected.ensures.writable
 
 pub returns-clause-making : goal.returns-clause-making
 returns-clause-making g c =
     let edit = c.args.self.now in
     let files = (g.D.Folder.seen c.args.folder.now).files in
     let s = tells c.in_ok-survey.survey in
-    let selection : Selection = record { chosen = c.in_ok-chosen.chosen; planned = c.in_ok-planned.planned } in
-    work_makes c.in_ok-survey.survey selection c.in_ok-work.work c.in_ok-work.ensures (task_of edit.choice edit.input.now) files
-    (edit_makes edit.choice edit.input.now s (chosen_in c.in_ok-chosen.chosen) (entries c.in_ok-planned.planned.plan) files c.in_ok-survey.ensures.there c.in_ok-survey.ensures.surveyed c.in_ok-survey.ensures.octets
-    (λ bytes holds. c.in_ok-chosen.ensures.chosen bytes (subst (λ f. Holds f edit.input.now bytes) (sym c.survey_at.ensures.reads.files) holds)) c.in_ok-planned.ensures.plan)
+    work_makes c.in_ok-survey.survey c.in_ok-selected.selected c.in_ok-work.work c.in_ok-work.ensures (task_of edit.choice edit.input.now) files
+    (edit_makes edit.choice edit.input.now s (chosen_in c.in_ok-chosen.chosen) (laid_in c.in_ok-selected.selected) files c.in_ok-survey.ensures.there c.in_ok-survey.ensures.surveyed c.in_ok-survey.ensures.octets
+    (λ bytes holds. c.in_ok-chosen.ensures.chosen bytes (subst (λ f. Holds f edit.input.now bytes) (sym c.survey_at.ensures.reads.files) holds)) c.in_ok-selected.ensures.laid)

@@ -1,13 +1,11 @@
 -- Both areas are within the input, and the feed gives all from the first one's beginning to the second one's end.
-use Rattle.std.proofs.Common.{rules, ◌+◌, ◌-◌, ◌≡◌, ◌≤◌, ◌∙◌, take, drop, sym, ap, ap₂, subst, arith, length-drop}
+use Rattle.std.proofs.Common.{rules, ◌+◌, ◌-◌, ◌≡◌, ◌≤◌, ◌∙◌, take, drop, sym, ap, subst, arith, length-drop}
 use Rattle.std.proofs.lemmas.List.{length-take-le, take-take, drop-take, drop-drop}
-use Rattle.outside.specs.Files.{Holds}
 use Rattle.frame_header.specs.Tables.{class_of, overhead_of}
 use Rattle.sync_survey.specs.Faults.{tells}
 use Rattle.laying.specs.Passing.{HoldsLast}
-use Rattle.laying.proofs.ReadLaws.{laid-within}
+use Rattle.laying.proofs.ReadLaws.{laid-within, area-at}
 use Rattle.laying.proofs.ReachLaws.{holds-given}
-use Rattle.laying.proofs.PassLaws.{ready-filled}
 use Rattle.laying.proofs.relay.Relay.fill_frame.Goals as goal
 
 pub area_place-own-requires : goal.area_place-own-requires
@@ -24,7 +22,6 @@ fill-requires-clause-within g c =
     omega (
       arith,
       laid-within s.first s.length s.frames c.args.reading.now.next c.args.known.now.row.now c.requires.ready.laid.frames c.requires.next.found,
-      c.requires.ready.length_is,
       c.area_place-own.ensures.whole,
       c.in_ok-first.ensures.near,
     )
@@ -38,28 +35,25 @@ returns-clause-given g c = record {
       let before = c.in_ok-first.before in
       let given = c.fill.new.feed.given in
       let near = c.in_ok-first.ensures.near in
-      let over = subst (λ f. HoldsLast c.first_byte.new.window input f s first before c.args.reading.now.next) (sym c.fill.ensures.files) c.in_ok-first.ensures.over in
+      let over = subst (λ f. HoldsLast c.first_byte.new.window input f s first before c.args.reading.now.next) (sym c.fill.ensures.reads.files) c.in_ok-first.ensures.over in
       let many : before ≤ c.area_place-own.result.at - first + c.area_place-own.result.size = omega (arith, near) in
       holds-given c.first_byte.new.window (take before given) input (seen c.fill.new.folder).files s first before c.args.reading.now.next over
-      (length-take-le before given (omega (arith, many, c.in_ok-fill.ensures.given)))
-      (λ file holds.
-      ap (take before) (c.in_ok-fill.ensures.bytes file (subst (λ f. Holds f input file) c.fill.ensures.files holds))
-      ∙ take-take before (c.area_place-own.result.at - first + c.area_place-own.result.size) (drop first file) many);
+      (record {
+        long = length-take-le before given (omega (arith, many, c.in_ok-fill.ensures.given.long));
+        is = λ file holds. ap (take before) (c.in_ok-fill.ensures.given.is file holds) ∙ take-take before (c.area_place-own.result.at - first + c.area_place-own.result.size) (drop first file) many;
+      });
   area = let row = c.args.known.now.row.now in
-      let input = c.args.self.now.pass.input.now in
       let first = c.in_ok-first.first in
       let skip = c.area_place-own.result.at - first in
       let area = c.area_place-own.result.size in
-      let given = c.fill.new.feed.given in
-      let near = c.in_ok-first.ensures.near in
-      let over = overhead_of (class_of row.header) row.header.protected in
-      let at : first + skip ≡ row.offset + over = omega (arith, near, c.area_place-own.ensures.at) in
+      let at : first + skip ≡ row.offset + overhead_of (class_of row.header) row.header.protected = omega (arith, c.in_ok-first.ensures.near, c.area_place-own.ensures.at) in
       record {
-        long = omega (arith, length-drop skip given, c.in_ok-fill.ensures.given, c.area_place-own.ensures.size);
+        long = omega (arith, length-drop skip c.fill.new.feed.given, c.in_ok-fill.ensures.given.long, c.area_place-own.ensures.size);
         is = λ file holds.
-            ap (drop skip) (c.in_ok-fill.ensures.bytes file (subst (λ f. Holds f input file) c.fill.ensures.files holds))
+            ap (drop skip) (c.in_ok-fill.ensures.given.is file holds)
             ∙ drop-take skip area (drop first file)
-            ∙ ap₂ (λ n xs. take n xs) c.area_place-own.ensures.size (drop-drop skip first file ∙ ap (λ n. drop n file) at ∙ sym (drop-drop over row.offset file));
+            ∙ ap (take area) (drop-drop skip first file)
+            ∙ area-at file row.offset row.header _ _ at c.area_place-own.ensures.size;
       };
   before = search rules;
   skip = search rules;
@@ -70,25 +64,7 @@ returns-clause-given g c = record {
         arith,
         laid-within s.first s.length s.frames c.args.reading.now.next c.args.known.now.row.now c.requires.ready.laid.frames c.requires.next.found,
         c.area_place-own.ensures.whole,
-        c.in_ok-fill.ensures.given,
+        c.in_ok-fill.ensures.given.long,
         length-drop skip c.fill.new.feed.given,
       );
-}
-
-pub returns-clause-reads : goal.returns-clause-reads
-returns-clause-reads g c = record {
-  done = search rules;
-  cause = search rules;
-  read = search rules;
-  files = search rules;
-  ready = ready-filled c.args.self.now _ _ _ _ c.fill.ensures.files c.first_byte.ensures.reads.ready c.fill.ensures.ready;
-}
-
-pub returns-in_err-fill-clause-reads : goal.returns-in_err-fill-clause-reads
-returns-in_err-fill-clause-reads g c = record {
-  done = search rules;
-  cause = search rules;
-  read = search rules;
-  files = search rules;
-  ready = ready-filled c.args.self.now _ _ _ _ c.fill.ensures.files c.first_byte.ensures.reads.ready c.fill.ensures.ready;
 }

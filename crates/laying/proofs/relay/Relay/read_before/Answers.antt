@@ -1,19 +1,16 @@
 -- One area more is read, up to frame i; then the last 2,048 bytes are there, or all.
-use Rattle.std.proofs.Common.{◌≡◌, ◌<◌, ℕ, List, get_or, length, Option, sym, ◌∙◌, ap, subst, arith}
+use Rattle.std.proofs.Common.{◌≡◌, ◌<◌, ℕ, List, get_or, length, sym, ◌∙◌, ap, subst, arith}
 use Rattle.std.specs.Prelude.{slice_get, Some}
-use Rattle.std.proofs.lemmas.Option.{slice_get-get_or}
 use Rattle.sync_survey.specs.Row.{Row}
 use Rattle.sync_survey.specs.Faults.{tells}
 use Rattle.laying.specs.Passing.{IsAreaOf, IsOverLast}
 use Rattle.laying.proofs.ReadLaws.{last-next, last-whole}
+use Rattle.laying.proofs.RelayLaws.{found-at}
 use Rattle.laying.proofs.relay.Relay.read_before.Goals as goal
-
-abbrev some : Row → Option Row
-some r = Some r
 
 -- an element of a list that is another
 read-at : (rows frames : List Row) (at : ℕ) (row : Row) → at < length rows → rows ≡ frames → row ≡ get_or rows at row → slice_get frames at ≡ Some row
-read-at rows frames at row within same is = ap (λ (l : List Row). slice_get l at) (sym same) ∙ slice_get-get_or rows at row within ∙ ap some (sym is)
+read-at rows frames at row within same is = ap (λ (l : List Row). slice_get l at) (sym same) ∙ found-at rows at row within is
 
 pub fill_area-requires-clause-found : goal.fill_area-requires-clause-found
 fill_area-requires-clause-found g c =

@@ -1,16 +1,15 @@
 -- What is before the frames and the frames, then what is after them, and then what of these still waits.
-use Rattle.std.proofs.Common.{rules, ◌≡◌, ◌++◌, List, ℕ, [], sym, ◌∙◌, append_assoc, append-nil}
+use Rattle.std.proofs.Common.{rules, ◌++◌, List, ℕ, [], sym, ◌∙◌, append-nil}
 use Rattle.std.specs.List.{concat}
 use Rattle.std.proofs.lemmas.Result.{on_ok_weaker, err_from_is_err_and}
 use Rattle.outside.specs.Files.{Files}
 use Rattle.outside.specs.Pass.{Writes}
 use Rattle.outside.proofs.PassedLaws.{err_at, err_by}
 use Rattle.outside.proofs.PassLaws.{prefix_as, writes_as, writes_then, prefix_then, writes_all, writes_end, writes_behind_none, part_behind_none, cause_behind, causes_behind}
-use Rattle.frame_writer.specs.Frames.{frame_bytes}
 use Rattle.sync_survey.specs.Faults.{SurveyFields, tells}
-use Rattle.laying.specs.declared.section.Section.{Section}
-use Rattle.laying.specs.Written.{front_blocks, back_blocks}
-use Rattle.laying.specs.Passing.{section_frames, section_front, section_file}
+use Rattle.laying.specs.Written.{back_blocks}
+use Rattle.laying.specs.Laid.{laid_in, file_laid, selected_front}
+use Rattle.laying.proofs.LaidLaws.{written-is}
 use Rattle.laying.proofs.PassLaws.{ready-later}
 use Rattle.laying.proofs.relay.Relay.write.Given as given
 use Rattle.laying.proofs.relay.Relay.write.Goals as goal
@@ -20,19 +19,14 @@ use Rattle.laying.proofs.relay.Relay.write.Goals.{In_ok-copy_blocks}
 abbrev back : SurveyFields → List ℕ → List ℕ
 back s file = concat (back_blocks file s)
 
-whole : (s : SurveyFields) (section : Section) (file : List ℕ) → section_front s section file ++ back s file ≡ section_file s section file
-whole s section file =
-    append_assoc (concat (front_blocks file s) ++ section.info.now) (frame_bytes (section_frames s section file)) (back s file)
-    ∙ append_assoc (concat (front_blocks file s)) section.info.now (frame_bytes (section_frames s section file) ++ back s file)
-
 pub returns-in_err-write_frames : goal.returns-in_err-write_frames
 returns-in_err-write_frames g c = record {
   written = search rules;
   prefix = let s = tells c.args.self.now.survey.now in
-      let section = c.args.section.now in
+      let selected = c.args.selected.now in
       err_at c.from_residual.result _ c.from_residual.ensures.1
       (part_behind_none c.requires.none
-      (prefix_as c.args.self.now.pass (section_file s section) (back s) (λ file holds. sym (whole s section file)) c.in_err-write_frames.ensures.prefix));
+      (prefix_as c.args.self.now.pass (λ file. file_laid (laid_in selected) file s) (back s) (λ file holds. sym (written-is s selected file c.requires.writable (c.requires.ready.exact file holds))) c.in_err-write_frames.ensures.prefix));
   none = search rules;
   done = search rules;
   cause = search rules;
@@ -43,11 +37,12 @@ pub returns-in_err-copy_blocks : goal.returns-in_err-copy_blocks
 returns-in_err-copy_blocks g c = record {
   written = search rules;
   prefix = let s = tells c.args.self.now.survey.now in
-      let section = c.args.section.now in
+      let selected = c.args.selected.now in
       let pass = c.args.self.now.pass in
       err_at c.from_residual-in_err-copy_blocks.result _ c.from_residual-in_err-copy_blocks.ensures.1
       (part_behind_none c.requires.none
-      (prefix_as pass (section_file s section) (λ file. []) (λ file holds. sym (append-nil (section_front s section file ++ back s file) ∙ whole s section file))
+      (prefix_as pass (λ file. file_laid (laid_in selected) file s) (λ file. [])
+      (λ file holds. sym (append-nil (selected_front s selected file ++ back s file) ∙ written-is s selected file c.requires.writable (c.requires.ready.exact file holds)))
       (prefix_then pass c.requires.ready.pass.apart c.in_ok-write_frames.ensures.written c.in_err-copy_blocks.ensures.prefix)));
   none = search rules;
   done = search rules;
@@ -67,11 +62,14 @@ module _ (g : given.Over) (c : In_ok-copy_blocks g) where
   abbrev new : Files
   new = (g.D.Folder.seen c.copy_blocks.new.folder).files
 
-  both : Writes c.args.self.now.pass (λ file. section_front s c.args.section.now file ++ back s file) c.args.buffers.now.waiting c.copy_blocks.new.waiting old new
+  abbrev made : List ℕ → List ℕ
+  made file = file_laid (laid_in c.args.selected.now) file s
+
+  both : Writes c.args.self.now.pass (λ file. selected_front s c.args.selected.now file ++ back s file) c.args.buffers.now.waiting c.copy_blocks.new.waiting old new
   both = writes_then c.args.self.now.pass c.requires.ready.pass.apart c.in_ok-write_frames.ensures.written c.in_ok-copy_blocks.ensures.written
 
-  all : Writes c.args.self.now.pass (section_file s c.args.section.now) [] c.copy_blocks.new.waiting old new
-  all = writes_behind_none c.requires.none (writes_as c.args.self.now.pass (section_file s c.args.section.now) (λ file holds. whole s c.args.section.now file) both)
+  all : Writes c.args.self.now.pass made [] c.copy_blocks.new.waiting old new
+  all = writes_behind_none c.requires.none (writes_as c.args.self.now.pass made (λ file holds. written-is s c.args.selected.now file c.requires.writable (c.requires.ready.exact file holds)) both)
 
 pub returns : goal.returns
 returns g c = record {

@@ -5,7 +5,7 @@ use Rattle.outside.proofs.PassedLaws.{err_at, err_by}
 use Rattle.outside.proofs.PassLaws.{prefix_as, writes_then, prefix_then, causes_behind}
 use Rattle.frame_writer.specs.Frames.{frame_bytes}
 use Rattle.sync_survey.specs.Faults.{tells}
-use Rattle.laying.specs.Passing.{section_frames, section_front}
+use Rattle.laying.specs.Laid.{selected_frames, selected_front}
 use Rattle.laying.proofs.PassLaws.{ok_never}
 use Rattle.laying.proofs.relay.Relay.write_frames.Goals as goal
 
@@ -13,9 +13,9 @@ pub returns-in_err-write_front : goal.returns-in_err-write_front
 returns-in_err-write_front g c = record {
   written = ok_never _ _ c.from_residual.result c.from_residual.ensures.1;
   prefix = let s = tells c.args.self.now.survey.now in
-      let section = c.args.section.now in
+      let selected = c.args.selected.now in
       err_at c.from_residual.result _ c.from_residual.ensures.1
-      (prefix_as c.args.self.now.pass (section_front s section) (λ file. frame_bytes (section_frames s section file)) (λ file holds. refl) c.in_err-write_front.ensures.adds.prefix);
+      (prefix_as c.args.self.now.pass (selected_front s selected) (λ file. frame_bytes (selected_frames s selected file)) (λ file holds. refl) (rw c.as_slice.ensures.value at c.in_err-write_front.ensures.adds.prefix));
   done = ok_never _ _ c.from_residual.result c.from_residual.ensures.1;
   cause = err_at c.from_residual.result _ c.from_residual.ensures.1 c.in_err-write_front.ensures.adds.cause;
   ready = ok_never _ _ c.from_residual.result c.from_residual.ensures.1;
@@ -24,10 +24,10 @@ returns-in_err-write_front g c = record {
 pub returns : goal.returns
 returns g c = record {
   written = on_ok_weaker c.lay.result
-      (λ written. writes_then c.args.self.now.pass c.requires.ready.pass.apart c.in_ok-write_front.ensures.adds.written written)
+      (λ written. writes_then c.args.self.now.pass c.requires.ready.pass.apart (rw c.as_slice.ensures.value at c.in_ok-write_front.ensures.adds.written) written)
       c.lay.ensures.written;
   prefix = err_by c.lay.result
-      (λ fault part. prefix_then c.args.self.now.pass c.requires.ready.pass.apart c.in_ok-write_front.ensures.adds.written part)
+      (λ fault part. prefix_then c.args.self.now.pass c.requires.ready.pass.apart (rw c.as_slice.ensures.value at c.in_ok-write_front.ensures.adds.written) part)
       c.lay.ensures.prefix;
   done = search rules;
   cause = causes_behind c.in_ok-write_front.ensures.adds.written _ _ _ _ c.in_ok-write_front.ensures.adds.done c.lay.result c.lay.ensures.cause;

@@ -1,15 +1,15 @@
 -- The survey, the chosen frames, their plan, and the memory, each with its faults.
-use Rattle.std.proofs.Common.{ap₂, sym, ◌∙◌, subst}
+use Rattle.std.proofs.Common.{Ok, ap, ap₂, sym, ◌∙◌, subst}
 use Rattle.outside.specs.Files.{Holds}
 use Rattle.outside.specs.Seen.{seen}
 use Rattle.slot_plan.specs.Plans.{entries}
+use Rattle.laying.specs.Laid.{laid_in}
 use Rattle.laying.proofs.ChosenFrames.{survey-had}
 use Rattle.sync_survey.specs.Faults.{tells}
 use Rattle.commands.specs.declared.fault.EditFault.TheVariants.{Memory}
 use Rattle.commands.proofs.InputLaws.{memory_is_input}
 use Rattle.commands.specs.One.{most_frames}
-use Rattle.frame_edits.specs.declared.plans.Selection.{Selection}
-use Rattle.frame_edits.specs.Chosen.{chosen_in, laid_by}
+use Rattle.frame_edits.specs.Chosen.{chosen_in}
 use Rattle.frame_edits.proofs.LaidPass.{work_layable, work_makes}
 use Rattle.commands.proofs.RefusingLaws.{err_with}
 use Rattle.packing.specs.Packing.{needs_of, packing}
@@ -32,22 +32,22 @@ returns-in_err-chosen-clause-numbers g c =
     let edit = c.args.self.now in
     err_with _ _ c.from_residual-in_err-chosen.ensures.1 (rule_numbers edit.rule edit.input.now _ (c.in_err-chosen.ensures.numbers (refuses_by edit.rule)))
 
-pub returns-in_err-planned-clause-refused : goal.returns-in_err-planned-clause-refused
-returns-in_err-planned-clause-refused g c =
+pub returns-in_err-selected-clause-refused : goal.returns-in_err-selected-clause-refused
+returns-in_err-selected-clause-refused g c =
     let edit = c.args.self.now in
     let old = g.D.Folder.seen c.args.folder.now in
-    err_with _ _ c.from_residual-in_err-planned.ensures.1
+    err_with _ _ c.from_residual-in_err-selected.ensures.1
     (rule_early edit.rule edit.input.now old _ _ (λ file holds. (_, c.in_ok-survey.ensures.limited file holds))
     (plan_is_input (plan_by edit.rule) (refuses_by edit.rule) edit.input.now old _ (tells c.in_ok-survey.survey) (chosen_in c.in_ok-chosen.chosen) c.in_ok-survey.ensures.there c.in_ok-survey.ensures.surveyed
     (λ bytes holds. c.in_ok-chosen.ensures.chosen bytes (subst (λ f. Holds f edit.input.now bytes) (sym c.survey_packed.ensures.reads.files) holds))
-    (ap₂ seen (c.all_choice.ensures.reads.files ∙ c.survey_packed.ensures.reads.files) (c.in_ok-chosen.ensures.reads.done ∙ c.in_ok-survey.ensures.reads.done)) _ c.in_err-planned.ensures.refused))
+    (ap₂ seen (c.all_choice.ensures.reads.files ∙ c.survey_packed.ensures.reads.files) (c.in_ok-chosen.ensures.reads.done ∙ c.in_ok-survey.ensures.reads.done)) _ c.in_err-selected.ensures.refused))
 
-pub returns-in_err-planned-clause-numbers : goal.returns-in_err-planned-clause-numbers
-returns-in_err-planned-clause-numbers g c =
+pub returns-in_err-selected-clause-numbers : goal.returns-in_err-selected-clause-numbers
+returns-in_err-selected-clause-numbers g c =
     let edit = c.args.self.now in
     let s = tells c.in_ok-survey.survey in
-    err_with _ _ c.from_residual-in_err-planned.ensures.1
-    (rule_numbers edit.rule edit.input.now _ (plan_numbers (plan_by edit.rule) (refuses_by edit.rule) s.class (needs_of (chosen_in c.in_ok-chosen.chosen) s) _ c.in_err-planned.ensures.refused))
+    err_with _ _ c.from_residual-in_err-selected.ensures.1
+    (rule_numbers edit.rule edit.input.now _ (plan_numbers (plan_by edit.rule) (refuses_by edit.rule) s.class (needs_of (chosen_in c.in_ok-chosen.chosen) s) _ c.in_err-selected.ensures.refused))
 
 pub returns-in_err-work-clause-refused : goal.returns-in_err-work-clause-refused
 returns-in_err-work-clause-refused g c =
@@ -60,18 +60,17 @@ returns-in_err-work-clause-refused g c =
 
 pub returns-clause-ready : goal.returns-clause-ready
 returns-clause-ready g c =
-    let selection : Selection = record { chosen = c.in_ok-chosen.chosen; planned = c.in_ok-planned.planned } in
-    work_layable c.in_ok-survey.survey selection c.in_ok-work.work c.in_ok-work.ensures c.args.self.now.input.now (g.D.Folder.seen c.args.folder.now).files c.in_ok-survey.ensures.there c.in_ok-survey.ensures.laid
-    (λ bytes holds. survey-had bytes most_frames _ (c.in_ok-survey.ensures.surveyed bytes holds))
-    (record { some = c.in_ok-chosen.ensures.some; within = c.in_ok-chosen.ensures.within; fits = c.in_ok-planned.ensures.fits.fits; info = c.in_ok-planned.ensures.info })
+    work_layable c.in_ok-survey.survey c.in_ok-selected.selected c.in_ok-work.work c.in_ok-work.ensures c.args.self.now.input.now (g.D.Folder.seen c.args.folder.now).files c.in_ok-survey.ensures.there c.in_ok-survey.ensures.laid
+    (λ bytes holds. survey-had bytes most_frames _ (c.in_ok-survey.ensures.surveyed bytes holds)) c.in_ok-selected.ensures.writable
 
 pub returns-clause-making : goal.returns-clause-making
 returns-clause-making g c =
     let edit = c.args.self.now in
     let files = (g.D.Folder.seen c.args.folder.now).files in
     let s = tells c.in_ok-survey.survey in
-    let chosen = chosen_in c.in_ok-chosen.chosen in
-    let placed = entries c.in_ok-planned.planned.plan in
-    work_makes c.in_ok-survey.survey (record { chosen = c.in_ok-chosen.chosen; planned = c.in_ok-planned.planned }) c.in_ok-work.work c.in_ok-work.ensures (rule_task edit.rule edit.input.now) files
-    (rule_makes edit.rule edit.input.now s (laid_by chosen placed) files (λ file holds. (_, c.in_ok-survey.ensures.limited file holds)) c.in_ok-survey.ensures.there c.in_ok-survey.ensures.surveyed c.in_ok-survey.ensures.octets
-    (λ bytes holds. planned_is (plan_by edit.rule) bytes s chosen placed (c.in_ok-chosen.ensures.chosen bytes (subst (λ f. Holds f edit.input.now bytes) (sym c.survey_packed.ensures.reads.files) holds)) c.in_ok-planned.ensures.plan))
+    let selected = c.in_ok-selected.selected in
+    work_makes c.in_ok-survey.survey selected c.in_ok-work.work c.in_ok-work.ensures (rule_task edit.rule edit.input.now) files
+    (rule_makes edit.rule edit.input.now s (laid_in selected) files (λ file holds. (_, c.in_ok-survey.ensures.limited file holds)) c.in_ok-survey.ensures.there c.in_ok-survey.ensures.surveyed c.in_ok-survey.ensures.octets
+    (λ bytes holds.
+    planned_is (plan_by edit.rule) bytes s (chosen_in c.in_ok-chosen.chosen) (entries selected.plan) (c.in_ok-chosen.ensures.chosen bytes (subst (λ f. Holds f edit.input.now bytes) (sym c.survey_packed.ensures.reads.files) holds)) c.in_ok-selected.ensures.plan
+    ∙ ap Ok (sym c.in_ok-selected.ensures.laid)))

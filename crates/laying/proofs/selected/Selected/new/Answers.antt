@@ -1,0 +1,23 @@
+-- The Info frame tells of the slots of the plan, which are those of the frames.
+use Rattle.std.proofs.Common.{length, map, sym, ◌∙◌, ap, arith}
+use Rattle.slot_plan.specs.declared.needs.Placed.{Placed}
+use Rattle.slot_plan.specs.Plans.{entries}
+use Rattle.sync_survey.specs.Faults.{tells}
+use Rattle.laying.specs.Laid.{frames_laid, laid_between}
+use Rattle.laying.proofs.LaidLaws.{laid-slots}
+use Rattle.laying.proofs.selected.Selected.new.Goals as goal
+
+pub info_bytes-info-requires-clause-few : goal.info_bytes-info-requires-clause-few
+info_bytes-info-requires-clause-few c = omega (arith, c.requires.few, ap length c.placed.ensures)
+
+pub returns-clause-writable : goal.returns-clause-writable
+returns-clause-writable c = record {
+  some = c.requires.some;
+  within = c.requires.within;
+  fits = c.requires.fitting.fits;
+  info = λ file is first found.
+      let s = tells c.args.survey.now in
+      let laid = laid_between c.args.from c.args.to c.args.kept (entries c.args.plan) in
+      c.info_bytes-info.ensures first (frames_laid laid file s) found
+      (laid-slots laid file s is c.requires.some c.requires.within c.requires.fitting ∙ sym (ap (map (λ (p : Placed). p.slot)) c.placed.ensures));
+}
