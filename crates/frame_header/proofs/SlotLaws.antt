@@ -143,10 +143,6 @@ unfolding area_of overhead_of
 area-is c s true class slot = let some = area_some c s class slot in (omega arith, omega arith)
 area-is c s false class slot = let some = area_some c s class slot in (omega arith, omega arith)
 
-pub area-before : (c : ClassFields) (s t : SlotFields) (protected : Bool) → IsClass c → IsSlot s → IsSlot t → place_of s < place_of t → area_of c s protected < area_of c t protected
-area-before c s t protected class is it before =
-    omega (arith, length-before c s t class is it before, (area-is c s protected class is).0, (area-is c t protected class it).0)
-
 place-same : (s t : SlotFields) → IsSlot s → IsSlot t → place_of s ≡ place_of t → s ≡ t
 place-same s t is it same = sym (get_or-place_of s s is) ∙ ap (λ k. get_or all_slots k s) same ∙ get_or-place_of t s it
 

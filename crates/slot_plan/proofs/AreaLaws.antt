@@ -104,15 +104,6 @@ least-first wanted c p slots i slot within is ascend small enough = record {
 abbrev pub AreSmall : ℕ → ClassFields → Bool → List SlotFields → ℕ → Type 0
 AreSmall wanted c p slots to = (k : ℕ) (d : SlotFields) → k < to → area_of c (get_or slots k d) p < wanted
 
-pub small-next : (wanted : ℕ) (c : ClassFields) (p : Bool) (slots : List SlotFields) (to : ℕ) (slot : SlotFields) → to < length slots → slot ≡ get_or slots to slot → area_of c slot p < wanted → AreSmall wanted c p slots to → AreSmall wanted c p slots (to + 1)
-small-next wanted c p slots to slot within is less small = λ k d before.
-    elim (cases_lt k to) as (λ _. area_of c (get_or slots k d) p < wanted) [
-      | inl earlier ↦ small k d earlier
-      | inr from ↦
-          let same : to ≡ k = omega (arith, before, from) in
-          omega (arith, less, ap (λ s. area_of c s p) (is ∙ get_or_default slots to slot d within ∙ ap (λ n. get_or slots n d) same))
-    ]
-
 -- ---- the slots of a lead-in
 pub lead-ascend : (c : ClassFields) (slots : List SlotFields) → slots ≡ all_slots → Ascend (areas_of c false) → Ascend (areas_with c false slots)
 unfolding areas_of
