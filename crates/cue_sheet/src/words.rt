@@ -38,14 +38,14 @@ pub fn without_mark(bytes: &[u8]) -> &[u8]
 }
 
 /// What is before the first byte that is this one, or all of the text where there is none.
-pub(crate) fn front_of(text: &[u8], byte: u8) -> &[u8]
+pub fn front_of(text: &[u8], byte: u8) -> &[u8]
     ensures { result.now ≡ before_first (λ b. b == byte) text.now }
 {
     &text[..place_of(text, byte)]
 }
 
 /// What is after the first byte that is this one, or nothing where there is none.
-pub(crate) fn behind(text: &[u8], byte: u8) -> &[u8]
+pub fn behind(text: &[u8], byte: u8) -> &[u8]
     ensures { result.now ≡ after_first (λ b. b == byte) text.now }
 {
     let end = place_of(text, byte);

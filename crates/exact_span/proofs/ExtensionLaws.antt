@@ -1,0 +1,65 @@
+-- Laws of the extension that is written.
+use Rattle.std.proofs.Common.{◌≡◌, ℕ, ◌+◌, ◌<◌, Bool, true, false, cond, List, ◌++◌, length, take, drop, replicate, get_or, ◌||◌, Option, Some, None, refl, ap, ◌∙◌, arith}
+use Rattle.std.specs.Prelude.{codes, bytes_eq, IfSome}
+use Rattle.std.proofs.lemmas.List.{take-append-le, take-take, length-take-le, get_or-append-add}
+use Rattle.info_header.specs.declared.fields.Info.{Info}
+use Rattle.exact_span.specs.Extensions.{has_encoder, delay_in, padding_in, plain, kept, in_three_bytes, extension_of}
+use Rattle.exact_span.specs.Laws.{AreWhole, SaysNumbers}
+
+-- ---- what is kept
+
+pub plain-length : length plain ≡ 36
+plain-length = refl
+
+plain-encoder : has_encoder plain ≡ true
+unfolding has_encoder
+plain-encoder = refl
+
+kept-if : (extension : List ℕ) (b : Bool) → has_encoder extension ≡ b → length extension ≡ 36 →
+    (length (cond b extension plain) ≡ 36) × (has_encoder (cond b extension plain) ≡ true)
+kept-if extension true is long = (long, is)
+kept-if extension false is long = (plain-length, plain-encoder)
+
+kept-is : (info : Option Info) → IfSome info AreWhole → (length (kept info) ≡ 36) × (has_encoder (kept info) ≡ true)
+kept-is None whole = (plain-length, plain-encoder)
+kept-is (Some info) whole = kept-if info.extension (has_encoder info.extension) refl whole.extension
+
+-- ---- what is said
+
+-- the encoder's name is in the first four bytes
+same-encoder : (xs ys : List ℕ) → take 4 xs ≡ take 4 ys → has_encoder xs ≡ has_encoder ys
+unfolding has_encoder
+same-encoder xs ys same = ap (λ (text : List ℕ). bytes_eq text (codes "LAME") || bytes_eq text (codes "Lavf") || bytes_eq text (codes "Lavc")) same
+
+byte-of : (front rest : List ℕ) (k n : ℕ) → length front ≡ 21 → n ≡ 21 + k → get_or (front ++ rest) n 0 ≡ get_or rest k 0
+byte-of front rest k n long is = ap (λ i. get_or (front ++ rest) i 0) (omega (arith, long, is)) ∙ get_or-append-add front rest k 0
+
+delay-said : (front rest : List ℕ) (delay padding : ℕ) → length front ≡ 21 → padding < 4096 → delay_in (front ++ (in_three_bytes delay padding ++ rest)) ≡ delay
+delay-said front rest delay padding long small =
+    let three = in_three_bytes delay padding ++ rest in
+    omega (arith, byte-of front three 0 21 long refl, byte-of front three 1 22 long refl)
+
+padding-said : (front rest : List ℕ) (delay padding : ℕ) → length front ≡ 21 → padding < 4096 → padding_in (front ++ (in_three_bytes delay padding ++ rest)) ≡ padding
+padding-said front rest delay padding long small =
+    let three = in_three_bytes delay padding ++ rest in
+    omega (arith, byte-of front three 1 22 long refl, byte-of front three 2 23 long refl)
+
+says-by : (old : List ℕ) (delay padding : ℕ) → length old ≡ 36 → has_encoder old ≡ true → padding < 4096 →
+    SaysNumbers delay padding (take 21 old ++ (in_three_bytes delay padding ++ (take 4 (drop 24 old) ++ replicate 8 0)))
+says-by old delay padding long encoder small =
+    let front = take 21 old in
+    let rest : List ℕ = take 4 (drop 24 old) ++ replicate 8 0 in
+    let many : length front ≡ 21 = length-take-le 21 old (omega (arith, long)) in
+    let text : take 4 (front ++ (in_three_bytes delay padding ++ rest)) ≡ take 4 old =
+    take-append-le 4 front (in_three_bytes delay padding ++ rest) (omega (arith, many)) ∙ take-take 4 21 old (omega arith) in
+    record {
+      encoder = same-encoder (front ++ (in_three_bytes delay padding ++ rest)) old text ∙ encoder;
+      delay = delay-said front rest delay padding many small;
+      padding = padding-said front rest delay padding many small;
+    }
+
+pub extension-says : (info : Option Info) (delay padding : ℕ) → IfSome info AreWhole → delay < 4096 → padding < 4096 →
+    SaysNumbers delay padding (extension_of info delay padding)
+unfolding extension_of
+extension-says info delay padding whole short small =
+    let old = kept-is info whole in says-by (kept info) delay padding old.0 old.1 small

@@ -1,0 +1,5 @@
+pub mod SplitLaws
+pub mod SpanLaws
+pub mod PlayedLaws
+pub mod ExtensionLaws
+pub mod SealLaws

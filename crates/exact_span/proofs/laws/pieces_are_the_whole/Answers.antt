@@ -1,0 +1,6 @@
+-- By the points one after the other.
+use Rattle.exact_span.proofs.SplitLaws.{pieces-whole}
+use Rattle.exact_span.proofs.laws.pieces_are_the_whole.Goals as goal
+
+pub returns : goal.returns
+returns c = pieces-whole

@@ -1,0 +1,6 @@
+-- Both fields are put into the extension.
+use Rattle.exact_span.proofs.SealLaws.{frames-sealed}
+use Rattle.exact_span.proofs.laws.sealed_frames_are_info_frames.Goals as goal
+
+pub returns : goal.returns
+returns c = frames-sealed

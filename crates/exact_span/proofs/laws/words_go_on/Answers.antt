@@ -1,0 +1,8 @@
+-- A fold over bytes after others.
+use Rattle.std.proofs.Common.{sym}
+use Rattle.std.proofs.lemmas.List.Sums.{fold-append}
+use Rattle.exact_span.specs.TagWord.{arc_byte}
+use Rattle.exact_span.proofs.laws.words_go_on.Goals as goal
+
+pub returns : goal.returns
+returns c = λ word x y. sym (fold-append arc_byte word x y)

@@ -1,0 +1,154 @@
+-- What holds of the definitions, whatever the code.
+use Rattle.std.specs.Prelude.{◌≡◌, ℕ, ◌+◌, ◌-◌, ◌*◌, ◌/◌, ◌%◌, ◌<◌, ◌≤◌, IsTrue, List, [], ◌∷◌, ◌++◌, length, Option, Some, IfSome, ⊤}
+use Rattle.std.specs.List.{range_with_len}
+use Rattle.frame_header.specs.Fields.{ClassFields, HeaderFields}
+use Rattle.frame_header.specs.Tables.{class_of, granules_of}
+use Rattle.info_header.specs.declared.fields.Info.{Info}
+use Rattle.info_header.specs.InfoFrame.{info_frame}
+use Rattle.exact_span.specs.declared.played.Played.{Played}
+use Rattle.exact_span.specs.declared.span.Span.{Span}
+use Rattle.exact_span.specs.Extensions.{has_encoder, delay_in, padding_in, extension_of}
+use Rattle.exact_span.specs.PlayedPositions.{samples_in, decoder_delay, played_of, length_of_played}
+use Rattle.exact_span.specs.Spans.{warm_up, span_of, AreLeads, delay_of, padding_of}
+use Rattle.exact_span.specs.TagWord.{arc_of, text_place, sealed, sealed_info}
+
+-- ---- words of 16 bits
+
+-- the word of bytes after others goes on from theirs
+abbrev pub WordsGoOn : Type 0
+WordsGoOn = (word : ℕ) (x y : List ℕ) → arc_of (arc_of word x) y ≡ arc_of word (x ++ y)
+
+-- fields that a struct can have
+pub record AreWhole (info : Info) : Type 0 where
+  pub table : IfSome info.table (λ table. length table ≡ 100)
+  pub extension : length info.extension ≡ 36
+
+-- an Info frame can be sealed, and then it is the Info frame of other fields, which differ in music
+-- length and tag CRC alone
+pub record IsSealed (first : HeaderFields) (info : Info) : Type 0 where
+  pub room : text_place (class_of first) + 156 ≤ length (info_frame first info)
+  pub is : sealed (class_of first) (info_frame first info)
+      ≡ info_frame first (sealed_info first info)
+
+abbrev pub SealedFrames : Type 0
+SealedFrames = (first : HeaderFields) (info : Info) → AreWhole info → IsSealed first info
+
+-- ---- extensions
+
+-- this extension counts, and these are its numbers
+pub record SaysNumbers (d p : ℕ) (extension : List ℕ) : Type 0 where
+  pub encoder : IsTrue (has_encoder extension)
+  pub delay : delay_in extension ≡ d
+  pub padding : padding_in extension ≡ p
+
+-- the extension that is written says its numbers
+abbrev pub ExtensionsSay : Type 0
+ExtensionsSay =
+    (info : Option Info) (delay padding : ℕ) → IfSome info AreWhole → delay < 4096 → padding < 4096
+    → SaysNumbers delay padding (extension_of info delay padding)
+
+-- ---- spans
+
+-- the file with this head and so many frames of this class plays the samples from a to before b, of
+-- which there is one
+pub record ArePlayed (head : Option Info) (class : ClassFields) (frames a b : ℕ) : Type 0 where
+  pub some : a < b
+  pub most : b ≤ length_of_played (played_of head class frames)
+
+-- their span
+abbrev pub span_in : Option Info → ClassFields → ℕ → ℕ → ℕ → Span
+span_in head class frames a b =
+    let start = (played_of head class frames).start in span_of class (start + a) (start + b)
+
+-- A span has a frame, and no frame that the file hasn't. Both numbers have 12 bits, and aren't
+-- above 3,000, which `lame --decode` doesn't believe. The difference that the delay is isn't
+-- negative.
+pub record SpanFits (class : ClassFields) (frames leads : ℕ) (span : Span) : Type 0 where
+  pub some : span.first < span.last
+  pub most : span.last ≤ frames
+  pub delay_least : decoder_delay ≤ leads * samples_in class + span.from
+  pub delay_most : delay_of class leads span ≤ 2830
+  pub padding_least : 529 ≤ padding_of span
+  pub padding_most : padding_of span ≤ 1680
+
+abbrev pub SpansFit : Type 0
+SpansFit =
+    (head : Option Info) (class : ClassFields) (frames a b leads : ℕ) →
+    let span = span_in head class frames a b in
+    ArePlayed head class frames a b → AreLeads span leads → SpanFits class frames leads span
+
+-- The head of a piece: that of the frames of a span with so many lead-ins.
+pub record IsHeadOf (class : ClassFields) (leads : ℕ) (span : Span) (head : Info) : Type 0 where
+  pub frames : head.frames ≡ Some (leads + (span.last - span.first))
+  pub numbers : SaysNumbers (delay_of class leads span) (padding_of span) head.extension
+
+-- Sample k of one file and sample a + k of another are at one offset in a frame, and that is one
+-- and the same frame: so many lead-ins after the one file's beginning as it is after the other's
+-- frame `first`.
+pub record IsAtOnePlace (class : ClassFields) (leads first : ℕ) (x y : ℕ) : Type 0 where
+  pub frame : x / samples_in class + first ≡ y / samples_in class + leads
+  pub offset : x % samples_in class ≡ y % samples_in class
+
+pub record KeepsPlaces (class : ClassFields) (leads first a b : ℕ) (piece file : Played)
+    : Type 0 where
+  pub start : piece.start + first * samples_in class ≡ file.start + a + leads * samples_in class
+  pub end : piece.end + first * samples_in class ≡ file.start + b + leads * samples_in class
+  pub length : length_of_played piece ≡ b - a
+  pub samples : (k : ℕ) → k < b - a
+      → IsAtOnePlace class leads first (piece.start + k) (file.start + a + k)
+
+-- the played samples of a piece are those from a to before b of the file, each at its place in its
+-- frame
+abbrev pub SamplesKeepPlaces : Type 0
+SamplesKeepPlaces =
+    (file : Option Info) (piece : Info) (class : ClassFields) (frames a b leads : ℕ) →
+    let span = span_in file class frames a b in
+    ArePlayed file class frames a b → AreLeads span leads → IsHeadOf class leads span piece
+    → KeepsPlaces class leads span.first a b
+    (played_of (Some piece) class (leads + (span.last - span.first))) (played_of file class frames)
+
+-- the frame in which a granule is
+abbrev pub frame_of_granule : ClassFields → ℕ → ℕ
+frame_of_granule class granule = granule / granules_of class.version
+
+-- the first granule on which a position depends: the one before that in which the filterbank's look
+-- back begins
+abbrev pub first_granule : ℕ → ℕ
+first_granule y = (y - 480) / 576 - 1
+
+-- Each granule on which a position depends is in the frames of the span. Where these aren't the
+-- file's first ones, the first position has its whole warm-up.
+pub record IsWarm (class : ClassFields) (p q : ℕ) (span : Span) : Type 0 where
+  pub granules : (y k : ℕ) → p ≤ y → y < q → first_granule y ≤ k → k ≤ y / 576
+      → (span.first ≤ frame_of_granule class k) × (frame_of_granule class k < span.last)
+  pub whole : 0 < span.first → span.first * samples_in class + warm_up ≤ p
+
+abbrev pub SpansAreWarm : Type 0
+SpansAreWarm = (class : ClassFields) (p q : ℕ) → IsWarm class p q (span_of class p q)
+
+-- ---- pieces of a split
+
+-- the samples from a to before b
+abbrev pub samples_between : ℕ → ℕ → List ℕ
+samples_between a b = range_with_len a (b - a)
+
+-- the samples of the pieces from each point to the next, in order
+unfoldable pub pieces_samples : ℕ → List ℕ → List ℕ
+pieces_samples a [] = []
+pieces_samples a (b ∷ points) = samples_between a b ++ pieces_samples b points
+
+-- the last of a point and those after it
+abbrev pub last_point : ℕ → List ℕ → ℕ
+last_point a [] = a
+last_point a (b ∷ points) = last_point b points
+
+-- the pieces of ascending points have each sample from the first point to the last once, in order
+-- no point is before the one before it
+abbrev pub Ascend : ℕ → List ℕ → Type 0
+Ascend a [] = ⊤
+Ascend a (b ∷ points) = (a ≤ b) × Ascend b points
+
+abbrev pub PiecesAreTheWhole : Type 0
+PiecesAreTheWhole =
+    (a : ℕ) (points : List ℕ) → Ascend a points
+    → pieces_samples a points ≡ samples_between a (last_point a points)

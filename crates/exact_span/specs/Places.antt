@@ -1,0 +1,113 @@
+-- Places of samples, and the words that say them: the positions of mp3splt, samples as sox has them
+-- (digits and `s`), times with thousandths of a second, and times before the end as mp3splt has
+-- them (`EOF-`).
+use Rattle.std.specs.Prelude.{ℕ, ◌+◌, ◌-◌, ◌*◌, ◌/◌, ◌==◌, if◌then◌else◌, List, [], ◌∷◌, length, take, drop, slice_index, Option, Some, None, option_map, option_and_then, codes, bytes_eq, ⊤}
+use Rattle.std.specs.List.{before_first, after_first, position_or_len}
+use Rattle.std.specs.Option.{option_or}
+use Rattle.frame_header.specs.Fields.{ClassFields}
+use Rattle.frame_header.specs.Tables.{frequency_of, samples_of}
+use Rattle.cue_sheet.specs.declared.place.Place.{Place as Position}
+use Rattle.cue_sheet.specs.declared.place.Place.TheVariants.{Frame, Time, End}
+use Rattle.cue_sheet.specs.Places.{is_dot, place_of, IsPlace}
+use Rattle.cue_sheet.specs.Digits.{number_in}
+use Rattle.exact_span.specs.declared.exact_place.ExactPlace.{ExactPlace}
+use Rattle.exact_span.specs.declared.exact_place.ExactPlace.TheVariants.{Place, Sample, Millis, Back}
+
+-- ---- minutes and seconds, with a dot between them
+
+-- minutes are one to four digits before the first dot
+abbrev pub minutes_in : List ℕ → Option ℕ
+minutes_in word = number_in 1 4 9999 (before_first is_dot word)
+
+-- seconds are one or two digits of at most 59 after it, up to the next dot or the end
+abbrev pub seconds_in : List ℕ → Option ℕ
+seconds_in word = number_in 1 2 59 (before_first is_dot (after_first is_dot word))
+
+abbrev pub whole_seconds : ℕ → ℕ → ℕ
+whole_seconds minutes seconds = 60 * minutes + seconds
+
+-- both, in seconds
+unfoldable pub clock_of : List ℕ → Option ℕ
+clock_of word =
+    option_and_then (λ m. option_map (whole_seconds m) (seconds_in word)) (minutes_in word)
+
+-- what is after the seconds: nothing, or the second dot and what is after it
+abbrev pub behind_seconds : List ℕ → List ℕ
+behind_seconds word = let rest = after_first is_dot word in drop (position_or_len is_dot rest) rest
+
+-- ---- thousandths of a second
+
+abbrev pub in_millis : ℕ → ℕ → ℕ
+in_millis seconds thousandths = seconds * 1000 + thousandths
+
+-- a dot and three digits
+abbrev pub thousandths_of : List ℕ → Option ℕ
+thousandths_of [] = None
+thousandths_of (dot ∷ digits) = number_in 3 3 999 digits
+
+abbrev pub tenfold : ℕ → ℕ
+tenfold hundredths = 10 * hundredths
+
+-- nothing, or a dot and two or three digits: hundredths or thousandths
+abbrev pub fraction_of : List ℕ → Option ℕ
+fraction_of [] = Some 0
+fraction_of (dot ∷ digits) =
+    if length digits == 2 then option_map tenfold (number_in 2 2 99 digits)
+    else number_in 3 3 999 digits
+
+-- minutes, seconds and thousandths, in thousandths
+unfoldable pub millis_of : List ℕ → Option ℕ
+millis_of word =
+    option_and_then (λ s. option_map (in_millis s) (thousandths_of (behind_seconds word)))
+    (clock_of word)
+
+-- minutes, seconds, and hundredths or thousandths or neither, in thousandths
+unfoldable pub fine_millis_of : List ℕ → Option ℕ
+fine_millis_of word =
+    option_and_then (λ s. option_map (in_millis s) (fraction_of (behind_seconds word)))
+    (clock_of word)
+
+-- ---- words
+
+-- the number of a sample: one to ten digits, up to 4,294,967,295, and then `s`
+unfoldable pub sample_of : List ℕ → Option ℕ
+sample_of word =
+    if slice_index word (length word - 1) == 115
+    then number_in 1 10 4294967295 (take (length word - 1) word) else None
+
+-- a time before the end: `EOF-` and the time
+unfoldable pub back_of : List ℕ → Option ℕ
+back_of word = if bytes_eq (take 4 word) (codes "EOF-") then fine_millis_of (drop 4 word) else None
+
+-- the place that a word says; no word says two of these
+unfoldable pub exact_place_of : List ℕ → Option ExactPlace
+exact_place_of word =
+    option_or (option_map Place (place_of word)) (option_or (option_map Sample (sample_of word))
+    (option_or (option_map Millis (millis_of word)) (option_map Back (back_of word))))
+
+-- ---- samples
+
+-- a position is one, with 1 to 100 parts in a second
+abbrev pub IsExactPlace : ExactPlace → Type 0
+IsExactPlace (Place position) = IsPlace position
+IsExactPlace (Sample number) = ⊤
+IsExactPlace (Millis time) = ⊤
+IsExactPlace (Back time) = ⊤
+
+-- how many whole samples take no longer than so many parts of a second
+abbrev pub samples_until : ClassFields → ℕ → ℕ → ℕ
+samples_until class time parts = time * frequency_of class / parts
+
+-- a frame's number counts the time of so many frames
+abbrev pub sample_of_position : ClassFields → ℕ → Position → ℕ
+sample_of_position class length (Frame number) = number * samples_of class.version
+sample_of_position class length (Time time parts) = samples_until class time parts
+sample_of_position class length End = length
+
+-- the sample of a file that a place names, by how many it plays; a time that is before its start is
+-- its start
+unfoldable pub sample_at : ClassFields → ℕ → ExactPlace → ℕ
+sample_at class length (Place position) = sample_of_position class length position
+sample_at class length (Sample number) = number
+sample_at class length (Millis time) = samples_until class time 1000
+sample_at class length (Back time) = length - samples_until class time 1000

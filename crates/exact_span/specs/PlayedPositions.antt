@@ -1,0 +1,42 @@
+-- The positions of a file that are played. A file of n frames after its head has n times 1,152
+-- positions (576 in MPEG-2 and MPEG-2.5), each a sample that a decoder gives for each channel.
+-- Position x is in frame x / 1152 (or 576), and in granule x / 576.
+use Rattle.std.specs.Prelude.{ℕ, ◌+◌, ◌-◌, ◌*◌, min, nat_lt, if◌then◌else◌, Option, Some, None}
+use Rattle.frame_header.specs.Fields.{ClassFields}
+use Rattle.frame_header.specs.Tables.{samples_of}
+use Rattle.info_header.specs.declared.fields.Info.{Info}
+use Rattle.exact_span.specs.declared.extensions.Counts.{Counts}
+use Rattle.exact_span.specs.declared.played.Played.{Played}
+use Rattle.exact_span.specs.Extensions.{counts_of}
+
+-- how many samples a frame has in each channel
+abbrev pub samples_in : ClassFields → ℕ
+samples_in class = samples_of class.version
+
+-- by how many samples a decoder is late, as players reckon it
+abbrev pub decoder_delay : ℕ
+decoder_delay = 529
+
+-- Where the played positions end: with the last frame, and where the head counts no fewer frames
+-- than there are, as many positions before the end of the frames that it counts as its padding has
+-- more than the decoder's delay.
+abbrev pub end_by : ℕ → ℕ → Counts → ℕ
+end_by samples frames counts =
+    if nat_lt counts.frames frames then frames * samples
+    else min (frames * samples) (counts.frames * samples + decoder_delay - counts.padding)
+
+abbrev pub played_by : ℕ → ℕ → Option Counts → Played
+played_by samples frames None = record { start = 0; end = frames * samples }
+played_by samples frames (Some counts) = record {
+  start = counts.delay + decoder_delay;
+  end = end_by samples frames counts;
+}
+
+-- the played positions of a file with this head and so many frames: all, or where the head counts,
+-- those after its delay and the decoder's, up to its padding
+unfoldable pub played_of : Option Info → ClassFields → ℕ → Played
+played_of info class frames = played_by (samples_in class) frames (counts_of info)
+
+-- how many these are
+abbrev pub length_of_played : Played → ℕ
+length_of_played played = played.end - played.start

@@ -1,0 +1,55 @@
+-- The frames that a decoder needs for some positions, and the delay and the padding by which a
+-- player plays exactly these.
+use Rattle.std.specs.Prelude.{◌≡◌, ℕ, ◌+◌, ◌-◌, ◌*◌, ◌/◌, ◌<◌, nat_lt, IsTrue, ◌≤◌}
+use Rattle.frame_header.specs.Fields.{ClassFields}
+use Rattle.exact_span.specs.PlayedPositions.{samples_in, decoder_delay}
+use Rattle.exact_span.specs.declared.span.Span.{Span}
+
+-- How many positions before the first wanted one a decoder has to begin: it adds to each granule
+-- the second half of the one before (576), and its filterbank looks 15 steps of 32 samples back
+-- (480).
+abbrev pub warm_up : ℕ
+warm_up = 1056
+
+-- the frame in which position p is, or its warm-up begins; the first where that is before the first
+abbrev pub first_frame : ℕ → ℕ → ℕ
+first_frame samples p = (p - warm_up) / samples
+
+-- how many frames are needed for the positions before q
+abbrev pub frames_before : ℕ → ℕ → ℕ
+frames_before samples q = (q + samples - 1) / samples
+
+-- The span of the positions from p to before q: its first frame, the frame after its last one,
+-- whether a lead-in has to be before it, since p is before a decoder's delay is over, and how far p
+-- is from its beginning and q from its end.
+unfoldable pub span_of : ClassFields → ℕ → ℕ → Span
+span_of class p q =
+    let samples = samples_in class in
+    record {
+      first = first_frame samples p;
+      last = frames_before samples q;
+      led = nat_lt p decoder_delay;
+      from = p - first_frame samples p * samples;
+      to = frames_before samples q * samples - q;
+    }
+
+-- it is the span of some positions
+pub record IsSpan (class : ClassFields) (span : Span) : Type 0 where
+  pub p : ℕ
+  pub q : ℕ
+  pub some : p < q
+  pub is : span ≡ span_of class p q
+
+-- there is at most one lead-in before the span, and one where it has to be
+pub record AreLeads (span : Span) (leads : ℕ) : Type 0 where
+  pub one : leads ≤ 1
+  pub led : IsTrue span.led → leads ≡ 1
+
+-- the delay to be written: how far the first wanted position is from the beginning of the frames
+-- with their lead-in, less what players add
+abbrev pub delay_of : ClassFields → ℕ → Span → ℕ
+delay_of class leads span = leads * samples_in class + span.from - decoder_delay
+
+-- the padding to be written: how far the end is from that of the frames, and what players take off
+abbrev pub padding_of : Span → ℕ
+padding_of span = span.to + decoder_delay

@@ -1,0 +1,82 @@
+-- The last fields of the extension: music length and tag CRC. The tag CRC is the CRC of 16 bits
+-- with the polynomial x^16 + x^15 + x^2 + 1, the least significant bit first, from 0 on, not
+-- inverted: CRC-16/ARC. It is over the bytes of the Info frame before its own.
+use Rattle.std.specs.Prelude.{ℕ, zero, suc, ◌+◌, ◌/◌, ◌%◌, ◌==◌, if◌then◌else◌, List, ◌++◌, take, drop, fold, bit_xor}
+use Rattle.byteorder.specs.Endian.{big_bytes}
+use Rattle.frame_header.specs.Fields.{ClassFields, HeaderFields}
+use Rattle.frame_header.specs.Tables.{class_of, side_size_of}
+use Rattle.info_header.specs.declared.fields.Info.{Info}
+use Rattle.info_header.specs.Info.{number_or_zero}
+use Rattle.info_header.specs.InfoFrame.{info_frame}
+
+-- one bit further on: shifted to the right, with the divisor where the bit that went out was 1
+unfoldable pub arc_bit : ℕ → ℕ
+arc_bit word = if word % 2 == 1 then bit_xor (word / 2) 0xa001 else word / 2
+
+unfoldable pub arc_bits : ℕ → ℕ → ℕ
+arc_bits zero word = word
+arc_bits (suc bits) word = arc_bit (arc_bits bits word)
+
+-- one byte further on
+abbrev pub arc_byte : ℕ → ℕ → ℕ
+arc_byte word byte = arc_bits 8 (bit_xor word byte)
+
+-- the word after these bytes
+abbrev pub arc_of : ℕ → List ℕ → ℕ
+arc_of word bytes = fold arc_byte word bytes
+
+-- ---- in an Info frame
+
+-- where the text is
+abbrev pub text_place : ClassFields → ℕ
+text_place class = 4 + side_size_of class
+
+-- where the number of bytes is: after the text, the flags and the number of frames
+abbrev pub bytes_place : ClassFields → ℕ
+bytes_place class = text_place class + 12
+
+-- where the music length is: in the bytes 28 to 31 of the extension
+abbrev pub music_place : ClassFields → ℕ
+music_place class = text_place class + 148
+
+-- where the tag CRC is: in the bytes 34 and 35
+abbrev pub crc_place : ClassFields → ℕ
+crc_place class = text_place class + 154
+
+-- the music length is the number of bytes
+unfoldable pub with_music_length : ClassFields → List ℕ → List ℕ
+with_music_length class frame =
+    take (music_place class) frame
+    ++ (take 4 (drop (bytes_place class) frame) ++ drop (music_place class + 4) frame)
+
+-- the tag CRC is that of all bytes before it
+unfoldable pub with_tag_crc : ClassFields → List ℕ → List ℕ
+with_tag_crc class frame =
+    take (crc_place class) frame
+    ++ (big_bytes 2 (arc_of 0 (take (crc_place class) frame)) ++ drop (crc_place class + 2) frame)
+
+-- an Info frame with its music length and its tag CRC
+abbrev pub sealed : ClassFields → List ℕ → List ℕ
+sealed class frame = with_tag_crc class (with_music_length class frame)
+
+-- ---- the fields of a sealed Info frame
+
+-- the fields with a music length
+abbrev pub with_length_field : Info → Info
+with_length_field info = record info {
+  extension =
+      take 28 info.extension ++ (big_bytes 4 (number_or_zero info.bytes) ++ drop 32 info.extension);
+}
+
+-- the tag CRC of the Info frame with these fields before a first frame with this header
+abbrev pub tag_crc_of : HeaderFields → Info → ℕ
+tag_crc_of first info = arc_of 0 (take (crc_place (class_of first)) (info_frame first info))
+
+abbrev pub with_crc_field : HeaderFields → Info → Info
+with_crc_field first info = record info {
+  extension = take 34 info.extension ++ big_bytes 2 (tag_crc_of first info);
+}
+
+-- the fields with both
+abbrev pub sealed_info : HeaderFields → Info → Info
+sealed_info first info = with_crc_field first (with_length_field info)

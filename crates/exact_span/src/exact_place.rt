@@ -1,0 +1,120 @@
+//! Places of samples.
+ghost use Rattle.std.specs.Prelude.{◌≡◌, ◌≤◌, ◌*◌, ◌<◌, IfSome};
+ghost use Rattle.cue_sheet.specs.declared.place.Place.TheVariants.{End};
+ghost use Rattle.cue_sheet.specs.Places.{IsPlace};
+ghost use Rattle.exact_span.specs.declared.exact_place.ExactPlace.TheVariants.{Place as PlaceVariant};
+ghost use Rattle.exact_span.specs.Places.{sample_of, back_of, exact_place_of, IsExactPlace, samples_until as samples_until_lem, sample_of_position as sample_of_position_lem, sample_at};
+
+use crate::times::{read_fine_millis, read_millis};
+use cue_sheet::Place;
+use cue_sheet::digits::read_number;
+use frame_header::Class;
+
+/// A place among the samples of a file, to a sample.
+#[derive(Clone, Copy, Debug, PartialEq, Eq)]
+pub enum ExactPlace {
+    /// A position: a frame's number counts the time of so many frames.
+    Place(Place),
+    /// Before the sample with this number, counted from 0.
+    Sample(u32),
+    /// So many thousandths of a second after the first sample.
+    Millis(u32),
+    /// So many thousandths of a second before the end.
+    Back(u32),
+}
+
+impl Default for ExactPlace {
+    ghost is_default = { λ place. place ≡ PlaceVariant End };
+
+    /// The end.
+    fn default() -> ExactPlace {
+        ExactPlace::Place(Place::End)
+    }
+}
+
+/// One to ten digits, and then `s`.
+#[tactic(auto, unfolding(crate::specs::Places::sample_of))]
+fn read_sample(word: &[u8]) -> Option<u32>
+    ensures { result ≡ sample_of word.now }
+{
+    match word {
+        [digits @ .., b's'] => read_number(digits, 1, 10, u32::MAX),
+        _ => None,
+    }
+}
+
+/// `EOF-` and a time.
+#[tactic(auto, unfolding(crate::specs::Places::back_of))]
+fn read_back(word: &[u8]) -> Option<u32>
+    ensures { result ≡ back_of word.now }
+{
+    match word {
+        [b'E', b'O', b'F', b'-', time @ ..] => read_fine_millis(time),
+        _ => None,
+    }
+}
+
+/// How many whole samples take no longer than so many parts of a second.
+fn samples_until(class: Class, time: u32, parts: u32) -> u64
+    requires { 1 ≤ parts }
+    ensures { result ≡ samples_until_lem class time parts }
+{
+    u64::from(time) * u64::from(class.frequency()) / u64::from(parts)
+}
+
+/// The sample before which a position is, in a file that plays so many.
+fn sample_of_position(class: Class, length: u64, place: Place) -> u64
+    requires { IsPlace place }
+    ensures { result ≡ sample_of_position_lem class length place }
+{
+    match place {
+        Place::Frame(number) => u64::from(number) * u64::from(class.samples()),
+        Place::Time(time, parts) => samples_until(class, time, parts),
+        Place::End => length,
+    }
+}
+
+#[tactic(auto, unfolding(crate::specs::Places::exact_place_of, crate::specs::Places::sample_at))]
+impl ExactPlace {
+    /// The place that a word says:
+    ///
+    /// - a position, as `Place::read` reads it;
+    /// - one to ten digits of a number up to 4,294,967,295, and `s`: a sample;
+    /// - minutes of one to four digits, a dot, seconds of one or two digits up to 59, a dot and
+    ///   three digits: a time to a thousandth of a second;
+    /// - `EOF-`, minutes and seconds in the same form, and optionally a dot and two or three
+    ///   digits, hundredths or thousandths of a second: so long before the end.
+    ///
+    /// `None` exactly for every other word.
+    pub fn read(word: &str) -> Option<ExactPlace>
+        ensures place { result ≡ exact_place_of word.now }
+        ensures sound { IfSome result IsExactPlace }
+    {
+        let word = word.as_bytes();
+        if let Some(place) = Place::of_word(word) {
+            return Some(ExactPlace::Place(place));
+        }
+        if let Some(number) = read_sample(word) {
+            return Some(ExactPlace::Sample(number));
+        }
+        if let Some(time) = read_millis(word) {
+            return Some(ExactPlace::Millis(time));
+        }
+        read_back(word).map(ExactPlace::Back)
+    }
+
+    /// The sample of a file that it names, where the file plays `length` samples: the number of
+    /// whole samples that take no longer, for a time; for one before the end, as many samples
+    /// before it, or the first sample where there aren't as many. It may be greater than `length`.
+    pub fn sample(&self, class: Class, length: u64) -> u64
+        requires { IsExactPlace self.now }
+        ensures { result ≡ sample_at class length self.now }
+    {
+        match *self {
+            ExactPlace::Place(place) => sample_of_position(class, length, place),
+            ExactPlace::Sample(number) => u64::from(number),
+            ExactPlace::Millis(time) => samples_until(class, time, 1_000),
+            ExactPlace::Back(time) => length.saturating_sub(samples_until(class, time, 1_000)),
+        }
+    }
+}

@@ -1,0 +1,27 @@
+//! Exact pieces: which frames a decoder needs for the samples from one to before another, and the
+//! delay and the padding by which players play exactly these. `Played::of(info, class, frames)` has
+//! the positions of a file that are played, `ExactPlace::read(word)` reads a place among its
+//! samples, and `Span::of(class, p, q)` is the span of some positions. `extension` makes the 36
+//! bytes of the Info head that say delay and padding, and `seal` puts music length and tag CRC into
+//! the whole Info frame.
+#![tactic(auto)]
+
+mod crc;
+mod exact_place;
+mod extensions;
+mod laws;
+mod played;
+mod sealing;
+mod span;
+mod times;
+
+pub use crc::arc;
+pub use exact_place::ExactPlace;
+pub use extensions::extension;
+pub use laws::{
+    extensions_say_their_numbers, pieces_are_the_whole, samples_keep_their_places,
+    sealed_frames_are_info_frames, spans_are_warm, spans_fit, words_go_on,
+};
+pub use played::Played;
+pub use sealing::seal;
+pub use span::Span;

@@ -1,0 +1,65 @@
+//! The positions of a file that are played.
+ghost use Rattle.std.specs.Prelude.{◌≡◌, ◌<◌, ◌≤◌, option_copied};
+ghost use Rattle.exact_span.specs.PlayedPositions.{end_by, played_of, length_of_played};
+
+use crate::extensions::{Counts, counts_of};
+use frame_header::Class;
+use info_header::Info;
+
+/// By how many samples a decoder is late, as players reckon it.
+pub(crate) const DECODER_DELAY: u32 = 529;
+
+/// The positions from `start` to before `end`, counted in samples from the beginning of the first
+/// frame after the head. Sample k of the file is position `start + k`.
+#[derive(Clone, Copy, Debug, PartialEq, Eq)]
+pub struct Played {
+    pub start: u64,
+    pub end: u64,
+}
+
+/// Where they end, by what the head counts.
+fn end_of(samples: u32, frames: u32, counts: Counts) -> u64
+    requires samples { samples ≤ 1152 }
+    requires padding { counts.padding < 4096 }
+    ensures { result ≡ end_by samples frames counts }
+{
+    let all = u64::from(frames) * u64::from(samples);
+    if counts.frames < frames {
+        return all;
+    }
+    let counted = u64::from(counts.frames) * u64::from(samples);
+    let end = (counted + u64::from(DECODER_DELAY)).saturating_sub(u64::from(counts.padding));
+    all.min(end)
+}
+
+#[tactic(auto, unfolding(crate::specs::PlayedPositions::played_of))]
+impl Played {
+    /// The played positions of a file with this head and so many frames after it, as players reckon
+    /// them. Without a head that counts they are all positions. A head counts where it has a number
+    /// of frames that isn't 0, and an extension that begins with `LAME`, `Lavf` or `Lavc`. Then
+    /// they begin after its delay and the decoder's of 529 samples. Where it counts no fewer frames
+    /// than there are, they end as many samples before the end of the frames that it counts as its
+    /// padding is above 529, else with the last frame.
+    pub fn of(info: Option<&Info>, class: Class, frames: u32) -> Played
+        ensures { result ≡ played_of (option_copied info.entry) class frames }
+    {
+        let samples = class.samples();
+        match counts_of(info) {
+            Some(counts) => Played {
+                start: u64::from(counts.delay + DECODER_DELAY),
+                end: end_of(samples, frames, counts),
+            },
+            None => Played {
+                start: 0,
+                end: u64::from(frames) * u64::from(samples),
+            },
+        }
+    }
+
+    /// How many samples are played: 0 where `end` isn't after `start`.
+    pub fn length(&self) -> u64
+        ensures { result ≡ length_of_played self.now }
+    {
+        self.end.saturating_sub(self.start)
+    }
+}

@@ -1,0 +1,149 @@
+//! Places of samples, by the forms of their words, and the samples that they name, by division.
+
+use cue_sheet::Place;
+use exact_span::ExactPlace;
+use exact_span::ExactPlace::{Back, Millis, Sample};
+use frame_header::{Class, Version};
+use std::process::Abort;
+use std::test::Fail;
+use test_files::table;
+
+struct Word {
+    text: &'static str,
+    says: ExactPlace,
+}
+
+static WORDS: [Word; 10] = table! {
+    Word { text, says }
+    ("EOF", ExactPlace::Place(Place::End))
+    ("9999999", ExactPlace::Place(Place::Frame(9_999_999)))
+    ("0.00.5", ExactPlace::Place(Place::Time(5, 100)))
+    ("0s", Sample(0))
+    ("1152s", Sample(1_152))
+    ("4294967295s", Sample(4_294_967_295))
+    ("0000000001s", Sample(1))
+    ("0.0.005", Millis(5))
+    ("9999.59.999", Millis(599_999_999))
+    ("0001.1.010", Millis(61_010))
+};
+
+static BEFORE_THE_END: [Word; 7] = table! {
+    Word { text, says }
+    ("EOF-0.10", Back(10_000))
+    ("EOF-1.0", Back(60_000))
+    ("EOF-0.0", Back(0))
+    ("EOF-0.00.02", Back(20))
+    ("EOF-0.0.020", Back(20))
+    ("EOF-0.0.005", Back(5))
+    ("EOF-9999.59.99", Back(599_999_990))
+};
+
+static OTHERS: [&'static str; 24] = [
+    "",
+    "4294967296s",
+    "00000000001s",
+    "s",
+    "1S",
+    "+1s",
+    "1.0s",
+    "1ms",
+    "1 s",
+    "0.0.0005",
+    "0.60.000",
+    "10000.0.000",
+    "0..000",
+    "0.0.00a",
+    "1.2.3.004",
+    "EOF-",
+    "EOF-3",
+    "EOF-3s",
+    "EOF-0.0.5",
+    "EOF-0.0.0005",
+    "EOF-0.60",
+    "EOF-0.10.",
+    "EOF-EOF",
+    "eof-0.1",
+];
+
+fn are_read(words: &[Word]) -> bool {
+    words
+        .iter()
+        .all(|word| ExactPlace::read(word.text) == Some(word.says))
+}
+
+#[test]
+fn words(rt: HostRuntime) {
+    assert!(rt; are_read(&WORDS));
+    assert!(rt; are_read(&BEFORE_THE_END));
+}
+
+#[test]
+fn words_that_say_no_place(rt: HostRuntime) {
+    for word in &OTHERS {
+        assert!(rt; ExactPlace::read(word).is_none(), "{word}");
+    }
+}
+
+/// A word, and the sample that it names in a file that plays 2,304.
+struct At {
+    version: Version,
+    frequency_index: u8,
+    word: &'static str,
+    sample: u64,
+}
+
+static SAMPLES: [At; 9] = table! {
+    At { version, frequency_index, word, sample }
+    (Version::One, 0, "3", 3_456)
+    (Version::TwoFive, 2, "3", 1_728)
+    (Version::One, 0, "EOF", 2_304)
+    (Version::One, 0, "4294967295s", 4_294_967_295)
+    // 220.5 samples, and twice as many.
+    (Version::One, 0, "0.0.005", 220)
+    (Version::Two, 0, "0.00.020", 441)
+    (Version::One, 0, "EOF-0.0.005", 2_084)
+    (Version::One, 0, "EOF-0.0", 2_304)
+    // More than the file has.
+    (Version::One, 0, "EOF-1.0", 0)
+};
+
+fn is_named(at: &At) -> bool {
+    if at.frequency_index > 2 {
+        return false;
+    }
+    let class = Class {
+        version: at.version,
+        frequency_index: at.frequency_index,
+        channels: 2,
+    };
+    match ExactPlace::read(at.word) {
+        Some(place) => place.sample(class, 2_304) == at.sample,
+        None => false,
+    }
+}
+
+#[test]
+fn samples_of_places(rt: HostRuntime) -> Result<(), Fail> {
+    for at in &SAMPLES {
+        assert!(rt; is_named(at), "sample {}", at.sample);
+    }
+    Ok(())
+}
+
+/// A start of a cue sheet: 150 parts of 1/75 second are 88,200 samples.
+#[test]
+fn the_sample_of_a_start(rt: HostRuntime) -> Result<(), Fail> {
+    let class = Class {
+        version: Version::One,
+        frequency_index: 0,
+        channels: 1,
+    };
+    let start = ExactPlace::Place(Place::Time(150, 75));
+    assert!(rt; start.sample(class, 2_304) == 88_200);
+    Ok(())
+}
+
+#[test]
+fn without_more_the_end(rt: HostRuntime) {
+    assert!(rt; ExactPlace::default() == ExactPlace::Place(Place::End));
+}
