@@ -82,13 +82,14 @@ pub record IsHeadOf (class : ClassFields) (leads : ℕ) (span : Span) (head : In
   pub frames : head.frames ≡ Some (leads + (span.last - span.first))
   pub numbers : SaysNumbers (delay_of class leads span) (padding_of span) head.extension
 
--- Sample k of one file and sample a + k of another are at one offset in a frame, and that is one
--- and the same frame: so many lead-ins after the one file's beginning as it is after the other's
--- frame `first`.
+-- Position x of a piece and position y of its file are at one offset in one and the same frame: the
+-- file's frame `first` is the first one after the piece's lead-ins.
 pub record IsAtOnePlace (class : ClassFields) (leads first : ℕ) (x y : ℕ) : Type 0 where
   pub frame : x / samples_in class + first ≡ y / samples_in class + leads
   pub offset : x % samples_in class ≡ y % samples_in class
 
+-- the played positions of a piece begin and end as far from its frames as those from a to before b
+-- of the file do, so they are as many, and each has its place
 pub record KeepsPlaces (class : ClassFields) (leads first a b : ℕ) (piece file : Played)
     : Type 0 where
   pub start : piece.start + first * samples_in class ≡ file.start + a + leads * samples_in class
@@ -142,12 +143,12 @@ abbrev pub last_point : ℕ → List ℕ → ℕ
 last_point a [] = a
 last_point a (b ∷ points) = last_point b points
 
--- the pieces of ascending points have each sample from the first point to the last once, in order
 -- no point is before the one before it
 abbrev pub Ascend : ℕ → List ℕ → Type 0
 Ascend a [] = ⊤
 Ascend a (b ∷ points) = (a ≤ b) × Ascend b points
 
+-- the pieces of ascending points have each sample from the first point to the last once, in order
 abbrev pub PiecesAreTheWhole : Type 0
 PiecesAreTheWhole =
     (a : ℕ) (points : List ℕ) → Ascend a points

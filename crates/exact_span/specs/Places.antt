@@ -79,7 +79,7 @@ sample_of word =
 unfoldable pub back_of : List ℕ → Option ℕ
 back_of word = if bytes_eq (take 4 word) (codes "EOF-") then fine_millis_of (drop 4 word) else None
 
--- the place that a word says; no word says two of these
+-- the place that a word says, in one of these forms
 unfoldable pub exact_place_of : List ℕ → Option ExactPlace
 exact_place_of word =
     option_or (option_map Place (place_of word)) (option_or (option_map Sample (sample_of word))

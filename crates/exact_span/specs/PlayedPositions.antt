@@ -19,7 +19,7 @@ decoder_delay = 529
 
 -- Where the played positions end: with the last frame, and where the head counts no fewer frames
 -- than there are, as many positions before the end of the frames that it counts as its padding has
--- more than the decoder's delay.
+-- more than the decoder's delay, if that is earlier.
 abbrev pub end_by : ℕ → ℕ → Counts → ℕ
 end_by samples frames counts =
     if nat_lt counts.frames frames then frames * samples

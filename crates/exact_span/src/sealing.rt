@@ -39,7 +39,7 @@ fn put_crc(frame: &mut [u8], at: usize)
     frame[at..at + 2].copy_from_slice(&word.to_be_bytes());
 }
 
-/// The same in a slice.
+/// Puts both into the bytes of the frame.
 #[tactic(auto, unfolding(crate::specs::TagWord::with_music_length, crate::specs::TagWord::with_tag_crc))]
 fn seal_bytes(class: Class, frame: &mut [u8])
     requires { text_place class + 156 ≤ length frame.old }

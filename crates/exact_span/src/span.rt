@@ -25,9 +25,10 @@ pub struct Span {
 }
 
 impl Span {
-    /// The span of the positions from p to before q. Its first frame is the one in which position p
-    /// - 1,056 is, or the first, and its last the one in which position q - 1 is. A lead-in has to
-    /// be before it where p is below 529, since players add 529 to a delay that is written.
+    /// The span of the positions from p to before q. Its first frame is the one in which the
+    /// position 1,056 before p is, or the first of all, and its last the one in which position
+    /// q - 1 is. A lead-in has to be before it where p is below 529, since players add 529 to a
+    /// delay that is written.
     #[tactic(auto, unfolding(crate::specs::Spans::span_of))]
     pub fn of(class: Class, p: u64, q: u64) -> Span
         requires some { p < q }
