@@ -1,7 +1,7 @@
 -- Laws of the extension that is written.
-use Rattle.std.proofs.Common.{◌≡◌, ℕ, ◌+◌, ◌<◌, Bool, true, false, cond, List, ◌++◌, length, take, drop, replicate, get_or, ◌||◌, Option, Some, None, refl, ap, ◌∙◌, arith}
+use Rattle.std.proofs.Common.{◌≡◌, ℕ, ◌+◌, ◌<◌, Bool, true, false, cond, List, ◌++◌, length, take, drop, replicate, get_or, ◌||◌, Option, Some, None, refl, ap, ◌∙◌, arith, ◌*◌, ◌/◌, ◌%◌, sym, ap₂}
 use Rattle.std.specs.Prelude.{codes, bytes_eq, IfSome}
-use Rattle.std.proofs.lemmas.List.{take-append-le, take-take, length-take-le, get_or-append-add}
+use Rattle.std.proofs.lemmas.List.{take-append-le, take-take, length-take-le, get_or-append-add, get_or-take}
 use Rattle.info_header.specs.declared.fields.Info.{Info}
 use Rattle.exact_span.specs.Extensions.{has_encoder, delay_in, padding_in, plain, kept, in_three_bytes, extension_of}
 use Rattle.exact_span.specs.Laws.{AreWhole, SaysNumbers}
@@ -43,6 +43,20 @@ padding-said : (front rest : List ℕ) (delay padding : ℕ) → length front �
 padding-said front rest delay padding long small =
     let three = in_three_bytes delay padding ++ rest in
     omega (arith, byte-of front three 1 22 long refl, byte-of front three 2 23 long refl)
+
+-- what is said is in the first 28 bytes
+pub says-front : (xs ys : List ℕ) (d p : ℕ) → take 28 xs ≡ take 28 ys → SaysNumbers d p ys → SaysNumbers d p xs
+says-front xs ys d p same says =
+    let byte = λ (i : ℕ) (below : i < 28). sym (get_or-take 28 xs i 0 below) ∙ ap (λ (zs : List ℕ). get_or zs i 0) same ∙ get_or-take 28 ys i 0 below in
+    let text : take 4 xs ≡ take 4 ys = sym (take-take 4 28 xs (omega arith)) ∙ ap (λ (zs : List ℕ). take 4 zs) same ∙ take-take 4 28 ys (omega arith) in
+    let first : get_or xs 21 0 ≡ get_or ys 21 0 = byte 21 (omega arith) in
+    let second : get_or xs 22 0 ≡ get_or ys 22 0 = byte 22 (omega arith) in
+    let third : get_or xs 23 0 ≡ get_or ys 23 0 = byte 23 (omega arith) in
+    record {
+      encoder = same-encoder xs ys text ∙ says.encoder;
+      delay = ap₂ (λ a b. 16 * a + b / 16) first second ∙ says.delay;
+      padding = ap₂ (λ a b. 256 * (a % 16) + b) second third ∙ says.padding;
+    }
 
 says-by : (old : List ℕ) (delay padding : ℕ) → length old ≡ 36 → has_encoder old ≡ true → padding < 4096 →
     SaysNumbers delay padding (take 21 old ++ (in_three_bytes delay padding ++ (take 4 (drop 24 old) ++ replicate 8 0)))

@@ -2,7 +2,7 @@
 use Rattle.std.proofs.Common.{◌≡◌, ℕ, ◌+◌, ◌-◌, ◌≤◌, Bool, true, false, List, ◌++◌, length, take, drop, replicate, Option, Some, None, refl, sym, ap, ap₂, ◌∙◌, append_assoc, arith}
 use Rattle.std.specs.Prelude.{IfSome}
 use Rattle.std.proofs.Math.Seq.{take-append-add, drop-append-add}
-use Rattle.std.proofs.lemmas.List.{take-append-le, drop-append-le, take_at, drop_at, length-append, length-drop, length-take-le, length-replicate}
+use Rattle.std.proofs.lemmas.List.{take-append-le, drop-append-le, take_at, drop_at, length-append, length-drop, length-take-le, length-replicate, take-take}
 use Rattle.byteorder.specs.Endian.{big_bytes}
 use Rattle.bit_fields.specs.Bits.{bytes}
 use Rattle.bit_fields.proofs.BitsLaws.{length-bytes}
@@ -13,7 +13,8 @@ use Rattle.frame_header.proofs.HeaderLaws.{length-header_bits}
 use Rattle.info_header.specs.declared.fields.Info.{Info}
 use Rattle.info_header.specs.Info.{text_of, number_or_zero, table_or_zeros, info_bytes}
 use Rattle.info_header.specs.InfoFrame.{info_slot_of, info_header_of, info_frame}
-use Rattle.exact_span.specs.TagWord.{arc_of, text_place, bytes_place, music_place, crc_place, with_music_length, with_tag_crc, with_length_field, with_crc_field}
+use Rattle.exact_span.specs.TagWord.{arc_of, text_place, bytes_place, music_place, crc_place, with_music_length, with_tag_crc, with_length_field, with_crc_field, tag_crc_of, sealed_info}
+use Rattle.exact_span.proofs.ExtensionLaws.{says-front}
 use Rattle.exact_span.specs.Laws.{AreWhole, IsSealed}
 
 -- ---- parts of a list
@@ -182,9 +183,22 @@ frame-room first info whole =
       length-append info.extension rest,
     )
 
+-- both fields are after the first 28 bytes of the extension
+field-front : (first : HeaderFields) (info : Info) → AreWhole info → take 28 (sealed_info first info).extension ≡ take 28 info.extension
+field-front first info whole =
+    let long = whole.extension in
+    let extension = (with_length_field info).extension in
+    let many : length (take 34 extension) ≡ 34 = length-take-le 34 extension (omega (arith, field-length info whole)) in
+    let few : length (take 28 info.extension) ≡ 28 = length-take-le 28 info.extension (omega (arith, long)) in
+    take-append-le 28 (take 34 extension) (big_bytes 2 (tag_crc_of first (with_length_field info))) (omega (arith, many))
+    ∙ take-take 28 34 extension (omega arith)
+    ∙ take-append-le 28 (take 28 info.extension) (big_bytes 4 (number_or_zero info.bytes) ++ drop 32 info.extension) (omega (arith, few))
+    ∙ take-take 28 28 info.extension (omega arith)
+
 pub frames-sealed : (first : HeaderFields) (info : Info) → AreWhole info → IsSealed first info
 frames-sealed first info whole = record {
   room = frame-room first info whole;
   is = ap (with_tag_crc (class_of first)) (music-put first info whole)
       ∙ crc-put first (with_length_field info) (record { table = whole.table; extension = field-length info whole });
+  says = λ d p. says-front (sealed_info first info).extension info.extension d p (field-front first info whole);
 }

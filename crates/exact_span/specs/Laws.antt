@@ -18,22 +18,12 @@ use Rattle.exact_span.specs.TagWord.{arc_of, text_place, sealed, sealed_info}
 abbrev pub WordsGoOn : Type 0
 WordsGoOn = (word : ℕ) (x y : List ℕ) → arc_of (arc_of word x) y ≡ arc_of word (x ++ y)
 
+-- ---- extensions
+
 -- fields that a struct can have
 pub record AreWhole (info : Info) : Type 0 where
   pub table : IfSome info.table (λ table. length table ≡ 100)
   pub extension : length info.extension ≡ 36
-
--- an Info frame can be sealed, and then it is the Info frame of other fields, which differ in music
--- length and tag CRC alone
-pub record IsSealed (first : HeaderFields) (info : Info) : Type 0 where
-  pub room : text_place (class_of first) + 156 ≤ length (info_frame first info)
-  pub is : sealed (class_of first) (info_frame first info)
-      ≡ info_frame first (sealed_info first info)
-
-abbrev pub SealedFrames : Type 0
-SealedFrames = (first : HeaderFields) (info : Info) → AreWhole info → IsSealed first info
-
--- ---- extensions
 
 -- this extension counts, and these are its numbers
 pub record SaysNumbers (d p : ℕ) (extension : List ℕ) : Type 0 where
@@ -46,6 +36,19 @@ abbrev pub ExtensionsSay : Type 0
 ExtensionsSay =
     (info : Option Info) (delay padding : ℕ) → IfSome info AreWhole → delay < 4096 → padding < 4096
     → SaysNumbers delay padding (extension_of info delay padding)
+
+-- an Info frame can be sealed, and then it is the Info frame of other fields, which differ in music
+-- length and tag CRC alone
+pub record IsSealed (first : HeaderFields) (info : Info) : Type 0 where
+  pub room : text_place (class_of first) + 156 ≤ length (info_frame first info)
+  pub is : sealed (class_of first) (info_frame first info)
+      ≡ info_frame first (sealed_info first info)
+  -- its extension says the same numbers
+  pub says : (d p : ℕ) → SaysNumbers d p info.extension
+      → SaysNumbers d p (sealed_info first info).extension
+
+abbrev pub SealedFrames : Type 0
+SealedFrames = (first : HeaderFields) (info : Info) → AreWhole info → IsSealed first info
 
 -- ---- spans
 

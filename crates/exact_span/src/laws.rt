@@ -8,7 +8,7 @@ pub fn words_go_on()
 {}
 
 /// A sealed Info frame is the Info frame of the same fields with music length and tag CRC in the
-/// extension.
+/// extension, and says the same delay and padding.
 pub fn sealed_frames_are_info_frames()
     ensures { SealedFrames }
 {}
