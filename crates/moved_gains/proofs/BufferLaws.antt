@@ -24,35 +24,35 @@ pub held_piece : (fed : Fed) (files : Files) (name : List ℕ) (at n : ℕ) → 
 held_piece fed files name at n place enough fed_from file holds =
     ap (take n) (sym (fed_from.same file holds)) ∙ take-take n (length fed.held) (drop fed.place file) enough ∙ ap (λ k. take n (drop k file)) place
 
--- and so are those after them
-pub ready_after : (pass : Pass) (files : Files) (fed later : Fed) (n : ℕ) → n ≤ length fed.held → later.place ≡ fed.place + n → later.held ≡ drop n fed.held → IsReady pass files fed → IsReady pass files later
-ready_after pass files fed later n enough place held ready = record {
+-- other bytes are held of the input, and all else stays
+pub ready_with : (pass : Pass) (files : Files) (fed later : Fed) → IsFedFrom later files pass.input.now → IsReady pass files fed → IsReady pass files later
+ready_with pass files fed later fed_from ready = record {
   apart = ready.apart;
   source = ready.source;
   target = ready.target;
   length_is = ready.length_is;
   few = ready.few;
-  fed_from = record {
-    same = λ file holds.
-        let long : length later.held ≡ length fed.held - n = ap length held ∙ length-drop n fed.held in
-        ap₂ (λ k m. take k (drop m file)) long place
-        ∙ ap (take (length fed.held - n)) (sym (drop-drop n fed.place file))
-        ∙ sym (part_later (length fed.held) n (drop fed.place file) enough)
-        ∙ ap (drop n) (ready.fed_from.same file holds)
-        ∙ sym held;
-  };
+  fed_from = fed_from;
 }
 
--- nothing is held
+-- those after the next bytes
+pub ready_after : (pass : Pass) (files : Files) (fed later : Fed) (n : ℕ) → n ≤ length fed.held → later.place ≡ fed.place + n → later.held ≡ drop n fed.held → IsReady pass files fed → IsReady pass files later
+ready_after pass files fed later n enough place held ready =
+    ready_with pass files fed later
+    (record {
+      same = λ file holds.
+          let long : length later.held ≡ length fed.held - n = ap length held ∙ length-drop n fed.held in
+          ap₂ (λ k m. take k (drop m file)) long place
+          ∙ ap (take (length fed.held - n)) (sym (drop-drop n fed.place file))
+          ∙ sym (part_later (length fed.held) n (drop fed.place file) enough)
+          ∙ ap (drop n) (ready.fed_from.same file holds)
+          ∙ sym held;
+    })
+    ready
+
+-- none
 pub ready_empty : (pass : Pass) (files : Files) (fed none : Fed) → none.held ≡ [] → IsReady pass files fed → IsReady pass files none
-ready_empty pass files fed none nothing ready = record {
-  apart = ready.apart;
-  source = ready.source;
-  target = ready.target;
-  length_is = ready.length_is;
-  few = ready.few;
-  fed_from = fed_nothing none files pass.input.now nothing;
-}
+ready_empty pass files fed none nothing ready = ready_with pass files fed none (fed_nothing none files pass.input.now nothing) ready
 
 -- all that waited was appended
 pub all_on : (pass : Pass) (waits : List ℕ) (old now : Files) → now ≡ appended old pass.output.now waits → Writes pass (λ file. []) waits [] old now

@@ -14,7 +14,7 @@ ghost use Rattle.outside.specs.Feed.{buffer_size, most_given};
 
 use crate::front::{MovedRow, move_front};
 use frame_header::Class;
-use outside::{BUFFER_SIZE, Folder, PIECE_SIZE, Pass, PassFault, read_exact, write_all};
+use outside::{BUFFER_SIZE, Folder, PIECE_SIZE, Pass, PassFault, keep_from, read_exact, write_all};
 use std::alloc::{AllocError, Global};
 use std::marker::Model;
 
@@ -92,24 +92,6 @@ fn read_behind<D: Folder>(
     Ok(end)
 }
 
-/// Moves what is held from `at` on to the front, where the bytes from `done` up to `end` are those from the offset `place` on, and
-/// answers how many bytes these are: none where `at` isn't among them.
-fn keep_from(room: &mut [u8], place: u64, done: usize, end: usize, at: u64) -> usize
-    requires ordered { done ≤ end }
-    requires within { end ≤ length room.old }
-    ensures fewer { result ≤ end - done }
-    ensures kept { (file : List ℕ) → take (end - done) (drop place file)
-        ≡ take (end - done) (drop done room.old)
-        → take result room.new ≡ take result (drop at file) }
-{
-    if at < place || (end - done) as u64 <= at - place {
-        return 0;
-    }
-    let from = done + (at - place) as usize;
-    room.copy_within(from..end, 0);
-    end - from
-}
-
 impl Buffers {
     /// Buffers in which nothing is held and nothing waits. All memory of a pass is taken here.
     ///
@@ -168,7 +150,7 @@ impl Buffers {
     {
         hand_on(folder, pass, &self.room[..self.done])?;
         let room = self.room.as_mut_slice();
-        let kept = keep_from(room, self.place, self.done, self.end, at);
+        let kept = keep_from(room, self.done, self.end, self.place, at);
         self.place = at;
         self.done = 0;
         self.end = 0;
