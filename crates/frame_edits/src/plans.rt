@@ -1,16 +1,32 @@
 //! The plan of chosen frames, and the Info frame before them.
-ghost use Rattle.std.specs.Prelude.{◌≡◌, IfOk};
+ghost use Rattle.std.specs.Prelude.{◌≡◌, ◌<◌, ◌≤◌, [], ◌∷◌, length, IfOk};
+ghost use Rattle.part_needs.specs.Needs.{asked_of};
 ghost use Rattle.slot_plan.specs.Plans.{entries};
 ghost use Rattle.sync_survey.specs.Faults.{tells};
 ghost use Rattle.commands.specs.One.{most_frames};
-ghost use Rattle.frame_edits.specs.Chosen.{chosen_in, choices_by, plan_of, AreThere, IsSelected};
+ghost use Rattle.frame_edits.specs.Chosen.{chosen_in, chosen_rows, choices_by, plan_of, AreThere, IsSelected};
 
 use crate::chosen::{Chosen, Slots};
 use laying::Selected;
 use part_needs::Parts;
-use slot_plan::{Keep, Least, Plan, Policy};
+use slot_plan::{Keep, Least, Plan, Policy, plan};
 use std::alloc::{AllocError, Global};
 use sync_survey::Survey;
+
+/// Chosen frames as the one part of a plan.
+fn chosen_parts(alloc: Global, survey: &Survey, chosen: &Chosen) -> Result<Parts, AllocError>
+    requires some { chosen.now.from < chosen.now.to }
+    requires within { chosen.now.to ≤ length (tells survey.now).frames }
+    ensures parts { IfOk result (λ parts. parts
+        ≡ asked_of (chosen_rows (chosen_in chosen.now) (tells survey.now) ∷ [])) }
+    ensures needs { IfOk result (λ parts. length parts.needs
+        ≤ length (tells survey.now).frames) }
+    ensures places { IfOk result (λ parts. length parts.places ≡ 1) }
+{
+    let mut parts = Parts::new(alloc);
+    parts.push(&survey.frames()[chosen.from..chosen.to])?;
+    Ok(parts)
+}
 
 /// The plan of chosen frames by the policy of their slots.
 fn plan_by<P: Policy>(
@@ -24,9 +40,8 @@ fn plan_by<P: Policy>(
     ensures { IfOk result (λ plan. entries plan ≡ plan_of (chosen_in chosen.now)
         (tells survey.now)) }
 {
-    let mut parts = Parts::new(alloc);
-    parts.push(&survey.frames()[chosen.from..chosen.to])?;
-    parts.plan(alloc, policy)
+    let parts = chosen_parts(alloc, survey, chosen)?;
+    plan(alloc, parts.needs(), parts.places(), policy)
 }
 
 /// The plan of chosen frames.

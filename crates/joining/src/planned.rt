@@ -10,7 +10,7 @@ use crate::inputs::known_at;
 use arrayvec::ArrayVec;
 use laying::{Buffers, Kept, info_bytes};
 use part_needs::Parts;
-use slot_plan::{Keep, Plan};
+use slot_plan::{Keep, Plan, plan};
 use std::alloc::{AllocError, Global};
 use sync_survey::Survey;
 
@@ -32,7 +32,7 @@ fn plan_all(alloc: Global, surveys: &[Survey]) -> Result<Plan, AllocError>
     ensures { IfOk result (λ plan. IsPlanOf (map tells surveys.now) (entries plan)) }
 {
     let parts = parts_of(alloc, surveys)?;
-    parts.plan(alloc, &Keep)
+    plan(alloc, parts.needs(), parts.places(), &Keep)
 }
 
 /// The plan of all frames, the bytes of the Info frame before them, at most 1,441, whose header is that of the first frame,

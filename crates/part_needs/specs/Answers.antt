@@ -1,18 +1,7 @@
 -- What calls of parts answer and leave.
-use Rattle.std.specs.Prelude.{◌≡◌, ◌+◌, List, [], ◌∷◌, ◌++◌, length, Vec, vec_len, vec_capacity, Result, IfOk, OnOk, OnErr}
-use Rattle.frame_header.specs.Fields.{SlotFields, HeaderFields}
-use Rattle.slot_plan.specs.declared.needs.Plan.{Plan}
-use Rattle.slot_plan.specs.Parts.{window_in, parts_of}
-use Rattle.slot_plan.specs.Plans.{IsPlan, entries}
-use Rattle.slot_plan.specs.LeastPlan.{least_plan}
-use Rattle.slot_plan.specs.Laws.{ChooseInOrder}
+use Rattle.std.specs.Prelude.{◌≡◌, ◌+◌, List, [], ◌∷◌, ◌++◌, length, Vec, vec_len, vec_capacity, Result, OnOk, OnErr}
 use Rattle.sync_survey.specs.Row.{Row}
 use Rattle.part_needs.specs.Needs.{Asked, asked_of}
-
--- The parts were planned, or there was no memory.
-pub record PlanAnswer {E : Type 0} (asked : Asked) (choices : HeaderFields → List SlotFields) (result : Result Plan E) : Type 0 where
-  pub plan : IfOk result (λ p. IsPlan (window_in asked.needs) choices (parts_of asked.needs asked.places) (entries p))
-  pub least : IfOk result (λ p. ChooseInOrder choices (parts_of asked.needs asked.places) → entries p ≡ least_plan (window_in asked.needs) choices (parts_of asked.needs asked.places))
 
 -- A part was added, or there was no memory and all is as it was.
 pub record PushAnswer {E : Type 0} (rows : List Row) (old new : Asked) (result : Result (Unit {0}) E) : Type 0 where

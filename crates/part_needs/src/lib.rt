@@ -3,10 +3,10 @@
 //! ```text
 //! let mut parts = Parts::new(alloc);
 //! parts.push(&survey.frames()[from..to])?;
-//! let plan = parts.plan(alloc, &Keep)?;
+//! let plan = plan(alloc, parts.needs(), parts.places(), &Keep)?;
 //! ```
 //!
-//! The law `parts_fit` says that `plan` may be called, `one_part_fits` for one part.
+//! The law `parts_fit` says that `slot_plan::plan` may be called, `one_part_fits` for one part.
 #![tactic(auto)]
 
 mod laws;

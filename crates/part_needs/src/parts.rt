@@ -1,19 +1,14 @@
 //! The parts of a plan, put together one after the other.
 ghost use Rattle.std.specs.Prelude.{◌≡◌, ◌↔◌, ◌+◌, ◌<◌, ◌≤◌, List, [], ◌∷◌, ◌++◌, length, map, vec_len, vec_capacity, IsTrue, IfOk, OnOk, OnErr};
 ghost use Rattle.frame_header.specs.Tables.{class_of};
-ghost use Rattle.frame_header.specs.Limits.{most_frames};
-ghost use Rattle.slot_plan.specs.Parts.{window_in, parts_of, CanBePlanned};
-ghost use Rattle.slot_plan.specs.Plans.{IsPlan, entries};
-ghost use Rattle.slot_plan.specs.LeastPlan.{least_plan};
-ghost use Rattle.slot_plan.specs.Laws.{ChooseInOrder};
 ghost use Rattle.side_info.specs.FrameFields.{header_like};
 ghost use Rattle.sync_survey.specs.Row.{Row as RowFields};
 ghost use Rattle.part_needs.specs.Needs.{Asked, need_of as need_of_lem, asked_of, IsUsual};
-ghost use Rattle.part_needs.specs.Answers.{IsPushed, PushAnswer, PlanAnswer};
+ghost use Rattle.part_needs.specs.Answers.{IsPushed, PushAnswer};
 
 use frame_header::Class;
 use side_info::FrameFront;
-use slot_plan::{Need, Plan, Policy, plan};
+use slot_plan::Need;
 use std::alloc::{AllocError, Global};
 use std::marker::Model;
 use std::mem;
@@ -170,19 +165,5 @@ impl Parts {
         append_needs(rows, &mut self.needs)?;
         self.places.push_reserved(place);
         Ok(())
-    }
-
-    /// The plan of these parts, as `slot_plan::plan` says. The law `parts_fit` says when they can be
-    /// planned. There are at most 64 parts and 2,900,000 frames.
-    ///
-    /// # Errors
-    /// Where there is no memory.
-    pub fn plan<P: Policy>(&self, alloc: Global, policy: &P) -> Result<Plan, AllocError>
-        requires planned { CanBePlanned self.now.needs self.now.places }
-        requires needs { length self.now.needs ≤ most_frames }
-        requires few { length self.now.places ≤ 64 }
-        ensures { PlanAnswer self.now (P.choices_of policy.now) result }
-    {
-        plan(alloc, self.needs(), self.places(), policy)
     }
 }

@@ -5,7 +5,7 @@ ghost use Rattle.sync_survey.specs.Survey.{IsLaidOut};
 
 use outside::{Folder, MemFolder};
 use part_needs::{Parts, one_part_fits};
-use slot_plan::{Keep, Need, Placed, Plan};
+use slot_plan::{Keep, Need, Placed, Plan, plan};
 use std::alloc::{AllocError, AllocGlobal};
 use std::process::Abort;
 use std::test::Fail;
@@ -51,7 +51,7 @@ fn plan_between<R: Abort + AllocGlobal>(
     let mut parts = Parts::new(rt.alloc());
     parts.push(&frames[from..to])?;
     one_part_fits();
-    parts.plan(rt.alloc(), &Keep)
+    plan(rt.alloc(), parts.needs(), parts.places(), &Keep)
 }
 
 /// A frame of a plan: whether it is a lead-in, its bit rate index, and its main_data_begin in bytes.

@@ -5,7 +5,7 @@ ghost use Rattle.std.specs.Prelude.{◌<◌};
 use laying::{Buffers, Relay, Section, asked_plans, plans_fit};
 use outside::{Folder, MemFolder, Pass, PassFault};
 use part_needs::{Parts, one_part_fits};
-use slot_plan::Keep;
+use slot_plan::{Keep, plan};
 use std::alloc::{AllocError, AllocGlobal, Global};
 use std::process::Abort;
 use std::test::Fail;
@@ -88,7 +88,7 @@ fn lay_frame<R: Abort + AllocGlobal, D: Folder>(
     one_part_fits();
     asked_plans();
     plans_fit();
-    let plan = parts.plan(rt.alloc(), &Keep)?;
+    let plan = plan(rt.alloc(), parts.needs(), parts.places(), &Keep)?;
     let mut buffers = Buffers::new(rt.alloc(), survey.class())?;
     let pass = Pass {
         input: "a",

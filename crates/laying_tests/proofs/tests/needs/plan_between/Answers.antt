@@ -11,4 +11,4 @@ pub plan-requires-clause-planned : goal.plan-requires-clause-planned
 plan-requires-clause-planned g c =
     let s = tells c.args.survey.now in
     let fit = c.one_part_fits.ensures s c.args.from c.args.to c.requires.laid.placed c.requires.some c.requires.within in
-    subst (λ (a : Asked). CanBePlanned a.needs a.places) (sym (c.in_ok-push.ensures.added [] c.new-parts.ensures.parts ∙ ap (λ (l : List Row). asked_of (slice_range l c.args.from c.args.to ∷ [])) c.frames-frames.ensures)) fit.planned
+    rw (c.needs.ensures, c.places.ensures) (subst (λ (a : Asked). CanBePlanned a.needs a.places) (sym (c.in_ok-push.ensures.added [] c.new-parts.ensures.parts ∙ ap (λ (l : List Row). asked_of (slice_range l c.args.from c.args.to ∷ [])) c.frames-frames.ensures)) fit.planned)

@@ -24,7 +24,7 @@ plan-requires-clause-planned g c =
     let s = tells c.in-Ok-survey.survey in
     let fit = c.one_part_fits.ensures s c.args.frame (c.args.frame + 1) c.in-Ok-survey.ensures.laid.placed (omega arith) (omega (arith, c.requires.one, ap length c.frames-rows.ensures, c.if-assert.false)) in
     let same : c.push.new.self ≡ asked_of (slice_range s.frames c.args.frame (c.args.frame + 1) ∷ []) = c.in_ok-push.ensures.added [] c.new-parts.ensures.parts ∙ ap (λ (l : List Row). asked_of (slice_range l c.args.frame (c.args.frame + 1) ∷ [])) c.frames-rows.ensures in
-    subst (λ (a : Asked). CanBePlanned a.needs a.places) (sym same) fit.planned
+    rw (c.needs.ensures, c.places.ensures) (subst (λ (a : Asked). CanBePlanned a.needs a.places) (sym same) fit.planned)
 
 pub write-requires-clause-ready : goal.write-requires-clause-ready
 write-requires-clause-ready g c =
@@ -52,7 +52,7 @@ write-requires-clause-section g c =
     let same : c.push.new.self ≡ asked_of (slice_range s.frames c.args.frame (c.args.frame + 1) ∷ []) = c.in_ok-push.ensures.added [] c.new-parts.ensures.parts ∙ ap (λ (l : List Row). asked_of (slice_range l c.args.frame (c.args.frame + 1) ∷ [])) c.frames-rows.ensures in
     let rows = slice_range s.frames c.args.frame (c.args.frame + 1) in
     let window = window_of s.class.version in
-    let plan = subst (λ (a : Asked). IsPlan (window_in a.needs) (λ h. h.slot ∷ []) (parts_of a.needs a.places) c.placed.result.now) same (subst (IsPlan _ _ _) (sym c.placed.ensures) c.in_ok-plan.ensures.plan) in
+    let plan = subst (λ (a : Asked). IsPlan (window_in a.needs) (λ h. h.slot ∷ []) (parts_of a.needs a.places) c.placed.result.now) same (subst (IsPlan _ _ _) (sym c.placed.ensures) (rw (c.needs.ensures, c.places.ensures) at c.in_ok-plan.ensures.plan)) in
     let count : 2 ≡ length s.frames = sym c.if-assert.false ∙ ap length c.frames-rows.ensures in
     record {
       ordered = omega arith;
