@@ -1,7 +1,8 @@
-//! Rows of each command, in a text or a folder of texts of its name; rows of all commands; and what no row can say.
+//! Rows of each command, in a text or a folder of texts of its name; rows of all commands; and what no row can say. The
+//! texts of `drill` and `salvage` are called `drill_rows` and `salvage_rows`, since crates have the plain names.
 
 mod cut;
-mod drill;
+mod drill_rows;
 mod fade;
 mod gain;
 mod join;
@@ -11,7 +12,7 @@ mod names;
 mod pack;
 mod refused_inputs;
 mod refused_words;
-mod salvage;
+mod salvage_rows;
 mod shrinking;
 mod song;
 mod split;
@@ -105,12 +106,12 @@ fn joins(rt: HostRuntime) -> Result<(), Fail> {
 
 #[test]
 fn salvages(rt: HostRuntime) -> Result<(), Fail> {
-    expect_rows(&rt, &[salvage::ROWS])
+    expect_rows(&rt, &[salvage_rows::ROWS])
 }
 
 #[test]
 fn drills(rt: HostRuntime) -> Result<(), Fail> {
-    expect_rows(&rt, &[drill::ROWS])
+    expect_rows(&rt, &[drill_rows::ROWS])
 }
 
 #[test]
