@@ -1,13 +1,12 @@
 -- The text of each bit rate.
-use Rattle.std.proofs.Common.{◌≡◌, ℕ, zero, suc, ◌+◌, ◌/◌, ◌%◌, ◌<◌, ◌≤◌, List, [], ◌∷◌, ◌++◌, drop, get_or, sym, ap, ◌∙◌, arith}
-use Rattle.std.specs.Prelude.{slice_index, codes, decimal}
+use Rattle.std.proofs.Common.{◌≡◌, ℕ, zero, suc, ◌+◌, ◌/◌, ◌%◌, ◌<◌, ◌≤◌, ◌⊎◌, inl, inr, Bool, true, false, ◌&&◌, if◌then◌else◌, List, [], ◌∷◌, ◌++◌, drop, get_or, length, sym, ap, ◌∙◌, bytes_eq, arith}
+use Rattle.std.specs.Prelude.{slice_index, codes, decimal, nat_lt}
+use Rattle.std.proofs.lemmas.Bool.{and_parts, cases_lt, cond_below, cond_above, ltb-true}
 use Rattle.std.proofs.lemmas.Fmt.{decimal_digit}
-use Rattle.frame_header.specs.declared.version.Version.TheVariants.{One, Two}
-use Rattle.frame_header.specs.Tables.{rates}
+use Rattle.std.proofs.lemmas.Slice.Eq.{bytes_eq-Decides}
 use Rattle.listing.specs.Decimals.{two_digits}
 use Rattle.listing.specs.Listing.{rate_text}
 use Rattle.listing.specs.declared.rate_text.RateText.{RateText}
-use Rattle.listing.specs.declared.rate_text.TheConstants.{MPEG_1_TEXTS, MPEG_2_TEXTS}
 use Rattle.listing.proofs.DecimalLaws.{decimal_two, decimal_split}
 
 abbrev pub no_text : RateText
@@ -16,50 +15,37 @@ no_text = record { text = []; spaces = 0 }
 abbrev pub text_of : RateText → List ℕ
 text_of r = drop r.spaces r.text
 
-with_digits : (rate : ℕ) (ds : List ℕ) → decimal rate ≡ ds → codes ": " ++ (ds ++ codes " kbit/s") ≡ rate_text rate
-with_digits rate ds is = ap (λ d. codes ": " ++ (d ++ codes " kbit/s")) (sym is)
+-- the digits of a number below 1,000
+abbrev three_digits : ℕ → List ℕ
+three_digits n = (48 + n / 100) ∷ two_digits (n % 100)
 
-one : (rate : ℕ) → rate < 10 → codes ": " ++ (((48 + rate) ∷ []) ++ codes " kbit/s") ≡ rate_text rate
-one rate few = with_digits rate ((48 + rate) ∷ []) (decimal_digit rate few)
+abbrev digits : ℕ → List ℕ
+digits n = if nat_lt n 10 then (48 + n) ∷ [] else if nat_lt n 100 then two_digits n else three_digits n
 
-two : (rate : ℕ) → 10 ≤ rate → rate < 100 → codes ": " ++ (two_digits rate ++ codes " kbit/s") ≡ rate_text rate
-two rate lo hi = with_digits rate (two_digits rate) (decimal_two rate lo hi)
+digits-are : (n : ℕ) → n < 1000 → decimal n ≡ digits n
+digits-are n few = by_size (cases_lt n 10) (cases_lt n 100)
+  where
+    by_size : (n < 10) ⊎ (10 ≤ n) → (n < 100) ⊎ (100 ≤ n) → decimal n ≡ digits n
+    by_size (inl one) _ = decimal_digit n one ∙ cond_below n 10 ((48 + n) ∷ []) _ one
+    by_size (inr more) (inl two) =
+        cond_above n 10 _ _ _ more (decimal_two n more two ∙ cond_below n 100 (two_digits n) (three_digits n) two)
+    by_size (inr more) (inr three) =
+        cond_above n 10 _ _ _ more
+        (cond_above n 100 (two_digits n) (three_digits n) _ three
+        (decimal_split n three (omega arith) ∙ ap (λ ds. ds ++ two_digits (n % 100)) (decimal_digit (n / 100) (omega arith))))
 
-three : (rate : ℕ) → 100 ≤ rate → rate < 1000 → codes ": " ++ (((48 + rate / 100) ∷ two_digits (rate % 100)) ++ codes " kbit/s") ≡ rate_text rate
-three rate lo hi =
-    with_digits rate ((48 + rate / 100) ∷ two_digits (rate % 100))
-    (decimal_split rate lo (omega arith) ∙ ap (λ ds. ds ++ two_digits (rate % 100)) (decimal_digit (rate / 100) (omega arith)))
+-- whether these texts are those of these bit rates
+abbrev pub are_texts : List RateText → List ℕ → Bool
+are_texts [] rates = true
+are_texts (text ∷ texts) [] = false
+are_texts (text ∷ texts) (rate ∷ rates) =
+    (nat_lt rate 1000 && bytes_eq (text_of text) (codes ": " ++ (digits rate ++ codes " kbit/s"))) && are_texts texts rates
 
-pub text_one : (i : ℕ) → i < 14 → text_of (get_or MPEG_1_TEXTS i no_text) ≡ rate_text (slice_index (rates One) i)
-text_one zero few = two 32 (omega arith) (omega arith)
-text_one (suc zero) few = two 40 (omega arith) (omega arith)
-text_one (suc (suc zero)) few = two 48 (omega arith) (omega arith)
-text_one (suc (suc (suc zero))) few = two 56 (omega arith) (omega arith)
-text_one (suc (suc (suc (suc zero)))) few = two 64 (omega arith) (omega arith)
-text_one (suc (suc (suc (suc (suc zero))))) few = two 80 (omega arith) (omega arith)
-text_one (suc (suc (suc (suc (suc (suc zero)))))) few = two 96 (omega arith) (omega arith)
-text_one (suc (suc (suc (suc (suc (suc (suc zero))))))) few = three 112 (omega arith) (omega arith)
-text_one (suc (suc (suc (suc (suc (suc (suc (suc zero)))))))) few = three 128 (omega arith) (omega arith)
-text_one (suc (suc (suc (suc (suc (suc (suc (suc (suc zero))))))))) few = three 160 (omega arith) (omega arith)
-text_one (suc (suc (suc (suc (suc (suc (suc (suc (suc (suc zero)))))))))) few = three 192 (omega arith) (omega arith)
-text_one (suc (suc (suc (suc (suc (suc (suc (suc (suc (suc (suc zero))))))))))) few = three 224 (omega arith) (omega arith)
-text_one (suc (suc (suc (suc (suc (suc (suc (suc (suc (suc (suc (suc zero)))))))))))) few = three 256 (omega arith) (omega arith)
-text_one (suc (suc (suc (suc (suc (suc (suc (suc (suc (suc (suc (suc (suc zero))))))))))))) few = three 320 (omega arith) (omega arith)
-text_one (suc (suc (suc (suc (suc (suc (suc (suc (suc (suc (suc (suc (suc (suc i)))))))))))))) few = absurd (omega arith)
-
-pub text_two : (i : ℕ) → i < 14 → text_of (get_or MPEG_2_TEXTS i no_text) ≡ rate_text (slice_index (rates Two) i)
-text_two zero few = one 8 (omega arith)
-text_two (suc zero) few = two 16 (omega arith) (omega arith)
-text_two (suc (suc zero)) few = two 24 (omega arith) (omega arith)
-text_two (suc (suc (suc zero))) few = two 32 (omega arith) (omega arith)
-text_two (suc (suc (suc (suc zero)))) few = two 40 (omega arith) (omega arith)
-text_two (suc (suc (suc (suc (suc zero))))) few = two 48 (omega arith) (omega arith)
-text_two (suc (suc (suc (suc (suc (suc zero)))))) few = two 56 (omega arith) (omega arith)
-text_two (suc (suc (suc (suc (suc (suc (suc zero))))))) few = two 64 (omega arith) (omega arith)
-text_two (suc (suc (suc (suc (suc (suc (suc (suc zero)))))))) few = two 80 (omega arith) (omega arith)
-text_two (suc (suc (suc (suc (suc (suc (suc (suc (suc zero))))))))) few = two 96 (omega arith) (omega arith)
-text_two (suc (suc (suc (suc (suc (suc (suc (suc (suc (suc zero)))))))))) few = three 112 (omega arith) (omega arith)
-text_two (suc (suc (suc (suc (suc (suc (suc (suc (suc (suc (suc zero))))))))))) few = three 128 (omega arith) (omega arith)
-text_two (suc (suc (suc (suc (suc (suc (suc (suc (suc (suc (suc (suc zero)))))))))))) few = three 144 (omega arith) (omega arith)
-text_two (suc (suc (suc (suc (suc (suc (suc (suc (suc (suc (suc (suc (suc zero))))))))))))) few = three 160 (omega arith) (omega arith)
-text_two (suc (suc (suc (suc (suc (suc (suc (suc (suc (suc (suc (suc (suc (suc i)))))))))))))) few = absurd (omega arith)
+pub text_at : (texts : List RateText) (rates : List ℕ) (i : ℕ) → are_texts texts rates ≡ true → i < length texts
+    → text_of (get_or texts i no_text) ≡ rate_text (slice_index rates i)
+text_at [] rates i are few = absurd (omega arith)
+text_at (text ∷ texts) [] i are few = absurd cc
+text_at (text ∷ texts) (rate ∷ rates) zero are few =
+    let both = and_parts _ _ (and_parts _ _ are).0 in
+    (bytes_eq-Decides _ _).0 both.1 ∙ ap (λ ds. codes ": " ++ (ds ++ codes " kbit/s")) (sym (digits-are rate (ltb-true rate 1000 both.0)))
+text_at (text ∷ texts) (rate ∷ rates) (suc i) are few = text_at texts rates i (and_parts _ _ are).1 (omega arith)

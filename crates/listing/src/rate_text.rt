@@ -12,123 +12,48 @@ struct RateText {
     spaces: usize,
 }
 
+macro_rules! rate_text {
+    ($spaces:literal $text:literal) => {
+        RateText {
+            text: *$text,
+            spaces: $spaces,
+        }
+    };
+}
+
 // Those of the indexes 1 to 14 (ISO/IEC 11172-3 and 13818-3, 2.4.2.3).
 static MPEG_1_TEXTS: [RateText; 14] = [
-    RateText {
-        text: *b"     : 32 kbit/s",
-        spaces: 5,
-    },
-    RateText {
-        text: *b"     : 40 kbit/s",
-        spaces: 5,
-    },
-    RateText {
-        text: *b"     : 48 kbit/s",
-        spaces: 5,
-    },
-    RateText {
-        text: *b"     : 56 kbit/s",
-        spaces: 5,
-    },
-    RateText {
-        text: *b"     : 64 kbit/s",
-        spaces: 5,
-    },
-    RateText {
-        text: *b"     : 80 kbit/s",
-        spaces: 5,
-    },
-    RateText {
-        text: *b"     : 96 kbit/s",
-        spaces: 5,
-    },
-    RateText {
-        text: *b"    : 112 kbit/s",
-        spaces: 4,
-    },
-    RateText {
-        text: *b"    : 128 kbit/s",
-        spaces: 4,
-    },
-    RateText {
-        text: *b"    : 160 kbit/s",
-        spaces: 4,
-    },
-    RateText {
-        text: *b"    : 192 kbit/s",
-        spaces: 4,
-    },
-    RateText {
-        text: *b"    : 224 kbit/s",
-        spaces: 4,
-    },
-    RateText {
-        text: *b"    : 256 kbit/s",
-        spaces: 4,
-    },
-    RateText {
-        text: *b"    : 320 kbit/s",
-        spaces: 4,
-    },
+    rate_text!(5 b"     : 32 kbit/s"),
+    rate_text!(5 b"     : 40 kbit/s"),
+    rate_text!(5 b"     : 48 kbit/s"),
+    rate_text!(5 b"     : 56 kbit/s"),
+    rate_text!(5 b"     : 64 kbit/s"),
+    rate_text!(5 b"     : 80 kbit/s"),
+    rate_text!(5 b"     : 96 kbit/s"),
+    rate_text!(4 b"    : 112 kbit/s"),
+    rate_text!(4 b"    : 128 kbit/s"),
+    rate_text!(4 b"    : 160 kbit/s"),
+    rate_text!(4 b"    : 192 kbit/s"),
+    rate_text!(4 b"    : 224 kbit/s"),
+    rate_text!(4 b"    : 256 kbit/s"),
+    rate_text!(4 b"    : 320 kbit/s"),
 ];
 
 static MPEG_2_TEXTS: [RateText; 14] = [
-    RateText {
-        text: *b"      : 8 kbit/s",
-        spaces: 6,
-    },
-    RateText {
-        text: *b"     : 16 kbit/s",
-        spaces: 5,
-    },
-    RateText {
-        text: *b"     : 24 kbit/s",
-        spaces: 5,
-    },
-    RateText {
-        text: *b"     : 32 kbit/s",
-        spaces: 5,
-    },
-    RateText {
-        text: *b"     : 40 kbit/s",
-        spaces: 5,
-    },
-    RateText {
-        text: *b"     : 48 kbit/s",
-        spaces: 5,
-    },
-    RateText {
-        text: *b"     : 56 kbit/s",
-        spaces: 5,
-    },
-    RateText {
-        text: *b"     : 64 kbit/s",
-        spaces: 5,
-    },
-    RateText {
-        text: *b"     : 80 kbit/s",
-        spaces: 5,
-    },
-    RateText {
-        text: *b"     : 96 kbit/s",
-        spaces: 5,
-    },
-    RateText {
-        text: *b"    : 112 kbit/s",
-        spaces: 4,
-    },
-    RateText {
-        text: *b"    : 128 kbit/s",
-        spaces: 4,
-    },
-    RateText {
-        text: *b"    : 144 kbit/s",
-        spaces: 4,
-    },
-    RateText {
-        text: *b"    : 160 kbit/s",
-        spaces: 4,
-    },
+    rate_text!(6 b"      : 8 kbit/s"),
+    rate_text!(5 b"     : 16 kbit/s"),
+    rate_text!(5 b"     : 24 kbit/s"),
+    rate_text!(5 b"     : 32 kbit/s"),
+    rate_text!(5 b"     : 40 kbit/s"),
+    rate_text!(5 b"     : 48 kbit/s"),
+    rate_text!(5 b"     : 56 kbit/s"),
+    rate_text!(5 b"     : 64 kbit/s"),
+    rate_text!(5 b"     : 80 kbit/s"),
+    rate_text!(5 b"     : 96 kbit/s"),
+    rate_text!(4 b"    : 112 kbit/s"),
+    rate_text!(4 b"    : 128 kbit/s"),
+    rate_text!(4 b"    : 144 kbit/s"),
+    rate_text!(4 b"    : 160 kbit/s"),
 ];
 
 // The text of the bit rate for this index.
