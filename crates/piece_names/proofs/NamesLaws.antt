@@ -1,8 +1,8 @@
 -- The names of pieces, byte for byte.
-use Rattle.std.proofs.Common.{◌≡◌, ℕ, ◌+◌, ◌<◌, Bool, true, false, List, ◌++◌, length, take, drop, get_or, sym, ◌∙◌, ap, ap₂, bytes_eq, arith}
+use Rattle.std.proofs.Common.{◌≡◌, ℕ, ◌+◌, ◌<◌, Bool, true, false, List, ◌++◌, length, take, drop, get_or, flat_map, refl, sym, ◌∙◌, ap, ap₂, bytes_eq, arith}
 use Rattle.std.specs.Bool.{one_answer}
 use Rattle.std.proofs.Math.Seq.{take-append_seam, drop-append_seam}
-use Rattle.std.proofs.lemmas.List.{take-append-drop}
+use Rattle.std.proofs.lemmas.List.{take-append-drop, drop_more}
 use Rattle.std.proofs.lemmas.List.FromFn.{length-map-range_with_len, get_or-map-range_with_len}
 use Rattle.std.proofs.lemmas.Slice.Eq.{bytes_eq-Decides}
 use Rattle.piece_names.specs.Names.{piece_name, piece_names}
@@ -22,6 +22,27 @@ back-decides front back name prefix tail r front_is back_is same is =
     tested name (prefix ++ tail) r
     (λ e. sym (take-append-drop (length prefix) name) ∙ ap₂ (λ xs ys. xs ++ ys) (sym front_is ∙ (bytes_eq-Decides front prefix).0 same) (sym back_is ∙ (bytes_eq-Decides back tail).0 (sym is ∙ e)))
     (λ e. is ∙ (bytes_eq-Decides back tail).1 (back_is ∙ ap (drop (length prefix)) e ∙ drop-append_seam prefix tail))
+
+-- ---- a name in many parts, of which a text more is read from the rest of it
+
+module _ {X : Type 0} (f : X → List ℕ) (xs : List X) (i : ℕ) (d : X) (within : i < length xs) (text rest : List ℕ)
+    (is : text ≡ f (get_or xs i d)) (was : Bool) (before : was ≡ bytes_eq rest (flat_map f (drop i xs))) where
+  abbrev more : List ℕ
+  more = flat_map f (drop (i + 1) xs)
+
+  left : flat_map f (drop i xs) ≡ text ++ more
+  left = ap (flat_map f) (drop_more xs i d within) ∙ ap (λ (l : List ℕ). l ++ more) (sym is)
+
+  pub joined-other : bytes_eq (take (length text) rest) text ≡ false → false ≡ was
+  joined-other differ =
+      front-is_other (take (length text) rest) rest text more refl differ ∙ ap (bytes_eq rest) (sym left) ∙ sym before
+
+  pub joined-more : (behind : List ℕ) → bytes_eq (take (length text) rest) text ≡ true → behind ≡ drop (length text) rest
+      → was ≡ bytes_eq behind (flat_map f (drop (i + 1) xs))
+  joined-more behind same behind_is =
+      before
+      ∙ ap (bytes_eq rest) left
+      ∙ sym (back-decides (take (length text) rest) behind rest text more (bytes_eq behind more) refl behind_is same refl)
 
 -- ---- all names
 

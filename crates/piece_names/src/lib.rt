@@ -3,4 +3,4 @@
 
 mod names;
 
-pub use names::{is_piece_name, piece_name};
+pub use names::{is_piece_name, name_parts, piece_name};

@@ -1,5 +1,5 @@
 //! The names of pieces.
-ghost use Rattle.std.specs.Prelude.{◌≡◌, ◌<◌, ◌≤◌, IfOk, ◌+◌, ◌/◌, ◌%◌, ◌++◌, string_bytes, bytes_eq};
+ghost use Rattle.std.specs.Prelude.{◌≡◌, ◌<◌, ◌≤◌, IfOk, ◌+◌, [], ◌∷◌, flat_map, string_bytes, bytes_eq};
 ghost use Rattle.std.specs.List.{list_any};
 ghost use Rattle.piece_names.specs.Names.{piece_name as piece_name_lem, piece_names};
 
@@ -8,21 +8,24 @@ use std::alloc::{AllocError, Global};
 /// How many names a prefix can give: the number of a piece has two digits, from 01 on.
 const MOST_PIECES: u8 = 99;
 
-/// The digit of the tens.
-fn tens(number: u8) -> u8
-    requires { number ≤ 99 }
-    ensures digit { result ≡ 48 + number / 10 }
-    ensures ascii { result < 128 }
+/// The decimal digits.
+static DIGITS: [&str; 10] = ["0", "1", "2", "3", "4", "5", "6", "7", "8", "9"];
+
+/// A number below 10 as a digit.
+fn digit<'a>(number: u8) -> &'a str
+    requires { number < 10 }
+    ensures { result.now ≡ (48 + number) ∷ [] }
 {
-    b'0' + number / 10
+    DIGITS[usize::from(number)]
 }
 
-/// The digit of the ones.
-fn ones(number: u8) -> u8
-    ensures digit { result ≡ 48 + number % 10 }
-    ensures ascii { result < 128 }
+/// The name of the piece with this number, which is at most 99, as texts to be put one after another.
+/// It takes no memory.
+pub fn name_parts<'a>(prefix: &'a str, number: u8) -> [&'a str; 4]
+    requires { number ≤ 99 }
+    ensures { flat_map (λ part. part.now) result ≡ piece_name_lem prefix.now number }
 {
-    b'0' + number % 10
+    [prefix, digit(number / 10), digit(number % 10), ".mp3"]
 }
 
 /// The name of the piece with this number, which is at most 99. An error where there is no memory.
@@ -30,35 +33,29 @@ pub fn piece_name(alloc: Global, prefix: &str, number: u8) -> Result<String, All
     requires { number ≤ 99 }
     ensures { IfOk result (λ name. string_bytes name ≡ piece_name_lem prefix.now number) }
 {
-    let mut name = String::from_str(alloc, prefix)?;
-    name.push(char::from(tens(number)))?;
-    name.push(char::from(ones(number)))?;
-    name.push_str(".mp3")?;
-    Ok(name)
+    name_parts(prefix, number).concat(alloc)
 }
 
-/// Whether the name is the prefix with the tail after it.
-fn is_joined(name: &[u8], prefix: &[u8], tail: &[u8]) -> bool
-    ensures { result ≡ bytes_eq name.now (prefix.now ++ tail.now) }
+/// Whether the name is these texts, one after another.
+fn is_joined(name: &[u8], parts: &[&str]) -> bool
+    ensures { result ≡ bytes_eq name.now (flat_map (λ part. part.now) parts.now) }
 {
-    if name.len() < prefix.len() {
-        return false;
+    let mut rest = name;
+    for part in parts {
+        match rest.strip_prefix(part.as_bytes()) {
+            Some(behind) => rest = behind,
+            None => return false,
+        }
     }
-    let (front, back) = name.split_at(prefix.len());
-    if front != prefix {
-        return false;
-    }
-    back == tail
+    rest.is_empty()
 }
 
 /// Whether this is the name of the piece with this number.
-#[tactic(auto, unfolding(crate::specs::Names::piece_name))]
 fn is_name_of(prefix: &str, number: u8, name: &str) -> bool
     requires { number ≤ 99 }
     ensures { result ≡ bytes_eq name.now (piece_name_lem prefix.now number) }
 {
-    let tail = [tens(number), ones(number), b'.', b'm', b'p', b'3'];
-    is_joined(name.as_bytes(), prefix.as_bytes(), &tail)
+    is_joined(name.as_bytes(), &name_parts(prefix, number))
 }
 
 /// Whether this is the name of a piece, however many there are. It takes no memory.

@@ -1,12 +1,12 @@
 //! Lines as lists of parts, and how they are sent.
 ghost use Rattle.std.specs.Prelude.{◌≡◌, ◌≤◌, ◌<◌, ◌+◌, ◌%◌, ◌++◌, ◌∷◌, [], OnOk, OnErr, length, map, flat_map};
-ghost use Rattle.piece_names.specs.Names.{piece_name as piece_name_lem};
 ghost use Rattle.program_texts.specs.Lines.{hex_digit as hex_digit_lem, hex_word, Text, Number, Name, spelled_part, spelled, part_of};
 ghost use Rattle.program_texts.specs.Texts.{GotWhole, GotFront, GotLine};
 
 use arrayvec::ArrayVec;
 use itoa::Buffer;
 use outside::{Failed, Sink, send_all};
+use piece_names::name_parts;
 
 /// A part of a line.
 #[derive(Clone, Copy)]
@@ -119,26 +119,6 @@ fn hex_digits<'a>(word: u16) -> [&'a str; 4]
     ]
 }
 
-// A number below 10 as a digit.
-fn digit<'a>(number: u32) -> &'a str
-    requires { number < 10 }
-    ensures { result.now ≡ (48 + number) ∷ [] }
-{
-    HEX_DIGITS[number as usize]
-}
-
-// The name of a split's piece, as four texts, by the last two digits of its number.
-fn piece_name<'a>(prefix: &'a str, number: u32) -> [&'a str; 4]
-    ensures { flat_map (λ part. part.now) result ≡ piece_name_lem prefix.now (number % 100) }
-{
-    [
-        prefix,
-        digit(number % 100 / 10),
-        digit(number % 100 % 10),
-        ".mp3",
-    ]
-}
-
 // Sends a part.
 fn send_part<T: Sink>(sink: &mut T, part: &Part) -> Result<(), Failed>
     ensures whole { OnOk result (GotWhole (T.heard sink.old).sent (T.heard sink.new).sent
@@ -152,7 +132,9 @@ fn send_part<T: Sink>(sink: &mut T, part: &Part) -> Result<(), Failed>
         Part::Number(number) => send_text(sink, &[Buffer::new().format(number)]),
         Part::Signed(number) => send_text(sink, &[Buffer::new().format(number)]),
         Part::Hexadecimal(word) => send_text(sink, &hex_digits(word)),
-        Part::PieceName(prefix, number) => send_text(sink, &piece_name(prefix, number)),
+        Part::PieceName(prefix, number) => {
+            send_text(sink, &name_parts(prefix, (number % 100) as u8))
+        }
     }
 }
 

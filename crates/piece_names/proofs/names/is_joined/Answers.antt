@@ -1,14 +1,15 @@
--- By its prefix and what is after it.
-use Rattle.std.proofs.Common.{◌≡◌, true, false, bytes_eq, rules}
-use Rattle.piece_names.proofs.NamesLaws.{front-is_other, back-decides}
+-- A text that the rest begins with, and one that it doesn't.
+use Rattle.std.proofs.Common.{[]}
+use Rattle.piece_names.proofs.NamesLaws.{joined-other, joined-more}
 use Rattle.piece_names.proofs.names.is_joined.Goals as goal
 
-pub returns-then-ne : goal.returns-then-ne
-returns-then-ne c =
-    let differ : bytes_eq c.split_at.result.0.now c.args.prefix.now ≡ false = search rules in
-    front-is_other c.split_at.result.0.now c.args.name.now c.args.prefix.now c.args.tail.now c.split_at.ensures.front differ
+pub returns-in-None : goal.returns-in-None
+returns-in-None c =
+    joined-other (λ part. part.now) c.args.parts.now c.loop-part.part-index (record { ref_ptr = (0, 0); now = [] }) c.loop-part-test.true
+    c.as_bytes.result.now c.loop-part.rest.now c.as_bytes.ensures.value _ c.loop-part.invariant c.in-None.ensures.cases
 
-pub returns : goal.returns
-returns c =
-    let same : bytes_eq c.split_at.result.0.now c.args.prefix.now ≡ true = search rules in
-    back-decides c.split_at.result.0.now c.split_at.result.1.now c.args.name.now c.args.prefix.now c.args.tail.now c.eq.result c.split_at.ensures.front c.split_at.ensures.back same c.eq.ensures
+pub loop-part-preserved : goal.loop-part-preserved
+loop-part-preserved c =
+    joined-more (λ part. part.now) c.args.parts.now c.loop-part.part-index (record { ref_ptr = (0, 0); now = [] }) c.loop-part-test.true
+    c.as_bytes.result.now c.loop-part.rest.now c.as_bytes.ensures.value _ c.loop-part.invariant
+    c.in-Some.behind.now c.in-Some.ensures.cases.0 c.in-Some.ensures.cases.1

@@ -1,8 +1,7 @@
--- The parts are the name and what is after it.
-use Rattle.std.proofs.Common.{refl}
-use Rattle.std.proofs.lemmas.List.{append-nil}
+-- The prefix, the digits and the ending.
+use Rattle.std.proofs.Common.{refl, append-nil}
 use Rattle.piece_names.specs.Names.{piece_name}
-use Rattle.program_texts.proofs.parts.piece_name.Goals as goal
+use Rattle.piece_names.proofs.names.name_parts.Goals as goal
 
 pub returns : goal.returns
 unfolding piece_name
