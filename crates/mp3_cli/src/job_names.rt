@@ -45,9 +45,10 @@ pub(crate) fn inputs_of<'a>(job: &Job<'a>) -> ArrayVec<&'a str, 64>
         | Job::Gain { input, .. }
         | Job::Undo { input, .. }
         | Job::Cut { input, .. }
-        | Job::Pack { input, .. }
         | Job::SplitAt { input, .. }
         | Job::Salvage { input, .. } => names(&[input]),
+        // An arm of its own, since its proof goes by the modes.
+        Job::Pack { input, .. } => names(&[input]),
         Job::SplitBy { input, sheet, .. } | Job::Fade { input, sheet, .. } => {
             names(&[input, sheet])
         }
