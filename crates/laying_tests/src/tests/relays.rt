@@ -2,10 +2,9 @@
 //! 381 (ISO/IEC 11172-3, 2.4.3.1), a lead-in at 32 kbit/s 104 and an area of 68.
 ghost use Rattle.std.specs.Prelude.{◌<◌};
 
-use laying::{Buffers, Relay, Section, asked_plans, plans_fit};
+use frame_edits::{Chosen, Slots, plan_file};
+use laying::{Buffers, Kept, Relay};
 use outside::{Folder, MemFolder, Pass, PassFault};
-use part_needs::{Parts, one_part_fits};
-use slot_plan::{Keep, plan};
 use std::alloc::{AllocError, AllocGlobal, Global};
 use std::process::Abort;
 use std::test::Fail;
@@ -30,9 +29,22 @@ const BLOCKS: &[Stretch] = &end_to_end! {
     SHORT_BLOCK, ID3V1, LAST_REST
 };
 
-/// The same blocks, around four bytes in place of an Info frame and the first frame, whose area has zeros after its main data.
+/// The header of an Info frame: of the bit rates 64 kbit/s is the lowest whose frames, of 208 bytes, hold its 192 bytes.
+const INFO_HEADER: Stretch = Bytes(&[0xff, 0xfb, 0x50, 0x00]);
+
+/// The text of the Info frame of one frame at byte 36, that all four fields are there, how many frames follow, and how many bytes there
+/// are with the Info frame: 208 and 417.
+const ONE_FRAME: Stretch = Bytes(b"Info\x00\x00\x00\x0f\x00\x00\x00\x01\x00\x00\x02\x71");
+
+/// The same of a lead-in and a frame, 208, 104 and 417 bytes, whose bit rates differ.
+const TWO_FRAMES: Stretch = Bytes(b"Xing\x00\x00\x00\x0f\x00\x00\x00\x02\x00\x00\x02\xd9");
+
+/// The same blocks, around an Info frame and the first frame, whose area has zeros after its main data. The seek table has where the
+/// frame begins, in 256ths of all bytes: 208 * 256 / 625 is 85.
 const FIRST: &[Stretch] = &end_to_end! {
-    LONG_BLOCK, Fill(0x44, 3000), Fill(0x55, 4000), Bytes(b"info"), OF_300, Fill(0x11, 300), Fill(0, 81),
+    LONG_BLOCK, Fill(0x44, 3000), Fill(0x55, 4000),
+    INFO_HEADER, Fill(0, 32), ONE_FRAME, Fill(85, 100), Fill(0, 56),
+    OF_300, Fill(0x11, 300), Fill(0, 81),
     SHORT_BLOCK, ID3V1, LAST_REST
 };
 
@@ -43,26 +55,27 @@ const TWO: &[Stretch] = &end_to_end! {
     OF_400, Fill(0x22, 319), Fill(0x33, 62)
 };
 
-/// The second frame alone: 68 of its bytes are in the lead-in's area, and the other 332 in its own.
+/// The second frame alone: 68 of its bytes are in the lead-in's area, and the other 332 in its own. The lead-in begins at 208 * 256 / 729,
+/// which is 73, and the frame at 312 * 256 / 729, which is 109.
 const SECOND: &[Stretch] = &end_to_end! {
+    INFO_HEADER, Fill(0, 32), TWO_FRAMES, Fill(73, 50), Fill(109, 50), Fill(0, 56),
     Filled(&[0xff, 0xfb, 0x10, 0x00], 0, 32), Fill(0x22, 68),
     Filled(&[0xff, 0xfb, 0x90, 0x00, 0x22, 0x00, 0x0c, 0x80], 0, 28), Fill(0x22, 332), Fill(0, 49)
 };
 
-/// A file of two frames, which of them is laid, the bytes in place of an Info frame, and the output with its length.
+/// A file of two frames, which of them is laid, and the output with its length.
 struct Case {
     name: &'static str,
     input: &'static [Stretch],
     frame: usize,
-    info: &'static [u8],
     output: &'static [Stretch],
     length: u64,
 }
 
 static CASES: [Case; 2] = table! {
-    Case { name, input, frame, info, output, length }
-    ("the first frame between blocks", BLOCKS, 0, b"info", FIRST, 7573)
-    ("the second frame alone", TWO, 1, b"", SECOND, 521)
+    Case { name, input, frame, output, length }
+    ("the first frame between blocks", BLOCKS, 0, FIRST, 7777)
+    ("the second frame alone", TWO, 1, SECOND, 729)
 };
 
 /// Lays one of two frames, in its own slot.
@@ -71,7 +84,6 @@ fn lay_frame<R: Abort + AllocGlobal, D: Folder>(
     rt: &R,
     folder: &mut D,
     frame: usize,
-    info: &[u8],
 ) -> Result<Result<(), PassFault>, AllocError>
     requires one { frame < 2 }
 {
@@ -81,14 +93,14 @@ fn lay_frame<R: Abort + AllocGlobal, D: Folder>(
     let Ok(survey) = survey(rt.alloc(), folder, "a", 2) else {
         panic!(rt; "no survey");
     };
-    let rows = survey.frames();
-    assert!(rt; rows.len() == 2);
-    let mut parts = Parts::new(rt.alloc());
-    parts.push(&rows[frame..frame + 1])?;
-    one_part_fits();
-    asked_plans();
-    plans_fit();
-    let plan = plan(rt.alloc(), parts.needs(), parts.places(), &Keep)?;
+    assert!(rt; survey.frames().len() == 2);
+    let chosen = Chosen {
+        from: frame,
+        to: frame + 1,
+        slots: Slots::Own,
+        kept: Kept::none(),
+    };
+    let selected = plan_file(rt.alloc(), &survey, &chosen)?;
     let mut buffers = Buffers::new(rt.alloc(), survey.class())?;
     let pass = Pass {
         input: "a",
@@ -99,13 +111,7 @@ fn lay_frame<R: Abort + AllocGlobal, D: Folder>(
         pass,
         survey: &survey,
     };
-    let section = Section {
-        from: frame,
-        to: frame + 1,
-        placed: plan.placed(),
-        info,
-    };
-    Ok(relay.write(folder, &section, &mut buffers))
+    Ok(relay.write(folder, &selected, &mut buffers))
 }
 
 /// Puts the input as `a`, and room for the output `b`.
@@ -128,11 +134,7 @@ fn expect_output<R: Abort + AllocGlobal>(
 ) -> Result<(), AllocError> {
     put_files(rt.alloc(), folder, case)?;
     assert!(rt; case.frame < 2);
-    assert!(rt;
-        lay_frame(rt, folder, case.frame, case.info)?.is_ok(),
-        "{}",
-        case.name
-    );
+    assert!(rt; lay_frame(rt, folder, case.frame)?.is_ok(), "{}", case.name);
     assert!(rt; is_output(rt.alloc(), folder, case)?, "{}", case.name);
     Ok(())
 }
