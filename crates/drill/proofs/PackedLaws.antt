@@ -27,17 +27,18 @@ use Rattle.laid_files.specs.LaidFiles.{entry_of}
 use Rattle.laid_files.proofs.LaidFrames.{rows-length}
 use Rattle.laying.specs.Relaid.{stream_in, with_lead_ins, left_behind}
 use Rattle.laying.proofs.ChosenFrames.{survey-had}
-use Rattle.laying.specs.Fits.{reach_behind, FitsFrom}
+use Rattle.laying.specs.Fits.{reach_behind, FitsFrom, IsFitting}
 use Rattle.laying.specs.Written.{head_info}
 use Rattle.laying.proofs.PlacesLaws.{range-whole}
 use Rattle.commands.specs.declared.fault.EditFault.{EditFault}
 use Rattle.commands.specs.Command.{Output, Made, written}
-use Rattle.commands.specs.One.{most_frames, made_where, unless_clash, clash_in, made_result, made_of}
+use Rattle.commands.specs.One.{Making, most_frames, made_where, unless_clash, clash_in, made_result, made_of}
 use Rattle.commands.specs.Said.{IsText, SaysAll, SaysPrefix}
 use Rattle.commands.proofs.InputLaws.{made-survey}
-use Rattle.frame_edits.specs.declared.chosen.Slots.TheVariants.{Least}
-use Rattle.frame_edits.specs.Chosen.{Chosen, chosen_rows, plan_of, part_of, chosen_file, chosen_stream, laid_with, choosing, chosen_with, all_choice, chosen_task, pack_refuses, pack_command}
-use Rattle.frame_edits.proofs.ChosenLaws.{IsRight, the-plan, plan-fitting, chosen-holds, all_right}
+use Rattle.laying.specs.Laid.{Laid, file_laid, stream_laid}
+use Rattle.frame_edits.specs.Chosen.{Chosen, chosen_rows, needs_of, first_plan, part_of, laid_by, first_planning, laying_with, laying_task, chosen_with, all_choice, pack_refuses, pack_command}
+use Rattle.frame_edits.proofs.ChosenLaws.{IsRight, the-plan, plan-fitting, laying-is, all_right}
+use Rattle.laying.proofs.LaidLaws.{laid-holds}
 use Rattle.drill_stream.specs.Drill.{drill_header, frame_at, drill_frames, drill_stream}
 use Rattle.drill_stream.specs.Laws.{drill_fields, drill_needs}
 use Rattle.drill_stream.specs.declared.summary.Summary.{Summary}
@@ -82,7 +83,7 @@ survey-length file allowed s e = sym (ap (λ (t : SurveyFields). t.length) (surv
 inside : (n : ℕ) → 0 < n → (nat_lt 0 n && nat_le n n) ≡ true
 inside n some = search rules
 
-all-chosen : (quality : Option ℕ) (extension : List ℕ) (n : ℕ) → 0 < n → chosen_with quality extension 0 n Least n ≡ Ok (record { from = 0; to = n; slots = Least; quality = quality; extension = extension })
+all-chosen : (quality : Option ℕ) (extension : List ℕ) (n : ℕ) → 0 < n → chosen_with quality extension 0 n n ≡ Ok (record { from = 0; to = n; quality = quality; extension = extension })
 all-chosen quality extension n some = rw (inside n some) refl
 
 abbrev outputs_in : Result Made EditFault → List Output
@@ -118,19 +119,29 @@ module _ (seed count : ℕ) (some : 0 < count) (few : count ≤ 20000) where
   rows-many = rows-length 0 (drill_frames seed count) ∙ frames-many
 
   abbrev all : Chosen
-  all = record { from = 0; to = length told.frames; slots = Least; quality = (head_info file told.head).quality; extension = (head_info file told.head).extension }
+  all = record { from = 0; to = length told.frames; quality = (head_info file told.head).quality; extension = (head_info file told.head).extension }
 
-  choice-is : all_choice Least file told ≡ Ok all
+  choice-is : all_choice file told ≡ Ok all
   unfolding all_choice
   choice-is = all-chosen (head_info file told.head).quality (head_info file told.head).extension (length told.frames) (omega (arith, some, rows-many))
 
   right : IsRight all told
-  right = all_right Least file told all choice-is
+  right = all_right file told all choice-is
 
-  made-is : packing_of seed count ≡ Ok (chosen_file all file told)
-  made-is = made-survey (choosing (all_choice Least)) file told is-surveyed ∙ ap (laid_with file told) choice-is
+  -- its frames in the slots of their plan
+  abbrev plan_all : List Placed
+  plan_all = first_plan any_choice told.class (needs_of all told)
 
-  packed-is : packed_file seed count ≡ chosen_file all file told
+  abbrev laid : Laid
+  laid = laid_by all plan_all
+
+  abbrev make : Making
+  make = laying_with all_choice (first_planning any_choice)
+
+  made-is : packing_of seed count ≡ Ok (file_laid laid file told)
+  made-is = made-survey make file told is-surveyed ∙ laying-is all_choice (first_planning any_choice) file told all (Ok plan_all) choice-is refl
+
+  packed-is : packed_file seed count ≡ file_laid laid file told
   unfolding packed_file
   packed-is = ap file_in made-is
 
@@ -140,13 +151,13 @@ module _ (seed count : ℕ) (some : 0 < count) (few : count ≤ 20000) where
   rows-whole : chosen_rows all told ≡ told.frames
   rows-whole = range-whole told.frames
 
-  plan-same : plan_of all told ≡ packed_plan seed count
+  plan-same : plan_all ≡ packed_plan seed count
   plan-same = ap (λ (rows : List Row). least_plan (window_of drill_header.version) any_choice (map need_of rows ∷ [])) rows-whole
 
   is-plan : IsPlan (window_of drill_header.version) any_choice (drill_needs seed count ∷ []) (packed_plan seed count)
   is-plan =
       subst (λ (rows : List Row). IsPlan (window_of drill_header.version) any_choice (map need_of rows ∷ []) (least_plan (window_of drill_header.version) any_choice (map need_of rows ∷ []))) rows-whole
-      (the-plan all told placed right.some right.within)
+      (the-plan all told placed right.some right.within any_choice (inr refl))
 
   pub none-led : All (λ p. p.lead_in ≡ false) (packed_plan seed count)
   none-led = streams-need_no_lead_in seed count any_choice (packed_plan seed count) (Contains-all_slots drill_header.slot (search rules)) is-plan
@@ -162,10 +173,12 @@ module _ (seed count : ℕ) (some : 0 < count) (few : count ≤ 20000) where
       let same : length told.frames ≡ length drawn = rows-many ∙ sym drawn-many in
       ap (λ (l : List StreamFrame). slice_range l 0 (length told.frames)) stream-is ∙ ap (λ (n : ℕ). slice_range drawn 0 n) same ∙ range-whole drawn
 
-  packed-stream : chosen_stream all file told ≡ drawn
-  unfolding chosen_stream
+  fitting : IsFitting (window_of told.class.version) (needs_of all told) plan_all
+  fitting = plan-fitting all told placed right.some right.within any_choice (inr refl)
+
+  packed-stream : stream_laid laid file told ≡ drawn
   packed-stream =
-      same-stream (window_of told.class.version) 0 (map need_of (chosen_rows all told)) (plan_of all told) (stream_in (part_of all file told)) (plan-fitting all told placed right.some right.within).fits
+      same-stream (window_of told.class.version) 0 (needs_of all told) plan_all (stream_in (part_of all file told)) fitting.fits
       (subst (λ (l : List Placed). All (λ p. p.lead_in ≡ false) l) (sym plan-same) none-led)
       (length-map (chosen_rows all told) need_of ∙ ap length rows-whole ∙ rows-many ∙ sym (ap length part-stream ∙ drawn-many))
       ∙ part-stream
@@ -173,7 +186,7 @@ module _ (seed count : ℕ) (some : 0 < count) (few : count ≤ 20000) where
   pub is-packed : IsPacked seed count
   is-packed = record {
     made = made-is ∙ ap Ok (sym packed-is);
-    holds = subst (λ (l : List ℕ). HoldsStream l drawn) (sym packed-is) (subst (HoldsStream (chosen_file all file told)) packed-stream (chosen-holds all file told (survey-had file most_frames told is-surveyed) right.some right.within right.extension));
+    holds = subst (λ (l : List ℕ). HoldsStream l drawn) (sym packed-is) (subst (HoldsStream (file_laid laid file told)) packed-stream (laid-holds laid file told (survey-had file most_frames told is-surveyed) right.some right.within fitting right.extension));
   }
 
   -- how many frames a survey finds in it
@@ -189,12 +202,12 @@ module _ (seed count : ℕ) (some : 0 < count) (few : count ≤ 20000) where
   unfolding made_result
   packed-there stream packed f new there done =
       let bytes = packed_file seed count in
-      subst (λ (files : Files). Holds files packed bytes) (sym (done.2 ∙ ap (λ (outputs : List Output). Told (written outputs f)) (outputs (clash_in (chosen_task (all_choice Least) pack_refuses stream) packed) done.0 done.1)))
+      subst (λ (files : Files). Holds files packed bytes) (sym (done.2 ∙ ap (λ (outputs : List Output). Told (written outputs f)) (outputs (clash_in (laying_task all_choice (first_planning any_choice) pack_refuses stream) packed) done.0 done.1)))
       (with_file_here f packed bytes)
     where
-      outputs : (clash : Option ℕ) (made : Made) → made_of packed (unless_clash clash (made_where (choosing (all_choice Least)) (f stream))) ≡ Ok made → made.outputs ≡ record { name = packed; bytes = packed_file seed count } ∷ []
+      outputs : (clash : Option ℕ) (made : Made) → made_of packed (unless_clash clash (made_where make (f stream))) ≡ Ok made → made.outputs ≡ record { name = packed; bytes = packed_file seed count } ∷ []
       outputs (Some place) made e = absurd cc
-      outputs None made e = sym (ap outputs_in (sym (ap (made_of packed) (ap (made_where (choosing (all_choice Least))) there ∙ is-packed.made)) ∙ e))
+      outputs None made e = sym (ap outputs_in (sym (ap (made_of packed) (ap (made_where make) there ∙ is-packed.made)) ∙ e))
 
 pub packed-length : (file : List ℕ) (t : SurveyFields) → survey_of file most_frames ≡ Ok t → t.length ≡ length file
 packed-length file t e = survey-length file most_frames t (survey_of-parts file most_frames t e).1

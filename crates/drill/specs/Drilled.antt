@@ -8,8 +8,7 @@ use Rattle.commands.specs.declared.fault.EditFault.{EditFault}
 use Rattle.commands.specs.declared.fault.EditFault.TheVariants.{Sent as NotSent, Memory}
 use Rattle.commands.specs.Command.{Command}
 use Rattle.commands.specs.One.{made_file}
-use Rattle.frame_edits.specs.declared.chosen.Slots.TheVariants.{Least}
-use Rattle.frame_edits.specs.Chosen.{choosing, all_choice}
+use Rattle.frame_edits.specs.Chosen.{first_planning, laying_with, all_choice}
 use Rattle.drill_stream.specs.declared.summary.Summary.{Summary}
 use Rattle.drill_stream.specs.Drill.{drill_header, drill_stream}
 use Rattle.drill_stream.specs.Laws.{drill_needs}
@@ -17,7 +16,7 @@ use Rattle.drill_stream.specs.Summary.{summary_text}
 
 -- what the packing with the least slots makes of the stream
 abbrev pub packing_of : ℕ → ℕ → Result (List ℕ) EditFault
-packing_of seed count = made_file (choosing (all_choice Least)) (drill_stream seed count)
+packing_of seed count = made_file (laying_with all_choice (first_planning any_choice)) (drill_stream seed count)
 
 abbrev pub file_in : Result (List ℕ) EditFault → List ℕ
 file_in (Ok file) = file

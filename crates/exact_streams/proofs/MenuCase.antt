@@ -1,7 +1,6 @@
--- A packing whose slots are of some bit rates, or take the fewest bytes.
-use Rattle.std.proofs.Common.{◌≡◌, ℕ, Bool, true, false, List, [], ◌∷◌, length, map, Ok, refl, sym, ◌∙◌, ap, subst, arith}
+-- A packing, in each of its modes.
+use Rattle.std.proofs.Common.{◌≡◌, ℕ, Bool, true, false, List, [], ◌∷◌, length, Ok, refl, sym, ◌∙◌, ap, subst, inr, arith}
 use Rattle.std.specs.Prelude.{◌<◌, ◌≤◌}
-use Rattle.std.proofs.lemmas.List.{length-map}
 use Rattle.frame_header.specs.Fields.{SlotFields, ClassFields, IsClass}
 use Rattle.frame_header.specs.Tables.{class_of, window_of}
 use Rattle.frame_header.specs.Slots.{all_slots}
@@ -9,7 +8,6 @@ use Rattle.slot_plan.specs.declared.needs.Need.{Need}
 use Rattle.slot_plan.specs.declared.needs.Placed.{Placed}
 use Rattle.slot_plan.specs.Parts.{lead_in_of, AreOfClass}
 use Rattle.slot_plan.specs.Plans.{AreFor}
-use Rattle.part_needs.specs.Needs.{need_of}
 use Rattle.part_needs.specs.Fit.{any_choice, IsPlaced}
 use Rattle.best_plan.specs.Best.{items_behind}
 use Rattle.rate_plan.specs.Menus.{from_menu, items_from, IsMenuPlan}
@@ -21,34 +19,33 @@ use Rattle.sync_survey.specs.Survey.{survey_of}
 use Rattle.sync_survey.proofs.PlacedRows.{surveyed-placed}
 use Rattle.sync_survey.proofs.SurveyedFiles.{survey_of-parts}
 use Rattle.laying.specs.Relaid.{stream_in, with_lead_ins}
+use Rattle.laying.proofs.ChosenFrames.{survey-had}
 use Rattle.commands.specs.One.{most_frames}
 use Rattle.commands.specs.Refusing.{unless}
 use Rattle.commands.proofs.RefusingLaws.{unless_ok, then_ok}
-use Rattle.frame_edits.specs.Chosen.{Chosen, chosen_rows, part_of}
-use Rattle.packing.specs.declared.mode.Rates.{Rates}
-use Rattle.packing.specs.declared.mode.Rule.{Rule}
-use Rattle.packing.specs.declared.mode.Rule.TheVariants.{Rates as ByRates, Best}
-use Rattle.packing.specs.Packing.{needs_of}
+use Rattle.frame_edits.specs.Chosen.{Chosen, needs_of, first_plan, part_of}
+use Rattle.pack_mode.specs.declared.mode.PackMode.{PackMode}
+use Rattle.pack_mode.specs.declared.mode.PackMode.TheVariants.{Least, Best, Constant, Floor}
 use Rattle.packing.specs.Rates.{menu_in, no_rate, fitted, rates_plan}
-use Rattle.packing.specs.Rules.{plan_by}
+use Rattle.packing.specs.Modes.{plan_by}
 use Rattle.packing.proofs.BestLaws.{best-is}
 use Rattle.packing.proofs.MenuLaws.{menu-ascends, menu-some}
-use Rattle.packing.proofs.PlanLaws.{rows-some, rows-same, rows-sound, fitted-ok}
+use Rattle.packing.proofs.PlanLaws.{rows-same, rows-sound, needs-some, fitted-ok}
 use Rattle.exact_streams.specs.Exact.{IsExactly}
 use Rattle.exact_streams.specs.Laws.{PackedStreamsAreExact}
 use Rattle.exact_streams.proofs.ExactLaws.{IsSized, part-sized, own-exact, led-exact}
-use Rattle.exact_streams.proofs.CaseLaws.{chosen-part, own-stream}
+use Rattle.exact_streams.proofs.CaseLaws.{had-exact, chosen-part, own-stream}
 
 -- ---- the plan from a menu
 
-rates-menu : (rates : Rates) (class : ClassFields) (needs : List Need) (placed : List Placed) → IsClass class → AreOfClass class needs → 1 ≤ length needs → rates_plan rates class needs ≡ Ok placed
-    → IsMenuPlan (window_of class.version) (menu_in rates class) needs placed
-rates-menu rates class needs placed sound same some planned =
+rates-menu : (mode : PackMode) (class : ClassFields) (needs : List Need) (placed : List Placed) → IsClass class → AreOfClass class needs → 1 ≤ length needs → rates_plan mode class needs ≡ Ok placed
+    → IsMenuPlan (window_of class.version) (menu_in mode class) needs placed
+rates-menu mode class needs placed sound same some planned =
     let window = window_of class.version in
-    let made = then_ok (unless (no_rate rates class) (menu_in rates class)) (λ menu. fitted (least_menu_plan window menu needs)) placed planned in
-    let ok = unless_ok (no_rate rates class) (menu_in rates class) made.0 made.1 in
-    let is : least_menu_plan window (menu_in rates class) needs ≡ Ok placed = fitted-ok (least_menu_plan window (menu_in rates class) needs) placed (ap (λ menu. fitted (least_menu_plan window menu needs)) ok.1 ∙ made.2) in
-    ((least_menu_plan-is window class (menu_in rates class) needs same some (menu-ascends rates class sound) (menu-some rates class ok.0)).0 placed).1 is
+    let made = then_ok (unless (no_rate mode class) (menu_in mode class)) (λ menu. fitted (least_menu_plan window menu needs)) placed planned in
+    let ok = unless_ok (no_rate mode class) (menu_in mode class) made.0 made.1 in
+    let is : least_menu_plan window (menu_in mode class) needs ≡ Ok placed = fitted-ok (least_menu_plan window (menu_in mode class) needs) placed (ap (λ menu. fitted (least_menu_plan window menu needs)) ok.1 ∙ made.2) in
+    ((least_menu_plan-is window class (menu_in mode class) needs same some (menu-ascends mode class sound) (menu-some mode class ok.0)).0 placed).1 is
 
 -- ---- its stream
 
@@ -74,15 +71,24 @@ module _ (chosen : Chosen) (file : List ℕ) (s : SurveyFields) (is : survey_of 
   sized : IsSized (needs_of chosen s) (stream_in (part_of chosen file s))
   sized = part-sized s.class (part_of chosen file s) (chosen-part chosen file s is some within)
 
-  ruled-exact : (rule : Rule) (placed : List Placed) → plan_by rule s.class (needs_of chosen s) ≡ Ok placed → IsExactly (stream_in (part_of chosen file s) ∷ []) (with_lead_ins placed (stream_in (part_of chosen file s)))
-  ruled-exact (ByRates rates) placed planned =
-      let needs_some : 1 ≤ length (needs_of chosen s) = omega (arith, rows-some chosen s placed_rows some within, length-map (chosen_rows chosen s) need_of) in
-      let plan = rates-menu rates s.class (needs_of chosen s) placed (rows-sound chosen s placed_rows some within) (rows-same chosen s placed_rows some within) needs_some planned in
-      menu-exact plan.lead_in (menu_in rates s.class) (needs_of chosen s) (stream_in (part_of chosen file s)) placed sized plan.whole.slots
-  ruled-exact Best placed planned =
+  abbrev fs : List StreamFrame
+  fs = stream_in (part_of chosen file s)
+
+  rates-exact : (mode : PackMode) (placed : List Placed) → rates_plan mode s.class (needs_of chosen s) ≡ Ok placed → IsExactly (fs ∷ []) (with_lead_ins placed fs)
+  rates-exact mode placed planned =
+      let plan = rates-menu mode s.class (needs_of chosen s) placed (rows-sound chosen s placed_rows some within) (rows-same chosen s placed_rows some within) (needs-some chosen s placed_rows some within) planned in
+      menu-exact plan.lead_in (menu_in mode s.class) (needs_of chosen s) fs placed sized plan.whole.slots
+
+  mode-exact : (mode : PackMode) (placed : List Placed) → plan_by mode s.class (needs_of chosen s) ≡ Ok placed → IsExactly (fs ∷ []) (with_lead_ins placed fs)
+  mode-exact Least placed planned =
+      let same : first_plan any_choice s.class (needs_of chosen s) ≡ placed = cc in
+      subst (λ (l : List Placed). IsExactly (fs ∷ []) (with_lead_ins l fs)) same (had-exact chosen file s (survey-had file most_frames s is) some within any_choice (inr refl))
+  mode-exact Best placed planned =
       let plan = best-is chosen s placed_rows some within placed planned in
-      behind-exact plan.lead_in (needs_of chosen s) (stream_in (part_of chosen file s)) placed sized plan.whole.slots
+      behind-exact plan.lead_in (needs_of chosen s) fs placed sized plan.whole.slots
+  mode-exact (Constant rate) placed planned = rates-exact (Constant rate) placed planned
+  mode-exact (Floor rate) placed planned = rates-exact (Floor rate) placed planned
 
 pub packed-exact : PackedStreamsAreExact
-packed-exact rule chosen file s placed is some within planned =
-    subst (λ (l : List StreamFrame). IsExactly (l ∷ []) (with_lead_ins placed l)) (sym (own-stream chosen file s is some within)) (ruled-exact chosen file s is some within rule placed planned)
+packed-exact mode chosen file s placed is some within planned =
+    subst (λ (l : List StreamFrame). IsExactly (l ∷ []) (with_lead_ins placed l)) (sym (own-stream chosen file s is some within)) (mode-exact chosen file s is some within mode placed planned)

@@ -1,5 +1,5 @@
 -- What is left of a damaged file.
-use Rattle.std.proofs.Common.{◌≡◌, ℕ, zero, suc, ◌+◌, Bool, true, false, cond, List, [], ◌∷◌, length, map, Option, Some, Ok, refl, sym, ◌∙◌, ap, ap₂, subst, arith}
+use Rattle.std.proofs.Common.{◌≡◌, ℕ, zero, suc, ◌+◌, Bool, true, false, cond, List, [], ◌∷◌, length, map, Option, Some, Ok, refl, sym, ◌∙◌, ap, ap₂, subst, inl, arith}
 use Rattle.std.specs.Prelude.{◌<◌, slice_get, unwrap_or}
 use Rattle.std.specs.List.{enumerate_from}
 use Rattle.std.proofs.lemmas.List.{length-map}
@@ -60,12 +60,12 @@ module _ (file : List ℕ) (d : DamagedFields) (read : damaged_of file ≡ Ok d)
   unfolding left_stream
   left-exact =
       subst (λ (l : List StreamFrame). IsExactly (l ∷ []) (with_lead_ins (plan_of (all_of own) own) l)) (laid-left file d whole laid)
-      (had-exact (all_of own) file own had some (omega arith))
+      (had-exact (all_of own) file own had some (omega arith) own_choice (inl refl))
 
   left-plan : IsPlan (window_of d.survey.class.version) own_choice (map need_of own.frames ∷ []) (plan_of (all_of own) own)
   left-plan =
       subst (λ (rows : List Row). IsPlan (window_of own.class.version) own_choice (map need_of rows ∷ []) (plan_of (all_of own) own)) (range-whole own.frames)
-      (had-plan (all_of own) file own had some (omega arith))
+      (had-plan (all_of own) file own had some (omega arith) own_choice (inl refl))
 
 pub salvaged-exact : SalvagedStreamsAreExact
 salvaged-exact = left-exact

@@ -24,15 +24,13 @@ use Rattle.moved_gains.specs.declared.shift.Shift.{Shift}
 use Rattle.gain_edits.specs.Gain.{gain_command}
 use Rattle.gain_edits.specs.Undo.{undo_command}
 use Rattle.fading.specs.Fade.{fade_command}
-use Rattle.frame_edits.specs.Chosen.{Chosen, choices_by, chosen_rows, plan_of, chosen_stream, cut_command}
+use Rattle.laying.specs.Laid.{stream_laid}
+use Rattle.frame_edits.specs.Chosen.{Chosen, AreUsual, needs_of, first_plan, plan_of, laid_by, cut_command}
 use Rattle.splitting.specs.Split.{split_at_command, split_by_command}
 use Rattle.salvaging.specs.Salvaged.{all_of, left_stream, salvage_command}
 use Rattle.pack_mode.specs.declared.mode.PackMode.{PackMode}
-use Rattle.packing.specs.Modes.{pack_mode_command}
+use Rattle.packing.specs.Modes.{plan_by, pack_mode_command}
 use Rattle.job_words.specs.Asked.{Asked, Gain, Undo, Cut, Pack, SplitAt, SplitBy, Join, Fade, Salvage}
-use Rattle.packing.specs.declared.mode.Rule.{Rule}
-use Rattle.packing.specs.Packing.{needs_of}
-use Rattle.packing.specs.Rules.{plan_by}
 use Rattle.exact_streams.specs.Exact.{IsExactly}
 use Rattle.exact_streams.specs.Chosen.{AllConsistOf, chosen_of}
 
@@ -46,23 +44,23 @@ PlannedStreamsAreExact =
 -- The output of a cut, of a packing with the least slots, and each piece of a split holds exactly the chosen frames of the stream of the input.
 abbrev pub ChosenStreamsAreExact : Type 0
 ChosenStreamsAreExact =
-    (chosen : Chosen) (file : List ℕ) (s : SurveyFields)
-    → survey_of file most_frames ≡ Ok s → chosen.from < chosen.to → chosen.to ≤ length s.frames
-    → IsExactly (slice_range (stream_of file) chosen.from chosen.to ∷ []) (chosen_stream chosen file s)
+    (choices : HeaderFields → List SlotFields) (chosen : Chosen) (file : List ℕ) (s : SurveyFields)
+    → AreUsual choices → survey_of file most_frames ≡ Ok s → chosen.from < chosen.to → chosen.to ≤ length s.frames
+    → IsExactly (slice_range (stream_of file) chosen.from chosen.to ∷ []) (stream_laid (laid_by chosen (first_plan choices s.class (needs_of chosen s))) file s)
 
 -- Their plan is the first of all lists of slots, in the order of areas, into which the main data can be laid, with a lead-in only where there is none without.
 abbrev pub ChosenPlansAreFirst : Type 0
 ChosenPlansAreFirst =
-    (chosen : Chosen) (file : List ℕ) (s : SurveyFields)
-    → survey_of file most_frames ≡ Ok s → chosen.from < chosen.to → chosen.to ≤ length s.frames
-    → IsPlan (window_of s.class.version) (choices_by chosen.slots) (map need_of (chosen_rows chosen s) ∷ []) (plan_of chosen s)
+    (choices : HeaderFields → List SlotFields) (chosen : Chosen) (file : List ℕ) (s : SurveyFields)
+    → AreUsual choices → survey_of file most_frames ≡ Ok s → chosen.from < chosen.to → chosen.to ≤ length s.frames
+    → IsPlan (window_of s.class.version) choices (needs_of chosen s ∷ []) (first_plan choices s.class (needs_of chosen s))
 
--- The output of a packing with the slots of some bit rates, or into the fewest bytes, holds exactly the frames of the stream of the input.
+-- The output of a packing, in whichever mode, holds exactly the frames of the stream of the input.
 abbrev pub PackedStreamsAreExact : Type 0
 PackedStreamsAreExact =
-    (rule : Rule) (chosen : Chosen) (file : List ℕ) (s : SurveyFields) (placed : List Placed)
+    (mode : PackMode) (chosen : Chosen) (file : List ℕ) (s : SurveyFields) (placed : List Placed)
     → survey_of file most_frames ≡ Ok s → chosen.from < chosen.to → chosen.to ≤ length s.frames
-    → plan_by rule s.class (needs_of chosen s) ≡ Ok placed
+    → plan_by mode s.class (needs_of chosen s) ≡ Ok placed
     → IsExactly (slice_range (stream_of file) chosen.from chosen.to ∷ []) (with_lead_ins placed (slice_range (stream_of file) chosen.from chosen.to))
 
 -- The output of a join holds exactly the frames of each part, which are all frames of an input.

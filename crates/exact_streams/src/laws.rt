@@ -21,7 +21,7 @@ pub fn chosen_plans_are_first()
     ensures { ChosenPlansAreFirst }
 {}
 
-/// The output of a packing with the slots of some bit rates, or into the fewest bytes, holds exactly the chosen frames too.
+/// The output of a packing, in whichever mode, holds exactly the chosen frames too.
 pub fn packed_streams_are_exact()
     ensures { PackedStreamsAreExact }
 {}

@@ -1,22 +1,14 @@
 //! The commands `cut` and `pack` over a folder.
-ghost use Rattle.std.specs.Prelude.{◌≡◌};
 ghost use Rattle.cue_sheet.specs.Places.{IsPlace};
 ghost use Rattle.commands.specs.Runs.{IsRunOf};
-ghost use Rattle.frame_edits.specs.Chosen.{slots_of as slots_of_lem, cut_command, pack_command};
+ghost use Rattle.frame_edits.specs.Chosen.{cut_command, pack_command};
 
 use crate::choice::Choice;
-use crate::chosen::Slots;
 use crate::edit::FrameEdit;
 use commands::{EditFault, make_one};
 use cue_sheet::Place;
 use outside::Folder;
 use std::alloc::Global;
-
-fn slots_of(least: bool) -> Slots
-    ensures { result ≡ slots_of_lem least }
-{
-    if least { Slots::Least } else { Slots::Own }
-}
 
 /// Writes the output, which is the frames of the input from the position `from` up to, but not including, `to`, with all main
 /// data: the input's ID3v2 blocks before its first frame, an Info frame, these frames in the slots of their plan, and all
@@ -49,8 +41,12 @@ pub fn cut<D: Folder>(
         (D.seen folder.old)
         (D.seen folder.new) result }
 {
-    let choice = Choice::Between(from, to, slots_of(least));
-    make_one(alloc, folder, &FrameEdit { input, choice }, output)
+    let edit = FrameEdit {
+        input,
+        choice: Choice::Between(from, to),
+        least,
+    };
+    make_one(alloc, folder, &edit, output)
 }
 
 /// Writes the output, which is all frames of the input, each from the first on with the lowest bit rate and padding with which
@@ -71,6 +67,10 @@ pub fn pack<D: Folder>(
         (D.seen folder.old)
         (D.seen folder.new) result }
 {
-    let choice = Choice::All(Slots::Least);
-    make_one(alloc, folder, &FrameEdit { input, choice }, output)
+    let edit = FrameEdit {
+        input,
+        choice: Choice::All,
+        least: true,
+    };
+    make_one(alloc, folder, &edit, output)
 }

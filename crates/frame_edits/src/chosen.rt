@@ -6,38 +6,22 @@ ghost use Rattle.commands.specs.Left.{IsRefusal};
 use commands::{EditFault, Refusal};
 use laying::Kept;
 
-/// Which bit rate and padding a frame may have.
-#[derive(Clone, Copy, Debug, PartialEq, Eq)]
-pub enum Slots {
-    /// Its own.
-    Own,
-    /// The lowest with which the main data of all later frames still have room.
-    Least,
-}
-
-/// The frames from `from` up to, but not including, `to`, counted from 0, the slots that they may have, and the quality and
-/// extension for the Info frame before them.
+/// The frames from `from` up to, but not including, `to`, counted from 0, and the quality and extension for the Info frame
+/// before them.
 #[derive(Drop)]
 pub struct Chosen {
     pub from: usize,
     pub to: usize,
-    pub slots: Slots,
     pub kept: Kept,
 }
 
 /// The frames from `from` up to, but not including, `to`, counted from 0, of a file of `frames` frames: `Range` where there
 /// is none between them, or `to` is greater than `frames`.
-pub fn choose(
-    from: u64,
-    to: u64,
-    frames: usize,
-    slots: Slots,
-    kept: Kept,
-) -> Result<Chosen, EditFault>
+pub fn choose(from: u64, to: u64, frames: usize, kept: Kept) -> Result<Chosen, EditFault>
     ensures chosen { MatchResult result
-        (λ chosen. chosen_with kept.quality kept.extension from to slots frames
+        (λ chosen. chosen_with kept.quality kept.extension from to frames
         ≡ Ok (chosen_in chosen))
-        (λ fault. chosen_with kept.quality kept.extension from to slots frames ≡ Err fault) }
+        (λ fault. chosen_with kept.quality kept.extension from to frames ≡ Err fault) }
     ensures some { IfOk result (λ chosen. chosen.from < chosen.to) }
     ensures within { IfOk result (λ chosen. chosen.to ≤ frames) }
     ensures refusal { IfErr result (IsRefusal cut_refuses) }
@@ -47,7 +31,6 @@ pub fn choose(
         Ok(Chosen {
             from: from as usize,
             to: to as usize,
-            slots,
             kept,
         })
     } else {

@@ -13,12 +13,14 @@ use std::alloc::Global;
 pub struct FrameEdit<'a> {
     pub input: &'a str,
     pub choice: Choice<'a>,
+    /// Whether each frame gets the least slot, and doesn't keep its own.
+    pub least: bool,
 }
 
 impl<'a> Edit for FrameEdit<'a> {
     type Work = Work;
 
-    ghost task = { λ edit. task_of edit.choice edit.input.now };
+    ghost task = { λ edit. task_of edit.choice edit.least edit.input.now };
 
     ghost IsLegal = { λ edit. IsChoice edit.choice };
 
@@ -29,7 +31,7 @@ impl<'a> Edit for FrameEdit<'a> {
     fn prepare<D: Folder>(&self, alloc: Global, folder: &mut D) -> Result<Work, EditFault> {
         let survey = survey_at(alloc, folder, self.input, 0, MOST_FRAMES)?;
         let chosen = self.choice.find(folder, self.input, &survey)?;
-        let selected = plan_file(alloc, &survey, &chosen)?;
+        let selected = plan_file(alloc, &survey, &chosen, self.least)?;
         let work = Work::new(alloc, survey, selected)?;
         Ok(work)
     }

@@ -10,7 +10,7 @@ mod work;
 
 pub use calls::{cut, pack};
 pub use choice::{Choice, all_choice};
-pub use chosen::{Chosen, Slots, choose};
+pub use chosen::{Chosen, choose};
 pub use edit::FrameEdit;
-pub use plans::plan_file;
+pub use plans::{chosen_parts, plan_file};
 pub use work::Work;

@@ -20,33 +20,27 @@ use Rattle.gain_edits.specs.Change.{change_task, changed_with, changing}
 use Rattle.gain_edits.specs.Gain.{gain_change, gain_refuses, gain_command}
 use Rattle.gain_edits.specs.Undo.{undo_change, steps_back, undo_refuses, undo_command}
 use Rattle.fading.specs.Fade.{fade_of, fade_change, fade_task, fade_command}
-use Rattle.frame_edits.specs.declared.chosen.Slots.{Slots}
-use Rattle.frame_edits.specs.declared.chosen.Slots.TheVariants.{Least as LeastSlots}
-use Rattle.frame_edits.specs.Chosen.{chosen_file, laid_with, choosing, chosen_task, cut_choice, all_choice, cut_refuses, slots_of, cut_command}
-use Rattle.frame_edits.proofs.ChosenLaws.{with-parts as laid-parts}
+use Rattle.frame_edits.specs.Chosen.{needs_of, first_plan, first_planning, laying_with, laying_task, cut_choice, all_choice, choices_by, cut_refuses, cut_command}
+use Rattle.frame_edits.proofs.ChosenLaws.{laid-parts, laying-is}
 use Rattle.joining.specs.Join.{joined_file, parts_of, join_task, join_command}
 use Rattle.laying.specs.Relaid.{Part}
 use Rattle.listing.specs.Listing.{listing, listed_by, listed_where, list_command}
 use Rattle.pack_mode.specs.declared.mode.PackMode.{PackMode}
 use Rattle.pack_mode.specs.declared.mode.PackMode.TheVariants.{Least, Best, Constant, Floor}
-use Rattle.packing.specs.declared.mode.Rates.TheVariants.{Only, From}
-use Rattle.packing.specs.Packing.{packing}
-use Rattle.packing.specs.Rates.{rates_plan}
-use Rattle.packing.specs.Rules.{best_planning, most_best, unless_fault, limited_by}
-use Rattle.packing.specs.Modes.{pack_task, pack_mode_command}
+use Rattle.packing.specs.Modes.{plan_by, most_best, allowed_by, unless_fault, limited_by, pack_task, pack_mode_command}
 use Rattle.piece_names.specs.Names.{piece_names}
 use Rattle.splitting.specs.Split.{places_where, given, told_by, split_at_command, split_by_command}
 use Rattle.splitting.proofs.PartsLaws.{split-parts, cue-parts, parts-cue}
 use Rattle.job_words.specs.Asked.{Help, Version, ListFile, Gain, Undo, Cut, Pack, SplitAt, SplitBy, Join, Drill, Fade}
 use Rattle.legality.specs.Inputs.{AreApart, Input, AreInputs, frames_of}
 use Rattle.legality.specs.Choices.{IsLegalGain, IsLegalUndo, IsLegalFade, IsRange, ArePieces, IsLegalSheet, IsLegalPack}
-use Rattle.legality.specs.Legal.{most_in_mode, IsLegalFor}
+use Rattle.legality.specs.Legal.{IsLegalFor}
 use Rattle.legality.specs.Laws.{Makes, LegalIsAccepted}
 use Rattle.legality.proofs.InputLaws.{no-clash_apart, apart_no-clash, survey-whole, whole-survey, IsOne, one-of, one-survey, survey-input}
 use Rattle.legality.proofs.GainLaws.{gain-legal, legal-gain, undo-legal, legal-undo, with-parts}
 use Rattle.legality.proofs.FadeLaws.{fade-legal, legal-fade}
 use Rattle.legality.proofs.SplitLaws.{cut-range, range-cut, pieces-chosen, split-pieces, parts-split}
-use Rattle.legality.proofs.PackLaws.{all_with, choose-all, best-made, constant-legal, legal-constant, floor-legal, legal-floor}
+use Rattle.legality.proofs.PackLaws.{planned-made, constant-legal, legal-constant, floor-legal, legal-floor}
 use Rattle.legality.proofs.JoinLaws.{parts-joined, joined-parts}
 use Rattle.legality.proofs.SalvageLaws.{salvage-law}
 
@@ -191,33 +185,36 @@ module _ (sheet : List ℕ) (back : Bool) (files : Contents) where
 
 -- ---- cut
 
-module _ (from to : Place) (slots : Slots) where
+module _ (from to : Place) (least : Bool) where
   abbrev RangeOf : Input → Type 0
   RangeOf i = IsRange i.survey from to
 
-  cut-choice : (file : List ℕ) (s : SurveyFields) (bytes : List ℕ) → survey_of file most_frames ≡ Ok s → choosing (cut_choice from to slots) file s ≡ Ok bytes → RangeOf (record { bytes = file; survey = s })
-  cut-choice file s bytes surveyed e = let made = laid-parts file s (cut_choice from to slots file s) bytes e in cut-range from to slots file s made.0 made.1
+  abbrev cut_making : Making
+  cut_making = laying_with (cut_choice from to) (first_planning (choices_by least))
 
-  choice-cut : (file : List ℕ) (s : SurveyFields) → survey_of file most_frames ≡ Ok s → RangeOf (record { bytes = file; survey = s }) → (bytes : List ℕ) × (choosing (cut_choice from to slots) file s ≡ Ok bytes)
-  choice-cut file s surveyed legal = let chosen = range-cut from to slots file s legal in (chosen_file chosen.0 file s, ap (laid_with file s) chosen.1)
+  cut-choice : (file : List ℕ) (s : SurveyFields) (bytes : List ℕ) → survey_of file most_frames ≡ Ok s → cut_making file s ≡ Ok bytes → RangeOf (record { bytes = file; survey = s })
+  cut-choice file s bytes surveyed e = let by = laid-parts (cut_choice from to) (first_planning (choices_by least)) file s bytes e in cut-range from to file s by.chosen by.chose
+
+  choice-cut : (file : List ℕ) (s : SurveyFields) → survey_of file most_frames ≡ Ok s → RangeOf (record { bytes = file; survey = s }) → (bytes : List ℕ) × (cut_making file s ≡ Ok bytes)
+  choice-cut file s surveyed legal =
+      let chosen = range-cut from to file s legal in
+      (_, laying-is (cut_choice from to) (first_planning (choices_by least)) file s chosen.0 (Ok (first_plan (choices_by least) s.class (needs_of chosen.0 s))) chosen.1 refl)
 
 cut-law : (files : Contents) (from to : Place) (least : Bool) (input output : List ℕ) → IsLegalFor (Cut from to least input output) files ↔ Makes (cut_command from to least input output) files
 cut-law files from to least input output =
-    let slots = slots_of least in
-    one-law files input [] output most_frames (RangeOf from to slots) (chosen_task (cut_choice from to slots) cut_refuses input) refl
-    (one-made (choosing (cut_choice from to slots)) (RangeOf from to slots) (cut-choice from to slots) (choice-cut from to slots) files input) (made-one (choosing (cut_choice from to slots)) (RangeOf from to slots) (cut-choice from to slots) (choice-cut from to slots) files input)
+    let range = RangeOf from to least in
+    let make = cut_making from to least in
+    one-law files input [] output most_frames range (laying_task (cut_choice from to) (first_planning (choices_by least)) cut_refuses input) refl
+    (one-made make range (cut-choice from to least) (choice-cut from to least) files input) (made-one make range (cut-choice from to least) (choice-cut from to least) files input)
     (IsLegalFor (Cut from to least input output) files)
-    (λ legal. (legal.names, one-of (RangeOf from to slots) files input most_frames legal.inputs legal.are legal.few legal.choices))
+    (λ legal. (legal.names, one-of range files input most_frames legal.inputs legal.are legal.few legal.choices))
     (λ is. record { names = is.0; inputs = is.1.input ∷ []; are = (is.1.is, tt); few = few-one (length is.1.input.survey.frames) most_frames is.1.few; choices = is.1.choice })
 
 -- ---- pack
 
 -- what is made of a file in a mode
 abbrev making_in : PackMode → Making
-making_in Least = choosing (all_choice LeastSlots)
-making_in Best = packing best_planning
-making_in (Constant rate) = packing (rates_plan (Only rate))
-making_in (Floor rate) = packing (rates_plan (From rate))
+making_in mode = laying_with all_choice (plan_by mode)
 
 abbrev LegalIn : PackMode → Input → Type 0
 LegalIn mode i = IsLegalPack mode i.survey
@@ -229,18 +226,18 @@ pack-choice (Constant rate) file s bytes surveyed e = constant-legal file s surv
 pack-choice (Floor rate) file s bytes surveyed e = floor-legal file s surveyed rate bytes e
 
 choice-pack : (mode : PackMode) (file : List ℕ) (s : SurveyFields) → survey_of file most_frames ≡ Ok s → LegalIn mode (record { bytes = file; survey = s }) → (bytes : List ℕ) × (making_in mode file s ≡ Ok bytes)
-choice-pack Least file s surveyed legal = (chosen_file (all_with file s surveyed LeastSlots) file s, ap (laid_with file s) (choose-all file s surveyed LeastSlots))
-choice-pack Best file s surveyed legal = best-made file s surveyed
+choice-pack Least file s surveyed legal = planned-made file s surveyed (plan_by Least) _ refl
+choice-pack Best file s surveyed legal = planned-made file s surveyed (plan_by Best) _ refl
 choice-pack (Constant rate) file s surveyed legal = legal-constant file s surveyed rate legal
 choice-pack (Floor rate) file s surveyed legal = legal-floor file s surveyed rate legal
 
 -- the packing in the fewest bytes has a limit of its own
 module _ (files : Contents) (input : List ℕ) where
-  best-parts : (o : Option (List ℕ)) (bytes : List ℕ) → files input ≡ o → limited_by (Some most_best) o (made_where (packing best_planning) o) ≡ Ok bytes → IsOne (LegalIn Best) files input most_best
+  best-parts : (o : Option (List ℕ)) (bytes : List ℕ) → files input ≡ o → limited_by (Some most_best) o (made_where (making_in Best) o) ≡ Ok bytes → IsOne (LegalIn Best) files input most_best
   best-parts None bytes there e = absurd cc
   best-parts (Some file) bytes there e = at (survey_of file most_best) refl e
     where
-      at : (r : Result SurveyFields SurveyFault) → survey_of file most_best ≡ r → unless_fault r (made_where (packing best_planning) (Some file)) ≡ Ok bytes → IsOne (LegalIn Best) files input most_best
+      at : (r : Result SurveyFields SurveyFault) → survey_of file most_best ≡ r → unless_fault r (made_where (making_in Best) (Some file)) ≡ Ok bytes → IsOne (LegalIn Best) files input most_best
       at (Err fault) surveyed e = absurd cc
       at (Ok s) surveyed e = record {
         input = record { bytes = file; survey = s };
@@ -249,47 +246,36 @@ module _ (files : Contents) (input : List ℕ) where
         choice = tt;
       }
 
-  parts-best : IsOne (LegalIn Best) files input most_best → (bytes : List ℕ) × (limited_by (Some most_best) (files input) (made_where (packing best_planning) (files input)) ≡ Ok bytes)
+  parts-best : IsOne (LegalIn Best) files input most_best → (bytes : List ℕ) × (limited_by (Some most_best) (files input) (made_where (making_in Best) (files input)) ≡ Ok bytes)
   parts-best one =
       let file = one.input.bytes in
       let s = one.input.survey in
       let surveyed = one-survey (LegalIn Best) files input most_best one in
       let freely = whole-survey file most_frames s (record { long = one.is.long; well_formed = one.is.well_formed; few = omega (arith, one.few) }) in
-      let made = best-made file s freely in (
+      let made = choice-pack Best file s freely tt in (
         made.0,
-        ap (λ o. limited_by (Some most_best) o (made_where (packing best_planning) (files input))) one.is.there
-            ∙ ap (λ r. unless_fault r (made_where (packing best_planning) (files input))) surveyed
-            ∙ of-made (packing best_planning) files input file s one.is.there freely
+        ap (λ o. limited_by (Some most_best) o (made_where (making_in Best) (files input))) one.is.there
+            ∙ ap (λ r. unless_fault r (made_where (making_in Best) (files input))) surveyed
+            ∙ of-made (making_in Best) files input file s one.is.there freely
             ∙ made.1,
       )
 
   -- the task of a mode
-  one-packed : (mode : PackMode) → IsOne (LegalIn mode) files input (most_in_mode mode) → (bytes : List ℕ) × ((pack_task mode input).makes files ≡ Ok bytes)
-  one-packed Least one = one-made (making_in Least) (LegalIn Least) (pack-choice Least) (choice-pack Least) files input one
+  one-packed : (mode : PackMode) → IsOne (LegalIn mode) files input (allowed_by mode) → (bytes : List ℕ) × ((pack_task mode input).makes files ≡ Ok bytes)
   one-packed Best one = parts-best one
-  one-packed (Constant rate) one = one-made (making_in (Constant rate)) (LegalIn (Constant rate)) (pack-choice (Constant rate)) (choice-pack (Constant rate)) files input one
-  one-packed (Floor rate) one = one-made (making_in (Floor rate)) (LegalIn (Floor rate)) (pack-choice (Floor rate)) (choice-pack (Floor rate)) files input one
+  one-packed mode one = one-made (making_in mode) (LegalIn mode) (pack-choice mode) (choice-pack mode) files input one
 
-  packed-one : (mode : PackMode) (bytes : List ℕ) → (pack_task mode input).makes files ≡ Ok bytes → IsOne (LegalIn mode) files input (most_in_mode mode)
-  packed-one Least bytes e = made-one (making_in Least) (LegalIn Least) (pack-choice Least) (choice-pack Least) files input bytes e
+  packed-one : (mode : PackMode) (bytes : List ℕ) → (pack_task mode input).makes files ≡ Ok bytes → IsOne (LegalIn mode) files input (allowed_by mode)
   packed-one Best bytes e = best-parts (files input) bytes refl e
-  packed-one (Constant rate) bytes e = made-one (making_in (Constant rate)) (LegalIn (Constant rate)) (pack-choice (Constant rate)) (choice-pack (Constant rate)) files input bytes e
-  packed-one (Floor rate) bytes e = made-one (making_in (Floor rate)) (LegalIn (Floor rate)) (pack-choice (Floor rate)) (choice-pack (Floor rate)) files input bytes e
-
-  -- it reads only the input
-  pack-names : (mode : PackMode) → (pack_task mode input).inputs ≡ input ∷ []
-  pack-names Least = refl
-  pack-names Best = refl
-  pack-names (Constant rate) = refl
-  pack-names (Floor rate) = refl
+  packed-one mode bytes e = made-one (making_in mode) (LegalIn mode) (pack-choice mode) (choice-pack mode) files input bytes e
 
   pack-law : (mode : PackMode) (output : List ℕ) → IsLegalFor (Pack mode input output) files ↔ Makes (pack_mode_command mode input output) files
   pack-law mode output =
-      one-law files input [] output (most_in_mode mode) (LegalIn mode) (pack_task mode input) (pack-names mode)
+      one-law files input [] output (allowed_by mode) (LegalIn mode) (pack_task mode input) refl
       (one-packed mode) (packed-one mode)
       (IsLegalFor (Pack mode input output) files)
-      (λ legal. (legal.names, one-of (LegalIn mode) files input (most_in_mode mode) legal.inputs legal.are legal.few legal.choices))
-      (λ is. record { names = is.0; inputs = is.1.input ∷ []; are = (is.1.is, tt); few = few-one (length is.1.input.survey.frames) (most_in_mode mode) is.1.few; choices = is.1.choice })
+      (λ legal. (legal.names, one-of (LegalIn mode) files input (allowed_by mode) legal.inputs legal.are legal.few legal.choices))
+      (λ is. record { names = is.0; inputs = is.1.input ∷ []; are = (is.1.is, tt); few = few-one (length is.1.input.survey.frames) (allowed_by mode) is.1.few; choices = is.1.choice })
 
 -- ---- split
 

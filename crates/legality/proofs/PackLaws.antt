@@ -1,5 +1,5 @@
 -- A packing: with the least slots, the fewest bytes, and the slots of some bit rates.
-use Rattle.std.proofs.Common.{◌≡◌, ℕ, zero, suc, ◌<◌, ◌≤◌, ◌==◌, Bool, true, false, cond, Contains, List, [], ◌∷◌, length, get_or, map, Some, None, Result, Ok, Err, refl, sym, ◌∙◌, ap, subst, arith}
+use Rattle.std.proofs.Common.{◌≡◌, ℕ, zero, suc, ◌<◌, ◌≤◌, ◌==◌, Bool, true, false, cond, Contains, List, [], ◌∷◌, length, get_or, map, Some, None, Result, Ok, Err, refl, sym, ◌∙◌, ap, subst, inl, inr, arith}
 use Rattle.std.specs.Prelude.{◌↔◌, filter}
 use Rattle.std.proofs.lemmas.Bool.{lt-ltb, ltb-true, eqb-true, eq-eqb}
 use Rattle.std.proofs.lemmas.List.{length-map}
@@ -28,17 +28,14 @@ use Rattle.commands.specs.One.{most_frames}
 use Rattle.commands.specs.Refusing.{unless, then_made}
 use Rattle.commands.proofs.RefusingLaws.{then_ok, unless_ok}
 use Rattle.commands.proofs.MadeLaws.{some-frames}
-use Rattle.frame_edits.specs.declared.chosen.Slots.{Slots}
-use Rattle.frame_edits.specs.declared.chosen.Slots.TheVariants.{Least}
 use Rattle.laying.specs.Laid.{file_laid}
-use Rattle.frame_edits.specs.Chosen.{Chosen, chosen_rows, all_choice, laid_by}
-use Rattle.packing.specs.declared.mode.Rates.{Rates}
-use Rattle.packing.specs.declared.mode.Rates.TheVariants.{Only, From}
-use Rattle.packing.specs.Packing.{Planning, needs_of, laid_as, packed, packing}
-use Rattle.packing.specs.Rates.{named, is_rate, menu_in, no_rate, fitted, rates_plan}
-use Rattle.packing.specs.Rules.{best_planning}
+use Rattle.frame_edits.specs.Chosen.{Chosen, chosen_rows, needs_of, all_choice, Planning, laying_with, laid_by}
+use Rattle.frame_edits.proofs.ChosenLaws.{laid-parts, laying-is, laid-fault}
+use Rattle.pack_mode.specs.declared.mode.PackMode.{PackMode}
+use Rattle.pack_mode.specs.declared.mode.PackMode.TheVariants.{Constant, Floor}
+use Rattle.packing.specs.Rates.{is_rate, menu_in, unless_rate, no_rate, fitted, rates_plan}
 use Rattle.packing.proofs.MenuLaws.{menu-ascends, menu-some}
-use Rattle.packing.proofs.PlanLaws.{rows-some, rows-same, rows-sound, never-unfit, plan-is, fitted-ok}
+use Rattle.packing.proofs.PlanLaws.{rows-some, rows-same, rows-sound, floor-unfit, plan-is, fitted-ok}
 use Rattle.legality.specs.Choices.{IsRate, HasRoom, IsFirstUnfit}
 use Rattle.legality.proofs.SplitLaws.{within-ok}
 
@@ -68,23 +65,23 @@ kept-some p x is (y ∷ ys) (suc k) within same = at (p y) (kept-some p x is ys 
     at true some = omega arith
     at false some = some
 
-pub no-rate_none : (rates : Rates) (class : ClassFields) → no_rate rates class ≡ None → IsRate (named rates) class
-no-rate_none rates class none = at (is_rate (named rates) class) refl none
+pub no-rate_none : (rate : ℕ) (class : ClassFields) → unless_rate rate class ≡ None → IsRate rate class
+no-rate_none rate class none = at (is_rate rate class) refl none
   where
-    found : is_rate (named rates) class ≡ true → IsRate (named rates) class
+    found : is_rate rate class ≡ true → IsRate rate class
     found is =
-        let kept = some-kept (λ slot. rate_of class slot == named rates) all_slots (ltb-true 0 (length (menu_in (Only (named rates)) class)) is) in
-        (kept.0, kept.1, eqb-true (rate_of class kept.0) (named rates) kept.2)
+        let kept = some-kept (λ slot. rate_of class slot == rate) all_slots (ltb-true 0 (length (menu_in (Constant rate) class)) is) in
+        (kept.0, kept.1, eqb-true (rate_of class kept.0) rate kept.2)
 
-    at : (b : Bool) → is_rate (named rates) class ≡ b → cond b None (Some (NoRate (named rates))) ≡ None → IsRate (named rates) class
+    at : (b : Bool) → is_rate rate class ≡ b → cond b None (Some (NoRate rate)) ≡ None → IsRate rate class
     at true is e = found is
     at false is e = absurd cc
 
-pub rate-none : (rates : Rates) (class : ClassFields) → IsRate (named rates) class → no_rate rates class ≡ None
-rate-none rates class is =
-    ap (λ b. cond b None (Some (NoRate (named rates))))
-    (lt-ltb 0 (length (menu_in (Only (named rates)) class))
-    (kept-some (λ slot. rate_of class slot == named rates) is.0 (eq-eqb (rate_of class is.0) (named rates) is.2) all_slots is.1.0 is.1.1 is.1.2))
+pub rate-none : (rate : ℕ) (class : ClassFields) → IsRate rate class → unless_rate rate class ≡ None
+rate-none rate class is =
+    ap (λ b. cond b None (Some (NoRate rate)))
+    (lt-ltb 0 (length (menu_in (Constant rate) class))
+    (kept-some (λ slot. rate_of class slot == rate) is.0 (eq-eqb (rate_of class is.0) rate is.2) all_slots is.1.0 is.1.1 is.1.2))
 
 -- ---- a plan
 
@@ -98,16 +95,16 @@ laid window menu needs placed plan =
 same-chosen : (a b : Chosen) (r : Result Chosen EditFault) → r ≡ Ok a → r ≡ Ok b → a ≡ b
 same-chosen a b r e d = cc
 
+both-answers : (a : Chosen) (fault : EditFault) (r : Result Chosen EditFault) → r ≡ Ok a → r ≡ Err fault → ⊥
+both-answers a fault r e d = absurd cc
+
 module _ (file : List ℕ) (s : SurveyFields) (is : survey_of file most_frames ≡ Ok s) where
-  abbrev pub all_with : Slots → Chosen
-  all_with slots = record { from = 0; to = length s.frames; slots = slots; quality = (head_info file s.head).quality; extension = (head_info file s.head).extension }
-
   abbrev chosen : Chosen
-  chosen = all_with Least
+  chosen = record { from = 0; to = length s.frames; quality = (head_info file s.head).quality; extension = (head_info file s.head).extension }
 
-  pub choose-all : (slots : Slots) → all_choice slots file s ≡ Ok (all_with slots)
+  choose-all : all_choice file s ≡ Ok chosen
   unfolding all_choice
-  choose-all slots = within-ok (head_info file s.head).quality (head_info file s.head).extension 0 (length s.frames) slots (length s.frames) (some-frames file most_frames s is, omega arith)
+  choose-all = within-ok (head_info file s.head).quality (head_info file s.head).extension 0 (length s.frames) (length s.frames) (some-frames file most_frames s is, omega arith)
 
   abbrev needs : List Need
   needs = needs_of chosen s
@@ -115,25 +112,13 @@ module _ (file : List ℕ) (s : SurveyFields) (is : survey_of file most_frames �
   needs-all : needs ≡ map need_of s.frames
   needs-all = ap (map need_of) (range-whole s.frames)
 
-  planned-made : (plan : Planning) (placed : List Placed) → plan s.class needs ≡ Ok placed → (bytes : List ℕ) × (packing plan file s ≡ Ok bytes)
-  unfolding packed
-  planned-made plan placed planned = (
-    file_laid (laid_by chosen placed) file s,
-    ap (λ (r : Result Chosen EditFault). then_made (then_made r (laid_as plan s)) (λ laid. Ok (file_laid laid file s))) (choose-all Least)
-        ∙ ap (λ (r : Result (List Placed) EditFault). then_made (then_made r (λ placed. Ok (laid_by chosen placed))) (λ laid. Ok (file_laid laid file s))) planned,
-  )
+  pub planned-made : (plan : Planning) (placed : List Placed) → plan s.class needs ≡ Ok placed → (bytes : List ℕ) × (laying_with all_choice plan file s ≡ Ok bytes)
+  planned-made plan placed planned = (file_laid (laid_by chosen placed) file s, laying-is all_choice plan file s chosen (Ok placed) choose-all planned)
 
-  made-planned : (plan : Planning) (bytes : List ℕ) → packing plan file s ≡ Ok bytes → (placed : List Placed) × (plan s.class needs ≡ Ok placed)
-  unfolding packed
+  made-planned : (plan : Planning) (bytes : List ℕ) → laying_with all_choice plan file s ≡ Ok bytes → (placed : List Placed) × (plan s.class needs ≡ Ok placed)
   made-planned plan bytes made =
-      let one = then_ok (packed plan file s) (λ laid. Ok (file_laid laid file s)) bytes made in
-      let two = then_ok (all_choice Least file s) (laid_as plan s) one.0 one.1 in
-      let three = then_ok (plan s.class (needs_of two.0 s)) (λ placed. Ok (laid_by two.0 placed)) one.0 two.2 in
-      let same = same-chosen two.0 chosen (all_choice Least file s) two.1 (choose-all Least) in
-      (three.0, subst (λ (c : Chosen). plan s.class (needs_of c s) ≡ Ok three.0) same three.1)
-
-  pub best-made : (bytes : List ℕ) × (packing best_planning file s ≡ Ok bytes)
-  best-made = planned-made best_planning _ refl
+      let by = laid-parts all_choice plan file s bytes made in
+      (by.placed, subst (λ (c : Chosen). plan s.class (needs_of c s) ≡ Ok by.placed) (same-chosen by.chosen chosen (all_choice file s) by.chose choose-all) by.planned)
 
   -- ---- from a menu
 
@@ -146,26 +131,26 @@ module _ (file : List ℕ) (s : SurveyFields) (is : survey_of file most_frames �
   needs-some : 1 ≤ length needs
   needs-some = omega (arith, rows-some chosen s placed some (omega arith), length-map (chosen_rows chosen s) need_of)
 
-  module _ (rates : Rates) (none : no_rate rates s.class ≡ None) where
+  module _ (mode : PackMode) (none : no_rate mode s.class ≡ None) where
     abbrev menu : List SlotFields
-    menu = menu_in rates s.class
+    menu = menu_in mode s.class
 
     abbrev window : ℕ
     window = window_of s.class.version
 
     menu-law : ((placed : List Placed) → IsMenuPlan window menu needs placed ↔ (least_menu_plan window menu needs ≡ Ok placed)) × ((i : ℕ) → IsUnfit window menu needs i ↔ (least_menu_plan window menu needs ≡ Err i))
     menu-law =
-        least_menu_plan-is window s.class menu needs (rows-same chosen s placed some (omega arith)) needs-some (menu-ascends rates s.class (rows-sound chosen s placed some (omega arith))) (menu-some rates s.class none)
+        least_menu_plan-is window s.class menu needs (rows-same chosen s placed some (omega arith)) needs-some (menu-ascends mode s.class (rows-sound chosen s placed some (omega arith))) (menu-some mode s.class none)
 
     -- where no frame is unfit
-    fit-made : ((i : ℕ) → least_menu_plan window menu needs ≡ Err i → ⊥) → (bytes : List ℕ) × (packing (rates_plan rates) file s ≡ Ok bytes)
+    fit-made : ((i : ℕ) → least_menu_plan window menu needs ≡ Err i → ⊥) → (bytes : List ℕ) × (laying_with all_choice (rates_plan mode) file s ≡ Ok bytes)
     fit-made fits = at (least_menu_plan window menu needs) refl
       where
-        at : (r : Result (List Placed) ℕ) → least_menu_plan window menu needs ≡ r → (bytes : List ℕ) × (packing (rates_plan rates) file s ≡ Ok bytes)
-        at (Ok found) e = planned-made (rates_plan rates) found (plan-is chosen s placed some (omega arith) rates found none e)
+        at : (r : Result (List Placed) ℕ) → least_menu_plan window menu needs ≡ r → (bytes : List ℕ) × (laying_with all_choice (rates_plan mode) file s ≡ Ok bytes)
+        at (Ok found) e = planned-made (rates_plan mode) found (plan-is chosen s placed some (omega arith) mode (Ok found) none e)
         at (Err i) e = absurd (fits i e)
 
-    room-made : (lead_in : Bool) → CanBeLaidFrom window lead_in menu (map need_of s.frames) → (bytes : List ℕ) × (packing (rates_plan rates) file s ≡ Ok bytes)
+    room-made : (lead_in : Bool) → CanBeLaidFrom window lead_in menu (map need_of s.frames) → (bytes : List ℕ) × (laying_with all_choice (rates_plan mode) file s ≡ Ok bytes)
     room-made lead_in can = fit-made (λ i e. ((menu-law.1 i).1 e).never lead_in (subst (CanBeLaidFrom window lead_in menu) (sym needs-all) can))
 
     plan-room : (found : List Placed) → least_menu_plan window menu needs ≡ Ok found → (lead_in : Bool) × CanBeLaidFrom window lead_in menu (map need_of s.frames)
@@ -173,63 +158,59 @@ module _ (file : List ℕ) (s : SurveyFields) (is : survey_of file most_frames �
         let room = laid window menu needs found ((menu-law.0 found).1 e) in
         (room.0, subst (CanBeLaidFrom window room.0 menu) needs-all room.1)
 
-  rates-parts : (rates : Rates) (bytes : List ℕ) → packing (rates_plan rates) file s ≡ Ok bytes
-      → (none : no_rate rates s.class ≡ None) × (found : List Placed) × (least_menu_plan (window_of s.class.version) (menu_in rates s.class) needs ≡ Ok found)
-  rates-parts rates bytes made =
+  rates-parts : (mode : PackMode) (bytes : List ℕ) → laying_with all_choice (rates_plan mode) file s ≡ Ok bytes
+      → (none : no_rate mode s.class ≡ None) × (found : List Placed) × (least_menu_plan (window_of s.class.version) (menu_in mode s.class) needs ≡ Ok found)
+  rates-parts mode bytes made =
       let window = window_of s.class.version in
-      let planned = made-planned (rates_plan rates) bytes made in
-      let one = then_ok (unless (no_rate rates s.class) (menu_in rates s.class)) (λ menu. fitted (least_menu_plan window menu needs)) planned.0 planned.1 in
-      let ok = unless_ok (no_rate rates s.class) (menu_in rates s.class) one.0 one.1 in
-      (ok.0, planned.0, fitted-ok (least_menu_plan window (menu_in rates s.class) needs) planned.0 (ap (λ menu. fitted (least_menu_plan window menu needs)) ok.1 ∙ one.2))
+      let planned = made-planned (rates_plan mode) bytes made in
+      let one = then_ok (unless (no_rate mode s.class) (menu_in mode s.class)) (λ menu. fitted (least_menu_plan window menu needs)) planned.0 planned.1 in
+      let ok = unless_ok (no_rate mode s.class) (menu_in mode s.class) one.0 one.1 in
+      (ok.0, planned.0, fitted-ok (least_menu_plan window (menu_in mode s.class) needs) planned.0 (ap (λ menu. fitted (least_menu_plan window menu needs)) ok.1 ∙ one.2))
 
-  pub constant-legal : (rate : ℕ) (bytes : List ℕ) → packing (rates_plan (Only rate)) file s ≡ Ok bytes → IsRate rate s.class × HasRoom rate s
+  pub constant-legal : (rate : ℕ) (bytes : List ℕ) → laying_with all_choice (rates_plan (Constant rate)) file s ≡ Ok bytes → IsRate rate s.class × HasRoom rate s
   constant-legal rate bytes made =
-      let parts = rates-parts (Only rate) bytes made in
-      (no-rate_none (Only rate) s.class parts.0, plan-room (Only rate) parts.0 parts.1 parts.2)
+      let parts = rates-parts (Constant rate) bytes made in
+      (no-rate_none rate s.class parts.0, plan-room (Constant rate) parts.0 parts.1 parts.2)
 
-  pub legal-constant : (rate : ℕ) → IsRate rate s.class × HasRoom rate s → (bytes : List ℕ) × (packing (rates_plan (Only rate)) file s ≡ Ok bytes)
-  legal-constant rate legal = room-made (Only rate) (rate-none (Only rate) s.class legal.0) legal.1.0 legal.1.1
+  pub legal-constant : (rate : ℕ) → IsRate rate s.class × HasRoom rate s → (bytes : List ℕ) × (laying_with all_choice (rates_plan (Constant rate)) file s ≡ Ok bytes)
+  legal-constant rate legal = room-made (Constant rate) (rate-none rate s.class legal.0) legal.1.0 legal.1.1
 
-  pub floor-legal : (rate : ℕ) (bytes : List ℕ) → packing (rates_plan (From rate)) file s ≡ Ok bytes → IsRate rate s.class
-  floor-legal rate bytes made = no-rate_none (From rate) s.class (rates-parts (From rate) bytes made).0
+  pub floor-legal : (rate : ℕ) (bytes : List ℕ) → laying_with all_choice (rates_plan (Floor rate)) file s ≡ Ok bytes → IsRate rate s.class
+  floor-legal rate bytes made = no-rate_none rate s.class (rates-parts (Floor rate) bytes made).0
 
-  pub legal-floor : (rate : ℕ) → IsRate rate s.class → (bytes : List ℕ) × (packing (rates_plan (From rate)) file s ≡ Ok bytes)
+  pub legal-floor : (rate : ℕ) → IsRate rate s.class → (bytes : List ℕ) × (laying_with all_choice (rates_plan (Floor rate)) file s ≡ Ok bytes)
   legal-floor rate legal =
-      let none = rate-none (From rate) s.class legal in
-      fit-made (From rate) none (λ i e. never-unfit chosen s placed some (omega arith) rate i none e)
+      let none = rate-none rate s.class legal in
+      fit-made (Floor rate) none (λ i e. floor-unfit chosen s placed some (omega arith) rate i none e)
 
   -- ---- no room in slots of one bit rate
 
-  pub unfit-made : (rate i : ℕ) → no_rate (Only rate) s.class ≡ None → IsFirstUnfit rate s i → packing (rates_plan (Only rate)) file s ≡ Err (Refused (Unfit i))
-  unfolding packed
+  pub unfit-made : (rate i : ℕ) → no_rate (Constant rate) s.class ≡ None → IsFirstUnfit rate s i → laying_with all_choice (rates_plan (Constant rate)) file s ≡ Err (Refused (Unfit i))
   unfit-made rate i none unfit =
       let window = window_of s.class.version in
-      let is_unfit : IsUnfit window (menu_in (Only rate) s.class) needs i = subst (λ l. IsUnfit window (menu_in (Only rate) s.class) l i) (sym needs-all) unfit in
-      let least = ((menu-law (Only rate) none).1 i).0 is_unfit in
-      ap (λ (r : Result Chosen EditFault). then_made (then_made r (laid_as (rates_plan (Only rate)) s)) (λ laid. Ok (file_laid laid file s))) (choose-all Least)
-      ∙ ap (λ o. then_made (then_made (then_made (unless o (menu_in (Only rate) s.class)) (λ menu. fitted (least_menu_plan window menu needs))) (λ placed. Ok (laid_by chosen placed))) (λ laid. Ok (file_laid laid file s))) none
-      ∙ ap (λ r. then_made (then_made (fitted r) (λ placed. Ok (laid_by chosen placed))) (λ laid. Ok (file_laid laid file s))) least
+      let is_unfit : IsUnfit window (menu_in (Constant rate) s.class) needs i = subst (λ l. IsUnfit window (menu_in (Constant rate) s.class) l i) (sym needs-all) unfit in
+      let least = ((menu-law (Constant rate) none).1 i).0 is_unfit in
+      laying-is all_choice (rates_plan (Constant rate)) file s chosen (Err (Refused (Unfit i))) choose-all (plan-is chosen s placed some (omega arith) (Constant rate) (Err i) none least)
 
-  plan-unfit : (rate i : ℕ) → rates_plan (Only rate) s.class needs ≡ Err (Refused (Unfit i)) → (none : no_rate (Only rate) s.class ≡ None) × (least_menu_plan (window_of s.class.version) (menu_in (Only rate) s.class) needs ≡ Err i)
+  plan-unfit : (rate i : ℕ) → rates_plan (Constant rate) s.class needs ≡ Err (Refused (Unfit i)) → (none : no_rate (Constant rate) s.class ≡ None) × (least_menu_plan (window_of s.class.version) (menu_in (Constant rate) s.class) needs ≡ Err i)
   plan-unfit rate i e = at (is_rate rate s.class) refl e
     where
       menu : (r : Result (List Placed) ℕ) → fitted r ≡ Err (Refused (Unfit i)) → r ≡ Err i
       menu (Ok placed) e = absurd cc
       menu (Err k) e = cc
 
-      at : (b : Bool) → is_rate rate s.class ≡ b → then_made (unless (cond b None (Some (NoRate rate))) (menu_in (Only rate) s.class)) (λ menu. fitted (least_menu_plan (window_of s.class.version) menu needs)) ≡ Err (Refused (Unfit i))
-          → (none : no_rate (Only rate) s.class ≡ None) × (least_menu_plan (window_of s.class.version) (menu_in (Only rate) s.class) needs ≡ Err i)
-      at true is e = (ap (λ b. cond b None (Some (NoRate rate))) is, menu (least_menu_plan (window_of s.class.version) (menu_in (Only rate) s.class) needs) e)
+      at : (b : Bool) → is_rate rate s.class ≡ b → then_made (unless (cond b None (Some (NoRate rate))) (menu_in (Constant rate) s.class)) (λ menu. fitted (least_menu_plan (window_of s.class.version) menu needs)) ≡ Err (Refused (Unfit i))
+          → (none : no_rate (Constant rate) s.class ≡ None) × (least_menu_plan (window_of s.class.version) (menu_in (Constant rate) s.class) needs ≡ Err i)
+      at true is e = (ap (λ b. cond b None (Some (NoRate rate))) is, menu (least_menu_plan (window_of s.class.version) (menu_in (Constant rate) s.class) needs) e)
       at false is e = absurd cc
 
-  laid-unfit : (i : ℕ) (r : Result (List Placed) EditFault) → then_made (then_made r (λ placed. Ok (laid_by chosen placed))) (λ laid. Ok (file_laid laid file s)) ≡ Err (Refused (Unfit i)) → r ≡ Err (Refused (Unfit i))
-  laid-unfit i (Ok placed) e = absurd cc
-  laid-unfit i (Err fault) e = cc
-
-  pub made-unfit : (rate i : ℕ) → packing (rates_plan (Only rate)) file s ≡ Err (Refused (Unfit i)) → IsRate rate s.class × IsFirstUnfit rate s i
-  unfolding packed
+  pub made-unfit : (rate i : ℕ) → laying_with all_choice (rates_plan (Constant rate)) file s ≡ Err (Refused (Unfit i)) → IsRate rate s.class × IsFirstUnfit rate s i
   made-unfit rate i e =
-      let chose = sym (ap (λ (r : Result Chosen EditFault). then_made (then_made r (laid_as (rates_plan (Only rate)) s)) (λ laid. Ok (file_laid laid file s))) (choose-all Least)) ∙ e in
-      let plan = plan-unfit rate i (laid-unfit i (rates_plan (Only rate) s.class needs) chose) in
-      let unfit = ((menu-law (Only rate) plan.0).1 i).1 plan.1 in
-      (no-rate_none (Only rate) s.class plan.0, subst (λ l. IsUnfit (window_of s.class.version) (menu_in (Only rate) s.class) l i) needs-all unfit)
+      elim (laid-fault all_choice (rates_plan (Constant rate)) file s (Refused (Unfit i)) e) as (λ _. IsRate rate s.class × IsFirstUnfit rate s i) [
+        | inl refused ↦ absurd (both-answers chosen (Refused (Unfit i)) (all_choice file s) choose-all refused)
+        | inr no_plan ↦
+            let same = same-chosen no_plan.0 chosen (all_choice file s) no_plan.1 choose-all in
+            let plan = plan-unfit rate i (subst (λ (c : Chosen). rates_plan (Constant rate) s.class (needs_of c s) ≡ Err (Refused (Unfit i))) same no_plan.2) in
+            let unfit = ((menu-law (Constant rate) plan.0).1 i).1 plan.1 in
+            (no-rate_none rate s.class plan.0, subst (λ l. IsUnfit (window_of s.class.version) (menu_in (Constant rate) s.class) l i) needs-all unfit)
+      ]

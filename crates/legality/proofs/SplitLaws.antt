@@ -13,8 +13,6 @@ use Rattle.commands.specs.declared.fault.Refusal.TheVariants.{Range}
 use Rattle.commands.specs.Command.{clash_from}
 use Rattle.commands.specs.Refusing.{unless, then_made}
 use Rattle.commands.proofs.RefusingLaws.{then_ok}
-use Rattle.frame_edits.specs.declared.chosen.Slots.{Slots}
-use Rattle.frame_edits.specs.declared.chosen.Slots.TheVariants.{Own}
 use Rattle.frame_edits.specs.Chosen.{Chosen, outside_fault, chosen_with, cut_choice}
 use Rattle.frame_edits.proofs.ChosenLaws.{chosen-within}
 use Rattle.piece_names.specs.Names.{piece_names}
@@ -33,21 +31,21 @@ AreWithin from to frames = (from < to) × (to ≤ frames)
 within-none : (from to frames : ℕ) → AreWithin from to frames → outside_fault from to frames ≡ None
 within-none from to frames are = ap₂ (λ (a b : Bool). cond (a && b) None (Some (Range from to frames))) (lt-ltb from to are.0) (le-leb to frames are.1)
 
-pub within-ok : (quality : Option ℕ) (extension : List ℕ) (from to : ℕ) (slots : Slots) (frames : ℕ) → AreWithin from to frames
-    → chosen_with quality extension from to slots frames ≡ Ok (record { from = from; to = to; slots = slots; quality = quality; extension = extension })
-within-ok quality extension from to slots frames are = ap (λ o. unless o (record { from = from; to = to; slots = slots; quality = quality; extension = extension })) (within-none from to frames are)
+pub within-ok : (quality : Option ℕ) (extension : List ℕ) (from to : ℕ) (frames : ℕ) → AreWithin from to frames
+    → chosen_with quality extension from to frames ≡ Ok (record { from = from; to = to; quality = quality; extension = extension })
+within-ok quality extension from to frames are = ap (λ o. unless o (record { from = from; to = to; quality = quality; extension = extension })) (within-none from to frames are)
 
-within-chosen : (quality : Option ℕ) (extension : List ℕ) (from to : ℕ) (slots : Slots) (frames : ℕ) → AreWithin from to frames → (chosen : Chosen) × (chosen_with quality extension from to slots frames ≡ Ok chosen)
-within-chosen quality extension from to slots frames are =
-    (record { from = from; to = to; slots = slots; quality = quality; extension = extension }, within-ok quality extension from to slots frames are)
+within-chosen : (quality : Option ℕ) (extension : List ℕ) (from to : ℕ) (frames : ℕ) → AreWithin from to frames → (chosen : Chosen) × (chosen_with quality extension from to frames ≡ Ok chosen)
+within-chosen quality extension from to frames are =
+    (record { from = from; to = to; quality = quality; extension = extension }, within-ok quality extension from to frames are)
 
-pub cut-range : (from to : Place) (slots : Slots) (file : List ℕ) (s : SurveyFields) (chosen : Chosen) → cut_choice from to slots file s ≡ Ok chosen → IsRange s from to
+pub cut-range : (from to : Place) (file : List ℕ) (s : SurveyFields) (chosen : Chosen) → cut_choice from to file s ≡ Ok chosen → IsRange s from to
 unfolding cut_choice
-cut-range from to slots file s chosen e = chosen-within None (replicate 36 0) (frame_at s.class (length s.frames) from) (frame_at s.class (length s.frames) to) slots (length s.frames) chosen e
+cut-range from to file s chosen e = chosen-within None (replicate 36 0) (frame_at s.class (length s.frames) from) (frame_at s.class (length s.frames) to) (length s.frames) chosen e
 
-pub range-cut : (from to : Place) (slots : Slots) (file : List ℕ) (s : SurveyFields) → IsRange s from to → (chosen : Chosen) × (cut_choice from to slots file s ≡ Ok chosen)
+pub range-cut : (from to : Place) (file : List ℕ) (s : SurveyFields) → IsRange s from to → (chosen : Chosen) × (cut_choice from to file s ≡ Ok chosen)
 unfolding cut_choice
-range-cut from to slots file s is = within-chosen None (replicate 36 0) (frame_at s.class (length s.frames) from) (frame_at s.class (length s.frames) to) slots (length s.frames) is
+range-cut from to file s is = within-chosen None (replicate 36 0) (frame_at s.class (length s.frames) from) (frame_at s.class (length s.frames) to) (length s.frames) is
 
 -- ---- from each position to the next
 
@@ -67,12 +65,12 @@ module _ (class : ClassFields) (frames : ℕ) where
   chosen-next place (to ∷ places) cs e =
       let one = then_ok (frames_between frames (at_place place) (at_place to)) (λ first. with_first first (chosen_from frames (at_place to) (map at_place places))) cs e in
       let more = first-parts one.0 (chosen_from frames (at_place to) (map at_place places)) cs one.2 in
-      next-cons Follows place to places (chosen-within None (replicate 36 0) (at_place place) (at_place to) Own frames one.0 one.1) (chosen-next to places more.0 more.1)
+      next-cons Follows place to places (chosen-within None (replicate 36 0) (at_place place) (at_place to) frames one.0 one.1) (chosen-next to places more.0 more.1)
 
   next-chosen : (place : Place) (places : List Place) → EachNext (place ∷ places) Follows → (cs : List Chosen) × (chosen_from frames (at_place place) (map at_place places) ≡ Ok cs)
   next-chosen place [] each = ([], refl)
   next-chosen place (to ∷ places) each =
-      let one = within-chosen None (replicate 36 0) (at_place place) (at_place to) Own frames (each 0 place to refl refl) in
+      let one = within-chosen None (replicate 36 0) (at_place place) (at_place to) frames (each 0 place to refl refl) in
       let more = next-chosen to places (λ i p q is next. each (suc i) p q is next) in
       (one.0 ∷ more.0, ap₂ (λ (r : Result Chosen EditFault) (rest : Result (List Chosen) EditFault). then_made r (λ first. with_first first rest)) one.1 more.1)
 

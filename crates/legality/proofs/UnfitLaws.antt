@@ -9,8 +9,7 @@ use Rattle.commands.specs.declared.fault.EditFault.TheVariants.{Refused}
 use Rattle.commands.specs.declared.fault.Refusal.TheVariants.{Unfit}
 use Rattle.commands.specs.One.{most_frames, Making, Task, made_by, made_file, made_where, clash_in, unless_clash, made_result, made_of}
 use Rattle.pack_mode.specs.declared.mode.PackMode.TheVariants.{Constant}
-use Rattle.packing.specs.declared.mode.Rates.TheVariants.{Only}
-use Rattle.packing.specs.Packing.{packing}
+use Rattle.frame_edits.specs.Chosen.{laying_with, all_choice}
 use Rattle.packing.specs.Rates.{rates_plan}
 use Rattle.packing.specs.Modes.{pack_task, pack_mode_command}
 use Rattle.legality.specs.Legal.{IsUnfitFor}
@@ -21,7 +20,7 @@ use Rattle.legality.proofs.PackLaws.{rate-none, unfit-made, made-unfit}
 
 module _ (files : Contents) (rate i : ℕ) (input output : List ℕ) where
   abbrev make : Making
-  make = packing (rates_plan (Only rate))
+  make = laying_with all_choice (rates_plan (Constant rate))
 
   abbrev task : Task
   task = pack_task (Constant rate) input
@@ -36,7 +35,7 @@ module _ (files : Contents) (rate i : ℕ) (input output : List ℕ) where
       let file = is.read.bytes in
       let s = is.read.survey in
       let surveyed = whole-survey file most_frames s (record { long = is.is.long; well_formed = is.is.well_formed; few = is.few }) in
-      let made = of-made make files input file s is.is.there surveyed ∙ unfit-made file s surveyed rate i (rate-none (Only rate) s.class is.named) is.unfit in
+      let made = of-made make files input file s is.is.there surveyed ∙ unfit-made file s surveyed rate i (rate-none rate s.class is.named) is.unfit in
       ap₂ (λ (o : Option ℕ) (r : Result (List ℕ) EditFault). made_of output (unless_clash o r)) (apart_no-clash (output ∷ []) (input ∷ []) 0 is.names) made
 
   clash-free : (clash : Option ℕ) (r : Result (List ℕ) EditFault) → made_of output (unless_clash clash r) ≡ unfit → (clash ≡ None) × (r ≡ unfit)

@@ -32,7 +32,6 @@ use Rattle.moved_gains.specs.declared.shift.Steps.{Steps}
 use Rattle.moved_gains.specs.Gains.{steps_of}
 use Rattle.moved_gains.specs.Course.{alike}
 use Rattle.gain_edits.specs.UndoItem.{no_undo, undo_steps, next_undo, tag_with, output_length}
-use Rattle.packing.specs.declared.mode.Rates.TheVariants.{Only}
 use Rattle.packing.specs.Rates.{menu_in}
 use Rattle.pack_mode.specs.declared.mode.PackMode.{PackMode}
 use Rattle.pack_mode.specs.declared.mode.PackMode.TheVariants.{Least, Best, Constant, Floor}
@@ -141,11 +140,11 @@ IsRate rate class = (slot : SlotFields) × Contains all_slots slot × (rate_of c
 -- Some list of slots of this bit rate, padded or not, has room for the main data of all frames, after a lead-in of such a slot or without one
 -- (main_data_begin, 2.4.2.7).
 abbrev pub HasRoom : ℕ → SurveyFields → Type 0
-HasRoom rate s = (lead_in : Bool) × CanBeLaidFrom (window_of s.class.version) lead_in (menu_in (Only rate) s.class) (map need_of s.frames)
+HasRoom rate s = (lead_in : Bool) × CanBeLaidFrom (window_of s.class.version) lead_in (menu_in (Constant rate) s.class) (map need_of s.frames)
 
 -- No such list has room, and this is the first frame, counted from 0, up to which none has even after a lead-in.
 abbrev pub IsFirstUnfit : ℕ → SurveyFields → ℕ → Type 0
-IsFirstUnfit rate s i = IsUnfit (window_of s.class.version) (menu_in (Only rate) s.class) (map need_of s.frames) i
+IsFirstUnfit rate s i = IsUnfit (window_of s.class.version) (menu_in (Constant rate) s.class) (map need_of s.frames) i
 
 -- with the least slots, with the fewest bytes, and with all slots from a bit rate on there is always room
 abbrev pub IsLegalPack : PackMode → SurveyFields → Type 0

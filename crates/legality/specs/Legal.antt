@@ -3,9 +3,7 @@ use Rattle.std.specs.Prelude.{ℕ, ◌≤◌, List, [], ◌∷◌, ◌++◌, len
 use Rattle.outside.specs.Files.{Contents}
 use Rattle.commands.specs.One.{most_frames}
 use Rattle.piece_names.specs.Names.{piece_names}
-use Rattle.packing.specs.Rules.{most_best}
-use Rattle.pack_mode.specs.declared.mode.PackMode.{PackMode}
-use Rattle.pack_mode.specs.declared.mode.PackMode.TheVariants.{Least, Best, Constant, Floor}
+use Rattle.packing.specs.Modes.{allowed_by}
 use Rattle.job_words.specs.Asked.{Asked, Help, Version, ListFile, Gain, Undo, Cut, Pack, SplitAt, SplitBy, Join, Drill, Fade, Salvage}
 use Rattle.legality.specs.Inputs.{AreApart, Input, IsInput, AreInputs, frames_of, OfOne}
 use Rattle.legality.specs.Choices.{IsLegalGain, IsLegalUndo, IsLegalFade, IsRange, ArePieces, IsLegalSheet, IsRate, IsFirstUnfit, IsLegalPack, AreOfOneClass, IsLegalSalvage}
@@ -52,14 +50,8 @@ outputs_of (Fade back input output sheet) = output ∷ []
 outputs_of (Salvage input output) = output ∷ []
 
 -- how many frames the inputs may have together
-abbrev pub most_in_mode : PackMode → ℕ
-most_in_mode Best = most_best
-most_in_mode Least = most_frames
-most_in_mode (Constant rate) = most_frames
-most_in_mode (Floor rate) = most_frames
-
 abbrev pub most_of : Asked → ℕ
-most_of (Pack mode input output) = most_in_mode mode
+most_of (Pack mode input output) = allowed_by mode
 most_of _ = most_frames
 
 -- ---- the choices

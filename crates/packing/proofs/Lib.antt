@@ -4,7 +4,7 @@ pub mod PlanLaws
 pub mod BestLaws
 pub mod LimitLaws
 pub mod PackingLaws
-pub mod RuleLaws
+pub mod ModeLaws
 pub mod FloorLaw
 pub mod FileLengths
 pub mod PlanLengths

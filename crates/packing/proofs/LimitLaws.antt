@@ -29,7 +29,7 @@ use Rattle.commands.specs.One.{Making, made_where, Task, file_task, Refuses, IsF
 use Rattle.commands.proofs.InputLaws.{of_bytes_behind}
 use Rattle.commands.proofs.NamedLaws.{missed_name, unread_name, lost_name}
 use Rattle.commands.proofs.RefusingLaws.{before_first}
-use Rattle.packing.specs.Rules.{unless_fault, limited_by, limited}
+use Rattle.packing.specs.Modes.{unless_fault, limited_by, limited}
 
 -- ---- where more frames are allowed
 

@@ -1,12 +1,12 @@
 -- The slots of some bit rates: their areas ascend, there are some where the named one is a bit rate of the class, and the largest slot is among those
 -- of all bit rates from one on.
-use Rattle.std.proofs.Common.{◌≡◌, ℕ, zero, suc, ◌-◌, ◌<◌, ◌≤◌, ◌==◌, ◌&&◌, Bool, true, false, cond, List, [], ◌∷◌, length, get_or, rules, All, Contains, AllPairs, None, Some, refl, subst, arith}
-use Rattle.std.specs.Prelude.{leb, nat_lt, slice_index, filter}
+use Rattle.std.proofs.Common.{◌≡◌, ℕ, zero, suc, ◌-◌, ◌<◌, ◌≤◌, ◌==◌, ◌&&◌, Bool, true, false, cond, List, [], ◌∷◌, length, get_or, All, Contains, AllPairs, None, Some, refl, subst, arith}
+use Rattle.std.specs.Prelude.{leb, slice_index, filter}
 use Rattle.std.specs.List.{list_all}
 use Rattle.std.proofs.lemmas.List.{get_or-map, length-map, get_or_default}
 use Rattle.std.proofs.lemmas.List.Kept.{AllPairs-filter}
 use Rattle.std.proofs.lemmas.List.Elements.{All-filter}
-use Rattle.std.proofs.lemmas.Bool.{leb-true, le-leb, eqb-true}
+use Rattle.std.proofs.lemmas.Bool.{leb-true, le-leb, ltb-true, eqb-true}
 use Rattle.frame_header.specs.declared.version.Version.{Version}
 use Rattle.frame_header.specs.declared.version.Version.TheVariants.{One, Two, TwoFive}
 use Rattle.frame_header.specs.Fields.{SlotFields, ClassFields, IsSlot, IsClass}
@@ -16,9 +16,9 @@ use Rattle.frame_header.proofs.SlotLaws.{areas-ascend, length-all_slots, IsSlot-
 use Rattle.slot_plan.specs.Parts.{areas_with}
 use Rattle.rate_plan.specs.Menus.{AreAscending}
 use Rattle.commands.specs.declared.fault.Refusal.TheVariants.{NoRate}
-use Rattle.packing.specs.declared.mode.Rates.{Rates}
-use Rattle.packing.specs.declared.mode.Rates.TheVariants.{Only, From}
-use Rattle.packing.specs.Rates.{named, is_rate, allows, menu_in, no_rate}
+use Rattle.pack_mode.specs.declared.mode.PackMode.{PackMode}
+use Rattle.pack_mode.specs.declared.mode.PackMode.TheVariants.{Least, Best, Constant, Floor}
+use Rattle.packing.specs.Rates.{is_rate, allows, menu_in, unless_rate, no_rate}
 
 -- ---- in the order of their areas
 
@@ -33,46 +33,26 @@ menu-areas p class protected ascend = λ i j d before within.
     let less = AllPairs-filter (λ s t. area s < area t) p all_slots slots i j (slot_of 1 false) before inside in
     omega (arith, less, get_or-map area kept i (slot_of 1 false) d (omega (arith, before, inside)), get_or-map area kept j (slot_of 1 false) d inside)
 
-pub menu-ascends : (rates : Rates) (class : ClassFields) → IsClass class → AreAscending class (menu_in rates class)
-menu-ascends rates class sound = λ protected. menu-areas (allows rates class) class protected (areas-ascend class sound protected)
+pub menu-ascends : (mode : PackMode) (class : ClassFields) → IsClass class → AreAscending class (menu_in mode class)
+menu-ascends mode class sound = λ protected. menu-areas (allows mode class) class protected (areas-ascend class sound protected)
 
 -- ---- they are slots
 
 pub all-slots : All IsSlot all_slots
 all-slots = λ k d within. subst IsSlot (get_or_default all_slots k (slot_of 1 false) d within) (IsSlot-nth_slot k (omega (arith, within, length-all_slots)))
 
-pub menu-slots : (rates : Rates) (class : ClassFields) (slot : SlotFields) → Contains (menu_in rates class) slot → IsSlot slot
-menu-slots rates class slot has = subst IsSlot has.2 (All-filter (allows rates class) IsSlot all_slots all-slots has.0 slot has.1)
+pub menu-slots : (mode : PackMode) (class : ClassFields) (slot : SlotFields) → Contains (menu_in mode class) slot → IsSlot slot
+menu-slots mode class slot has = subst IsSlot has.2 (All-filter (allows mode class) IsSlot all_slots all-slots has.0 slot has.1)
 
--- ---- there are some
+-- ---- a bit rate of the class
 
--- where all that pass one test pass another, and some pass the first, some pass the other
-some-kept : (p q : SlotFields → Bool) → ((x : SlotFields) → p x ≡ true → q x ≡ true) → (xs : List SlotFields) → 1 ≤ length (filter p xs) → 1 ≤ length (filter q xs)
-some-kept p q weaker [] some = absurd (omega (arith, some))
-some-kept p q weaker (x ∷ xs) some = at (q x) refl (p x) refl some (λ more. some-kept p q weaker xs more)
+-- some slot has the bit rate
+rate-is : (rate : ℕ) (class : ClassFields) → unless_rate rate class ≡ None → 1 ≤ length (menu_in (Constant rate) class)
+rate-is rate class none = omega (arith, ltb-true 0 (length (menu_in (Constant rate) class)) (at (is_rate rate class) refl none))
   where
-    at : (b : Bool) → q x ≡ b → (a : Bool) → p x ≡ a → 1 ≤ length (cond a (x ∷ filter p xs) (filter p xs)) → (1 ≤ length (filter p xs) → 1 ≤ length (filter q xs)) → 1 ≤ length (cond b (x ∷ filter q xs) (filter q xs))
-    at true kept a passes some rest = omega arith
-    at false kept true passes some rest = let both = weaker x passes in absurd cc
-    at false kept false passes some rest = rest some
-
-named-allowed : (rates : Rates) (class : ClassFields) (slot : SlotFields) → (rate_of class slot == named rates) ≡ true → allows rates class slot ≡ true
-named-allowed (Only rate) class slot same = same
-named-allowed (From rate) class slot same = le-leb rate (rate_of class slot) (omega (arith, eqb-true (rate_of class slot) rate same))
-
-only-some : (n : ℕ) → nat_lt 0 n ≡ true → 1 ≤ n
-only-some n some = search rules
-
--- some slot has the bit rate that is named
-rate-is : (rates : Rates) (class : ClassFields) → no_rate rates class ≡ None → 1 ≤ length (menu_in (Only (named rates)) class)
-rate-is rates class none = only-some (length (menu_in (Only (named rates)) class)) (at (is_rate (named rates) class) refl none)
-  where
-    at : (b : Bool) → is_rate (named rates) class ≡ b → cond b None (Some (NoRate (named rates))) ≡ None → is_rate (named rates) class ≡ true
+    at : (b : Bool) → is_rate rate class ≡ b → cond b None (Some (NoRate rate)) ≡ None → is_rate rate class ≡ true
     at true is none = is
     at false is none = absurd cc
-
-pub menu-some : (rates : Rates) (class : ClassFields) → no_rate rates class ≡ None → 1 ≤ length (menu_in rates class)
-menu-some rates class none = some-kept (λ slot. rate_of class slot == named rates) (allows rates class) (named-allowed rates class) all_slots (rate-is rates class none)
 
 -- ---- the largest
 
@@ -109,8 +89,23 @@ contains-kept p xs x has passes = walk xs has.0 has.1 has.2
     walk (y ∷ ys) zero within same = here y ys same (p y) refl
     walk (y ∷ ys) (suc k) within same = at y ys (walk ys k (omega (arith, within)) same) (p y)
 
-pub floor-largest : (rate : ℕ) (class : ClassFields) → no_rate (From rate) class ≡ None → Contains (menu_in (From rate) class) largest_slot
+-- a mode that allows the largest slot has it in its menu
+largest-kept : (mode : PackMode) (class : ClassFields) → allows mode class largest_slot ≡ true → Contains (menu_in mode class) largest_slot
+largest-kept mode class allowed = contains-kept (allows mode class) all_slots largest_slot (Contains-all_slots largest_slot (omega arith, omega arith)) allowed
+
+pub floor-largest : (rate : ℕ) (class : ClassFields) → no_rate (Floor rate) class ≡ None → Contains (menu_in (Floor rate) class) largest_slot
 unfolding rate_of
 floor-largest rate class none =
-    let most = any-most (rate_of class) rate (rate_of class largest_slot) all_slots (rates-top class.version) (rate-is (From rate) class none) in
-    contains-kept (allows (From rate) class) all_slots largest_slot (Contains-all_slots largest_slot (omega arith, omega arith)) (le-leb rate (rate_of class largest_slot) most)
+    let most = any-most (rate_of class) rate (rate_of class largest_slot) all_slots (rates-top class.version) (rate-is rate class none) in
+    largest-kept (Floor rate) class (le-leb rate (rate_of class largest_slot) most)
+
+-- ---- there are some
+
+kept-some : (mode : PackMode) (class : ClassFields) → Contains (menu_in mode class) largest_slot → 1 ≤ length (menu_in mode class)
+kept-some mode class has = omega (arith, has.1)
+
+pub menu-some : (mode : PackMode) (class : ClassFields) → no_rate mode class ≡ None → 1 ≤ length (menu_in mode class)
+menu-some Least class none = kept-some Least class (largest-kept Least class refl)
+menu-some Best class none = kept-some Best class (largest-kept Best class refl)
+menu-some (Constant rate) class none = rate-is rate class none
+menu-some (Floor rate) class none = kept-some (Floor rate) class (floor-largest rate class none)

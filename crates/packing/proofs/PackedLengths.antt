@@ -6,7 +6,6 @@ use Rattle.outside.proofs.FilesLaws.{with_file_here}
 use Rattle.frame_header.specs.Tables.{window_of}
 use Rattle.outside.specs.Seen.{Seen}
 use Rattle.slot_plan.specs.declared.needs.Placed.{Placed}
-use Rattle.slot_plan.specs.Plans.{IsPlan}
 use Rattle.best_plan.specs.Best.{IsBestPlan}
 use Rattle.part_needs.specs.Fit.{IsPlaced, any_choice}
 use Rattle.sync_survey.specs.declared.survey_fault.SurveyFault.{SurveyFault}
@@ -21,17 +20,14 @@ use Rattle.commands.specs.Command.{Made, clash_from, written}
 use Rattle.commands.specs.Left.{IsDone}
 use Rattle.commands.specs.Runs.{IsRunOf}
 use Rattle.commands.specs.One.{most_frames, made_by, made_file, made_where, unless_clash, made_result, made_of}
-use Rattle.commands.proofs.RefusingLaws.{unless_ok, then_ok}
-use Rattle.frame_edits.specs.declared.chosen.Slots.TheVariants.{Least as LeastSlots}
-use Rattle.laying.specs.Laid.{Laid, file_laid}
-use Rattle.frame_edits.specs.Chosen.{Chosen, outside_fault, choices_by, plan_of, laid_by, laid_with, choosing, chosen_file, all_choice}
-use Rattle.frame_edits.proofs.ChosenLaws.{IsRight, all_right, the-plan, plan-fitting}
+use Rattle.laying.specs.Laid.{file_laid}
+use Rattle.frame_edits.specs.Chosen.{needs_of, first_plan, first_planning, laid_by, laying_with, all_choice}
+use Rattle.frame_edits.proofs.ChosenLaws.{IsRight, IsLaidBy, laid-parts, laying-is, all_right, all-whole}
 use Rattle.pack_mode.specs.declared.mode.PackMode.{PackMode}
 use Rattle.pack_mode.specs.declared.mode.PackMode.TheVariants.{Least, Best, Constant, Floor}
-use Rattle.packing.specs.Modes.{pack_task, pack_mode_command}
-use Rattle.packing.specs.Packing.{needs_of, laid_as, packed, packing}
-use Rattle.packing.specs.Rules.{best_planning, most_best, limited_by}
-use Rattle.packing.proofs.BestLaws.{best-is, best-fitting}
+use Rattle.packing.specs.Modes.{best_planning, most_best, limited_by, pack_task, pack_mode_command}
+use Rattle.packing.proofs.BestLaws.{best-is, best-fitting, plain-plan}
+use Rattle.packing.proofs.ModeLaws.{mode-fitting}
 use Rattle.packing.proofs.LimitLaws.{limited-made}
 use Rattle.packing.proofs.PlanLaws.{rows-same, rows-sound}
 use Rattle.packing.specs.Fewest.{HasNoMore, IsFewest, WritesFewest}
@@ -48,68 +44,31 @@ record IsMadeOf (input output : List ℕ) (files : Contents) (made : List ℕ) :
   there : files input ≡ Some file
   survey : SurveyFields
   surveyed : survey_of file most_frames ≡ Ok survey
-  chosen : Chosen
-  chose : all_choice LeastSlots file survey ≡ Ok chosen
-  placed : List Placed
-  planned : best_planning survey.class (needs_of chosen survey) ≡ Ok placed
-  is : file_laid (laid_by chosen placed) file survey ≡ made
+  by : IsLaidBy all_choice best_planning file survey made
 
 module _ (input output : List ℕ) (files : Contents) (made : List ℕ) where
-  by-plan : clash_from (output ∷ []) 0 (input ∷ []) ≡ None → (file : List ℕ) → files input ≡ Some file → (s : SurveyFields) → survey_of file most_frames ≡ Ok s → packing best_planning file s ≡ Ok made → IsMadeOf input output files made
-  unfolding packed
-  by-plan apart file there s surveyed e =
-      let whole = then_ok (packed best_planning file s) (λ laid. Ok (file_laid laid file s)) made e in
-      let chose = then_ok (all_choice LeastSlots file s) (laid_as best_planning s) whole.0 whole.1 in
-      let planned = then_ok (best_planning s.class (needs_of chose.0 s)) (λ placed. Ok (laid_by chose.0 placed)) whole.0 chose.2 in
-      let laid : laid_by chose.0 planned.0 ≡ whole.0 = cc in
-      let bytes : file_laid whole.0 file s ≡ made = cc in
-      record {
-        apart = apart;
-        file = file;
-        there = there;
-        survey = s;
-        surveyed = surveyed;
-        chosen = chose.0;
-        chose = chose.1;
-        placed = planned.0;
-        planned = planned.1;
-        is = ap (λ (l : Laid). file_laid l file s) laid ∙ bytes;
-      }
-
-  by-survey : clash_from (output ∷ []) 0 (input ∷ []) ≡ None → (file : List ℕ) → files input ≡ Some file → (r : Result SurveyFields SurveyFault) → survey_of file most_frames ≡ r → made_by (packing best_planning) file r ≡ Ok made → IsMadeOf input output files made
+  by-survey : clash_from (output ∷ []) 0 (input ∷ []) ≡ None → (file : List ℕ) → files input ≡ Some file → (r : Result SurveyFields SurveyFault) → survey_of file most_frames ≡ r → made_by (laying_with all_choice best_planning) file r ≡ Ok made → IsMadeOf input output files made
   by-survey apart file there (Err fault) surveyed e = absurd cc
-  by-survey apart file there (Ok s) surveyed e = by-plan apart file there s surveyed e
+  by-survey apart file there (Ok s) surveyed e = record { apart = apart; file = file; there = there; survey = s; surveyed = surveyed; by = laid-parts all_choice best_planning file s made e }
 
-  by-there : clash_from (output ∷ []) 0 (input ∷ []) ≡ None → (o : Option (List ℕ)) → files input ≡ o → made_where (packing best_planning) o ≡ Ok made → IsMadeOf input output files made
+  by-there : clash_from (output ∷ []) 0 (input ∷ []) ≡ None → (o : Option (List ℕ)) → files input ≡ o → made_where (laying_with all_choice best_planning) o ≡ Ok made → IsMadeOf input output files made
   unfolding made_file
   by-there apart None there e = absurd cc
   by-there apart (Some file) there e = by-survey apart file there (survey_of file most_frames) refl e
 
-  by-clash : (o : Option ℕ) → clash_from (output ∷ []) 0 (input ∷ []) ≡ o → unless_clash o (limited_by (Some most_best) (files input) (made_where (packing best_planning) (files input))) ≡ Ok made → IsMadeOf input output files made
+  by-clash : (o : Option ℕ) → clash_from (output ∷ []) 0 (input ∷ []) ≡ o → unless_clash o (limited_by (Some most_best) (files input) (made_where (laying_with all_choice best_planning) (files input))) ≡ Ok made → IsMadeOf input output files made
   by-clash (Some place) apart e = absurd cc
-  by-clash None apart e = by-there apart (files input) refl (limited-made most_best (files input) (made_where (packing best_planning) (files input)) made e)
+  by-clash None apart e = by-there apart (files input) refl (limited-made most_best (files input) (made_where (laying_with all_choice best_planning) (files input)) made e)
 
   made-of : made_result (pack_task Best input) output files ≡ Ok made → IsMadeOf input output files made
   unfolding made_result
   made-of e = by-clash (clash_from (output ∷ []) 0 (input ∷ [])) refl e
 
--- all frames are chosen
-record IsWhole (chosen : Chosen) (s : SurveyFields) : Type 0 where
-  from : chosen.from ≡ 0
-  to : chosen.to ≡ length s.frames
-  slots : chosen.slots ≡ LeastSlots
-
-all-whole : (file : List ℕ) (s : SurveyFields) (chosen : Chosen) → all_choice LeastSlots file s ≡ Ok chosen → IsWhole chosen s
-unfolding all_choice
-all-whole file s chosen e =
-    let same = (unless_ok (outside_fault 0 (length s.frames) (length s.frames)) _ chosen e).1 in
-    record { from = sym (ap (λ (c : Chosen). c.from) same); to = sym (ap (λ (c : Chosen). c.to) same); slots = sym (ap (λ (c : Chosen). c.slots) same) }
-
 -- ---- its length
 
 module _ (input output : List ℕ) (files : Contents) (best : List ℕ) (m : IsMadeOf input output files best) where
-  right : IsRight m.chosen m.survey
-  right = all_right LeastSlots m.file m.survey m.chosen m.chose
+  right : IsRight m.by.chosen m.survey
+  right = all_right m.file m.survey m.by.chosen m.by.chose
 
   well : IsPlaced m.survey
   well = surveyed-placed m.file most_frames m.survey (survey_of-parts m.file most_frames m.survey m.surveyed).1
@@ -117,58 +76,57 @@ module _ (input output : List ℕ) (files : Contents) (best : List ℕ) (m : IsM
   abbrev window : ℕ
   window = window_of m.survey.class.version
 
-  fitting : IsFitting window (needs_of m.chosen m.survey) m.placed
-  fitting = (best-fitting m.chosen m.survey well right.some right.within m.placed m.planned).fitting
+  fitting : IsFitting window (needs_of m.by.chosen m.survey) m.by.placed
+  fitting = (best-fitting m.by.chosen m.survey well right.some right.within m.by.placed m.by.planned).fitting
 
-  best_plan : IsBestPlan window any_choice (needs_of m.chosen m.survey) m.placed
-  best_plan = best-is m.chosen m.survey well right.some right.within m.placed m.planned
+  best_plan : IsBestPlan window any_choice (needs_of m.by.chosen m.survey) m.by.placed
+  best_plan = best-is m.by.chosen m.survey well right.some right.within m.by.placed m.by.planned
 
-  by-other : (other : List Placed) → IsFitting window (needs_of m.chosen m.survey) other → HasNoMore m.placed other → length best ≤ length (file_laid (laid_by m.chosen other) m.file m.survey)
+  by-other : (other : List Placed) → IsFitting window (needs_of m.by.chosen m.survey) other → HasNoMore m.by.placed other → length best ≤ length (file_laid (laid_by m.by.chosen other) m.file m.survey)
   by-other other fits more =
-      subst (λ (l : List ℕ). length l ≤ length (file_laid (laid_by m.chosen other) m.file m.survey)) m.is
-      (no-longer (laid_by m.chosen m.placed) other m.file m.survey (survey-had m.file most_frames m.survey m.surveyed) right.some right.within right.extension fitting fits
-      (best-least window m.survey.class (needs_of m.chosen m.survey) (rows-sound m.chosen m.survey well right.some right.within) (rows-same m.chosen m.survey well right.some right.within) m.placed other best_plan fitting.slots fits more))
+      subst (λ (l : List ℕ). length l ≤ length (file_laid (laid_by m.by.chosen other) m.file m.survey)) m.by.is
+      (no-longer (laid_by m.by.chosen m.by.placed) other m.file m.survey (survey-had m.file most_frames m.survey m.surveyed) right.some right.within right.extension fitting fits
+      (best-least window m.survey.class (needs_of m.by.chosen m.survey) (rows-sound m.by.chosen m.survey well right.some right.within) (rows-same m.by.chosen m.survey well right.some right.within) m.by.placed other best_plan fitting.slots fits more))
 
   fewest-is : IsFewest m.file best
   fewest-is =
-      let whole = all-whole m.file m.survey m.chosen m.chose in
+      let whole = all-whole m.file m.survey m.by.chosen m.by.chose in
       record {
         survey = m.survey;
         surveyed = m.surveyed;
-        laid = laid_by m.chosen m.placed;
-        first = whole.from;
-        last = whole.to;
+        laid = laid_by m.by.chosen m.by.placed;
+        first = whole.0;
+        last = whole.1;
         fits = fitting;
-        is = sym m.is;
+        is = sym m.by.is;
         fewest = by-other;
       }
 
   -- ---- beside that of the plain packing
 
-  plain_plan : IsPlan window any_choice (needs_of m.chosen m.survey ∷ []) (plan_of m.chosen m.survey)
-  plain_plan =
-      subst (λ slots. IsPlan window (choices_by slots) (needs_of m.chosen m.survey ∷ []) (plan_of m.chosen m.survey)) (all-whole m.file m.survey m.chosen m.chose).slots
-      (the-plan m.chosen m.survey well right.some right.within)
+  abbrev plain : List Placed
+  plain = first_plan any_choice m.survey.class (needs_of m.by.chosen m.survey)
 
-  plain_made : made_result (pack_task Least input) output files ≡ Ok (chosen_file m.chosen m.file m.survey)
+  plain_made : made_result (pack_task Least input) output files ≡ Ok (file_laid (laid_by m.by.chosen plain) m.file m.survey)
   unfolding made_result made_file
   plain_made =
-      let make = choosing (all_choice LeastSlots) in
+      let make = laying_with all_choice (first_planning any_choice) in
       ap (λ o. unless_clash o (made_where make (files input))) m.apart
       ∙ ap (made_where make) m.there
       ∙ ap (made_by make m.file) m.surveyed
-      ∙ ap (laid_with m.file m.survey) m.chose
+      ∙ laying-is all_choice (first_planning any_choice) m.file m.survey m.by.chosen (Ok plain) m.by.chose refl
 
-  plain-longer : length best ≤ length (chosen_file m.chosen m.file m.survey)
-  unfolding chosen_file
-  plain-longer = by-other (plan_of m.chosen m.survey) (plan-fitting m.chosen m.survey well right.some right.within) (plan-no_more window m.placed (plan_of m.chosen m.survey) (needs_of m.chosen m.survey) best_plan plain_plan)
+  plain-longer : length best ≤ length (file_laid (laid_by m.by.chosen plain) m.file m.survey)
+  plain-longer =
+      by-other plain (mode-fitting m.by.chosen m.survey well right.some right.within Least plain refl).fitting
+      (plan-no_more window m.by.placed plain (needs_of m.by.chosen m.survey) best_plan (plain-plan m.by.chosen m.survey well right.some right.within))
 
 -- ---- the laws
 
 pub longer-never : NeverLonger
 longer-never = λ input output files best e.
     let m = made-of input output files best e in
-    (chosen_file m.chosen m.file m.survey, plain_made input output files best m, plain-longer input output files best m)
+    (file_laid (laid_by m.by.chosen (plain input output files best m)) m.file m.survey, plain_made input output files best m, plain-longer input output files best m)
 
 pub bytes-fewest : FewestBytes
 bytes-fewest = λ input output files best e.

@@ -1,21 +1,21 @@
 -- The plan with the slots of some bit rates: it can be laid, and with all bit rates from one on there is always one.
-use Rattle.std.proofs.Common.{◌≡◌, ℕ, zero, suc, ◌+◌, ◌-◌, ◌==◌, get_or, append-nil, ◌<◌, ◌≤◌, Bool, true, false, List, [], ◌∷◌, length, map, drop, All, Contains, None, Result, Ok, Err, refl, sym, ◌∙◌, ap, subst, arith, length-drop}
-use Rattle.std.specs.Prelude.{IfErr, MatchResult, slice_range}
+use Rattle.std.proofs.Common.{◌≡◌, ℕ, zero, suc, ◌+◌, ◌-◌, get_or, append-nil, ◌<◌, ◌≤◌, Bool, true, false, List, [], ◌∷◌, length, map, drop, All, Contains, None, Result, Ok, Err, refl, sym, ◌∙◌, ap, subst, arith, length-drop}
+use Rattle.std.specs.Prelude.{IfErr, MatchResult}
 use Rattle.std.proofs.lemmas.List.{length-map, length-take}
 use Rattle.frame_header.specs.Fields.{SlotFields, ClassFields, IsSlot, IsClass}
 use Rattle.frame_header.specs.Tables.{window_of}
+use Rattle.frame_header.specs.Slots.{largest_slot}
 use Rattle.frame_header.proofs.HeaderLaws.{IsClass-class_of}
 use Rattle.slot_plan.specs.declared.needs.Need.{Need}
 use Rattle.slot_plan.specs.declared.needs.Placed.{Placed}
 use Rattle.slot_plan.specs.Layouts.{IsFeasible, begins_of}
 use Rattle.slot_plan.specs.Lists.{frames_of}
-use Rattle.slot_plan.specs.Parts.{Item, item_of, open_of, AreOfClass, AreOfOneClass, window_in}
+use Rattle.slot_plan.specs.Parts.{Item, item_of, open_of, AreOfClass, window_in}
 use Rattle.slot_plan.specs.Plans.{AreFor, areas_in, entries}
 use Rattle.slot_plan.specs.declared.needs.Plan.{Plan}
 use Rattle.part_needs.specs.Needs.{Asked, need_of, asked_of, needs_of as needs_of_parts}
 use Rattle.part_needs.specs.Fit.{IsPlaced}
 use Rattle.part_needs.proofs.FitLaws.{AreKnown, part-fits, part-known}
-use Rattle.part_needs.proofs.PartsLaws.{one_class}
 use Rattle.rate_plan.specs.Menus.{from_menu, items_from, AreAscending, IsMenu, IsMenuPlan}
 use Rattle.rate_plan.specs.declared.fault.RateFault.{RateFault}
 use Rattle.rate_plan.specs.declared.fault.RateFault.TheVariants.{Unfit, Memory as NoMemory}
@@ -26,15 +26,16 @@ use Rattle.laying.specs.Fits.{IsFitting}
 use Rattle.laying.proofs.FitLaws.{Asks, items-fit, asks-each, AreOpen, open-in_slots}
 use Rattle.sync_survey.specs.Row.{Row}
 use Rattle.sync_survey.specs.Faults.{SurveyFields}
-use Rattle.commands.specs.declared.fault.Refusal.TheVariants.{Unfit as UnfitFrame}
+use Rattle.commands.specs.declared.fault.EditFault.{EditFault}
 use Rattle.commands.specs.Left.{IsLate}
 use Rattle.commands.specs.Refusing.{unless, then_made}
 use Rattle.commands.proofs.RefusingLaws.{unless_late, unless_ok, then_late, then_ok}
-use Rattle.frame_edits.specs.Chosen.{Chosen, chosen_rows}
-use Rattle.packing.specs.declared.mode.Rates.{Rates}
-use Rattle.packing.specs.declared.mode.Rates.TheVariants.{Only, From}
-use Rattle.packing.specs.Packing.{needs_of, IsPlanFault}
-use Rattle.packing.specs.Rates.{menu_in, no_rate, fitted, rates_plan, rates_refuse, of_rate}
+use Rattle.frame_edits.specs.Chosen.{Chosen, chosen_rows, needs_of}
+use Rattle.pack_mode.specs.declared.mode.PackMode.{PackMode}
+use Rattle.pack_mode.specs.declared.mode.PackMode.TheVariants.{Least, Best, Constant, Floor}
+use Rattle.packing.specs.Answers.{IsPlanFault}
+use Rattle.packing.specs.Rates.{menu_in, no_rate, fitted, rates_plan, of_rate}
+use Rattle.packing.specs.Modes.{plan_by, refuses_by}
 use Rattle.packing.proofs.MenuLaws.{menu-ascends, menu-slots, menu-some, floor-largest}
 
 -- ---- from a menu
@@ -102,20 +103,20 @@ fitted-late : (r : Result (List Placed) ℕ) → IfErr (fitted r) IsLate
 fitted-late (Ok placed) = tt
 fitted-late (Err i) = refl
 
-pub rates-late : (rates : Rates) (class : ClassFields) (needs : List Need) → IfErr (rates_plan rates class needs) IsLate
-rates-late rates class needs =
-    then_late (unless (no_rate rates class) (menu_in rates class)) (λ menu. fitted (least_menu_plan (window_of class.version) menu needs)) (unless_late (no_rate rates class) (menu_in rates class))
+pub rates-late : (mode : PackMode) (class : ClassFields) (needs : List Need) → IfErr (rates_plan mode class needs) IsLate
+rates-late mode class needs =
+    then_late (unless (no_rate mode class) (menu_in mode class)) (λ menu. fitted (least_menu_plan (window_of class.version) menu needs)) (unless_late (no_rate mode class) (menu_in mode class))
     (λ menu. fitted-late (least_menu_plan (window_of class.version) menu needs))
 
-pub rates-fitting : (rates : Rates) (class : ClassFields) (needs : List Need) (placed : List Placed) → IsClass class → AreOfClass class needs → 1 ≤ length needs → rates_plan rates class needs ≡ Ok placed
+pub rates-fitting : (mode : PackMode) (class : ClassFields) (needs : List Need) (placed : List Placed) → IsClass class → AreOfClass class needs → 1 ≤ length needs → rates_plan mode class needs ≡ Ok placed
     → IsFittingFew (window_of class.version) needs placed
-rates-fitting rates class needs placed sound same some planned =
+rates-fitting mode class needs placed sound same some planned =
     let window = window_of class.version in
-    let made = then_ok (unless (no_rate rates class) (menu_in rates class)) (λ menu. fitted (least_menu_plan window menu needs)) placed planned in
-    let ok = unless_ok (no_rate rates class) (menu_in rates class) made.0 made.1 in
-    let is : least_menu_plan window (menu_in rates class) needs ≡ Ok placed = fitted-ok (least_menu_plan window (menu_in rates class) needs) placed (ap (λ menu. fitted (least_menu_plan window menu needs)) ok.1 ∙ made.2) in
-    menu-fitting window (menu_in rates class) needs placed (menu-slots rates class)
-    (((least_menu_plan-is window class (menu_in rates class) needs same some (menu-ascends rates class sound) (menu-some rates class ok.0)).0 placed).1 is)
+    let made = then_ok (unless (no_rate mode class) (menu_in mode class)) (λ menu. fitted (least_menu_plan window menu needs)) placed planned in
+    let ok = unless_ok (no_rate mode class) (menu_in mode class) made.0 made.1 in
+    let is : least_menu_plan window (menu_in mode class) needs ≡ Ok placed = fitted-ok (least_menu_plan window (menu_in mode class) needs) placed (ap (λ menu. fitted (least_menu_plan window menu needs)) ok.1 ∙ made.2) in
+    menu-fitting window (menu_in mode class) needs placed (menu-slots mode class)
+    (((least_menu_plan-is window class (menu_in mode class) needs same some (menu-ascends mode class sound) (menu-some mode class ok.0)).0 placed).1 is)
 
 -- ---- what the planner answers
 
@@ -124,7 +125,7 @@ unfolding AreOfClass
 window-is class [] same some = absurd (omega (arith, some))
 window-is class (first ∷ needs) same some = ap (λ (c : ClassFields). window_of c.version) same.0
 
-is-menu : (class : ClassFields) (menu : List SlotFields) (needs : List Need) → AreOfClass class needs → AreAscending class menu → IsMenu menu needs
+pub is-menu : (class : ClassFields) (menu : List SlotFields) (needs : List Need) → AreOfClass class needs → AreAscending class menu → IsMenu menu needs
 unfolding AreOfClass
 is-menu class menu [] same ascend = tt
 is-menu class menu (first ∷ needs) same ascend = subst (λ c. AreAscending c menu) (sym same.0) ascend
@@ -138,19 +139,12 @@ needs-one rows = append-nil (map need_of rows)
 pub given-needs : (rows : List Row) (parts : Asked) (needs : List Need) → parts ≡ asked_of (rows ∷ []) → needs ≡ parts.needs → needs ≡ map need_of rows
 given-needs rows parts needs same is = is ∙ ap (λ (a : Asked). a.needs) same ∙ needs-one rows
 
-module _ (class : ClassFields) (menu : List SlotFields) (needs given : List Need) (is : given ≡ needs) (same : AreOfClass class needs) (ascend : AreAscending class menu) where
-  pub given-class : AreOfOneClass given
-  given-class = subst AreOfOneClass (sym is) (one_class class needs same)
+-- what it says of the plan from this menu
+abbrev Says : ℕ → List SlotFields → List Need → Result Plan RateFault → Type 0
+Says window menu needs r = MatchResult r (λ plan. least_menu_plan window menu needs ≡ Ok (entries plan)) (IsMenuFault (least_menu_plan window menu needs))
 
-  pub given-menu : IsMenu menu given
-  given-menu = subst (IsMenu menu) (sym is) (is-menu class menu needs same ascend)
-
-  -- what it says of the plan of these needs
-  abbrev Says : ℕ → List Need → Result Plan RateFault → Type 0
-  Says window asked r = MatchResult r (λ plan. least_menu_plan window menu asked ≡ Ok (entries plan)) (IsMenuFault (least_menu_plan window menu asked))
-
-  pub planner-says : (r : Result Plan RateFault) → 1 ≤ length needs → Says (window_in given) given r → Says (window_of class.version) needs r
-  planner-says r some says = subst (λ (w : ℕ). Says w needs r) (window-is class needs same some) (subst (λ (n : List Need). Says (window_in n) n r) is says)
+pub planner-says : (class : ClassFields) (menu : List SlotFields) (needs : List Need) (r : Result Plan RateFault) → AreOfClass class needs → 1 ≤ length needs → Says (window_in needs) menu needs r → Says (window_of class.version) menu needs r
+planner-says class menu needs r same some says = subst (λ (w : ℕ). Says w menu needs r) (window-is class needs same some) says
 
 -- ---- chosen frames
 
@@ -167,6 +161,12 @@ known-slots (r ∷ rows) known = λ k d within. at k d within (known-slots rows 
     at zero d within rest = known.0.slot
     at (suc k) d within rest = rest k d (omega (arith, within))
 
+-- the mode names a bit rate
+abbrev pub IsNamed : PackMode → Type 0
+IsNamed (Constant rate) = Unit {0}
+IsNamed (Floor rate) = Unit {0}
+IsNamed _ = ⊥
+
 module _ (chosen : Chosen) (s : SurveyFields) (placed : IsPlaced s) (some : chosen.from < chosen.to) (within : chosen.to ≤ length s.frames) where
   pub rows-some : 1 ≤ length (chosen_rows chosen s)
   rows-some = omega (arith, some, within, length-drop chosen.from s.frames, length-take (chosen.to - chosen.from) (drop chosen.from s.frames))
@@ -180,42 +180,45 @@ module _ (chosen : Chosen) (s : SurveyFields) (placed : IsPlaced s) (some : chos
   pub rows-sound : IsClass s.class
   rows-sound = class-sound s.class (chosen_rows chosen s) (part-known s chosen.from chosen.to placed) rows-same rows-some
 
-  needs-some : 1 ≤ length (needs_of chosen s)
+  pub needs-some : 1 ≤ length (needs_of chosen s)
   needs-some = omega (arith, rows-some, length-map (chosen_rows chosen s) need_of)
 
-  pub chosen-fitting : (rates : Rates) (plan : List Placed) → rates_plan rates s.class (needs_of chosen s) ≡ Ok plan → IsFittingFew (window_of s.class.version) (needs_of chosen s) plan
-  chosen-fitting rates plan planned = rates-fitting rates s.class (needs_of chosen s) plan rows-sound rows-same needs-some planned
+  pub chosen-fitting : (mode : PackMode) (plan : List Placed) → rates_plan mode s.class (needs_of chosen s) ≡ Ok plan → IsFittingFew (window_of s.class.version) (needs_of chosen s) plan
+  chosen-fitting mode plan planned = rates-fitting mode s.class (needs_of chosen s) plan rows-sound rows-same needs-some planned
 
   known : AreKnown (chosen_rows chosen s)
   known = part-known s chosen.from chosen.to placed
 
-  -- with all bit rates from one on no frame is unfit
-  pub never-unfit : (rate i : ℕ) → no_rate (From rate) s.class ≡ None → least_menu_plan (window_of s.class.version) (menu_in (From rate) s.class) (needs_of chosen s) ≡ Err i → ⊥
-  never-unfit rate i none is =
-      let menu = menu_in (From rate) s.class in
-      let unfit = ((least_menu_plan-is (window_of s.class.version) s.class menu (needs_of chosen s) rows-same needs-some (menu-ascends (From rate) s.class rows-sound) (menu-some (From rate) s.class none)).1 i).1 is in
-      largest-fits s.class menu (needs_of chosen s) i rows-sound rows-same (known-slots (chosen_rows chosen s) known) (floor-largest rate s.class none) (part-fits s chosen.from chosen.to placed).1 unfit
+  abbrev menu_answer : PackMode → Result (List Placed) ℕ
+  menu_answer mode = least_menu_plan (window_of s.class.version) (menu_in mode s.class) (needs_of chosen s)
 
-  refuses-unfit : (rates : Rates) (i : ℕ) → no_rate rates s.class ≡ None → least_menu_plan (window_of s.class.version) (menu_in rates s.class) (needs_of chosen s) ≡ Err i → rates_refuse rates (UnfitFrame i) ≡ true
-  refuses-unfit (Only rate) i none is = refl
-  refuses-unfit (From rate) i none is = absurd (never-unfit rate i none is)
+  -- where the largest slot is allowed no frame is unfit
+  never-unfit : (mode : PackMode) (i : ℕ) → no_rate mode s.class ≡ None → Contains (menu_in mode s.class) largest_slot → menu_answer mode ≡ Err i → ⊥
+  never-unfit mode i none largest is =
+      let menu = menu_in mode s.class in
+      let unfit = ((least_menu_plan-is (window_of s.class.version) s.class menu (needs_of chosen s) rows-same needs-some (menu-ascends mode s.class rows-sound) (menu-some mode s.class none)).1 i).1 is in
+      largest-fits s.class menu (needs_of chosen s) i rows-sound rows-same (known-slots (chosen_rows chosen s) known) largest (part-fits s chosen.from chosen.to placed).1 unfit
 
-  plan-by : (rates : Rates) → no_rate rates s.class ≡ None → rates_plan rates s.class (needs_of chosen s) ≡ fitted (least_menu_plan (window_of s.class.version) (menu_in rates s.class) (needs_of chosen s))
-  plan-by rates none = ap (λ o. then_made (unless o (menu_in rates s.class)) (λ menu. fitted (least_menu_plan (window_of s.class.version) menu (needs_of chosen s)))) none
+  -- so it is with all bit rates from one on
+  pub floor-unfit : (rate i : ℕ) → no_rate (Floor rate) s.class ≡ None → menu_answer (Floor rate) ≡ Err i → ⊥
+  floor-unfit rate i none is = never-unfit (Floor rate) i none (floor-largest rate s.class none) is
 
-  pub plan-is : (rates : Rates) (plan : List Placed) → no_rate rates s.class ≡ None → least_menu_plan (window_of s.class.version) (menu_in rates s.class) (needs_of chosen s) ≡ Ok plan → rates_plan rates s.class (needs_of chosen s) ≡ Ok plan
-  plan-is rates plan none is = plan-by rates none ∙ ap fitted is
+  pub plan-is : (mode : PackMode) (r : Result (List Placed) ℕ) → no_rate mode s.class ≡ None → menu_answer mode ≡ r → rates_plan mode s.class (needs_of chosen s) ≡ fitted r
+  plan-is mode r none is = ap (λ o. then_made (unless o (menu_in mode s.class)) (λ menu. fitted (least_menu_plan (window_of s.class.version) menu (needs_of chosen s)))) none ∙ ap fitted is
 
-  pub plan-fault : (rates : Rates) (fault : RateFault) → no_rate rates s.class ≡ None → IsMenuFault (least_menu_plan (window_of s.class.version) (menu_in rates s.class) (needs_of chosen s)) fault
-      → IsPlanFault (rates_plan rates) (rates_refuse rates) s.class (needs_of chosen s) (of_rate fault)
-  plan-fault rates (Unfit i) none is = (plan-by rates none ∙ ap fitted is, refuses-unfit rates i none is)
-  plan-fault rates NoMemory none is = tt
+  abbrev IsFaultIn : PackMode → EditFault → Type 0
+  IsFaultIn mode fault = IsPlanFault (plan_by mode) (refuses_by mode) s.class (needs_of chosen s) fault
 
-  -- by what the code has of class, menu and frames
-  module _ (rates : Rates) (class : ClassFields) (menu : List SlotFields) (frames : List Row) (class_is : class ≡ s.class) (menu_is : menu ≡ menu_in rates class) (frames_are : frames ≡ s.frames) (none : no_rate rates class ≡ None) where
-    pub menu-fault : (fault : RateFault) → IsMenuFault (least_menu_plan (window_of class.version) menu (map need_of (slice_range frames chosen.from chosen.to))) fault → IsPlanFault (rates_plan rates) (rates_refuse rates) s.class (needs_of chosen s) (of_rate fault)
-    menu-fault fault is =
-        plan-fault rates fault (subst (λ k. no_rate rates k ≡ None) class_is none)
-        (subst (λ (k : ClassFields). IsMenuFault (least_menu_plan (window_of k.version) (menu_in rates k) (needs_of chosen s)) fault) class_is
-        (subst (λ m. IsMenuFault (least_menu_plan (window_of class.version) m (needs_of chosen s)) fault) menu_is
-        (subst (λ l. IsMenuFault (least_menu_plan (window_of class.version) menu (map need_of (slice_range l chosen.from chosen.to))) fault) frames_are is)))
+  -- what the planner of a menu answers, where it is asked for a plan of one
+  pub menu-fault : (mode : PackMode) (fault : RateFault) → IsNamed mode → no_rate mode s.class ≡ None → IsMenuFault (menu_answer mode) fault → IsFaultIn mode (of_rate fault)
+  menu-fault (Constant rate) (Unfit i) named none is = (plan-is (Constant rate) (Err i) none is, refl)
+  menu-fault (Floor rate) (Unfit i) named none is = absurd (floor-unfit rate i none is)
+  menu-fault Least (Unfit i) named none is = absurd named
+  menu-fault Best (Unfit i) named none is = absurd named
+  menu-fault mode NoMemory named none is = tt
+
+  pub menu-plan : (mode : PackMode) (plan : List Placed) → IsNamed mode → no_rate mode s.class ≡ None → menu_answer mode ≡ Ok plan → plan_by mode s.class (needs_of chosen s) ≡ Ok plan
+  menu-plan (Constant rate) plan named none is = plan-is (Constant rate) (Ok plan) none is
+  menu-plan (Floor rate) plan named none is = plan-is (Floor rate) (Ok plan) none is
+  menu-plan Least plan named none is = absurd named
+  menu-plan Best plan named none is = absurd named

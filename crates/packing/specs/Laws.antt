@@ -4,16 +4,14 @@ use Rattle.outside.specs.Files.{Contents}
 use Rattle.commands.specs.declared.fault.EditFault.TheVariants.{Refused}
 use Rattle.commands.specs.declared.fault.Refusal.TheVariants.{Unfit}
 use Rattle.commands.specs.One.{made_file, made_result}
-use Rattle.pack_mode.specs.declared.mode.PackMode.TheVariants.{Least, Best}
-use Rattle.packing.specs.declared.mode.Rates.TheVariants.{From}
-use Rattle.packing.specs.Packing.{packing}
-use Rattle.packing.specs.Rates.{rates_plan}
-use Rattle.packing.specs.Modes.{pack_task}
+use Rattle.pack_mode.specs.declared.mode.PackMode.TheVariants.{Least, Best, Floor}
+use Rattle.frame_edits.specs.Chosen.{laying_with, all_choice}
+use Rattle.packing.specs.Modes.{plan_by, pack_task}
 use Rattle.packing.specs.Fewest.{IsFewest}
 
 -- where all bit rates from one on are allowed, no file is refused with `Unfit`
 abbrev pub FloorsFit : Type 0
-FloorsFit = (rate i : ℕ) (file : List ℕ) → made_file (packing (rates_plan (From rate))) file ≡ Err (Refused (Unfit i)) → ⊥
+FloorsFit = (rate i : ℕ) (file : List ℕ) → made_file (laying_with all_choice (plan_by (Floor rate))) file ≡ Err (Refused (Unfit i)) → ⊥
 
 -- Where `pack --best` writes a file, `pack` writes one of the same input, and that of `pack --best` is at most as long.
 abbrev pub NeverLonger : Type 0

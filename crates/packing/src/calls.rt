@@ -1,48 +1,14 @@
 //! The command `pack` over a folder, in each of its modes.
-ghost use Rattle.std.specs.Prelude.{◌≡◌, ℕ, List, None, IfSome, OnOk};
+ghost use Rattle.std.specs.Prelude.{OnOk};
 ghost use Rattle.commands.specs.Runs.{IsRunOf};
-ghost use Rattle.commands.specs.One.{one_command};
-ghost use Rattle.pack_mode.specs.declared.mode.PackMode.TheVariants.{Least};
-ghost use Rattle.packing.specs.Modes.{pack_task, pack_mode_command};
-ghost use Rattle.packing.specs.Rules.{rule_task};
+ghost use Rattle.packing.specs.Modes.{pack_mode_command};
 ghost use Rattle.packing.specs.Fewest.{WritesFewest};
 
 use crate::edit::PackEdit;
-use crate::mode::{Rates, Rule};
 use commands::{EditFault, make_one};
-use frame_edits::pack;
 use outside::Folder;
 use pack_mode::PackMode;
 use std::alloc::Global;
-
-/// Packs by a rule. For the refusals see `pack_with`.
-fn pack_by<D: Folder>(
-    alloc: Global,
-    folder: &mut D,
-    input: &str,
-    output: &str,
-    rule: Rule,
-) -> Result<(), EditFault>
-    ensures { IsRunOf (one_command (rule_task rule input.now) output.now)
-        (D.seen folder.old)
-        (D.seen folder.new) result }
-{
-    make_one(alloc, folder, &PackEdit { input, rule }, output)
-}
-
-/// The rule of a mode; `PackMode::Least` has none.
-fn rule_of(mode: &PackMode) -> Option<Rule>
-    ensures least { result ≡ None → mode.now ≡ Least }
-    ensures rule { IfSome result (λ rule. (input : List ℕ)
-        → pack_task mode.now input ≡ rule_task rule input) }
-{
-    match *mode {
-        PackMode::Least => None,
-        PackMode::Best => Some(Rule::Best),
-        PackMode::Constant(rate) => Some(Rule::Rates(Rates::Only(rate))),
-        PackMode::Floor(rate) => Some(Rule::Rates(Rates::From(rate))),
-    }
-}
 
 /// Writes the output, which is all frames of the input, each with the least bit rate and padding that the mode allows and with
 /// which all main data have room (ISO/IEC 11172-3, 2.4.2.7): its ID3v2 blocks that are in front of the first frame, an
@@ -78,8 +44,5 @@ pub fn pack_with<D: Folder>(
     ensures fewest { OnOk result (WritesFewest mode.now input.now output.now
         (D.seen folder.old).files (D.seen folder.new).files) }
 {
-    match rule_of(mode) {
-        None => pack(alloc, folder, input, output),
-        Some(rule) => pack_by(alloc, folder, input, output, rule),
-    }
+    make_one(alloc, folder, &PackEdit { input, mode: *mode }, output)
 }

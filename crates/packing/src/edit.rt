@@ -1,25 +1,25 @@
-//! Packing by a rule as a case of the one body.
-ghost use Rattle.packing.specs.Rules.{rule_task};
+//! Packing as a case of the one body.
+ghost use Rattle.packing.specs.Modes.{pack_task};
 
 use crate::inputs::survey_packed;
-use crate::mode::Rule;
 use crate::plans::plan_packed;
 use commands::{Edit, EditFault, Inputs};
-use frame_edits::{Slots, Work, all_choice};
+use frame_edits::{Work, all_choice};
 use outside::Folder;
+use pack_mode::PackMode;
 use std::alloc::Global;
 
-/// An input that is packed by a rule.
+/// An input that is packed.
 #[derive(Clone, Copy)]
 pub struct PackEdit<'a> {
     pub input: &'a str,
-    pub rule: Rule,
+    pub mode: PackMode,
 }
 
 impl<'a> Edit for PackEdit<'a> {
     type Work = Work;
 
-    ghost task = { λ edit. rule_task edit.rule edit.input.now };
+    ghost task = { λ edit. pack_task edit.mode edit.input.now };
 
     ghost IsLegal = { λ edit. Unit {0} };
 
@@ -28,9 +28,9 @@ impl<'a> Edit for PackEdit<'a> {
     }
 
     fn prepare<D: Folder>(&self, alloc: Global, folder: &mut D) -> Result<Work, EditFault> {
-        let survey = survey_packed(alloc, folder, self.input, self.rule)?;
-        let chosen = all_choice(folder, self.input, &survey, Slots::Least)?;
-        let selected = plan_packed(alloc, &survey, &chosen, self.rule)?;
+        let survey = survey_packed(alloc, folder, self.input, self.mode)?;
+        let chosen = all_choice(folder, self.input, &survey)?;
+        let selected = plan_packed(alloc, &survey, &chosen, self.mode)?;
         let work = Work::new(alloc, survey, selected)?;
         Ok(work)
     }

@@ -1,4 +1,4 @@
-//! Packing with bounds: all frames of a file in slots of some bit rates alone, or in those that take the fewest bytes.
+//! Packing: all frames of a file in the least slots, in slots of some bit rates alone, or in those that take the fewest bytes.
 #![tactic(auto)]
 
 mod calls;
@@ -6,11 +6,9 @@ mod edit;
 mod inputs;
 mod laws;
 mod menu;
-mod mode;
 mod plans;
 
 pub use calls::pack_with;
 pub use edit::PackEdit;
 pub use laws::{fewest_bytes, floors_fit, never_longer};
-pub use mode::{Rates, Rule};
 pub use pack_mode::PackMode;

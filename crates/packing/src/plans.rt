@@ -1,44 +1,38 @@
-//! The plan of all frames of a file by a rule, and the Info frame before them.
-ghost use Rattle.std.specs.Prelude.{◌≡◌, ◌≤◌, [], ◌∷◌, length, map, Some, Ok, IfOk, IfErr, MatchResult};
+//! The plan of all frames of a file by a mode, and the Info frame before them.
+ghost use Rattle.std.specs.Prelude.{◌≡◌, ◌≤◌, length, None, Ok, IfOk, IfErr, MatchResult};
 ghost use Rattle.frame_header.specs.Tables.{window_of};
-ghost use Rattle.slot_plan.specs.Layouts.{IsFeasible};
-ghost use Rattle.slot_plan.specs.Parts.{AreOfClass, own_frame};
+ghost use Rattle.slot_plan.specs.Parts.{AreOfClass};
 ghost use Rattle.slot_plan.specs.Plans.{entries};
-ghost use Rattle.slot_plan.specs.Laws.{ChooseInOrder};
-ghost use Rattle.part_needs.specs.Needs.{need_of};
-ghost use Rattle.part_needs.specs.Fit.{any_choice};
-ghost use Rattle.best_plan.specs.BestOf.{best_plan_of};
-ghost use Rattle.rate_plan.specs.Menus.{AreAscending};
 ghost use Rattle.rate_plan.specs.LeastMenuPlan.{least_menu_plan, IsMenuFault};
 ghost use Rattle.sync_survey.specs.Faults.{tells};
 ghost use Rattle.commands.specs.One.{most_frames};
-ghost use Rattle.frame_edits.specs.Chosen.{chosen_in, laid_by, AreThere};
+ghost use Rattle.frame_edits.specs.Chosen.{chosen_in, needs_of, laid_as, AreThere};
 ghost use Rattle.laying.specs.Laid.{laid_in, IsWritable};
-ghost use Rattle.packing.specs.Packing.{needs_of, IsPlanFault};
-ghost use Rattle.packing.specs.Rates.{no_rate as no_rate_lem, of_rate as of_rate_lem, rates_plan as rates_plan_lem, rates_refuse};
-ghost use Rattle.packing.specs.Rules.{allowed_by, plan_by as plan_by_lem, refuses_by};
+ghost use Rattle.packing.specs.Answers.{IsPlanFault};
+ghost use Rattle.packing.specs.Rates.{no_rate as no_rate_lem, of_rate as of_rate_lem, menu_in};
+ghost use Rattle.packing.specs.Modes.{allowed_by, plan_by as plan_by_lem, refuses_by};
 
 use crate::menu::menu_of;
-use crate::mode::{Rates, Rule};
 use best_plan::best;
 use commands::{EditFault, Refusal};
-use frame_edits::Chosen;
-use frame_header::{Class, Slot};
+use frame_edits::{Chosen, chosen_parts};
+use frame_header::Class;
 use laying::Selected;
-use part_needs::Parts;
+use pack_mode::PackMode;
 use rate_plan::{RateFault, rate_plan};
-use slot_plan::{Least, Plan};
-use std::alloc::{AllocError, Global};
-use sync_survey::{Row, Survey};
+use slot_plan::{Least, Need, Plan, plan};
+use std::alloc::Global;
+use sync_survey::Survey;
 
-/// `NoRate` where no slot of the class has the named bit rate, in kbit/s.
-fn no_rate(rates: Rates, class: Class) -> Option<Refusal>
-    ensures { result ≡ no_rate_lem rates class }
+/// `NoRate` where the mode names a bit rate, in kbit/s, that no slot of the class has.
+fn no_rate(mode: PackMode, class: Class) -> Option<Refusal>
+    ensures { result ≡ no_rate_lem mode class }
 {
-    let rate = match rates {
-        Rates::Only(rate) | Rates::From(rate) => rate,
+    let rate = match mode {
+        PackMode::Least | PackMode::Best => return None,
+        PackMode::Constant(rate) | PackMode::Floor(rate) => rate,
     };
-    if menu_of(Rates::Only(rate), class).is_empty() {
+    if menu_of(PackMode::Constant(rate), class).is_empty() {
         Some(Refusal::NoRate(rate))
     } else {
         None
@@ -55,107 +49,77 @@ fn of_rate(fault: RateFault) -> EditFault
     }
 }
 
-/// The plan of frames with slots of a menu: `Unfit` with the first frame up to which the main data have no room; `Memory`.
-fn plan_menu(alloc: Global, class: Class, rows: &[Row], menu: &[Slot]) -> Result<Plan, RateFault>
-    requires class { AreOfClass class (map need_of rows.now) }
-    requires some { 1 ≤ length rows.now }
-    requires few { length rows.now ≤ most_frames }
-    requires slots { 1 ≤ length menu.now }
-    requires ascending { AreAscending class menu.now }
+/// The plan of frames with slots whose bit rates the mode allows: `Unfit` with the first frame up to which the main data have no
+/// room; `Memory`.
+fn plan_menu(alloc: Global, class: Class, needs: &[Need], mode: PackMode) -> Result<Plan, RateFault>
+    requires class { AreOfClass class needs.now }
+    requires some { 1 ≤ length needs.now }
+    requires few { length needs.now ≤ most_frames }
+    requires named { no_rate_lem mode class ≡ None }
     ensures { MatchResult result
-        (λ plan. least_menu_plan (window_of class.version) menu.now (map need_of rows.now)
+        (λ plan. least_menu_plan (window_of class.version) (menu_in mode class) needs.now
         ≡ Ok (entries plan))
-        (IsMenuFault (least_menu_plan (window_of class.version) menu.now (map need_of rows.now))) }
+        (IsMenuFault (least_menu_plan (window_of class.version) (menu_in mode class) needs.now)) }
 {
-    let mut parts = Parts::new(alloc);
-    parts.push(rows)?;
-    rate_plan(alloc, parts.needs(), menu)
+    let menu = menu_of(mode, class);
+    rate_plan(alloc, needs, menu.as_slice())
 }
 
-/// The plan of chosen frames with slots of some bit rates.
-fn plan_rates(
+/// The plan of chosen frames by a mode.
+fn plan_by(
     alloc: Global,
     survey: &Survey,
     chosen: &Chosen,
-    rates: Rates,
+    mode: PackMode,
 ) -> Result<Plan, EditFault>
-    requires { AreThere most_frames (chosen_in chosen.now) (tells survey.now) }
+    requires { AreThere (allowed_by mode) (chosen_in chosen.now) (tells survey.now) }
     ensures { MatchResult result
-        (λ plan. rates_plan_lem rates (tells survey.now).class
+        (λ plan. plan_by_lem mode (tells survey.now).class
         (needs_of (chosen_in chosen.now) (tells survey.now)) ≡ Ok (entries plan))
-        (IsPlanFault (rates_plan_lem rates) (rates_refuse rates) (tells survey.now).class
+        (IsPlanFault (plan_by_lem mode) (refuses_by mode) (tells survey.now).class
         (needs_of (chosen_in chosen.now) (tells survey.now))) }
 {
     let class = survey.class();
-    if let Some(refusal) = no_rate(rates, class) {
+    if let Some(refusal) = no_rate(mode, class) {
         return Err(refusal.into());
     }
-    let rows = &survey.frames()[chosen.from..chosen.to];
-    let menu = menu_of(rates, class);
-    match plan_menu(alloc, class, rows, menu.as_slice()) {
-        Ok(plan) => Ok(plan),
-        Err(fault) => Err(of_rate(fault)),
-    }
-}
-
-/// The best plan of frames: the slots that take the fewest bytes in all.
-fn plan_best(alloc: Global, class: Class, rows: &[Row]) -> Result<Plan, AllocError>
-    requires class { AreOfClass class (map need_of rows.now) }
-    requires some { 1 ≤ length rows.now }
-    requires few { length rows.now ≤ 200000 }
-    requires feasible { IsFeasible (window_of class.version) (window_of class.version)
-        (map own_frame (map need_of rows.now)) }
-    requires order { ChooseInOrder any_choice (map need_of rows.now ∷ []) }
-    ensures { IfOk result (λ plan. best_plan_of (window_of class.version) any_choice
-        (map need_of rows.now) ≡ Some (entries plan)) }
-{
-    // Named for the proof alone: the frames' window is that of this version.
-    let _ = &class.version;
-    let mut parts = Parts::new(alloc);
-    parts.push(rows)?;
-    best(alloc, parts.needs(), &Least)
-}
-
-/// The plan of chosen frames by a rule.
-fn plan_by(alloc: Global, survey: &Survey, chosen: &Chosen, rule: Rule) -> Result<Plan, EditFault>
-    requires { AreThere (allowed_by rule) (chosen_in chosen.now) (tells survey.now) }
-    ensures { MatchResult result
-        (λ plan. plan_by_lem rule (tells survey.now).class
-        (needs_of (chosen_in chosen.now) (tells survey.now)) ≡ Ok (entries plan))
-        (IsPlanFault (plan_by_lem rule) (refuses_by rule) (tells survey.now).class
-        (needs_of (chosen_in chosen.now) (tells survey.now))) }
-{
-    match rule {
-        Rule::Rates(rates) => plan_rates(alloc, survey, chosen, rates),
-        Rule::Best => {
-            let rows = &survey.frames()[chosen.from..chosen.to];
-            match plan_best(alloc, survey.class(), rows) {
+    let parts = chosen_parts(alloc, survey, chosen)?;
+    let needs = parts.needs();
+    match mode {
+        PackMode::Least => {
+            let plan = plan(alloc, needs, parts.places(), &Least)?;
+            Ok(plan)
+        }
+        PackMode::Best => {
+            let shortest = best(alloc, needs, &Least)?;
+            Ok(shortest)
+        }
+        PackMode::Constant(_) | PackMode::Floor(_) => {
+            match plan_menu(alloc, class, needs, mode) {
                 Ok(plan) => Ok(plan),
-                Err(_) => Err(EditFault::Memory),
+                Err(fault) => Err(of_rate(fault)),
             }
         }
     }
 }
 
-/// Chosen frames with their plan by a rule, and their Info frame.
+/// Chosen frames with their plan by a mode, and their Info frame.
 ///
 /// # Errors
-/// By bit rates `NoRate` where the named one isn't one of the class, and `Unfit` where the frames don't fit; `Memory`.
+/// `NoRate` where the mode names what isn't a bit rate of the class, and `Unfit` where the frames don't fit; `Memory`.
 pub(crate) fn plan_packed(
     alloc: Global,
     survey: &Survey,
     chosen: &Chosen,
-    rule: Rule,
+    mode: PackMode,
 ) -> Result<Selected, EditFault>
-    requires { AreThere (allowed_by rule) (chosen_in chosen.now) (tells survey.now) }
-    ensures plan { IfOk result (λ l. plan_by_lem rule (tells survey.now).class
-        (needs_of (chosen_in chosen.now) (tells survey.now)) ≡ Ok (entries l.plan)) }
-    ensures laid { IfOk result (λ l. laid_in l
-        ≡ laid_by (chosen_in chosen.now) (entries l.plan)) }
+    requires { AreThere (allowed_by mode) (chosen_in chosen.now) (tells survey.now) }
+    ensures laid { IfOk result (λ l. laid_as (plan_by_lem mode) (tells survey.now)
+        (chosen_in chosen.now) ≡ Ok (laid_in l)) }
     ensures writable { IfOk result (IsWritable (tells survey.now)) }
-    ensures refused { IfErr result (IsPlanFault (plan_by_lem rule) (refuses_by rule)
+    ensures refused { IfErr result (IsPlanFault (plan_by_lem mode) (refuses_by mode)
         (tells survey.now).class (needs_of (chosen_in chosen.now) (tells survey.now))) }
 {
-    let plan = plan_by(alloc, survey, chosen, rule)?;
+    let plan = plan_by(alloc, survey, chosen, mode)?;
     Ok(Selected::new(survey, chosen.from, chosen.to, chosen.kept, plan))
 }

@@ -35,6 +35,7 @@ use Rattle.commands.proofs.RefusingLaws.{before_first}
 use Rattle.commands.specs.Kinds.{of_input}
 use Rattle.commands.specs.Left.{IsLate, IsDone, Leaves, IsOfPass, HasNumbers}
 use Rattle.commands.specs.One.{Refuses, NeedsMemory, IsEarlyFault, IsOfInputs, IsMaking, IsPassFault, clash_in, holding, one_command}
+use Rattle.part_needs.specs.Fit.{own_choice}
 use Rattle.laying.specs.declared.selected.Selected.{Selected}
 use Rattle.laying.specs.Laid.{laid_in}
 use Rattle.frame_edits.specs.Chosen.{chosen_file, IsSelected}
@@ -170,7 +171,7 @@ module _ (input : List ℕ) where
   mended-has files m is bytes holds = subst (HasSurvey bytes) (sym is.survey) (damaged-had bytes is.of (damaged_of-is bytes is.of (is.read bytes holds)).1 is.laid)
 
   pub ready-of : (files : Files) (m : Mended) (selected : Selected) (work : Work) → IsMended input files m → IsWorkOf m.survey selected work.laid → IsThere files input → HoldsOctets input files → IsLaidSurvey (tells m.survey)
-      → IsSelected (all_of (tells m.survey)) (tells m.survey) selected → work.sending ≡ [] → ((d : DamagedFields) → m.emptied.items ≡ emptied_from 0 d.survey.frames → m.gaps.items ≡ d.gaps → Reports d work.report)
+      → IsSelected own_choice (all_of (tells m.survey)) (tells m.survey) selected → work.sending ≡ [] → ((d : DamagedFields) → m.emptied.items ≡ emptied_from 0 d.survey.frames → m.gaps.items ≡ d.gaps → Reports d work.report)
       → IsReady input files work
   ready-of files m selected work is made there octets placed own unsaid reports = record {
     octets = octets;
@@ -179,7 +180,7 @@ module _ (input : List ℕ) where
     laid = is.laid;
     layable = work_layable m.survey selected work.laid made input files there placed (mended-has files m is) own.writable;
     survey = ap tells made.survey_is ∙ is.survey;
-    selected = subst (λ (s : Survey). IsSelected (all_of (tells s)) (tells s) work.laid.selected) (sym made.survey_is) (subst (IsSelected (all_of (tells m.survey)) (tells m.survey)) (sym made.selected_is) own);
+    selected = subst (λ (s : Survey). IsSelected own_choice (all_of (tells s)) (tells s) work.laid.selected) (sym made.survey_is) (subst (IsSelected own_choice (all_of (tells m.survey)) (tells m.survey)) (sym made.selected_is) own);
     unsaid = unsaid;
     reports = reports is.of is.emptied is.gaps;
   }

@@ -11,6 +11,7 @@ use Rattle.salvage.specs.Progress.{IsLaidOut}
 use Rattle.salvage.specs.Mended.{mended, emptied_from}
 use Rattle.commands.specs.declared.fault.EditFault.{EditFault}
 use Rattle.commands.specs.One.{IsEarlyFault, IsOfInputs}
+use Rattle.part_needs.specs.Fit.{own_choice}
 use Rattle.frame_edits.specs.Chosen.{IsSelected}
 use Rattle.frame_edits.specs.Layable.{IsLayable}
 use Rattle.salvaging.specs.declared.report.Report.{Report}
@@ -48,6 +49,6 @@ pub record IsReady (input : List ℕ) (files : Files) (work : Work) : Type 0 whe
   pub laid : IsLaidOut of
   pub layable : IsLayable input work.laid files
   pub survey : tells work.laid.survey ≡ mended of.survey
-  pub selected : IsSelected (all_of (tells work.laid.survey)) (tells work.laid.survey) work.laid.selected
+  pub selected : IsSelected own_choice (all_of (tells work.laid.survey)) (tells work.laid.survey) work.laid.selected
   pub unsaid : work.sending ≡ []
   pub reports : Reports of work.report

@@ -15,14 +15,13 @@ use Rattle.commands.specs.declared.fault.Refusal.{Refusal}
 use Rattle.commands.specs.Command.{Command}
 use Rattle.commands.specs.One.{Task, one_command}
 use Rattle.commands.specs.Telling.{telling}
-use Rattle.frame_edits.specs.declared.chosen.Slots.TheVariants.{Own}
 use Rattle.frame_edits.specs.Chosen.{Chosen, plan_of, chosen_file}
 
 -- ---- the file
 
--- all frames in their own slots; the Info frame has no quality, and its extension is all 0
+-- all frames; the Info frame has no quality, and its extension is all 0
 abbrev pub all_of : SurveyFields → Chosen
-all_of s = record { from = 0; to = length s.frames; slots = Own; quality = None; extension = replicate 36 0 }
+all_of s = record { from = 0; to = length s.frames; quality = None; extension = replicate 36 0 }
 
 -- What is left, laid as a cut lays it: the ID3v2 blocks before the first frame, an Info frame, all frames, and all other blocks that were read. A frame
 -- whose main data can't be used has none.

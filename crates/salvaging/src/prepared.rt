@@ -11,7 +11,7 @@ ghost use Rattle.salvaging.specs.Ready.{IsMended, IsReady, ReadsInput};
 use crate::report::Report;
 use crate::work::Work;
 use commands::EditFault;
-use frame_edits::{Chosen, Slots, Work as LaidWork, plan_file};
+use frame_edits::{Chosen, Work as LaidWork, plan_file};
 use laying::Kept;
 use outside::{Folder, SendBuffer};
 use salvage::{Mended, read_damaged};
@@ -42,14 +42,13 @@ fn read_input<D: Folder>(alloc: Global, folder: &mut D, input: &str) -> Result<M
     }
 }
 
-/// All frames, in their own slots.
+/// All frames.
 fn all_frames(survey: &Survey) -> Chosen
     ensures { chosen_in result ≡ all_of (tells survey.now) }
 {
     Chosen {
         from: 0,
         to: survey.frames().len(),
-        slots: Slots::Own,
         kept: Kept::none(),
     }
 }
@@ -69,7 +68,7 @@ fn make_ready(alloc: Global, mended: Mended) -> Result<Work, AllocError>
         emptied,
         gaps,
     } = mended;
-    let selected = plan_file(alloc, &survey, &all_frames(&survey))?;
+    let selected = plan_file(alloc, &survey, &all_frames(&survey), false)?;
     let laid = LaidWork::new(alloc, survey, selected)?;
     let sending = SendBuffer::new(alloc)?;
     Ok(Work {

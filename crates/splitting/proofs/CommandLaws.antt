@@ -1,12 +1,11 @@
 -- What the command leaves, by its steps.
 use Rattle.std.proofs.Common.{◌≡◌, ℕ, ◌+◌, ◌<◌, ◌≤◌, ◌≢◌, List, [], ◌∷◌, length, map, take, Option, Some, None, Result, Ok, Err, refl, sym, ◌∙◌, ap, subst, inl, inr, Bool, true, false, cond, arith, ◌||◌}
-use Rattle.std.specs.Prelude.{◌⊎◌, IfSome, IfErr}
+use Rattle.std.specs.Prelude.{◌⊎◌, IfSome, IfErr, replicate}
 use Rattle.bit_fields.specs.Bits.{AreBytes}
 use Rattle.outside.specs.Files.{Contents, Files, Holds, IsThere, Told, Untold, IfTold, OnlyTouches}
 use Rattle.outside.proofs.FilesLaws.{there_holds, touches_none, touches_more}
 use Rattle.cue_sheet.specs.declared.cue_fault.CueFault.{CueFault}
 use Rattle.cue_sheet.specs.declared.place.Place.{Place}
-use Rattle.cue_sheet.specs.declared.place.Place.TheVariants.{Frame}
 use Rattle.cue_sheet.specs.Places.{frame_at}
 use Rattle.cue_sheet.specs.Cues.{cue_of}
 use Rattle.frame_header.specs.Fields.{ClassFields}
@@ -19,19 +18,19 @@ use Rattle.sync_survey.proofs.FoldersLaws.{survey_of-short}
 use Rattle.commands.specs.declared.fault.EditFault.{EditFault}
 use Rattle.commands.specs.declared.fault.EditFault.TheVariants.{EqualNames, Input, Refused, Write, Memory}
 use Rattle.commands.specs.declared.fault.Refusal.TheVariants.{Range, Sheet, SheetTooLarge}
-use Rattle.frame_edits.specs.declared.chosen.Slots.TheVariants.{Own}
 use Rattle.commands.proofs.RefusingLaws.{unless_all, then_all, before_first, then_ok}
 use Rattle.commands.proofs.SheetLaws.{sheet-all}
 use Rattle.commands.proofs.InputLaws.{of_bytes_behind}
 use Rattle.commands.specs.Refusing.{then_made}
 use Rattle.commands.specs.Sheet.{sheet_in}
-use Rattle.frame_edits.specs.Chosen.{Chosen, cut_refuses, chosen_file, chosen_stream, cut_choice, laid_with}
+use Rattle.frame_edits.specs.Chosen.{Chosen, cut_refuses, chosen_file, chosen_stream}
 use Rattle.commands.specs.Command.{Output, Made, Command, clash_of, Gives, written, AreStreams, HoldsStreams}
 use Rattle.commands.proofs.WhyLaws.{each_why}
 use Rattle.commands.specs.Left.{why_of, IsNotBefore, IsLate, IsDone, IsWrittenTo, IsUnfinished, TakesMemory, Leaves, IsRefusal, IsOfSurvey, HasNumbers, input_of, ended_at}
 use Rattle.commands.specs.One.{most_frames, IsFileFault}
 use Rattle.sync_survey.proofs.SurveyedFiles.{survey_of-sound}
-use Rattle.frame_edits.proofs.ChosenLaws.{cut_proper}
+use Rattle.laying.proofs.ChosenFrames.{survey-had}
+use Rattle.frame_edits.proofs.ChosenLaws.{with_right, chosen-holds}
 use Rattle.piece_names.specs.Names.{piece_names}
 use Rattle.splitting.specs.Split.{frames_between, with_first, chosen_from, chosen_at, pieces_from, made_of, made_at, made_by, made_where, unless_equal, made_result, streams_of, streams_at, streams_by, streams_where, Placing, split_command_of, with_end, places_where, placing_of, more_of, sheet_refuses}
 use Rattle.splitting.specs.declared.piece.Piece.{Piece}
@@ -108,14 +107,10 @@ points-before (InSheet sheet) f = where-all (IsNotBefore (Input 1 Read)) (omega 
 
 -- ---- the streams of the pieces
 
-cut-is : (file : List ℕ) (s : SurveyFields) (from to : ℕ) → frames_between (length s.frames) from to ≡ cut_choice (Frame from) (Frame to) Own file s
-unfolding cut_choice frame_at
-cut-is file s from to = refl
-
 between-holds : (file : List ℕ) (s : SurveyFields) (from to : ℕ) (chosen : Chosen) → AreBytes file → survey_of file most_frames ≡ Ok s → frames_between (length s.frames) from to ≡ Ok chosen → HoldsStream (chosen_file chosen file s) (chosen_stream chosen file s)
 between-holds file s from to chosen octets surveyed is =
-    let cut = sym (cut-is file s from to) ∙ is in
-    rw (surveyed, cut) at ((cut_proper (Frame from) (Frame to) Own).streams file s (chosen_file chosen file s) octets surveyed (ap (laid_with file s) cut))
+    let right = with_right None (replicate 36 0) from to s chosen refl is in
+    chosen-holds chosen file s (survey-had file most_frames s surveyed) right.some right.within right.extension
 
 first-parts : (first : Chosen) (r : Result (List Chosen) EditFault) (cs : List Chosen) → with_first first r ≡ Ok cs → (more : List Chosen) × (r ≡ Ok more) × (first ∷ more ≡ cs)
 first-parts first (Ok more) cs e = (more, refl, cc)

@@ -22,7 +22,6 @@ use Rattle.commands.specs.Refusing.{then_made}
 use Rattle.commands.specs.Sheet.{sheet_read, sheet_in, sheet_refuses as read_refuses}
 use Rattle.commands.specs.Command.{Output, Made, Command, clash_from}
 use Rattle.commands.specs.One.{most_frames}
-use Rattle.frame_edits.specs.declared.chosen.Slots.TheVariants.{Own}
 use Rattle.piece_names.specs.Names.{piece_name, piece_names}
 use Rattle.splitting.specs.declared.split_file.Points.{Points}
 use Rattle.splitting.specs.declared.split_file.Points.TheVariants.{Places, Sheet as InSheet}
@@ -30,13 +29,13 @@ use Rattle.frame_edits.specs.Chosen.{Chosen, cut_refuses, chosen_with, chosen_fi
 
 -- ---- pieces
 
--- the frames from one up to, but not including, another, in their own slots; the Info frame has no quality, and its extension is all 0
+-- the frames from one up to, but not including, another; the Info frame has no quality, and its extension is all 0
 abbrev pub own_frames : ℕ → ℕ → Chosen
-own_frames from to = record { from = from; to = to; slots = Own; quality = None; extension = replicate 36 0 }
+own_frames from to = record { from = from; to = to; quality = None; extension = replicate 36 0 }
 
 -- these, if there is one and all are there
 abbrev pub frames_between : ℕ → ℕ → ℕ → Result Chosen EditFault
-frames_between frames from to = chosen_with None (replicate 36 0) from to Own frames
+frames_between frames from to = chosen_with None (replicate 36 0) from to frames
 
 abbrev pub with_first : Chosen → Result (List Chosen) EditFault → Result (List Chosen) EditFault
 with_first first (Ok more) = Ok (first ∷ more)

@@ -15,6 +15,7 @@ use Rattle.commands.specs.Command.{Output, written, LacksBytes, written_to}
 use Rattle.commands.specs.Left.{by_why, never, why_of, EndsEarly}
 use Rattle.commands.specs.One.{most_frames, first_input, ReadsNothing, LosesInput}
 use Rattle.commands.specs.Sheet.{MissesSheet, IsOfSheet as IsOfRead}
+use Rattle.part_needs.specs.Fit.{own_choice}
 use Rattle.laying.specs.Laid.{laid_in, file_laid, IsWritable}
 use Rattle.frame_edits.specs.Chosen.{Chosen, IsSelected}
 use Rattle.splitting.specs.declared.piece.Piece.{Piece}
@@ -74,13 +75,13 @@ IsOfPlaces (InSheet sheet) fault = IsOfSheet fault
 
 -- ---- pieces that are to be written
 
--- the frames of a piece, in their own slots
+-- the frames of a piece
 abbrev pub chosen_of : Piece → Chosen
 chosen_of piece = own_frames piece.selected.from piece.selected.to
 
--- a piece has a plan, and the bytes of its Info frame
+-- a piece has a plan, in its frames' own slots, and the bytes of its Info frame
 abbrev pub IsReady : SurveyFields → Piece → Type 0
-IsReady s piece = IsSelected (chosen_of piece) s piece.selected
+IsReady s piece = IsSelected own_choice (chosen_of piece) s piece.selected
 
 -- the pieces are ready, and have the names of the prefix with the numbers from this one on
 abbrev pub ArePieces : List ℕ → SurveyFields → ℕ → List Piece → Type 0

@@ -11,7 +11,7 @@ ghost use Rattle.splitting.specs.Steps.{IsReady, ArePieces, chosen_of};
 
 use commands::EditFault;
 use cue_sheet::Place;
-use frame_edits::{Slots, choose, plan_file};
+use frame_edits::{choose, plan_file};
 use laying::{Kept, Selected};
 use piece_names::piece_name;
 use std::alloc::Global;
@@ -46,8 +46,8 @@ fn make_piece(
         (λ fault. (fault ≡ EditFault.Memory) ⊎ (IsRefusal cut_refuses fault
         × (frames_between (length (tells survey.now).frames) from to ≡ Err fault))) }
 {
-    let chosen = choose(from, to, survey.frames().len(), Slots::Own, Kept::none())?;
-    let selected = plan_file(alloc, survey, &chosen)?;
+    let chosen = choose(from, to, survey.frames().len(), Kept::none())?;
+    let selected = plan_file(alloc, survey, &chosen, false)?;
     Ok(Piece {
         name: piece_name(alloc, prefix, number)?,
         selected,

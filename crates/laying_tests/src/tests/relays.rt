@@ -2,7 +2,7 @@
 //! 381 (ISO/IEC 11172-3, 2.4.3.1), a lead-in at 32 kbit/s 104 and an area of 68.
 ghost use Rattle.std.specs.Prelude.{◌<◌};
 
-use frame_edits::{Chosen, Slots, plan_file};
+use frame_edits::{Chosen, plan_file};
 use laying::{Buffers, Kept, Relay};
 use outside::{Folder, MemFolder, Pass, PassFault};
 use std::alloc::{AllocError, AllocGlobal, Global};
@@ -97,10 +97,9 @@ fn lay_frame<R: Abort + AllocGlobal, D: Folder>(
     let chosen = Chosen {
         from: frame,
         to: frame + 1,
-        slots: Slots::Own,
         kept: Kept::none(),
     };
-    let selected = plan_file(rt.alloc(), &survey, &chosen)?;
+    let selected = plan_file(rt.alloc(), &survey, &chosen, false)?;
     let mut buffers = Buffers::new(rt.alloc(), survey.class())?;
     let pass = Pass {
         input: "a",

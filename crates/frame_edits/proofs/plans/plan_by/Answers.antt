@@ -14,5 +14,5 @@ plan-requires-clause-planned g c =
 pub returns : goal.returns
 returns g c =
     let there = c.requires.there in
-    IfOk-weaker c.plan.result _ _ (λ plan is. plan_is (chosen_in c.args.chosen.now) (tells c.args.survey.now) there.laid.placed there.some there.within c.in_ok-parts.parts _ (entries plan) c.in_ok-parts.ensures.parts c.requires.policy is.plan)
-    (rw (c.needs.ensures, c.places.ensures) at c.plan.ensures)
+    IfOk-weaker c.plan.result _ _ (λ plan is. plan_is (chosen_in c.args.chosen.now) (tells c.args.survey.now) there.laid.placed there.some there.within _ c.requires.policy (entries plan) is.plan)
+    (rw (c.needs.ensures, c.places.ensures, c.in_ok-parts.ensures.parts) at c.plan.ensures)

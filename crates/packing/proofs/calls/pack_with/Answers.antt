@@ -1,24 +1,12 @@
--- The command is that of the mode.
-use Rattle.std.proofs.Common.{sym, subst}
-use Rattle.outside.specs.Seen.{seen}
-use Rattle.commands.specs.One.{Task, one_command}
-use Rattle.commands.specs.Runs.{IsRunOf}
-use Rattle.packing.specs.Modes.{pack_mode_command}
+-- What the one body asks of the command.
+use Rattle.packing.proofs.ModeLaws.{mode_proper}
 use Rattle.packing.proofs.PackedLengths.{run-fewest}
 use Rattle.packing.proofs.calls.pack_with.Goals as goal
 
-pub returns-in-None : goal.returns-in-None
-returns-in-None g c =
-    let seen = g.D.Folder.seen in
-    let run =
-    subst (λ mode. IsRunOf (pack_mode_command mode c.args.input.now c.args.output.now) (seen c.args.folder.now) (seen c.pack.new.folder) c.pack.result) (sym (c.rule_of.ensures.least c.in-None.is))
-    c.pack.ensures in
-    record { run = run; fewest = run-fewest c.args.mode.now c.args.input.now c.args.output.now (seen c.args.folder.now) (seen c.pack.new.folder) c.pack.result run }
+pub make_one-requires-clause-proper : goal.make_one-requires-clause-proper
+make_one-requires-clause-proper g c = mode_proper c.args.mode.now c.args.input.now
 
-pub returns-in-Some : goal.returns-in-Some
-returns-in-Some g c =
+pub returns-clause-fewest : goal.returns-clause-fewest
+returns-clause-fewest g c =
     let seen = g.D.Folder.seen in
-    let run =
-    subst (λ (task : Task). IsRunOf (one_command task c.args.output.now) (seen c.args.folder.now) (seen c.pack_by.new.folder) c.pack_by.result) (sym (c.in-Some.ensures.rule c.args.input.now))
-    c.pack_by.ensures in
-    record { run = run; fewest = run-fewest c.args.mode.now c.args.input.now c.args.output.now (seen c.args.folder.now) (seen c.pack_by.new.folder) c.pack_by.result run }
+    run-fewest c.args.mode.now c.args.input.now c.args.output.now (seen c.args.folder.now) (seen c.make_one.new.folder) c.make_one.result c.make_one.ensures

@@ -4,9 +4,9 @@ use Rattle.std.proofs.lemmas.Result.{IfErr-weaker, IfOk-weaker}
 use Rattle.sync_survey.specs.Faults.{tells}
 use Rattle.sync_survey.specs.Survey.{survey_of}
 use Rattle.commands.specs.One.{most_frames, IsFileFault}
-use Rattle.packing.specs.Rules.{allowed_by}
+use Rattle.packing.specs.Modes.{allowed_by}
 use Rattle.packing.proofs.LimitLaws.{survey_of-more}
-use Rattle.packing.proofs.RuleLaws.{allowed-most, rule_survey, rule_survey_numbers}
+use Rattle.packing.proofs.ModeLaws.{allowed-most, mode_survey, mode_survey_numbers}
 use Rattle.packing.proofs.inputs.survey_packed.Goals as goal
 
 pub returns : goal.returns
@@ -17,7 +17,7 @@ returns g c =
       there = c.survey_at.ensures.there;
       surveyed =
           IfOk-weaker c.survey_at.result _ _
-          (λ s is bytes holds. survey_of-more bytes (allowed_by c.args.rule) most_frames (tells s) (allowed-most c.args.rule) (subst (λ n. survey_of bytes n ≡ Ok (tells s)) c.allowed.ensures (is bytes holds)))
+          (λ s is bytes holds. survey_of-more bytes (allowed_by c.args.mode) most_frames (tells s) (allowed-most c.args.mode) (subst (λ n. survey_of bytes n ≡ Ok (tells s)) c.allowed.ensures (is bytes holds)))
           c.survey_at.ensures.surveyed;
       limited = rw c.allowed.ensures at c.survey_at.ensures.surveyed;
       laid = c.survey_at.ensures.laid;
@@ -25,8 +25,8 @@ returns g c =
       octets = c.survey_at.ensures.octets;
       refused =
           IfErr-weaker c.survey_at.result _ _
-          (λ fault is. rule_survey c.args.rule c.args.name.now old new fault (subst (λ n. IsFileFault 0 n c.args.name.now old new fault) c.allowed.ensures is))
+          (λ fault is. mode_survey c.args.mode c.args.name.now old new fault (subst (λ n. IsFileFault 0 n c.args.name.now old new fault) c.allowed.ensures is))
           c.survey_at.ensures.refused;
-      numbers = IfErr-weaker c.survey_at.result _ _ (λ fault is. rule_survey_numbers c.args.rule c.args.name.now fault is) c.survey_at.ensures.numbers;
+      numbers = IfErr-weaker c.survey_at.result _ _ (λ fault is. mode_survey_numbers c.args.mode c.args.name.now fault is) c.survey_at.ensures.numbers;
       reads = c.survey_at.ensures.reads;
     }

@@ -7,6 +7,6 @@ use Rattle.packing.proofs.menu.allowed_of.Given as goal
 
 abbrev pub invariant-loop-slot : goal.invariant-loop-slot
 invariant-loop-slot l = record {
-  items : l.menu.items ≡ filter (allows l.rates l.class) (take l.slot-index l.slots);
+  items : l.menu.items ≡ filter (allows l.mode l.class) (take l.slot-index l.slots);
   count : array_vec_len l.menu ≤ l.slot-index;
 }

@@ -8,5 +8,5 @@ use Rattle.packing.proofs.menu.menu_of.Goals as goal
 
 pub returns-clause-ascending : goal.returns-clause-ascending
 returns-clause-ascending c =
-    let menu = c.allowed_of.ensures ∙ ap (filter (allows c.args.rates c.args.class)) (c.as_slice.ensures.value ∙ c.slots-slots.ensures.slots) in
-    subst (AreAscending c.args.class) (sym menu) (λ protected. menu-areas (allows c.args.rates c.args.class) c.args.class protected (c.slots-slots.ensures.ascending protected))
+    let menu = c.allowed_of.ensures ∙ ap (filter (allows c.args.mode c.args.class)) (c.as_slice.ensures.value ∙ c.slots-slots.ensures.slots) in
+    subst (AreAscending c.args.class) (sym menu) (λ protected. menu-areas (allows c.args.mode c.args.class) c.args.class protected (c.slots-slots.ensures.ascending protected))

@@ -1,5 +1,6 @@
--- The frames are chosen in their own slots.
+-- The frames are chosen.
 use Rattle.std.proofs.Common.{◌≡◌, length, Ok, sym, ◌∙◌, ap, ap₂, subst}
+use Rattle.part_needs.specs.Fit.{own_choice}
 use Rattle.laying.specs.Laid.{Laid}
 use Rattle.sync_survey.specs.Faults.{tells}
 use Rattle.commands.proofs.RefusingLaws.{unless_ok}
@@ -24,7 +25,7 @@ module _ (c : In_ok-selected) where
 pub returns-clause-ready : goal.returns-clause-ready
 returns-clause-ready c =
     let at = (goal.at.returns-clause-ready c).In_ok-selected in
-    subst (λ (k : Chosen). IsSelected k (tells c.args.survey.now) c.in_ok-selected.selected) (sym (own at)) c.in_ok-selected.ensures
+    subst (λ (k : Chosen). IsSelected own_choice k (tells c.args.survey.now) c.in_ok-selected.selected) (sym (own at)) c.in_ok-selected.ensures
 
 pub returns-clause-chosen : goal.returns-clause-chosen
 returns-clause-chosen c = let at = (goal.at.returns-clause-chosen c).In_ok-selected in between at ∙ ap Ok (sym (own at))
