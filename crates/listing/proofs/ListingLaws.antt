@@ -1,7 +1,6 @@
 -- The lines of a text, one after another, and what is sent of them: those of entries, and a last one.
-use Rattle.std.proofs.Common.{◌≡◌, ℕ, List, [], ◌∷◌, ◌++◌, drop, refl, sym, ◌∙◌, ap, subst, append_assoc, Some, None, length, ◌<◌, arith}
-use Rattle.std.specs.Prelude.{Result, Ok, Err, OnOk, OnErr, flat_map, option_map}
-use Rattle.offset_order.specs.Order.{first_of}
+use Rattle.std.proofs.Common.{◌≡◌, ℕ, List, [], ◌∷◌, ◌++◌, sym, ◌∙◌, ap, subst, append_assoc}
+use Rattle.std.specs.Prelude.{Result, Ok, Err, OnOk, OnErr, flat_map}
 use Rattle.outside.specs.Files.{Sent, sent_more}
 use Rattle.outside.specs.Passed.{SentOn, SentPrefix}
 use Rattle.outside.proofs.SentLaws.{sent_none, sent_more_on, sent_more_prefix, sent_then_all, sent_then_prefix, sent_prefix_of}
@@ -12,37 +11,19 @@ pub record IsSaidTo {A : Type 0} (line : A → List ℕ) (all left : List A) (wa
   pub lines : flat_map line all ≡ done ++ flat_map line left
   pub sent : SentOn done waits old now
 
--- only the summary is left
-split_first : {A : Type 0} (left : List A) (t : A) → Some t ≡ first_of left → left ≡ t ∷ drop 1 left
-split_first [] t is = absurd cc
-split_first (u ∷ us) t is = let same : t ≡ u = cc in rw same refl
-
-no_more : {A : Type 0} (left : List A) → None ≡ first_of left → left ≡ []
-no_more [] is = refl
-no_more (t ∷ ts) is = absurd cc
-
--- a text that is the line of what is first
-pub first_line : {A : Type 0} (line : A → List ℕ) (left : List A) {text : List ℕ} → option_map line (first_of left) ≡ Some text → (t : A) × (Some t ≡ first_of left) × (line t ≡ text)
-first_line line [] is = absurd cc
-first_line line (t ∷ ts) is = (t, refl, cc)
-
-pub shorter_behind : {A : Type 0} (line : A → List ℕ) (left rest : List A) {text : List ℕ} → option_map line (first_of left) ≡ Some text → rest ≡ drop 1 left → length rest < length left
-shorter_behind line [] rest first is = absurd cc
-shorter_behind line (t ∷ ts) rest first is = omega (arith, ap length is)
-
 module _ {A : Type 0} (line : A → List ℕ) (all : List A) where
   pub said_none : (left : List A) (sent : Sent) → left ≡ all → IsSaidTo line all left [] sent sent
   said_none left sent is = record { done = []; lines = ap (flat_map line) (sym is); sent = sent_none sent [] }
 
-  lines_split : (left : List A) (t : A) (done : List ℕ) → Some t ≡ first_of left → flat_map line all ≡ done ++ flat_map line left
-      → flat_map line all ≡ (done ++ line t) ++ flat_map line (drop 1 left)
-  lines_split left t done is lines = lines ∙ ap (λ ts. done ++ flat_map line ts) (split_first left t is) ∙ sym (append_assoc done (line t) (flat_map line (drop 1 left)))
+  lines_split : (left rest : List A) (t : A) (done : List ℕ) → left ≡ t ∷ rest → flat_map line all ≡ done ++ flat_map line left
+      → flat_map line all ≡ (done ++ line t) ++ flat_map line rest
+  lines_split left rest t done is lines = lines ∙ ap (λ ts. done ++ flat_map line ts) is ∙ sym (append_assoc done (line t) (flat_map line rest))
 
-  pub said_more : (left rest : List A) (t : A) (waits after : List ℕ) (old now new : Sent) → IsSaidTo line all left waits old now → Some t ≡ first_of left → rest ≡ drop 1 left
+  pub said_more : (left rest : List A) (t : A) (waits after : List ℕ) (old now new : Sent) → IsSaidTo line all left waits old now → left ≡ t ∷ rest
       → SentOn (waits ++ line t) after now new → IsSaidTo line all rest after old new
-  said_more left rest t waits after old now new h is rest_is more = record {
+  said_more left rest t waits after old now new h is more = record {
     done = h.done ++ line t;
-    lines = lines_split left t h.done is h.lines ∙ ap (λ ts. (h.done ++ line t) ++ flat_map line ts) (sym rest_is);
+    lines = lines_split left rest t h.done is h.lines;
     sent = sent_more_on (line t) h.sent more;
   }
 
@@ -51,26 +32,26 @@ module _ {A : Type 0} (line : A → List ℕ) (all : List A) where
     text_is done left is = ap (λ front. front ++ last) is ∙ append_assoc done (flat_map line left) last
 
     -- a line that failed
-    pub said_failed : (left : List A) (t : A) (waits : List ℕ) (old now new : Sent) → IsSaidTo line all left waits old now → Some t ≡ first_of left
+    pub said_failed : (left rest : List A) (t : A) (waits : List ℕ) (old now new : Sent) → IsSaidTo line all left waits old now → left ≡ t ∷ rest
         → SentPrefix (waits ++ line t) now new → SentPrefix (flat_map line all ++ last) old new
-    said_failed left t waits old now new h is part =
-        let behind : List ℕ = flat_map line (drop 1 left) ++ last in
-        let whole : flat_map line all ++ last ≡ (h.done ++ line t) ++ behind = text_is (h.done ++ line t) (drop 1 left) (lines_split left t h.done is h.lines) in
+    said_failed left rest t waits old now new h is part =
+        let behind : List ℕ = flat_map line rest ++ last in
+        let whole : flat_map line all ++ last ≡ (h.done ++ line t) ++ behind = text_is (h.done ++ line t) rest (lines_split left rest t h.done is h.lines) in
         subst (λ text. SentPrefix text old new) (sym whole) (sent_prefix_of behind (sent_more_prefix (line t) h.sent part))
 
     -- nothing is left but the last line
-    all_said : (left : List A) (waits : List ℕ) (old now : Sent) → IsSaidTo line all left waits old now → None ≡ first_of left
+    all_said : (left : List A) (waits : List ℕ) (old now : Sent) → IsSaidTo line all left waits old now → left ≡ []
         → (done : List ℕ) × (flat_map line all ++ last ≡ done ++ last) × SentOn done waits old now
     all_said left waits old now h is =
-        (h.done, text_is h.done left h.lines ∙ ap (λ ts. h.done ++ (flat_map line ts ++ last)) (no_more left is), h.sent)
+        (h.done, text_is h.done left h.lines ∙ ap (λ ts. h.done ++ (flat_map line ts ++ last)) is, h.sent)
 
-    pub last_failed : (left : List A) (waits : List ℕ) (old now new : Sent) → IsSaidTo line all left waits old now → None ≡ first_of left
+    pub last_failed : (left : List A) (waits : List ℕ) (old now new : Sent) → IsSaidTo line all left waits old now → left ≡ []
         → SentPrefix (waits ++ last) now new → SentPrefix (flat_map line all ++ last) old new
     last_failed left waits old now new h is part =
         let said = all_said left waits old now h is in
         subst (λ text. SentPrefix text old new) (sym said.1) (sent_more_prefix last said.2 part)
 
-    pub last_more : (left : List A) (waits after : List ℕ) (old now new : Sent) → IsSaidTo line all left waits old now → None ≡ first_of left
+    pub last_more : (left : List A) (waits after : List ℕ) (old now new : Sent) → IsSaidTo line all left waits old now → left ≡ []
         → SentOn (waits ++ last) after now new → SentOn (flat_map line all ++ last) after old new
     last_more left waits after old now new h is more =
         let said = all_said left waits old now h is in

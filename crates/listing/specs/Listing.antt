@@ -1,5 +1,5 @@
 -- The list command: a line for each thing of a file, in order of the offsets, and a summary.
-use Rattle.std.specs.Prelude.{ℕ, ◌*◌, ◌/◌, ◌%◌, Bool, if◌then◌else◌, List, [], ◌∷◌, ◌++◌, length, flat_map, codes, decimal, Option, Some, None, Result, Ok, Err, false}
+use Rattle.std.specs.Prelude.{◌≡◌, ℕ, ◌*◌, ◌/◌, ◌%◌, Bool, if◌then◌else◌, List, [], ◌∷◌, ◌++◌, length, flat_map, codes, decimal, Option, Some, None, Result, Ok, Err, false}
 use Rattle.frame_header.specs.declared.version.Version.{Version}
 use Rattle.frame_header.specs.declared.version.Version.TheVariants.{One, Two, TwoFive}
 use Rattle.frame_header.specs.Fields.{ClassFields}
@@ -55,6 +55,12 @@ line_of (Block piece) = codes "block " ++ (kind_name piece.block.kind ++ extent 
 line_of (Junk at size) = codes "junk" ++ extent at size
 line_of (FirstHead at header) = codes "head" ++ extent at (length_of (class_of header) header.slot)
 line_of (Frame number row) = frame_line number row
+
+-- the line of the first of these things, after which the others are left
+pub record IsNextLine (things rest : List Thing) (text : List ℕ) : Type 0 where
+  pub thing : Thing
+  pub first : things ≡ thing ∷ rest
+  pub line : line_of thing ≡ text
 
 -- ---- the summary
 

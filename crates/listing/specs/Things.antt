@@ -1,7 +1,8 @@
 -- What is in a file, in order of the offsets.
-use Rattle.std.specs.Prelude.{ℕ, ◌-◌, nat_lt, if◌then◌else◌, List, [], ◌∷◌, ◌++◌, map, drop, Option, Some, None, option_to_list, option_map, ◌≡◌}
+use Rattle.std.specs.Prelude.{ℕ, ◌-◌, nat_lt, if◌then◌else◌, List, [], ◌∷◌, ◌++◌, map, Option, Some, None, option_to_list, ◌≡◌}
 use Rattle.std.specs.List.{enumerate_from}
-use Rattle.offset_order.specs.Order.{ordered_by, left_by, first_of}
+use Rattle.offset_order.specs.Order.{ordered_by, merged_by}
+use Rattle.offset_order.specs.Merge.{firsts_left, seconds_left}
 use Rattle.sync_survey.specs.declared.places.Head.{Head}
 use Rattle.sync_survey.specs.Row.{Row}
 use Rattle.sync_survey.specs.Faults.{SurveyFields}
@@ -41,15 +42,17 @@ in_order = ordered_by offset_of
 
 -- ---- what a walk over them hasn't met yet
 
-abbrev pub stream_left : Things → List Thing
-stream_left t = option_to_list t.junk ++ (option_to_list t.head ++ frames_from t.next_frame (drop t.next_frame t.frames.now))
+abbrev pub leading : Things → List Thing
+leading t = option_to_list t.junk ++ option_to_list t.head
+
+-- the offset of the first of these, if there is one
+abbrev pub IsLeadingOffset : Option ℕ → List Thing → Type 0
+IsLeadingOffset None ts = ts ≡ []
+IsLeadingOffset (Some at) [] = ⊥
+IsLeadingOffset (Some at) (t ∷ ts) = at ≡ offset_of t
+
+abbrev pub frames_left : Things → List Thing
+frames_left t = frames_from t.others.next_second (seconds_left t.others)
 
 unfoldable pub left : Things → List Thing
-left t = left_by offset_of Block t.pieces.now t.next_piece (stream_left t)
-
--- no block that is left is at or before this offset, so what isn't a block comes first if it is there
-abbrev pub IsAheadOfBlocks : Things → ℕ → Type 0
-IsAheadOfBlocks t at =
-    (us : List Thing) → option_map offset_of (first_of us) ≡ Some at
-    → (first_of (left_by offset_of Block t.pieces.now t.next_piece us) ≡ first_of us)
-    × (drop 1 (left_by offset_of Block t.pieces.now t.next_piece us) ≡ left_by offset_of Block t.pieces.now t.next_piece (drop 1 us))
+left t = merged_by offset_of (map Block (firsts_left t.others)) (leading t ++ frames_left t)

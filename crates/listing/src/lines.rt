@@ -1,8 +1,7 @@
 //! The lines of a listing.
-ghost use Rattle.std.specs.Prelude.{◌≡◌, ◌+◌, ◌<◌, ◌≤◌, ◌++◌, Some, None, true, false, length, drop, codes, option_map};
-ghost use Rattle.listing.specs.Listing.{kind_name as kind_name_lem, version_name as version_name_lem, extent as extent_lem, frame_line as frame_line_lem, line_of, time_text, summary};
+ghost use Rattle.std.specs.Prelude.{◌≡◌, ◌+◌, ◌<◌, ◌≤◌, ◌++◌, true, false, [], length, codes};
+ghost use Rattle.listing.specs.Listing.{kind_name as kind_name_lem, version_name as version_name_lem, extent as extent_lem, frame_line as frame_line_lem, line_of, IsNextLine, time_text, summary};
 ghost use Rattle.listing.specs.Things.{left};
-ghost use Rattle.offset_order.specs.Order.{first_of};
 
 use crate::leading_digits::LeadingDigits;
 use crate::line::Line;
@@ -109,9 +108,8 @@ fn set_line(line: &mut Line, common: &mut Common, thing: &Thing)
 // As `set_next_line`. It is apart from it, since the compiler would make room for a thing of each kind at every frame.
 #[inline(never)]
 fn set_other_line(line: &mut Line, common: &mut Common, things: &mut Things) -> bool
-    ensures line { result ≡ true → option_map line_of (first_of (left things.old)) ≡ Some line.new }
-    ensures none { result ≡ false → first_of (left things.old) ≡ None }
-    ensures rest { left things.new ≡ drop 1 (left things.old) }
+    ensures line { result ≡ true → IsNextLine (left things.old) (left things.new) line.new }
+    ensures none { result ≡ false → left things.old ≡ [] }
 {
     match things.next() {
         Some(thing) => {
@@ -126,9 +124,8 @@ fn set_other_line(line: &mut Line, common: &mut Common, things: &mut Things) -> 
 #[tactic(auto, unfolding(crate::specs::Listing::line_of))]
 #[inline]
 pub(crate) fn set_next_line(line: &mut Line, common: &mut Common, things: &mut Things) -> bool
-    ensures line { result ≡ true → option_map line_of (first_of (left things.old)) ≡ Some line.new }
-    ensures none { result ≡ false → first_of (left things.old) ≡ None }
-    ensures rest { left things.new ≡ drop 1 (left things.old) }
+    ensures line { result ≡ true → IsNextLine (left things.old) (left things.new) line.new }
+    ensures none { result ≡ false → left things.old ≡ [] }
 {
     match things.next_frame() {
         Some((number, row)) => {

@@ -1,12 +1,12 @@
 //! What is in a file, in order of the offsets.
-ghost use Rattle.std.specs.Prelude.{◌≡◌, drop, false, option_map, option_to_list, IfSome, IfNone};
+ghost use Rattle.std.specs.Prelude.{◌≡◌, [], ◌∷◌, option_to_list, IfSome, IfNone, MatchOption};
 ghost use Rattle.sync_survey.specs.Faults.{tells};
 ghost use Rattle.sync_survey.specs.Survey.{IsLaidOut};
-ghost use Rattle.listing.specs.Things.{offset_of, things_of, in_order, junk_of as junk_of_lem, head_of as head_of_lem, left, stream_left, IsAheadOfBlocks};
+ghost use Rattle.listing.specs.Things.{offset_of, things_of, in_order, junk_of as junk_of_lem, head_of as head_of_lem, leading, left, IsLeadingOffset};
 ghost use Rattle.listing.specs.declared.things.Thing.TheVariants.{Frame};
-ghost use Rattle.offset_order.specs.Order.{first_of};
 
 use frame_header::Header;
+use offset_order::{Entry, Merge};
 use sync_survey::{Piece, Row, Survey};
 
 /// A thing in a file. Offsets and lengths are in bytes.
@@ -37,12 +37,9 @@ impl Thing {
 /// The things of a surveyed file that a walk hasn't met yet.
 #[derive(Drop)]
 pub(crate) struct Things<'a> {
-    pieces: &'a [Piece],
-    next_piece: usize,
     junk: Option<Thing>,
     head: Option<Thing>,
-    frames: &'a [Row],
-    next_frame: usize,
+    others: Merge<'a, Piece, Row>,
 }
 
 fn junk_of(survey: &Survey) -> Option<Thing>
@@ -69,22 +66,17 @@ impl<'a> Things<'a> {
         ensures { left result ≡ in_order (things_of (tells survey.now)) }
     {
         Things {
-            pieces: survey.blocks(),
-            next_piece: 0,
             junk: junk_of(survey),
             head: head_of(survey),
-            frames: survey.frames(),
-            next_frame: 0,
+            others: Merge::new(survey.blocks(), survey.frames()),
         }
     }
 
     /// The next thing, if it is a frame: its number, and its row. None if it is another, or all were met.
     #[inline]
     pub(crate) fn next_frame(&mut self) -> Option<(u64, &'a Row)>
-        ensures first { IfSome result (λ frame. first_of (left self.old)
-            ≡ Some (Frame frame.0 frame.1.now)) }
-        ensures rest { IfSome result (λ frame. left self.new ≡ drop 1 (left self.old)) }
-        ensures none { IfNone result (self.new ≡ self.old) }
+        ensures met { IfSome result (λ f. left self.old ≡ Frame f.0 f.1.now ∷ left self.new) }
+        ensures stays { IfNone result (self.new ≡ self.old) }
     {
         if self.junk.is_some() {
             return None;
@@ -92,75 +84,56 @@ impl<'a> Things<'a> {
         if self.head.is_some() {
             return None;
         }
-        let row = self.frames.get(self.next_frame)?;
-        if self.has_block_until(u64::from(row.offset())) {
-            return None;
-        }
-        let number = self.next_frame as u64;
-        self.next_frame += 1;
+        let number = self.others.seconds_met() as u64;
+        let row = self.others.next_second()?;
         Some((number, row))
-    }
-
-    /// Whether a block that is left is at or before this offset.
-    #[inline]
-    fn has_block_until(&self, offset: u64) -> bool
-        ensures { result ≡ false → IsAheadOfBlocks self.now offset }
-    {
-        match self.pieces.get(self.next_piece) {
-            Some(piece) => piece.offset <= offset,
-            None => false,
-        }
     }
 
     /// The next thing, in order of the offsets; none once all were met.
     pub(crate) fn next(&mut self) -> Option<Thing>
-        ensures first { result ≡ first_of (left self.old) }
-        ensures rest { left self.new ≡ drop 1 (left self.old) }
+        ensures { MatchOption result (left self.old ≡ []) (λ t. left self.old ≡ t ∷ left self.new) }
     {
-        let Some(piece) = self.pieces.get(self.next_piece) else {
-            return self.next_of_stream();
+        let Some(offset) = self.leading_offset() else {
+            return self.next_other();
         };
-        match self.stream_offset() {
-            Some(offset) if offset < piece.offset => self.next_of_stream(),
-            _ => {
-                self.next_piece += 1;
-                Some(Thing::Block(*piece))
-            }
+        match self.others.next_first_until(offset) {
+            Some(piece) => Some(Thing::Block(*piece)),
+            None => self.next_leading(),
         }
     }
 
-    /// The offset of the next thing that isn't a block.
-    fn stream_offset(&self) -> Option<u64>
-        ensures { result ≡ option_map offset_of (first_of (stream_left self.now)) }
+    /// The offset of the junk, or else of the head, if one of them is left.
+    fn leading_offset(&self) -> Option<u64>
+        ensures { IsLeadingOffset result (leading self.now) }
     {
         if let Some(junk) = &self.junk {
             return Some(junk.offset());
         }
-        if let Some(head) = &self.head {
-            return Some(head.offset());
-        }
-        let row = self.frames.get(self.next_frame)?;
-        Some(u64::from(row.offset()))
+        let head = self.head.as_ref()?;
+        Some(head.offset())
     }
 
-    /// The next thing that isn't a block.
-    fn next_of_stream(&mut self) -> Option<Thing>
-        ensures first { result ≡ first_of (stream_left self.old) }
-        ensures rest { stream_left self.new ≡ drop 1 (stream_left self.old) }
-        ensures same_blocks { self.new.pieces ≡ self.old.pieces }
-        ensures same_place { self.new.next_piece ≡ self.old.next_piece }
+    /// The junk, or else the head, if one of them is left.
+    fn next_leading(&mut self) -> Option<Thing>
+        ensures met { MatchOption result (leading self.old ≡ [])
+            (λ t. leading self.old ≡ t ∷ leading self.new) }
+        ensures same { self.new.others ≡ self.old.others }
     {
-        if let Some(junk) = self.junk {
-            self.junk = None;
-            return Some(junk);
+        if self.junk.is_some() {
+            return self.junk.take();
         }
-        if let Some(head) = self.head {
-            self.head = None;
-            return Some(head);
+        self.head.take()
+    }
+
+    /// The next thing that is neither the junk nor the head.
+    fn next_other(&mut self) -> Option<Thing>
+        requires { leading self.old ≡ [] }
+        ensures { MatchOption result (left self.old ≡ []) (λ t. left self.old ≡ t ∷ left self.new) }
+    {
+        let number = self.others.seconds_met() as u64;
+        match self.others.next()? {
+            Entry::First(piece) => Some(Thing::Block(piece)),
+            Entry::Second(row) => Some(Thing::Frame(number, row)),
         }
-        let row = self.frames.get(self.next_frame)?;
-        let number = self.next_frame as u64;
-        self.next_frame += 1;
-        Some(Thing::Frame(number, *row))
     }
 }

@@ -1,9 +1,7 @@
--- A walk over two lists that each are in order meets the entries of both in order.
-use Rattle.std.proofs.Common.{◌≡◌, ℕ, ◌+◌, ◌≤◌, ◌<◌, true, false, cond, List, [], ◌∷◌, ◌++◌, length, get_or, map, drop, Option, Some, refl, sym, ◌∙◌, ap, subst, ltb, arith}
-use Rattle.std.specs.Prelude.{option_map, IfSome}
+-- Two lists that each are in order, as one.
+use Rattle.std.proofs.Common.{◌≡◌, ℕ, ◌≤◌, ◌<◌, true, false, cond, List, [], ◌∷◌, ◌++◌, map, refl, sym, ◌∙◌, ap, ltb, arith}
 use Rattle.std.proofs.lemmas.Bool.{lt-ltb, le-ltb, ltb-true, ltb-false}
-use Rattle.std.proofs.lemmas.List.{drop_more, drop_all}
-use Rattle.offset_order.specs.Order.{put_by, ordered_by, RisesBy, before_by, merged_by, left_by, first_of}
+use Rattle.offset_order.specs.Order.{put_by, ordered_by, RisesBy, before_by, merged_by, IsAfter, IsFrom}
 
 module _ {A : Type 0} (key : A → ℕ) where
   -- ---- one entry put in
@@ -17,13 +15,25 @@ module _ {A : Type 0} (key : A → ℕ) where
   merged_nil [] = refl
   merged_nil (t ∷ ts) = ap (λ us. t ∷ us) (merged_nil ts)
 
-  -- what is before all of a list is met first
-  merged_first : (ts : List A) (u : A) (us : List A) (from : ℕ) → RisesBy key from ts → key u < from → merged_by key ts (u ∷ us) ≡ u ∷ merged_by key ts us
-  unfolding merged_by
-  merged_first [] u us from rises lt = refl
-  merged_first (t ∷ ts) u us from rises lt = rw (lt-ltb (key u) (key t) (omega (arith, rises.0, lt))) refl
+  -- ---- two lists as one
 
-  -- and what is at or after a place is put after the entry there
+  -- an entry of the first list that isn't after the others comes first
+  pub merged_own : (t : A) (ts us : List A) → IsFrom key (key t) us → merged_by key (t ∷ ts) us ≡ t ∷ merged_by key ts us
+  unfolding merged_by
+  merged_own t ts [] le = refl
+  merged_own t ts (u ∷ us) le = rw (le-ltb (key u) (key t) le) refl
+
+  -- and so does one of the others that is before the first list
+  pub merged_other : (ts : List A) (u : A) (us : List A) → IsAfter key (key u) ts → merged_by key ts (u ∷ us) ≡ u ∷ merged_by key ts us
+  unfolding merged_by
+  merged_other [] u us lt = refl
+  merged_other (t ∷ ts) u us lt = rw (lt-ltb (key u) (key t) lt) refl
+
+  rises_after : (at from : ℕ) (ts : List A) → RisesBy key from ts → at < from → IsAfter key at ts
+  rises_after at from [] rises lt = tt
+  rises_after at from (t ∷ ts) rises lt = omega (arith, rises.0, lt)
+
+  -- what is at or after a place is put after the entry there
   put_before : (t : A) (ts us : List A) → RisesBy key (key t) ts → RisesBy key (key t) us → put_by key t (merged_by key ts us) ≡ t ∷ merged_by key ts us
   unfolding merged_by
   put_before t [] us rises behind = put_first t us behind
@@ -45,7 +55,7 @@ module _ {A : Type 0} (key : A → ℕ) where
       let behind : put_by key t (merged_by key ts us) ≡ before_by key t (merged_by key ts) us = put_merged t ts us (key u) rises up.1 in
       elim (ltb (key u) (key t)) as (λ b. ltb (key u) (key t) ≡ b → put_by key t (merged_by key ts (u ∷ us)) ≡ cond b (u ∷ before_by key t (merged_by key ts) us) (t ∷ merged_by key ts (u ∷ us))) [
         | true ↦ λ is.
-            ap (put_by key t) (merged_first ts u us (key t) rises (ltb-true (key u) (key t) is))
+            ap (put_by key t) (merged_other ts u us (rises_after (key u) (key t) ts rises (ltb-true (key u) (key t) is)))
             ∙ rw is (ap (λ vs. u ∷ vs) behind)
         | false ↦ λ is. put_before t ts (u ∷ us) rises (ltb-false (key u) (key t) is, up.1)
       ] refl
@@ -62,49 +72,13 @@ module _ {A : Type 0} (key : A → ℕ) where
   ordered_both [] us from to rises up = ordered_same us to up
   ordered_both (t ∷ ts) us from to rises up = ap (put_by key t) (ordered_both ts us (key t) to rises.1 up) ∙ put_merged t ts us to rises.1 up
 
-  -- ---- the walk
+-- ---- entries by what is made of them
 
-  -- what is before an entry is met before it
-  passed : (t : A) (behind : List A → List A) (us : List A) (at : ℕ) → option_map key (first_of us) ≡ Some at → at < key t
-      → (first_of (before_by key t behind us) ≡ first_of us) × (drop 1 (before_by key t behind us) ≡ before_by key t behind (drop 1 us))
-  passed t behind [] at is lt = absurd cc
-  passed t behind (u ∷ us) at is lt =
-      let same : key u ≡ at = cc in
-      let first : ltb (key u) (key t) ≡ true = lt-ltb (key u) (key t) (omega (arith, same, lt)) in
-      (rw first refl, rw first refl)
+module _ {A B : Type 0} (key : B → ℕ) (f : A → B) (at : ℕ) where
+  pub after_map : (ts : List A) → IsAfter (λ t. key (f t)) at ts → IsAfter key at (map f ts)
+  after_map [] after = tt
+  after_map (t ∷ ts) after = after
 
-  -- and else it is met itself
-  met : (t : A) (behind : List A → List A) (us : List A) (o : Option ℕ) → option_map key (first_of us) ≡ o → IfSome o (λ at. key t ≤ at)
-      → (first_of (before_by key t behind us) ≡ Some t) × (drop 1 (before_by key t behind us) ≡ behind us)
-  met t behind [] o is le = (refl, refl)
-  met t behind (u ∷ us) o is le =
-      let later : key t ≤ key u = subst (λ p. IfSome p (λ at. key t ≤ at)) (sym is) le in
-      let first : ltb (key u) (key t) ≡ false = le-ltb (key u) (key t) later in
-      (rw first refl, rw first refl)
-
-  module _ {B : Type 0} (entry : B → A) (bs : List B) (next : ℕ) where
-    -- with none of the first list left
-    pub left_none : (us : List A) → false ≡ ltb next (length bs) → left_by key entry bs next us ≡ us
-    unfolding left_by merged_by
-    left_none us none = ap (λ vs. merged_by key (map entry vs) us) (drop_all next bs (ltb-false next (length bs) (sym none)))
-
-    left_some : (us : List A) (b : B) → true ≡ ltb next (length bs) → b ≡ get_or bs next b → left_by key entry bs next us ≡ before_by key (entry b) (merged_by key (map entry (drop (next + 1) bs))) us
-    unfolding left_by merged_by
-    left_some us b some is =
-        ap (λ vs. merged_by key (map entry vs) us)
-        (drop_more bs next b (ltb-true next (length bs) (sym some)) ∙ ap (λ c. c ∷ drop (next + 1) bs) (sym is))
-
-    -- the first of the others is before that of the list
-    pub left_other : (us : List A) (b : B) → true ≡ ltb next (length bs) → b ≡ get_or bs next b → (at : ℕ) → option_map key (first_of us) ≡ Some at → at < key (entry b)
-        → (first_of (left_by key entry bs next us) ≡ first_of us) × (drop 1 (left_by key entry bs next us) ≡ left_by key entry bs next (drop 1 us))
-    left_other us b some is at first lt =
-        let step = passed (entry b) (merged_by key (map entry (drop (next + 1) bs))) us at first lt in
-        (ap first_of (left_some us b some is) ∙ step.0, ap (drop 1) (left_some us b some is) ∙ step.1 ∙ sym (left_some (drop 1 us) b some is))
-
-    -- none of the others is before it
-    pub left_own : (us : List A) (b : B) → true ≡ ltb next (length bs) → b ≡ get_or bs next b → (o : Option ℕ) → option_map key (first_of us) ≡ o → IfSome o (λ at. key (entry b) ≤ at)
-        → (first_of (left_by key entry bs next us) ≡ Some (entry b)) × (drop 1 (left_by key entry bs next us) ≡ left_by key entry bs (next + 1) us)
-    unfolding left_by
-    left_own us b some is o first le =
-        let step = met (entry b) (merged_by key (map entry (drop (next + 1) bs))) us o first le in
-        (ap first_of (left_some us b some is) ∙ step.0, ap (drop 1) (left_some us b some is) ∙ step.1)
+  pub from_map : (ts : List A) → IsFrom (λ t. key (f t)) at ts → IsFrom key at (map f ts)
+  from_map [] from = tt
+  from_map (t ∷ ts) from = from

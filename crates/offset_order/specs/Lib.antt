@@ -1,2 +1,3 @@
 -- What the definitions of other crates cite.
+pub mod Merge
 pub mod Order

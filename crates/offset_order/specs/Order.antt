@@ -1,5 +1,5 @@
 -- Lists in order of a number that each entry has, its key.
-use Rattle.std.specs.Prelude.{ℕ, ◌≤◌, nat_lt, if◌then◌else◌, List, [], ◌∷◌, map, drop, Option, Some, None}
+use Rattle.std.specs.Prelude.{ℕ, ◌<◌, ◌≤◌, nat_lt, if◌then◌else◌, List, [], ◌∷◌}
 
 -- an entry before the first of these that isn't before it
 abbrev pub put_by : {A : Type 0} → (A → ℕ) → A → List A → List A
@@ -26,10 +26,12 @@ unfoldable pub merged_by : {A : Type 0} → (A → ℕ) → List A → List A �
 merged_by key [] us = us
 merged_by key (t ∷ ts) us = before_by key t (merged_by key ts) us
 
--- what a walk over both has left: of the first list the entries from this place on, and these of the other
-unfoldable pub left_by : {A B : Type 0} → (A → ℕ) → (B → A) → List B → ℕ → List A → List A
-left_by key entry bs next us = merged_by key (map entry (drop next bs)) us
+-- the first of these is after the offset, if there is one
+abbrev pub IsAfter : {A : Type 0} → (A → ℕ) → ℕ → List A → Type 0
+IsAfter key at [] = Unit {0}
+IsAfter key at (t ∷ ts) = at < key t
 
-abbrev pub first_of : {A : Type 0} → List A → Option A
-first_of [] = None
-first_of (t ∷ ts) = Some t
+-- it is at or after the offset
+abbrev pub IsFrom : {A : Type 0} → (A → ℕ) → ℕ → List A → Type 0
+IsFrom key at [] = Unit {0}
+IsFrom key at (t ∷ ts) = at ≤ key t

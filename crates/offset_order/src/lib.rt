@@ -1,2 +1,6 @@
-//! Lists in order of a number that each entry has, such as its offset in a file: definitions and laws. Nothing here runs.
+//! Lists in order of the offset that each entry has in a file, and a walk over two of them.
 #![tactic(auto)]
+
+mod merge;
+
+pub use merge::{Entry, HasOffset, Merge};

@@ -9,6 +9,7 @@ ghost use Rattle.salvage.specs.Mended.{mended_row, mended, emptied_as, emptied_f
 
 use crate::damaged::Damaged;
 use crate::gap::Gap;
+use offset_order::HasOffset;
 use side_info::{FrameFront, Side};
 use std::alloc::{AllocError, Global};
 use sync_survey::{Row, Survey};
@@ -18,6 +19,14 @@ use sync_survey::{Row, Survey};
 pub struct Emptied {
     pub number: u32,
     pub offset: u32,
+}
+
+impl HasOffset for Emptied {
+    ghost offset_of = { λ e. e.offset };
+
+    fn offset_in_file(&self) -> u64 {
+        u64::from(self.offset)
+    }
 }
 
 /// What is read of a damaged file, as it is written: a survey in which each frame that isn't sound is one

@@ -1,8 +1,7 @@
 -- What the command leaves, by its steps.
-use Rattle.std.proofs.Common.{◌≡◌, ℕ, ◌≤◌, List, [], ◌∷◌, length, ltb, cond, Bool, true, false, Option, Some, None, Result, Ok, Err, refl, sym, ◌∙◌, ap, ap₂, subst, inl, arith}
+use Rattle.std.proofs.Common.{◌≡◌, ℕ, ◌≤◌, List, [], ◌∷◌, length, Option, Some, None, Result, Ok, Err, refl, sym, ◌∙◌, ap, ap₂, subst, inl, arith}
 use Rattle.std.specs.Prelude.{IfErr, slice_get}
 use Rattle.std.specs.Result.{IsErrAnd}
-use Rattle.std.proofs.lemmas.Bool.{ltb-false}
 use Rattle.std.proofs.lemmas.List.{length-map}
 use Rattle.bit_fields.specs.Bits.{AreBytes}
 use Rattle.outside.specs.Files.{Contents, Files, Holds, IsThere, IsMissing, Told, Untold, IfTold, OnlyTouches}
@@ -45,9 +44,9 @@ use Rattle.laying.specs.Surveys.{HasSurvey}
 use Rattle.salvage.specs.declared.mended.Mended.{Mended}
 use Rattle.salvaging.specs.declared.work.Work.{Work}
 use Rattle.salvaging.specs.Salvaged.{all_of, salvaged_file, left_stream, made_by, made_where, stream_by, stream_where, text_by, text_where, salvage_task, salvage_command}
-use Rattle.salvaging.specs.Ordered.{IsInOrder, text_of}
+use Rattle.salvaging.specs.Ordered.{IsInOrder, report_text}
 use Rattle.salvaging.specs.Ready.{IsMended, IsReady, Reports, ReadsInput}
-use Rattle.salvaging.proofs.OrderLaws.{reports-order, report-text}
+use Rattle.salvaging.proofs.OrderLaws.{reports-order, report-text-same}
 use Rattle.salvaging.proofs.HadLaws.{damaged-had}
 use Rattle.salvaging.proofs.StreamLaws.{salvaged-holds}
 
@@ -216,10 +215,10 @@ module _ (input : List ℕ) where
     frames-same = ap (λ (s : SurveyFields). length s.frames) ready.survey ∙ length-map ready.of.survey.frames mended_row
 
     -- the text is that of what was read
-    pub ready-text : (output all : List ℕ) → IsText (salvage_command input output) files all → all ≡ text_of (length (tells work.laid.survey).frames) work.report
+    pub ready-text : (output all : List ℕ) → IsText (salvage_command input output) files all → all ≡ report_text (length (tells work.laid.survey).frames) work.report
     ready-text output all is =
         let told = telling-text (λ f. text_where (f input)) (one_command (salvage_task input) output) files all is in
-        told.2 ∙ at files told.1 ready.layable.there ready.read ∙ sym (report-text ready.of work.report ready.reports) ∙ sym (ap (λ n. text_of n work.report) frames-same)
+        told.2 ∙ at files told.1 ready.layable.there ready.read ∙ sym (report-text-same ready.of work.report ready.reports) ∙ sym (ap (λ n. report_text n work.report) frames-same)
       where
         told-same : (f g : Contents) → Told f ≡ Told g → f ≡ g
         told-same f g e = cc

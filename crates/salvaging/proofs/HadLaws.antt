@@ -14,7 +14,7 @@ use Rattle.sync_survey.specs.declared.places.PlacedFrame.{PlacedFrame}
 use Rattle.sync_survey.specs.Row.{Row}
 use Rattle.sync_survey.specs.declared.rows.Before.{Before}
 use Rattle.sync_survey.specs.declared.runs.Part.TheVariants.{Front, Stream}
-use Rattle.sync_survey.specs.Runs.{frame_as, run, blocks_of}
+use Rattle.sync_survey.specs.Runs.{run, blocks_of}
 use Rattle.sync_survey.specs.Walk.{head_of}
 use Rattle.sync_survey.specs.Start.{front_end_of}
 use Rattle.sync_survey.specs.MainData.{head_area}

@@ -3,10 +3,11 @@ ghost use Rattle.std.specs.Prelude.{◌≡◌, ◌<◌, [], OnOk, OnErr};
 ghost use Rattle.outside.specs.Files.{sent_more};
 ghost use Rattle.outside.specs.Passed.{SentPrefix};
 ghost use Rattle.outside.specs.Counts.{HasCause};
-ghost use Rattle.salvaging.specs.Ordered.{IsInOrder, text_of};
+ghost use Rattle.salvaging.specs.Ordered.{IsInOrder, report_text};
 
-use crate::lines::{Lines, set_counts, set_line};
+use crate::lines::{set_counts, set_line};
 use listing::Line;
+use offset_order::Merge;
 use outside::{Failed, SendBuffer, Sink};
 use salvage::{Emptied, Gap};
 
@@ -31,19 +32,19 @@ pub(crate) fn send_report<T: Sink>(
     requires order { IsInOrder report.now }
     requires empty { buffer.old ≡ [] }
     ensures sent { OnOk result ((T.heard out.new).sent ≡ sent_more (T.heard out.old).sent
-        (text_of frames report.now)) }
-    ensures prefix { OnErr result (SentPrefix (text_of frames report.now) (T.heard out.old).sent
+        (report_text frames report.now)) }
+    ensures prefix { OnErr result (SentPrefix (report_text frames report.now) (T.heard out.old).sent
         (T.heard out.new).sent) }
     ensures cause { HasCause (T.heard out.old).faults (T.heard out.new).faults result }
 {
+    let gaps = report.gaps.as_slice();
+    let emptied = report.emptied.as_slice();
     let mut line = Line::new();
-    let mut lines = Lines::of(report);
+    let mut lines = Merge::new(gaps, emptied);
     while let Some(told) = lines.next() {
         set_line(&mut line, &told);
         buffer.push(out, line.bytes())?;
     }
-    let gaps = report.gaps.as_slice();
-    let emptied = report.emptied.as_slice();
     set_counts(&mut line, frames, gaps.len() as u64, emptied.len() as u64);
     buffer.push(out, line.bytes())?;
     buffer.finish(out)

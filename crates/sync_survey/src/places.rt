@@ -1,6 +1,7 @@
 //! Where things are in a file. Offsets and lengths are in bytes.
 
 use frame_header::Header;
+use offset_order::HasOffset;
 use tag_blocks::Block;
 
 /// A frame, and the offset of its header.
@@ -15,6 +16,14 @@ pub struct PlacedFrame {
 pub struct Piece {
     pub offset: u64,
     pub block: Block,
+}
+
+impl HasOffset for Piece {
+    ghost offset_of = { λ p. p.offset };
+
+    fn offset_in_file(&self) -> u64 {
+        self.offset
+    }
 }
 
 /// A head: a first frame that has counts and a seek table of the file in place of main data.

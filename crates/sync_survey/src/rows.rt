@@ -11,6 +11,7 @@ ghost use Rattle.frame_header.specs.Limits.{most_frame_length};
 
 use crate::survey_fault::SurveyFault;
 use frame_header::{Class, Header};
+use offset_order::HasOffset;
 use side_info::{Extent, FrameFront, Side, word_said};
 use std::marker::Model;
 
@@ -31,6 +32,14 @@ impl Model for Row {
     ghost view = { λ r. record { offset = r.offset; header = r.front.header; lost = r.lost; side = r.front.side } };
 
     ghost inverse = { λ r. record { offset = r.offset; lost = r.lost; front = record { header = r.header; side = r.side } } };
+}
+
+impl HasOffset for Row {
+    ghost offset_of = { λ r. r.offset };
+
+    fn offset_in_file(&self) -> u64 {
+        u64::from(self.offset)
+    }
 }
 
 impl Row {

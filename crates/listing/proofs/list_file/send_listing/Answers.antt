@@ -1,11 +1,11 @@
 -- One line after another, then the summary, then what waits.
-use Rattle.std.proofs.Common.{◌++◌, length, refl, sym, ◌∙◌, subst}
+use Rattle.std.proofs.Common.{◌++◌, length, refl, sym, ◌∙◌, ap, subst, arith}
 use Rattle.outside.specs.Passed.{SentOn, SentPrefix}
 use Rattle.sync_survey.specs.Faults.{tells}
 use Rattle.listing.specs.Things.{things_of, in_order, left}
 use Rattle.listing.specs.Listing.{line_of, summary, listing}
 use Rattle.outside.proofs.PassedLaws.{on_err}
-use Rattle.listing.proofs.ListingLaws.{first_line, shorter_behind, said_none, said_more, said_failed, last_failed, last_more, sent_behind, prefix_behind}
+use Rattle.listing.proofs.ListingLaws.{said_none, said_more, said_failed, last_failed, last_more, sent_behind, prefix_behind}
 use Rattle.listing.proofs.list_file.send_listing.Given.{Over}
 use Rattle.listing.proofs.list_file.send_listing.Goals as goal
 
@@ -16,31 +16,31 @@ loop-things-init g c = record {
 }
 
 pub loop-things-smaller : goal.loop-things-smaller
-loop-things-smaller g c = shorter_behind line_of (left c.loop-things.things) (left c.set_next_line.new.things) (c.set_next_line.ensures.line c.loop-things-test.true) c.set_next_line.ensures.rest
+loop-things-smaller g c = omega (arith, ap length (c.set_next_line.ensures.line c.loop-things-test.true).first)
 
 pub loop-things-preserved : goal.loop-things-preserved
 loop-things-preserved g c =
-    let first = first_line line_of (left c.loop-things.things) (c.set_next_line.ensures.line c.loop-things-test.true) in
+    let next = c.set_next_line.ensures.line c.loop-things-test.true in
     record {
       done = c.in_ok-push.ensures.cause.done ∙ c.loop-things.invariant.done;
-      listed = said_more line_of (in_order (things_of (tells c.args.survey.now))) (left c.loop-things.things) (left c.set_next_line.new.things) first.0 c.loop-things.buffer c.push.new.self _ _ _
-          c.loop-things.invariant.listed first.1 c.set_next_line.ensures.rest
-          (subst (λ line. SentOn (c.loop-things.buffer ++ line) c.push.new.self (g.T.Sink.heard c.loop-things.out).sent (g.T.Sink.heard c.push.new.sink).sent) (c.bytes.ensures ∙ sym first.2) c.in_ok-push.ensures.passed);
+      listed = said_more line_of (in_order (things_of (tells c.args.survey.now))) (left c.loop-things.things) (left c.set_next_line.new.things) next.thing c.loop-things.buffer c.push.new.self _ _ _
+          c.loop-things.invariant.listed next.first
+          (subst (λ line. SentOn (c.loop-things.buffer ++ line) c.push.new.self (g.T.Sink.heard c.loop-things.out).sent (g.T.Sink.heard c.push.new.sink).sent) (c.bytes.ensures ∙ sym next.line) c.in_ok-push.ensures.passed);
     }
 
 pub returns-in_err-push-clause-prefix : goal.returns-in_err-push-clause-prefix
 unfolding listing
 returns-in_err-push-clause-prefix g c =
-    let first = first_line line_of (left c.loop-things.things) (c.set_next_line.ensures.line c.loop-things-test.true) in
+    let next = c.set_next_line.ensures.line c.loop-things-test.true in
     on_err c.from_residual.result
-    (said_failed line_of (in_order (things_of (tells c.args.survey.now))) (summary (tells c.args.survey.now).class (length (tells c.args.survey.now).frames)) (left c.loop-things.things) first.0 c.loop-things.buffer _ _ _ c.loop-things.invariant.listed first.1
-    (subst (λ line. SentPrefix (c.loop-things.buffer ++ line) (g.T.Sink.heard c.loop-things.out).sent (g.T.Sink.heard c.push.new.sink).sent) (c.bytes.ensures ∙ sym first.2) c.in_err-push.ensures.prefix))
+    (said_failed line_of (in_order (things_of (tells c.args.survey.now))) (summary (tells c.args.survey.now).class (length (tells c.args.survey.now).frames)) (left c.loop-things.things) (left c.set_next_line.new.things) next.thing c.loop-things.buffer _ _ _ c.loop-things.invariant.listed next.first
+    (subst (λ line. SentPrefix (c.loop-things.buffer ++ line) (g.T.Sink.heard c.loop-things.out).sent (g.T.Sink.heard c.push.new.sink).sent) (c.bytes.ensures ∙ sym next.line) c.in_err-push.ensures.prefix))
 
 pub returns-in_err-push-2-clause-prefix : goal.returns-in_err-push-2-clause-prefix
 unfolding listing
 returns-in_err-push-2-clause-prefix g c =
     on_err c.from_residual-in_err-push-2.result
-    (last_failed line_of (in_order (things_of (tells c.args.survey.now))) (summary (tells c.args.survey.now).class (length (tells c.args.survey.now).frames)) (left c.loop-things.things) c.loop-things.buffer _ _ _ c.loop-things.invariant.listed (sym (c.set_next_line.ensures.none c.loop-things-test.false))
+    (last_failed line_of (in_order (things_of (tells c.args.survey.now))) (summary (tells c.args.survey.now).class (length (tells c.args.survey.now).frames)) (left c.loop-things.things) c.loop-things.buffer _ _ _ c.loop-things.invariant.listed (c.set_next_line.ensures.none c.loop-things-test.false)
     (subst (λ line. SentPrefix (c.loop-things.buffer ++ line) (g.T.Sink.heard c.loop-things.out).sent (g.T.Sink.heard c.push-2.new.sink).sent)
     (c.bytes-2.ensures ∙ c.set_summary.ensures ∙ rw (c.class.ensures, c.frames.ensures) refl) c.in_err-push-2.ensures.prefix))
 
@@ -48,7 +48,7 @@ returns-in_err-push-2-clause-prefix g c =
 all_listed : (g : Over) (c : goal.After-drop-buffer-inside-2 g) → SentOn (listing (tells c.args.survey.now)) c.push-2.new.self (g.T.Sink.heard c.args.out.now).sent (g.T.Sink.heard c.push-2.new.sink).sent
 unfolding listing
 all_listed g c =
-    last_more line_of (in_order (things_of (tells c.args.survey.now))) (summary (tells c.args.survey.now).class (length (tells c.args.survey.now).frames)) (left c.loop-things.things) c.loop-things.buffer c.push-2.new.self _ _ _ c.loop-things.invariant.listed (sym (c.set_next_line.ensures.none c.loop-things-test.false))
+    last_more line_of (in_order (things_of (tells c.args.survey.now))) (summary (tells c.args.survey.now).class (length (tells c.args.survey.now).frames)) (left c.loop-things.things) c.loop-things.buffer c.push-2.new.self _ _ _ c.loop-things.invariant.listed (c.set_next_line.ensures.none c.loop-things-test.false)
     (subst (λ line. SentOn (c.loop-things.buffer ++ line) c.push-2.new.self (g.T.Sink.heard c.loop-things.out).sent (g.T.Sink.heard c.push-2.new.sink).sent)
     (c.bytes-2.ensures ∙ c.set_summary.ensures ∙ rw (c.class.ensures, c.frames.ensures) refl) c.in_ok-push-2.ensures.passed)
 

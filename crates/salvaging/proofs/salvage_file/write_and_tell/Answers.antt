@@ -5,7 +5,7 @@ use Rattle.commands.specs.declared.fault.EditFault.TheVariants.{Sent}
 use Rattle.commands.proofs.MakeLaws.{source_apart, refused_run}
 use Rattle.sync_survey.specs.Row.{Row}
 use Rattle.salvaging.specs.Salvaged.{salvage_command}
-use Rattle.salvaging.specs.Ordered.{text_of}
+use Rattle.salvaging.specs.Ordered.{report_text}
 use Rattle.salvaging.proofs.CommandLaws.{left-done, left-part, left-streams, numbers-pass, ready-text, ready-order, done-run}
 use Rattle.salvaging.proofs.salvage_file.write_and_tell.Goals as goal
 
@@ -40,7 +40,7 @@ returns-in-Ok-clause-says g c =
       text = λ all is.
           let report = c.args.work.now.report in
           let same = ready-text c.args.input.now (g.D.Folder.seen c.args.folder.now).files c.args.work.now c.requires.ready c.args.output.now all is in
-          let told : text_of (length c.frames.result.now) report ≡ all = ap (λ (rows : List Row). text_of (length rows) report) c.frames.ensures ∙ sym same in
+          let told : report_text (length c.frames.result.now) report ≡ all = ap (λ (rows : List Row). report_text (length rows) report) c.frames.ensures ∙ sym same in
           c.in-Ok.ensures.sent ∙ ap (sent_more (g.T.Sink.heard c.args.out.now).sent) told;
       faults = c.in-Ok.ensures.cause.done;
     }
@@ -59,7 +59,7 @@ returns-in-Err-clause-says g c =
       text = λ all is.
           let report = c.args.work.now.report in
           let same = ready-text c.args.input.now (g.D.Folder.seen c.args.folder.now).files c.args.work.now c.requires.ready c.args.output.now all is in
-          let told : text_of (length c.frames.result.now) report ≡ all = ap (λ (rows : List Row). text_of (length rows) report) c.frames.ensures ∙ sym same in
+          let told : report_text (length c.frames.result.now) report ≡ all = ap (λ (rows : List Row). report_text (length rows) report) c.frames.ensures ∙ sym same in
           let part = c.in-Err.ensures.prefix in
           (part.count, subst (λ (l : List ℕ). part.count ≤ length l) told part.within, part.sent ∙ ap (λ (l : List ℕ). sent_more (g.T.Sink.heard c.args.out.now).sent (take part.count l)) told);
       rose = c.in-Err.ensures.cause.failed;

@@ -1,11 +1,16 @@
 -- All things of the file are left, in order.
-use Rattle.std.proofs.Common.{refl, sym, ◌∙◌}
+use Rattle.std.proofs.Common.{sym, ◌∙◌, ap, map, append_assoc}
+use Rattle.offset_order.specs.Order.{merged_by}
 use Rattle.sync_survey.specs.Faults.{tells}
-use Rattle.offset_order.specs.Order.{left_by}
-use Rattle.listing.specs.Things.{left}
+use Rattle.listing.specs.declared.things.Thing.TheVariants.{Block}
+use Rattle.listing.specs.Things.{offset_of, junk_of, head_of, frames_from, left}
 use Rattle.listing.proofs.ThingsLaws.{things_in_order}
 use Rattle.listing.proofs.things.Things.of.Goals as goal
 
 pub returns : goal.returns
-unfolding left left_by
-returns c = rw (c.blocks-2.ensures, c.junk_of.ensures, c.head_of.ensures, c.frames.ensures) refl ∙ sym (things_in_order (tells c.args.survey.now) c.requires)
+unfolding left
+returns c =
+    let s = tells c.args.survey.now in
+    rw (c.new.ensures.firsts, c.new.ensures.seconds, c.new.ensures.number, c.blocks-2.ensures, c.frames.ensures, c.junk_of.ensures, c.head_of.ensures)
+    (ap (merged_by offset_of (map Block s.blocks)) (append_assoc (junk_of s) (head_of s.first s.head) (frames_from 0 s.frames)))
+    ∙ sym (things_in_order s c.requires)
