@@ -47,7 +47,7 @@ pub(crate) fn inputs_of<'a>(job: &Job<'a>) -> ArrayVec<&'a str, 64>
         | Job::Cut { input, .. }
         | Job::SplitAt { input, .. }
         | Job::Salvage { input, .. } => names(&[input]),
-        // An arm of its own, since its proof goes by the modes.
+        // An arm of its own, since it has a proof of its own.
         Job::Pack { input, .. } => names(&[input]),
         Job::SplitBy { input, sheet, .. } | Job::Fade { input, sheet, .. } => {
             names(&[input, sheet])
