@@ -7,7 +7,7 @@ ghost use Rattle.salvage.specs.Steps.{admits_item};
 
 use crate::usable::has_right_word;
 use frame_header::Class;
-use sync_survey::{Item, Step, whole_frame};
+use sync_survey::{Item, Step, header_of_class};
 
 /// The whole frame with which the bytes of a look at the offset begin, if it is usable as a later one of the class. `left`
 /// is how many bytes the file has from there on.
@@ -19,12 +19,11 @@ pub(crate) fn later_frame(class: Class, front: &[u8], at: u64, left: u64) -> Opt
     ensures usable { IfSome result (λ s. admits_item (Later class) at s.item front.now ≡ true) }
     ensures passes { IfSome result (PassesFront front.now left) }
 {
-    let frame = whole_frame(class, front, left)?;
-    if !has_right_word(&frame.header, front) {
+    let header = header_of_class(class, front)?;
+    let size = u64::from(class.length_of(header.slot));
+    if size > left || !has_right_word(&header, front) {
         return None;
     }
-    Some(Step {
-        item: Item::Frame(frame.header),
-        size: frame.size,
-    })
+    let item = Item::Frame(header);
+    Some(Step { item, size })
 }

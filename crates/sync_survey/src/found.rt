@@ -5,10 +5,10 @@ ghost use Rattle.sync_survey.specs.Faults.{longest_file};
 ghost use Rattle.sync_survey.specs.Items.{header_front, item_front};
 ghost use Rattle.sync_survey.specs.Looks.{look_size, ReachArea, Keeps, IsFrameFault, PassesItem, IsNotPassed};
 
-use crate::items::{Item, is_same_class, stop_fault};
+use crate::items::{Item, header_of_class, is_same_class, stop_fault};
 use crate::places::Piece;
 use crate::rows::{Before, Limit, Row};
-use crate::runs::{Part, step_at, whole_frame};
+use crate::runs::{Part, step_at};
 use crate::survey_fault::SurveyFault;
 use frame_header::{Class, Header};
 
@@ -148,9 +148,12 @@ impl Found {
             (λ size. PassesItem class allowed offset bytes.now left self.old self.new size)
             (λ fault. IsNotPassed class allowed offset bytes.now left self.old fault) }
     {
-        if let Some(frame) = whole_frame(class, bytes, left) {
-            self.judge(offset, frame.header, bytes, class, allowed)?;
-            return Ok(frame.size);
+        if let Some(header) = header_of_class(class, bytes) {
+            let size = u64::from(class.length_of(header.slot));
+            if size <= left {
+                self.judge(offset, header, bytes, class, allowed)?;
+                return Ok(size);
+            }
         }
         self.pass_other(offset, bytes, left, class, allowed)
     }

@@ -27,7 +27,7 @@ pub use laws::{
 pub use looks::{LONGEST_FILE, find_length, look};
 pub use places::{Head, Piece, PlacedFrame, Start};
 pub use rows::{Before, Behind, Row};
-pub use runs::{Part, Step, WholeFrame, step_at, whole_frame};
+pub use runs::{Part, Step, step_at};
 pub use starts::{anchored_frame, bytes_behind, is_anchor};
 pub use survey_fault::SurveyFault;
 pub use surveys::Survey;

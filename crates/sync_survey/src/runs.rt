@@ -1,13 +1,11 @@
 //! Items that follow end to end.
-ghost use Rattle.std.specs.Prelude.{◌≡◌, ℕ, List, ◌≤◌, ◌==◌, true, length, min, Ok, IfSome};
+ghost use Rattle.std.specs.Prelude.{◌≡◌, ℕ, List, ◌≤◌, ◌==◌, length, IfSome};
 ghost use Rattle.std.specs.List.{prefix_len};
-ghost use Rattle.frame_header.specs.Tables.{class_of};
-ghost use Rattle.sync_survey.specs.Items.{size_of, same_class, header_front, item_front as item_front_lem};
+ghost use Rattle.sync_survey.specs.Items.{size_of, item_front as item_front_lem};
 ghost use Rattle.sync_survey.specs.Runs.{belongs as belongs_lem};
-ghost use Rattle.sync_survey.specs.Looks.{look_size, Shows, IsStep, PassesFront, ReachArea};
+ghost use Rattle.sync_survey.specs.Looks.{Shows, IsStep, PassesFront};
 
-use crate::items::{Item, header_of_class, item_front};
-use frame_header::{Class, Header};
+use crate::items::{Item, item_front};
 
 /// A part of a file, by the items of which it consists.
 #[derive(Clone, Copy, Debug, PartialEq, Eq)]
@@ -76,32 +74,4 @@ pub fn step_at(part: Part, front: &[u8], left: u64) -> Option<Step>
     }
     let size = passed(&item, own, front);
     Some(Step { item, size })
-}
-
-/// The header of a whole frame, and its length in bytes.
-#[derive(Clone, Copy)]
-pub struct WholeFrame {
-    pub header: Header,
-    pub size: u64,
-}
-
-/// The frame of this class with which the bytes of a look begin, if it is whole. `left` is how many bytes the file has from
-/// there on.
-#[inline(always)]
-pub fn whole_frame(class: Class, front: &[u8], left: u64) -> Option<WholeFrame>
-    requires many { length front.now ≡ min look_size left }
-    ensures own { IfSome result (λ f. header_front front.now ≡ Ok f.header) }
-    ensures class { IfSome result (λ f. same_class (class_of f.header) class ≡ true) }
-    ensures room { IfSome result (λ f. ReachArea f.header front.now) }
-    ensures passes { IfSome result (λ f. PassesFront front.now left (record {
-      item = Item.Frame f.header;
-      size = f.size;
-    })) }
-{
-    let header = header_of_class(class, front)?;
-    let size = u64::from(class.length_of(header.slot));
-    if size > left {
-        return None;
-    }
-    Some(WholeFrame { header, size })
 }
