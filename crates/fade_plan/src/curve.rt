@@ -157,46 +157,20 @@ impl Curve {
         ensures steps { result ≡ steps_back back (steps_at_lem self.now frame) }
         ensures most { unsigned_abs result ≤ 255 }
     {
-        self.walk(back).steps(frame)
+        self.steps_near(frame, back, &mut 0)
     }
 
-    /// The same steps, faster for frames one after another.
+    /// The same, faster for frames one after another: `near` is how many points were at or before the frame
+    /// that was asked for last, and becomes that number for this one. With any other number the steps are
+    /// the same.
     #[inline]
-    pub fn walk(&self, back: bool) -> CurveWalk<'_>
-        ensures curve { result.curve.now ≡ self.now }
-        ensures back { result.back ≡ back }
-    {
-        CurveWalk {
-            curve: self,
-            back,
-            near: 0,
-        }
-    }
-}
-
-/// A curve whose frames are asked for one after another.
-#[derive(Drop)]
-pub struct CurveWalk<'a> {
-    curve: &'a Curve,
-    /// Whether the steps have the opposite sign.
-    back: bool,
-    /// How many points were at or before the frame that was asked for last.
-    near: usize,
-}
-
-impl<'a> CurveWalk<'a> {
-    /// The steps of this frame: those of `Curve::steps`, whichever frame was asked for last.
-    #[inline]
-    pub fn steps(&mut self, frame: u32) -> i16
-        ensures steps { result ≡ steps_back self.old.back (steps_at_lem self.old.curve.now frame) }
+    pub fn steps_near(&self, frame: u32, back: bool, near: &mut usize) -> i16
+        ensures steps { result ≡ steps_back back (steps_at_lem self.now frame) }
         ensures most { unsigned_abs result ≤ 255 }
-        ensures curve { self.new.curve.now ≡ self.old.curve.now }
-        ensures back { self.new.back ≡ self.old.back }
     {
         let frame = u64::from(frame);
-        let curve = self.curve;
-        self.near = count_near(&curve.points, frame, self.near);
-        let steps = steps_at(&curve.points, frame, self.near);
-        if self.back { opposite(steps) } else { steps }
+        *near = count_near(&self.points, frame, *near);
+        let steps = steps_at(&self.points, frame, *near);
+        if back { opposite(steps) } else { steps }
     }
 }

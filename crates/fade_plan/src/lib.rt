@@ -1,7 +1,6 @@
 //! Fades. `Envelope::read(alloc, bytes)` reads a sheet of points, each a position and the steps of 1.5 dB
 //! by which gains move there; `envelope.place_on(class, frames)` is its curve over a stream, and
-//! `curve.steps(frame, back)` is by how many steps the gains of a frame move, and `curve.walk(back)` gives
-//! the same faster for frames one after another.
+//! `curve.steps(frame, back)` is by how many steps the gains of a frame move.
 #![tactic(auto)]
 
 mod curve;
@@ -11,7 +10,7 @@ mod envelope_fault;
 mod laws;
 mod point;
 
-pub use curve::{Curve, CurveWalk};
+pub use curve::Curve;
 pub use envelope::Envelope;
 pub use envelope_fault::EnvelopeFault;
 pub use laws::{curves_go_evenly, opposite_curves};

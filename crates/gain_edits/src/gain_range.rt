@@ -1,10 +1,11 @@
 //! The first gain that would leave its range.
-ghost use Rattle.std.specs.Prelude.{◌≡◌};
+ghost use Rattle.std.specs.Prelude.{◌≡◌, ◌<◌, ◌^◌, length};
 ghost use Rattle.frame_header.specs.Tables.{class_of};
 ghost use Rattle.sync_survey.specs.Faults.{tells};
 ghost use Rattle.sync_survey.specs.Survey.{IsLaidOut};
 ghost use Rattle.moved_gains.specs.Gains.{stuck_in as stuck_in_lem};
-ghost use Rattle.moved_gains.specs.Course.{even, steps_over};
+ghost use Rattle.moved_gains.specs.Moving.{AreOfClass};
+ghost use Rattle.moved_gains.specs.Course.{even, steps_over, AreNumbered};
 ghost use Rattle.moved_gains.specs.Edited.{stuck_of as stuck_of_lem};
 ghost use Rattle.gain_edits.specs.GainRange.{stuck_fault, range_fault as range_fault_lem};
 
@@ -53,18 +54,16 @@ fn stuck_of(class: Class, steps: &Steps, row: &Row) -> Option<Stuck>
     }
 }
 
-/// The first gain of a file's frames, each moved by its own steps, that would leave the range, in order of frames, granules
-/// and channels: `GainRange`.
-pub fn range_fault(course: &Course, survey: &Survey) -> Option<Refusal>
-    requires { IsLaidOut (tells survey.now) }
-    ensures { result ≡ range_fault_lem (steps_over course.now (tells survey.now).frames)
-        (tells survey.now).frames }
+/// The first gain of these frames of one class that would leave the range.
+fn first_fault(course: &Course, class: Class, rows: &[Row]) -> Option<Refusal>
+    requires classed { AreOfClass class rows.now }
+    requires numbered { AreNumbered rows.now }
+    requires few { length rows.now < 2 ^ 32 }
+    ensures { result ≡ range_fault_lem (steps_over course.now rows.now) rows.now }
 {
-    let class = survey.class();
-    let rows = survey.frames();
-    let mut walk = course.walk();
+    let mut near = 0;
     for (frame, row) in rows.iter().enumerate() {
-        let steps = walk.steps(frame as u32);
+        let steps = course.steps(frame as u32, &mut near);
         if let Some(fault) = fault_at(row.offset(), stuck_of(class, &steps, row)) {
             return Some(fault);
         }
@@ -72,7 +71,17 @@ pub fn range_fault(course: &Course, survey: &Survey) -> Option<Refusal>
     None
 }
 
-/// The same where all frames move by the same steps, said of these.
+/// The first gain of a file's frames, each moved by its own steps, that would leave the range, in order of frames, granules
+/// and channels: `GainRange`.
+pub fn range_fault(course: &Course, survey: &Survey) -> Option<Refusal>
+    requires { IsLaidOut (tells survey.now) }
+    ensures { result ≡ range_fault_lem (steps_over course.now (tells survey.now).frames)
+        (tells survey.now).frames }
+{
+    first_fault(course, survey.class(), survey.frames())
+}
+
+/// The same where all frames move by the same steps.
 pub(crate) fn even_fault(steps: Steps, survey: &Survey) -> Option<Refusal>
     requires { IsLaidOut (tells survey.now) }
     ensures { result ≡ range_fault_lem (even steps) (tells survey.now).frames }

@@ -4,8 +4,6 @@ use Rattle.fade_plan.specs.Curves.{steps_at, steps_back}
 use Rattle.sync_survey.specs.Row.{Row}
 use Rattle.moved_gains.specs.declared.course.Course.{Course}
 use Rattle.moved_gains.specs.declared.course.Course.TheVariants.{Even, Along}
-use Rattle.moved_gains.specs.declared.course.CourseWalk.{CourseWalk}
-use Rattle.moved_gains.specs.declared.course.CourseWalk.TheVariants.{Even as EvenWalk, Along as AlongWalk}
 use Rattle.moved_gains.specs.declared.shift.Steps.{Steps}
 
 -- every frame by the same steps
@@ -20,11 +18,6 @@ alike steps = record { left = steps; right = steps; wrap = false }
 abbrev pub steps_in : Course → ℕ → Steps
 steps_in (Even steps) frame = steps
 steps_in (Along curve back) frame = alike (steps_back back (steps_at curve frame))
-
--- the course that a walk goes along
-abbrev pub course_of : CourseWalk → Course
-course_of (EvenWalk steps) = Even steps
-course_of (AlongWalk walk) = Along walk.curve.now walk.back
 
 -- how many of these frames are before an offset: the number of the one that is there
 abbrev pub number_at : List Row → ℕ → ℕ

@@ -1,9 +1,9 @@
 //! By how many steps each frame of a file moves.
 ghost use Rattle.std.specs.Prelude.{◌≡◌};
-ghost use Rattle.moved_gains.specs.Course.{alike as alike_lem, course_of, steps_in};
+ghost use Rattle.moved_gains.specs.Course.{alike as alike_lem, steps_in};
 
 use crate::shift::Steps;
-use fade_plan::{Curve, CurveWalk};
+use fade_plan::Curve;
 
 /// The same steps for both channels, without wrap.
 fn alike(steps: i16) -> Steps
@@ -27,37 +27,15 @@ pub enum Course {
 }
 
 impl Course {
-    /// The steps of the frames, fast for one frame after another.
+    /// The steps of a frame, counted from 0. `near` doesn't change them: it is 0 at first, and makes a
+    /// curve faster that is asked for frames one after another (`Curve::steps_near`). It takes no memory.
     #[inline]
-    pub fn walk(&self) -> CourseWalk<'_>
-        ensures { course_of result ≡ self.now }
+    pub fn steps(&self, frame: u32, near: &mut usize) -> Steps
+        ensures { result ≡ steps_in self.now frame }
     {
         match self {
-            Course::Even(steps) => CourseWalk::Even(*steps),
-            Course::Along(curve, back) => CourseWalk::Along(curve.walk(*back)),
-        }
-    }
-}
-
-/// A course whose frames are asked for one after another.
-#[derive(Drop)]
-pub enum CourseWalk<'a> {
-    /// Every frame by the same steps.
-    Even(Steps),
-    /// Each frame by the steps of the curve, both channels alike and without wrap.
-    Along(CurveWalk<'a>),
-}
-
-impl<'a> CourseWalk<'a> {
-    /// The steps of a frame, counted from 0, whichever frame was asked for last. It takes no memory.
-    #[inline]
-    pub fn steps(&mut self, frame: u32) -> Steps
-        ensures steps { result ≡ steps_in (course_of self.old) frame }
-        ensures course { course_of self.new ≡ course_of self.old }
-    {
-        match self {
-            CourseWalk::Even(steps) => *steps,
-            CourseWalk::Along(walk) => alike(walk.steps(frame)),
+            Course::Even(steps) => *steps,
+            Course::Along(curve, back) => alike(curve.steps_near(frame, *back, near)),
         }
     }
 }

@@ -15,7 +15,7 @@ mod shift;
 
 pub use buffers::Buffers;
 pub use change::Change;
-pub use course::{Course, CourseWalk};
+pub use course::Course;
 pub use gains::{Stuck, stuck_in};
 pub use laws::changes_keep_all;
 pub use moving::write_changed;

@@ -149,10 +149,10 @@ impl<'a> GainPass<'a> {
             buffers.new (D.seen folder.old) (D.seen folder.new) result }
     {
         let mut at = from;
-        let mut walk = self.course.walk();
+        let mut near = 0;
         for (frame, row) in rows.iter().enumerate() {
             self.copy(folder, at, u64::from(row.offset()), buffers)?;
-            let steps = walk.steps(frame as u32);
+            let steps = self.course.steps(frame as u32, &mut near);
             at = self.move_frame(folder, &MovedRow { row, steps }, buffers)?;
         }
         self.copy(folder, at, self.pass.length, buffers)

@@ -12,7 +12,7 @@ use Rattle.sync_survey.specs.Survey.{AreLaid}
 use Rattle.sync_survey.proofs.StepLaws.{laid_end}
 use Rattle.moved_gains.specs.declared.moving.NewTag.{NewTag}
 use Rattle.moved_gains.specs.declared.shift.Steps.{Steps}
-use Rattle.moved_gains.specs.Course.{course_of, steps_in, steps_over}
+use Rattle.moved_gains.specs.Course.{steps_in, steps_over}
 use Rattle.moved_gains.specs.Moving.{row_end, AreRowsOf, moved_row_bytes, copied, written_from}
 use Rattle.moved_gains.proofs.CourseLaws.{frame_steps}
 use Rattle.moved_gains.proofs.Rows.{next_row}
@@ -47,7 +47,6 @@ loop-frame-init g c = record {
   up_to = up_to_begun c.args.self.now.pass (λ file. written_from (steps_over c.args.self.now.course.now c.args.rows.now) c.args.self.now.tag file c.args.from c.args.rows.now) c.args.buffers.now.waiting
       (g.D.Folder.seen c.args.folder.now).files c.requires.ready.target;
   ready = c.requires.ready;
-  course = c.walk-walk.ensures;
   counts = refl;
 }
 
@@ -83,10 +82,8 @@ module _ (g : given.Over) (c : After-from g) where
   next : (file : List ℕ) → Holds (g.D.Folder.seen c.args.folder.now).files c.args.self.now.pass.input.now file → written_from steps c.args.self.now.tag file c.loop-frame.at (drop i rows) ≡ up_to_row file ++ later file
   next file holds = left_up_to steps c.args.self.now.tag file c.loop-frame.at c.from.result rows i row is (c.from.ensures ∙ c.offset.ensures)
 
-  own : steps row.offset ≡ steps_in (course_of c.loop-frame.walk) i
-  own =
-      frame_steps c.args.self.now.course.now rows i row c.requires.numbered (omega (arith, c.loop-frame-test.true)) c.index-rows-frame.is
-      ∙ ap (λ course. steps_in course i) (sym c.loop-frame.invariant.course)
+  own : steps row.offset ≡ steps_in c.args.self.now.course.now i
+  own = frame_steps c.args.self.now.course.now rows i row c.requires.numbered (omega (arith, c.loop-frame-test.true)) c.index-rows-frame.is
 
   class : class_of row.header ≡ c.args.self.now.class
   class = c.requires.classed i row (slice_get_read rows (length rows) i row refl (omega (arith, c.loop-frame-test.true)) c.index-rows-frame.is)
@@ -126,7 +123,7 @@ returns-in_err-at g c = record {
       err_at c.from_residual-in_err-at.result _ c.from_residual-in_err-at.ensures.1
       (up_to_prefix self.pass c.requires.ready.apart before
       (λ file. moved_row_bytes c.steps-steps.result file row) (λ file. written_from (steps g at) self.tag file (row_end row) (drop (c.loop-frame.frame + 1) c.args.rows.now))
-      (λ file holds. ap (λ s. moved_row_bytes s file row ++ written_from (steps g at) self.tag file (row_end row) (drop (c.loop-frame.frame + 1) c.args.rows.now)) (own g at ∙ sym c.steps-steps.ensures.steps)) c.in_err-at.ensures.prefix);
+      (λ file holds. ap (λ s. moved_row_bytes s file row ++ written_from (steps g at) self.tag file (row_end row) (drop (c.loop-frame.frame + 1) c.args.rows.now)) (own g at ∙ sym c.steps-steps.ensures)) c.in_err-at.ensures.prefix);
   done = search rules;
   cause = let p = err_from_is_err_and c.from_residual-in_err-at.result c.from_residual-in_err-at.ensures.1 in
       rw (p.1, p.2)
@@ -148,9 +145,8 @@ loop-frame-preserved g c =
       told = λ file holds. (told file c.args.rows.now c.loop-frame.frame row (is g at) (c.loop-frame.invariant.told file holds)).1;
       up_to = up_to_more self.pass c.requires.ready.apart before
           (λ file. moved_row_bytes c.steps-steps.result file row) (λ file. written_from (steps g at) self.tag file end behind)
-          (λ file holds. ap₂ (λ s n. moved_row_bytes s file row ++ written_from (steps g at) self.tag file n behind) (own g at ∙ sym c.steps-steps.ensures.steps) end_is) c.in_ok-at.ensures.written;
+          (λ file holds. ap₂ (λ s n. moved_row_bytes s file row ++ written_from (steps g at) self.tag file n behind) (own g at ∙ sym c.steps-steps.ensures) end_is) c.in_ok-at.ensures.written;
       ready = c.in_ok-at.ensures.ready;
-      course = c.steps-steps.ensures.course ∙ c.loop-frame.invariant.course;
       counts = c.in_ok-at.ensures.done ∙ c.in_ok-copy.ensures.done ∙ c.loop-frame.invariant.counts;
     }
 

@@ -1,7 +1,7 @@
 -- The frames before went on, with their gains moved, and so did what is before and between them.
 use Rattle.std.proofs.Common.{◌≡◌, ℕ, List, drop}
 use Rattle.outside.specs.Files.{Holds}
-use Rattle.moved_gains.specs.Course.{course_of, steps_over}
+use Rattle.moved_gains.specs.Course.{steps_over}
 use Rattle.moved_gains.specs.Moving.{AreRowsOf, written_from}
 use Rattle.sync_survey.specs.Survey.{AreLaid}
 use Rattle.outside.specs.Pass.{IsReady}
@@ -15,6 +15,5 @@ invariant-loop-frame g l = record {
   up_to : WritesUpTo l.self.pass (λ file. written_from (steps_over l.self.course.now l.rows) l.self.tag file l.fn.from l.fn.rows) (λ file. written_from (steps_over l.self.course.now l.rows) l.self.tag file l.at (drop l.frame l.rows))
       l.fn.buffers.waiting l.buffers.waiting (g.D.Folder.seen l.fn.folder).files (g.D.Folder.seen l.folder).files;
   ready : IsReady l.self.pass (g.D.Folder.seen l.folder).files l.buffers.feed;
-  course : course_of l.walk ≡ l.self.course.now;
   counts : (g.D.Folder.seen l.folder).counts ≡ (g.D.Folder.seen l.fn.folder).counts;
 }
