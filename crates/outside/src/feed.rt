@@ -133,9 +133,9 @@ impl Feed {
     }
 }
 
-/// Moves what is held of a file to the beginning of a buffer, from the offset `at` on, and returns how
-/// many bytes that is: none where `at` isn't among them. Held are the bytes of the buffer from `begin`
-/// up to `end`, of which the first is at the offset `place`.
+/// Moves what is held of a file from the offset `at` on, all of it, to the beginning of a buffer, and
+/// returns how many bytes that is: none where `at` isn't among them. Held are the bytes of the buffer from
+/// `begin` up to `end`, of which the first is at the offset `place`.
 pub fn keep_from(room: &mut [u8], begin: usize, end: usize, place: u64, at: u64) -> usize
     requires ordered { begin ≤ end }
     requires within { end ≤ length room.old }
@@ -143,6 +143,9 @@ pub fn keep_from(room: &mut [u8], begin: usize, end: usize, place: u64, at: u64)
     ensures kept { (bytes : List ℕ) → take (end - begin) (drop place bytes)
         ≡ take (end - begin) (drop begin room.old)
         → take result room.new ≡ take result (drop at bytes) }
+    ensures early { at < place → result ≡ 0 }
+    ensures whole { place ≤ at → take result room.new
+        ≡ drop (at - place) (take (end - begin) (drop begin room.old)) }
 {
     if at < place || (end - begin) as u64 <= at - place {
         return 0;
