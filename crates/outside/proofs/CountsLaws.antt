@@ -1,5 +1,5 @@
 -- Laws of counts that rise and of calls that only read or only write.
-use Rattle.std.proofs.Common.{◌≤◌, refl, ◌∙◌, ap, arith}
+use Rattle.std.proofs.Common.{refl, ◌∙◌, ap, arith}
 use Rattle.outside.specs.Counts.{Happened, Counts, NoneFell, OnlyReads}
 
 pub none_fell_same : (a : Counts) → NoneFell a a

@@ -1,11 +1,11 @@
 -- A name of a folder in memory that was created so that bytes can be appended to it.
-use Rattle.std.proofs.Common.{◌≡◌, ℕ, ◌+◌, ◌||◌, List, [], ◌++◌, length, Option, None, Some, refl, sym, ◌∙◌, ap, ap₂, eqb, false, Bor}
+use Rattle.std.proofs.Common.{◌≡◌, ℕ, ◌+◌, ◌||◌, List, [], length, Option, None, Some, refl, sym, ◌∙◌, ap, ap₂, eqb, false, Bor}
 use Rattle.std.specs.Prelude.{is_some, option_copied, unwrap_or, nat_lt}
 use Rattle.std.specs.List.{list_any}
 use Rattle.outside.specs.declared.memory.folder.Call.TheVariants.{Create, Write}
 use Rattle.outside.specs.declared.memory.folder.MemFolder.{MemFolder}
 use Rattle.outside.specs.Counts.{one_more}
-use Rattle.outside.specs.Files.{Contents, Told, with_file, emptied, appended}
+use Rattle.outside.specs.Files.{Contents, Told, with_file, emptied}
 use Rattle.outside.specs.Memory.{contents_of, bytes_of, room_of, is_to_fail, Called}
 use Rattle.outside.specs.Short.{IsCreated}
 use Rattle.outside.proofs.FilesLaws.{with_file_here, with_file_twice}

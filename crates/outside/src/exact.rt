@@ -1,10 +1,8 @@
 //! Reads bytes that a file had when it was found, all of them or none.
-ghost use Rattle.std.specs.Prelude.{◌≡◌, ◌+◌, ◌^◌, ◌<◌, ◌≤◌, List, ℕ, length, take, drop, IfErr, OnOk};
+ghost use Rattle.std.specs.Prelude.{◌≡◌, ◌+◌, ◌^◌, ◌<◌, ◌≤◌, length};
 ghost use Rattle.outside.specs.Files.{IsThere};
 ghost use Rattle.outside.specs.Feed.{IsFedFrom, most_given};
-ghost use Rattle.outside.specs.Counts.{OnlyReads};
 ghost use Rattle.outside.specs.Seen.{OnFile};
-ghost use Rattle.outside.specs.Exact.{HasReadCause};
 ghost use Rattle.outside.specs.Answers.{ReadExact, FillExact};
 
 use crate::feed::Feed;

@@ -1,9 +1,7 @@
 //! The bytes of a file, through one buffer.
-ghost use Rattle.std.specs.Prelude.{◌≡◌, ◌+◌, ◌-◌, ◌^◌, ◌<◌, ◌≤◌, List, ℕ, [], length, take, drop, IfOk, OnOk, OnErr};
+ghost use Rattle.std.specs.Prelude.{◌≡◌, ◌+◌, ◌-◌, ◌^◌, ◌<◌, ◌≤◌, List, ℕ, [], length, take, drop, IfOk};
 ghost use Rattle.outside.specs.Files.{Files, IsThere};
-ghost use Rattle.outside.specs.Feed.{IsFedFrom, buffer_size, most_given};
-ghost use Rattle.outside.specs.Counts.{OnlyReads, NothingFailed, HappenedTo, EndedAt};
-ghost use Rattle.outside.specs.Seen.{OnFile};
+ghost use Rattle.outside.specs.Feed.{IsFedFrom, most_given};
 ghost use Rattle.outside.specs.Answers.{FillAnswer};
 
 use crate::folder::{Failed, Folder};

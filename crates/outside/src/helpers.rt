@@ -1,8 +1,7 @@
 //! Bytes read, appended and sent whole, in as many calls as it takes.
-ghost use Rattle.std.specs.Prelude.{◌≡◌, ◌+◌, ◌-◌, ◌^◌, ◌<◌, ◌≤◌, List, ℕ, length, take, drop, IfOk, OnOk, OnErr};
-ghost use Rattle.outside.specs.Files.{appended, sent_more, IsThere};
-ghost use Rattle.outside.specs.Counts.{OnlyReads, OnlyWrites, NothingFailed, HasCause, HappenedTo, EndedAt};
-ghost use Rattle.outside.specs.Seen.{OnFile};
+ghost use Rattle.std.specs.Prelude.{◌≡◌, ◌+◌, ◌-◌, ◌^◌, ◌<◌, ◌≤◌, ℕ, length, take, OnOk, OnErr};
+ghost use Rattle.outside.specs.Files.{sent_more, IsThere};
+ghost use Rattle.outside.specs.Counts.{HasCause};
 ghost use Rattle.outside.specs.Answers.{ReadFull, ReadOn, WriteAllAnswer};
 
 use crate::folder::{Failed, Folder};

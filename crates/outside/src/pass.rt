@@ -1,8 +1,7 @@
 //! A second pass over an input: it is read again, and written to an output.
-ghost use Rattle.std.specs.Prelude.{◌≡◌, ◌+◌, ◌≤◌, ◌++◌, [], length, IfErr, OnOk, OnErr};
-ghost use Rattle.outside.specs.Files.{appended, IsThere};
-ghost use Rattle.outside.specs.Passed.{PassedOn, AppendedPrefix};
-ghost use Rattle.outside.specs.Pass.{IsReady, AreMade, bytes_at, bytes_between, Writes, WritesPrefix, IsOfRead, route_of, HasPassCause};
+ghost use Rattle.std.specs.Prelude.{◌≡◌, ◌+◌, ◌≤◌, length};
+ghost use Rattle.outside.specs.Files.{IsThere};
+ghost use Rattle.outside.specs.Pass.{IsReady, bytes_at, bytes_between};
 ghost use Rattle.outside.specs.Pass.{PassMakes, PassPushes, PassFills, PassFinishes};
 ghost use Rattle.outside.specs.Feed.{most_given};
 

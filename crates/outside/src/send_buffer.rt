@@ -1,9 +1,8 @@
 //! Bytes that wait to be sent to a sink.
-ghost use Rattle.std.specs.Prelude.{◌≡◌, ◌+◌, ◌<◌, ◌≤◌, [], ◌++◌, length, IfOk, OnOk, OnErr};
+ghost use Rattle.std.specs.Prelude.{◌≡◌, ◌+◌, ◌<◌, [], ◌++◌, IfOk, OnOk, OnErr};
 ghost use Rattle.outside.specs.Files.{sent_more};
 ghost use Rattle.outside.specs.Passed.{SentOn, SentPrefix};
 ghost use Rattle.outside.specs.Counts.{HasCause};
-ghost use Rattle.outside.specs.Feed.{buffer_size};
 
 use crate::folder::Failed;
 use crate::helpers::send_all;

@@ -1,8 +1,6 @@
 //! Bytes that wait to be written to a file.
-ghost use Rattle.std.specs.Prelude.{◌≡◌, ◌+◌, ◌-◌, ◌<◌, ◌≤◌, [], ◌++◌, length, take, IfOk, OnOk, OnErr};
-ghost use Rattle.outside.specs.Files.{appended, IsThere};
-ghost use Rattle.outside.specs.Passed.{PassedOn, AppendedPrefix};
-ghost use Rattle.outside.specs.Counts.{OnlyWrites, HappenedTo};
+ghost use Rattle.std.specs.Prelude.{◌≡◌, ◌+◌, ◌-◌, ◌<◌, ◌≤◌, [], length, take, IfOk};
+ghost use Rattle.outside.specs.Files.{IsThere};
 ghost use Rattle.outside.specs.Answers.{PushAnswer, FinishAnswer, WholeAnswer};
 ghost use Rattle.outside.specs.Feed.{buffer_size};
 

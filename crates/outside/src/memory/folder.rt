@@ -1,7 +1,7 @@
 //! A folder in memory, for tests.
-ghost use Rattle.std.specs.Prelude.{◌≡◌, ◌≢◌, ℕ, ◌+◌, ◌-◌, ◌<◌, ◌≤◌, [], ◌∷◌, ◌++◌, List, None, Some, Ok, Err, length, take, drop, min, IfOk, OnOk, OnErr, IsErrOf, is_err, option_copied, if◌then◌else◌, ◌==◌, ◌&&◌, ◌⊎◌, nat_lt};
-ghost use Rattle.outside.specs.Files.{Told, with_file, emptied, appended, FailsToCreate, Holds, IsThere, IsMissing, AreOctets};
-ghost use Rattle.outside.specs.Counts.{none_counted, with_miss, with_end, with_read_fault, with_write_fault, OnlyReads, OnlyWrites, NothingFailed, HappenedTo, EndedAt};
+ghost use Rattle.std.specs.Prelude.{◌≡◌, ◌≢◌, ◌+◌, ◌-◌, ◌<◌, [], ◌∷◌, ◌++◌, None, Some, Ok, Err, length, take, drop, min, OnOk, OnErr, option_copied};
+ghost use Rattle.outside.specs.Files.{Told, with_file, IsThere, AreOctets};
+ghost use Rattle.outside.specs.Counts.{none_counted};
 ghost use Rattle.outside.specs.Answers.{FindAnswer, ReadAnswer, CreateAnswer, WriteAnswer};
 ghost use Rattle.outside.specs.Memory.{MemFinds, MemReads, MemCreates, MemWrites};
 
@@ -139,7 +139,7 @@ fn size_of(bytes: &[u8]) -> u64
 }
 
 impl Folder for MemFolder {
-    ghost use Rattle.outside.specs.Memory.{contents_of, seen_of, bytes_of, counts_of, is_to_fail, find_answer, create_fails, write_fails, Called};
+    ghost use Rattle.outside.specs.Memory.{contents_of, seen_of, counts_of};
 
     ghost seen = { λ folder. seen_of folder };
 

@@ -1,9 +1,9 @@
 //! A folder that says greater lengths than it gives, for tests.
-ghost use Rattle.std.specs.Prelude.{◌≡◌, ℕ, ◌+◌, ◌-◌, ◌<◌, ◌≤◌, ◌++◌, List, Ok, length, take, drop, min, true, false, IfOk, OnOk, OnErr, IsErrOf, is_err, is_some, option_copied, ◌⊎◌, if◌then◌else◌, ◌==◌, ◌&&◌, nat_lt};
-ghost use Rattle.outside.specs.Files.{Told, untold, FailsToCreate, with_file, emptied, appended, Holds, IsThere, IsMissing, AreOctets};
+ghost use Rattle.std.specs.Prelude.{◌≡◌, ◌-◌, ◌<◌, Ok, true, OnOk, OnErr, is_err, is_some, option_copied};
+ghost use Rattle.outside.specs.Files.{Told, untold, emptied, appended, IsThere};
 ghost use Rattle.outside.specs.Memory.{contents_of, counts_of};
 ghost use Rattle.outside.specs.Short.{short_counts, create_missing_fails, IsCreated, ShortFinds, ShortReads, ShortCreates, ShortWrites};
-ghost use Rattle.outside.specs.Counts.{with_miss, with_end, with_read_fault, with_write_fault, OnlyReads, OnlyWrites, NothingFailed, HappenedTo, EndedAt};
+ghost use Rattle.outside.specs.Counts.{with_write_fault, OnlyWrites, HappenedTo};
 ghost use Rattle.outside.specs.Answers.{FindAnswer, ReadAnswer, CreateAnswer, WriteAnswer};
 
 use crate::folder::{Failed, FindFault, Folder};
@@ -61,9 +61,8 @@ fn create_missing(folder: &mut MemFolder, name: &str) -> Result<(), Failed>
 }
 
 impl Folder for ShortFolder {
-    ghost use Rattle.outside.specs.Memory.{contents_of, bytes_of, is_to_fail, find_answer, create_fails, Called};
-    ghost use Rattle.outside.specs.Short.{short_seen, is_inside, longer, short_write_fails};
-    ghost use Rattle.outside.specs.declared.memory.folder.Call.{Call};
+    ghost use Rattle.outside.specs.Memory.{contents_of};
+    ghost use Rattle.outside.specs.Short.{short_seen};
 
     ghost seen = { λ folder. short_seen folder };
 

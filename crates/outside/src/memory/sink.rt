@@ -1,7 +1,5 @@
 //! A sink in memory, for tests.
-ghost use Rattle.std.specs.Prelude.{◌≡◌, ◌<◌, ◌≤◌, [], ◌∷◌, ◌++◌, Some, length, take, max, IfOk, OnOk, OnErr, is_err};
-ghost use Rattle.outside.specs.Files.{sent_more};
-ghost use Rattle.outside.specs.Counts.{HasCause, one_more};
+ghost use Rattle.std.specs.Prelude.{◌≡◌, ◌<◌, [], ◌∷◌, ◌++◌, max, OnOk, OnErr};
 ghost use Rattle.outside.specs.Answers.{SendAnswer};
 ghost use Rattle.outside.specs.Memory.{MemSends};
 
@@ -83,7 +81,7 @@ impl MemSink {
 }
 
 impl Sink for MemSink {
-    ghost use Rattle.outside.specs.Memory.{bytes_sent, sink_heard, sink_room, sink_faults, writes_made, writes_to_fail, send_fails};
+    ghost use Rattle.outside.specs.Memory.{bytes_sent, sink_heard, sink_room, sink_faults, writes_made, writes_to_fail};
 
     ghost heard = { λ sink. sink_heard sink };
 

@@ -1,5 +1,5 @@
 //! Files in memory by their names, each in memory that was taken before.
-ghost use Rattle.std.specs.Prelude.{◌≡◌, ◌+◌, ◌≤◌, [], ◌++◌, length, None, Some, OnOk, OnErr, IfOk, IfSome, IsSome, is_some, unwrap_or, option_copied, nat_le, if◌then◌else◌, bytes_eq};
+ghost use Rattle.std.specs.Prelude.{◌≡◌, ◌+◌, ◌≤◌, [], ◌++◌, length, None, Some, OnOk, OnErr, IfOk, IsSome, is_some, unwrap_or, option_copied, nat_le, if◌then◌else◌, bytes_eq};
 ghost use Rattle.std.specs.Map.{update};
 ghost use Rattle.outside.specs.Files.{with_file};
 

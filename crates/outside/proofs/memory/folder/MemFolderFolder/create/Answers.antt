@@ -1,4 +1,4 @@
-use Rattle.std.proofs.Common.{rules, arith}
+use Rattle.std.proofs.Common.{rules}
 use Rattle.outside.proofs.FilesLaws.{emptied_is}
 use Rattle.outside.specs.Memory.{contents_of}
 use Rattle.outside.proofs.memory.folder.MemFolderFolder.create.Goals as goal

@@ -1,4 +1,4 @@
-use Rattle.std.proofs.Common.{rules, arith}
+use Rattle.std.proofs.Common.{rules}
 use Rattle.outside.proofs.FilesLaws.{untold_written}
 use Rattle.outside.proofs.memory.short.ShortFolderFolder.write.Goals as goal
 
