@@ -1,14 +1,14 @@
 -- The laws of the side information: fields and bits give each other back.
-use Rattle.std.proofs.Common.{◌≡◌, ℕ, zero, suc, ◌+◌, ◌*◌, ◌/◌, ◌^◌, ◌<◌, ◌≤◌, Bool, true, false, cond, eqb, List, [], ◌∷◌, ◌++◌, length, get_or, take, drop, refl, sym, ap, ap₂, ◌∙◌, arith, sum, append-nil, length-append, length-drop, take-append-drop, take_all, lit<}
+use Rattle.std.proofs.Common.{◌≡◌, subst, ℕ, zero, suc, ◌+◌, ◌*◌, ◌/◌, ◌^◌, ◌<◌, ◌≤◌, Bool, true, false, cond, eqb, List, [], ◌∷◌, ◌++◌, length, get_or, take, drop, refl, sym, ap, ap₂, ◌∙◌, arith, sum, append-nil, length-append, length-drop, take-append-drop, take_all, lit<}
 use Rattle.std.specs.List.{flat_map, sum_by}
 use Rattle.std.specs.Bool.{MatchBool}
 use Rattle.std.specs.Int.{div_ceil}
 use Rattle.std.proofs.Math.Nat.{zero-add, zero-mul}
 use Rattle.std.proofs.lemmas.Nat.{pow_pos}
 use Rattle.std.proofs.lemmas.List.{drop_at}
-use Rattle.bit_fields.specs.Bits.{AreBits}
+use Rattle.bit_fields.specs.Bits.{AreBits, bits}
 use Rattle.bit_fields.specs.Groups.{numbers_at, spelled, Fits}
-use Rattle.bit_fields.proofs.BitsLaws.{AreBelow-append, AreBelow-drop}
+use Rattle.bit_fields.proofs.BitsLaws.{AreBelow-append, AreBelow-drop, AreBits-bits, length-bits}
 use Rattle.bit_fields.proofs.GroupsLaws.{length-spelled, AreBits-spelled, Fits-numbers_at, numbers_at-spelled_more, spelled-numbers_at_front}
 use Rattle.frame_header.specs.declared.version.Version.{Version}
 use Rattle.frame_header.specs.declared.version.Version.TheVariants.{One, Two, TwoFive}
@@ -18,7 +18,7 @@ use Rattle.side_info.specs.declared.granule.Granule.{Granule}
 use Rattle.side_info.specs.declared.side.Side.{Side}
 use Rattle.side_info.specs.Parts.{class_with}
 use Rattle.side_info.specs.Granule.{compress_width, preflag_width, granule_size, granule_at, granule_bits, no_granule, GranuleFits}
-use Rattle.side_info.specs.Side.{front_widths, front_width, nth_granule, channels_at, granules_at, side_at, granules_in, side_bits, no_side, payload_bits, granule_in, has_granule, SideFits, payload_bytes}
+use Rattle.side_info.specs.Side.{front_widths, front_width, nth_granule, channels_at, granules_at, side_at, granules_in, side_bits, no_side, payload_bits, granule_in, has_granule, IsSideOf, SideFits, payload_bytes}
 use Rattle.side_info.proofs.GranuleLaws.{granules_from, length-flat, AreBits-flat, nth_granule-flat, flat-granules_from, GranuleFits-granule_at}
 
 -- ---- the combinations of version and channels
@@ -351,3 +351,12 @@ SideFits-from_parts c = each_shaped (λ s. FrontFits c s → PairFits c s 0 → 
 pub bits_least : (s : Side) → payload_bits s ≤ 8 * payload_bytes s
 unfolding payload_bytes
 bits_least s = omega arith
+
+-- what bytes of the right length say is their side information, with all that this means
+pub IsSideOf-side_at : (c : ClassFields) (part : List ℕ) (s : Side) → IsClass c → length part ≡ side_size_of c → s ≡ side_at c (bits part) → IsSideOf c part s
+IsSideOf-side_at c part s right size is = record {
+  side = is;
+  fits = subst (SideFits c) (sym is) (SideFits-side_at c right (bits part) (AreBits-bits part));
+  back = ap (side_bits c) is
+      ∙ side_bits-side_at c right (bits part) (AreBits-bits part) (length-bits part ∙ ap (λ n. 8 * n) size);
+}

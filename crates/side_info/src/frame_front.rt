@@ -1,15 +1,15 @@
 //! What is before the area of a frame, as the bytes that stand in the file.
-ghost use Rattle.std.specs.Prelude.{◌≡◌, ◌==◌, ◌↔◌, if◌then◌else◌, ◌+◌, ◌/◌, ◌^◌, ◌<◌, ◌≤◌, ◌++◌, IsTrue, Ok, length, take, drop, replicate};
+ghost use Rattle.std.specs.Prelude.{◌≡◌, ◌==◌, ◌↔◌, if◌then◌else◌, ◌+◌, ◌/◌, ◌^◌, ◌<◌, ◌≤◌, ◌++◌, IsTrue, Ok, length, take, drop};
 ghost use Rattle.bit_fields.specs.Bits.{bits, bits_of, bytes, AreBytes};
 ghost use Rattle.bit_fields.specs.Groups.{group};
 ghost use Rattle.frame_header.specs.declared.version.Version.TheVariants.{One, Two, TwoFive};
-ghost use Rattle.frame_header.specs.Fields.{HeaderFields, IsHeader, IsSlot};
+ghost use Rattle.frame_header.specs.Fields.{IsHeader};
 ghost use Rattle.frame_header.specs.HeaderBits.{header_bits};
 ghost use Rattle.side_info.specs.CheckWord.{check_word_of};
 ghost use Rattle.frame_header.specs.Tables.{class_of, side_size_of, overhead_of};
 ghost use Rattle.frame_header.specs.Reading.{header_at, header_fields};
-ghost use Rattle.side_info.specs.Side.{no_side, side_at, side_bits, front_width, payload_bits, payload_bytes, SideFits};
-ghost use Rattle.side_info.specs.Frame.{side_in, side_part, side_place, word_part, front_of};
+ghost use Rattle.side_info.specs.Side.{no_side, side_at, side_bits, front_width, payload_bytes, SideFits};
+ghost use Rattle.side_info.specs.Frame.{side_in, side_part, front_of};
 ghost use Rattle.side_info.specs.FrameFields.{header_like, with_begin};
 ghost use Rattle.side_info.specs.FrontBytes.{padded, begin_width, AreAlike, AreInHeader, AreZerosFor, HasHead, IsExtent, IsFrontOf, IsRoomOf, PutsSlot};
 ghost use Rattle.frame_header.specs.Limits.{most_front};

@@ -1,5 +1,5 @@
 //! The side information of a frame.
-ghost use Rattle.std.specs.Prelude.{◌≡◌, ◌↔◌, IsTrue, ◌^◌, ◌<◌, ◌≤◌, length, sum_by};
+ghost use Rattle.std.specs.Prelude.{◌≡◌, ◌↔◌, IsTrue, ◌^◌, ◌<◌, length, sum_by};
 ghost use Rattle.bit_fields.specs.Bits.{bits};
 ghost use Rattle.frame_header.specs.Tables.{side_size_of};
 ghost use Rattle.frame_header.specs.declared.version.Version.TheVariants.{One};

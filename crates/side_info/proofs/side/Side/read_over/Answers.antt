@@ -1,12 +1,11 @@
 -- The side information depends on version and channels alone.
-use Rattle.std.proofs.Common.{◌≡◌, ◌*◌, subst, ap, sym, ◌∙◌}
+use Rattle.std.proofs.Common.{◌≡◌, subst, ap, sym, ◌∙◌}
 use Rattle.bit_fields.specs.Bits.{bits}
-use Rattle.bit_fields.proofs.BitsLaws.{AreBits-bits, length-bits}
 use Rattle.frame_header.specs.Fields.{IsClass}
 use Rattle.frame_header.specs.Tables.{side_size_of}
 use Rattle.side_info.specs.Parts.{class_with}
-use Rattle.side_info.specs.Side.{side_at, side_bits, SideFits}
-use Rattle.side_info.proofs.SideLaws.{SideFits-side_at, side_bits-side_at}
+use Rattle.side_info.specs.Side.{side_at}
+use Rattle.side_info.proofs.SideLaws.{IsSideOf-side_at}
 use Rattle.side_info.proofs.ReadLaws.{side_at-class, side_size-class}
 use Rattle.side_info.proofs.side.Side.read_over.Goals as goal
 
@@ -21,10 +20,4 @@ side c =
     ∙ ap (λ d. side_at d (bits c.args.bytes.now)) c.class.view_is
 
 pub returns : goal.returns
-returns c = record {
-  side = side c;
-  fits = subst (SideFits c.args.class) (sym (side c)) (SideFits-side_at c.args.class (subst IsClass c.class.view_is c.class.invariant) (bits c.args.bytes.now) (AreBits-bits c.args.bytes.now));
-  back = ap (side_bits c.args.class) (side c)
-      ∙ side_bits-side_at c.args.class (subst IsClass c.class.view_is c.class.invariant) (bits c.args.bytes.now)
-      (AreBits-bits c.args.bytes.now) (length-bits c.args.bytes.now ∙ ap (λ n. 8 * n) c.requires.size);
-}
+returns c = IsSideOf-side_at c.args.class c.args.bytes.now c.read_shape.new.side (subst IsClass c.class.view_is c.class.invariant) c.requires.size (side c)
