@@ -1,5 +1,6 @@
 //! What all frames of one stream share.
 ghost use Rattle.std.specs.Prelude.{◌≡◌, ◌+◌, ◌<◌, ◌≤◌, ◌↔◌, Bool, false, IsTrue, Contains, AllPairs};
+ghost use Rattle.frame_header.specs.declared.version.Version.TheVariants.{One};
 ghost use Rattle.frame_header.specs.Fields.{SlotFields, IsSlot, same_class};
 ghost use Rattle.frame_header.specs.Tables.{rate_of, frequency_of, samples_of, side_size_of, window_of, version_place as version_place_lem, length_of, overhead_of, area_of};
 ghost use Rattle.frame_header.specs.Slots.{all_slots, areas_of, largest_slot};
@@ -73,6 +74,21 @@ impl Class {
             (Version::One, _) => 32,
             (Version::Two | Version::TwoFive, 1) => 9,
             (Version::Two | Version::TwoFive, _) => 17,
+        }
+    }
+
+    /// This class, where it is that of MPEG-1 with two channels: the most frequent one, for which the
+    /// compiler then knows the places of all fields.
+    #[inline(always)]
+    pub fn known_stereo(&self) -> Class
+        requires version { self.now.version ≡ One }
+        requires channels { self.now.channels ≡ 2 }
+        ensures { result ≡ self.now }
+    {
+        Class {
+            version: Version::One,
+            frequency_index: self.frequency_index,
+            channels: 2,
         }
     }
 

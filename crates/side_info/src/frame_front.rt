@@ -414,14 +414,7 @@ impl FrameFront {
         ensures { IsExtent self.now.side result }
     {
         match (class.version, class.channels) {
-            (Version::One, 2) => {
-                let stereo = Class {
-                    version: Version::One,
-                    frequency_index: class.frequency_index,
-                    channels: 2,
-                };
-                self.extent_by(stereo)
-            }
+            (Version::One, 2) => self.extent_by(class.known_stereo()),
             _ => self.extent_by(class),
         }
     }

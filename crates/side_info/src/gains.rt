@@ -101,14 +101,7 @@ fn put_by_class(class: Class, side: &Side, bytes: &mut [u8])
     ensures { PutsSide class side.now bytes.old bytes.new }
 {
     match (class.version, class.channels) {
-        (Version::One, 2) => {
-            let stereo = Class {
-                version: Version::One,
-                frequency_index: class.frequency_index,
-                channels: 2,
-            };
-            put_all(stereo, side, bytes);
-        }
+        (Version::One, 2) => put_all(class.known_stereo(), side, bytes),
         _ => put_all(class, side, bytes),
     }
 }
