@@ -14,7 +14,8 @@ use Rattle.commands.specs.Sheet.{IsSheetFault, IsOfSheet}
 -- An input, counted from 0, was surveyed, of which so many frames are allowed, or it is at fault.
 pub record InputSurvey (place allowed : ℕ) (name : List ℕ) (old new : Seen) (result : Result Survey EditFault) : Type 0 where
   pub there : OnOk result (IsThere old.files name)
-  pub surveyed : IfOk result (λ s. OnFile old name (λ bytes. survey_of bytes allowed ≡ Ok (tells s)))
+  pub surveyed : IfOk result
+      (λ s. OnFile old name (λ bytes. survey_of bytes allowed ≡ Ok (tells s)))
   pub laid : IfOk result (λ s. IsLaidOut (tells s))
   pub few : IfOk result (λ s. length (tells s).frames ≤ allowed)
   -- what is told of it are bytes

@@ -37,7 +37,8 @@ pub record Command : Type 0 where
 -- the place of the first name that is among the outputs, counted from this place on
 abbrev pub clash_from : List (List ℕ) → ℕ → List (List ℕ) → Option ℕ
 clash_from outputs place [] = None
-clash_from outputs place (name ∷ names) = if list_any (bytes_eq name) outputs then Some place else clash_from outputs (place + 1) names
+clash_from outputs place (name ∷ names) =
+    if list_any (bytes_eq name) outputs then Some place else clash_from outputs (place + 1) names
 
 -- the first input whose name is an output's, byte for byte
 abbrev pub clash_of : Command → Option ℕ
@@ -73,19 +74,24 @@ Gives command files answer = IfTold files (λ f. command.makes f ≡ answer)
 -- each of these files is well-formed and holds the stream at its place
 abbrev pub AreStreams : List Output → List (List StreamFrame) → Type 0
 AreStreams [] [] = Unit {0}
-AreStreams (output ∷ outputs) (stream ∷ streams) = HoldsStream output.bytes stream × AreStreams outputs streams
+AreStreams (output ∷ outputs) (stream ∷ streams) =
+    HoldsStream output.bytes stream × AreStreams outputs streams
 AreStreams _ _ = ⊥
 
 -- the files of these names are there and well-formed
 abbrev pub AreSound : Contents → List (List ℕ) → Type 0
 AreSound files [] = Unit {0}
-AreSound files (name ∷ names) = ((bytes : List ℕ) × (files name ≡ Some bytes) × IsWellFormed bytes) × AreSound files names
+AreSound files (name ∷ names) =
+    ((bytes : List ℕ) × (files name ≡ Some bytes) × IsWellFormed bytes) × AreSound files names
 
--- the command is done with well-formed sources only, and what it makes of them holds the streams that it has to hold
+-- the command is done with well-formed sources only, and what it makes of them holds the streams
+-- that it has to hold
 pub record MakesStreams (command : Command) (files : Contents) (made : Made) : Type 0 where
   pub sources : AreSound files command.sources
   pub streams : AreStreams made.outputs (command.streams files)
 
--- what the command makes of the files that are told, by well-formed sources, holds the streams that it has to hold
+-- what the command makes of the files that are told, by well-formed sources, holds the streams that
+-- it has to hold
 abbrev pub HoldsStreams : Command → Files → Type 0
-HoldsStreams command files = IfTold files (λ f. (made : Made) → command.makes f ≡ Ok made → MakesStreams command f made)
+HoldsStreams command files =
+    IfTold files (λ f. (made : Made) → command.makes f ≡ Ok made → MakesStreams command f made)

@@ -8,7 +8,13 @@ use Rattle.commands.specs.declared.fault.EditFault.TheVariants.{Input, Memory as
 -- the fault of an input of a command, counted from 0; want of memory is a fault of its own
 abbrev pub of_survey : ℕ → SurveyFault → EditFault
 of_survey place fault =
-    by_kind (record { absent = Input place fault; unread = Input place fault; shorter = Input place fault; too_much = NoMemory; refused = Input place fault }) (kind_of fault)
+    by_kind (record {
+      absent = Input place fault;
+      unread = Input place fault;
+      shorter = Input place fault;
+      too_much = NoMemory;
+      refused = Input place fault;
+    }) (kind_of fault)
 
 -- that of a command's one input
 abbrev pub of_input : SurveyFault → EditFault

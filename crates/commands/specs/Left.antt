@@ -51,10 +51,25 @@ by_why w NoMemory = w.no_memory
 
 -- none of them is met
 abbrev pub never : ByWhy (Type 0)
-never = record { rejected = ⊥; missing = ⊥; unread = ⊥; shorter = ⊥; unwritten = λ k. ⊥; unsent = ⊥; no_memory = ⊥ }
+never = record {
+  rejected = ⊥;
+  missing = ⊥;
+  unread = ⊥;
+  shorter = ⊥;
+  unwritten = λ k. ⊥;
+  unsent = ⊥;
+  no_memory = ⊥;
+}
 
 abbrev pub why_of : EditFault → Why
-why_of (Input place fault) = by_kind (record { absent = Missing; unread = Unread; shorter = Shorter; too_much = NoMemory; refused = Rejected }) (kind_of fault)
+why_of (Input place fault) =
+    by_kind (record {
+      absent = Missing;
+      unread = Unread;
+      shorter = Shorter;
+      too_much = NoMemory;
+      refused = Rejected;
+    }) (kind_of fault)
 why_of (Write place) = Unwritten place
 why_of Sent = Unsent
 why_of Memory = NoMemory
@@ -73,7 +88,8 @@ abbrev pub ended_at : EditFault → ℕ
 ended_at (Input place fault) = end_of fault
 ended_at _ = 0
 
--- nothing is told of the files; a read of the input that the fault is of gave no byte at the offset that the fault says; and no call failed
+-- nothing is told of the files; a read of the input that the fault is of gave no byte at the offset
+-- that the fault says; and no call failed
 pub record EndsEarly (inputs : List (List ℕ)) (old new : Seen) (fault : EditFault) : Type 0 where
   pub rose : EndedAt (input_of inputs fault) (ended_at fault) old.counts.ends new.counts.ends
   pub counts : NothingFailed old.counts new.counts
@@ -83,19 +99,27 @@ pub record EndsEarly (inputs : List (List ℕ)) (old new : Seen) (fault : EditFa
 
 -- the command was done: all that it makes was written, and no count changed
 pub record IsDone (command : Command) (old new : Seen) : Type 0 where
-  pub made : IfTold old.files (λ f. (made : Made) × (command.makes f ≡ Ok made) × (new.files ≡ Told (written made.outputs f)))
+  pub made : IfTold old.files (λ f.
+      (made : Made) × (command.makes f ≡ Ok made)
+      × (new.files ≡ Told (written made.outputs f)))
   pub touches : OnlyTouches command.outputs old.files new.files
   pub counts : new.counts ≡ old.counts
 
--- the command isn't refused, and of what it makes the first k outputs are whole; the next one holds a prefix, or wasn't created
+-- the command isn't refused, and of what it makes the first k outputs are whole; the next one holds
+-- a prefix, or wasn't created
 pub record IsWrittenTo (command : Command) (k : ℕ) (old new : Files) : Type 0 where
-  pub made : IfTold old (λ f. (made : Made) × (command.makes f ≡ Ok made) × (k < length made.outputs) × (count : Option ℕ) × (new ≡ Told (written_to k count made.outputs f)))
+  pub made : IfTold old (λ f.
+      (made : Made) × (command.makes f ≡ Ok made) × (k < length made.outputs)
+      × (count : Option ℕ) × (new ≡ Told (written_to k count made.outputs f)))
   pub touches : OnlyTouches (take (k + 1) command.outputs) old new
 
--- The command isn't refused, and of what it makes the first k outputs are whole. The next one isn't: it holds a prefix that lacks bytes, or
--- wasn't created.
+-- The command isn't refused, and of what it makes the first k outputs are whole. The next one
+-- isn't: it holds a prefix that lacks bytes, or wasn't created.
 pub record IsUnfinished (command : Command) (k : ℕ) (old new : Files) : Type 0 where
-  pub made : IfTold old (λ f. (made : Made) × (command.makes f ≡ Ok made) × (k < length made.outputs) × (count : Option ℕ) × LacksBytes count (drop k made.outputs) × (new ≡ Told (written_to k count made.outputs f)))
+  pub made : IfTold old (λ f.
+      (made : Made) × (command.makes f ≡ Ok made) × (k < length made.outputs)
+      × (count : Option ℕ) × LacksBytes count (drop k made.outputs)
+      × (new ≡ Told (written_to k count made.outputs f)))
   pub touches : OnlyTouches (take (k + 1) command.outputs) old new
 
 -- the command is refused with this fault; all is as it was
@@ -109,15 +133,16 @@ pub record IsMissing (command : Command) (old new : Seen) (fault : EditFault) : 
   pub rose : HappenedTo (input_of command.inputs fault) old.counts.misses new.counts.misses
   pub files : new.files ≡ old.files
 
--- The answer isn't one of an input before that of the fault. The inputs are judged in their order, so where one could not be read, those before it
--- are there and without fault, and none differs from the first. Every refusal that names no input comes after these.
+-- The answer isn't one of an input before that of the fault. The inputs are judged in their order,
+-- so where one could not be read, those before it are there and without fault, and none differs
+-- from the first. Every refusal that names no input comes after these.
 abbrev pub IsNotBefore : EditFault → EditFault → Type 0
 IsNotBefore (Input place fault) (Input at first) = place ≤ at
 IsNotBefore (Input place fault) (Refused (Differ at)) = place ≤ at
 IsNotBefore fault answer = Unit {0}
 
--- A call failed that looks for the input that the fault is of, or reads it. No name of an input is an output's, and no input before this one
--- is at fault.
+-- A call failed that looks for the input that the fault is of, or reads it. No name of an input is
+-- an output's, and no input before this one is at fault.
 pub record IsUnread (command : Command) (old new : Seen) (fault : EditFault) : Type 0 where
   pub names : clash_of command ≡ None
   pub before : IfTold old.files (λ f. IfErr (command.makes f) (IsNotBefore fault))
@@ -155,7 +180,8 @@ pub record IsOutOfMemory (command : Command) (old new : Seen) : Type 0 where
   pub takes : IfTold old.files (λ f. TakesMemory (command.makes f))
   pub stays : new ≡ old
 
--- what is left, by the cause; the text is sent last, so if sending failed all of the command's files were written
+-- what is left, by the cause; the text is sent last, so if
+-- sending failed all of the command's files were written
 abbrev pub left_by : Command → Seen → Seen → EditFault → ByWhy (Type 0)
 left_by command old new fault = record {
   rejected = IsRefused command old new fault;
@@ -173,13 +199,16 @@ Leaves command old new fault = by_why (left_by command old new fault) (why_of fa
 
 -- ---- what the numbers of a fault say over every folder, told or not
 
--- the input is the first or one of so many sources, whose frames are read; any other, as a sheet, isn't there, can't be read or became shorter alone
+-- the input is the first or one of so many sources, whose frames are read; any other, as a sheet,
+-- isn't there, can't be read or became shorter alone
 abbrev pub IsOfPlace : ℕ → ℕ → SurveyFault → Type 0
 IsOfPlace sources place fault = (place ≡ 0) ⊎ (place < sources) ⊎ IsFromOutside fault
 
 abbrev pub HasNumbers : Command → EditFault → Type 0
 HasNumbers command (EqualNames place) = clash_of command ≡ Some place
-HasNumbers command (Input place fault) = (place < length command.inputs) × (fault ≢ NoRoom) × HasRightNumbers fault × IsOfPlace (length command.sources) place fault
+HasNumbers command (Input place fault) =
+    (place < length command.inputs) × (fault ≢ NoRoom) × HasRightNumbers fault
+    × IsOfPlace (length command.sources) place fault
 HasNumbers command (Refused refusal) = command.refuses refusal ≡ true
 HasNumbers command (Write place) = place < length command.outputs
 HasNumbers command Sent = command.always ≢ Some []

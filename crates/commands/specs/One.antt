@@ -35,8 +35,8 @@ made_where make (Some file) = made_file make file
 
 -- ---- the command
 
--- What a command reads, what it makes of the files that are there if no name is another's, the stream that this has to hold, and which
--- refusals it can give.
+-- What a command reads, what it makes of the files that are there if no name is another's, the
+-- stream that this has to hold, and which refusals it can give.
 pub record Task : Type 0 where
   -- the input that is read again while the output is written, which is the first, and all inputs
   pub source : List ℕ
@@ -65,13 +65,16 @@ clash_in task output = clash_from (output ∷ []) 0 task.inputs
 abbrev pub first_input : List (List ℕ) → List ℕ
 first_input inputs = unwrap_or (slice_get inputs 0) []
 
--- What has to hold of it: the source is the first input; if the source isn't too long, every fault is one that is found after memory was taken;
--- and what is made of a source that consists of bytes holds the stream that it has to hold, and all sources are well-formed.
+-- What has to hold of it: the source is the first input; if the source isn't too long, every fault
+-- is one that is found after memory was taken; and what is made of a source that consists of bytes
+-- holds the stream that it has to hold, and all sources are well-formed.
 pub record IsProper (task : Task) : Type 0 where
   pub some : 1 ≤ length task.inputs
   pub first : first_input task.inputs ≡ task.source
-  pub late : (f : Contents) (bytes : List ℕ) → f task.source ≡ Some bytes → length bytes ≤ longest_file → IfErr (task.makes f) IsLate
-  pub streams : (f : Contents) (bytes new : List ℕ) → f task.source ≡ Some bytes → AreBytes bytes → task.makes f ≡ Ok new → AreSound f task.sources × HoldsStream new (task.stream f)
+  pub late : (f : Contents) (bytes : List ℕ) → f task.source ≡ Some bytes
+      → length bytes ≤ longest_file → IfErr (task.makes f) IsLate
+  pub streams : (f : Contents) (bytes new : List ℕ) → f task.source ≡ Some bytes → AreBytes bytes
+      → task.makes f ≡ Ok new → AreSound f task.sources × HoldsStream new (task.stream f)
 
 abbrev pub unless_clash : Option ℕ → Result (List ℕ) EditFault → Result (List ℕ) EditFault
 unless_clash (Some place) answer = Err (EqualNames place)
@@ -82,7 +85,8 @@ unfoldable pub made_result : Task → List ℕ → Contents → Result (List ℕ
 made_result task output files = unless_clash (clash_in task output) (task.makes files)
 
 abbrev pub made_of : List ℕ → Result (List ℕ) EditFault → Result Made EditFault
-made_of output (Ok bytes) = Ok (record { outputs = record { name = output; bytes = bytes } ∷ []; text = [] })
+made_of output (Ok bytes) =
+    Ok (record { outputs = record { name = output; bytes = bytes } ∷ []; text = [] })
 made_of output (Err fault) = Err fault
 
 -- one file is made, and no text
@@ -148,7 +152,8 @@ pub record NeedsMemory (name : List ℕ) (old new : Seen) : Type 0 where
   pub few : (bytes : List ℕ) → Holds old.files name bytes → length bytes ≤ longest_file
   pub stays : new ≡ old
 
--- what a fault of the survey of an input says of it; the input is counted from 0, and so many frames are allowed
+-- what a fault of the survey of an input says of it; the
+-- input is counted from 0, and so many frames are allowed
 abbrev pub IsFileFault : ℕ → ℕ → List ℕ → Seen → Seen → EditFault → Type 0
 IsFileFault place allowed name old new fault = by_why
     (record never {
@@ -213,7 +218,9 @@ IsEarlyFault task old new fault = by_why
 
 -- the fault is one of the inputs, a refusal that the command can give, or want of memory
 abbrev pub IsOfInputs : Task → EditFault → Type 0
-IsOfInputs task (Input place fault) = (place < length task.inputs) × (fault ≢ NoRoom) × HasRightNumbers fault × IsOfPlace (length task.sources) place fault
+IsOfInputs task (Input place fault) =
+    (place < length task.inputs) × (fault ≢ NoRoom) × HasRightNumbers fault
+    × IsOfPlace (length task.sources) place fault
 IsOfInputs task (Refused refusal) = task.refuses refusal ≡ true
 IsOfInputs task Memory = Unit {0}
 IsOfInputs task _ = ⊥
@@ -223,23 +230,30 @@ IsOfInputs task _ = ⊥
 -- The source is there, and if it is told, the command makes this of it.
 pub record IsMaking (task : Task) (made : List ℕ → List ℕ) (files : Files) : Type 0 where
   pub there : IsThere files task.source
-  pub makes : IfTold files (λ f. (bytes : List ℕ) → f task.source ≡ Some bytes → AreBytes bytes × (task.makes f ≡ Ok (made bytes)))
+  pub makes : IfTold files (λ f.
+      (bytes : List ℕ) → f task.source ≡ Some bytes
+      → AreBytes bytes × (task.makes f ≡ Ok (made bytes)))
 
 -- the output wasn't created, or holds a prefix of these bytes
 abbrev pub HoldsPrefix : List ℕ → List ℕ → Files → Files → Type 0
-HoldsPrefix name bytes old new = (new ≡ old) ⊎ ((count : ℕ) × (new ≡ holding old name (take count bytes)))
+HoldsPrefix name bytes old new =
+    (new ≡ old) ⊎ ((count : ℕ) × (new ≡ holding old name (take count bytes)))
 
 -- the output wasn't created, or holds a prefix of these bytes, but not all of them
 abbrev pub HoldsLess : List ℕ → List ℕ → Files → Files → Type 0
-HoldsLess name bytes old new = (new ≡ old) ⊎ ((count : ℕ) × (count < length bytes) × (new ≡ holding old name (take count bytes)))
+HoldsLess name bytes old new =
+    (new ≡ old)
+    ⊎ ((count : ℕ) × (count < length bytes) × (new ≡ holding old name (take count bytes)))
 
 -- the output wasn't created, or holds a prefix of what it is to hold, if the input is told
 abbrev pub IsBegun : (List ℕ → List ℕ) → List ℕ → List ℕ → Files → Files → Type 0
-IsBegun made input output old new = (bytes : List ℕ) → Holds old input bytes → HoldsPrefix output (made bytes) old new
+IsBegun made input output old new =
+    (bytes : List ℕ) → Holds old input bytes → HoldsPrefix output (made bytes) old new
 
 -- the same, and if it was created, it lacks bytes
 abbrev pub IsLeftShort : (List ℕ → List ℕ) → List ℕ → List ℕ → Files → Files → Type 0
-IsLeftShort made input output old new = (bytes : List ℕ) → Holds old input bytes → HoldsLess output (made bytes) old new
+IsLeftShort made input output old new =
+    (bytes : List ℕ) → Holds old input bytes → HoldsLess output (made bytes) old new
 
 -- the input that the fault is of could not be read again; the output is made by the first input
 pub record StopsReading (made : List ℕ → List ℕ) (inputs : List (List ℕ)) (output : List ℕ) (old new : Seen) (fault : EditFault) : Type 0 where
@@ -251,7 +265,8 @@ pub record StopsWriting (made : List ℕ → List ℕ) (input output : List ℕ)
   pub files : IsLeftShort made input output old.files new.files
 
 -- what a fault leaves that was met while the output was written
-abbrev pub IsPassFault : (List ℕ → List ℕ) → List (List ℕ) → List ℕ → Seen → Seen → EditFault → Type 0
+abbrev pub IsPassFault : (List ℕ → List ℕ) → List (List ℕ) → List ℕ → Seen → Seen → EditFault
+    → Type 0
 IsPassFault made inputs output old new fault = by_why
     (record never {
       unread = StopsReading made inputs output old new fault;

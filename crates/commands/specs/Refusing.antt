@@ -18,6 +18,7 @@ unless (Some refusal) a = Err (Refused refusal)
 unless None a = Ok a
 
 -- what is made of this, if it isn't refused
-abbrev pub then_made : {A B : Type 0} → Result A EditFault → (A → Result B EditFault) → Result B EditFault
+abbrev pub then_made : {A B : Type 0} → Result A EditFault → (A → Result B EditFault)
+    → Result B EditFault
 then_made (Ok a) make = make a
 then_made (Err fault) make = Err fault

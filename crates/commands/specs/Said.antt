@@ -7,9 +7,13 @@ use Rattle.commands.specs.declared.fault.EditFault.{EditFault}
 use Rattle.commands.specs.declared.fault.EditFault.TheVariants.{Sent as NotSent}
 use Rattle.commands.specs.Command.{Made, Command}
 
--- the text that the command makes of these files; over files that aren't told, one that it makes of all
+-- the text that the command makes of these files; over
+-- files that aren't told, one that it makes of all
 abbrev pub IsText : Command → Files → List ℕ → Type 0
-IsText command files text = (command.always ≡ Some text) ⊎ ((f : Contents) × (made : Made) × (files ≡ Told f) × (command.makes f ≡ Ok made) × (made.text ≡ text))
+IsText command files text =
+    (command.always ≡ Some text)
+    ⊎ ((f : Contents) × (made : Made) × (files ≡ Told f) × (command.makes f ≡ Ok made)
+    × (made.text ≡ text))
 
 -- all of it was sent, and no write failed
 pub record SaysAll (command : Command) (files : Files) (old new : Heard) : Type 0 where
@@ -18,10 +22,12 @@ pub record SaysAll (command : Command) (files : Files) (old new : Heard) : Type 
 
 -- a prefix of it was sent, and a write failed
 pub record SaysPrefix (command : Command) (files : Files) (old new : Heard) : Type 0 where
-  pub text : (text : List ℕ) → IsText command files text → (count : ℕ) × (count ≤ length text) × (new.sent ≡ sent_more old.sent (take count text))
+  pub text : (text : List ℕ) → IsText command files text
+      → (count : ℕ) × (count ≤ length text) × (new.sent ≡ sent_more old.sent (take count text))
   pub rose : Rose old.faults new.faults
 
--- the sink's part of the answer of a command: the whole text if it was done, a prefix if a write failed, and else nothing
+-- the sink's part of the answer of a command: the whole text if it was done, a prefix if a write
+-- failed, and else nothing
 abbrev pub Says : Command → Files → Heard → Heard → Option EditFault → Type 0
 Says command files old new None = SaysAll command files old new
 Says command files old new (Some NotSent) = SaysPrefix command files old new

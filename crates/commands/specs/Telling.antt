@@ -11,4 +11,5 @@ with_text text (Err fault) = Err fault
 
 -- the same command, with a text of the files that are there
 abbrev pub telling : (Contents → List ℕ) → Command → Command
-telling text command = record command { always = None; makes = λ files. with_text (text files) (command.makes files) }
+telling text command =
+    record command { always = None; makes = λ files. with_text (text files) (command.makes files) }
