@@ -19,7 +19,7 @@ use Rattle.commands.specs.declared.fault.Refusal.{Refusal}
 use Rattle.commands.specs.One.{Making, most_frames, made_by, made_file, made_where, file_task, Refuses, RefusesInput, IsFileFault, IsInputFault, IsEarlyFault, IsOfInputs, IsMaking, IsProper}
 use Rattle.commands.specs.Command.{AreSound}
 use Rattle.commands.specs.Left.{why_of, is_before_memory, IsLate, IsOfSurvey, IsOfInput, IsRefusal}
-use Rattle.commands.proofs.WhyLaws.{each_why}
+use Rattle.commands.proofs.WhyLaws.{each_why, each_refusal}
 use Rattle.commands.proofs.NamedLaws.{missed_name, unread_name, lost_name}
 use Rattle.commands.proofs.RefusingLaws.{before_first}
 use Rattle.sync_survey.proofs.SurveyedFiles.{survey_of-parts, survey_of-sound}
@@ -59,15 +59,8 @@ made_parts make file new e = at (survey_of file most_frames) refl e
 -- and so one of the only input, whatever the command makes of it
 module _ (make : Making) (name : List ℕ) (old new : Seen) (fault : EditFault) where
   pub fault_is_input : IsFileFault 0 most_frames name old new fault → IsInputFault make name old new fault
-  fault_is_input h = each_why (why_of fault) h (record {
-    rejected = λ r. subst (RefusesInput make name old new) (sym r.1) (record { there = r.2.there; bytes = λ bytes holds. made-fault make bytes r.0 (r.2.bytes bytes holds); stays = r.2.stays });
-    missing = λ m. m;
-    unread = λ u. u;
-    shorter = λ l. l;
-    unwritten = λ k w. w;
-    unsent = λ w. w;
-    no_memory = λ n. n;
-  })
+  fault_is_input h = each_why (why_of fault) h
+      (each_refusal (λ r. subst (RefusesInput make name old new) (sym r.1) (record { there = r.2.there; bytes = λ bytes holds. made-fault make bytes r.0 (r.2.bytes bytes holds); stays = r.2.stays })))
 
 pub of_survey_input : (refuses : Refusal → Bool) (fault : EditFault) → IsOfSurvey 0 fault → IsOfInput refuses fault
 of_survey_input refuses (Input place fault) is = is

@@ -21,18 +21,33 @@ each_why (Unwritten k) h each = each.unwritten k h
 each_why Unsent h each = each.unsent h
 each_why NoMemory h each = each.no_memory h
 
+-- where only what is said of a refusal differs, that has to follow
+pub each_refusal : {A : ByWhy (Type 0)} {R : Type 0} → (A.rejected → R) → EachWhy A (record A { rejected = R })
+each_refusal follows = record {
+  rejected = follows;
+  missing = λ m. m;
+  unread = λ u. u;
+  shorter = λ l. l;
+  unwritten = λ k w. w;
+  unsent = λ w. w;
+  no_memory = λ n. n;
+}
+
 -- whatever the cause is, this follows
 abbrev pub always : Type 0 → ByWhy (Type 0)
 always P = record { rejected = P; missing = P; unread = P; shorter = P; unwritten = λ k. P; unsent = P; no_memory = P }
 
 pub of_why : {A : ByWhy (Type 0)} {P : Type 0} (why : Why) → by_why A why → EachWhy A (always P) → P
-of_why Rejected h each = each.rejected h
-of_why Missing h each = each.missing h
-of_why Unread h each = each.unread h
-of_why Shorter h each = each.shorter h
-of_why (Unwritten k) h each = each.unwritten k h
-of_why Unsent h each = each.unsent h
-of_why NoMemory h each = each.no_memory h
+of_why why h each = by_any why (each_why why h each)
+  where
+    by_any : {P : Type 0} (why : Why) → by_why (always P) why → P
+    by_any Rejected h = h
+    by_any Missing h = h
+    by_any Unread h = h
+    by_any Shorter h = h
+    by_any (Unwritten k) h = h
+    by_any Unsent h = h
+    by_any NoMemory h = h
 
 -- the same of two that stand together
 abbrev pub and_by : ByWhy (Type 0) → ByWhy (Type 0) → ByWhy (Type 0)

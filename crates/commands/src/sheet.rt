@@ -1,5 +1,5 @@
 //! The bytes of a sheet.
-ghost use Rattle.std.specs.Prelude.{◌≡◌, ◌≤◌, List, ℕ, length, IfOk};
+ghost use Rattle.std.specs.Prelude.{◌≡◌, ◌≤◌, length, IfOk};
 ghost use Rattle.outside.specs.Seen.{OnFile};
 ghost use Rattle.commands.specs.Sheet.{longest_sheet};
 ghost use Rattle.commands.specs.Answers.{SheetAnswer};
