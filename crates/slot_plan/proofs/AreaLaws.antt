@@ -1,5 +1,5 @@
 -- The areas of slots: the last is the largest, and the first that is large enough the smallest.
-use Rattle.std.proofs.Common.{◌≡◌, ℕ, zero, suc, ◌+◌, ◌-◌, ◌<◌, ◌≤◌, Bool, false, refl, lit≤, inl, inr, List, [], ◌∷◌, length, get_or, Contains, AllPairs, sym, ap, ◌∙◌, subst, arith}
+use Rattle.std.proofs.Common.{◌≡◌, ℕ, zero, suc, ◌-◌, ◌<◌, ◌≤◌, Bool, false, refl, lit≤, inl, inr, List, [], ◌∷◌, length, get_or, Contains, AllPairs, sym, ap, ◌∙◌, subst, arith}
 use Rattle.std.proofs.lemmas.List.{get_or-map, length-map, get_or_default}
 use Rattle.std.proofs.lemmas.Bool.{cases_lt}
 use Rattle.frame_header.specs.Fields.{SlotFields, ClassFields, IsClass}

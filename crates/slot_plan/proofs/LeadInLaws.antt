@@ -108,7 +108,7 @@ first-least window class slot opens some is chosen most within enough least =
       ),
     )
 
-lead-least : (window : ℕ) (choices : HeaderFields → List SlotFields) (first : Need) (part : List Need) (slot : SlotFields) → IsLeadIn window choices (first ∷ part) (Some slot)
+pub lead-least : (window : ℕ) (choices : HeaderFields → List SlotFields) (first : Need) (part : List Need) (slot : SlotFields) → IsLeadIn window choices (first ∷ part) (Some slot)
     → (rest : List ℕ) × IsLeast window (behind_any choices first part) (area_of (class_of first.header) slot false ∷ rest)
 unfolding IsLeadIn items_of CanBeLaid
 lead-least window choices first part slot alone =
@@ -134,7 +134,7 @@ with-slot : (window : ℕ) (class : ClassFields) (slot : SlotFields) (opens : Li
 unfolding AreChosen CanBeLaid frames_of
 with-slot window class slot opens rest least = (area_of class slot false ∷ rest, ((zero, omega arith, refl), least.chosen.1), least.feasible)
 
-only-area : (class : ClassFields) (slot : SlotFields) (n : ℕ) → Contains (areas_with class false (slot ∷ [])) n → area_of class slot false ≡ n
+pub only-area : (class : ClassFields) (slot : SlotFields) (n : ℕ) → Contains (areas_with class false (slot ∷ [])) n → area_of class slot false ≡ n
 only-area class slot n (zero, within, at) = at
 only-area class slot n (suc i, within, at) = absurd (omega arith)
 

@@ -12,11 +12,11 @@ use Rattle.slot_plan.specs.declared.needs.Need.{Need}
 use Rattle.slot_plan.specs.declared.needs.Placed.{Placed}
 use Rattle.slot_plan.specs.Layouts.{Frame, IsFeasible, has_layout, begins_of}
 use Rattle.slot_plan.specs.Lists.{AreChosen, frames_of, CanBeLaid, IsNotBehind, IsLeast}
-use Rattle.slot_plan.specs.Parts.{Item, area_in, open_of, item_of, lead_in_of, items_of, areas_with, own_frame, ArePartsFeasible, AreOfClass, IsLeadIn, AreLeadIns, whole_of}
-use Rattle.slot_plan.specs.Plans.{AreFor, areas_in, IsPlanFor, IsPlan}
+use Rattle.slot_plan.specs.Parts.{Item, area_in, open_of, item_of, lead_in_of, items_of, areas_with, own_frame, ArePartsFeasible, AreOfClass, IsLeadIn, AreLeadIns, whole_of, led_items}
+use Rattle.slot_plan.specs.Plans.{AreFor, areas_in, IsPlanFor, IsPlan, IsLedPlan}
 use Rattle.slot_plan.specs.Reserve.{greatest, needed, free_behind, AllWithin, opens_in, own_area_of, area_by}
-use Rattle.slot_plan.specs.LeastPlan.{all_lists, in_slots, first_list, placed_in, laid_early, least_of, lead_in_alone, least_plan}
-use Rattle.slot_plan.specs.Laws.{ChooseInOrder}
+use Rattle.slot_plan.specs.LeastPlan.{all_lists, in_slots, first_list, placed_in, laid_early, least_of, lead_in_alone, least_plan, led_plan}
+use Rattle.slot_plan.specs.Laws.{ChooseInOrder, LedPlanIsThePlan}
 use Rattle.slot_plan.proofs.ReserveLaws.{AllFit, fit-layout, layout-fit, starts_of, needed-can, can-needed}
 use Rattle.slot_plan.proofs.AreaLaws.{Ascend, slot-area, Contains-area, leads-span}
 use Rattle.slot_plan.proofs.PartLaws.{needed-from, nothing_chosen, chosen-cons}
@@ -327,6 +327,11 @@ module _ (window : ℕ) (items : List Item) (ordered : AreOrdered items) where
   pub can-found : CanBeLaid window (map open_of items) → (placed : List Placed) × (least_of window items ≡ Some placed)
   can-found can = let found = some-list window items ordered can in (laid_early window items found.0, ap (option_map (laid_early window items)) found.1)
 
+  can-made : CanBeLaid window (map open_of items) → IsPlanFor window items (unwrap_or (least_of window items) [])
+  can-made can =
+      let found = can-found can in
+      subst (IsPlanFor window items) (sym (ap (λ o. unwrap_or o []) found.1)) (found-plan found.0 found.1)
+
 -- ---- the lead-ins
 
 own-chosen : (choices : HeaderFields → List SlotFields) (part : List Need) → AreInOrder choices part → AreChosen (opens_in choices part) (map (area_by own_area_of) part)
@@ -406,20 +411,34 @@ module _ (window : ℕ) (choices : HeaderFields → List SlotFields) where
       let found = plan-found window (whole_of choices parts plan.lead_ins) (ordered_whole choices parts plan.lead_ins all) placed plan.whole in
       sym (ap (λ l. unwrap_or (least_of window (whole_of choices parts l)) []) (leads-alone parts plan.lead_ins all plan.alone) ∙ ap (λ o. unwrap_or o []) found)
 
+  ordered_led : (part : List Need) → AreInOrder choices part → AreOrdered (led_items choices part)
+  unfolding led_items
+  ordered_led [] order = tt
+  ordered_led (first ∷ part) order = (slots_ascend (class_of first.header) order.0.class, ordered_frames choices (first ∷ part) order)
+
+  -- the led plan of a part is the first list after one lead-in
+  pub led-least : (part : List Need) (placed : List Placed) → ChooseInOrder choices (part ∷ []) → IsLedPlan window choices part placed → placed ≡ led_plan window choices part
+  unfolding led_plan
+  led-least part placed order plan =
+      let all = all_in_order choices (part ∷ []) order in
+      sym (ap (λ o. unwrap_or o []) (plan-found window (led_items choices part) (ordered_led part all.0) placed plan))
+
 -- parts of one class that have layouts have a plan, so it is the only one
 module _ (class : ClassFields) (choices : HeaderFields → List SlotFields) where
   abbrev window_is : ℕ
   window_is = window_of class.version
 
+  after-feasible : (first : Need) (part : List Need) → class_of first.header ≡ class → AreInOrder choices (first ∷ part) → IsFeasible window_is window_is (map own_frame (first ∷ part)) → CanBeLaidAfter window_is choices first part
+  after-feasible first part same order feasible =
+      let chosen = own-chosen choices (first ∷ part) order in
+      let all = needed-from window_is window_is 0 choices own_area_of (first ∷ part) feasible chosen in
+      let spanned = subst (λ k. window_of k.version ≤ area_of (class_of first.header) largest_slot false) same (window-spanned (class_of first.header) order.0.class) in
+      after-needed window_is choices first part (map (area_by own_area_of) (first ∷ part)) chosen all.0 (omega (arith, all.0, leads-span (class_of first.header) window_is spanned)) all.1
+
   lead-feasible : (part : List Need) → AreOfClass class part → AreInOrder choices part → IsFeasible window_is window_is (map own_frame part) → IsLeadIn window_is choices part (lead_in_alone window_is choices part)
   unfolding AreOfClass
   lead-feasible [] same order feasible = no-part window_is choices
-  lead-feasible (first ∷ part) same order feasible =
-      let chosen = own-chosen choices (first ∷ part) order in
-      let all = needed-from window_is window_is 0 choices own_area_of (first ∷ part) feasible chosen in
-      let spanned = subst (λ k. window_of k.version ≤ area_of (class_of first.header) largest_slot false) same.0 (window-spanned (class_of first.header) order.0.class) in
-      lead-made window_is choices first part order
-      (after-needed window_is choices first part (map (area_by own_area_of) (first ∷ part)) chosen all.0 (omega (arith, all.0, leads-span (class_of first.header) window_is spanned)) all.1)
+  lead-feasible (first ∷ part) same order feasible = lead-made window_is choices first part order (after-feasible first part same.0 order feasible)
 
   leads-feasible : (parts : List (List Need)) → All (λ part. AreOfClass class part) parts → AllInOrder choices parts → ArePartsFeasible window_is parts → AreLeadIns window_is choices parts (map (lead_in_alone window_is choices) parts)
   unfolding AreLeadIns ArePartsFeasible
@@ -434,16 +453,33 @@ module _ (class : ClassFields) (choices : HeaderFields → List SlotFields) wher
       let lead_ins : List (Option SlotFields) = map (lead_in_alone window_is choices) parts in
       let items : List Item = whole_of choices parts lead_ins in
       let alone = leads-feasible parts same all feasible in
-      let found = can-found window_is items (ordered_whole choices parts lead_ins all) (whole-can window_is choices parts lead_ins alone) in
       record {
         lead_ins = lead_ins;
         alone = alone;
-        whole = subst (IsPlanFor window_is items) (sym (ap (λ o. unwrap_or o []) found.1)) (found-plan window_is items (ordered_whole choices parts lead_ins all) found.0 found.1);
+        whole = can-made window_is items (ordered_whole choices parts lead_ins all) (whole-can window_is choices parts lead_ins alone);
       }
+
+  led-can : (part : List Need) → AreOfClass class part → AreInOrder choices part → IsFeasible window_is window_is (map own_frame part) → CanBeLaid window_is (map open_of (led_items choices part))
+  unfolding AreOfClass led_items
+  led-can [] same order feasible = nothing-can window_is
+  led-can (first ∷ part) same order feasible = after-feasible first part same.0 order feasible
+
+  led-made : (part : List Need) → AreOfClass class part → ChooseInOrder choices (part ∷ []) → ArePartsFeasible window_is (part ∷ []) → IsLedPlan window_is choices part (led_plan window_is choices part)
+  unfolding ArePartsFeasible led_plan
+  led-made part same order feasible =
+      let all = all_in_order choices (part ∷ []) order in
+      can-made window_is (led_items choices part) (ordered_led window_is choices part all.0) (led-can part same all.0 feasible.0)
 
 pub least-plan-is : (class : ClassFields) (choices : HeaderFields → List SlotFields) (parts : List (List Need)) (placed : List Placed)
     → All (λ part. AreOfClass class part) parts → ChooseInOrder choices parts → ArePartsFeasible (window_of class.version) parts → IsPlan (window_of class.version) choices parts placed ↔ (placed ≡ least_plan (window_of class.version) choices parts)
 least-plan-is class choices parts placed same order feasible = (
   (λ plan. plan-least (window_of class.version) choices parts placed order plan),
   (λ is. subst (IsPlan (window_of class.version) choices parts) (sym is) (plan-made class choices parts same order feasible)),
+)
+
+-- so does one part after a lead-in
+pub led-plan-is : LedPlanIsThePlan
+led-plan-is = λ class choices part placed same order feasible. (
+  (λ plan. led-least (window_of class.version) choices part placed order plan),
+  (λ is. subst (IsLedPlan (window_of class.version) choices part) (sym is) (led-made class choices part same order feasible)),
 )

@@ -8,3 +8,4 @@ pub mod CheckedLaws
 pub mod LeadInLaws
 pub mod OnePlan
 pub mod LeastPlan
+pub mod LedLaws

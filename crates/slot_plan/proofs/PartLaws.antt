@@ -1,18 +1,21 @@
 -- The frames of a part, from each place on.
-use Rattle.std.proofs.Common.{◌≡◌, ℕ, zero, suc, ◌+◌, ◌-◌, ◌<◌, ◌≤◌, List, [], ◌∷◌, ◌++◌, map, length, length-append, get_or, take, drop, inl, inr, All, AllPairs, Contains, Option, Some, None, refl, sym, ap, ◌∙◌, subst, arith}
-use Rattle.std.proofs.lemmas.List.{drop-map, drop_all, same_from_push, length-take-le, length-drop}
+use Rattle.std.proofs.Common.{◌≡◌, ℕ, zero, suc, ◌+◌, ◌-◌, ◌<◌, ◌≤◌, false, List, [], ◌∷◌, ◌++◌, map, length, length-append, get_or, take, drop, inl, inr, All, AllPairs, Contains, Option, Some, None, refl, sym, ap, ◌∙◌, subst, arith}
+use Rattle.std.proofs.lemmas.List.{drop-map, drop_all, take_all, same_from_push, length-take-le, length-drop}
 use Rattle.std.proofs.lemmas.Bool.{cases_lt}
 use Rattle.std.proofs.Math.Seq.{drop-cons}
 use Rattle.std.specs.Prelude.{option_to_list, unwrap_or, slice_range}
 use Rattle.frame_header.specs.Fields.{SlotFields, ClassFields, HeaderFields}
+use Rattle.frame_header.specs.Limits.{most_back}
+use Rattle.frame_header.specs.Slots.{all_slots, largest_slot}
 use Rattle.frame_header.specs.Tables.{class_of, area_of, window_of}
 use Rattle.slot_plan.specs.declared.needs.Need.{Need}
 use Rattle.slot_plan.specs.declared.reserves.Reserves.{Reserves}
 use Rattle.slot_plan.specs.Layouts.{IsFeasible}
 use Rattle.slot_plan.specs.Lists.{AreChosen, frames_of}
-use Rattle.slot_plan.specs.Parts.{item_of, open_of, own_frame, parts_of, ArePartsFeasible, AreOfClass, AreOfOneClass, window_in}
-use Rattle.slot_plan.specs.Reserve.{greatest, needed, needed_behind, AllWithin, opens_in, area_by, frame_by, AreReserves}
-use Rattle.slot_plan.proofs.ReserveLaws.{AllFit, fit-layout, fit-after, needed-fit}
+use Rattle.slot_plan.specs.Parts.{item_of, open_of, own_frame, areas_with, parts_of, ArePartsFeasible, AreOfClass, AreOfOneClass, window_in}
+use Rattle.slot_plan.specs.Reserve.{greatest, needed, needed_behind, AllWithin, opens_in, own_area_of, area_by, frame_by, IsPlaceable, AreReserves}
+use Rattle.slot_plan.proofs.ReserveLaws.{AllFit, fit-layout, fit-after, needed-fit, feasible-windows}
+use Rattle.slot_plan.proofs.AreaLaws.{leads-span}
 
 -- the need at i, and those after it
 pub next_need : (part : List Need) (i : ℕ) (need : Need) → i < length part → need ≡ get_or part i need → drop i part ≡ need ∷ drop (i + 1) part
@@ -231,6 +234,26 @@ part-bounds needs parts at end ascend all within next last =
       | inl more ↦ let is = next more in let less = ascend at (at + 1) 0 (omega arith) more in let below = all (at + 1) 0 more in (omega arith, omega arith)
       | inr none ↦ let is = last (omega arith) in let below = all at 0 within in (omega arith, omega arith)
     ]
+
+-- all needs are one part
+pub range-all : (needs : List Need) → slice_range needs 0 (length needs) ≡ needs
+range-all needs = take_all (length needs - 0) needs (omega arith)
+
+pub one-part : (needs : List Need) (window : ℕ) → window ≡ window_in needs → ArePartsFeasible (window_in needs) (parts_of needs (0 ∷ [])) → IsFeasible window window (map own_frame needs)
+unfolding ArePartsFeasible parts_of
+one-part needs window is feasible =
+    subst (λ n. IsFeasible n n (map own_frame needs)) (sym is) (subst (λ l. IsFeasible (window_in needs) (window_in needs) (map own_frame l)) (range-all needs) feasible.0)
+
+-- a part with a layout in its own slots can be placed after a lead-in of any slot
+pub placeable-own : (class lengths : ClassFields) (window : ℕ) (part : List Need) → lengths ≡ class → window ≤ area_of class largest_slot false → window ≤ most_back → 0 < length part → IsFeasible window window (map own_frame part)
+    → IsPlaceable window lengths all_slots own_area_of part
+placeable-own class lengths window part is spanned most some feasible =
+    let largest = subst (λ k. window ≤ greatest (areas_with k false all_slots)) (sym is) (leads-span class window spanned) in
+    record {
+      some = some;
+      most = most;
+      feasible = feasible-windows window window (greatest (areas_with lengths false all_slots)) (map own_frame part) largest feasible;
+    }
 
 -- what the call over the part at this place is on
 pub part-ready : (needs : List Need) (parts : List ℕ) (at end window : ℕ) → AllPairs (λ m n. m < n) parts → All (λ place. place < length needs) parts → at < length parts → (at + 1 < length parts → end ≡ get_or parts (at + 1) 0) → (length parts ≤ at + 1 → end ≡ length needs)

@@ -9,9 +9,9 @@ use Rattle.slot_plan.specs.declared.needs.Placed.{Placed}
 use Rattle.slot_plan.specs.declared.reserves.Reserves.{Reserves}
 use Rattle.slot_plan.specs.Layouts.{Frame, IsLayout, IsFeasible}
 use Rattle.slot_plan.specs.Lists.{Open, AreChosen, CanBeLaid, frames_of}
-use Rattle.slot_plan.specs.Parts.{Item, area_in, open_of, item_of, lead_in_of, items_of, AreOfClass, IsLeadIn, AreLeadIns, whole_of}
-use Rattle.slot_plan.specs.Plans.{AreFor, areas_in, IsPlanFor, IsPlan}
-use Rattle.slot_plan.specs.Reserve.{greatest, needed, free_behind, AllWithin, opens_in, area_by, IsLeastSlot, ArePlaced, PlacesOn, IsPlacedLeadIn, PlacesPart, AreReserves}
+use Rattle.slot_plan.specs.Parts.{Item, area_in, open_of, item_of, lead_in_of, items_of, led_items, AreOfClass, IsLeadIn, AreLeadIns, whole_of}
+use Rattle.slot_plan.specs.Plans.{AreFor, areas_in, IsPlanFor, IsPlan, IsLedPlan}
+use Rattle.slot_plan.specs.Reserve.{greatest, needed, free_behind, AllWithin, opens_in, area_by, IsLeastSlot, ArePlaced, PlacesOn, IsPlacedLeadIn, IsLeastLead, PlacesLed, PlacesPart, AreReserves}
 use Rattle.slot_plan.proofs.ReserveLaws.{AreLeastAreas, frees_of, begins-frees, fit-least, least-is, needed-can, can-needed, append-needed, append-can}
 use Rattle.slot_plan.proofs.PartLaws.{next_need}
 use Rattle.slot_plan.proofs.AreaLaws.{slot-area, Contains-area, only_one}
@@ -216,38 +216,93 @@ module _ (window : ℕ) (leads : List SlotFields) (choices : HeaderFields → Li
     places = places;
   }
 
-  part-with : (first : Need) (part : List Need) (reserves : Reserves) (free mid after : ℕ) (p : Placed) (old new : List Placed) → AreReserves window choices area (first ∷ part) reserves → 0 < reserves.before
-      → p.lead_in ≡ true → p.begin ≡ free → IsLeastSlot reserves.before (class_of first.header) false leads p.slot → mid ≡ free_behind window free 0 (area_of (class_of first.header) p.slot false)
-      → PlacesOn window mid after (map (item_of choices) (first ∷ part)) [] (old ++ p ∷ []) new → PlacesPart window leads choices (first ∷ part) free after old new
-  unfolding IsPlacedLeadIn items_of
-  part-with first part reserves free mid after p old new are some frame begin least behind places =
+  led-with : (first : Need) (part : List Need) (free mid after : ℕ) (p : Placed) (old new : List Placed)
+      → p.lead_in ≡ true → p.begin ≡ free → IsLeastSlot (needed (opens_in choices (first ∷ part))) (class_of first.header) false leads p.slot → mid ≡ free_behind window free 0 (area_of (class_of first.header) p.slot false)
+      → PlacesOn window mid after (map (item_of choices) (first ∷ part)) [] (old ++ p ∷ []) new → PlacesLed window leads choices (first ∷ part) free after old new
+  unfolding IsLeastLead items_of
+  led-with first part free mid after p old new frame begin least behind places =
       let class : ClassFields = class_of first.header in
       let items : List Item = map (item_of choices) (first ∷ part) in
       let opens : List Open = map open_of items in
       let lead : Item = lead_in_of class (p.slot ∷ []) in
-      let value : needed opens ≡ reserves.before = sym are.before in
       let enough = least.enough in
       let least_one : IsLeastSlot ((0 + needed opens) - free) class false (p.slot ∷ []) p.slot = record {
         chosen = (zero, omega arith, refl);
         enough = omega arith;
         least = λ other is fits. omega (arith, ap (λ s. area_of class s false) (only_one p.slot other is));
       } in
-      let can = can-needed window (open_of lead ∷ opens) (area_of class p.slot false ∷ map (area_by area) (first ∷ part)) (lead-chosen class p.slot opens (map (area_by area) (first ∷ part)) are.chosen)
-      (omega (arith, lead-needed class p.slot opens)) (lead-within window class p.slot opens (omega (arith, value, are.most)) are.within) in
       let begun = places-more window free free (lead ∷ items) lead items old old p frame begin least_one (places-begun window free (lead ∷ items) old) in
       let on = subst (λ n. PlacesOn window free n (lead ∷ items) items old (old ++ p ∷ [])) (sym behind) begun in
       record {
-        lead_in = Some p.slot;
-        least = (omega (arith, value, some), can, subst (λ n. IsLeastSlot n class false leads p.slot) are.before least);
+        slot = p.slot;
+        least = least;
         places = places-then window free mid after (lead ∷ items) items old (old ++ p ∷ []) new on places;
       }
 
   -- the same where the class is known
-  pub part-of : (class : ClassFields) (part : List Need) (reserves : Reserves) (free mid after : ℕ) (p : Placed) (old new : List Placed) → 0 < length part → AreOfClass class part → AreReserves window choices area part reserves → 0 < reserves.before
-      → p.lead_in ≡ true → p.begin ≡ free → IsLeastSlot reserves.before class false leads p.slot → mid ≡ free_behind window free 0 (area_of class p.slot false)
-      → PlacesOn window mid after (map (item_of choices) part) [] (old ++ p ∷ []) new → PlacesPart window leads choices part free after old new
+  pub led-of : (class : ClassFields) (part : List Need) (free mid after : ℕ) (p : Placed) (old new : List Placed) → 0 < length part → AreOfClass class part
+      → p.lead_in ≡ true → p.begin ≡ free → IsLeastSlot (needed (opens_in choices part)) class false leads p.slot → mid ≡ free_behind window free 0 (area_of class p.slot false)
+      → PlacesOn window mid after (map (item_of choices) part) [] (old ++ p ∷ []) new → PlacesLed window leads choices part free after old new
   unfolding AreOfClass
-  part-of class [] reserves free mid after p old new any same are some frame begin least behind places = absurd (omega arith)
-  part-of class (first ∷ part) reserves free mid after p old new any same are some frame begin least behind places =
-      part-with first part reserves free mid after p old new are some frame begin (subst (λ k. IsLeastSlot reserves.before k false leads p.slot) (sym same.0) least)
+  led-of class [] free mid after p old new any same frame begin least behind places = absurd (omega arith)
+  led-of class (first ∷ part) free mid after p old new any same frame begin least behind places =
+      led-with first part free mid after p old new frame begin (subst (λ k. IsLeastSlot (needed (opens_in choices (first ∷ part))) k false leads p.slot) (sym same.0) least)
       (behind ∙ ap (λ k. free_behind window free 0 (area_of k p.slot false)) (sym same.0)) places
+
+  lead-needing : (part : List Need) (reserves : Reserves) (slot : SlotFields) → AreReserves window choices area part reserves → 0 < reserves.before
+      → IsLeastLead leads choices part slot → IsPlacedLeadIn window leads choices part (Some slot)
+  unfolding IsLeastLead IsPlacedLeadIn items_of
+  lead-needing [] reserves slot are some least = absurd least
+  lead-needing (first ∷ part) reserves slot are some least =
+      let class : ClassFields = class_of first.header in
+      let opens : List Open = opens_in choices (first ∷ part) in
+      let value : needed opens ≡ reserves.before = sym are.before in
+      let enough = least.enough in (
+        omega (arith, value, some),
+        can-needed window (open_of (lead_in_of class (slot ∷ [])) ∷ opens) (area_of class slot false ∷ map (area_by area) (first ∷ part)) (lead-chosen class slot opens (map (area_by area) (first ∷ part)) are.chosen)
+            (omega (arith, lead-needed class slot opens, enough)) (lead-within window class slot opens (omega (arith, value, are.most)) are.within),
+        least,
+      )
+
+  -- where its frames need something free, that is its own lead-in
+  pub part-led : (part : List Need) (reserves : Reserves) (free after : ℕ) (old new : List Placed) → AreReserves window choices area part reserves → 0 < reserves.before
+      → PlacesLed window leads choices part free after old new → PlacesPart window leads choices part free after old new
+  part-led part reserves free after old new are some led = record {
+    lead_in = Some led.slot;
+    least = lead-needing part reserves led.slot are some led.least;
+    places = led.places;
+  }
+
+-- ---- a part after a lead-in of any slot
+any-slot : (window : ℕ) (class : ClassFields) (slot : SlotFields) (items : List Item) (placed : List Placed) → IsLeastSlot (needed (map open_of items)) class false all_slots slot
+    → ArePlaced window 0 (lead_in_of class (slot ∷ []) ∷ items) placed → ArePlaced window 0 (lead_in_of class all_slots ∷ items) placed
+unfolding ArePlaced
+any-slot window class slot items [] least all = absurd all
+any-slot window class slot items (p ∷ placed) least all =
+    let same : needed (map open_of items) ≡ (0 + needed (map open_of items)) - 0 = omega arith in
+    let here = subst (IsLeastSlot (needed (map open_of items)) class false all_slots) (only_one slot p.slot all.2.chosen) least in
+    (all.0, all.1, subst (λ n. IsLeastSlot n class false all_slots p.slot) same here, all.3)
+
+led-items : (window : ℕ) (choices : HeaderFields → List SlotFields) (part : List Need) (slot : SlotFields) (placed : List Placed) → IsLeastLead all_slots choices part slot
+    → ArePlaced window 0 (items_of choices part (Some slot)) placed → ArePlaced window 0 (led_items choices part) placed
+unfolding IsLeastLead items_of led_items
+led-items window choices [] slot placed least all = absurd least
+led-items window choices (first ∷ part) slot placed least all =
+    any-slot window (class_of first.header) slot (map (item_of choices) (first ∷ part)) placed least all
+
+nothing_needed : needed (map open_of []) ≡ 0
+unfolding needed
+nothing_needed = refl
+
+nothing_placed : (window free : ℕ) → ArePlaced window free [] []
+unfolding ArePlaced
+nothing_placed window free = tt
+
+-- is its led plan
+pub led-placed : (window after : ℕ) (choices : HeaderFields → List SlotFields) (part : List Need) (placed : List Placed) → PlacesLed window all_slots choices part 0 after [] placed → IsLedPlan window choices part placed
+led-placed window after choices part placed led =
+    let goes = led.places.goes [] [] nothing_needed (nothing_placed window after) in
+    let items : List Item = items_of choices part (Some led.slot) in
+    let all : ArePlaced window 0 items placed = subst (ArePlaced window 0 items) (append-nil led.places.more ∙ sym led.places.appended)
+    (subst (λ l. ArePlaced window 0 l (led.places.more ++ [])) (append-nil items) goes) in
+    plan-placed window (led_items choices part) placed (led-items window choices part led.slot placed led.least all)

@@ -1,5 +1,5 @@
 -- What holds of the definitions, whatever the code.
-use Rattle.std.specs.Prelude.{◌≡◌, ℕ, ◌<◌, ◌↔◌, false, List, ◌∷◌, map, Contains, All, AllPairs, Some, None}
+use Rattle.std.specs.Prelude.{◌≡◌, ℕ, ◌<◌, ◌↔◌, false, List, [], ◌∷◌, map, Contains, All, AllPairs, Some, None}
 use Rattle.frame_header.specs.Fields.{SlotFields, ClassFields, HeaderFields, IsClass}
 use Rattle.frame_header.specs.Tables.{class_of, area_of, window_of}
 use Rattle.frame_header.specs.Slots.{all_slots}
@@ -7,8 +7,8 @@ use Rattle.slot_plan.specs.declared.needs.Need.{Need}
 use Rattle.slot_plan.specs.declared.needs.Placed.{Placed}
 use Rattle.slot_plan.specs.Lists.{Open, CanBeLaid, IsLeast}
 use Rattle.slot_plan.specs.Parts.{open_of, item_of, lead_in_of, items_of, areas_with, window_in, parts_of, AreOfClass, ArePartsFeasible, IsLeadIn}
-use Rattle.slot_plan.specs.Plans.{IsPlan}
-use Rattle.slot_plan.specs.LeastPlan.{least_plan}
+use Rattle.slot_plan.specs.Plans.{IsPlan, IsLedPlan}
+use Rattle.slot_plan.specs.LeastPlan.{least_plan, led_plan}
 
 -- a part's frames after one lead-in, which may have any slot
 abbrev pub behind_any : (HeaderFields → List SlotFields) → Need → List Need → List Open
@@ -40,6 +40,13 @@ pub record IsThePlan (choices : HeaderFields → List SlotFields) (needs : List 
   -- where the areas among which each frame chooses ascend, it is that of the first list
   pub least : ChooseInOrder choices (parts_of needs places) → placed ≡ least_plan (window_in needs) choices (parts_of needs places)
 
+-- what the planner answers for one part that is to have a lead-in
+pub record IsTheLedPlan (choices : HeaderFields → List SlotFields) (needs : List Need) (placed : List Placed) : Type 0 where
+  -- the led plan of the part
+  pub plan : IsLedPlan (window_in needs) choices needs placed
+  -- where the areas among which each frame chooses ascend, it is that of the first list
+  pub least : ChooseInOrder choices (needs ∷ []) → placed ≡ led_plan (window_in needs) choices needs
+
 -- parts have no two plans
 abbrev pub PlansAreUnique : Type 0
 PlansAreUnique =
@@ -52,3 +59,16 @@ LeastPlanIsThePlan =
     (class : ClassFields) (choices : HeaderFields → List SlotFields) (parts : List (List Need)) (placed : List Placed)
     → All (λ part. AreOfClass class part) parts → ChooseInOrder choices parts → ArePartsFeasible (window_of class.version) parts
     → IsPlan (window_of class.version) choices parts placed ↔ (placed ≡ least_plan (window_of class.version) choices parts)
+
+-- a part of one class that has a layout in its own slots has one led plan, which is that of the first list
+abbrev pub LedPlanIsThePlan : Type 0
+LedPlanIsThePlan =
+    (class : ClassFields) (choices : HeaderFields → List SlotFields) (part : List Need) (placed : List Placed)
+    → AreOfClass class part → ChooseInOrder choices (part ∷ []) → ArePartsFeasible (window_of class.version) (part ∷ [])
+    → IsLedPlan (window_of class.version) choices part placed ↔ (placed ≡ led_plan (window_of class.version) choices part)
+
+-- the plan of a part that can't be laid without a lead-in is its led plan
+abbrev pub LedWhereNeeded : Type 0
+LedWhereNeeded =
+    (window : ℕ) (choices : HeaderFields → List SlotFields) (part : List Need) (placed : List Placed)
+    → (CanBeLaid window (map open_of (items_of choices part None)) → ⊥) → IsPlan window choices (part ∷ []) placed → IsLedPlan window choices part placed

@@ -6,7 +6,7 @@ use Rattle.frame_header.specs.Slots.{all_slots}
 use Rattle.slot_plan.specs.declared.needs.Need.{Need}
 use Rattle.slot_plan.specs.declared.needs.Placed.{Placed}
 use Rattle.slot_plan.specs.Layouts.{Frame, has_layout, begins_of}
-use Rattle.slot_plan.specs.Parts.{Item, area_in, item_of, lead_in_of, whole_of}
+use Rattle.slot_plan.specs.Parts.{Item, area_in, item_of, lead_in_of, whole_of, led_items}
 
 -- All lists of slots, one of its choices for each item: those with the first choice of the first item come before those with its second,
 -- and so on. Where the areas of an item's choices ascend, as they do in all commands, this is the lexicographic order of the areas.
@@ -48,3 +48,7 @@ lead_in_alone window choices (first ∷ part) =
 -- the plan of all parts, with the lead-in that each has alone; empty where there is none
 unfoldable pub least_plan : ℕ → (HeaderFields → List SlotFields) → List (List Need) → List Placed
 least_plan window choices parts = unwrap_or (least_of window (whole_of choices parts (map (lead_in_alone window choices) parts))) []
+
+-- the first list of a part's frames after one lead-in of any slot, laid as early as may be; empty where there is none
+unfoldable pub led_plan : ℕ → (HeaderFields → List SlotFields) → List Need → List Placed
+led_plan window choices part = unwrap_or (least_of window (led_items choices part)) []

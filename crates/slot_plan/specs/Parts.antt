@@ -108,6 +108,11 @@ items_of choices part None = map (item_of choices) part
 items_of choices [] (Some slot) = []
 items_of choices (first ∷ part) (Some slot) = lead_in_of (class_of first.header) (slot ∷ []) ∷ map (item_of choices) (first ∷ part)
 
+-- a part's frames after one lead-in, which may have any slot
+unfoldable pub led_items : (HeaderFields → List SlotFields) → List Need → List Item
+led_items choices [] = []
+led_items choices (first ∷ part) = lead_in_of (class_of first.header) all_slots ∷ map (item_of choices) (first ∷ part)
+
 -- The lead-in of a part alone: none if its frames can be laid without one, else the one with the smallest area with which they can be laid
 -- after it.
 unfoldable pub IsLeadIn : ℕ → (HeaderFields → List SlotFields) → List Need → Option SlotFields → Type 0

@@ -6,7 +6,7 @@ use Rattle.slot_plan.specs.declared.needs.Placed.{Placed}
 use Rattle.slot_plan.specs.declared.needs.Plan.{Plan}
 use Rattle.slot_plan.specs.Layouts.{begins_of}
 use Rattle.slot_plan.specs.Lists.{IsLeast, frames_of}
-use Rattle.slot_plan.specs.Parts.{Item, area_in, open_of, AreLeadIns, whole_of}
+use Rattle.slot_plan.specs.Parts.{Item, area_in, open_of, AreLeadIns, whole_of, led_items}
 
 -- a slot for each item, one of those among which it chooses, and lead-ins where they belong
 unfoldable pub AreFor : List Item → List Placed → Type 0
@@ -32,6 +32,11 @@ pub record IsPlan (window : ℕ) (choices : HeaderFields → List SlotFields) (p
   pub lead_ins : List (Option SlotFields)
   pub alone : AreLeadIns window choices parts lead_ins
   pub whole : IsPlanFor window (whole_of choices parts lead_ins) placed
+
+-- The led plan of a part: of all lists of slots with one lead-in in front of its frames the least that has a layout, whether or not there
+-- is a layout without one.
+abbrev pub IsLedPlan : ℕ → (HeaderFields → List SlotFields) → List Need → List Placed → Type 0
+IsLedPlan window choices part placed = IsPlanFor window (led_items choices part) placed
 
 -- the frames of a plan, in order of output
 abbrev pub entries : Plan → List Placed

@@ -137,3 +137,17 @@ pub record PlacesPart (window : ℕ) (leads : List SlotFields)
   pub lead_in : Option SlotFields
   pub least : IsPlacedLeadIn window leads choices part lead_in
   pub places : PlacesOn window free after (items_of choices part lead_in) [] old new
+
+-- the lead-in of some slots with the smallest area that has what the frames of a part need
+unfoldable pub IsLeastLead : List SlotFields → (HeaderFields → List SlotFields) → List Need → SlotFields → Type 0
+IsLeastLead leads choices [] slot = ⊥
+IsLeastLead leads choices (first ∷ part) slot =
+    IsLeastSlot (needed (opens_in choices (first ∷ part))) (class_of first.header) false leads slot
+
+-- a part was placed after this lead-in, whether or not it needs one
+pub record PlacesLed (window : ℕ) (leads : List SlotFields)
+    (choices : HeaderFields → List SlotFields) (part : List Need) (free after : ℕ)
+    (old new : List Placed) : Type 0 where
+  pub slot : SlotFields
+  pub least : IsLeastLead leads choices part slot
+  pub places : PlacesOn window free after (items_of choices part (Some slot)) [] old new

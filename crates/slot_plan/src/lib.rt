@@ -15,12 +15,15 @@ mod slots;
 mod table;
 
 pub use ascending::largest_area_of;
-pub use laws::{lead_ins_come_first, least_plan_is_the_plan, plans_are_unique};
+pub use laws::{
+    lead_ins_come_first, least_plan_is_the_plan, led_plan_is_the_plan, led_where_needed,
+    plans_are_unique,
+};
 pub use lengths::Lengths;
 pub use needs::{Need, Placed, Plan};
 pub use offer::Offer;
 pub use placing::{Room, place_part};
-pub use plans::{end_of, plan};
+pub use plans::{end_of, plan, plan_led};
 pub use policy::{Keep, Least, Policy};
 pub use slots::free_behind;
 pub use table::SlotTable;

@@ -3,13 +3,13 @@
 ghost use Rattle.std.specs.Prelude.{◌+◌, ◌-◌, ◌≤◌, false, [], map, IfOk};
 ghost use Rattle.frame_header.specs.Tables.{class_of};
 ghost use Rattle.slot_plan.specs.Parts.{item_of, open_of};
-ghost use Rattle.slot_plan.specs.Reserve.{greatest, opens_in, CanBePlaced, IsPlaceable, IsPlacedIn, PlacesOn, PlacesPart};
+ghost use Rattle.slot_plan.specs.Reserve.{greatest, opens_in, AreReserves, CanBePlaced, IsPlaceable, IsPlacedIn, PlacesLed, PlacesOn, PlacesPart};
 ghost use Rattle.slot_plan.specs.SlotTables.{IsTableFor, IsTableWith};
 ghost use Rattle.frame_header.specs.Limits.{most_back};
 
 use crate::needs::{Need, Placed};
 use crate::offer::Offer;
-use crate::reserves::reserves_of;
+use crate::reserves::{Reserves, reserves_of};
 use crate::slots::free_behind;
 use crate::table::SlotTable;
 use std::alloc::{AllocError, Global};
@@ -80,6 +80,67 @@ fn place_frames<O: Offer>(
     Ok(free)
 }
 
+/// Places the frames of a part after the smallest lead-in that has what they need, of which there is one.
+///
+/// # Errors
+/// Where there is no memory.
+fn place_behind_lead_in<O: Offer>(
+    room: Room,
+    part: &[Need],
+    offer: &O,
+    table: &SlotTable,
+    reserves: Reserves,
+    placed: &mut Vec<Placed>,
+) -> Result<u32, AllocError>
+    requires table { IsTableFor (O.lead_slots_of offer.now) part.now table.now }
+    requires part { IsPlaceable room.window table.now.lengths (O.lead_slots_of offer.now)
+        (O.some_area_of offer.now) part.now }
+    requires free { room.free ≤ room.window }
+    requires reserves { AreReserves room.window (O.slots_of offer.now) (O.some_area_of offer.now)
+        part.now reserves }
+    ensures within { IfOk result (λ after. after ≤ room.window) }
+    ensures placed { IfOk result (λ after. PlacesLed room.window (O.lead_slots_of offer.now)
+        (O.slots_of offer.now) part.now room.free after placed.old.items placed.new.items) }
+{
+    let window = room.window;
+    let slot = table.least_slot(false, u64::from(reserves.before));
+    placed.push(Placed {
+        lead_in: true,
+        slot,
+        begin: room.free as u16,
+    })?;
+    let area = table.lengths.area_of(slot, false);
+    let free = free_behind(window, room.free, 0, area);
+    let room = Room { window, free };
+    place_frames(room, part, offer, table, reserves.behind, placed)
+}
+
+/// Places the frames of a part, where so many bytes are free before it, after the smallest lead-in with which
+/// they have a layout, also if they have one without it; and answers how many bytes are free after them. The
+/// table is that of the slots of lead-ins.
+///
+/// # Errors
+/// Where there is no memory.
+pub(crate) fn place_led<O: Offer>(
+    alloc: Global,
+    room: Room,
+    part: &[Need],
+    offer: &O,
+    table: &SlotTable,
+    placed: &mut Vec<Placed>,
+) -> Result<u32, AllocError>
+    requires table { IsTableFor (O.lead_slots_of offer.now) part.now table.now }
+    requires part { IsPlaceable room.window table.now.lengths (O.lead_slots_of offer.now)
+        (O.some_area_of offer.now) part.now }
+    requires free { room.free ≤ room.window }
+    ensures within { IfOk result (λ after. after ≤ room.window) }
+    ensures placed { IfOk result (λ after. PlacesLed room.window (O.lead_slots_of offer.now)
+        (O.slots_of offer.now) part.now room.free after placed.old.items placed.new.items) }
+{
+    let reserves = reserves_of(alloc, room.window, part, offer, table)?;
+    place_behind_lead_in(room, part, offer, table, reserves, placed)
+}
+
 /// Places the frames of a part, where so many bytes are free before it, after the smallest lead-in with which
 /// they have a layout if they have none without one; and answers how many bytes are free after them. The table
 /// is that of the slots of lead-ins.
@@ -102,19 +163,9 @@ pub fn place_part<O: Offer>(
     ensures placed { IfOk result (λ after. PlacesPart room.window (O.lead_slots_of offer.now)
         (O.slots_of offer.now) part.now room.free after placed.old.items placed.new.items) }
 {
-    let window = room.window;
-    let reserves = reserves_of(alloc, window, part, offer, table)?;
+    let reserves = reserves_of(alloc, room.window, part, offer, table)?;
     if reserves.before == 0 {
         return place_frames(room, part, offer, table, reserves.behind, placed);
     }
-    let slot = table.least_slot(false, u64::from(reserves.before));
-    placed.push(Placed {
-        lead_in: true,
-        slot,
-        begin: room.free as u16,
-    })?;
-    let area = table.lengths.area_of(slot, false);
-    let free = free_behind(window, room.free, 0, area);
-    let room = Room { window, free };
-    place_frames(room, part, offer, table, reserves.behind, placed)
+    place_behind_lead_in(room, part, offer, table, reserves, placed)
 }

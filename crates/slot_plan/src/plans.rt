@@ -1,12 +1,12 @@
 //! The plan of several parts.
-ghost use Rattle.std.specs.Prelude.{◌≡◌, ◌<◌, ◌≤◌, ◌+◌, length, slice_index, IfOk};
+ghost use Rattle.std.specs.Prelude.{◌≡◌, ◌<◌, ◌≤◌, ◌+◌, [], ◌∷◌, length, slice_index, IfOk};
 ghost use Rattle.frame_header.specs.Limits.{most_frames};
 ghost use Rattle.slot_plan.specs.Parts.{CanBePlanned};
 ghost use Rattle.slot_plan.specs.Plans.{entries};
-ghost use Rattle.slot_plan.specs.Laws.{IsThePlan};
+ghost use Rattle.slot_plan.specs.Laws.{IsThePlan, IsTheLedPlan};
 
 use crate::needs::{Need, Plan};
-use crate::placing::{Room, place_part};
+use crate::placing::{Room, place_led, place_part};
 use crate::policy::Policy;
 use crate::table::SlotTable;
 use std::alloc::{AllocError, Global};
@@ -58,5 +58,28 @@ pub fn plan<P: Policy>(
         let room = Room { window, free };
         free = place_part(alloc, room, part, policy, &table, &mut placed)?;
     }
+    Ok(Plan { placed })
+}
+
+/// The plan of one part with a lead-in in front, also where its frames have a layout without one: of all lists
+/// with one lead-in, which may have any slot, the lexicographically least list of areas that has a layout. Main
+/// data begin as early as they may (ISO/IEC 11172-3, 2.4.2.7).
+///
+/// `needs` is as for `plan` with one part: 1 to 2,900,000 frames, all of one class, with a layout in their own
+/// slots after a whole window of free bytes.
+///
+/// # Errors
+/// Where there is no memory.
+pub fn plan_led<P: Policy>(alloc: Global, needs: &[Need], policy: &P) -> Result<Plan, AllocError>
+    requires planned { CanBePlanned needs.now (0 ∷ []) }
+    requires needs { length needs.now ≤ most_frames }
+    ensures { IfOk result (λ p. IsTheLedPlan (P.choices_of policy.now) needs.now (entries p)) }
+{
+    let class = needs[0].header.class();
+    let window = class.window();
+    let table = SlotTable::of_class(alloc, class)?;
+    let mut placed = Vec::with_capacity(alloc, needs.len() + 1)?;
+    let room = Room { window, free: 0 };
+    place_led(alloc, room, needs, policy, &table, &mut placed)?;
     Ok(Plan { placed })
 }

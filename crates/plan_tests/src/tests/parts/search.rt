@@ -1,16 +1,16 @@
-//! Each plan of a part of at most three frames is the first by trying every list of slots.
+//! Each plan of a part of at most three frames, also with a lead-in in front, is the first by trying every list of slots.
 
-use super::planned::plan_of;
+use super::planned::{led_plan_of, plan_of};
 use crate::tests::asked::{Asked, HIGH, LOW, needs_of};
 use crate::tests::checked::fit;
-use crate::tests::lists::{Menu, first_of_all, is_found};
+use crate::tests::lists::{Menu, first_list, first_of_all, is_found};
 use frame_header::Slot;
 use slot_plan::{Keep, Least, Need, Policy};
 use std::alloc::{AllocError, AllocGlobal};
 use std::process::Abort;
 use std::test::Fail;
 
-/// Whether the plan is that which is found by trying every list.
+/// Whether the plan, and that with a lead-in in front, are those which are found by trying every list.
 fn is_searched<R: Abort + AllocGlobal, P: Policy>(
     rt: &R,
     needs: &[Need],
@@ -18,7 +18,11 @@ fn is_searched<R: Abort + AllocGlobal, P: Policy>(
     menu: Menu<'_>,
 ) -> Result<bool, AllocError> {
     let plan = plan_of(rt, needs, &[0], policy)?;
-    Ok(is_found(plan.placed(), first_of_all(needs, menu)))
+    let led = led_plan_of(rt, needs, policy)?;
+    Ok(
+        is_found(plan.placed(), first_of_all(needs, menu))
+            && is_found(led.placed(), first_list(needs, menu, 1)),
+    )
 }
 
 /// Whether the plans are, with the slots that the frames have, and with all.

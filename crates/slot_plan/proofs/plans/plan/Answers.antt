@@ -1,13 +1,9 @@
 -- One part more.
-use Rattle.std.proofs.Common.{◌+◌, ◌<◌, ◌≤◌, false, map, length, get_or, drop, refl, sym, subst, arith, rules}
+use Rattle.std.proofs.Common.{◌+◌, ◌<◌, length, get_or, drop, refl, sym, subst, arith, rules}
 use Rattle.std.specs.Prelude.{slice_range}
-use Rattle.frame_header.specs.Slots.{all_slots}
-use Rattle.slot_plan.specs.Parts.{areas_with, own_frame, AreOfClass, ArePartsFeasible, window_in, parts_of}
-use Rattle.slot_plan.specs.Reserve.{greatest}
-use Rattle.slot_plan.proofs.ReserveLaws.{feasible-windows}
-use Rattle.slot_plan.proofs.AreaLaws.{leads-span}
+use Rattle.slot_plan.specs.Parts.{AreOfClass, ArePartsFeasible, window_in, parts_of}
 use Rattle.slot_plan.specs.Plans.{IsPlan}
-use Rattle.slot_plan.proofs.PartLaws.{one-class, class-range, window-first, part-ready, parts-cons, parts-none}
+use Rattle.slot_plan.proofs.PartLaws.{one-class, class-range, window-first, placeable-own, part-ready, parts-cons, parts-none}
 use Rattle.slot_plan.proofs.PlacedLaws.{PartsPlaced, parts-begun, parts-more, parts-all}
 use Rattle.slot_plan.proofs.LeastPlan.{plan-least}
 use Rattle.slot_plan.proofs.plans.plan.Goals as goal
@@ -30,17 +26,12 @@ place_part-requires g c =
     let from = get_or c.args.parts.now c.loop-at.at 0 in
     let class = one-class c.class-class.result needs c.index-needs-0.result c.requires.planned.class c.class-class.ensures in
     let ready = part-ready needs c.args.parts.now c.loop-at.at c.end_of.result c.window-window.result c.requires.planned.ascending c.requires.planned.within c.loop-at-test.true c.end_of.ensures.next c.end_of.ensures.last c.loop-at.invariant.feasible in
-    let spanned = subst (λ k. c.window-window.result ≤ greatest (areas_with k false all_slots)) (sym c.in_ok-table.ensures.class_is) (leads-span c.class-class.result c.window-window.result c.window-window.ensures.spanned) in
     record {
       table = record {
         class = subst (λ k. AreOfClass k (slice_range needs from c.end_of.result)) (sym c.in_ok-table.ensures.class_is) (class-range c.class-class.result needs from c.end_of.result class);
         of_slots = c.in_ok-table.ensures.of_slots;
       };
-      part = record {
-        some = ready.0;
-        most = search rules;
-        feasible = feasible-windows c.window-window.result c.window-window.result (greatest (areas_with c.in_ok-table.table.lengths false all_slots)) (map own_frame (slice_range needs from c.end_of.result)) spanned ready.1;
-      };
+      part = placeable-own c.class-class.result c.in_ok-table.table.lengths c.window-window.result (slice_range needs from c.end_of.result) c.in_ok-table.ensures.class_is c.window-window.ensures.spanned (search rules) ready.0 ready.1;
       free = c.loop-at.invariant.free;
     }
 
