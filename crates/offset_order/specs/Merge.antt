@@ -3,7 +3,7 @@ use Rattle.std.specs.Prelude.{◌≡◌, ℕ, ◌+◌, List, [], ◌∷◌, map,
 use Rattle.offset_order.specs.declared.merge.Entry.{Entry}
 use Rattle.offset_order.specs.declared.merge.Entry.TheVariants.{First, Second}
 use Rattle.offset_order.specs.declared.merge.Merge.{Merge}
-use Rattle.offset_order.specs.Order.{IsAfter, IsFrom, merged_by}
+use Rattle.offset_order.specs.Order.{IsAfter, IsFrom, IsUntil, merged_by}
 
 module _ {A B : Type 0} where
   -- what the walk hasn't met yet of each list
@@ -30,10 +30,18 @@ module _ {A B : Type 0} (first_at : A → ℕ) (second_at : B → ℕ) where
   entry_offset (First a) = first_at a
   entry_offset (Second b) = second_at b
 
-  -- the walk met the entry at the smallest offset, one of the first list before one of the second;
-  -- none where none is left
+  -- the next entry isn't one of the second of these lists: none of it is left, or the next of the first is at or before it
+  abbrev pub IsNoSecondNext : List A → List B → Type 0
+  IsNoSecondNext firsts [] = Unit {0}
+  IsNoSecondNext firsts (b ∷ seconds) = IsUntil first_at (second_at b) firsts
+
+  abbrev pub HasNoSecondNext : Merge A B → Type 0
+  HasNoSecondNext m = IsNoSecondNext (firsts_left m) (seconds_left m)
+
+  -- the walk met the entry at the smallest offset, one of the first list before one of the second; none where none is left, and then it stays
+  -- as it was
   abbrev pub Meets : Merge A B → Option (Entry A B) → Merge A B → Type 0
-  Meets old None new = (firsts_left old ≡ []) × (seconds_left old ≡ [])
+  Meets old None new = (firsts_left old ≡ []) × (seconds_left old ≡ []) × (new ≡ old)
   Meets old (Some (First a)) new = PassesFirst a old new × IsFrom second_at (first_at a) (seconds_left old)
   Meets old (Some (Second b)) new = PassesSecond b old new × IsAfter first_at (second_at b) (firsts_left old)
 

@@ -35,3 +35,8 @@ IsAfter key at (t ∷ ts) = at < key t
 abbrev pub IsFrom : {A : Type 0} → (A → ℕ) → ℕ → List A → Type 0
 IsFrom key at [] = Unit {0}
 IsFrom key at (t ∷ ts) = at ≤ key t
+
+-- there is a first of these, and it is at or before the offset
+abbrev pub IsUntil : {A : Type 0} → (A → ℕ) → ℕ → List A → Type 0
+IsUntil key at [] = ⊥
+IsUntil key at (t ∷ ts) = key t ≤ at

@@ -1,7 +1,7 @@
 //! Two lists in order of offset as one.
-ghost use Rattle.std.specs.Prelude.{◌≡◌, ◌≤◌, ℕ, false, IfSome, IfNone};
-ghost use Rattle.offset_order.specs.Order.{IsAfter};
-ghost use Rattle.offset_order.specs.Merge.{firsts_left, seconds_left, Meets, PassesFirst, PassesSecond};
+ghost use Rattle.std.specs.Prelude.{◌≡◌, ◌≤◌, ℕ, true, false, IfSome, IfNone};
+ghost use Rattle.offset_order.specs.Order.{IsAfter, IsUntil};
+ghost use Rattle.offset_order.specs.Merge.{firsts_left, seconds_left, HasNoSecondNext, Meets, PassesFirst, PassesSecond};
 
 /// What has an offset in a file.
 pub trait HasOffset {
@@ -55,7 +55,8 @@ impl<'a, A: HasOffset + Copy, B: HasOffset + Copy> Merge<'a, A, B> {
     /// Whether an entry of the first list that is left is at or before this offset.
     #[inline]
     fn has_first_until(&self, offset: u64) -> bool
-        ensures { result ≡ false → IsAfter A.offset_of offset (firsts_left self.now) }
+        ensures after { result ≡ false → IsAfter A.offset_of offset (firsts_left self.now) }
+        ensures until { result ≡ true → IsUntil A.offset_of offset (firsts_left self.now) }
     {
         match self.firsts.get(self.next_first) {
             Some(first) => first.offset_in_file() <= offset,
@@ -85,6 +86,7 @@ impl<'a, A: HasOffset + Copy, B: HasOffset + Copy> Merge<'a, A, B> {
         ensures met { IfSome result (λ b. PassesSecond b.now self.old self.new) }
         ensures order { IfSome result (λ b. IsAfter A.offset_of (B.offset_of b.now)
             (firsts_left self.old)) }
+        ensures none { IfNone result (HasNoSecondNext A.offset_of B.offset_of self.old) }
         ensures stays { IfNone result (self.new ≡ self.old) }
     {
         let second = self.seconds.get(self.next_second)?;
