@@ -19,4 +19,7 @@ pub mod ItemLists
 pub mod SurveyParts
 pub mod HeadSame
 pub mod PlacedRows
+pub mod ApartLaws
+pub mod ApartRows
+pub mod EmptiedLaws
 pub mod SurveyedFiles

@@ -15,9 +15,9 @@ some_bits zero e = absurd cc
 some_bits (suc n) e = omega arith
 
 -- the main data of a frame that isn't silent end after 0
-loud_end : (place : ℕ) (r : Row) → is_silent r ≡ false → 1 ≤ end_of_data place r
+pub loud-end : (place : ℕ) (r : Row) → is_silent r ≡ false → 1 ≤ end_of_data place r
 unfolding payload_bytes
-loud_end place r loud = omega (arith, some_bits (payload_bits r.side) loud)
+loud-end place r loud = omega (arith, some_bits (payload_bits r.side) loud)
 
 abbrev IsEmpty : ℕ → ℕ → Row → Type 0
 IsEmpty place ended r = (is_silent r ≡ true) ⊎ (lacks_data place ended r ≡ true)
@@ -25,7 +25,7 @@ IsEmpty place ended r = (is_silent r ≡ true) ⊎ (lacks_data place ended r ≡
 zero_cases : (place ended : ℕ) (r : Row) (silent lost : Bool) → is_silent r ≡ silent → lacks_data place ended r ≡ lost → cond (silent || lost) ended (end_of_data place r) ≡ 0 → (ended ≡ 0) × IsEmpty place ended r
 zero_cases place ended r true lost is other e = (e, inl is)
 zero_cases place ended r false true is other e = (e, inr other)
-zero_cases place ended r false false is other e = absurd (omega (arith, e, loud_end place r is))
+zero_cases place ended r false false is other e = absurd (omega (arith, e, loud-end place r is))
 
 zero_behind : (place ended : ℕ) (r : Row) → end_behind place ended (Some r) ≡ 0 → (ended ≡ 0) × IsEmpty place ended r
 zero_behind place ended r e = zero_cases place ended r (is_silent r) (lacks_data place ended r) refl refl e
@@ -59,20 +59,20 @@ module _ (head : Option Head) (rows : List Row) where
       ⊎_elim (λ earlier. before parts.0 j q earlier found)
       (λ same. here_by i j q (Some r) is (λ p some. let one : r ≡ p = cc in subst (IsEmptyAt i) one parts.1) same found) (at_or_before j i lt)
 
-  none_empty : (i : ℕ) → end_before head rows i ≡ 0 → AreSilentOrLost head rows i
+  pub none-empty : (i : ℕ) → end_before head rows i ≡ 0 → AreSilentOrLost head rows i
   unfolding end_before
-  none_empty zero e = λ j q lt found. absurd (omega (arith, lt))
-  none_empty (suc i) e = step i (slice_get rows i) refl (none_empty i) e
+  none-empty zero e = λ j q lt found. absurd (omega (arith, lt))
+  none-empty (suc i) e = step i (slice_get rows i) refl (none-empty i) e
 
   behind_empty : (i : ℕ) (o : Option Row) → slice_get rows i ≡ o → end_before head rows i ≡ 0 → ((r : Row) → slice_get rows i ≡ Some r → IsEmptyAt i r) → end_behind (place head rows i) (end_before head rows i) o ≡ 0
   behind_empty i None is none each = none
   behind_empty i (Some r) is none each = empty_cases (is_silent r) (is_lost head rows i r) (end_before head rows i) (end_of_data (place head rows i) r) (each r is) none
 
-  empty_none : (i : ℕ) → AreSilentOrLost head rows i → end_before head rows i ≡ 0
+  pub empty-none : (i : ℕ) → AreSilentOrLost head rows i → end_before head rows i ≡ 0
   unfolding end_before
-  empty_none zero all = refl
-  empty_none (suc i) all =
-      behind_empty i (slice_get rows i) refl (empty_none i (λ j q lt found. all j q (omega (arith, lt)) found)) (λ r found. all i r (omega arith) found)
+  empty-none zero all = refl
+  empty-none (suc i) all =
+      behind_empty i (slice_get rows i) refl (empty-none i (λ j q lt found. all j q (omega (arith, lt)) found)) (λ r found. all i r (omega arith) found)
 
   -- ---- one frame
 
@@ -83,8 +83,8 @@ module _ (head : Option Head) (rows : List Row) where
   pub lost-leads : (i : ℕ) (r : Row) → is_lost head rows i r ≡ true → (points_too_far (place head rows i) r ≡ true) × AreSilentOrLost head rows i
   lost-leads i r lost =
       let parts = and_parts (end_before head rows i == 0) (points_too_far (place head rows i) r) lost in
-      (parts.1, none_empty i (eqb-true (end_before head rows i) 0 parts.0))
+      (parts.1, none-empty i (eqb-true (end_before head rows i) 0 parts.0))
 
   pub leads-lost : (i : ℕ) (r : Row) → (points_too_far (place head rows i) r ≡ true) × AreSilentOrLost head rows i → is_lost head rows i r ≡ true
   leads-lost i r leads =
-      true_both (end_before head rows i == 0) (points_too_far (place head rows i) r) (eq-eqb (end_before head rows i) 0 (empty_none i leads.1)) leads.0
+      true_both (end_before head rows i == 0) (points_too_far (place head rows i) r) (eq-eqb (end_before head rows i) 0 (empty-none i leads.1)) leads.0

@@ -60,7 +60,7 @@ placed_same head class old new before behind same stays placed =
     subst (λ (b : Before). ArePlacedTo head class new b.place b.ended) (sym stays) (subst (λ rows. ArePlacedTo head class rows before.place before.ended) (sym same) placed)
 
 -- by place and end
-placed_by : (head : Option Head) (class : ClassFields) (rows : List Row) (i : ℕ) (r : Row) (place_now ended : ℕ) → place_now ≡ place head rows i → ended ≡ end_before head rows i
+pub placed_by : (head : Option Head) (class : ClassFields) (rows : List Row) (i : ℕ) (r : Row) (place_now ended : ℕ) → place_now ≡ place head rows i → ended ≡ end_before head rows i
     → IsHeader r.header → class_of r.header ≡ class → SideFits class r.side → r.lost ≡ lacks_data place_now ended r → data_faults place_now ended r ≡ [] → IsWellPlaced head class rows i r
 placed_by head class rows i r place_now ended at ends known same fits mark none = record {
   known = known;
@@ -134,11 +134,11 @@ module _ (head : Option Head) (rows : List Row) where
   get-marked zero n (x ∷ xs) = ap (λ m. Some (marked_row head rows m x)) (omega arith)
   get-marked (suc i) n (x ∷ xs) = get-marked i (n + 1) xs ∙ ap (λ m. option_map (marked_row head rows m) (slice_get xs i)) (omega arith)
 
-  place-marked : (i : ℕ) → place head (marked head rows) i ≡ place head rows i
+  pub place-marked : (i : ℕ) → place head (marked head rows) i ≡ place head rows i
   unfolding place marked
   place-marked i = ap (λ m. head_area head + m) (areas-marked i 0 rows)
 
-  found-marked : (i : ℕ) → slice_get (marked head rows) i ≡ option_map (marked_row head rows i) (slice_get rows i)
+  pub found-marked : (i : ℕ) → slice_get (marked head rows) i ≡ option_map (marked_row head rows i) (slice_get rows i)
   unfolding marked
   found-marked i = get-marked i 0 rows ∙ ap (λ m. option_map (marked_row head rows m) (slice_get rows i)) (omega arith)
 
@@ -146,7 +146,7 @@ module _ (head : Option Head) (rows : List Row) where
   behind-marked i m n None = refl
   behind-marked i m n (Some r) = refl
 
-  end-marked : (i : ℕ) → end_before head (marked head rows) i ≡ end_before head rows i
+  pub end-marked : (i : ℕ) → end_before head (marked head rows) i ≡ end_before head rows i
   unfolding end_before
   end-marked zero = refl
   end-marked (suc i) =
@@ -154,7 +154,7 @@ module _ (head : Option Head) (rows : List Row) where
       ∙ behind-marked i (place head (marked head rows) i) (end_before head (marked head rows) i) (slice_get rows i)
       ∙ ap₂ (λ m n. end_behind m n (slice_get rows i)) (place-marked i) (end-marked i)
 
-  from_some : (f : Row → Row) (o : Option Row) (q : Row) → option_map f o ≡ Some q → (r : Row) × (o ≡ Some r) × (f r ≡ q)
+  pub from_some : (f : Row → Row) (o : Option Row) (q : Row) → option_map f o ≡ Some q → (r : Row) × (o ≡ Some r) × (f r ≡ q)
   from_some f None q e = absurd cc
   from_some f (Some r) q e = (r, refl, cc)
 

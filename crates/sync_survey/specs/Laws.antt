@@ -1,5 +1,6 @@
 -- What the definitions of the survey say, without their recursions.
 use Rattle.std.specs.Prelude.{◌≡◌, ◌↔◌, ◌⊎◌, ℕ, ◌+◌, ◌≤◌, ◌<◌, true, List, ◌++◌, length, drop, slice_get, Option, Some, None, Ok}
+use Rattle.frame_header.specs.Fields.{ClassFields}
 use Rattle.sync_survey.specs.declared.items.Item.{Item}
 use Rattle.sync_survey.specs.declared.items.Item.TheVariants.{Frame}
 use Rattle.sync_survey.specs.declared.places.Start.{Start}
@@ -11,7 +12,8 @@ use Rattle.sync_survey.specs.Runs.{Placed, run, item_of, AreEndToEnd, bytes_of_i
 use Rattle.sync_survey.specs.Start.{start_of, IsLeastStart}
 use Rattle.sync_survey.specs.MainData.{is_silent, points_too_far, place, is_lost}
 use Rattle.sync_survey.specs.Faults.{SurveyFields, surveyed, stream_of_survey, HoldsStream}
-use Rattle.sync_survey.specs.Survey.{AreWellPlaced}
+use Rattle.sync_survey.specs.HeadApart.{set_apart, head_apart, emptied}
+use Rattle.sync_survey.specs.Survey.{AreWellPlaced, IsLaidOut}
 
 -- bytes begin with one item, and with no other
 abbrev pub OneItemStands : Type 0
@@ -54,3 +56,28 @@ SurveysHoldStreams = (file : List ℕ) (allowed : ℕ) (s : SurveyFields) → su
 -- the main data of the frames of a file without fault are where they may be
 abbrev pub SurveysArePlaced : Type 0
 SurveysArePlaced = (file : List ℕ) (allowed : ℕ) (s : SurveyFields) → surveyed file allowed ≡ Ok s → AreWellPlaced s.head s.class s.frames
+
+-- In a file without fault a frame whose main_data_begin is greater than the sum of the areas of the frames before it, the head's left out, is
+-- lost where the head is set apart: every frame before it is silent or lost in this sense.
+abbrev pub ApartFramesLead : Type 0
+ApartFramesLead =
+    (head : Option Head) (class : ClassFields) (rows : List Row) → AreWellPlaced head class rows
+    → (i : ℕ) (r : Row) → slice_get rows i ≡ Some r → points_too_far (place None rows i) r ≡ true
+    → (is_lost None rows i r ≡ true) × AreSilentOrLost None rows i
+
+-- where the head of a file without fault is set apart, the main data of the frames are where they may be in a file of the same frames without a
+-- head
+abbrev pub HeadsApartArePlaced : Type 0
+HeadsApartArePlaced = (head : Option Head) (class : ClassFields) (rows : List Row) → AreWellPlaced head class rows → AreWellPlaced None class (set_apart head rows)
+
+-- with lost frames as empty ones they are where they may be in a file with the head, too, and all else is laid out as it was
+abbrev pub HeadsApartAreLaid : Type 0
+HeadsApartAreLaid = (s : SurveyFields) → IsLaidOut s → IsLaidOut (emptied (head_apart s))
+
+-- the main data of each frame begin within the areas of the frames before it, the head's left out
+abbrev pub AreNear : List Row → Type 0
+AreNear rows = (i : ℕ) (r : Row) → slice_get rows i ≡ Some r → r.side.main_data_begin ≤ place None rows i
+
+-- then no frame is lost where the head is set apart
+abbrev pub NearFramesStay : Type 0
+NearFramesStay = (head : Option Head) (rows : List Row) → AreNear rows → set_apart head rows ≡ rows

@@ -8,6 +8,7 @@ pub mod Start
 pub mod Walk
 pub mod MainData
 pub mod Faults
+pub mod HeadApart
 pub mod Kinds
 pub mod Survey
 pub mod Answers

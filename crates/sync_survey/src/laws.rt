@@ -1,6 +1,6 @@
 //! Laws of the definitions that the survey's contract cites. Each function does nothing: a proof that needs
 //! its law calls it.
-ghost use Rattle.sync_survey.specs.Laws.{OneItemStands, RunsAreOnly, StartsAreLeast, LostFramesLead, SurveysHoldStreams, SurveysArePlaced};
+ghost use Rattle.sync_survey.specs.Laws.{OneItemStands, RunsAreOnly, StartsAreLeast, LostFramesLead, SurveysHoldStreams, SurveysArePlaced, ApartFramesLead, HeadsApartArePlaced, HeadsApartAreLaid, NearFramesStay};
 
 /// Bytes begin with one item and no other: a header, a header of free format, a block, a zero byte, the
 /// end, or none of these.
@@ -38,4 +38,28 @@ pub fn surveys_hold_streams()
 /// files (`laid`).
 pub fn surveys_are_placed()
     ensures { SurveysArePlaced }
+{}
+
+/// In a file without fault every frame whose main data begin before the areas of the frames before it, the head's left out,
+/// is lost where the head is set apart: before it there are only frames that are silent or lost in this sense.
+pub fn apart_frames_lead()
+    ensures { ApartFramesLead }
+{}
+
+/// Where the head of a file without fault is set apart, the main data of its frames are where they may be in a file of the same
+/// frames without a head. So any part of them can be planned.
+pub fn heads_apart_are_placed()
+    ensures { HeadsApartArePlaced }
+{}
+
+/// Where the head of a file without fault is set apart and each lost frame is an empty one, the survey is laid out as that of a
+/// file without fault, with the head.
+pub fn heads_apart_are_laid()
+    ensures { HeadsApartAreLaid }
+{}
+
+/// Where the main data of each frame begin within the areas of the frames before it, the head's left out, no frame is lost where the head is set
+/// apart.
+pub fn near_frames_stay()
+    ensures { NearFramesStay }
 {}

@@ -2,6 +2,7 @@
 //! first at fault in it.
 #![tactic(auto)]
 
+mod apart;
 mod folders;
 mod found;
 mod fronts;
@@ -21,7 +22,8 @@ pub use fronts::pass_front;
 pub use heads::{find_head, head_area, head_in, numbered_from};
 pub use items::{Item, header_front, header_of_class, is_same_class, item_front};
 pub use laws::{
-    lost_frames_lead, one_item_stands, runs_are_only, starts_are_least, surveys_are_placed,
+    apart_frames_lead, heads_apart_are_laid, heads_apart_are_placed, lost_frames_lead,
+    near_frames_stay, one_item_stands, runs_are_only, starts_are_least, surveys_are_placed,
     surveys_hold_streams,
 };
 pub use looks::{LONGEST_FILE, find_length, look};

@@ -1,0 +1,88 @@
+//! Frames that are lost when the head is set apart, and lost frames as they are written.
+ghost use Rattle.std.specs.Prelude.{◌≡◌, ◌≤◌, ◌||◌, false, map};
+ghost use Rattle.side_info.specs.Side.{no_side};
+ghost use Rattle.sync_survey.specs.Faults.{tells};
+ghost use Rattle.sync_survey.specs.MainData.{is_silent, points_too_far};
+ghost use Rattle.sync_survey.specs.HeadApart.{apart_rows, head_apart as head_apart_lem, emptied_row, emptied};
+
+use crate::rows::Row;
+use crate::surveys::Survey;
+use side_info::{Extent, FrameFront, Side};
+
+/// Marks the frame as lost if its main data begin before areas of so many bytes. Answers whether they do or the frame is
+/// silent, so that a later frame may be lost too.
+fn mark_apart(areas: u64, row: &mut Row) -> bool
+    ensures row { row.new ≡ record row.old { lost = row.old.lost || points_too_far areas row.old } }
+    ensures empty { result ≡ (is_silent row.old || points_too_far areas row.old) }
+    ensures near { row.old.side.main_data_begin ≤ 65535 }
+{
+    let Extent { begin, bits } = row.extent();
+    let lost = areas < u64::from(begin);
+    if lost {
+        row.mark(true);
+    }
+    bits == 0 || lost
+}
+
+/// Marks the frames that are lost without a head.
+fn mark_rows(rows: &mut [Row])
+    ensures { rows.new ≡ apart_rows rows.old }
+{
+    let mut areas: u64 = 0;
+    for row in rows.iter_mut() {
+        if !mark_apart(areas, row) {
+            break;
+        }
+        // It doesn't matter that the sum stops at the greatest number: main data begin at most 511 bytes back.
+        areas = areas.saturating_add(u64::from(row.header().area()));
+    }
+}
+
+/// Makes the frame an empty one.
+// It is apart, so that the loop over the frames is short.
+#[inline(never)]
+fn empty_row(row: &mut Row)
+    ensures { row.new ≡ record row.old { side = no_side; lost = false } }
+{
+    let front = FrameFront::new(&row.header(), &Side::empty());
+    *row = Row::new(row.offset(), false, front);
+}
+
+/// Makes the frame an empty one if it is lost.
+fn empty_if_lost(row: &mut Row)
+    ensures { row.new ≡ emptied_row row.old }
+{
+    if row.lost() {
+        empty_row(row);
+    }
+}
+
+/// Makes each lost frame an empty one.
+fn empty_rows(rows: &mut [Row])
+    ensures { rows.new ≡ map emptied_row rows.old }
+{
+    for row in rows.iter_mut() {
+        empty_if_lost(row);
+    }
+}
+
+impl Survey {
+    /// Sets the head apart, as players do: marks as lost also each frame whose main data begin before the areas of the frames
+    /// before it, the head's left out, where each of these is silent or lost in this sense. Without a head no frame is
+    /// marked. All else stays, and it takes no memory.
+    pub fn head_apart(&mut self)
+        ensures { tells self.new ≡ head_apart_lem (tells self.old) }
+    {
+        if self.head.is_some() {
+            mark_rows(self.frames.as_mut_slice());
+        }
+    }
+
+    /// Makes each lost frame one without main data, whose side information is all 0 and which isn't lost, so that the frames
+    /// can be laid with the head before them (`heads_apart_are_laid`). All else stays, and it takes no memory.
+    pub fn empty_lost(&mut self)
+        ensures { tells self.new ≡ emptied (tells self.old) }
+    {
+        empty_rows(self.frames.as_mut_slice());
+    }
+}
