@@ -17,33 +17,41 @@ longest_sheet = 65536
 
 -- the bytes of a sheet that isn't too large
 abbrev pub sheet_read : List ℕ → Result (List ℕ) EditFault
-sheet_read sheet = if nat_lt longest_sheet (length sheet) then Err (Refused (SheetTooLarge (length sheet))) else Ok sheet
+sheet_read sheet =
+    if nat_lt longest_sheet (length sheet) then Err (Refused (SheetTooLarge (length sheet)))
+    else Ok sheet
 
 -- or why there is none
 abbrev pub sheet_in : Option (List ℕ) → Result (List ℕ) EditFault
 sheet_in None = Err (Input 1 Absent)
 sheet_in (Some sheet) = sheet_read sheet
 
--- the sheet is there, and too large
-pub record RefusesSheet (name : List ℕ) (old new : Seen) (fault : EditFault) : Type 0 where
+-- the sheet is there, and what its bytes say is refused
+pub record RefusesSheet {T : Type 0} (says : List ℕ → Result T EditFault)
+    (name : List ℕ) (old new : Seen) (fault : EditFault) : Type 0 where
   pub there : IsThere old.files name
-  pub bytes : (bytes : List ℕ) → Holds old.files name bytes → sheet_read bytes ≡ Err fault
+  pub bytes : (bytes : List ℕ) → Holds old.files name bytes → says bytes ≡ Err fault
   pub stays : new ≡ old
 
 abbrev pub MissesSheet : List ℕ → Seen → Seen → EditFault → Type 0
 MissesSheet name old new fault = MissesAt 1 name old new fault
 
--- what a fault says that was met while the sheet was read
-abbrev pub IsSheetFault : List ℕ → Seen → Seen → EditFault → Type 0
-IsSheetFault name old new fault = by_why
+-- what a fault says of its cause that was met while this was found of a sheet
+abbrev pub IsFaultOfSheet : {T : Type 0} → (List ℕ → Result T EditFault)
+    → List ℕ → Seen → Seen → EditFault → Type 0
+IsFaultOfSheet says name old new fault = by_why
     (record never {
-      rejected = RefusesSheet name old new fault;
+      rejected = RefusesSheet says name old new fault;
       missing = MissesSheet name old new fault;
       unread = ReadsNothing 1 name old new fault;
       shorter = LosesInput 1 name old new fault;
       no_memory = new ≡ old;
     })
     (why_of fault)
+
+-- what a fault says that was met while the sheet was read; it may be too large
+abbrev pub IsSheetFault : List ℕ → Seen → Seen → EditFault → Type 0
+IsSheetFault name old new fault = IsFaultOfSheet sheet_read name old new fault
 
 -- the refusals for its length
 abbrev pub sheet_refuses : Refusal → Bool
@@ -52,7 +60,8 @@ sheet_refuses _ = false
 
 -- the fault is one of the sheet, which is read as bytes and not as frames, or want of memory
 abbrev pub IsOfSheet : EditFault → Type 0
-IsOfSheet (Input place fault) = (place ≡ 1) × (fault ≢ NoRoom) × HasRightNumbers fault × IsFromOutside fault
+IsOfSheet (Input place fault) =
+    (place ≡ 1) × (fault ≢ NoRoom) × HasRightNumbers fault × IsFromOutside fault
 IsOfSheet (Refused refusal) = sheet_refuses refusal ≡ true
 IsOfSheet Memory = Unit {0}
 IsOfSheet _ = ⊥

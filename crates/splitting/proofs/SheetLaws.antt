@@ -6,7 +6,7 @@ use Rattle.commands.specs.declared.fault.EditFault.{EditFault}
 use Rattle.commands.specs.declared.fault.EditFault.TheVariants.{Refused}
 use Rattle.commands.specs.declared.fault.Refusal.{Refusal}
 use Rattle.commands.specs.declared.fault.Refusal.TheVariants.{SheetTooLarge}
-use Rattle.commands.proofs.WhyLaws.{each_why}
+use Rattle.commands.proofs.WhyLaws.{each_why, each_refusal}
 use Rattle.commands.specs.Left.{why_of}
 use Rattle.commands.specs.Refusing.{then_made}
 use Rattle.commands.specs.Sheet.{sheet_read, IsSheetFault as IsUnread, IsOfSheet as IsOfRead, sheet_refuses as read_refuses}
@@ -19,15 +19,8 @@ read-places bytes fault is = ap (λ r. then_made r (λ read. with_end (cue_of re
 
 module _ (name : List ℕ) (old new : Seen) (fault : EditFault) where
   pub unread-fault : IsUnread name old new fault → IsSheetFault name old new fault
-  unread-fault h = each_why (why_of fault) h (record {
-    rejected = λ r. record { there = r.there; bytes = λ bytes holds. read-places bytes fault (r.bytes bytes holds); stays = r.stays };
-    missing = λ m. m;
-    unread = λ u. u;
-    shorter = λ l. l;
-    unwritten = λ k w. w;
-    unsent = λ w. w;
-    no_memory = λ n. n;
-  })
+  unread-fault h = each_why (why_of fault) h
+      (each_refusal (λ r. record { there = r.there; bytes = λ bytes holds. read-places bytes fault (r.bytes bytes holds); stays = r.stays }))
 
 of_read : (refusal : Refusal) → read_refuses refusal ≡ true → sheet_refuses refusal ≡ true
 of_read (SheetTooLarge size) is = is

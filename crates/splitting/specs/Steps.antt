@@ -14,7 +14,7 @@ use Rattle.commands.specs.Kinds.{HasRightNumbers}
 use Rattle.commands.specs.Command.{Output, written, LacksBytes, written_to}
 use Rattle.commands.specs.Left.{by_why, never, why_of, EndsEarly}
 use Rattle.commands.specs.One.{most_frames, first_input, ReadsNothing, LosesInput}
-use Rattle.commands.specs.Sheet.{MissesSheet, IsOfSheet as IsOfRead}
+use Rattle.commands.specs.Sheet.{MissesSheet, IsFaultOfSheet, IsOfSheet as IsOfRead}
 use Rattle.part_needs.specs.Fit.{own_choice}
 use Rattle.laying.specs.Laid.{laid_in, file_laid, IsWritable}
 use Rattle.frame_edits.specs.Chosen.{Chosen, IsSelected}
@@ -26,23 +26,10 @@ use Rattle.splitting.specs.Split.{own_frames, places_where, sheet_refuses, Placi
 
 -- ---- the sheet
 
--- the sheet is there, and is refused
-pub record RefusesSheet (name : List ℕ) (old new : Seen) (fault : EditFault) : Type 0 where
-  pub there : IsThere old.files name
-  pub bytes : (bytes : List ℕ) → Holds old.files name bytes → places_where (Some bytes) ≡ Err fault
-  pub stays : new ≡ old
-
--- what a fault that was met while the sheet was read says of its cause
+-- what a fault says of its cause that was met while the positions of the sheet were read
 abbrev pub IsSheetFault : List ℕ → Seen → Seen → EditFault → Type 0
-IsSheetFault name old new fault = by_why
-    (record never {
-      rejected = RefusesSheet name old new fault;
-      missing = MissesSheet name old new fault;
-      unread = ReadsNothing 1 name old new fault;
-      shorter = LosesInput 1 name old new fault;
-      no_memory = new ≡ old;
-    })
-    (why_of fault)
+IsSheetFault name old new fault =
+    IsFaultOfSheet (λ bytes. places_where (Some bytes)) name old new fault
 
 -- the fault is one of the sheet, or want of memory
 abbrev pub IsOfSheet : EditFault → Type 0
