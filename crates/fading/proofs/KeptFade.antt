@@ -1,5 +1,5 @@
 -- What a fade makes of a file differs from it in gains, check words and junk that is left out.
-use Rattle.std.proofs.Common.{◌≡◌, ℕ, List, Some, None, sym, ◌∙◌, ap}
+use Rattle.std.proofs.Common.{◌≡◌, ℕ, List, Some, None, ◌∙◌, ap}
 use Rattle.moved_gains.specs.Change.{Change}
 use Rattle.gain_edits.proofs.Proper.{made_of}
 use Rattle.gain_edits.proofs.KeptGains.{made_kept}

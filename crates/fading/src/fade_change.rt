@@ -1,5 +1,5 @@
 //! What a sheet changes in a file.
-ghost use Rattle.std.specs.Prelude.{◌≡◌, ◌⊎◌, ◌≤◌, List, ℕ, length, Some, Ok, Err, MatchResult, IfOk, IfErr, OnOk};
+ghost use Rattle.std.specs.Prelude.{◌≡◌, ◌⊎◌, ◌≤◌, length, Some, Ok, Err, MatchResult, IfOk, IfErr, OnOk};
 ghost use Rattle.outside.specs.Files.{IsThere};
 ghost use Rattle.outside.specs.Seen.{OnFile, OnlyRead};
 ghost use Rattle.sync_survey.specs.Faults.{tells};

@@ -1,5 +1,5 @@
 //! The positions at which a cue sheet cuts a file.
-ghost use Rattle.std.specs.Prelude.{◌≡◌, ◌⊎◌, ◌≤◌, List, ℕ, length, Ok, Err, Some, IfOk, IfErr, OnOk, MatchResult};
+ghost use Rattle.std.specs.Prelude.{◌≡◌, ◌⊎◌, ◌≤◌, length, Ok, Err, Some, IfOk, IfErr, OnOk, MatchResult};
 ghost use Rattle.outside.specs.Files.{IsThere};
 ghost use Rattle.outside.specs.Seen.{OnFile, OnlyRead};
 ghost use Rattle.splitting.specs.Split.{places_in as places_in_lem, places_where, ArePositions};

@@ -1,5 +1,5 @@
 //! The split commands over a folder.
-ghost use Rattle.std.specs.Prelude.{◌≡◌, Ok, IfOk, IfErr, OnOk};
+ghost use Rattle.std.specs.Prelude.{◌≡◌, Ok, IfOk, IfErr};
 ghost use Rattle.outside.specs.Seen.{OnlyRead};
 ghost use Rattle.commands.specs.Command.{clash_of};
 ghost use Rattle.commands.specs.Runs.{IsRunOf};
