@@ -17,7 +17,8 @@ refused_by All = pack_refuses
 
 -- each frame in its own slot, or in the least
 abbrev pub task_of : Choice → Bool → List ℕ → Task
-task_of choice least input = laying_task (choosing_by choice) (first_planning (choices_by least)) (refused_by choice) input
+task_of choice least input =
+    laying_task (choosing_by choice) (first_planning (choices_by least)) (refused_by choice) input
 
 -- both positions are sound: a time has 1 to 100 parts a second
 abbrev pub IsChoice : Choice → Type 0

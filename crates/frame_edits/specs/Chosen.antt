@@ -28,7 +28,8 @@ use Rattle.commands.specs.One.{Making, most_frames, Task, file_task, one_command
 
 -- ---- what is chosen
 
--- The frames from one up to, but not including, another, and the quality and extension for the Info frame.
+-- The frames from one up to, but not including, another,
+-- and the quality and extension for the Info frame.
 pub record Chosen : Type 0 where
   pub from : ℕ
   pub to : ℕ
@@ -44,11 +45,17 @@ pub record AreThere (most : ℕ) (chosen : Chosen) (s : SurveyFields) : Type 0 w
 
 -- that of the code
 abbrev pub chosen_in : CodeChosen → Chosen
-chosen_in chosen = record { from = chosen.from; to = chosen.to; quality = chosen.kept.quality; extension = chosen.kept.extension }
+chosen_in chosen = record {
+  from = chosen.from;
+  to = chosen.to;
+  quality = chosen.kept.quality;
+  extension = chosen.kept.extension;
+}
 
 -- there is no frame between them, or not all of these frames are there
 abbrev pub outside_fault : ℕ → ℕ → ℕ → Option Refusal
-outside_fault from to frames = if nat_lt from to && nat_le to frames then None else Some (Range from to frames)
+outside_fault from to frames =
+    if nat_lt from to && nat_le to frames then None else Some (Range from to frames)
 
 -- ---- the file of them
 
@@ -64,8 +71,8 @@ needs_of chosen s = map need_of (chosen_rows chosen s)
 abbrev pub AreUsual : (HeaderFields → List SlotFields) → Type 0
 AreUsual choices = (choices ≡ own_choice) ⊎ (choices ≡ any_choice)
 
--- The slots of their plan: of all lists the first, in the order of areas, for which there is a layout, after a lead-in only where there is none
--- without.
+-- The slots of their plan: of all lists the first, in the order of areas, for which there is a
+-- layout, after a lead-in only where there is none without.
 abbrev pub first_plan : (HeaderFields → List SlotFields) → ClassFields → List Need → List Placed
 first_plan choices class needs = least_plan (window_of class.version) choices (needs ∷ [])
 
@@ -75,7 +82,13 @@ plan_of chosen s = first_plan own_choice s.class (needs_of chosen s)
 
 -- the chosen frames in the slots of a plan
 abbrev pub laid_by : Chosen → List Placed → Laid
-laid_by chosen placed = record { from = chosen.from; to = chosen.to; placed = placed; quality = chosen.quality; extension = chosen.extension }
+laid_by chosen placed = record {
+  from = chosen.from;
+  to = chosen.to;
+  placed = placed;
+  quality = chosen.quality;
+  extension = chosen.extension;
+}
 
 -- these were made ready: the chosen frames in the slots of their plan, which can be written
 pub record IsSelected (choices : HeaderFields → List SlotFields) (chosen : Chosen) (s : SurveyFields) (selected : Selected) : Type 0 where
@@ -112,7 +125,8 @@ first_planning choices class needs = Ok (first_plan choices class needs)
 
 -- these frames in the slots of their plan
 abbrev pub laid_as : Planning → SurveyFields → Chosen → Result Laid EditFault
-laid_as plan s chosen = then_made (plan s.class (needs_of chosen s)) (λ placed. Ok (laid_by chosen placed))
+laid_as plan s chosen =
+    then_made (plan s.class (needs_of chosen s)) (λ placed. Ok (laid_by chosen placed))
 
 -- what such a command lays of a file with this survey, or why it refuses it
 unfoldable pub laid_with : Choosing → Planning → List ℕ → SurveyFields → Result Laid EditFault
@@ -120,13 +134,15 @@ laid_with choose plan file s = then_made (choose file s) (laid_as plan s)
 
 -- the file of it
 abbrev pub laying_with : Choosing → Planning → Making
-laying_with choose plan file s = then_made (laid_with choose plan file s) (λ laid. Ok (file_laid laid file s))
+laying_with choose plan file s =
+    then_made (laid_with choose plan file s) (λ laid. Ok (file_laid laid file s))
 
 abbrev pub stream_if : List ℕ → SurveyFields → Result Laid EditFault → List StreamFrame
 stream_if file s (Err fault) = []
 stream_if file s (Ok laid) = stream_laid laid file s
 
-abbrev pub stream_by : Choosing → Planning → List ℕ → Result SurveyFields SurveyFault → List StreamFrame
+abbrev pub stream_by : Choosing → Planning → List ℕ → Result SurveyFields SurveyFault
+    → List StreamFrame
 stream_by choose plan file (Err fault) = []
 stream_by choose plan file (Ok s) = stream_if file s (laid_with choose plan file s)
 
@@ -136,18 +152,30 @@ stream_with choose plan file = stream_by choose plan file (survey_of file most_f
 
 -- what is made is the file of the chosen frames in the slots of their plan
 abbrev pub laying_task : Choosing → Planning → (Refusal → Bool) → List ℕ → Task
-laying_task choose plan refuses input = file_task (laying_with choose plan) (stream_with choose plan) refuses input
+laying_task choose plan refuses input =
+    file_task (laying_with choose plan) (stream_with choose plan) refuses input
 
 -- the frames between two numbers, if there is one and all are there
 abbrev pub chosen_with : Option ℕ → List ℕ → ℕ → ℕ → ℕ → Result Chosen EditFault
-chosen_with quality extension from to frames = unless (outside_fault from to frames) (record { from = from; to = to; quality = quality; extension = extension })
+chosen_with quality extension from to frames =
+    unless (outside_fault from to frames) (record {
+      from = from;
+      to = to;
+      quality = quality;
+      extension = extension;
+    })
 
 unfoldable pub cut_choice : Place → Place → Choosing
-cut_choice from to file s = chosen_with None (replicate 36 0) (frame_at s.class (length s.frames) from) (frame_at s.class (length s.frames) to) (length s.frames)
+cut_choice from to file s =
+    chosen_with None (replicate 36 0)
+    (frame_at s.class (length s.frames) from) (frame_at s.class (length s.frames) to)
+    (length s.frames)
 
 -- all frames, with the quality and extension that the head has
 unfoldable pub all_choice : Choosing
-all_choice file s = chosen_with (head_info file s.head).quality (head_info file s.head).extension 0 (length s.frames) (length s.frames)
+all_choice file s =
+    chosen_with (head_info file s.head).quality (head_info file s.head).extension
+    0 (length s.frames) (length s.frames)
 
 -- a cut may refuse its positions, and a packing nothing
 abbrev pub cut_refuses : Refusal → Bool
@@ -163,7 +191,11 @@ choices_by true = any_choice
 choices_by false = own_choice
 
 abbrev pub cut_command : Place → Place → Bool → List ℕ → List ℕ → Command
-cut_command from to least input output = one_command (laying_task (cut_choice from to) (first_planning (choices_by least)) cut_refuses input) output
+cut_command from to least input output =
+    one_command
+    (laying_task (cut_choice from to) (first_planning (choices_by least)) cut_refuses input)
+    output
 
 abbrev pub pack_command : List ℕ → List ℕ → Command
-pack_command input output = one_command (laying_task all_choice (first_planning any_choice) pack_refuses input) output
+pack_command input output =
+    one_command (laying_task all_choice (first_planning any_choice) pack_refuses input) output

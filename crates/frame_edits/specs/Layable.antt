@@ -10,14 +10,16 @@ use Rattle.sync_survey.specs.Faults.{tells}
 use Rattle.sync_survey.specs.Survey.{IsLaidOut}
 use Rattle.frame_edits.specs.declared.work.Work.{Work}
 
--- The work is that of this survey and these chosen frames with their plan; nothing is held of any file, and nothing waits.
+-- The work is that of this survey and these chosen frames with their plan; nothing is held of any
+-- file, and nothing waits.
 pub record IsWorkOf (survey : Survey) (selected : Selected) (work : Work) : Type 0 where
   pub survey_is : work.survey ≡ survey
   pub selected_is : work.selected ≡ selected
   pub fed : (others : Files) (name : List ℕ) → IsFedFrom work.buffers.feed others name
   pub unsent : work.buffers.waiting ≡ []
 
--- The input is there and has the survey, its chosen frames can be written, nothing is held of any file, and nothing waits.
+-- The input is there and has the survey, its chosen frames can be written, nothing is held of any
+-- file, and nothing waits.
 pub record IsLayable (input : List ℕ) (work : Work) (files : Files) : Type 0 where
   pub there : IsThere files input
   pub laid : IsLaidOut (tells work.survey)
