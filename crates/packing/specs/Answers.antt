@@ -18,15 +18,18 @@ use Rattle.packing.specs.Modes.{allowed_by, pack_task}
 
 -- why there is no plan: a refusal of the definition, which may come, or want of memory
 abbrev pub IsPlanFault : Planning → (Refusal → Bool) → ClassFields → List Need → EditFault → Type 0
-IsPlanFault plan refuses class needs (Refused refusal) = (plan class needs ≡ Err (Refused refusal)) × (refuses refusal ≡ true)
+IsPlanFault plan refuses class needs (Refused refusal) =
+    (plan class needs ≡ Err (Refused refusal)) × (refuses refusal ≡ true)
 IsPlanFault plan refuses class needs Memory = Unit {0}
 IsPlanFault plan refuses class needs _ = ⊥
 
 -- The input was surveyed, and has no more frames than the mode allows, or it is at fault.
 pub record PackedSurvey (mode : PackMode) (name : List ℕ) (old new : Seen) (result : Result Survey EditFault) : Type 0 where
   pub there : OnOk result (IsThere old.files name)
-  pub surveyed : IfOk result (λ s. OnFile old name (λ bytes. survey_of bytes most_frames ≡ Ok (tells s)))
-  pub limited : IfOk result (λ s. OnFile old name (λ bytes. survey_of bytes (allowed_by mode) ≡ Ok (tells s)))
+  pub surveyed : IfOk result
+      (λ s. OnFile old name (λ bytes. survey_of bytes most_frames ≡ Ok (tells s)))
+  pub limited : IfOk result
+      (λ s. OnFile old name (λ bytes. survey_of bytes (allowed_by mode) ≡ Ok (tells s)))
   pub laid : IfOk result (λ s. IsLaidOut (tells s))
   pub few : IfOk result (λ s. length (tells s).frames ≤ allowed_by mode)
   -- what is told of it are bytes

@@ -19,8 +19,9 @@ lead_ins placed = map (λ p. p.lead_in) placed
 abbrev pub HasNoMore : List Placed → List Placed → Type 0
 HasNoMore placed other = (lead_ins other ≡ lead_ins placed) ⊎ All (λ p. p.lead_in ≡ false) other
 
--- These bytes are those of all frames of the file in the slots of a plan by which they can be laid, between the file's blocks and after an Info frame. By
--- every other plan by which they can be laid, each frame in any of the 28 slots, and with no other lead-ins, there are at least as many bytes.
+-- These bytes are those of all frames of the file in the slots of a plan by which they can be laid,
+-- between the file's blocks and after an Info frame. By every other plan by which they can be laid,
+-- each frame in any of the 28 slots, and with no other lead-ins, there are at least as many bytes.
 pub record IsFewest (file made : List ℕ) : Type 0 where
   pub survey : SurveyFields
   pub surveyed : survey_of file most_frames ≡ Ok survey
@@ -29,9 +30,14 @@ pub record IsFewest (file made : List ℕ) : Type 0 where
   pub last : laid.to ≡ length survey.frames
   pub fits : IsFitting (window_of survey.class.version) (needs_laid laid survey) laid.placed
   pub is : made ≡ file_laid laid file survey
-  pub fewest : (other : List Placed) → IsFitting (window_of survey.class.version) (needs_laid laid survey) other → HasNoMore laid.placed other → length made ≤ length (file_laid (record laid { placed = other }) file survey)
+  pub fewest : (other : List Placed)
+      → IsFitting (window_of survey.class.version) (needs_laid laid survey) other
+      → HasNoMore laid.placed other
+      → length made ≤ length (file_laid (record laid { placed = other }) file survey)
 
--- In the mode of the fewest bytes, what the output holds afterwards has the fewest bytes of all files of the frames that the input held before.
+-- In the mode of the fewest bytes, what the output holds afterwards has the fewest bytes of all
+-- files of the frames that the input held before.
 abbrev pub WritesFewest : PackMode → List ℕ → List ℕ → Files → Files → Type 0
-WritesFewest Best input output old new = (file made : List ℕ) → Holds old input file → Holds new output made → IsFewest file made
+WritesFewest Best input output old new =
+    (file made : List ℕ) → Holds old input file → Holds new output made → IsFewest file made
 WritesFewest _ input output old new = Unit {0}

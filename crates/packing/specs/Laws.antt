@@ -11,16 +11,23 @@ use Rattle.packing.specs.Fewest.{IsFewest}
 
 -- where all bit rates from one on are allowed, no file is refused with `Unfit`
 abbrev pub FloorsFit : Type 0
-FloorsFit = (rate i : ℕ) (file : List ℕ) → made_file (laying_with all_choice (plan_by (Floor rate))) file ≡ Err (Refused (Unfit i)) → ⊥
+FloorsFit =
+    (rate i : ℕ) (file : List ℕ)
+    → made_file (laying_with all_choice (plan_by (Floor rate))) file ≡ Err (Refused (Unfit i)) → ⊥
 
--- Where `pack --best` writes a file, `pack` writes one of the same input, and that of `pack --best` is at most as long.
+-- Where `pack --best` writes a file, `pack` writes one of the same input, and that of `pack --best`
+-- is at most as long.
 abbrev pub NeverLonger : Type 0
 NeverLonger =
-    (input output : List ℕ) (files : Contents) (best : List ℕ) → made_result (pack_task Best input) output files ≡ Ok best
-    → (plain : List ℕ) × (made_result (pack_task Least input) output files ≡ Ok plain) × (length best ≤ length plain)
+    (input output : List ℕ) (files : Contents) (best : List ℕ)
+    → made_result (pack_task Best input) output files ≡ Ok best
+    → (plain : List ℕ) × (made_result (pack_task Least input) output files ≡ Ok plain)
+    × (length best ≤ length plain)
 
--- What `pack --best` writes has the fewest bytes of all files of the frames of its input, in whatever slots their main data have room.
+-- What `pack --best` writes has the fewest bytes of all files of the frames of its input, in
+-- whatever slots their main data have room.
 abbrev pub FewestBytes : Type 0
 FewestBytes =
-    (input output : List ℕ) (files : Contents) (best : List ℕ) → made_result (pack_task Best input) output files ≡ Ok best
+    (input output : List ℕ) (files : Contents) (best : List ℕ)
+    → made_result (pack_task Best input) output files ≡ Ok best
     → (file : List ℕ) × (files input ≡ Some file) × IsFewest file best

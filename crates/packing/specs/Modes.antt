@@ -17,10 +17,12 @@ use Rattle.pack_mode.specs.declared.mode.PackMode.TheVariants.{Least, Best, Cons
 use Rattle.frame_edits.specs.Chosen.{Planning, first_planning, laying_task, all_choice}
 use Rattle.packing.specs.Rates.{rates_plan}
 
--- Of all lists of slots whose main data have room, with a lead-in only where there is none without, the one with the least sum of areas, and of
--- several the lexicographically least (`best_plan_of`). The frames of a well-formed file have one (the law `best_exists`).
+-- Of all lists of slots whose main data have room, with a lead-in only where there is none without,
+-- the one with the least sum of areas, and of several the lexicographically least (`best_plan_of`).
+-- The frames of a well-formed file have one (the law `best_exists`).
 abbrev pub best_planning : Planning
-best_planning class needs = Ok (unwrap_or (best_plan_of (window_of class.version) any_choice needs) [])
+best_planning class needs =
+    Ok (unwrap_or (best_plan_of (window_of class.version) any_choice needs) [])
 
 -- how the slots are chosen
 abbrev pub plan_by : PackMode → Planning
@@ -50,24 +52,28 @@ limit_by _ = None
 abbrev pub allowed_by : PackMode → ℕ
 allowed_by mode = unwrap_or (limit_by mode) most_frames
 
-abbrev pub unless_fault : Result SurveyFields SurveyFault → Result (List ℕ) EditFault → Result (List ℕ) EditFault
+abbrev pub unless_fault : Result SurveyFields SurveyFault → Result (List ℕ) EditFault
+    → Result (List ℕ) EditFault
 unless_fault (Err fault) made = Err (Input 0 fault)
 unless_fault (Ok s) made = made
 
 -- a file that has a fault where this many frames are allowed is refused with it
-abbrev pub limited_by : Option ℕ → Option (List ℕ) → Result (List ℕ) EditFault → Result (List ℕ) EditFault
+abbrev pub limited_by : Option ℕ → Option (List ℕ) → Result (List ℕ) EditFault
+    → Result (List ℕ) EditFault
 limited_by None file made = made
 limited_by (Some allowed) None made = made
 limited_by (Some allowed) (Some file) made = unless_fault (survey_of file allowed) made
 
 -- the same task for a source of at most as many frames as the limit, where there is one
 abbrev pub limited : Option ℕ → Task → Task
-limited limit task = record task { makes = λ files. limited_by limit (files task.source) (task.makes files) }
+limited limit task =
+    record task { makes = λ files. limited_by limit (files task.source) (task.makes files) }
 
 -- ---- the command
 
 abbrev pub pack_task : PackMode → List ℕ → Task
-pack_task mode input = limited (limit_by mode) (laying_task all_choice (plan_by mode) (refuses_by mode) input)
+pack_task mode input =
+    limited (limit_by mode) (laying_task all_choice (plan_by mode) (refuses_by mode) input)
 
 abbrev pub pack_mode_command : PackMode → List ℕ → List ℕ → Command
 pack_mode_command mode input output = one_command (pack_task mode input) output

@@ -44,10 +44,12 @@ abbrev pub fitted : Result (List Placed) ℕ → Result (List Placed) EditFault
 fitted (Ok placed) = Ok placed
 fitted (Err i) = Err (Refused (Unfit i))
 
--- The first of all lists of slots from the menu for which there is a layout, without a lead-in or else with one; or why there is none: the
--- first frame up to which there is none.
+-- The first of all lists of slots from the menu for which there is a layout, without a lead-in or
+-- else with one; or why there is none: the first frame up to which there is none.
 abbrev pub rates_plan : PackMode → ClassFields → List Need → Result (List Placed) EditFault
-rates_plan mode class needs = then_made (unless (no_rate mode class) (menu_in mode class)) (λ menu. fitted (least_menu_plan (window_of class.version) menu needs))
+rates_plan mode class needs =
+    then_made (unless (no_rate mode class) (menu_in mode class))
+    (λ menu. fitted (least_menu_plan (window_of class.version) menu needs))
 
 -- a fault of the planner as one of a command
 abbrev pub of_rate : RateFault → EditFault

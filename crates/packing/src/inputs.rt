@@ -1,6 +1,6 @@
 //! The survey of an input that is packed.
 ghost use Rattle.std.specs.Prelude.{◌≡◌};
-ghost use Rattle.packing.specs.Modes.{most_best, allowed_by};
+ghost use Rattle.packing.specs.Modes.{allowed_by};
 ghost use Rattle.packing.specs.Answers.{PackedSurvey};
 
 use commands::{EditFault, MOST_FRAMES, survey_at};
