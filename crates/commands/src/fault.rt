@@ -36,6 +36,9 @@ pub enum Refusal {
     /// The frames from the first number on and before the second aren't in a file with the third number of
     /// frames, or are none.
     Range(u64, u64, u64),
+    /// The samples from the first number on and before the second aren't among those that are played, of which the
+    /// third number is how many, or are none.
+    Span(u64, u64, u64),
     /// No frame of the class has this bit rate, in kbit/s.
     NoRate(u16),
     /// The main data up to this frame, counted from 0, have no room in slots of the bit rates that are

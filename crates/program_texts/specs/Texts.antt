@@ -15,7 +15,7 @@ use Rattle.fade_plan.specs.declared.envelope_fault.EnvelopeFault.TheVariants.{Li
 use Rattle.commands.specs.declared.fault.EditFault.{EditFault}
 use Rattle.commands.specs.declared.fault.EditFault.TheVariants.{EqualNames, Input, Refused, Write, Sent as NotSent, Memory as OutOfMemory}
 use Rattle.commands.specs.declared.fault.Refusal.{Refusal}
-use Rattle.commands.specs.declared.fault.Refusal.TheVariants.{GainRange, Mono, Joint, TagTooLarge, BadTag, NoUndo, BadUndo, UndoRange, OutputTooLong, Range, NoRate, Unfit, Differ, SheetTooLarge, Sheet, Curve, CurveNotRising}
+use Rattle.commands.specs.declared.fault.Refusal.TheVariants.{GainRange, Mono, Joint, TagTooLarge, BadTag, NoUndo, BadUndo, UndoRange, OutputTooLong, Range, Span, NoRate, Unfit, Differ, SheetTooLarge, Sheet, Curve, CurveNotRising}
 
 abbrev pub status_by : Why → ℕ
 status_by Rejected = 1
@@ -80,6 +80,8 @@ refusal_parts (UndoRange sum) inputs = Text (codes "undo sum ") ∷ Signed sum �
 refusal_parts (OutputTooLong length) inputs = Text (codes "output too long, ") ∷ Number length ∷ Text (codes " bytes\n") ∷ []
 refusal_parts (Range from to frames) inputs =
     Text (codes "range ") ∷ Number from ∷ Text (codes " to ") ∷ Number to ∷ Text (codes " of ") ∷ Number frames ∷ Text (codes " frames\n") ∷ []
+refusal_parts (Span from to samples) inputs =
+    Text (codes "range ") ∷ Number from ∷ Text (codes " to ") ∷ Number to ∷ Text (codes " of ") ∷ Number samples ∷ Text (codes " samples\n") ∷ []
 refusal_parts (NoRate rate) inputs = Text (codes "no rate ") ∷ Number rate ∷ Text (codes "\n") ∷ []
 refusal_parts (Unfit frame) inputs = Text (codes "frame ") ∷ Number frame ∷ Text (codes " does not fit\n") ∷ []
 refusal_parts (Differ place) inputs = Name (name_in inputs place) ∷ Text (codes ": other class than the first input\n") ∷ []

@@ -263,6 +263,21 @@ fn range_line<'a>(from: u64, to: u64, frames: u64) -> Line<'a>
     ])
 }
 
+// The same of two places between which there is no sample.
+fn span_line<'a>(from: u64, to: u64, samples: u64) -> Line<'a>
+    ensures { map part_of result.items ≡ refusal_parts_lem (Refusal.Span from to samples) [] }
+{
+    line(&[
+        Part::Text("range "),
+        Part::Number(from),
+        Part::Text(" to "),
+        Part::Number(to),
+        Part::Text(" of "),
+        Part::Number(samples),
+        Part::Text(" samples\n"),
+    ])
+}
+
 // The parts of the line of a fault of the cue sheet with this name. Want of memory isn't a fault of a sheet and never comes here.
 fn sheet_parts<'a>(name: &'a str, fault: &CueFault) -> Line<'a>
     ensures { map part_of result.items ≡ Name name.now ∷ sheet_parts_lem fault.now }
@@ -307,6 +322,7 @@ fn refusal_parts<'a>(refusal: &Refusal, inputs: &[&'a str]) -> Line<'a>
         Refusal::UndoRange(sum) => undo_sum_line(sum),
         Refusal::OutputTooLong(length) => number_line("output too long, ", length, " bytes\n"),
         Refusal::Range(from, to, frames) => range_line(from, to, frames),
+        Refusal::Span(from, to, samples) => span_line(from, to, samples),
         Refusal::NoRate(rate) => number_line("no rate ", u64::from(rate), "\n"),
         Refusal::Unfit(frame) => number_line("frame ", u64::from(frame), " does not fit\n"),
         Refusal::Differ(place) => {
@@ -376,6 +392,7 @@ fn fault_parts<'a>(fault: &EditFault, inputs: &[&'a str], outputs: Outputs<'a>) 
 /// | UndoRange(S) | `undo sum S is out of range` |
 /// | OutputTooLong(N) | `output too long, N bytes` |
 /// | Range(F, T, N) | `range F to T of N frames` |
+/// | Span(F, T, N) | `range F to T of N samples` |
 /// | NoRate(B) | `no rate B` |
 /// | Unfit(I) | `frame I does not fit` |
 /// | Differ | `NAME: other class than the first input` |

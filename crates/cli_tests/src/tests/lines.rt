@@ -39,7 +39,7 @@ static INPUT_LINES: [Line; 14] = table! {
 };
 
 /// All others.
-static LINES: [Line; 15] = table! {
+static LINES: [Line; 16] = table! {
     Line { fault, status, line }
     (EditFault::EqualNames(0), 1, b"a.mp3: input is an output\n")
     (EditFault::Refused(Refusal::Mono), 1, b"one channel only\n")
@@ -55,6 +55,7 @@ static LINES: [Line; 15] = table! {
     (EditFault::Refused(Refusal::GainRange(417, 1, 0, 255)), 1,
         b"gain 255 out of range at 417, granule 1, channel 0\n")
     (EditFault::Refused(Refusal::Range(2, 2, 2)), 1, b"range 2 to 2 of 2 frames\n")
+    (EditFault::Refused(Refusal::Span(0, 3456, 2304)), 1, b"range 0 to 3456 of 2304 samples\n")
     (EditFault::Write(0), 3, b"b.mp3: write fault\n")
     (EditFault::Memory, 4, b"out of memory\n")
 };
