@@ -77,7 +77,7 @@ marks-whole : (file : List ℕ) (head : Option Head) (rows : List Row) (n : ℕ)
 marks-whole file head rows n [] are = tt
 marks-whole file head rows n (r ∷ more) are = (record { frame = are.0.frame; pairs = are.0.pairs }, marks-whole file head rows (n + 1) more are.1)
 
-marked-whole : (file : List ℕ) (head : Option Head) (rows : List Row) → AreWholeRows file rows → AreWholeRows file (marked head rows)
+pub marked-whole : (file : List ℕ) (head : Option Head) (rows : List Row) → AreWholeRows file rows → AreWholeRows file (marked head rows)
 unfolding marked
 marked-whole file head rows are = marks-whole file head rows 0 rows are
 
@@ -178,7 +178,7 @@ module _ (bs : List ℕ) (are : AreBits bs) where
 
 -- ---- a frame with its main data
 
-side_paired : (lost : Bool) (s : Side) → HasPairs s → HasPairs (cond lost no_side s)
+pub side_paired : (lost : Bool) (s : Side) → HasPairs s → HasPairs (cond lost no_side s)
 side_paired true s pairs = record { scfsi = refl; granules = refl; first = refl; second = refl }
 side_paired false s pairs = pairs
 

@@ -4,6 +4,7 @@ use Rattle.std.specs.Prelude.{replicate}
 use Rattle.frame_header.specs.Tables.{class_of, length_of}
 use Rattle.info_header.specs.Info.{info_in, field_in, field_place}
 use Rattle.sync_survey.specs.declared.places.Head.{Head}
+use Rattle.laying.specs.KeptFields.{fields_of_head}
 use Rattle.laying.specs.Written.{head_info}
 
 -- there is no field without a head
@@ -27,3 +28,7 @@ extension-none file head is = sym (ap (λ h. (head_info file h).extension) is �
 pub info-some : (file frame : List ℕ) (all : Option Head) (head : Head) → all ≡ Some head → frame ≡ take (length_of (class_of head.header) head.header.slot) (drop head.offset file) → info_in (drop head.text_at frame) ≡ head_info file all
 unfolding head_info
 info-some file frame all head some is = ap (λ l. info_in (drop head.text_at l)) is ∙ ap (head_info file) (sym some)
+
+pub fields-some : (file frame : List ℕ) (all : Option Head) (head : Head) → all ≡ Some head → frame ≡ take (length_of (class_of head.header) head.header.slot) (drop head.offset file) → Some (info_in (drop head.text_at frame)) ≡ fields_of_head file all
+unfolding head_info
+fields-some file frame all head some is = ap (λ l. Some (info_in (drop head.text_at l))) is ∙ ap (fields_of_head file) (sym some)

@@ -14,7 +14,7 @@ ghost use Rattle.sync_survey.specs.Survey.{IsLaidOut};
 ghost use Rattle.slot_plan.specs.declared.needs.Placed.{Placed as PlacedFields};
 ghost use Rattle.laid_files.specs.LaidFiles.{HasInfoSizes};
 ghost use Rattle.laying.specs.Written.{slot_in, info_for, head_info};
-ghost use Rattle.laying.specs.KeptFields.{KeptAnswer};
+ghost use Rattle.laying.specs.KeptFields.{HeadAnswer, KeptAnswer};
 ghost use Rattle.laying.specs.Surveys.{HasSurvey};
 
 use arrayvec::ArrayVec;
@@ -47,12 +47,11 @@ impl Kept {
         ensures quality { result.quality ≡ (info_in (drop text_at frame.now)).quality }
         ensures extension { result.extension ≡ (info_in (drop text_at frame.now)).extension }
     {
-        let at = (text_at as usize).min(frame.len());
         let Info {
             quality,
             extension,
             ..
-        } = Info::read(&frame[at..]);
+        } = fields_in(frame, text_at);
         Kept { quality, extension }
     }
 }
@@ -113,6 +112,44 @@ pub fn info_bytes(
     let mut info = ArrayVec::new();
     write_info(first, &fields, &mut info);
     info
+}
+
+/// The fields that the bytes of a head's frame have. Its text is at byte `text_at`.
+fn fields_in(frame: &[u8], text_at: u32) -> Info
+    ensures { result ≡ info_in (drop text_at frame.now) }
+{
+    let at = (text_at as usize).min(frame.len());
+    Info::read(&frame[at..])
+}
+
+/// The fields that the head of an input has, and `None` if there is no head. It reads the head's frame, at most 1,441
+/// bytes, and takes no memory. The files stay.
+///
+/// # Errors
+/// Without a head none, else:
+/// - `Read` where a read failed;
+/// - `Shrunk`, the length with which the input was found and the one at which it ended when it was read,
+///   where a read gave no byte before that length. It comes only where the folder doesn't tell its files.
+pub fn head_fields<D: Folder>(
+    folder: &mut D,
+    name: &str,
+    survey: &Survey,
+) -> Result<Option<Info>, PassFault>
+    requires there { IsThere (D.seen folder.old).files name.now }
+    requires laid { IsLaidOut (tells survey.now) }
+    requires exact { OnFile (D.seen folder.old) name.now
+        (λ file. HasSurvey file (tells survey.now)) }
+    ensures { HeadAnswer name.now (tells survey.now) (D.seen folder.old)
+        (D.seen folder.new) result }
+{
+    let Some(head) = survey.head() else {
+        return Ok(None);
+    };
+    let length = head.header.length();
+    let mut room = [0; 1441];
+    let frame = &mut room[..length as usize];
+    read_exact(folder, name, survey.length(), head.offset, frame)?;
+    Ok(Some(fields_in(frame, head.text_at)))
 }
 
 /// The quality and the extension that the head of an input has, and `Kept::none` if there is no head. It

@@ -13,7 +13,7 @@ mod selected;
 mod whole;
 
 pub use buffers::Buffers;
-pub use info::{Kept, info_bytes, info_of, kept_fields};
+pub use info::{Kept, head_fields, info_bytes, info_of, kept_fields};
 pub use info_laws::slots_are_planned;
 pub use laws::{
     asked_plans, blocks_are_kept, entries_hold, files_hold, fitting_files_hold, fitting_slots,
