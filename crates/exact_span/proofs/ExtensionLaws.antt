@@ -1,7 +1,7 @@
 -- Laws of the extension that is written.
 use Rattle.std.proofs.Common.{◌≡◌, ℕ, ◌+◌, ◌<◌, Bool, true, false, cond, List, ◌++◌, length, take, drop, replicate, get_or, ◌||◌, Option, Some, None, refl, ap, ◌∙◌, arith, ◌*◌, ◌/◌, ◌%◌, sym, ap₂}
 use Rattle.std.specs.Prelude.{codes, bytes_eq, IfSome}
-use Rattle.std.proofs.lemmas.List.{take-append-le, take-take, length-take-le, get_or-append-add, get_or-take}
+use Rattle.std.proofs.lemmas.List.{take-append-le, take-take, length-take-le, length-append, length-drop, length-replicate, get_or-append-add, get_or-take}
 use Rattle.info_header.specs.declared.fields.Info.{Info}
 use Rattle.exact_span.specs.Extensions.{has_encoder, delay_in, padding_in, plain, kept, in_three_bytes, extension_of}
 use Rattle.exact_span.specs.Laws.{AreWhole, SaysNumbers}
@@ -77,3 +77,26 @@ pub extension-says : (info : Option Info) (delay padding : ℕ) → IfSome info 
 unfolding extension_of
 extension-says info delay padding whole short small =
     let old = kept-is info whole in says-by (kept info) delay padding old.0 old.1 small
+
+kept-length : (info : Option Info) → IfSome info (λ (i : Info). length i.extension ≡ 36) → length (kept info) ≡ 36
+kept-length None long = plain-length
+kept-length (Some info) long = (kept-if info.extension (has_encoder info.extension) refl long).0
+
+-- it has 36 bytes
+pub extension-length : (info : Option Info) (delay padding : ℕ) → IfSome info (λ (i : Info). length i.extension ≡ 36) → length (extension_of info delay padding) ≡ 36
+unfolding extension_of
+extension-length info delay padding long =
+    let old = kept info in
+    let many = kept-length info long in
+    let rest : List ℕ = take 4 (drop 24 old) ++ replicate 8 0 in
+    omega (
+      arith,
+      length-append (take 21 old) (in_three_bytes delay padding ++ rest),
+      length-append (in_three_bytes delay padding) rest,
+      length-append (take 4 (drop 24 old)) (replicate 8 0),
+      length-take-le 21 old (omega (arith, many)),
+      length-take-le 4 (drop 24 old) (omega (arith, many, length-drop 24 old)),
+      length-drop 24 old,
+      many,
+      length-replicate {A = ℕ} 8 0,
+    )

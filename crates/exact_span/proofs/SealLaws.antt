@@ -202,3 +202,28 @@ frames-sealed first info whole = record {
       ∙ crc-put first (with_length_field info) (record { table = whole.table; extension = field-length info whole });
   says = λ d p. says-front (sealed_info first info).extension info.extension d p (field-front first info whole);
 }
+
+-- the fields of a sealed frame are those that a struct can have
+pub sealed-whole : (first : HeaderFields) (info : Info) → AreWhole info → AreWhole (sealed_info first info)
+sealed-whole first info whole =
+    let extension = (with_length_field info).extension in
+    record {
+      table = whole.table;
+      extension = omega (
+        arith,
+        length-append (take 34 extension) (big_bytes 2 (tag_crc_of first (with_length_field info))),
+        length-take-le 34 extension (omega (arith, field-length info whole)),
+      );
+    }
+
+-- where the extension is in an Info frame
+pub extension-there : (first : HeaderFields) (info : Info) → AreWhole info → take 36 (drop (text_place (class_of first) + 120) (info_frame first info)) ≡ info.extension
+unfolding framed
+extension-there first info whole =
+    let front = front_of first ++ head_of info in
+    ap (λ (l : List ℕ). take 36 (drop (text_place (class_of first) + 120) l)) (frame-parts first info info.extension)
+    ∙ ap (λ (l : List ℕ). take 36 l)
+    (drop-behind front _ 108 (text_place (class_of first) + 120) (omega (arith, front-place first info))
+    ∙ drop-behind (number_of info) _ 104 108 (omega (arith, number-length info))
+    ∙ drop_at (tail_of info) _ 104 (tail-length info whole))
+    ∙ take_at info.extension (rest_of first) 36 whole.extension
