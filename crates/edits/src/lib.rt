@@ -9,6 +9,7 @@
 //! | `gain`, `undo` | `gain_edits` | moves the gains of a file; undoes the changes that the file's tag lists |
 //! | `fade` | `fading` | moves the gains of a file by a curve over its frames |
 //! | `cut`, `pack` | `frame_edits` | lays the frames between two positions, or all, anew in one file |
+//! | `cut_exact` | `frame_edits` | lays the frames that a decoder needs for some samples anew, with a head by which players play exactly these |
 //! | `pack_with` | `packing` | packs in a mode: with the least slots, one bit rate alone, bit rates from one on, or the fewest bytes |
 //! | `split` | `splitting` | lays the frames between positions anew, a file for each piece |
 //! | `join` | `joining` | lays the frames of several files anew in one |
@@ -18,7 +19,7 @@
 
 pub use commands::{EditFault, MOST_FRAMES, Refusal};
 pub use fading::{fade, fade_gives_back, fade_keeps_all};
-pub use frame_edits::{cut, pack};
+pub use frame_edits::{cut, cut_exact, pack};
 pub use gain_edits::{gain, gains_keep_all, opposite_gives_back, undo, undo_gives_back};
 pub use joining::join;
 pub use listing::list;

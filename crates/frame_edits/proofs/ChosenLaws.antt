@@ -55,7 +55,7 @@ pub record IsRight (chosen : Chosen) (s : SurveyFields) : Type 0 where
   pub within : chosen.to ≤ length s.frames
   pub extension : length chosen.extension ≡ 36
 
-usual_slots : (choices : HeaderFields → List SlotFields) → AreUsual choices → AreSlots choices
+pub usual_slots : (choices : HeaderFields → List SlotFields) → AreUsual choices → AreSlots choices
 usual_slots choices (inl own) h slot is has = subst IsSlot (only_one h.slot slot (subst (λ (f : HeaderFields → List SlotFields). Contains (f h) slot) own has)) is.slot
 usual_slots choices (inr any) h slot is has = slot_among slot (subst (λ (f : HeaderFields → List SlotFields). Contains (f h) slot) any has)
 
@@ -67,7 +67,7 @@ pub by_usual : (least : Bool) → AreUsual (choices_by least)
 by_usual true = inr refl
 by_usual false = inl refl
 
-headers-known : (rows : List Row) → AreKnown rows → AreHeaders (map need_of rows)
+pub headers-known : (rows : List Row) → AreKnown rows → AreHeaders (map need_of rows)
 headers-known [] known = tt
 headers-known (r ∷ rows) known = (known.0, headers-known rows known.1)
 
@@ -227,7 +227,7 @@ module _ (choose : Choosing) (plan : Planning) where
 abbrev no_fault : Option Refusal
 no_fault = None
 
-outside-none : (from to frames : ℕ) (b : Bool) → (nat_lt from to && nat_le to frames) ≡ b → cond b None (Some (Range from to frames)) ≡ no_fault → (from < to) × (to ≤ frames)
+pub outside-none : (from to frames : ℕ) (b : Bool) → (nat_lt from to && nat_le to frames) ≡ b → cond b None (Some (Range from to frames)) ≡ no_fault → (from < to) × (to ≤ frames)
 outside-none from to frames true is e = search rules
 outside-none from to frames false is e = absurd cc
 
@@ -255,7 +255,7 @@ info-extension bytes =
     let rest = drop (field_place (flags_in bytes) 4) bytes in
     omega (arith, length-take 36 (rest ++ replicate 36 0), length-append rest (replicate 36 0))
 
-head-extension : (file : List ℕ) (head : Option Head) → length (head_info file head).extension ≡ 36
+pub head-extension : (file : List ℕ) (head : Option Head) → length (head_info file head).extension ≡ 36
 unfolding head_info
 head-extension file None = info-extension []
 head-extension file (Some head) = info-extension (drop head.text_at (take (length_of (class_of head.header) head.header.slot) (drop head.offset file)))

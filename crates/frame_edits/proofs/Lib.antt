@@ -1,3 +1,8 @@
 -- The lemmas of this crate.
 pub mod LaidPass
 pub mod ChosenLaws
+pub mod HeadLaws
+pub mod SpanLaws
+pub mod SealedLaws
+pub mod PieceLaws
+pub mod PlayLaws

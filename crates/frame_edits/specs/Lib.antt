@@ -2,3 +2,5 @@
 pub mod Chosen
 pub mod Layable
 pub mod Choices
+pub mod Exact
+pub mod ExactLaws

@@ -1,12 +1,16 @@
-//! The commands `cut` and `pack` over a folder.
+//! The commands `cut`, `pack` and `cut_exact` over a folder.
 ghost use Rattle.cue_sheet.specs.Places.{IsPlace};
+ghost use Rattle.exact_span.specs.Places.{IsExactPlace};
 ghost use Rattle.commands.specs.Runs.{IsRunOf};
 ghost use Rattle.frame_edits.specs.Chosen.{cut_command, pack_command};
+ghost use Rattle.frame_edits.specs.Exact.{exact_command};
 
 use crate::choice::Choice;
 use crate::edit::FrameEdit;
+use crate::exact_edit::ExactEdit;
 use commands::{EditFault, make_one};
 use cue_sheet::Place;
+use exact_span::ExactPlace;
 use outside::Folder;
 use std::alloc::Global;
 
@@ -72,5 +76,44 @@ pub fn pack<D: Folder>(
         choice: Choice::All,
         least: true,
     };
+    make_one(alloc, folder, &edit, output)
+}
+
+/// Writes the output, by which players play exactly the samples of the input from the place `from` up to, but not including,
+/// `to`: the input's ID3v2 blocks before its first frame or head, an Info frame, the frames that a decoder needs for these samples,
+/// each with its own bit rate and padding and with all main data, and all other blocks.
+///
+/// The samples are those that players play of the input: without the encoder's delay and the padding that its head says. The
+/// frames are those from the one on in which the position 1,056 samples before the first chosen sample is, so that the decoder's
+/// overlap and its filterbank have what they need, up to that of the last chosen sample. A lead-in, one silent frame, comes before
+/// them where their main data need more room than they have themselves, and where the first chosen sample is among the first 529
+/// positions of the input, since a decoder is late by as many. The Info frame has the quality of the input's head and an extension
+/// with encoder delay and padding, music length and tag CRC; of that of the head all else is kept where an encoder wrote it that
+/// says these numbers, and else it has the name LAME.
+///
+/// The area of the head isn't main data here, since players leave it out: a frame whose main data begin in it, before which
+/// every frame is silent or lost, is lost too.
+///
+/// # Errors
+/// In this order: `EqualNames(0)` where the names are equal, byte for byte; `Input(0, ..)` with the fault of the survey of
+/// the input, of which 2,900,000 frames are allowed; `Span` with the numbers of the two samples and that of all that are played
+/// where there is no sample between the places, or where the second is after the end. After these nothing was created. For all
+/// other answers see `cut`.
+pub fn cut_exact<D: Folder>(
+    alloc: Global,
+    folder: &mut D,
+    input: &str,
+    from: &ExactPlace,
+    to: &ExactPlace,
+    output: &str,
+) -> Result<(), EditFault>
+    requires from { IsExactPlace from.now }
+    requires to { IsExactPlace to.now }
+    // The input is well-formed, and the output holds at most one lead-in and then exactly the frames of the span.
+    ensures { IsRunOf (exact_command from.now to.now input.now output.now)
+        (D.seen folder.old)
+        (D.seen folder.new) result }
+{
+    let edit = ExactEdit { input, from, to };
     make_one(alloc, folder, &edit, output)
 }

@@ -1,16 +1,24 @@
-//! The commands that lay chosen frames of a file anew in another: `cut` and `pack`.
+//! The commands that lay chosen frames of a file anew in another: `cut`, `cut_exact` and `pack`.
 #![tactic(auto)]
 
+mod apart;
 mod calls;
 mod choice;
 mod chosen;
 mod edit;
+mod exact_edit;
+mod laws;
+mod pieces;
 mod plans;
+mod spans;
 mod work;
 
-pub use calls::{cut, pack};
+pub use calls::{cut, cut_exact, pack};
 pub use choice::{Choice, all_choice};
 pub use chosen::{Chosen, choose};
 pub use edit::FrameEdit;
+pub use laws::pieces_play_their_samples;
+pub use pieces::select_piece;
 pub use plans::{chosen_parts, plan_file};
+pub use spans::find_span;
 pub use work::Work;

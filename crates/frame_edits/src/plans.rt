@@ -29,7 +29,7 @@ pub fn chosen_parts(alloc: Global, survey: &Survey, chosen: &Chosen) -> Result<P
 }
 
 /// The plan of chosen frames by a policy.
-fn plan_by<P: Policy>(
+pub(crate) fn plan_by<P: Policy>(
     alloc: Global,
     survey: &Survey,
     chosen: &Chosen,
