@@ -26,4 +26,4 @@ pub use listing::list;
 pub use moved_gains::{Channels, Shift, Steps, Stuck};
 pub use packing::{PackMode, fewest_bytes, floors_fit, never_longer, pack_with};
 pub use salvaging::salvage;
-pub use splitting::{Points, split};
+pub use splitting::{ExactPoints, Points, split, split_exact};

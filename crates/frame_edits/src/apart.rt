@@ -7,7 +7,7 @@ use sync_survey::Survey;
 
 /// Sets the head apart from the stream, as players do: a frame whose main data begin in the head's area is lost too, if every
 /// frame before it is silent or lost. All lost frames are empty then.
-pub(crate) fn set_apart(survey: &mut Survey)
+pub fn set_apart(survey: &mut Survey)
     ensures { tells survey.new ≡ apart (tells survey.old) }
 {
     survey.head_apart();

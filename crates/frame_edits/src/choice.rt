@@ -29,7 +29,7 @@ pub enum Choice<'a> {
 
 /// The frames between two positions: `Range` where there is none, or where the second is after the end of the file.
 #[tactic(auto, unfolding(crate::specs::Chosen::cut_choice))]
-fn cut_choice(survey: &Survey, from: &Place, to: &Place) -> Result<Chosen, EditFault>
+pub fn cut_choice(survey: &Survey, from: &Place, to: &Place) -> Result<Chosen, EditFault>
     requires from { IsPlace from.now }
     requires to { IsPlace to.now }
     requires few { length (tells survey.now).frames ≤ most_frames }

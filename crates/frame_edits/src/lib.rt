@@ -13,8 +13,9 @@ mod plans;
 mod spans;
 mod work;
 
+pub use apart::set_apart;
 pub use calls::{cut, cut_exact, pack};
-pub use choice::{Choice, all_choice};
+pub use choice::{Choice, all_choice, cut_choice};
 pub use chosen::{Chosen, choose};
 pub use edit::FrameEdit;
 pub use laws::pieces_play_their_samples;

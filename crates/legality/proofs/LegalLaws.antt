@@ -39,7 +39,7 @@ use Rattle.legality.specs.Laws.{Makes, LegalIsAccepted}
 use Rattle.legality.proofs.InputLaws.{no-clash_apart, apart_no-clash, survey-whole, whole-survey, IsOne, one-of, one-survey, survey-input}
 use Rattle.legality.proofs.GainLaws.{gain-legal, legal-gain, undo-legal, legal-undo, with-parts}
 use Rattle.legality.proofs.FadeLaws.{fade-legal, legal-fade}
-use Rattle.legality.proofs.SplitLaws.{cut-range, range-cut, pieces-chosen, split-pieces, parts-split}
+use Rattle.legality.proofs.SplitLaws.{cut-range, range-cut, frames-range, range-frames, laid-pieces, pieces-laid, parts-split}
 use Rattle.legality.proofs.PackLaws.{planned-made, constant-legal, legal-constant, floor-legal, legal-floor}
 use Rattle.legality.proofs.JoinLaws.{parts-joined, joined-parts}
 use Rattle.legality.proofs.SalvageLaws.{salvage-law}
@@ -289,8 +289,8 @@ split-at-law : (files : Contents) (input prefix : List ℕ) (places : List Place
 split-at-law files input prefix places = (
   (λ legal.
       let one = one-of (λ i. ArePieces i.survey places) files input most_frames legal.inputs legal.are legal.few legal.choices in
-      let cs = pieces-chosen one.input.survey.class (length one.input.survey.frames) places one.choice in
-      parts-split files prefix input (given places) [] (apart_no-clash (piece_names prefix) (input ∷ []) 0 legal.names)
+      let ls = pieces-laid (given places) one.input.bytes one.input.survey (IsRange one.input.survey) (λ from to is. range-frames from to one.input.bytes one.input.survey is) places one.choice in
+      parts-split (given places) files prefix input (apart_no-clash (piece_names prefix) (input ∷ []) 0 legal.names)
       (record {
         file = one.input.bytes;
         survey = one.input.survey;
@@ -298,11 +298,11 @@ split-at-law files input prefix places = (
         surveyed = one-survey (λ i. ArePieces i.survey places) files input most_frames one;
         found = places;
         placed = refl;
-        chosen = cs.0;
-        picked = cs.1;
+        laid = ls.0;
+        picked = ls.1;
       })),
   (λ made.
-      let parts = split-parts files prefix input (given places) [] made.0 made.1 in
+      let parts = split-parts (given places) files prefix input made.0 made.1 in
       let is = parts.1.0 in
       let whole = survey-whole is.file most_frames is.survey is.surveyed in
       let same : is.found ≡ places = given-found places is.found is.placed in
@@ -311,7 +311,7 @@ split-at-law files input prefix places = (
         inputs = record { bytes = is.file; survey = is.survey } ∷ [];
         are = (survey-input files input is.file most_frames is.survey is.there is.surveyed, tt);
         few = few-one (length is.survey.frames) most_frames whole.few;
-        choices = subst (ArePieces is.survey) same (split-pieces files input (Ok places) is);
+        choices = subst (ArePieces is.survey) same (laid-pieces (given places) is.file is.survey (IsRange is.survey) (λ from to laid e. frames-range from to is.file is.survey laid e) is.found is.laid is.picked);
       }),
 )
 
@@ -320,8 +320,8 @@ split-by-law files input prefix sheet = (
   (λ legal.
       let one = one-of (IsLegalSheet sheet files) files input most_frames legal.inputs legal.are legal.few legal.choices in
       let cue = one.choice in
-      let cs = pieces-chosen one.input.survey.class (length one.input.survey.frames) (cue.starts ++ End ∷ []) cue.pieces in
-      parts-split files prefix input (told_by sheet) (sheet ∷ []) (apart_no-clash (piece_names prefix) (input ∷ sheet ∷ []) 0 legal.names)
+      let ls = pieces-laid (told_by sheet) one.input.bytes one.input.survey (IsRange one.input.survey) (λ from to is. range-frames from to one.input.bytes one.input.survey is) (cue.starts ++ End ∷ []) cue.pieces in
+      parts-split (told_by sheet) files prefix input (apart_no-clash (piece_names prefix) (input ∷ sheet ∷ []) 0 legal.names)
       (record {
         file = one.input.bytes;
         survey = one.input.survey;
@@ -329,11 +329,11 @@ split-by-law files input prefix sheet = (
         surveyed = one-survey (IsLegalSheet sheet files) files input most_frames one;
         found = cue.starts ++ End ∷ [];
         placed = parts-cue (files sheet) (cue.starts ++ End ∷ []) (record { bytes = cue.bytes; there = cue.there; small = cue.small; starts = cue.starts; read = cue.read; all = refl });
-        chosen = cs.0;
-        picked = cs.1;
+        laid = ls.0;
+        picked = ls.1;
       })),
   (λ made.
-      let parts = split-parts files prefix input (told_by sheet) (sheet ∷ []) made.0 made.1 in
+      let parts = split-parts (told_by sheet) files prefix input made.0 made.1 in
       let is = parts.1.0 in
       let whole = survey-whole is.file most_frames is.survey is.surveyed in
       let cue = cue-parts (files sheet) is.found is.placed in
@@ -342,7 +342,7 @@ split-by-law files input prefix sheet = (
         inputs = record { bytes = is.file; survey = is.survey } ∷ [];
         are = (survey-input files input is.file most_frames is.survey is.there is.surveyed, tt);
         few = few-one (length is.survey.frames) most_frames whole.few;
-        choices = record { bytes = cue.bytes; there = cue.there; small = cue.small; starts = cue.starts; read = cue.read; pieces = subst (ArePieces is.survey) (sym cue.all) (split-pieces files input (places_where (files sheet)) is) };
+        choices = record { bytes = cue.bytes; there = cue.there; small = cue.small; starts = cue.starts; read = cue.read; pieces = subst (ArePieces is.survey) (sym cue.all) (laid-pieces (told_by sheet) is.file is.survey (IsRange is.survey) (λ from to laid e. frames-range from to is.file is.survey laid e) is.found is.laid is.picked) };
       }),
 )
 

@@ -12,7 +12,7 @@ use Rattle.commands.specs.declared.fault.EditFault.TheVariants.{EqualNames, Inpu
 use Rattle.commands.specs.Kinds.{InputKind, IsAbsent, kind_of, by_kind}
 use Rattle.commands.specs.One.{Task, made_result, made_of, one_command}
 use Rattle.commands.specs.Command.{Made, Command, clash_of, written, Gives}
-use Rattle.splitting.specs.Split.{Placing, split_command}
+use Rattle.splitting.specs.Cutting.{Cutting, split_command}
 use Rattle.splitting.proofs.PartsLaws.{split-parts}
 use Rattle.drill.specs.Drilled.{IsDrillFault}
 use Rattle.commands.specs.Said.{IsText, Says, fault_of}
@@ -268,8 +268,8 @@ one_silent task output = record { always = refl; silent = λ f made is. sym (ap 
 
 -- ---- a command that splits a file
 
-pub split_silent : (prefix : List ℕ) (placing : Placing) (more : List (List ℕ)) (input : List ℕ) → IsSilent (split_command placing more input prefix)
-split_silent prefix placing more input = record { always = refl; silent = λ f made is. sym (ap (λ (made : Made). made.text) (split-parts f prefix input placing more made is).1.1) }
+pub split_silent : {P : Type 0} (cut : Cutting P) (prefix input : List ℕ) → IsSilent (split_command cut input prefix)
+split_silent cut prefix input = record { always = refl; silent = λ f made is. sym (ap (λ (made : Made). made.text) (split-parts cut f prefix input made is).1.1) }
 
 -- ---- a text that is said
 

@@ -3,14 +3,12 @@ use Rattle.std.proofs.Common.{◌≡◌, ◌≢◌, ℕ, zero, suc, ◌+◌, ◌
 use Rattle.std.specs.Prelude.{IfOk}
 use Rattle.std.specs.List.{range_with_len}
 use Rattle.std.proofs.Math.Seq.{drop-append_seam}
-use Rattle.std.proofs.lemmas.List.{length-map}
 use Rattle.outside.specs.Files.{Contents, Files, with_file, IfTold}
 use Rattle.outside.proofs.FilesLaws.{with_file_here, with_file_other}
 use Rattle.frame_header.specs.Fields.{ClassFields}
 use Rattle.outside.specs.Seen.{Heard, Seen}
 use Rattle.cue_sheet.specs.declared.place.Place.{Place}
 use Rattle.cue_sheet.specs.declared.place.Place.TheVariants.{End}
-use Rattle.cue_sheet.specs.Places.{frame_at}
 use Rattle.cue_sheet.specs.Cues.{cue_of, entries_of}
 use Rattle.cue_sheet.proofs.StartsLaws.{starts-few}
 use Rattle.sync_survey.specs.MainData.{StreamFrame}
@@ -21,14 +19,15 @@ use Rattle.commands.specs.One.{Task, made_result, one_command}
 use Rattle.commands.specs.Telling.{with_text}
 use Rattle.salvaging.specs.Salvaged.{text_where, salvage_task}
 use Rattle.commands.proofs.RefusingLaws.{then_ok}
-use Rattle.frame_edits.specs.Chosen.{Chosen}
+use Rattle.laying.specs.Laid.{Laid}
 use Rattle.job_words.specs.Asked.{Asked, Help, Version, ListFile, Gain, Undo, Cut, Pack, SplitAt, SplitBy, Join, Drill, Fade, Salvage}
 use Rattle.job_words.specs.Words.{job_of, IsSound}
 use Rattle.joining.specs.Join.{join_task}
 use Rattle.fading.specs.Fade.{fade_task}
 use Rattle.packing.specs.Modes.{pack_task}
 use Rattle.piece_names.specs.Names.{piece_name, piece_names}
-use Rattle.splitting.specs.Split.{frames_between, with_first, chosen_from, chosen_at, pieces_from, places_where, Placing, split_command, given, told_by}
+use Rattle.splitting.specs.Cutting.{Cutting, with_first, laid_from, laid_at, pieces_from, split_command}
+use Rattle.splitting.specs.Split.{places_where, given, told_by}
 use Rattle.splitting.proofs.PartsLaws.{split-parts, cue-parts}
 use Rattle.mp3_cli.proofs.RunLaws.{files_where_done, if_told, one_made}
 use Rattle.exact_streams.specs.Chosen.{Frames, ConsistsOf, AllConsistOf, chosen_of}
@@ -79,44 +78,44 @@ names-differ prefix j k less most same =
     omega (arith, less, most, tens, ones)
 
 module _ (prefix file : List ℕ) (s : SurveyFields) where
-  later-differ : (j k : ℕ) (chosen : List Chosen) → j < k → k + length chosen ≤ 100 → HasNone (piece_name prefix j) (pieces_from prefix k file s chosen)
+  later-differ : (j k : ℕ) (laid : List Laid) → j < k → k + length laid ≤ 100 → HasNone (piece_name prefix j) (pieces_from prefix k file s laid)
   later-differ j k [] less most = tt
-  later-differ j k (c ∷ cs) less most = (names-differ prefix j k less (omega (arith, most)), later-differ j (k + 1) cs (omega (arith, less)) (omega (arith, most)))
+  later-differ j k (l ∷ ls) less most = (names-differ prefix j k less (omega (arith, most)), later-differ j (k + 1) ls (omega (arith, less)) (omega (arith, most)))
 
-  pieces-named : (k n : ℕ) (chosen : List Chosen) → length chosen ≤ n → k + length chosen ≤ 100 → AreNamed (map (piece_name prefix) (range_with_len k n)) (pieces_from prefix k file s chosen)
+  pieces-named : (k n : ℕ) (laid : List Laid) → length laid ≤ n → k + length laid ≤ 100 → AreNamed (map (piece_name prefix) (range_with_len k n)) (pieces_from prefix k file s laid)
   pieces-named k n [] few most = tt
-  pieces-named k zero (c ∷ cs) few most = absurd (omega (arith, few))
-  pieces-named k (suc n) (c ∷ cs) few most = (refl, later-differ k (k + 1) cs (omega arith) (omega (arith, most)), pieces-named (k + 1) n cs (omega (arith, few)) (omega (arith, most)))
+  pieces-named k zero (l ∷ ls) few most = absurd (omega (arith, few))
+  pieces-named k (suc n) (l ∷ ls) few most = (refl, later-differ k (k + 1) ls (omega arith) (omega (arith, most)), pieces-named (k + 1) n ls (omega (arith, few)) (omega (arith, most)))
 
-all-named : (prefix file : List ℕ) (s : SurveyFields) (chosen : List Chosen) → length chosen ≤ 99 → AreNamed (piece_names prefix) (pieces_from prefix 1 file s chosen)
+all-named : (prefix file : List ℕ) (s : SurveyFields) (laid : List Laid) → length laid ≤ 99 → AreNamed (piece_names prefix) (pieces_from prefix 1 file s laid)
 unfolding piece_names
-all-named prefix file s chosen few = pieces-named prefix file s 1 99 chosen few (omega (arith, few))
+all-named prefix file s laid few = pieces-named prefix file s 1 99 laid few (omega (arith, few))
 
 -- there are at most 99 pieces
-first-parts : (first : Chosen) (r : Result (List Chosen) EditFault) (cs : List Chosen) → with_first first r ≡ Ok cs → (more : List Chosen) × (r ≡ Ok more) × (length cs ≡ suc (length more))
-first-parts first (Ok more) cs e = let same : first ∷ more ≡ cs = cc in (more, refl, ap length (sym same))
-first-parts first (Err fault) cs e = absurd cc
+first-parts : (first : Laid) (r : Result (List Laid) EditFault) (ls : List Laid) → with_first first r ≡ Ok ls → (more : List Laid) × (r ≡ Ok more) × (length ls ≡ suc (length more))
+first-parts first (Ok more) ls e = let same : first ∷ more ≡ ls = cc in (more, refl, ap length (sym same))
+first-parts first (Err fault) ls e = absurd cc
 
-module _ (class : ClassFields) (frames : ℕ) where
-  from-few : (from : ℕ) (tos : List ℕ) (cs : List Chosen) → chosen_from frames from tos ≡ Ok cs → length cs ≤ length tos
-  from-few from [] cs e = let none : [] ≡ cs = cc in subst (λ (l : List Chosen). length l ≤ 0) none (omega arith)
-  from-few from (to ∷ tos) cs e =
-      let one = then_ok (frames_between frames from to) (λ first. with_first first (chosen_from frames to tos)) cs e in
-      let more = first-parts one.0 (chosen_from frames to tos) cs one.2 in
-      omega (arith, from-few to tos more.0 more.1, more.2)
+module _ {P : Type 0} (cut : Cutting P) where
+  module _ (file : List ℕ) (s : SurveyFields) where
+    from-few : (from : P) (tos : List P) (ls : List Laid) → laid_from cut file s from tos ≡ Ok ls → length ls ≤ length tos
+    from-few from [] ls e = let none : [] ≡ ls = cc in subst (λ (l : List Laid). length l ≤ 0) none (omega arith)
+    from-few from (to ∷ tos) ls e =
+        let one = then_ok (cut.between from to file s) (λ first. with_first first (laid_from cut file s to tos)) ls e in
+        let more = first-parts one.0 (laid_from cut file s to tos) ls one.2 in
+        omega (arith, from-few to tos more.0 more.1, more.2)
 
-  at-few : (places : List Place) (cs : List Chosen) → chosen_at class frames places ≡ Ok cs → length places ≤ 100 → length cs ≤ 99
-  at-few [] cs e most = let none : [] ≡ cs = cc in subst (λ (l : List Chosen). length l ≤ 99) none (omega arith)
-  at-few (place ∷ places) cs e most =
-      omega (arith, from-few (frame_at class frames place) (map (frame_at class frames) places) cs e, length-map places (frame_at class frames), most)
+    at-few : (places : List P) (ls : List Laid) → laid_at cut file s places ≡ Ok ls → length places ≤ 100 → length ls ≤ 99
+    at-few [] ls e most = let none : [] ≡ ls = cc in subst (λ (l : List Laid). length l ≤ 99) none (omega arith)
+    at-few (place ∷ places) ls e most = omega (arith, from-few place places ls e, most)
 
-module _ (placing : Placing) (more : List (List ℕ)) (input prefix : List ℕ) (f : Contents) (few : (places : List Place) → placing.places f ≡ Ok places → length places ≤ 100) where
-  pub split-named : (made : Made) → (split_command placing more input prefix).makes f ≡ Ok made → AreNamed (piece_names prefix) made.outputs
-  split-named made e =
-      let parts = (split-parts f prefix input placing more made e).1 in
-      let is = parts.0 in
-      subst (λ (m : Made). AreNamed (piece_names prefix) m.outputs) parts.1
-      (all-named prefix is.file is.survey is.chosen (at-few is.survey.class (length is.survey.frames) is.found is.chosen is.picked (few is.found is.placed)))
+  module _ (input prefix : List ℕ) (f : Contents) (few : (places : List P) → cut.places f ≡ Ok places → length places ≤ 100) where
+    pub split-named : (made : Made) → (split_command cut input prefix).makes f ≡ Ok made → AreNamed (piece_names prefix) made.outputs
+    split-named made e =
+        let parts = (split-parts cut f prefix input made e).1 in
+        let is = parts.0 in
+        subst (λ (m : Made). AreNamed (piece_names prefix) m.outputs) parts.1
+        (all-named prefix is.file (cut.survey is.survey) is.laid (at-few is.file is.survey is.found is.laid is.picked (few is.found is.placed)))
 
 -- ---- the other commands
 
@@ -154,10 +153,10 @@ there (Cut from to least input output) f made sound e holds = frames-there (Cut 
 there (Pack mode input output) f made sound e holds = frames-there (Pack mode input output) f made holds (one-named (pack_task mode input) output f made e) (streams-chosen.pack mode input output f made e)
 there (SplitAt input prefix places) f made sound e holds =
     frames-there (SplitAt input prefix places) f made holds
-    (split-named (given places) [] input prefix f (λ found is. let same : places ≡ found = cc in subst (λ (l : List Place). length l ≤ 100) same sound.2.few) made e)
+    (split-named (given places) input prefix f (λ found is. let same : places ≡ found = cc in subst (λ (l : List Place). length l ≤ 100) same sound.2.few) made e)
     (streams-chosen.split_at input prefix places f made e)
 there (SplitBy input prefix sheet) f made sound e holds =
-    frames-there (SplitBy input prefix sheet) f made holds (split-named (told_by sheet) (sheet ∷ []) input prefix f (told-few (f sheet)) made e) (streams-chosen.split_by input prefix sheet f made e)
+    frames-there (SplitBy input prefix sheet) f made holds (split-named (told_by sheet) input prefix f (told-few (f sheet)) made e) (streams-chosen.split_by input prefix sheet f made e)
 there (Join output inputs) f made sound e holds = frames-there (Join output inputs) f made holds (one-named (join_task inputs) output f made e) (streams-chosen.join output inputs f made e)
 there (Fade back input output sheet) f made sound e holds = frames-there (Fade back input output sheet) f made holds (one-named (fade_task sheet back input) output f made e) (streams-chosen.fade back input output sheet f made e)
 there (Salvage input output) f made sound e holds =

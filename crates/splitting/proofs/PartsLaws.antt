@@ -15,9 +15,10 @@ use Rattle.commands.specs.Refusing.{then_made}
 use Rattle.commands.specs.Sheet.{longest_sheet, sheet_in}
 use Rattle.commands.proofs.RefusingLaws.{then_ok}
 use Rattle.commands.proofs.FoundSheet.{sheet-is, is-sheet}
-use Rattle.frame_edits.specs.Chosen.{Chosen}
+use Rattle.laying.specs.Laid.{Laid}
 use Rattle.piece_names.specs.Names.{piece_names}
-use Rattle.splitting.specs.Split.{chosen_at, pieces_from, made_of, made_at, made_by, made_where, unless_equal, made_result, Placing, split_command, with_end, places_where}
+use Rattle.splitting.specs.Cutting.{Cutting, laid_at, pieces_from, made_of, made_at, made_by, made_where, unless_equal, made_result, split_command}
+use Rattle.splitting.specs.Split.{with_end, places_where}
 
 -- ---- the pieces
 
@@ -27,47 +28,46 @@ of_made made = Ok made
 ok-made : (a b : Made) → of_made a ≡ of_made b → a ≡ b
 ok-made a b e = cc
 
-pub record IsSplit (files : Contents) (input : List ℕ) (places : Result (List Place) EditFault) : Type 0 where
+pub record IsSplit {P : Type 0} (cut : Cutting P) (files : Contents) (input : List ℕ) : Type 0 where
   pub file : List ℕ
   pub survey : SurveyFields
   pub there : files input ≡ Some file
   pub surveyed : survey_of file most_frames ≡ Ok survey
-  pub found : List Place
-  pub placed : places ≡ Ok found
-  pub chosen : List Chosen
-  pub picked : chosen_at survey.class (length survey.frames) found ≡ Ok chosen
+  pub found : List P
+  pub placed : cut.places files ≡ Ok found
+  pub laid : List Laid
+  pub picked : laid_at cut file survey found ≡ Ok laid
 
 -- the pieces
-abbrev pub made_in : (files : Contents) (prefix input : List ℕ) (places : Result (List Place) EditFault) → IsSplit files input places → Made
-made_in files prefix input places is = record { outputs = pieces_from prefix 1 is.file is.survey is.chosen; text = [] }
+abbrev pub made_in : {P : Type 0} (cut : Cutting P) (files : Contents) (prefix input : List ℕ) → IsSplit cut files input → Made
+made_in cut files prefix input is = record { outputs = pieces_from prefix 1 is.file (cut.survey is.survey) is.laid; text = [] }
 
-module _ (files : Contents) (prefix input : List ℕ) where
+module _ {P : Type 0} (cut : Cutting P) (files : Contents) (prefix input : List ℕ) where
   -- these pieces are what was made
-  abbrev pub Splits : Result (List Place) EditFault → Made → Type 0
-  Splits places made = (is : IsSplit files input places) × (made_in files prefix input places is ≡ made)
+  abbrev pub Splits : Made → Type 0
+  Splits made = (is : IsSplit cut files input) × (made_in cut files prefix input is ≡ made)
 
-  placed-parts : (places : Result (List Place) EditFault) (file : List ℕ) (s : SurveyFields) (made : Made) → files input ≡ Some file → survey_of file most_frames ≡ Ok s → then_made places (made_at prefix file s) ≡ Ok made → Splits places made
-  placed-parts places file s made there surveyed e =
-      let one = then_ok places (made_at prefix file s) made e in
-      let two = then_ok (chosen_at s.class (length s.frames) one.0) (made_of prefix file s) made one.2 in
-      (record { file = file; survey = s; there = there; surveyed = surveyed; found = one.0; placed = one.1; chosen = two.0; picked = two.1 }, ok-made _ made two.2)
+  placed-parts : (file : List ℕ) (s : SurveyFields) (made : Made) → files input ≡ Some file → survey_of file most_frames ≡ Ok s → then_made (cut.places files) (made_at cut prefix file s) ≡ Ok made → Splits made
+  placed-parts file s made there surveyed e =
+      let one = then_ok (cut.places files) (made_at cut prefix file s) made e in
+      let two = then_ok (laid_at cut file s one.0) (made_of prefix file (cut.survey s)) made one.2 in
+      (record { file = file; survey = s; there = there; surveyed = surveyed; found = one.0; placed = one.1; laid = two.0; picked = two.1 }, ok-made _ made two.2)
 
-  where-parts : (places : Result (List Place) EditFault) (o : Option (List ℕ)) (made : Made) → files input ≡ o → made_where prefix places o ≡ Ok made → Splits places made
-  where-parts places None made there e = absurd cc
-  where-parts places (Some file) made there e = at (survey_of file most_frames) refl e
+  where-parts : (o : Option (List ℕ)) (made : Made) → files input ≡ o → made_where cut prefix (cut.places files) o ≡ Ok made → Splits made
+  where-parts None made there e = absurd cc
+  where-parts (Some file) made there e = at (survey_of file most_frames) refl e
     where
-      at : (r : Result SurveyFields SurveyFault) → survey_of file most_frames ≡ r → made_by prefix places file r ≡ Ok made → Splits places made
+      at : (r : Result SurveyFields SurveyFault) → survey_of file most_frames ≡ r → made_by cut prefix (cut.places files) file r ≡ Ok made → Splits made
       at (Err fault) surveyed e = absurd cc
-      at (Ok s) surveyed e = placed-parts places file s made there surveyed e
+      at (Ok s) surveyed e = placed-parts file s made there surveyed e
 
-  equal-parts : (clash : Option ℕ) (places : Result (List Place) EditFault) (made : Made) → unless_equal clash (made_where prefix places (files input)) ≡ Ok made → (clash ≡ None) × Splits places made
-  equal-parts (Some place) places made e = absurd cc
-  equal-parts None places made e = (refl, where-parts places (files input) made refl e)
+  equal-parts : (clash : Option ℕ) (made : Made) → unless_equal clash (made_where cut prefix (cut.places files) (files input)) ≡ Ok made → (clash ≡ None) × Splits made
+  equal-parts (Some place) made e = absurd cc
+  equal-parts None made e = (refl, where-parts (files input) made refl e)
 
-  pub split-parts : (placing : Placing) (more : List (List ℕ)) (made : Made) → (split_command placing more input prefix).makes files ≡ Ok made
-      → (clash_from (piece_names prefix) 0 (input ∷ more) ≡ None) × Splits (placing.places files) made
+  pub split-parts : (made : Made) → (split_command cut input prefix).makes files ≡ Ok made → (clash_from (piece_names prefix) 0 (input ∷ cut.more) ≡ None) × Splits made
   unfolding made_result
-  split-parts placing more made e = equal-parts (clash_from (piece_names prefix) 0 (input ∷ more)) (placing.places files) made e
+  split-parts made e = equal-parts (clash_from (piece_names prefix) 0 (input ∷ cut.more)) made e
 
 -- ---- a cue sheet
 

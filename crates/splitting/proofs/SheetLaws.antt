@@ -1,7 +1,14 @@
 -- What the bytes of a sheet say.
-use Rattle.std.proofs.Common.{◌≡◌, ℕ, true, List, Err, ap}
+use Rattle.std.proofs.Common.{◌≡◌, ℕ, true, List, [], ◌∷◌, map, Err, ap, arith}
 use Rattle.outside.specs.Seen.{Seen}
+use Rattle.std.specs.List.{All}
+use Rattle.std.proofs.lemmas.List.{length-map}
+use Rattle.std.proofs.lemmas.List.Elements.{All-nil, All-cons, All-head, All-tail}
+use Rattle.cue_sheet.specs.declared.place.Place.{Place}
+use Rattle.cue_sheet.specs.Places.{IsPlace}
 use Rattle.cue_sheet.specs.Cues.{cue_of}
+use Rattle.exact_span.specs.declared.exact_place.ExactPlace.TheVariants.{Place as Position}
+use Rattle.exact_span.specs.Places.{IsExactPlace}
 use Rattle.commands.specs.declared.fault.EditFault.{EditFault}
 use Rattle.commands.specs.declared.fault.EditFault.TheVariants.{Refused}
 use Rattle.commands.specs.declared.fault.Refusal.{Refusal}
@@ -10,6 +17,7 @@ use Rattle.commands.proofs.WhyLaws.{each_why, each_refusal}
 use Rattle.commands.specs.Left.{why_of}
 use Rattle.commands.specs.Refusing.{then_made}
 use Rattle.commands.specs.Sheet.{sheet_read, IsSheetFault as IsUnread, IsOfSheet as IsOfRead, sheet_refuses as read_refuses}
+use Rattle.splitting.specs.Cutting.{ArePlaces}
 use Rattle.splitting.specs.Split.{with_end, places_in, sheet_refuses}
 use Rattle.splitting.specs.Steps.{IsSheetFault, IsOfSheet}
 
@@ -29,3 +37,17 @@ of_read _ is = absurd cc
 pub unread-number : (fault : EditFault) → IsOfRead fault → IsOfSheet fault
 unread-number (Refused refusal) h = of_read refusal h
 unread-number _ h = h
+
+-- ---- places of samples that a sheet says
+
+all-exact : (positions : List Place) → All IsPlace positions → All IsExactPlace (map Position positions)
+all-exact [] all = All-nil IsExactPlace
+all-exact (p ∷ positions) all = All-cons IsExactPlace (Position p) (map Position positions) (All-head IsPlace p positions all) (all-exact positions (All-tail IsPlace p positions all))
+
+-- positions are places of samples
+pub exact-sound : (positions : List Place) → ArePlaces IsPlace positions → ArePlaces IsExactPlace (map Position positions)
+exact-sound positions are = (
+  all-exact positions are.0,
+  omega (arith, are.1, length-map positions Position),
+  omega (arith, are.2, length-map positions Position),
+)

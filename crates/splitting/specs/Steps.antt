@@ -1,28 +1,27 @@
 -- The steps of a command that cuts a file.
-use Rattle.std.specs.Prelude.{◌≡◌, ◌≢◌, ℕ, ◌+◌, ◌<◌, ◌≤◌, true, List, [], ◌∷◌, length, map, take, drop, slice_index_or, string_bytes, Option, Some, Result, Ok, Err, IfErr, OnOk}
+use Rattle.std.specs.Prelude.{◌≡◌, ◌≢◌, ℕ, ◌+◌, ◌<◌, ◌≤◌, true, List, [], ◌∷◌, length, map, take, drop, slice_index_or, string_bytes, Option, Some, Result, Err, IfErr, OnOk}
 use Rattle.std.specs.List.{All}
 use Rattle.outside.specs.Files.{Files, Holds, IsThere, IfTold, Told, Untold, OnlyTouches}
 use Rattle.outside.specs.Counts.{HappenedTo, NoneFell}
 use Rattle.sync_survey.specs.declared.survey_fault.SurveyFault.TheVariants.{Read, Shrunk, Memory as NoRoom}
-use Rattle.sync_survey.specs.Faults.{SurveyFields}
-use Rattle.sync_survey.specs.Survey.{survey_of, IsLaidOut}
+use Rattle.sync_survey.specs.Faults.{SurveyFields, tells}
+use Rattle.sync_survey.specs.Survey.{IsLaidOut}
 use Rattle.commands.specs.declared.fault.EditFault.{EditFault}
 use Rattle.commands.specs.declared.fault.EditFault.TheVariants.{Input, Refused, Write as Unwritable, Memory}
-use Rattle.cue_sheet.specs.declared.place.Place.{Place}
+use Rattle.info_header.specs.declared.fields.Info.{Info}
 use Rattle.outside.specs.Seen.{Seen, OnFile}
 use Rattle.commands.specs.Kinds.{HasRightNumbers}
 use Rattle.commands.specs.Command.{Output, written, LacksBytes, written_to}
 use Rattle.commands.specs.Left.{by_why, never, why_of, EndsEarly}
-use Rattle.commands.specs.One.{most_frames, first_input, ReadsNothing, LosesInput}
+use Rattle.commands.specs.One.{first_input, ReadsNothing, LosesInput}
 use Rattle.commands.specs.Sheet.{MissesSheet, IsFaultOfSheet, IsOfSheet as IsOfRead}
-use Rattle.part_needs.specs.Fit.{own_choice}
-use Rattle.laying.specs.Laid.{laid_in, file_laid, IsWritable}
-use Rattle.frame_edits.specs.Chosen.{Chosen, IsSelected}
+use Rattle.laying.specs.Surveys.{HasSurvey}
+use Rattle.laying.specs.Laid.{Laid, laid_in, file_laid, IsWritable}
+use Rattle.splitting.specs.declared.source.Source.{Source}
 use Rattle.splitting.specs.declared.piece.Piece.{Piece}
-use Rattle.splitting.specs.declared.split_file.Points.{Points}
-use Rattle.splitting.specs.declared.split_file.Points.TheVariants.{Places, Sheet as InSheet}
 use Rattle.piece_names.specs.Names.{piece_name}
-use Rattle.splitting.specs.Split.{own_frames, places_where, sheet_refuses, Placing}
+use Rattle.splitting.specs.Cutting.{Cutting}
+use Rattle.splitting.specs.Split.{places_where, sheet_refuses}
 
 -- ---- the sheet
 
@@ -38,52 +37,67 @@ IsOfSheet fault = IsOfRead fault
 
 -- ---- the places
 
--- where the folder tells its files, they say these positions, or this fault
-abbrev pub Says : Placing → Files → Result (List Place) EditFault → Type 0
-Says placing files answer = IfTold files (λ f. placing.places f ≡ answer)
+-- where the folder tells its files, they say these places, or this fault
+abbrev pub Says : {P : Type 0} → Cutting P → Files → Result (List P) EditFault → Type 0
+Says cut files answer = IfTold files (λ f. cut.places f ≡ answer)
 
--- What a fault that was met while the positions were found says of its cause. The sheet is the first input besides the one that is cut, and
+-- What a fault that was met while the places were found says of its cause. The sheet is the first input besides the one that is cut, and
 -- input 1 of the command.
-abbrev pub IsPlacesFault : Placing → List (List ℕ) → Seen → Seen → EditFault → Type 0
-IsPlacesFault placing more old new fault = by_why
+abbrev pub IsPlacesFault : {P : Type 0} → Cutting P → Seen → Seen → EditFault → Type 0
+IsPlacesFault cut old new fault = by_why
     (record never {
-      rejected = Says placing old.files (Err fault) × (new ≡ old);
-      missing = Says placing old.files (Err fault) × MissesSheet (first_input more) old new fault;
-      unread = ReadsNothing 1 (first_input more) old new fault;
-      shorter = LosesInput 1 (first_input more) old new fault;
+      rejected = Says cut old.files (Err fault) × (new ≡ old);
+      missing = Says cut old.files (Err fault) × MissesSheet (first_input cut.more) old new fault;
+      unread = ReadsNothing 1 (first_input cut.more) old new fault;
+      shorter = LosesInput 1 (first_input cut.more) old new fault;
       no_memory = new ≡ old;
     })
     (why_of fault)
 
--- the fault is one of the sheet, or want of memory; of given positions only want of memory
-abbrev pub IsOfPlaces : Points → EditFault → Type 0
-IsOfPlaces (Places places) fault = fault ≡ Memory
-IsOfPlaces (InSheet sheet) fault = IsOfSheet fault
+-- the fault is one of the sheet, which is there then, a refusal that there can be, or want of memory
+abbrev pub IsOfPlaces : {P : Type 0} → Cutting P → EditFault → Type 0
+IsOfPlaces cut (Input place fault) = (1 ≤ length cut.more) × IsOfRead (Input place fault)
+IsOfPlaces cut (Refused refusal) = cut.refuses refusal ≡ true
+IsOfPlaces cut Memory = Unit {0}
+IsOfPlaces cut _ = ⊥
+
+-- ---- what is known of the input
+
+-- its head could not be read
+abbrev pub IsHeadFault : List ℕ → Seen → Seen → EditFault → Type 0
+IsHeadFault input old new fault = by_why (record never { unread = ReadsNothing 0 input old new fault; shorter = LosesInput 0 input old new fault }) (why_of fault)
+
+-- the fault is one of this input from outside
+abbrev pub IsOfHead : EditFault → Type 0
+IsOfHead (Input place fault) = (place ≡ 0) × (fault ≢ NoRoom) × HasRightNumbers fault
+IsOfHead _ = ⊥
+
+-- It is known of a file with this survey: the survey by which pieces are laid, which the file has, and what is read of the head.
+pub record IsSource {P : Type 0} (cut : Cutting P) (head : List ℕ → SurveyFields → Option Info) (source : Source) (file : List ℕ) (s : SurveyFields) : Type 0 where
+  pub survey : tells source.survey ≡ cut.survey s
+  pub has : HasSurvey file (cut.survey s)
+  pub head_is : source.head ≡ head file s
 
 -- ---- pieces that are to be written
 
--- the frames of a piece
-abbrev pub chosen_of : Piece → Chosen
-chosen_of piece = own_frames piece.selected.from piece.selected.to
+-- what is laid for a piece
+abbrev pub laid_of : Piece → Laid
+laid_of piece = laid_in piece.selected
 
--- a piece has a plan, in its frames' own slots, and the bytes of its Info frame
-abbrev pub IsReady : SurveyFields → Piece → Type 0
-IsReady s piece = IsSelected own_choice (chosen_of piece) s piece.selected
-
--- the pieces are ready, and have the names of the prefix with the numbers from this one on
+-- the pieces have the names of the prefix with the numbers from this one on, and each can be written
 abbrev pub ArePieces : List ℕ → SurveyFields → ℕ → List Piece → Type 0
 ArePieces prefix s k [] = Unit {0}
-ArePieces prefix s k (piece ∷ pieces) = (string_bytes piece.name ≡ piece_name prefix k) × IsReady s piece × ArePieces prefix s (k + 1) pieces
+ArePieces prefix s k (piece ∷ pieces) = (string_bytes piece.name ≡ piece_name prefix k) × IsWritable s piece.selected × ArePieces prefix s (k + 1) pieces
 
 -- they are ready to be written beside this input
 abbrev pub CanBeWritten : List ℕ → SurveyFields → List Piece → Type 0
 CanBeWritten input s pieces = All (λ piece. (input ≢ string_bytes piece.name) × IsWritable s piece.selected) pieces
 
--- The input is there with its survey, and no more pieces than there are names are ready to be written beside it.
+-- The input is there, has the survey by which the pieces are laid, and no more pieces than there are names are ready to be written beside it.
 pub record IsSplit (input : List ℕ) (s : SurveyFields) (pieces : List Piece) (now : Seen) : Type 0 where
   pub there : IsThere now.files input
   pub laid : IsLaidOut s
-  pub surveyed : OnFile now input (λ bytes. survey_of bytes most_frames ≡ Ok s)
+  pub has : OnFile now input (λ bytes. HasSurvey bytes s)
   pub few : length pieces ≤ 99
   pub ready : CanBeWritten input s pieces
 

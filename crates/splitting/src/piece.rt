@@ -1,21 +1,20 @@
 //! Pieces that are ready to be written.
-ghost use Rattle.std.specs.Prelude.{◌≡◌, ◌⊎◌, ◌+◌, ◌≤◌, length, map, Ok, Err, IfOk, MatchResult, string_bytes};
-ghost use Rattle.sync_survey.specs.Faults.{tells};
+ghost use Rattle.std.specs.Prelude.{◌≡◌, ◌⊎◌, ◌+◌, ◌≤◌, List, ℕ, length, map, Ok, Err, IfOk, MatchResult, string_bytes};
+ghost use Rattle.sync_survey.specs.Faults.{tells, SurveyFields};
 ghost use Rattle.sync_survey.specs.Survey.{IsLaidOut};
+ghost use Rattle.laying.specs.Laid.{IsWritable};
 ghost use Rattle.commands.specs.One.{most_frames};
-ghost use Rattle.frame_edits.specs.Chosen.{cut_refuses};
 ghost use Rattle.commands.specs.Left.{IsRefusal};
 ghost use Rattle.piece_names.specs.Names.{piece_name as piece_name_lem};
-ghost use Rattle.splitting.specs.Split.{frames_between, chosen_at, ArePositions};
-ghost use Rattle.splitting.specs.Steps.{IsReady, ArePieces, chosen_of};
+ghost use Rattle.splitting.specs.Cutting.{laid_at, ArePlaces};
+ghost use Rattle.splitting.specs.Steps.{IsSource, ArePieces, laid_of};
 
+use crate::cut::Cut;
+use crate::source::Source;
 use commands::EditFault;
-use cue_sheet::Place;
-use frame_edits::{choose, plan_file};
-use laying::{Kept, Selected};
+use laying::Selected;
 use piece_names::piece_name;
 use std::alloc::Global;
-use sync_survey::Survey;
 
 /// A piece that is to be written: its name, and its frames with their plan.
 #[derive(Drop)]
@@ -24,67 +23,70 @@ pub(crate) struct Piece {
     pub selected: Selected,
 }
 
-/// The piece with this number, of the frames from `from` up to, but not including, `to`: `Range` where there is none between
-/// them, or not all are there; `Memory`.
-fn make_piece(
+/// The piece with this number, from one place of the input to another: refused as `Cut::select` says; `Memory`.
+fn make_piece<C: Cut>(
     alloc: Global,
-    survey: &Survey,
+    cut: &C,
+    source: &Source,
     prefix: &str,
     number: u8,
-    from: u64,
-    to: u64,
+    from: &C::Place,
+    to: &C::Place,
 ) -> Result<Piece, EditFault>
-    requires laid { IsLaidOut (tells survey.now) }
-    requires few { length (tells survey.now).frames ≤ most_frames }
+    requires from { C.IsSound from.now }
+    requires to { C.IsSound to.now }
+    requires laid { IsLaidOut (tells source.now.survey) }
+    requires few { length (tells source.now.survey).frames ≤ most_frames }
     requires number { number ≤ 99 }
     ensures name { IfOk result (λ piece. string_bytes piece.name ≡
         piece_name_lem prefix.now number) }
-    ensures ready { IfOk result (IsReady (tells survey.now)) }
-    ensures chosen { MatchResult result
-        (λ piece. frames_between (length (tells survey.now).frames) from to
-        ≡ Ok (chosen_of piece))
-        (λ fault. (fault ≡ EditFault.Memory) ⊎ (IsRefusal cut_refuses fault
-        × (frames_between (length (tells survey.now).frames) from to ≡ Err fault))) }
+    ensures writable { IfOk result (λ piece. IsWritable (tells source.now.survey) piece.selected) }
+    ensures laid { MatchResult result
+        (λ piece. (file : List ℕ) (s : SurveyFields)
+        → IsSource (C.cutting cut.now) C.head source.now file s
+        → (C.cutting cut.now).between from.now to.now file s ≡ Ok (laid_of piece))
+        (λ fault. (fault ≡ EditFault.Memory) ⊎ (IsRefusal (C.cutting cut.now).refuses fault
+        × ((file : List ℕ) (s : SurveyFields)
+        → IsSource (C.cutting cut.now) C.head source.now file s
+        → (C.cutting cut.now).between from.now to.now file s ≡ Err fault))) }
 {
-    let chosen = choose(from, to, survey.frames().len(), Kept::none())?;
-    let selected = plan_file(alloc, survey, &chosen, false)?;
+    let selected = cut.select(alloc, source, from, to)?;
     Ok(Piece {
         name: piece_name(alloc, prefix, number)?,
         selected,
     })
 }
 
-/// The pieces from each position to the next: `Range` for the first pair between which there is no frame, or of which the
-/// second is after the end of the file; `Memory`.
-pub(crate) fn make_pieces(
+/// The pieces from each place to the next: refused as `Cut::select` says, for the first pair that is; `Memory`.
+pub(crate) fn make_pieces<C: Cut>(
     alloc: Global,
-    survey: &Survey,
-    places: &[Place],
+    cut: &C,
+    source: &Source,
+    places: &[C::Place],
     prefix: &str,
 ) -> Result<Vec<Piece>, EditFault>
-    requires positions { ArePositions places.now }
-    requires laid { IsLaidOut (tells survey.now) }
-    requires few { length (tells survey.now).frames ≤ most_frames }
-    ensures pieces { IfOk result (λ pieces. ArePieces prefix.now (tells survey.now) 1
+    requires places { ArePlaces C.IsSound places.now }
+    requires laid { IsLaidOut (tells source.now.survey) }
+    requires few { length (tells source.now.survey).frames ≤ most_frames }
+    ensures pieces { IfOk result (λ pieces. ArePieces prefix.now (tells source.now.survey) 1
         pieces.items) }
     ensures count { IfOk result (λ pieces. length pieces.items + 1 ≡ length places.now) }
-    ensures chosen { MatchResult result
-        (λ pieces. chosen_at (tells survey.now).class (length
-        (tells survey.now).frames) places.now ≡ Ok (map chosen_of pieces.items))
-        (λ fault. (fault ≡ EditFault.Memory) ⊎ (IsRefusal cut_refuses fault
-        × (chosen_at (tells survey.now).class (length (tells survey.now).frames) places.now
-        ≡ Err fault))) }
+    ensures laid { MatchResult result
+        (λ pieces. (file : List ℕ) (s : SurveyFields)
+        → IsSource (C.cutting cut.now) C.head source.now file s
+        → laid_at (C.cutting cut.now) file s places.now ≡ Ok (map laid_of pieces.items))
+        (λ fault. (fault ≡ EditFault.Memory) ⊎ (IsRefusal (C.cutting cut.now).refuses fault
+        × ((file : List ℕ) (s : SurveyFields)
+        → IsSource (C.cutting cut.now) C.head source.now file s
+        → laid_at (C.cutting cut.now) file s places.now ≡ Err fault))) }
 {
-    let class = survey.class();
-    let frames = survey.frames().len() as u32;
     let rest = &places[1..];
-    let mut from = places[0].frame_of(class, frames);
+    let mut from = &places[0];
     let mut pieces = Vec::new(alloc);
     let mut number = 0;
-    for place in rest {
-        let to = place.frame_of(class, frames);
+    for to in rest {
         number += 1;
-        let piece = make_piece(alloc, survey, prefix, number, from, to)?;
+        let piece = make_piece(alloc, cut, source, prefix, number, from, to)?;
         pieces.push(piece)?;
         from = to;
     }

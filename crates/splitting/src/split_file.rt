@@ -1,66 +1,69 @@
 //! The split commands over a folder.
-ghost use Rattle.std.specs.Prelude.{◌≡◌, Ok, IfOk, IfErr};
-ghost use Rattle.outside.specs.Seen.{OnlyRead};
-ghost use Rattle.commands.specs.Command.{clash_of};
+ghost use Rattle.std.specs.Prelude.{◌≡◌, ◌∷◌, option_copied, option_to_list};
+ghost use Rattle.commands.specs.Command.{clash_from};
 ghost use Rattle.commands.specs.Runs.{IsRunOf};
-ghost use Rattle.splitting.specs.Split.{placing_of, more_of, split_command_of, ArePositions, ArePoints};
-ghost use Rattle.splitting.specs.Steps.{Says, IsPlacesFault, IsOfPlaces};
+ghost use Rattle.piece_names.specs.Names.{piece_names};
+ghost use Rattle.splitting.specs.Cutting.{split_command, IsProper};
+ghost use Rattle.splitting.specs.Split.{split_command_of, split_exact_command_of, ArePoints, AreExactPoints};
 
+use crate::cut::Cut;
+use crate::exact_points::ExactPoints;
 use crate::piece::make_pieces;
-use crate::sheet::sheet_places;
+use crate::points::Points;
 use crate::writing::write_pieces;
 use commands::{EditFault, MOST_FRAMES, survey_at};
-use cue_sheet::Place;
 use laying::Buffers;
 use outside::Folder;
 use piece_names::is_piece_name;
 use std::alloc::Global;
 
-/// Where a file is cut.
-#[derive(Clone, Copy)]
-pub enum Points<'a> {
-    /// At these positions, 2 to 100: each but the last is where a piece begins, and the last where the last piece ends.
-    Places(&'a [Place]),
-    /// At the start of each track in the cue sheet of this name, and at the end.
-    Sheet(&'a str),
-}
-
 /// The number of the first input that has the name of a piece, however many pieces there are.
-fn clash(input: &str, points: &Points<'_>, prefix: &str) -> Option<u32>
-    ensures { result ≡ clash_of (split_command_of points.now input.now prefix.now) }
+fn clash(input: &str, sheet: Option<&str>, prefix: &str) -> Option<u32>
+    ensures { result ≡ clash_from (piece_names prefix.now) 0 (input.now ∷ option_to_list
+        (option_copied sheet.entry)) }
 {
     if is_piece_name(prefix, input) {
         return Some(0);
     }
-    match *points {
-        Points::Sheet(sheet) if is_piece_name(prefix, sheet) => Some(1),
+    match sheet {
+        Some(sheet) if is_piece_name(prefix, sheet) => Some(1),
         _ => None,
     }
 }
 
-/// The positions where the file is cut: those that are given, or the starts in a cue sheet and the end. The files stay.
+/// Cuts the input: creates and writes a file for each piece, from each place to the next.
 ///
 /// # Errors
-/// Those of `sheet_places`; `Memory`.
-fn places_of<D: Folder>(
+/// As `split`, but for the refusals of its places, which are those of `Cut::select`, and for the head of the input, whose frame
+/// is read after the survey where pieces need it.
+fn split_by<C: Cut, D: Folder>(
     alloc: Global,
     folder: &mut D,
-    points: &Points<'_>,
-) -> Result<Vec<Place>, EditFault>
-    requires { ArePoints points.now }
-    ensures places { IfOk result (λ places. Says (placing_of points.now) (D.seen folder.old).files
-        (Ok places.items)) }
-    ensures positions { IfOk result (λ places. ArePositions places.items) }
-    ensures refused { IfErr result (IsPlacesFault (placing_of points.now) (more_of points.now)
+    input: &str,
+    cut: &C,
+    prefix: &str,
+) -> Result<(), EditFault>
+    requires legal { C.IsLegal cut.now }
+    requires proper { IsProper (C.cutting cut.now) }
+    ensures { IsRunOf (split_command (C.cutting cut.now) input.now prefix.now)
         (D.seen folder.old)
-        (D.seen folder.new)) }
-    ensures numbers { IfErr result (IsOfPlaces points.now) }
-    ensures reads { OnlyRead result (D.seen folder.old) (D.seen folder.new) }
+        (D.seen folder.new) result }
 {
-    match *points {
-        Points::Places(places) => Ok(places.to_vec(alloc)?),
-        Points::Sheet(sheet) => sheet_places(alloc, folder, sheet),
+    if let Some(place) = clash(input, cut.sheet(), prefix) {
+        return Err(EditFault::EqualNames(place));
     }
+    let survey = survey_at(alloc, folder, input, 0, MOST_FRAMES)?;
+    let source = cut.read(folder, input, survey)?;
+    let places = cut.places(alloc, folder)?;
+    let pieces = make_pieces(alloc, cut, &source, places.as_slice(), prefix)?;
+    let mut buffers = Buffers::new(alloc, source.survey.class())?;
+    write_pieces(
+        folder,
+        input,
+        &source.survey,
+        pieces.as_slice(),
+        &mut buffers,
+    )
 }
 
 /// Writes the pieces of the input, which are the frames from each position up to, but not including, the next, with all main
@@ -95,12 +98,30 @@ pub fn split<D: Folder>(
         (D.seen folder.old)
         (D.seen folder.new) result }
 {
-    if let Some(place) = clash(input, points, prefix) {
-        return Err(EditFault::EqualNames(place));
-    }
-    let survey = survey_at(alloc, folder, input, 0, MOST_FRAMES)?;
-    let places = places_of(alloc, folder, points)?;
-    let pieces = make_pieces(alloc, &survey, places.as_slice(), prefix)?;
-    let mut buffers = Buffers::new(alloc, survey.class())?;
-    write_pieces(folder, input, &survey, pieces.as_slice(), &mut buffers)
+    split_by(alloc, folder, input, points, prefix)
+}
+
+/// Writes the pieces of the input, by each of which players play exactly the samples from one place up to, but not including,
+/// the next. Each is a file as `edits::cut_exact` writes one, so that neighbouring pieces share the frames that a decoder needs
+/// for both; played one after another, they are the samples of the input from the first place to the last, each once. A start
+/// in a cue sheet is that many whole samples after the first as take no longer. The name of a piece is as `split` has it.
+///
+/// # Errors
+/// As `split`, and in its order, but for `Span`, which comes in place of `Range`: with the numbers of the two samples and that of
+/// all that are played, for the first place and the next between which there is no sample, or of which the second is after the
+/// end.
+pub fn split_exact<D: Folder>(
+    alloc: Global,
+    folder: &mut D,
+    input: &str,
+    points: &ExactPoints<'_>,
+    prefix: &str,
+) -> Result<(), EditFault>
+    requires { AreExactPoints points.now }
+    // The input is well-formed, and each piece holds at most one lead-in and then exactly the frames of its span.
+    ensures { IsRunOf (split_exact_command_of points.now input.now prefix.now)
+        (D.seen folder.old)
+        (D.seen folder.new) result }
+{
+    split_by(alloc, folder, input, points, prefix)
 }

@@ -43,10 +43,10 @@ returns-in-Pack-clause-ends g c = rw c.in-Pack.is (run_ends _ (one_silent _ _) c
 pub returns-in-SplitAt-clause-ends : goal.returns-in-SplitAt-clause-ends
 returns-in-SplitAt-clause-ends g c =
     rw (c.in-SplitAt.is, ← c.as_slice.ensures.value)
-    (run_ends (split_at_command c.as_slice.result.now c.in-SplitAt.input.now c.in-SplitAt.prefix.now) (split_silent _ _ _ _) c.split.result _ _ _ c.split.ensures)
+    (run_ends (split_at_command c.as_slice.result.now c.in-SplitAt.input.now c.in-SplitAt.prefix.now) (split_silent _ _ _) c.split.result _ _ _ c.split.ensures)
 
 pub returns-in-SplitBy-clause-ends : goal.returns-in-SplitBy-clause-ends
-returns-in-SplitBy-clause-ends g c = rw c.in-SplitBy.is (run_ends _ (split_silent _ _ _ _) c.split-in-SplitBy.result _ _ _ c.split-in-SplitBy.ensures)
+returns-in-SplitBy-clause-ends g c = rw c.in-SplitBy.is (run_ends _ (split_silent _ _ _) c.split-in-SplitBy.result _ _ _ c.split-in-SplitBy.ensures)
 
 pub returns-in-Join-clause-ends : goal.returns-in-Join-clause-ends
 returns-in-Join-clause-ends g c = rw c.in-Join.is (run_ends _ (one_silent _ _) c.join.result _ _ _ c.join.ensures)

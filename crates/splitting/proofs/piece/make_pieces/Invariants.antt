@@ -1,16 +1,17 @@
--- The pieces up to a position, and the positions after it.
-use Rattle.std.proofs.Common.{◌≡◌, length, map, drop}
-use Rattle.cue_sheet.specs.Places.{frame_at}
-use Rattle.sync_survey.specs.Faults.{tells}
-use Rattle.splitting.specs.Split.{chosen_from}
-use Rattle.splitting.specs.Steps.{ArePieces, chosen_of}
-use Rattle.splitting.proofs.PiecesLaws.{chosen_before}
+-- The pieces up to a place, and the places after it.
+use Rattle.std.proofs.Common.{◌≡◌, ℕ, List, length, map, drop}
+use Rattle.sync_survey.specs.Faults.{tells, SurveyFields}
+use Rattle.splitting.specs.Cutting.{laid_from}
+use Rattle.splitting.specs.Steps.{ArePieces, IsSource, laid_of}
+use Rattle.splitting.proofs.PiecesLaws.{laid_before}
 use Rattle.splitting.proofs.piece.make_pieces.Given as goal
 
-abbrev pub invariant-loop-place : goal.invariant-loop-place
-invariant-loop-place l =
-    ArePieces l.prefix (tells l.survey) 1 l.pieces.items
-    × (length l.pieces.items ≡ l.place-index)
-    × (l.number ≡ l.place-index)
-    × (chosen_before (map chosen_of l.pieces.items) (chosen_from l.frames l.from (map (frame_at l.class l.frames) (drop l.place-index l.rest)))
-    ≡ chosen_from l.frames l.initial.from (map (frame_at l.class l.frames) l.rest))
+abbrev pub invariant-loop-to : goal.invariant-loop-to
+invariant-loop-to g l = record {
+  pieces : ArePieces l.prefix (tells l.source.survey) 1 l.pieces.items;
+  many : length l.pieces.items ≡ l.to-index;
+  number : l.number ≡ l.to-index;
+  sound : g.C.Cut.IsSound l.from;
+  laid : (file : List ℕ) (s : SurveyFields) → IsSource (g.C.Cut.cutting l.cut) g.C.Cut.head l.source file s
+      → laid_before (map laid_of l.pieces.items) (laid_from (g.C.Cut.cutting l.cut) file s l.from (drop l.to-index l.rest)) ≡ laid_from (g.C.Cut.cutting l.cut) file s l.initial.from l.rest;
+}

@@ -3,10 +3,8 @@ use Rattle.std.proofs.Common.{◌≡◌, ◌≢◌, ◌+◌, ◌∷◌, [], leng
 use Rattle.std.proofs.lemmas.List.{length-take, take_all}
 use Rattle.outside.specs.declared.pass.PassFault.TheVariants.{Write}
 use Rattle.outside.proofs.FilesLaws.{emptied_held_other, fails_touches}
-use Rattle.laying.proofs.ChosenFrames.{survey-had}
 use Rattle.laying.proofs.RelayLaws.{item-next}
 use Rattle.sync_survey.specs.Faults.{tells}
-use Rattle.commands.specs.One.{most_frames}
 use Rattle.commands.proofs.OutputLaws.{output_whole, touches_whole, touches_prefix, pass_fault, not_begun}
 use Rattle.laying.specs.Laid.{IsWritable}
 use Rattle.frame_edits.proofs.LaidPass.{relay-ready}
@@ -41,7 +39,7 @@ write-requires-clause-ready g c =
     let away = apart g (goal.at.write-requires-clause-ready g c).After-create in
     let stands = c.loop-piece.invariant.wrote.stands in
     relay-ready _ (g.D.Folder.seen c.loop-piece.folder).files (g.D.Folder.seen c.create.new.self).files _ away stands.there c.requires.split.laid
-    (λ file holds. survey-had file most_frames (tells c.args.survey.now) (c.requires.split.surveyed file (stands.before file holds))) c.length.ensures c.in-Ok.ensures.answer.created
+    (λ file holds. c.requires.split.has file (stands.before file holds)) c.length.ensures c.in-Ok.ensures.answer.created
     (record { same = λ bytes holds. c.loop-piece.invariant.fed.same bytes (emptied_held_other _ _ c.args.input.now bytes away (rw c.in-Ok.ensures.answer.created at holds)) })
 
 pub write-requires-clause-writable : goal.write-requires-clause-writable
