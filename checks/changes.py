@@ -13,6 +13,7 @@ sys.dont_write_bytecode = True
 import frames  # noqa: E402
 import laid  # noqa: E402
 import results  # noqa: E402
+import spans  # noqa: E402
 
 VERSION_BITS = ((3, frames.MPEG_1), (2, frames.MPEG_2), (0, frames.MPEG_2_5))
 OTHER_LINES = (
@@ -354,6 +355,25 @@ def places(random, count, frames_there):
     return words
 
 
+def exact_places(random, data, found, many=2):
+    """Words for places among the samples, mostly rising."""
+    start, end = spans.played(data, found) if isinstance(found, frames.Survey) else (0, 3000)
+    length, frequency = max(0, end - start), found.frames[0].frequency if isinstance(found, frames.Survey) else 44_100
+    chosen = sorted(random.choice((0, length, random.randint(0, length), random.randint(0, length))) for _ in range(many))
+    if random.random() < 0.05:
+        chosen.reverse()
+    words = []
+    for it in chosen:
+        time, back = 1000 * it // frequency, 1000 * (length - it) // frequency
+        places = (f"{it}s", f"{it}s", f"{it:010}s", f"0.{time // 1000}.{time % 1000:03}", f"EOF-0.{back // 1000}.{back % 1000:03}")
+        places += f"EOF-0.{back // 1000}.{back % 1000 // 10:02}", str(it // 1152), "EOF"
+        words.append(random.choice(places))
+    if random.random() < 0.1:
+        others = (f"{length + 1}s", "EOF-9.0", "EOF-0.0", "4294967296s", "0.0.0005", "EOF-0.0.5", "1.0s", "eof-0.1", "0.60.000", "s")
+        words[random.randrange(many)] = random.choice(others)
+    return words
+
+
 def mode(random, data):
     """Words that say by how many steps gains are to move: mostly a few, or as many as they may, or one more."""
     found = results.survey_or_fault(data)
@@ -401,5 +421,10 @@ def commands(random, files):
     yield words
     # Drawn apart, as the sheet of a fade is.
     yield ["salvage", "x", "o"]
+    random = Random(zlib.crc32(data) + 1)
+    yield ["cut", "--exact", "x", *exact_places(random, data, found), "o"]
+    yield ["cut", "--exact", "x", *exact_places(random, data, found), "o"]
+    yield ["split", "--exact", "x", "p", *exact_places(random, data, found, random.choice((2, 3, 3, 5)))]
+    yield ["split", "--exact", "x", "p", "-c", "s"]
     others = ("salvage", "salvage x", "salvage x x", "salvage o x", "salvage none o", "salvage -w x o", "salvage s o", "salvage y o")
     yield Random(zlib.crc32(data)).choice(others).split()

@@ -108,16 +108,16 @@ def first_with(shapes, area):
     return next(it for it in shapes if it.area >= area)
 
 
-def placed(parts, slots, lead_in_slots):
+def placed(parts, slots, lead_in_slots, led=False):
     """Shape, main_data_begin, side information and main data of each frame in one of the slots, or in its own, a lead-in before each part
-    that needs one. Only one part may have other slots than its own."""
+    that needs one, or before each if they are to be led. Only one part may have other slots than its own."""
     window = (1 << frames.Frame(parts[0][0].header, 0).version.begin_bits) - 1
     found, free = [], 0
     for needs in parts:
         if slots:
             judge_room(needs, slots, window)
         wanted = reserves(needs, slots)
-        if wanted[0]:
+        if wanted[0] or led:
             shape = first_with([in_slot(needs[0].header, slot, False) for slot in lead_in_slots], wanted[0])
             found.append((shape, free, 0, b""))
             free = min(window, free + shape.area)
@@ -244,14 +244,18 @@ def info_frame(found, written, quality, extension):
     return shape.header + bytes(shape.side_size) + head + bytes(shape.area - len(head))
 
 
+def text_of(data, head):
+    """The offset of the text of a head."""
+    ends = head.side_end, head.offset + 4 + head.side_size
+    return next(it for it in sorted(ends) if data[it : it + 4] in (b"Xing", b"Info"))
+
+
 def head_fields(data, head):
     """The quality and the extension of a head, or zeros."""
     quality, extension = bytes(4), bytes(36)
     if head is None:
         return quality, extension
-    ends = head.side_end, head.offset + 4 + head.side_size
-    at = next(it for it in sorted(ends) if data[it : it + 4] in (b"Xing", b"Info"))
-    fields = data[at : head.end]
+    fields = data[text_of(data, head) : head.end]
     flags, place = int.from_bytes(fields[4:8], "big") if len(fields) >= 8 else 0, 8
     for bit, size in enumerate((4, 4, 100, 4)):
         if flags >> bit & 1:

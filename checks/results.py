@@ -7,7 +7,7 @@ helps to check.
 
 The words are those of "Synopsis" in docs/MANUAL.md, the lines those of its "Messages", and their order is "The order of refusals" in
 docs/DECISIONS.md. Files are bytes by name. frames.py says what is in a file and moves gains, laid.py lays main data, fades.py reads
-positions and the sheets of fades, drill.py draws streams from seeds, and damaged.py says what can be read of a damaged file.
+positions and the sheets of fades, spans.py makes exact pieces, drill.py draws streams from seeds, and damaged.py says what can be read of a damaged file.
 """
 import re
 import sys
@@ -21,6 +21,7 @@ import drill as drills  # noqa: E402
 import fades  # noqa: E402
 import frames  # noqa: E402
 import laid  # noqa: E402
+import spans  # noqa: E402
 from fades import frame_at, place  # noqa: E402
 
 LONGEST_SHEET = 65_536
@@ -67,6 +68,10 @@ def is_place(word):
     return place(word) is not None
 
 
+def is_exact_place(word):
+    return spans.exact_place(word) is not None
+
+
 def seed(word):
     return re.fullmatch(r"[0-9]{1,10}", word) and int(word) < 2**31
 
@@ -84,12 +89,15 @@ FORMS += [
     (["gain", "-u", name, name], 1),
     (["cut", name, is_place, is_place, name], 1),
     (["cut", "--least", name, is_place, is_place, name], 1),
+    (["cut", "--exact", name, is_exact_place, is_exact_place, name], 1),
     (["pack", name, name], 1),
     (["pack", "--constant", rate, name, name], 1),
     (["pack", "--floor", rate, name, name], 1),
     (["pack", "--best", name, name], 1),
     (["split", name, name, is_place, is_place], 99),
     (["split", name, name, "-c", name], 1),
+    (["split", "--exact", name, name, is_exact_place, is_exact_place], 99),
+    (["split", "--exact", name, name, "-c", name], 1),
     (["join", name, name], 64),
     (["fade", name, name, name], 1),
     (["fade", "--back", name, name, name], 1),
@@ -234,9 +242,19 @@ def cut(words, files):
     source, first, end, output = words[-4:]
     judge_names([source], [output])
     found = surveyed(source, files)
+    if words[1] == "--exact":
+        return cut_exact(source, first, end, output, files[source], found)
     [(first, end)] = ranges_of([place(first), place(end)], found)
     new = laid.laid_file(files[source], found, first, end, laid.SLOTS if words[1] == "--least" else None)[0]
     return Result(outputs={output: new}, chosen={output: [(source, first, end)]})
+
+
+def cut_exact(source, first, end, output, data, found):
+    try:
+        p, q = spans.range_of(data, found, [spans.exact_place(first), spans.exact_place(end)])
+    except spans.Fault as it:
+        raise Answer(1, str(it))
+    return Result(outputs={output: spans.piece_of(data, found, p, q)}, chosen={output: [(source, *spans.frames_for(found, p, q))]})
 
 
 def pack(words, files):
@@ -254,13 +272,32 @@ def pack(words, files):
     return Result(outputs={output: new}, chosen={output: [(source, 0, len(found.frames))]})
 
 
+def exact_pieces(words, data, found):
+    """From each place to the next the bytes of the piece, and the frames that it has."""
+    pieces = []
+    for places in zip(words, words[1:]):
+        try:
+            p, q = spans.range_of(data, found, places)
+        except spans.Fault as it:
+            raise Answer(1, str(it))
+        pieces.append((p, q))
+    return [(spans.piece_of(data, found, p, q), spans.frames_for(found, p, q)) for p, q in pieces]
+
+
 def split(words, files):
-    _, source, prefix, *rest = words
+    is_exact = words[1] == "--exact"
+    source, prefix, *rest = words[2:] if is_exact else words[1:]
     sheets = rest[1:] if rest[0] == "-c" else []
     judge_names([source, *sheets], [f"{prefix}{it:02}.mp3" for it in range(1, 100)])
     found = surveyed(source, files)
-    ranges = ranges_of(places_of(sheets[0], files) if sheets else map(place, rest), found)
     done = Result()
+    if is_exact:
+        at = [("position", it) for it in places_of(sheets[0], files)] if sheets else [spans.exact_place(it) for it in rest]
+        for number, (new, chosen) in enumerate(exact_pieces(at, files[source], found), 1):
+            done.outputs[f"{prefix}{number:02}.mp3"] = new
+            done.chosen[f"{prefix}{number:02}.mp3"] = [(source, *chosen)]
+        return done
+    ranges = ranges_of(places_of(sheets[0], files) if sheets else map(place, rest), found)
     for number, (first, end) in enumerate(ranges, 1):
         piece = f"{prefix}{number:02}.mp3"
         done.outputs[piece] = laid.laid_file(files[source], found, first, end, None)[0]

@@ -3,6 +3,7 @@
 
 mod cut;
 mod drill_rows;
+mod exact;
 mod fade;
 mod gain;
 mod join;
@@ -87,6 +88,11 @@ fn fades(rt: HostRuntime) -> Result<(), Fail> {
 #[test]
 fn cuts(rt: HostRuntime) -> Result<(), Fail> {
     expect_rows(&rt, &[cut::ROWS])
+}
+
+#[test]
+fn exact_cuts(rt: HostRuntime) -> Result<(), Fail> {
+    expect_rows(&rt, &[exact::ROWS])
 }
 
 #[test]

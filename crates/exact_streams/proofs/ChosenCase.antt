@@ -23,20 +23,17 @@ use Rattle.commands.specs.declared.fault.Refusal.{Refusal}
 use Rattle.commands.specs.One.{most_frames, made_where}
 use Rattle.commands.proofs.RefusingLaws.{then_ok, unless_ok}
 use Rattle.commands.proofs.MadeLaws.{makes-parts, made-of}
-use Rattle.laying.specs.Laid.{Laid, stream_laid}
-use Rattle.frame_edits.specs.Chosen.{Chosen, outside_fault, chosen_with, AreUsual, needs_of, first_plan, Choosing, Planning, first_planning, laying_with, laying_task, stream_if, stream_by, stream_with, chosen_stream, cut_choice, all_choice, choices_by, cut_refuses, cut_command, laid_by, laid_as, laid_with, part_of}
+use Rattle.laying.specs.Laid.{stream_laid}
+use Rattle.frame_edits.specs.Chosen.{Chosen, outside_fault, chosen_with, AreUsual, needs_of, first_plan, Choosing, Planning, first_planning, laying_with, laying_task, stream_if, stream_by, stream_with, chosen_stream, cut_choice, all_choice, choices_by, cut_refuses, cut_command, laid_by, part_of}
 use Rattle.frame_edits.proofs.ChosenLaws.{chosen-within, by_usual, laid-parts, all_right, all-whole}
 use Rattle.salvaging.proofs.StreamLaws.{whole-stream}
 use Rattle.pack_mode.specs.declared.mode.PackMode.{PackMode}
 use Rattle.pack_mode.specs.declared.mode.PackMode.TheVariants.{Best}
 use Rattle.packing.specs.Modes.{plan_by, refuses_by, most_best, limited_by, limit_by, pack_task, pack_mode_command}
 use Rattle.packing.proofs.LimitLaws.{limited-made}
-use Rattle.splitting.specs.Cutting.{Cutting, with_first, laid_from, laid_at, streams_of, streams_by, streams_where, split_command}
-use Rattle.splitting.specs.Split.{frames_between as between, frames_cut, given, told_by, told_refuses, places_where}
-use Rattle.splitting.proofs.PartsLaws.{IsSplit, split-parts, cue-parts}
-use Rattle.job_words.specs.Asked.{Cut, Pack, SplitAt, SplitBy}
+use Rattle.job_words.specs.Asked.{Cut, Pack}
 use Rattle.exact_streams.specs.Exact.{IsExactly}
-use Rattle.exact_streams.specs.Chosen.{AllConsistOf, bytes_of, frames_of, number_at, frames_between, pieces_from, pieces_at, positions_by, positions_in}
+use Rattle.exact_streams.specs.Chosen.{frames_of, number_at, frames_between}
 use Rattle.exact_streams.specs.Laws.{HoldsChosen}
 use Rattle.exact_streams.proofs.CaseLaws.{stream-is, chosen-exact_is}
 use Rattle.exact_streams.proofs.MenuCase.{packed-exact}
@@ -85,45 +82,13 @@ module _ (file : List ℕ) (s : SurveyFields) (is : survey_of file most_frames �
       (chosen-exact_is chosen file s is between.1 between.2 choices usual)
 
   -- those that a cut chooses, in the slots of their plan
-  cut-exact : (from to : Place) (least : Bool) (chosen : Chosen) (placed : List Placed) → cut_choice from to file s ≡ Ok chosen → first_planning (choices_by least) s.class (needs_of chosen s) ≡ Ok placed
+  pub cut-exact : (from to : Place) (least : Bool) (chosen : Chosen) (placed : List Placed) → cut_choice from to file s ≡ Ok chosen → first_planning (choices_by least) s.class (needs_of chosen s) ≡ Ok placed
       → IsExactly (frames_between (stream_of file) from to ∷ []) (stream_laid (laid_by chosen placed) file s)
   unfolding cut_choice
   cut-exact from to least chosen placed e planned =
       let same : first_plan (choices_by least) s.class (needs_of chosen s) ≡ placed = cc in
       subst (λ (l : List Placed). IsExactly (frames_between (stream_of file) from to ∷ []) (stream_laid (laid_by chosen l) file s)) same
       (between-exact (choices_by least) (by_usual least) None (replicate 36 0) from to chosen e)
-
-  -- those of a piece
-  piece-exact : (from to : Place) (laid : Laid) → between from to file s ≡ Ok laid → IsExactly (frames_between (stream_of file) from to ∷ []) (stream_laid laid file s)
-  unfolding laid_with
-  piece-exact from to laid e =
-      let chosen = then_ok (cut_choice from to file s) (laid_as (first_planning own_choice) s) laid e in
-      let placed = then_ok (first_planning own_choice s.class (needs_of chosen.0 s)) (λ p. Ok (laid_by chosen.0 p)) laid chosen.2 in
-      let same : laid_by chosen.0 placed.0 ≡ laid = cc in
-      subst (λ (l : Laid). IsExactly (frames_between (stream_of file) from to ∷ []) (stream_laid l file s)) same
-      (cut-exact from to false chosen.0 placed.0 chosen.1 placed.1)
-
-  -- those of each piece
-  module _ (more : List (List ℕ)) (places_in : Contents → Result (List Place) EditFault) (refuses : Refusal → Bool) where
-    abbrev cut : Cutting Place
-    cut = frames_cut more places_in refuses
-
-    from-consist : (from : Place) (places : List Place) (ls : List Laid) → laid_from cut file s from places ≡ Ok ls
-        → AllConsistOf (pieces_from (stream_of file) from places) (map (λ (l : Laid). stream_laid l file s) ls)
-    from-consist from [] ls e = let none : [] ≡ ls = cc in subst (λ (l : List Laid). AllConsistOf [] (map (λ (k : Laid). stream_laid k file s) l)) none tt
-    from-consist from (to ∷ places) ls e =
-        let one = then_ok (between from to file s) (λ first. with_first first (laid_from cut file s to places)) ls e in
-        let more = first-parts one.0 (laid_from cut file s to places) ls one.2 in
-        subst (λ (l : List Laid). AllConsistOf (pieces_from (stream_of file) from (to ∷ places)) (map (λ (k : Laid). stream_laid k file s) l)) more.2
-        (piece-exact from to one.0 one.1, from-consist to places more.0 more.1)
-      where
-        first-parts : (first : Laid) (r : Result (List Laid) EditFault) (all : List Laid) → with_first first r ≡ Ok all → (more : List Laid) × (r ≡ Ok more) × (first ∷ more ≡ all)
-        first-parts first (Ok more) all is = (more, refl, cc)
-        first-parts first (Err fault) all is = absurd cc
-
-    pieces-consist : (places : List Place) (ls : List Laid) → laid_at cut file s places ≡ Ok ls → AllConsistOf (pieces_at (stream_of file) places) (map (λ (l : Laid). stream_laid l file s) ls)
-    pieces-consist [] ls e = let none : [] ≡ ls = cc in subst (λ (l : List Laid). AllConsistOf [] (map (λ (k : Laid). stream_laid k file s) l)) none tt
-    pieces-consist (place ∷ places) ls e = from-consist place places ls e
 
   -- ---- all frames
 
@@ -147,7 +112,7 @@ module _ (file : List ℕ) (s : SurveyFields) (is : survey_of file most_frames �
 abbrev Reads : Contents → List ℕ → List ℕ → Type 0
 Reads files input file = files input ≡ Some file
 
-frames-are : (files : Contents) (input file : List ℕ) → Reads files input file → frames_of files input ≡ stream_of file
+pub frames-are : (files : Contents) (input file : List ℕ) → Reads files input file → frames_of files input ≡ stream_of file
 frames-are files input file there = ap (λ (o : Option (List ℕ)). stream_of (unwrap_or o [])) there
 
 -- frames that are chosen by their survey, and laid by a plan
@@ -183,36 +148,3 @@ pack-holds mode input output files made e =
     let bytes = makes-parts (pack_task mode input) output files made e in
     let free = packed-made mode (files input) (made_where (laying_with all_choice plan) (files input)) bytes.1 bytes.2 in
     (laid-holds all_choice plan (refuses_by mode) (λ l. l) (λ file s chosen placed is. packed-is file s is mode chosen placed) files input bytes.1 free, tt)
-
--- ---- the pieces of a split
-
--- the streams of the pieces, whatever is between two places
-streams-are : {P : Type 0} (cut : Cutting P) (files : Contents) (input : List ℕ) (is : IsSplit cut files input) → streams_where cut (cut.places files) (files input) ≡ map (λ (l : Laid). stream_laid l is.file (cut.survey is.survey)) is.laid
-unfolding streams_where
-streams-are cut files input is = ap₂ (streams_where cut) is.placed is.there ∙ ap (streams_by cut (Ok is.found) is.file) is.surveyed ∙ ap (streams_of is.file (cut.survey is.survey)) is.picked
-
-module _ (more : List (List ℕ)) (places_in : Contents → Result (List Place) EditFault) (refuses : Refusal → Bool) (files : Contents) (input : List ℕ) (is : IsSplit (frames_cut more places_in refuses) files input) where
-  pieces-hold : AllConsistOf (pieces_at (frames_of files input) is.found) (streams_where (frames_cut more places_in refuses) (places_in files) (files input))
-  pieces-hold =
-      subst (λ (l : List (List StreamFrame)). AllConsistOf (pieces_at (frames_of files input) is.found) l) (sym (streams-are (frames_cut more places_in refuses) files input is))
-      (subst (λ (l : List StreamFrame). AllConsistOf (pieces_at l is.found) (map (λ (k : Laid). stream_laid k is.file is.survey) is.laid)) (sym (frames-are files input is.file is.there))
-      (pieces-consist is.file is.survey is.surveyed more places_in refuses is.found is.laid is.picked))
-
-abbrev ok_places : List Place → Result (List Place) EditFault
-ok_places places = Ok places
-
-same-places : (a b : List Place) → ok_places a ≡ ok_places b → a ≡ b
-same-places a b e = cc
-
-pub split_at-holds : (input prefix : List ℕ) (places : List Place) → HoldsChosen (SplitAt input prefix places) (split_command (given places) input prefix)
-split_at-holds input prefix places files made e =
-    let is = (split-parts (given places) files prefix input made e).1.0 in
-    subst (λ (l : List Place). AllConsistOf (pieces_at (frames_of files input) l) (streams_where (given places) (Ok places) (files input))) (sym (same-places places is.found is.placed)) (pieces-hold [] (λ fs. Ok places) cut_refuses files input is)
-
-pub split_by-holds : (input prefix sheet : List ℕ) → HoldsChosen (SplitBy input prefix sheet) (split_command (told_by sheet) input prefix)
-split_by-holds input prefix sheet files made e =
-    let is = (split-parts (told_by sheet) files prefix input made e).1.0 in
-    let cue = cue-parts (files sheet) is.found is.placed in
-    let found : is.found ≡ positions_in (bytes_of files sheet) =
-    sym cue.all ∙ sym (ap (λ (o : Option (List ℕ)). positions_in (unwrap_or o [])) cue.there ∙ ap positions_by cue.read) in
-    subst (λ (l : List Place). AllConsistOf (pieces_at (frames_of files input) l) (streams_where (told_by sheet) ((told_by sheet).places files) (files input))) found (pieces-hold (sheet ∷ []) (λ fs. places_where (fs sheet)) told_refuses files input is)

@@ -5,4 +5,6 @@ pub mod MenuCase
 pub mod JoinCase
 pub mod SalvageCase
 pub mod ChosenCase
+pub mod SpanCase
+pub mod SplitCase
 pub mod JobLaws

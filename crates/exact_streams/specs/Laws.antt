@@ -26,11 +26,13 @@ use Rattle.gain_edits.specs.Undo.{undo_command}
 use Rattle.fading.specs.Fade.{fade_command}
 use Rattle.laying.specs.Laid.{stream_laid}
 use Rattle.frame_edits.specs.Chosen.{Chosen, AreUsual, needs_of, first_plan, plan_of, laid_by, cut_command}
-use Rattle.splitting.specs.Split.{split_at_command, split_by_command}
+use Rattle.exact_span.specs.declared.exact_place.ExactPlace.{ExactPlace}
+use Rattle.frame_edits.specs.Exact.{exact_command}
+use Rattle.splitting.specs.Split.{split_at_command, split_by_command, split_exact_at_command, split_exact_by_command}
 use Rattle.salvaging.specs.Salvaged.{all_of, left_stream, salvage_command}
 use Rattle.pack_mode.specs.declared.mode.PackMode.{PackMode}
 use Rattle.packing.specs.Modes.{plan_by, pack_mode_command}
-use Rattle.job_words.specs.Asked.{Asked, Gain, Undo, Cut, Pack, SplitAt, SplitBy, Join, Fade, Salvage}
+use Rattle.job_words.specs.Asked.{Asked, Gain, Undo, Cut, CutExact, Pack, SplitAt, SplitExact, SplitBy, Join, Fade, Salvage}
 use Rattle.exact_streams.specs.Exact.{IsExactly}
 use Rattle.exact_streams.specs.Chosen.{AllConsistOf, chosen_of}
 
@@ -109,9 +111,12 @@ pub record StreamsAreChosen : Type 0 where
   pub gain : (shift : Shift) (tags : Bool) (input output : List ℕ) → HoldsChosen (Gain shift tags input output) (gain_command shift tags input output)
   pub undo : (input output : List ℕ) → HoldsChosen (Undo input output) (undo_command input output)
   pub cut : (from to : Place) (least : Bool) (input output : List ℕ) → HoldsChosen (Cut from to least input output) (cut_command from to least input output)
+  pub cut_exact : (input : List ℕ) (from to : ExactPlace) (output : List ℕ) → HoldsChosen (CutExact input from to output) (exact_command from to input output)
   pub pack : (mode : PackMode) (input output : List ℕ) → HoldsChosen (Pack mode input output) (pack_mode_command mode input output)
   pub split_at : (input prefix : List ℕ) (places : List Place) → HoldsChosen (SplitAt input prefix places) (split_at_command places input prefix)
-  pub split_by : (input prefix sheet : List ℕ) → HoldsChosen (SplitBy input prefix sheet) (split_by_command input sheet prefix)
+  pub split_by : (input prefix sheet : List ℕ) → HoldsChosen (SplitBy false input prefix sheet) (split_by_command input sheet prefix)
+  pub split_exact : (input prefix : List ℕ) (places : List ExactPlace) → HoldsChosen (SplitExact input prefix places) (split_exact_at_command places input prefix)
+  pub split_exact_by : (input prefix sheet : List ℕ) → HoldsChosen (SplitBy true input prefix sheet) (split_exact_by_command input sheet prefix)
   pub join : (output : List ℕ) (inputs : List (List ℕ)) → HoldsChosen (Join output inputs) (join_command output inputs)
   pub fade : (back : Bool) (input output sheet : List ℕ) → HoldsChosen (Fade back input output sheet) (fade_command sheet back input output)
   pub salvage : (input output : List ℕ) → HoldsChosen (Salvage input output) (salvage_command input output)

@@ -14,7 +14,7 @@ use Rattle.job_words.specs.declared.flags.Flag.{Flag}
 use Rattle.job_words.specs.Kinds.{Kind, Fixed, Name, fits_kind, values_of, Said}
 use Rattle.job_words.specs.Flags.{given_kinds, given_in, first_word, orders}
 use Rattle.job_words.specs.Asked.{Asked}
-use Rattle.job_words.specs.Forms.{Form, Shape, forms, shape_with, shapes_of, shapes, last_kind, kinds_behind, asked_of, is_clear, IsReadable, front_kinds, reads_of}
+use Rattle.job_words.specs.Forms.{Form, Shape, forms, shape_with, shapes_of, shapes, last_kind, kinds_behind, asked_of, is_clear, most_values, IsReadable, front_kinds, reads_of}
 use Rattle.job_words.specs.Words.{have_kinds, kinds_in, followed, furthest, shape_in, read_as, reading}
 use Rattle.job_words.proofs.Lists.{only_one, contains_map, all_flat_map, greatest_is, greatest_append, whole}
 use Rattle.job_words.proofs.Orders.{IsNowhere, IsNoBetter, nowhere, after_same, of_equal, IsOrder, orders_are, given_is_order, kinds_by, IsClear, no_better}
@@ -83,7 +83,7 @@ module _ (form : Form) (readable : IsReadable form) (words : List (List ℕ)) (g
   count-is : length values ≡ common_prefix_len fits_kind kinds words
   count-is = ap length f.values-is ∙ length-values_of kinds words
 
-  pub few : length (drop front values) ≤ 102
+  pub few : length (drop front values) ≤ most_values form.asks
   few =
       let behind = kinds_behind form (length words - front) in
       let within : length (drop front values) ≤ length kinds - front = omega (arith, length-drop front values, count-is, common_prefix_len-le fits_kind kinds words) in
@@ -145,12 +145,12 @@ listed_form table shape member =
     All-contains P (shapes table) shape (all_flat_map P shapes_of table (λ form member. All-map P (shape_with form) (orders form.flags) (λ k d lt. member))) member
 
 abbrev is_readable : Form → Bool
-is_readable form = leb (length form.flags) 4 && leb (length form.kinds) 5 && leb form.more 98 && leb (length form.kinds + form.more) 102 && is_clear form
+is_readable form = leb (length form.flags) 4 && leb (length form.kinds) 5 && leb form.more 98 && leb (length form.kinds + form.more) (most_values form.asks) && is_clear form
 
 readable_by : (form : Form) → is_readable form ≡ true → IsReadable form
 readable_by form all =
     let clear = and_parts _ (is_clear form) all in
-    let words = and_parts _ (leb (length form.kinds + form.more) 102) clear.0 in
+    let words = and_parts _ (leb (length form.kinds + form.more) (most_values form.asks)) clear.0 in
     let more = and_parts _ (leb form.more 98) words.0 in
     let both = and_parts (leb (length form.flags) 4) (leb (length form.kinds) 5) more.0 in
     record { flags = leb-true _ _ both.0; kinds = leb-true _ _ both.1; more = leb-true _ _ more.1; words = leb-true _ _ words.1; clear = clear.1 }

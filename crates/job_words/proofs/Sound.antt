@@ -2,6 +2,7 @@
 use Rattle.std.proofs.Common.{◌≡◌, ℕ, zero, suc, ◌≤◌, ◌&&◌, ◌==◌, true, false, cond, ◌-◌, List, [], ◌∷◌, ◌++◌, length, get_or, drop, map, min, Option, Some, None, refl, subst, leb, pos, neg_ℤ, arith, append-nil}
 use Rattle.std.specs.Prelude.{Contains, IfSome, option_map, option_and_then, if◌then◌else◌, codes, bytes_eq, is_some}
 use Rattle.std.specs.List.{All, AllZip, before_first, after_first, position_or_len}
+use Rattle.std.specs.Option.{option_or}
 use Rattle.std.specs.Str.{all_ascii_digits}
 use Rattle.std.specs.Str.Parse.{digits_value}
 use Rattle.std.proofs.lemmas.Int.{ints}
@@ -12,9 +13,12 @@ use Rattle.std.proofs.lemmas.Slice.Zip.{AllZip-long}
 use Rattle.cue_sheet.specs.declared.place.Place.TheVariants.{Frame}
 use Rattle.cue_sheet.specs.Digits.{number_in, size_in, steps_in}
 use Rattle.cue_sheet.specs.Places.{is_dot, time_in, seconds_in, hundredths_in, time_of, place_of, IsPlace}
+use Rattle.exact_span.specs.declared.exact_place.ExactPlace.{ExactPlace}
+use Rattle.exact_span.specs.declared.exact_place.ExactPlace.TheVariants.{Place as OfPosition, Sample, Millis, Back}
+use Rattle.exact_span.specs.Places.{sample_of, millis_of, back_of, exact_place_of, IsExactPlace}
 use Rattle.job_words.specs.declared.flags.Flag.{Flag}
-use Rattle.job_words.specs.Kinds.{Kind, Fixed, Name, Steps, Channel, Place, Rate, Seed, Count, Said, NameSaid, StepsSaid, PlaceSaid, SeedSaid, CountSaid, is_name, seed_in, count_in, said, said_first, fits_kind, name_said, steps_said, place_said, seed_said, count_said, said_at, values_of}
-use Rattle.job_words.specs.Forms.{Form, Shape, forms, help, short_help, version, list_form, gain_form, channel_form, undo_form, cut_form, pack_form, constant_form, floor_form, best_form, split_form, sheet_form, join_form, drill_form, fade_form, salvage_form, kinds_behind, front_of, reads_of, asked_of}
+use Rattle.job_words.specs.Kinds.{Kind, Fixed, Name, Steps, Channel, Place, Exact, Rate, Seed, Count, Said, NameSaid, StepsSaid, PlaceSaid, ExactSaid, SeedSaid, CountSaid, is_name, seed_in, count_in, said, said_first, fits_kind, name_said, steps_said, place_said, exact_said, seed_said, count_said, said_at, values_of}
+use Rattle.job_words.specs.Forms.{Form, Shape, forms, help, short_help, version, list_form, gain_form, channel_form, undo_form, cut_form, exact_form, pack_form, constant_form, floor_form, best_form, split_form, exact_split_form, sheet_form, exact_sheet_form, join_form, drill_form, fade_form, salvage_form, kinds_behind, front_of, reads_of, asked_of}
 use Rattle.job_words.specs.Words.{have_kinds, kinds_in, IsName, IsStepCount, IsSeed, IsCount, IsSound}
 use Rattle.job_words.proofs.Lists.{zipped, zip_drop, zip_replicate}
 use Rattle.job_words.proofs.Follow.{length-kinds_behind}
@@ -65,6 +69,21 @@ place_in_range word =
     (λ other. cond_both (position_or_len is_dot word == length word) _ _ (λ o. IfSome o IsPlace) (λ number. mapped Frame IsPlace (number_in 1 7 9999999 word) (anything (number_in 1 7 9999999 word)))
     (λ time. timed (number_in 1 4 9999 (before_first is_dot word)) (seconds_in rest) (hundredths_in rest)))
 
+fine : (o : Option ℕ) → (f : ℕ → ExactPlace) → ((n : ℕ) → IsExactPlace (f n)) → IfSome (option_map f o) IsExactPlace
+fine None f each = tt
+fine (Some n) f each = each n
+
+either : (o rest : Option ExactPlace) → IfSome o IsExactPlace → IfSome rest IsExactPlace → IfSome (option_or o rest) IsExactPlace
+either None rest first second = second
+either (Some place) rest first second = first
+
+exact_in_range : (word : List ℕ) → IfSome (exact_place_of word) IsExactPlace
+unfolding exact_place_of
+exact_in_range word =
+    either (option_map OfPosition (place_of word)) _ (mapped OfPosition IsExactPlace (place_of word) (place_in_range word))
+    (either (option_map Sample (sample_of word)) _ (fine (sample_of word) Sample (λ n. tt))
+    (either (option_map Millis (millis_of word)) (option_map Back (back_of word)) (fine (millis_of word) Millis (λ n. tt)) (fine (back_of word) Back (λ n. tt))))
+
 count_in_range : (o : Option ℕ) → IfSome o (λ count. count ≤ 20000) → IfSome (option_and_then (λ count. if count == 0 then None else Some count) o) IsCount
 count_in_range None few = tt
 count_in_range (Some count) few = cond_both (count == 0) None (Some count) (λ o. IfSome o IsCount) (λ none. tt) (λ some. record { some = omega (arith, eqb-false count 0 some); few = few })
@@ -76,6 +95,7 @@ abbrev IsRight : Kind → Said → Type 0
 IsRight Name value = IsName (name_said value)
 IsRight Steps value = IsStepCount (steps_said value)
 IsRight Place value = IsPlace (place_said value)
+IsRight Exact value = IsExactPlace (exact_said value)
 IsRight Seed value = IsSeed (seed_said value)
 IsRight Count value = IsCount (count_said value)
 IsRight _ value = Unit {0}
@@ -84,6 +104,7 @@ said_right : (kind : Kind) (word : List ℕ) → IfSome (said kind word) (IsRigh
 said_right Name word = cond_both (is_name word) (Some (NameSaid word)) None (λ o. IfSome o (IsRight Name)) (λ is. is) (λ other. tt)
 said_right Steps word = mapped StepsSaid (IsRight Steps) (steps_in word) (steps_in_range word)
 said_right Place word = mapped PlaceSaid (IsRight Place) (place_of word) (place_in_range word)
+said_right Exact word = mapped ExactSaid (IsRight Exact) (exact_place_of word) (exact_in_range word)
 said_right Seed word = mapped SeedSaid (IsRight Seed) (seed_in word) (number_within 1 10 2147483647 word IsSeed (λ seed le. omega arith))
 said_right Count word = mapped CountSaid (IsRight Count) (count_in word) (count_in_range (number_in 1 5 20000 word) (number_within 1 5 20000 word (λ count. count ≤ 20000) (λ count le. le)))
 said_right (Fixed text) word = anything (said (Fixed text) word)
@@ -135,6 +156,14 @@ split_is_sound count given values words right fits =
     let each = zip_replicate IsRight (suc (suc (min 98 (count - 4)))) Place (drop 2 values) (zip_drop IsRight 2 kinds values right) in
     (at 0, at 1, record { some = omega (arith, many, length-kinds_behind split_form count); few = omega (arith, many, length-kinds_behind split_form count); each = All-map IsPlace place_said (drop 2 values) each })
 
+exact_split_is_sound : AreSound exact_split_form
+exact_split_is_sound count given values words right fits =
+    let kinds = kinds_behind exact_split_form count in
+    let at = at_place kinds values right in
+    let many : length (map exact_said (drop 3 values)) ≡ length kinds - 3 = rw (length-map, length-drop, AllZip-long IsRight kinds values right) refl in
+    let each = zip_replicate IsRight (suc (suc (min 98 (count - 5)))) Exact (drop 3 values) (zip_drop IsRight 3 kinds values right) in
+    (at 1, at 2, record { some = omega (arith, many, length-kinds_behind exact_split_form count); few = omega (arith, many, length-kinds_behind exact_split_form count); each = All-map IsExactPlace exact_said (drop 3 values) each })
+
 join_is_sound : AreSound join_form
 join_is_sound count given values words right fits =
     let kinds = kinds_behind join_form count in
@@ -156,16 +185,19 @@ forms_are_sound =
     (also (once channel_form refl (λ given values words at. (at 3, at 4, at 2)))
     (also (once undo_form refl (λ given values words at. (at 1, at 2)))
     (also (once cut_form refl (λ given values words at. (at 0, at 3, at 1, at 2)))
+    (also (once exact_form refl (λ given values words at. (at 1, at 4, at 2, at 3)))
     (also (once pack_form refl (λ given values words at. (at 0, at 1)))
     (also (once constant_form refl (λ given values words at. (at 2, at 3)))
     (also (once floor_form refl (λ given values words at. (at 2, at 3)))
     (also (once best_form refl (λ given values words at. (at 1, at 2)))
     (also split_is_sound
+    (also exact_split_is_sound
     (also (once sheet_form refl (λ given values words at. (at 0, at 1, at 3)))
+    (also (once exact_sheet_form refl (λ given values words at. (at 1, at 2, at 4)))
     (also join_is_sound
     (also (once drill_form refl (λ given values words at. (at 0, at 1)))
     (also (once fade_form refl (λ given values words at. (at 0, at 1, at 2)))
-    (also (once salvage_form refl (λ given values words at. (at 0, at 1))) tt))))))))))))))))))
+    (also (once salvage_form refl (λ given values words at. (at 0, at 1))) tt)))))))))))))))))))))
 
 pub shape_is_sound : (shape : Shape) (words : List (List ℕ)) → Contains forms shape.form → have_kinds (kinds_in words shape) words ≡ true → IsSound (asked_of shape words)
 shape_is_sound shape words member all =

@@ -1,6 +1,7 @@
 -- What the program is asked to do. Names are bytes.
 use Rattle.std.specs.Prelude.{ℕ, Bool, List}
 use Rattle.cue_sheet.specs.declared.place.Place.{Place}
+use Rattle.exact_span.specs.declared.exact_place.ExactPlace.{ExactPlace}
 use Rattle.moved_gains.specs.declared.shift.Shift.{Shift}
 use Rattle.pack_mode.specs.declared.mode.PackMode.{PackMode}
 
@@ -15,12 +16,16 @@ pub data Asked : Type 0 where
   Undo : List ℕ → List ℕ → Asked
   -- the position of the first frame and that of the first after them, whether each has the least slot, the names of the input and of the output
   Cut : Place → Place → Bool → List ℕ → List ℕ → Asked
+  -- the name of the input, the place of the first sample and that of the first after them, and the name of the output
+  CutExact : List ℕ → ExactPlace → ExactPlace → List ℕ → Asked
   -- how the bit rates are chosen, the names of the input and of the output
   Pack : PackMode → List ℕ → List ℕ → Asked
   -- the name of the input, what the names of the outputs begin with, and the positions
   SplitAt : List ℕ → List ℕ → List Place → Asked
-  -- the name of the input, what the names of the outputs begin with, and the name of the cue sheet
-  SplitBy : List ℕ → List ℕ → List ℕ → Asked
+  -- the name of the input, what the names of the outputs begin with, and the places among the samples
+  SplitExact : List ℕ → List ℕ → List ExactPlace → Asked
+  -- whether at samples, the name of the input, what the names of the outputs begin with, and the name of the cue sheet
+  SplitBy : Bool → List ℕ → List ℕ → List ℕ → Asked
   -- the name of the output, and those of the inputs
   Join : List ℕ → List (List ℕ) → Asked
   -- the seed of a stream, and the number of its frames

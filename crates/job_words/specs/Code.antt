@@ -7,9 +7,9 @@ use Rattle.job_words.specs.declared.kinds.Value.TheVariants as value
 use Rattle.job_words.specs.declared.forms.Form.{Form as CodeForm}
 use Rattle.job_words.specs.declared.jobs.Job.{Job}
 use Rattle.job_words.specs.declared.jobs.Job.TheVariants as job
-use Rattle.job_words.specs.Kinds.{Kind, Fixed, Name, Steps, Channel, Place, Rate, Seed, Count, Said, Itself, NameSaid, StepsSaid, ChannelSaid, PlaceSaid, RateSaid, SeedSaid, CountSaid}
+use Rattle.job_words.specs.Kinds.{Kind, Fixed, Name, Steps, Channel, Place, Exact, Rate, Seed, Count, Said, Itself, NameSaid, StepsSaid, ChannelSaid, PlaceSaid, ExactSaid, RateSaid, SeedSaid, CountSaid}
 use Rattle.job_words.specs.Forms.{Form}
-use Rattle.job_words.specs.Asked.{Asked, Help, Version, ListFile, Gain, Undo, Cut, Pack, SplitAt, SplitBy, Join, Drill, Fade, Salvage}
+use Rattle.job_words.specs.Asked.{Asked, Help, Version, ListFile, Gain, Undo, Cut, CutExact, Pack, SplitAt, SplitExact, SplitBy, Join, Drill, Fade, Salvage}
 
 abbrev pub word_kind : WordKind → Kind
 word_kind (code.Fixed text) = Fixed text.now
@@ -17,6 +17,7 @@ word_kind code.Name = Name
 word_kind code.Steps = Steps
 word_kind code.Channel = Channel
 word_kind code.Place = Place
+word_kind code.Exact = Exact
 word_kind code.Rate = Rate
 word_kind code.Seed = Seed
 word_kind code.Count = Count
@@ -27,6 +28,7 @@ value_said (value.Name name) = NameSaid name.now
 value_said (value.Steps steps) = StepsSaid steps
 value_said (value.Channel channel) = ChannelSaid channel
 value_said (value.Place place) = PlaceSaid place
+value_said (value.Exact place) = ExactSaid place
 value_said (value.Rate rate) = RateSaid rate
 value_said (value.Seed seed) = SeedSaid seed
 value_said (value.Count count) = CountSaid count
@@ -41,9 +43,11 @@ asked (job.List input) = ListFile input.now
 asked (job.Gain shift tags input output) = Gain shift tags input.now output.now
 asked (job.Undo input output) = Undo input.now output.now
 asked (job.Cut from to least input output) = Cut from to least input.now output.now
+asked (job.CutExact input from to output) = CutExact input.now from to output.now
 asked (job.Pack mode input output) = Pack mode input.now output.now
 asked (job.SplitAt input prefix places) = SplitAt input.now prefix.now places.items
-asked (job.SplitBy input prefix sheet) = SplitBy input.now prefix.now sheet.now
+asked (job.SplitExact input prefix places) = SplitExact input.now prefix.now places.items
+asked (job.SplitBy exact input prefix sheet) = SplitBy exact input.now prefix.now sheet.now
 asked (job.Join output inputs) = Join output.now (map string_bytes inputs.now)
 asked (job.Drill seed count) = Drill seed count
 asked (job.Fade back input output sheet) = Fade back input.now output.now sheet.now

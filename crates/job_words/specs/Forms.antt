@@ -1,5 +1,5 @@
 -- The forms that the program's words have, and what the words of a form ask for.
-use Rattle.std.specs.Prelude.{◌≡◌, ◌≤◌, ℕ, ◌+◌, ◌-◌, min, Bool, true, not, List, [], ◌∷◌, ◌++◌, length, map, drop, replicate, slice_index_or, codes}
+use Rattle.std.specs.Prelude.{◌≡◌, ◌≤◌, ℕ, ◌+◌, ◌-◌, min, Bool, true, false, not, List, [], ◌∷◌, ◌++◌, length, map, drop, replicate, slice_index_or, codes}
 use Rattle.std.specs.List.{flat_map, list_all}
 use Rattle.moved_gains.specs.declared.shift.Channels.{Channels}
 use Rattle.moved_gains.specs.declared.shift.Channels.TheVariants.{Both}
@@ -9,9 +9,9 @@ use Rattle.job_words.specs.declared.flags.Flag.{Flag}
 use Rattle.job_words.specs.declared.flags.Flag.TheVariants.{Tagless, Wrapping, Least, Back}
 use Rattle.job_words.specs.declared.forms.Asks.{Asks}
 use Rattle.job_words.specs.declared.forms.Asks.TheVariants as asks
-use Rattle.job_words.specs.Kinds.{Kind, Fixed, Name, Steps, Channel, Place, Rate, Seed, Count, Said, fits_kind, name_at, said_at, steps_said, channels_said, place_said, rate_said, seed_said, count_said, values_of}
+use Rattle.job_words.specs.Kinds.{Kind, Fixed, Name, Steps, Channel, Place, Exact, Rate, Seed, Count, Said, fits_kind, name_at, said_at, steps_said, channels_said, place_said, exact_said, rate_said, seed_said, count_said, values_of}
 use Rattle.job_words.specs.Flags.{given_kinds, first_word, is_given, orders}
-use Rattle.job_words.specs.Asked.{Asked, Help, Version, ListFile, Gain, Undo, Cut, Pack, SplitAt, SplitBy, Join, Drill, Fade, Salvage}
+use Rattle.job_words.specs.Asked.{Asked, Help, Version, ListFile, Gain, Undo, Cut, CutExact, Pack, SplitAt, SplitExact, SplitBy, Join, Drill, Fade, Salvage}
 
 -- the command's word, the flags that may be after it, the kinds of the words after those, how many further words of the last kind there may be,
 -- and what is asked for
@@ -54,6 +54,10 @@ undo_form = record { command = codes "gain"; flags = []; kinds = Fixed (codes "-
 abbrev pub cut_form : Form
 cut_form = record { command = codes "cut"; flags = Least ∷ []; kinds = Name ∷ Place ∷ Place ∷ Name ∷ []; more = 0; asks = asks.Cut }
 
+-- `cut --exact IN FROM TO OUT`
+abbrev pub exact_form : Form
+exact_form = record { command = codes "cut"; flags = []; kinds = Fixed (codes "--exact") ∷ Name ∷ Exact ∷ Exact ∷ Name ∷ []; more = 0; asks = asks.CutExact }
+
 -- `pack IN OUT`
 abbrev pub pack_form : Form
 pack_form = record { command = codes "pack"; flags = []; kinds = Name ∷ Name ∷ []; more = 0; asks = asks.Pack }
@@ -74,9 +78,19 @@ best_form = record { command = codes "pack"; flags = []; kinds = Fixed (codes "-
 abbrev pub split_form : Form
 split_form = record { command = codes "split"; flags = []; kinds = Name ∷ Name ∷ Place ∷ Place ∷ []; more = 98; asks = asks.SplitAt }
 
+-- `split --exact IN PREFIX P1 P2 [P3 to P100]`
+abbrev pub exact_split_form : Form
+exact_split_form =
+    record { command = codes "split"; flags = []; kinds = Fixed (codes "--exact") ∷ Name ∷ Name ∷ Exact ∷ Exact ∷ []; more = 98; asks = asks.SplitExact }
+
 -- `split IN PREFIX -c CUE`
 abbrev pub sheet_form : Form
 sheet_form = record { command = codes "split"; flags = []; kinds = Name ∷ Name ∷ Fixed (codes "-c") ∷ Name ∷ []; more = 0; asks = asks.SplitBy }
+
+-- `split --exact IN PREFIX -c CUE`
+abbrev pub exact_sheet_form : Form
+exact_sheet_form =
+    record { command = codes "split"; flags = []; kinds = Fixed (codes "--exact") ∷ Name ∷ Name ∷ Fixed (codes "-c") ∷ Name ∷ []; more = 0; asks = asks.SplitExactBy }
 
 -- `join OUT IN1 [IN2 to IN64]`
 abbrev pub join_form : Form
@@ -97,8 +111,8 @@ salvage_form = record { command = codes "salvage"; flags = []; kinds = Name ∷ 
 -- all of them
 abbrev pub forms : List Form
 forms =
-    help ∷ short_help ∷ version ∷ list_form ∷ gain_form ∷ channel_form ∷ undo_form ∷ cut_form ∷ pack_form ∷ constant_form ∷ floor_form
-    ∷ best_form ∷ split_form ∷ sheet_form ∷ join_form ∷ drill_form ∷ fade_form ∷ salvage_form ∷ []
+    help ∷ short_help ∷ version ∷ list_form ∷ gain_form ∷ channel_form ∷ undo_form ∷ cut_form ∷ exact_form ∷ pack_form ∷ constant_form
+    ∷ floor_form ∷ best_form ∷ split_form ∷ exact_split_form ∷ sheet_form ∷ exact_sheet_form ∷ join_form ∷ drill_form ∷ fade_form ∷ salvage_form ∷ []
 
 -- ---- the kinds of a form's words
 
@@ -149,6 +163,10 @@ gain_asked channels given values place =
 abbrev pub pack_asked : PackMode → List Said → ℕ → Asked
 pack_asked mode values place = Pack mode (name_at values place) (name_at values (place + 1))
 
+-- a split by a cue sheet: the values from this place on are its input, its prefix, a fixed word and the sheet
+abbrev pub sheet_asked : Bool → List Said → ℕ → Asked
+sheet_asked exact values place = SplitBy exact (name_at values place) (name_at values (place + 1)) (name_at values (place + 3))
+
 -- what is asked for by the flags that are given, by what the words after them say, and by these words themselves
 abbrev pub reads_of : Asks → List Flag → List Said → List (List ℕ) → Asked
 reads_of asks.Help given values words = Help
@@ -159,12 +177,16 @@ reads_of asks.ChannelGain given values words = gain_asked (channels_said (said_a
 reads_of asks.Undo given values words = Undo (name_at values 1) (name_at values 2)
 reads_of asks.Cut given values words =
     Cut (place_said (said_at values 1)) (place_said (said_at values 2)) (is_given given Least) (name_at values 0) (name_at values 3)
+reads_of asks.CutExact given values words =
+    CutExact (name_at values 1) (exact_said (said_at values 2)) (exact_said (said_at values 3)) (name_at values 4)
 reads_of asks.Pack given values words = pack_asked LeastMode values 0
 reads_of asks.ConstantPack given values words = pack_asked (Constant (rate_said (said_at values 1))) values 2
 reads_of asks.FloorPack given values words = pack_asked (Floor (rate_said (said_at values 1))) values 2
 reads_of asks.BestPack given values words = pack_asked Best values 1
 reads_of asks.SplitAt given values words = SplitAt (name_at values 0) (name_at values 1) (map place_said (drop 2 values))
-reads_of asks.SplitBy given values words = SplitBy (name_at values 0) (name_at values 1) (name_at values 3)
+reads_of asks.SplitExact given values words = SplitExact (name_at values 1) (name_at values 2) (map exact_said (drop 3 values))
+reads_of asks.SplitBy given values words = sheet_asked false values 0
+reads_of asks.SplitExactBy given values words = sheet_asked true values 1
 reads_of asks.Join given values words = Join (name_at values 0) (drop 1 words)
 reads_of asks.Drill given values words = Drill (seed_said (said_at values 0)) (count_said (said_at values 1))
 reads_of asks.Fade given values words = Fade (is_given given Back) (name_at values 0) (name_at values 1) (name_at values 2)
@@ -178,6 +200,11 @@ asked_of shape words =
 
 -- ---- what holds of each form
 
+-- the most words after the flags that may be read for what is asked: 100 places, and those before them
+abbrev pub most_values : Asks → ℕ
+most_values asks.SplitExact = 103
+most_values _ = 102
+
 -- no flag's first word can be the first word after the flags
 abbrev pub is_clear : Form → Bool
 is_clear form = list_all (λ flag. not (fits_kind (slice_index_or form.kinds 0 Name) (first_word flag))) form.flags
@@ -187,5 +214,5 @@ pub record IsReadable (form : Form) : Type 0 where
   pub flags : length form.flags ≤ 4
   pub kinds : length form.kinds ≤ 5
   pub more : form.more ≤ 98
-  pub words : length form.kinds + form.more ≤ 102
+  pub words : length form.kinds + form.more ≤ most_values form.asks
   pub clear : is_clear form ≡ true

@@ -4,6 +4,9 @@ use Rattle.cue_sheet.specs.declared.place.Place.{Place as StreamPlace}
 use Rattle.cue_sheet.specs.declared.place.Place.TheVariants.{End}
 use Rattle.cue_sheet.specs.Digits.{number_in, steps_in}
 use Rattle.cue_sheet.specs.Places.{place_of}
+use Rattle.exact_span.specs.declared.exact_place.ExactPlace.{ExactPlace}
+use Rattle.exact_span.specs.declared.exact_place.ExactPlace.TheVariants.{Place as OfPosition}
+use Rattle.exact_span.specs.Places.{exact_place_of}
 use Rattle.moved_gains.specs.declared.shift.Channels.{Channels}
 use Rattle.moved_gains.specs.declared.shift.Channels.TheVariants.{Both, Left, Right}
 
@@ -19,6 +22,8 @@ pub data Kind : Type 0 where
   Channel : Kind
   -- a position
   Place : Kind
+  -- a place among the samples
+  Exact : Kind
   -- a bit rate in kbit/s
   Rate : Kind
   -- the seed of a stream
@@ -58,6 +63,8 @@ pub data Said : Type 0 where
   ChannelSaid : Channels → Said
   -- a position
   PlaceSaid : StreamPlace → Said
+  -- a place among the samples
+  ExactSaid : ExactPlace → Said
   -- a bit rate in kbit/s
   RateSaid : ℕ → Said
   -- a seed
@@ -72,6 +79,7 @@ said Name word = if is_name word then Some (NameSaid word) else None
 said Steps word = option_map StepsSaid (steps_in word)
 said Channel word = option_map ChannelSaid (channel_of word)
 said Place word = option_map PlaceSaid (place_of word)
+said Exact word = option_map ExactSaid (exact_place_of word)
 said Rate word = option_map RateSaid (rate_in word)
 said Seed word = option_map SeedSaid (seed_in word)
 said Count word = option_map CountSaid (count_in word)
@@ -95,6 +103,10 @@ channels_said _ = Both
 abbrev pub place_said : Said → StreamPlace
 place_said (PlaceSaid place) = place
 place_said _ = End
+
+abbrev pub exact_said : Said → ExactPlace
+exact_said (ExactSaid place) = place
+exact_said _ = OfPosition End
 
 abbrev pub rate_said : Said → ℕ
 rate_said (RateSaid rate) = rate

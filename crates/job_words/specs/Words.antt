@@ -4,8 +4,10 @@ use Rattle.std.specs.List.{All, common_prefix_len}
 use Rattle.std.specs.Cmp.Lexicographic.{pointwise}
 use Rattle.cue_sheet.specs.declared.place.Place.{Place}
 use Rattle.cue_sheet.specs.Places.{IsPlace}
+use Rattle.exact_span.specs.declared.exact_place.ExactPlace.{ExactPlace}
+use Rattle.exact_span.specs.Places.{IsExactPlace}
 use Rattle.job_words.specs.Kinds.{Kind, is_name, fits_kind}
-use Rattle.job_words.specs.Asked.{Asked, Help, Version, ListFile, Gain, Undo, Cut, Pack, SplitAt, SplitBy, Join, Drill, Fade, Salvage}
+use Rattle.job_words.specs.Asked.{Asked, Help, Version, ListFile, Gain, Undo, Cut, CutExact, Pack, SplitAt, SplitExact, SplitBy, Join, Drill, Fade, Salvage}
 use Rattle.job_words.specs.Forms.{forms, Shape, shapes, kinds_for, asked_of}
 
 -- ---- the reading
@@ -90,6 +92,12 @@ pub record AreSplitPlaces (places : List Place) : Type 0 where
   pub few : length places ≤ 100
   pub each : All IsPlace places
 
+-- places among the samples at which a stream can be split
+pub record AreExactPlaces (places : List ExactPlace) : Type 0 where
+  pub some : 2 ≤ length places
+  pub few : length places ≤ 100
+  pub each : All IsExactPlace places
+
 -- a seed of a stream, and a number of its frames that can be asked for
 abbrev pub IsSeed : ℕ → Type 0
 IsSeed seed = seed < 2147483648
@@ -105,9 +113,11 @@ IsSound (ListFile input) = IsName input
 IsSound (Gain shift tags input output) = IsName input × IsName output × IsStepCount shift.steps
 IsSound (Undo input output) = IsName input × IsName output
 IsSound (Cut from to least input output) = IsName input × IsName output × IsPlace from × IsPlace to
+IsSound (CutExact input from to output) = IsName input × IsName output × IsExactPlace from × IsExactPlace to
 IsSound (Pack mode input output) = IsName input × IsName output
 IsSound (SplitAt input prefix places) = IsName input × IsName prefix × AreSplitPlaces places
-IsSound (SplitBy input prefix sheet) = IsName input × IsName prefix × IsName sheet
+IsSound (SplitExact input prefix places) = IsName input × IsName prefix × AreExactPlaces places
+IsSound (SplitBy exact input prefix sheet) = IsName input × IsName prefix × IsName sheet
 IsSound (Join output inputs) = IsName output × AreInputs inputs
 IsSound (Drill seed count) = IsSeed seed × IsCount count
 IsSound (Fade back input output sheet) = IsName input × IsName output × IsName sheet

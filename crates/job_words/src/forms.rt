@@ -1,8 +1,8 @@
 //! The forms that the program's words have.
 ghost use Rattle.std.specs.Prelude.{◌≡◌, ◌≤◌, ◌+◌, ◌++◌, length, map, replicate, string_bytes, IfErr};
-ghost use Rattle.job_words.specs.Kinds.{said_at, name_at as name_at_lem, place_said, values_of};
+ghost use Rattle.job_words.specs.Kinds.{said_at, name_at as name_at_lem, place_said, exact_said, values_of};
 ghost use Rattle.job_words.specs.Flags.{flag_kinds};
-ghost use Rattle.job_words.specs.Forms.{shapes_of, last_kind, kinds_behind, front_kinds as front_kinds_lem, gain_asked, pack_asked, reads_of, IsReadable};
+ghost use Rattle.job_words.specs.Forms.{shapes_of, last_kind, kinds_behind, front_kinds as front_kinds_lem, gain_asked, pack_asked, sheet_asked, reads_of, most_values, IsReadable};
 ghost use Rattle.job_words.specs.Words.{reading};
 ghost use Rattle.job_words.specs.Code.{word_kind, value_said, form_given, asked, answer};
 
@@ -11,6 +11,7 @@ use crate::jobs::Job;
 use crate::kinds::{Value, WordKind};
 use arrayvec::ArrayVec;
 use cue_sheet::Place;
+use exact_span::ExactPlace;
 use moved_gains::{Channels, Shift};
 use pack_mode::PackMode;
 
@@ -24,12 +25,15 @@ pub(crate) enum Asks {
     ChannelGain,
     Undo,
     Cut,
+    CutExact,
     Pack,
     ConstantPack,
     FloorPack,
     BestPack,
     SplitAt,
+    SplitExact,
     SplitBy,
+    SplitExactBy,
     Join,
     Drill,
     Fade,
@@ -58,9 +62,9 @@ macro_rules! form {
     };
 }
 
-/// The forms. C is a channel, N a number of steps, B a bit rate, SEED and COUNT are numbers, P1 to P100, FROM and TO positions; all
-/// others are names.
-pub(crate) static FORMS: [Form; 18] = [
+/// The forms. C is a channel, N a number of steps, B a bit rate, SEED and COUNT are numbers, P1 to P100, FROM and TO positions, after
+/// `--exact` places among the samples; all others are names.
+pub(crate) static FORMS: [Form; 21] = [
     // `--help`
     form!(Help: "--help" [] [] 0),
     // `-h`
@@ -77,6 +81,8 @@ pub(crate) static FORMS: [Form; 18] = [
     form!(Undo: "gain" [] [Fixed("-u") Name Name] 0),
     // `cut [--least] IN FROM TO OUT`
     form!(Cut: "cut" [Least] [Name Place Place Name] 0),
+    // `cut --exact IN FROM TO OUT`
+    form!(CutExact: "cut" [] [Fixed("--exact") Name Exact Exact Name] 0),
     // `pack IN OUT`
     form!(Pack: "pack" [] [Name Name] 0),
     // `pack --constant B IN OUT`
@@ -87,8 +93,12 @@ pub(crate) static FORMS: [Form; 18] = [
     form!(BestPack: "pack" [] [Fixed("--best") Name Name] 0),
     // `split IN PREFIX P1 P2 [P3 to P100]`
     form!(SplitAt: "split" [] [Name Name Place Place] 98),
+    // `split --exact IN PREFIX P1 P2 [P3 to P100]`
+    form!(SplitExact: "split" [] [Fixed("--exact") Name Name Exact Exact] 98),
     // `split IN PREFIX -c CUE`
     form!(SplitBy: "split" [] [Name Name Fixed("-c") Name] 0),
+    // `split --exact IN PREFIX -c CUE`
+    form!(SplitExactBy: "split" [] [Fixed("--exact") Name Name Fixed("-c") Name] 0),
     // `join OUT IN1 [IN2 to IN64]`
     form!(Join: "join" [] [Name Name] 63),
     // `drill SEED COUNT`
@@ -113,6 +123,18 @@ fn places_of(values: &[Value]) -> ArrayVec<Place, 100>
     let mut places = ArrayVec::new();
     for value in values {
         places.push(value.place());
+    }
+    places
+}
+
+// The places among the samples that the values are.
+fn exact_places_of(values: &[Value]) -> ArrayVec<ExactPlace, 100>
+    requires { length values.now ≤ 100 }
+    ensures { result.items ≡ map exact_said (map value_said values.now) }
+{
+    let mut places = ArrayVec::new();
+    for value in values {
+        places.push(value.exact());
     }
     places
 }
@@ -163,6 +185,19 @@ fn pack<'a>(mode: PackMode, values: &[Value<'a>], place: usize) -> Job<'a>
     }
 }
 
+// A split by a cue sheet: the values from this place on, counted from 0, are its input and its prefix, a fixed word and the sheet.
+fn split_by<'a>(exact: bool, values: &[Value<'a>], place: usize) -> Job<'a>
+    requires { place ≤ 2 }
+    ensures { asked result ≡ sheet_asked exact (map value_said values.now) place }
+{
+    Job::SplitBy {
+        exact,
+        input: name_at(values, place),
+        prefix: name_at(values, place + 1),
+        sheet: name_at(values, place + 3),
+    }
+}
+
 impl Asks {
     /// What is asked for by these flags, by what the words after them say, and by these words themselves.
     pub(crate) fn job<'a>(
@@ -171,7 +206,7 @@ impl Asks {
         values: &[Value<'a>],
         words: &'a [String],
     ) -> Job<'a>
-        requires { length values.now ≤ 102 }
+        requires { length values.now ≤ most_values self }
         ensures { asked result ≡ reads_of self given.now (map value_said values.now)
             (map string_bytes words.now) }
     {
@@ -194,6 +229,12 @@ impl Asks {
                 input: name_at(values, 0),
                 output: name_at(values, 3),
             },
+            Asks::CutExact => Job::CutExact {
+                input: name_at(values, 1),
+                from: value_at(values, 2).exact(),
+                to: value_at(values, 3).exact(),
+                output: name_at(values, 4),
+            },
             Asks::Pack => pack(PackMode::Least, values, 0),
             Asks::ConstantPack => pack(PackMode::Constant(value_at(values, 1).rate()), values, 2),
             Asks::FloorPack => pack(PackMode::Floor(value_at(values, 1).rate()), values, 2),
@@ -203,11 +244,13 @@ impl Asks {
                 prefix: name_at(values, 1),
                 places: places_of(behind(values, 2)),
             },
-            Asks::SplitBy => Job::SplitBy {
-                input: name_at(values, 0),
-                prefix: name_at(values, 1),
-                sheet: name_at(values, 3),
+            Asks::SplitExact => Job::SplitExact {
+                input: name_at(values, 1),
+                prefix: name_at(values, 2),
+                places: exact_places_of(behind(values, 3)),
             },
+            Asks::SplitBy => split_by(false, values, 0),
+            Asks::SplitExactBy => split_by(true, values, 1),
             Asks::Join => Job::Join {
                 output: name_at(values, 0),
                 inputs: behind(words, 1),

@@ -2,6 +2,7 @@
 
 use arrayvec::ArrayVec;
 use cue_sheet::Place;
+use exact_span::ExactPlace;
 use moved_gains::Shift;
 use pack_mode::PackMode;
 
@@ -49,6 +50,18 @@ pub enum Job<'a> {
         /// The name of the file to write.
         output: &'a str,
     },
+    /// Write the frames that a decoder needs for the samples of the file `input` from one place up to, but not including, another to
+    /// `output`, by which players play exactly these samples.
+    CutExact {
+        /// The name of the file to read.
+        input: &'a str,
+        /// The place of the first sample.
+        from: ExactPlace,
+        /// The place of the first sample after them.
+        to: ExactPlace,
+        /// The name of the file to write.
+        output: &'a str,
+    },
     /// Write all frames of the file `input` to `output`, with the bit rates and padding that the mode asks for.
     Pack {
         /// How the bit rates are chosen. A bit rate in it is as the word says it, 0 to 999 kbit/s.
@@ -67,8 +80,20 @@ pub enum Job<'a> {
         /// The positions, 2 to 100.
         places: ArrayVec<Place, 100>,
     },
+    /// Write the frames that a decoder needs for the samples of the file `input` between each two neighbouring places to a file of
+    /// their own, by which players play exactly these samples.
+    SplitExact {
+        /// The name of the file to read.
+        input: &'a str,
+        /// What the names of the files to write begin with.
+        prefix: &'a str,
+        /// The places, 2 to 100.
+        places: ArrayVec<ExactPlace, 100>,
+    },
     /// Write each track of the file `input` to a file of its own, as a cue sheet has them.
     SplitBy {
+        /// Whether tracks are cut at samples, and not at frames.
+        exact: bool,
         /// The name of the file to read.
         input: &'a str,
         /// What the names of the files to write begin with.

@@ -1,10 +1,11 @@
 //! What a single word can be, and what it says.
 ghost use Rattle.std.specs.Prelude.{◌≡◌, option_map};
-ghost use Rattle.job_words.specs.Kinds.{is_name, channel_of, rate_in, seed_in, count_in, said, name_said, steps_said, channels_said, place_said, rate_said, seed_said, count_said};
+ghost use Rattle.job_words.specs.Kinds.{is_name, channel_of, rate_in, seed_in, count_in, said, name_said, steps_said, channels_said, place_said, exact_said, rate_said, seed_said, count_said};
 ghost use Rattle.job_words.specs.Code.{word_kind, value_said};
 
 use cue_sheet::Place;
 use cue_sheet::digits::{read_number, read_steps};
+use exact_span::ExactPlace;
 use moved_gains::Channels;
 
 /// What a word of a form is.
@@ -20,6 +21,8 @@ pub(crate) enum WordKind {
     Channel,
     /// A position.
     Place,
+    /// A place among the samples.
+    Exact,
     /// A bit rate in kbit/s.
     Rate,
     /// The seed of a stream.
@@ -48,6 +51,8 @@ pub(crate) enum Value<'a> {
     Channel(Channels),
     /// This position.
     Place(Place),
+    /// This place among the samples.
+    Exact(ExactPlace),
     /// This bit rate in kbit/s, 0 to 999.
     Rate(u16),
     /// This seed, below 2^31.
@@ -114,6 +119,7 @@ impl WordKind {
             WordKind::Steps => Some(Value::Steps(read_steps(word.as_bytes())?)),
             WordKind::Channel => Some(Value::Channel(read_channel(word)?)),
             WordKind::Place => Some(Value::Place(Place::read(word)?)),
+            WordKind::Exact => Some(Value::Exact(ExactPlace::read(word)?)),
             WordKind::Rate => Some(Value::Rate(read_rate(word)?)),
             WordKind::Seed => Some(Value::Seed(read_seed(word)?)),
             WordKind::Count => Some(Value::Count(read_count(word)?)),
@@ -160,6 +166,16 @@ impl<'a> Value<'a> {
         match self {
             Value::Place(place) => place,
             _ => Place::End,
+        }
+    }
+
+    /// The place among the samples; the end for any other value.
+    pub(crate) fn exact(self) -> ExactPlace
+        ensures { result ≡ exact_said (value_said self.entry) }
+    {
+        match self {
+            Value::Exact(place) => place,
+            _ => ExactPlace::default(),
         }
     }
 

@@ -1,5 +1,5 @@
 -- What is legal is accepted, and what is accepted is legal, command by command.
-use Rattle.std.proofs.Common.{◌≡◌, ◌↔◌, ℕ, ◌+◌, ◌≤◌, Bool, Contains, List, [], ◌∷◌, ◌++◌, length, Option, Some, None, Result, Ok, Err, refl, sym, ◌∙◌, ap, subst, arith, append-nil}
+use Rattle.std.proofs.Common.{◌≡◌, ◌↔◌, ℕ, ◌+◌, ◌≤◌, Bool, true, false, Contains, List, [], ◌∷◌, ◌++◌, length, map, Option, Some, None, Result, Ok, Err, refl, sym, ◌∙◌, ap, subst, arith, append-nil}
 use Rattle.std.proofs.lemmas.List.Elements.{All-cons}
 use Rattle.outside.specs.Files.{Contents}
 use Rattle.cue_sheet.specs.declared.place.Place.{Place}
@@ -22,24 +22,28 @@ use Rattle.gain_edits.specs.Undo.{undo_change, steps_back, undo_refuses, undo_co
 use Rattle.fading.specs.Fade.{fade_of, fade_change, fade_task, fade_command}
 use Rattle.frame_edits.specs.Chosen.{needs_of, first_plan, first_planning, laying_with, laying_task, cut_choice, all_choice, choices_by, cut_refuses, cut_command}
 use Rattle.frame_edits.proofs.ChosenLaws.{laid-parts, laying-is}
+use Rattle.exact_span.specs.declared.exact_place.ExactPlace.{ExactPlace}
+use Rattle.exact_span.specs.declared.exact_place.ExactPlace.TheVariants.{Place as Position}
+use Rattle.frame_edits.specs.Exact.{exact_refuses, exact_making, exact_task, exact_command}
+use Rattle.frame_edits.proofs.PieceLaws.{piece-parts, exact-is}
 use Rattle.joining.specs.Join.{joined_file, parts_of, join_task, join_command}
 use Rattle.laying.specs.Relaid.{Part}
 use Rattle.listing.specs.Listing.{listing, listed_by, listed_where, list_command}
 use Rattle.pack_mode.specs.declared.mode.PackMode.{PackMode}
 use Rattle.pack_mode.specs.declared.mode.PackMode.TheVariants.{Least, Best, Constant, Floor}
 use Rattle.packing.specs.Modes.{plan_by, most_best, allowed_by, unless_fault, limited_by, pack_task, pack_mode_command}
-use Rattle.piece_names.specs.Names.{piece_names}
-use Rattle.splitting.specs.Split.{places_where, given, told_by, split_at_command, split_by_command}
-use Rattle.splitting.proofs.PartsLaws.{split-parts, cue-parts, parts-cue}
-use Rattle.job_words.specs.Asked.{Help, Version, ListFile, Gain, Undo, Cut, Pack, SplitAt, SplitBy, Join, Drill, Fade}
-use Rattle.legality.specs.Inputs.{AreApart, Input, AreInputs, frames_of}
-use Rattle.legality.specs.Choices.{IsLegalGain, IsLegalUndo, IsLegalFade, IsRange, ArePieces, IsLegalSheet, IsLegalPack}
+use Rattle.splitting.specs.Split.{places_where, as_exact, given, told_by, told_refuses, given_exact, told_exact_by, told_exact_refuses, split_at_command, split_by_command, split_exact_at_command, split_exact_by_command}
+use Rattle.splitting.proofs.PartsLaws.{cue-parts, parts-cue}
+use Rattle.job_words.specs.Asked.{Help, Version, ListFile, Gain, Undo, Cut, CutExact, Pack, SplitAt, SplitExact, SplitBy, Join, Drill, Fade}
+use Rattle.legality.specs.Inputs.{EachNext, AreApart, Input, AreInputs, frames_of}
+use Rattle.legality.specs.Choices.{IsLegalGain, IsLegalUndo, IsLegalFade, IsRange, IsSampleRange, ArePieces, IsLegalSheet, AreSamplePieces, IsLegalExactSheet, IsLegalPack}
 use Rattle.legality.specs.Legal.{IsLegalFor}
 use Rattle.legality.specs.Laws.{Makes, LegalIsAccepted}
 use Rattle.legality.proofs.InputLaws.{no-clash_apart, apart_no-clash, survey-whole, whole-survey, IsOne, one-of, one-survey, survey-input}
 use Rattle.legality.proofs.GainLaws.{gain-legal, legal-gain, undo-legal, legal-undo, with-parts}
 use Rattle.legality.proofs.FadeLaws.{fade-legal, legal-fade}
-use Rattle.legality.proofs.SplitLaws.{cut-range, range-cut, frames-range, range-frames, laid-pieces, pieces-laid, parts-split}
+use Rattle.legality.proofs.SampleLaws.{span-range, range-span}
+use Rattle.legality.proofs.SplitLaws.{cut-range, range-cut, FramesFollow, SamplesFollow, frames-right, samples-right, split-law}
 use Rattle.legality.proofs.PackLaws.{planned-made, constant-legal, legal-constant, floor-legal, legal-floor}
 use Rattle.legality.proofs.JoinLaws.{parts-joined, joined-parts}
 use Rattle.legality.proofs.SalvageLaws.{salvage-law}
@@ -210,6 +214,25 @@ cut-law files from to least input output =
     (λ legal. (legal.names, one-of range files input most_frames legal.inputs legal.are legal.few legal.choices))
     (λ is. record { names = is.0; inputs = is.1.input ∷ []; are = (is.1.is, tt); few = few-one (length is.1.input.survey.frames) most_frames is.1.few; choices = is.1.choice })
 
+-- ---- cut --exact
+
+module _ (from to : ExactPlace) where
+  exact-choice : (file : List ℕ) (s : SurveyFields) (bytes : List ℕ) → survey_of file most_frames ≡ Ok s → exact_making from to file s ≡ Ok bytes → IsSampleRange from to (record { bytes = file; survey = s })
+  exact-choice file s bytes surveyed e = let by = piece-parts from to file s bytes e in span-range from to file s by.span by.span_is
+
+  choice-exact : (file : List ℕ) (s : SurveyFields) → survey_of file most_frames ≡ Ok s → IsSampleRange from to (record { bytes = file; survey = s }) → (bytes : List ℕ) × (exact_making from to file s ≡ Ok bytes)
+  choice-exact file s surveyed legal = let span = range-span from to file s legal in (_, exact-is from to file s span.0 span.1)
+
+exact-law : (files : Contents) (input : List ℕ) (from to : ExactPlace) (output : List ℕ) → IsLegalFor (CutExact input from to output) files ↔ Makes (exact_command from to input output) files
+exact-law files input from to output =
+    let range = IsSampleRange from to in
+    let make = exact_making from to in
+    one-law files input [] output most_frames range (exact_task from to input) refl
+    (one-made make range (exact-choice from to) (choice-exact from to) files input) (made-one make range (exact-choice from to) (choice-exact from to) files input)
+    (IsLegalFor (CutExact input from to output) files)
+    (λ legal. (legal.names, one-of range files input most_frames legal.inputs legal.are legal.few legal.choices))
+    (λ is. record { names = is.0; inputs = is.1.input ∷ []; are = (is.1.is, tt); few = few-one (length is.1.input.survey.frames) most_frames is.1.few; choices = is.1.choice })
+
 -- ---- pack
 
 -- what is made of a file in a mode
@@ -279,72 +302,69 @@ module _ (files : Contents) (input : List ℕ) where
 
 -- ---- split
 
-abbrev found_at : List Place → Result (List Place) EditFault
+abbrev found_at : {P : Type 0} → List P → Result (List P) EditFault
 found_at places = Ok places
 
-given-found : (places found : List Place) → found_at places ≡ found_at found → found ≡ places
-given-found places found e = cc
+same-places : {P : Type 0} (places found : List P) → found_at places ≡ found_at found → places ≡ found
+same-places places found e = cc
 
 split-at-law : (files : Contents) (input prefix : List ℕ) (places : List Place) → IsLegalFor (SplitAt input prefix places) files ↔ Makes (split_at_command places input prefix) files
-split-at-law files input prefix places = (
-  (λ legal.
-      let one = one-of (λ i. ArePieces i.survey places) files input most_frames legal.inputs legal.are legal.few legal.choices in
-      let ls = pieces-laid (given places) one.input.bytes one.input.survey (IsRange one.input.survey) (λ from to is. range-frames from to one.input.bytes one.input.survey is) places one.choice in
-      parts-split (given places) files prefix input (apart_no-clash (piece_names prefix) (input ∷ []) 0 legal.names)
-      (record {
-        file = one.input.bytes;
-        survey = one.input.survey;
-        there = one.is.there;
-        surveyed = one-survey (λ i. ArePieces i.survey places) files input most_frames one;
-        found = places;
-        placed = refl;
-        laid = ls.0;
-        picked = ls.1;
-      })),
-  (λ made.
-      let parts = split-parts (given places) files prefix input made.0 made.1 in
-      let is = parts.1.0 in
-      let whole = survey-whole is.file most_frames is.survey is.surveyed in
-      let same : is.found ≡ places = given-found places is.found is.placed in
-      record {
-        names = no-clash_apart (piece_names prefix) (input ∷ []) 0 parts.0;
-        inputs = record { bytes = is.file; survey = is.survey } ∷ [];
-        are = (survey-input files input is.file most_frames is.survey is.there is.surveyed, tt);
-        few = few-one (length is.survey.frames) most_frames whole.few;
-        choices = subst (ArePieces is.survey) same (laid-pieces (given places) is.file is.survey (IsRange is.survey) (λ from to laid e. frames-range from to is.file is.survey laid e) is.found is.laid is.picked);
-      }),
-)
+split-at-law files input prefix places =
+    let Choice = λ (i : Input). ArePieces i.survey places in
+    split-law (given places) FramesFollow (frames-right [] (λ f. Ok places) cut_refuses) files input prefix Choice
+    (λ i each. (places, refl, each))
+    (λ i found e each. subst (λ (l : List Place). EachNext l (FramesFollow i)) (sym (same-places places found e)) each)
+    (IsLegalFor (SplitAt input prefix places) files)
+    (λ legal. (legal.names, one-of Choice files input most_frames legal.inputs legal.are legal.few legal.choices))
+    (λ is. record { names = is.0; inputs = is.1.input ∷ []; are = (is.1.is, tt); few = few-one (length is.1.input.survey.frames) most_frames is.1.few; choices = is.1.choice })
 
-split-by-law : (files : Contents) (input prefix sheet : List ℕ) → IsLegalFor (SplitBy input prefix sheet) files ↔ Makes (split_by_command input sheet prefix) files
-split-by-law files input prefix sheet = (
-  (λ legal.
-      let one = one-of (IsLegalSheet sheet files) files input most_frames legal.inputs legal.are legal.few legal.choices in
-      let cue = one.choice in
-      let ls = pieces-laid (told_by sheet) one.input.bytes one.input.survey (IsRange one.input.survey) (λ from to is. range-frames from to one.input.bytes one.input.survey is) (cue.starts ++ End ∷ []) cue.pieces in
-      parts-split (told_by sheet) files prefix input (apart_no-clash (piece_names prefix) (input ∷ sheet ∷ []) 0 legal.names)
-      (record {
-        file = one.input.bytes;
-        survey = one.input.survey;
-        there = one.is.there;
-        surveyed = one-survey (IsLegalSheet sheet files) files input most_frames one;
-        found = cue.starts ++ End ∷ [];
-        placed = parts-cue (files sheet) (cue.starts ++ End ∷ []) (record { bytes = cue.bytes; there = cue.there; small = cue.small; starts = cue.starts; read = cue.read; all = refl });
-        laid = ls.0;
-        picked = ls.1;
-      })),
-  (λ made.
-      let parts = split-parts (told_by sheet) files prefix input made.0 made.1 in
-      let is = parts.1.0 in
-      let whole = survey-whole is.file most_frames is.survey is.surveyed in
-      let cue = cue-parts (files sheet) is.found is.placed in
-      record {
-        names = no-clash_apart (piece_names prefix) (input ∷ sheet ∷ []) 0 parts.0;
-        inputs = record { bytes = is.file; survey = is.survey } ∷ [];
-        are = (survey-input files input is.file most_frames is.survey is.there is.surveyed, tt);
-        few = few-one (length is.survey.frames) most_frames whole.few;
-        choices = record { bytes = cue.bytes; there = cue.there; small = cue.small; starts = cue.starts; read = cue.read; pieces = subst (ArePieces is.survey) (sym cue.all) (laid-pieces (told_by sheet) is.file is.survey (IsRange is.survey) (λ from to laid e. frames-range from to is.file is.survey laid e) is.found is.laid is.picked) };
-      }),
-)
+split-by-law : (files : Contents) (input prefix sheet : List ℕ) → IsLegalFor (SplitBy false input prefix sheet) files ↔ Makes (split_by_command input sheet prefix) files
+split-by-law files input prefix sheet =
+    let Choice = IsLegalSheet sheet files in
+    split-law (told_by sheet) FramesFollow (frames-right (sheet ∷ []) (λ f. places_where (f sheet)) told_refuses) files input prefix Choice
+    (λ i cue. (
+      cue.starts ++ End ∷ [],
+      parts-cue (files sheet) (cue.starts ++ End ∷ []) (record { bytes = cue.bytes; there = cue.there; small = cue.small; starts = cue.starts; read = cue.read; all = refl }),
+      cue.pieces,
+    ))
+    (λ i found e each.
+        let cue = cue-parts (files sheet) found e in
+        record { bytes = cue.bytes; there = cue.there; small = cue.small; starts = cue.starts; read = cue.read; pieces = subst (ArePieces i.survey) (sym cue.all) each })
+    (IsLegalFor (SplitBy false input prefix sheet) files)
+    (λ legal. (legal.names, one-of Choice files input most_frames legal.inputs legal.are legal.few legal.choices))
+    (λ is. record { names = is.0; inputs = is.1.input ∷ []; are = (is.1.is, tt); few = few-one (length is.1.input.survey.frames) most_frames is.1.few; choices = is.1.choice })
+
+split-exact-law : (files : Contents) (input prefix : List ℕ) (places : List ExactPlace) → IsLegalFor (SplitExact input prefix places) files ↔ Makes (split_exact_at_command places input prefix) files
+split-exact-law files input prefix places =
+    let Choice = λ (i : Input). AreSamplePieces i places in
+    split-law (given_exact places) SamplesFollow (samples-right [] (λ f. Ok places) exact_refuses) files input prefix Choice
+    (λ i each. (places, refl, each))
+    (λ i found e each. subst (AreSamplePieces i) (sym (same-places places found e)) each)
+    (IsLegalFor (SplitExact input prefix places) files)
+    (λ legal. (legal.names, one-of Choice files input most_frames legal.inputs legal.are legal.few legal.choices))
+    (λ is. record { names = is.0; inputs = is.1.input ∷ []; are = (is.1.is, tt); few = few-one (length is.1.input.survey.frames) most_frames is.1.few; choices = is.1.choice })
+
+abbrev exact_list : List Place → Result (List ExactPlace) EditFault
+exact_list list = Ok (map Position list)
+
+split-exact-by-law : (files : Contents) (input prefix sheet : List ℕ) → IsLegalFor (SplitBy true input prefix sheet) files ↔ Makes (split_exact_by_command input sheet prefix) files
+split-exact-by-law files input prefix sheet =
+    let Choice = IsLegalExactSheet sheet files in
+    split-law (told_exact_by sheet) SamplesFollow (samples-right (sheet ∷ []) (λ f. as_exact (places_where (f sheet))) told_exact_refuses) files input prefix Choice
+    (λ i cue. (
+      map Position (cue.starts ++ End ∷ []),
+      ap (λ (r : Result (List Place) EditFault). then_made r exact_list)
+          (parts-cue (files sheet) (cue.starts ++ End ∷ []) (record { bytes = cue.bytes; there = cue.there; small = cue.small; starts = cue.starts; read = cue.read; all = refl })),
+      cue.pieces,
+    ))
+    (λ i found e each.
+        let one = then_ok (places_where (files sheet)) exact_list found e in
+        let cue = cue-parts (files sheet) one.0 one.1 in
+        let same : map Position (cue.starts ++ End ∷ []) ≡ found = ap (map Position) cue.all ∙ same-places (map Position one.0) found one.2 in
+        record { bytes = cue.bytes; there = cue.there; small = cue.small; starts = cue.starts; read = cue.read; pieces = subst (AreSamplePieces i) (sym same) each })
+    (IsLegalFor (SplitBy true input prefix sheet) files)
+    (λ legal. (legal.names, one-of Choice files input most_frames legal.inputs legal.are legal.few legal.choices))
+    (λ is. record { names = is.0; inputs = is.1.input ∷ []; are = (is.1.is, tt); few = few-one (length is.1.input.survey.frames) most_frames is.1.few; choices = is.1.choice })
 
 -- ---- join
 
@@ -376,9 +396,12 @@ legal-is-accepted = record {
   gain = λ files shift tags input output. gain-law shift tags files input output;
   undo = undo-law;
   cut = cut-law;
+  cut_exact = exact-law;
   pack = λ files mode input output. pack-law files input mode output;
   split_at = split-at-law;
   split_by = split-by-law;
+  split_exact = split-exact-law;
+  split_exact_by = split-exact-by-law;
   join = join-law;
   fade = λ files back input output sheet. fade-law sheet back files input output;
   salvage = salvage-law;

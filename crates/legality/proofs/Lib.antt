@@ -2,6 +2,7 @@
 pub mod InputLaws
 pub mod GainLaws
 pub mod FadeLaws
+pub mod SampleLaws
 pub mod SplitLaws
 pub mod PackLaws
 pub mod JoinLaws

@@ -13,6 +13,11 @@ use Rattle.cue_sheet.specs.declared.place.Place.{Place}
 use Rattle.cue_sheet.specs.declared.place.Place.TheVariants.{End}
 use Rattle.cue_sheet.specs.Places.{frame_at}
 use Rattle.cue_sheet.specs.Cues.{cue_of}
+use Rattle.exact_span.specs.declared.exact_place.ExactPlace.{ExactPlace}
+use Rattle.exact_span.specs.declared.exact_place.ExactPlace.TheVariants.{Place as Position}
+use Rattle.exact_span.specs.Places.{sample_at}
+use Rattle.exact_span.specs.PlayedPositions.{played_of, length_of_played}
+use Rattle.laying.specs.KeptFields.{fields_of_head}
 use Rattle.fade_plan.specs.Sheets.{EnvelopePoint, envelope_of}
 use Rattle.fade_plan.specs.Curves.{frame_of, curve_point, steps_at, steps_back}
 use Rattle.part_needs.specs.Needs.{need_of}
@@ -130,6 +135,35 @@ pub record IsLegalSheet (sheet : List ℕ) (files : Contents) (input : Input) : 
   pub starts : List Place
   pub read : cue_of bytes ≡ Ok starts
   pub pieces : ArePieces input.survey (starts ++ End ∷ [])
+
+-- ---- cut --exact
+
+-- how many samples players play of a file: those of all frames but for the encoder delay and the padding that its head says
+abbrev pub samples_played : Input → ℕ
+samples_played input = length_of_played (played_of (fields_of_head input.bytes input.survey.head) input.survey.class (length input.survey.frames))
+
+-- the number of the sample that a place names
+abbrev pub sample_number : Input → ExactPlace → ℕ
+sample_number input place = sample_at input.survey.class (samples_played input) place
+
+-- between the places there is a sample, and neither is after the last that is played
+abbrev pub IsSampleRange : ExactPlace → ExactPlace → Input → Type 0
+IsSampleRange from to input = (sample_number input from < sample_number input to) × (sample_number input to ≤ samples_played input)
+
+-- ---- split --exact
+
+-- between each place and the next there are such samples
+abbrev pub AreSamplePieces : Input → List ExactPlace → Type 0
+AreSamplePieces input places = EachNext places (λ from to. IsSampleRange from to input)
+
+-- the same of the starts of a cue sheet, and the end
+pub record IsLegalExactSheet (sheet : List ℕ) (files : Contents) (input : Input) : Type 0 where
+  pub bytes : List ℕ
+  pub there : files sheet ≡ Some bytes
+  pub small : length bytes ≤ longest_sheet
+  pub starts : List Place
+  pub read : cue_of bytes ≡ Ok starts
+  pub pieces : AreSamplePieces input (map Position (starts ++ End ∷ []))
 
 -- ---- pack
 

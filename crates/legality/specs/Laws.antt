@@ -1,5 +1,5 @@
 -- What is legal is exactly what the commands accept.
-use Rattle.std.specs.Prelude.{◌≡◌, ◌↔◌, ℕ, Bool, List, Ok, Err}
+use Rattle.std.specs.Prelude.{◌≡◌, ◌↔◌, ℕ, Bool, true, false, List, Ok, Err}
 use Rattle.outside.specs.Files.{Contents}
 use Rattle.cue_sheet.specs.declared.place.Place.{Place}
 use Rattle.commands.specs.declared.fault.EditFault.TheVariants.{Refused}
@@ -10,14 +10,16 @@ use Rattle.gain_edits.specs.Gain.{gain_command}
 use Rattle.gain_edits.specs.Undo.{undo_command}
 use Rattle.fading.specs.Fade.{fade_command}
 use Rattle.frame_edits.specs.Chosen.{cut_command}
+use Rattle.frame_edits.specs.Exact.{exact_command}
+use Rattle.exact_span.specs.declared.exact_place.ExactPlace.{ExactPlace}
 use Rattle.pack_mode.specs.declared.mode.PackMode.{PackMode}
 use Rattle.pack_mode.specs.declared.mode.PackMode.TheVariants.{Constant}
 use Rattle.packing.specs.Modes.{pack_mode_command}
 use Rattle.listing.specs.Listing.{list_command}
-use Rattle.splitting.specs.Split.{split_at_command, split_by_command}
+use Rattle.splitting.specs.Split.{split_at_command, split_by_command, split_exact_at_command, split_exact_by_command}
 use Rattle.joining.specs.Join.{join_command}
 use Rattle.salvaging.specs.Salvaged.{salvage_command}
-use Rattle.job_words.specs.Asked.{ListFile, Gain, Undo, Cut, Pack, SplitAt, SplitBy, Join, Fade, Salvage}
+use Rattle.job_words.specs.Asked.{ListFile, Gain, Undo, Cut, CutExact, Pack, SplitAt, SplitExact, SplitBy, Join, Fade, Salvage}
 use Rattle.legality.specs.Legal.{IsLegalFor, IsUnfitFor}
 
 -- the command isn't refused
@@ -30,9 +32,12 @@ pub record LegalIsAccepted : Type 0 where
   pub gain : (files : Contents) (shift : Shift) (tags : Bool) (input output : List ℕ) → IsLegalFor (Gain shift tags input output) files ↔ Makes (gain_command shift tags input output) files
   pub undo : (files : Contents) (input output : List ℕ) → IsLegalFor (Undo input output) files ↔ Makes (undo_command input output) files
   pub cut : (files : Contents) (from to : Place) (least : Bool) (input output : List ℕ) → IsLegalFor (Cut from to least input output) files ↔ Makes (cut_command from to least input output) files
+  pub cut_exact : (files : Contents) (input : List ℕ) (from to : ExactPlace) (output : List ℕ) → IsLegalFor (CutExact input from to output) files ↔ Makes (exact_command from to input output) files
   pub pack : (files : Contents) (mode : PackMode) (input output : List ℕ) → IsLegalFor (Pack mode input output) files ↔ Makes (pack_mode_command mode input output) files
   pub split_at : (files : Contents) (input prefix : List ℕ) (places : List Place) → IsLegalFor (SplitAt input prefix places) files ↔ Makes (split_at_command places input prefix) files
-  pub split_by : (files : Contents) (input prefix sheet : List ℕ) → IsLegalFor (SplitBy input prefix sheet) files ↔ Makes (split_by_command input sheet prefix) files
+  pub split_by : (files : Contents) (input prefix sheet : List ℕ) → IsLegalFor (SplitBy false input prefix sheet) files ↔ Makes (split_by_command input sheet prefix) files
+  pub split_exact : (files : Contents) (input prefix : List ℕ) (places : List ExactPlace) → IsLegalFor (SplitExact input prefix places) files ↔ Makes (split_exact_at_command places input prefix) files
+  pub split_exact_by : (files : Contents) (input prefix sheet : List ℕ) → IsLegalFor (SplitBy true input prefix sheet) files ↔ Makes (split_exact_by_command input sheet prefix) files
   pub join : (files : Contents) (output : List ℕ) (inputs : List (List ℕ)) → IsLegalFor (Join output inputs) files ↔ Makes (join_command output inputs) files
   pub fade : (files : Contents) (back : Bool) (input output sheet : List ℕ) → IsLegalFor (Fade back input output sheet) files ↔ Makes (fade_command sheet back input output) files
   pub salvage : (files : Contents) (input output : List ℕ) → IsLegalFor (Salvage input output) files ↔ Makes (salvage_command input output) files

@@ -1,12 +1,12 @@
 -- When a command that was asked for is legal.
-use Rattle.std.specs.Prelude.{ℕ, ◌≤◌, List, [], ◌∷◌, ◌++◌, length}
+use Rattle.std.specs.Prelude.{ℕ, true, false, ◌≤◌, List, [], ◌∷◌, ◌++◌, length}
 use Rattle.outside.specs.Files.{Contents}
 use Rattle.commands.specs.One.{most_frames}
 use Rattle.piece_names.specs.Names.{piece_names}
 use Rattle.packing.specs.Modes.{allowed_by}
-use Rattle.job_words.specs.Asked.{Asked, Help, Version, ListFile, Gain, Undo, Cut, Pack, SplitAt, SplitBy, Join, Drill, Fade, Salvage}
+use Rattle.job_words.specs.Asked.{Asked, Help, Version, ListFile, Gain, Undo, Cut, CutExact, Pack, SplitAt, SplitExact, SplitBy, Join, Drill, Fade, Salvage}
 use Rattle.legality.specs.Inputs.{AreApart, Input, IsInput, AreInputs, frames_of, OfOne}
-use Rattle.legality.specs.Choices.{IsLegalGain, IsLegalUndo, IsLegalFade, IsRange, ArePieces, IsLegalSheet, IsRate, IsFirstUnfit, IsLegalPack, AreOfOneClass, IsLegalSalvage}
+use Rattle.legality.specs.Choices.{IsLegalGain, IsLegalUndo, IsLegalFade, IsRange, IsSampleRange, ArePieces, IsLegalSheet, AreSamplePieces, IsLegalExactSheet, IsRate, IsFirstUnfit, IsLegalPack, AreOfOneClass, IsLegalSalvage}
 
 -- ---- the files
 
@@ -18,9 +18,11 @@ sources_of (ListFile input) = input ∷ []
 sources_of (Gain shift tags input output) = input ∷ []
 sources_of (Undo input output) = input ∷ []
 sources_of (Cut from to least input output) = input ∷ []
+sources_of (CutExact input from to output) = input ∷ []
 sources_of (Pack mode input output) = input ∷ []
 sources_of (SplitAt input prefix places) = input ∷ []
-sources_of (SplitBy input prefix sheet) = input ∷ []
+sources_of (SplitExact input prefix places) = input ∷ []
+sources_of (SplitBy exact input prefix sheet) = input ∷ []
 sources_of (Join output inputs) = inputs
 sources_of (Drill seed count) = []
 sources_of (Fade back input output sheet) = input ∷ []
@@ -28,7 +30,7 @@ sources_of (Salvage input output) = []
 
 -- and those that are read as sheets, or as a damaged file
 abbrev pub others_of : Asked → List (List ℕ)
-others_of (SplitBy input prefix sheet) = sheet ∷ []
+others_of (SplitBy exact input prefix sheet) = sheet ∷ []
 others_of (Fade back input output sheet) = sheet ∷ []
 others_of (Salvage input output) = input ∷ []
 others_of _ = []
@@ -41,9 +43,11 @@ outputs_of (ListFile input) = []
 outputs_of (Gain shift tags input output) = output ∷ []
 outputs_of (Undo input output) = output ∷ []
 outputs_of (Cut from to least input output) = output ∷ []
+outputs_of (CutExact input from to output) = output ∷ []
 outputs_of (Pack mode input output) = output ∷ []
 outputs_of (SplitAt input prefix places) = piece_names prefix
-outputs_of (SplitBy input prefix sheet) = piece_names prefix
+outputs_of (SplitExact input prefix places) = piece_names prefix
+outputs_of (SplitBy exact input prefix sheet) = piece_names prefix
 outputs_of (Join output inputs) = output ∷ []
 outputs_of (Drill seed count) = []
 outputs_of (Fade back input output sheet) = output ∷ []
@@ -63,9 +67,12 @@ AreLegal (ListFile input) files inputs = Unit {0}
 AreLegal (Gain shift tags input output) files inputs = OfOne (IsLegalGain shift tags) inputs
 AreLegal (Undo input output) files inputs = OfOne IsLegalUndo inputs
 AreLegal (Cut from to least input output) files inputs = OfOne (λ i. IsRange i.survey from to) inputs
+AreLegal (CutExact input from to output) files inputs = OfOne (IsSampleRange from to) inputs
 AreLegal (Pack mode input output) files inputs = OfOne (λ i. IsLegalPack mode i.survey) inputs
 AreLegal (SplitAt input prefix places) files inputs = OfOne (λ i. ArePieces i.survey places) inputs
-AreLegal (SplitBy input prefix sheet) files inputs = OfOne (IsLegalSheet sheet files) inputs
+AreLegal (SplitExact input prefix places) files inputs = OfOne (λ i. AreSamplePieces i places) inputs
+AreLegal (SplitBy false input prefix sheet) files inputs = OfOne (IsLegalSheet sheet files) inputs
+AreLegal (SplitBy true input prefix sheet) files inputs = OfOne (IsLegalExactSheet sheet files) inputs
 AreLegal (Join output inputs_asked) files inputs = AreOfOneClass inputs
 AreLegal (Drill seed count) files inputs = Unit {0}
 AreLegal (Fade back input output sheet) files inputs = OfOne (IsLegalFade sheet back files) inputs

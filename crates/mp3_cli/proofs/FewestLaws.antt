@@ -2,7 +2,7 @@
 use Rattle.std.proofs.Common.{◌≡◌, ℕ, List, Result, Ok, sym, subst}
 use Rattle.std.specs.Prelude.{IfOk}
 use Rattle.outside.specs.Seen.{Heard, Seen}
-use Rattle.job_words.specs.Asked.{Asked, Help, Version, ListFile, Gain, Undo, Cut, Pack, SplitAt, SplitBy, Join, Drill, Fade, Salvage}
+use Rattle.job_words.specs.Asked.{Asked, Help, Version, ListFile, Gain, Undo, Cut, CutExact, Pack, SplitAt, SplitExact, SplitBy, Join, Drill, Fade, Salvage}
 use Rattle.job_words.specs.Words.{job_of}
 use Rattle.commands.specs.Left.{IsDone}
 use Rattle.packing.proofs.PackedLengths.{done-fewest}
@@ -16,9 +16,11 @@ has-fewest (ListFile input) old new done = tt
 has-fewest (Gain shift tags input output) old new done = tt
 has-fewest (Undo input output) old new done = tt
 has-fewest (Cut from to least input output) old new done = tt
+has-fewest (CutExact input from to output) old new done = tt
 has-fewest (Pack mode input output) old new done = done-fewest mode input output old new done
 has-fewest (SplitAt input prefix places) old new done = tt
-has-fewest (SplitBy input prefix sheet) old new done = tt
+has-fewest (SplitExact input prefix places) old new done = tt
+has-fewest (SplitBy exact input prefix sheet) old new done = tt
 has-fewest (Join output inputs) old new done = tt
 has-fewest (Drill seed count) old new done = tt
 has-fewest (Fade back input output sheet) old new done = tt

@@ -1,7 +1,7 @@
 -- What is legal is what is accepted, whatever the words ask for.
-use Rattle.std.proofs.Common.{◌↔◌, ℕ, [], Result, Ok, Err, refl}
+use Rattle.std.proofs.Common.{◌↔◌, ℕ, true, false, [], Result, Ok, Err, refl}
 use Rattle.outside.specs.Files.{Contents}
-use Rattle.job_words.specs.Asked.{Asked, Help, Version, ListFile, Gain, Undo, Cut, Pack, SplitAt, SplitBy, Join, Drill, Fade, Salvage}
+use Rattle.job_words.specs.Asked.{Asked, Help, Version, ListFile, Gain, Undo, Cut, CutExact, Pack, SplitAt, SplitExact, SplitBy, Join, Drill, Fade, Salvage}
 use Rattle.job_words.specs.Words.{job_of}
 use Rattle.legality.specs.Legal.{IsLegalFor}
 use Rattle.legality.specs.Laws.{Makes}
@@ -18,9 +18,12 @@ legal-for (ListFile input) files = of-commands.list files input
 legal-for (Gain shift tags input output) files = of-commands.gain files shift tags input output
 legal-for (Undo input output) files = of-commands.undo files input output
 legal-for (Cut from to least input output) files = of-commands.cut files from to least input output
+legal-for (CutExact input from to output) files = of-commands.cut_exact files input from to output
 legal-for (Pack mode input output) files = of-commands.pack files mode input output
 legal-for (SplitAt input prefix places) files = of-commands.split_at files input prefix places
-legal-for (SplitBy input prefix sheet) files = of-commands.split_by files input prefix sheet
+legal-for (SplitExact input prefix places) files = of-commands.split_exact files input prefix places
+legal-for (SplitBy false input prefix sheet) files = of-commands.split_by files input prefix sheet
+legal-for (SplitBy true input prefix sheet) files = of-commands.split_exact_by files input prefix sheet
 legal-for (Join output inputs) files = of-commands.join files output inputs
 legal-for (Fade back input output sheet) files = of-commands.fade files back input output sheet
 legal-for (Salvage input output) files = of-commands.salvage files input output

@@ -1,16 +1,18 @@
 -- The outputs that were written are there, each with the frames that were chosen.
-use Rattle.std.proofs.Common.{◌≡◌, ◌≢◌, ℕ, zero, suc, ◌+◌, ◌/◌, ◌%◌, ◌<◌, ◌≤◌, List, [], ◌∷◌, length, map, drop, codes, Option, Some, Result, Ok, Err, refl, sym, ◌∙◌, ap, subst, arith, length-append}
+use Rattle.std.proofs.Common.{◌≡◌, ◌≢◌, ℕ, zero, suc, true, false, ◌+◌, ◌/◌, ◌%◌, ◌<◌, ◌≤◌, List, [], ◌∷◌, length, map, drop, codes, Option, Some, Result, Ok, Err, refl, sym, ◌∙◌, ap, subst, arith, length-append}
 use Rattle.std.specs.Prelude.{IfOk}
 use Rattle.std.specs.List.{range_with_len}
 use Rattle.std.proofs.Math.Seq.{drop-append_seam}
+use Rattle.std.proofs.lemmas.List.{length-map}
 use Rattle.outside.specs.Files.{Contents, Files, with_file, IfTold}
 use Rattle.outside.proofs.FilesLaws.{with_file_here, with_file_other}
-use Rattle.frame_header.specs.Fields.{ClassFields}
 use Rattle.outside.specs.Seen.{Heard, Seen}
 use Rattle.cue_sheet.specs.declared.place.Place.{Place}
 use Rattle.cue_sheet.specs.declared.place.Place.TheVariants.{End}
 use Rattle.cue_sheet.specs.Cues.{cue_of, entries_of}
 use Rattle.cue_sheet.proofs.StartsLaws.{starts-few}
+use Rattle.exact_span.specs.declared.exact_place.ExactPlace.{ExactPlace}
+use Rattle.exact_span.specs.declared.exact_place.ExactPlace.TheVariants.{Place as Position}
 use Rattle.sync_survey.specs.MainData.{StreamFrame}
 use Rattle.sync_survey.specs.Faults.{SurveyFields}
 use Rattle.commands.specs.declared.fault.EditFault.{EditFault}
@@ -20,14 +22,15 @@ use Rattle.commands.specs.Telling.{with_text}
 use Rattle.salvaging.specs.Salvaged.{text_where, salvage_task}
 use Rattle.commands.proofs.RefusingLaws.{then_ok}
 use Rattle.laying.specs.Laid.{Laid}
-use Rattle.job_words.specs.Asked.{Asked, Help, Version, ListFile, Gain, Undo, Cut, Pack, SplitAt, SplitBy, Join, Drill, Fade, Salvage}
+use Rattle.frame_edits.specs.Exact.{exact_task}
+use Rattle.job_words.specs.Asked.{Asked, Help, Version, ListFile, Gain, Undo, Cut, CutExact, Pack, SplitAt, SplitExact, SplitBy, Join, Drill, Fade, Salvage}
 use Rattle.job_words.specs.Words.{job_of, IsSound}
 use Rattle.joining.specs.Join.{join_task}
 use Rattle.fading.specs.Fade.{fade_task}
 use Rattle.packing.specs.Modes.{pack_task}
 use Rattle.piece_names.specs.Names.{piece_name, piece_names}
 use Rattle.splitting.specs.Cutting.{Cutting, with_first, laid_from, laid_at, pieces_from, split_command}
-use Rattle.splitting.specs.Split.{places_where, given, told_by}
+use Rattle.splitting.specs.Split.{places_where, as_exact, given, told_by, given_exact, told_exact_by}
 use Rattle.splitting.proofs.PartsLaws.{split-parts, cue-parts}
 use Rattle.mp3_cli.proofs.RunLaws.{files_where_done, if_told, one_made}
 use Rattle.exact_streams.specs.Chosen.{Frames, ConsistsOf, AllConsistOf, chosen_of}
@@ -78,44 +81,43 @@ names-differ prefix j k less most same =
     omega (arith, less, most, tens, ones)
 
 module _ (prefix file : List ℕ) (s : SurveyFields) where
-  later-differ : (j k : ℕ) (laid : List Laid) → j < k → k + length laid ≤ 100 → HasNone (piece_name prefix j) (pieces_from prefix k file s laid)
+  later-differ : (j k : ℕ) (all : List Laid) → j < k → k + length all ≤ 100 → HasNone (piece_name prefix j) (pieces_from prefix k file s all)
   later-differ j k [] less most = tt
-  later-differ j k (l ∷ ls) less most = (names-differ prefix j k less (omega (arith, most)), later-differ j (k + 1) ls (omega (arith, less)) (omega (arith, most)))
+  later-differ j k (laid ∷ all) less most = (names-differ prefix j k less (omega (arith, most)), later-differ j (k + 1) all (omega (arith, less)) (omega (arith, most)))
 
-  pieces-named : (k n : ℕ) (laid : List Laid) → length laid ≤ n → k + length laid ≤ 100 → AreNamed (map (piece_name prefix) (range_with_len k n)) (pieces_from prefix k file s laid)
+  pieces-named : (k n : ℕ) (all : List Laid) → length all ≤ n → k + length all ≤ 100 → AreNamed (map (piece_name prefix) (range_with_len k n)) (pieces_from prefix k file s all)
   pieces-named k n [] few most = tt
-  pieces-named k zero (l ∷ ls) few most = absurd (omega (arith, few))
-  pieces-named k (suc n) (l ∷ ls) few most = (refl, later-differ k (k + 1) ls (omega arith) (omega (arith, most)), pieces-named (k + 1) n ls (omega (arith, few)) (omega (arith, most)))
+  pieces-named k zero (laid ∷ all) few most = absurd (omega (arith, few))
+  pieces-named k (suc n) (laid ∷ all) few most = (refl, later-differ k (k + 1) all (omega arith) (omega (arith, most)), pieces-named (k + 1) n all (omega (arith, few)) (omega (arith, most)))
 
-all-named : (prefix file : List ℕ) (s : SurveyFields) (laid : List Laid) → length laid ≤ 99 → AreNamed (piece_names prefix) (pieces_from prefix 1 file s laid)
+all-named : (prefix file : List ℕ) (s : SurveyFields) (all : List Laid) → length all ≤ 99 → AreNamed (piece_names prefix) (pieces_from prefix 1 file s all)
 unfolding piece_names
-all-named prefix file s laid few = pieces-named prefix file s 1 99 laid few (omega (arith, few))
+all-named prefix file s all few = pieces-named prefix file s 1 99 all few (omega (arith, few))
 
 -- there are at most 99 pieces
-first-parts : (first : Laid) (r : Result (List Laid) EditFault) (ls : List Laid) → with_first first r ≡ Ok ls → (more : List Laid) × (r ≡ Ok more) × (length ls ≡ suc (length more))
-first-parts first (Ok more) ls e = let same : first ∷ more ≡ ls = cc in (more, refl, ap length (sym same))
-first-parts first (Err fault) ls e = absurd cc
+first-parts : (first : Laid) (r : Result (List Laid) EditFault) (all : List Laid) → with_first first r ≡ Ok all → (more : List Laid) × (r ≡ Ok more) × (length all ≡ suc (length more))
+first-parts first (Ok more) all e = let same : first ∷ more ≡ all = cc in (more, refl, ap length (sym same))
+first-parts first (Err fault) all e = absurd cc
 
-module _ {P : Type 0} (cut : Cutting P) where
-  module _ (file : List ℕ) (s : SurveyFields) where
-    from-few : (from : P) (tos : List P) (ls : List Laid) → laid_from cut file s from tos ≡ Ok ls → length ls ≤ length tos
-    from-few from [] ls e = let none : [] ≡ ls = cc in subst (λ (l : List Laid). length l ≤ 0) none (omega arith)
-    from-few from (to ∷ tos) ls e =
-        let one = then_ok (cut.between from to file s) (λ first. with_first first (laid_from cut file s to tos)) ls e in
-        let more = first-parts one.0 (laid_from cut file s to tos) ls one.2 in
-        omega (arith, from-few to tos more.0 more.1, more.2)
+module _ {P : Type 0} (cut : Cutting P) (file : List ℕ) (s : SurveyFields) where
+  from-few : (from : P) (places : List P) (all : List Laid) → laid_from cut file s from places ≡ Ok all → length all ≤ length places
+  from-few from [] all e = let none : [] ≡ all = cc in subst (λ (l : List Laid). length l ≤ 0) none (omega arith)
+  from-few from (to ∷ places) all e =
+      let one = then_ok (cut.between from to file s) (λ first. with_first first (laid_from cut file s to places)) all e in
+      let more = first-parts one.0 (laid_from cut file s to places) all one.2 in
+      omega (arith, from-few to places more.0 more.1, more.2)
 
-    at-few : (places : List P) (ls : List Laid) → laid_at cut file s places ≡ Ok ls → length places ≤ 100 → length ls ≤ 99
-    at-few [] ls e most = let none : [] ≡ ls = cc in subst (λ (l : List Laid). length l ≤ 99) none (omega arith)
-    at-few (place ∷ places) ls e most = omega (arith, from-few place places ls e, most)
+  at-few : (places : List P) (all : List Laid) → laid_at cut file s places ≡ Ok all → length places ≤ 100 → length all ≤ 99
+  at-few [] all e most = let none : [] ≡ all = cc in subst (λ (l : List Laid). length l ≤ 99) none (omega arith)
+  at-few (place ∷ places) all e most = omega (arith, from-few place places all e, most)
 
-  module _ (input prefix : List ℕ) (f : Contents) (few : (places : List P) → cut.places f ≡ Ok places → length places ≤ 100) where
-    pub split-named : (made : Made) → (split_command cut input prefix).makes f ≡ Ok made → AreNamed (piece_names prefix) made.outputs
-    split-named made e =
-        let parts = (split-parts cut f prefix input made e).1 in
-        let is = parts.0 in
-        subst (λ (m : Made). AreNamed (piece_names prefix) m.outputs) parts.1
-        (all-named prefix is.file (cut.survey is.survey) is.laid (at-few is.file is.survey is.found is.laid is.picked (few is.found is.placed)))
+module _ {P : Type 0} (cut : Cutting P) (input prefix : List ℕ) (f : Contents) (few : (places : List P) → cut.places f ≡ Ok places → length places ≤ 100) where
+  pub split-named : (made : Made) → (split_command cut input prefix).makes f ≡ Ok made → AreNamed (piece_names prefix) made.outputs
+  split-named made e =
+      let parts = (split-parts cut f prefix input made e).1 in
+      let is = parts.0 in
+      subst (λ (m : Made). AreNamed (piece_names prefix) m.outputs) parts.1
+      (all-named prefix is.file (cut.survey is.survey) is.laid (at-few cut is.file is.survey is.found is.laid is.picked (few is.found is.placed)))
 
 -- ---- the other commands
 
@@ -142,6 +144,12 @@ told-few o found e =
     let cue = cue-parts o found e in
     omega (arith, cue-few cue.bytes cue.starts cue.read, length-append cue.starts (End ∷ []), ap length cue.all)
 
+exact-few : (o : Option (List ℕ)) (found : List ExactPlace) → as_exact (places_where o) ≡ Ok found → length found ≤ 100
+exact-few o found e =
+    let parts = then_ok (places_where o) (λ list. Ok (map Position list)) found e in
+    let same : map Position parts.0 ≡ found = cc in
+    subst (λ (l : List ExactPlace). length l ≤ 100) same (omega (arith, length-map parts.0 Position, told-few o parts.0 parts.1))
+
 there : (asked : Asked) (f : Contents) (made : Made) → IsSound asked → (command_of asked).makes f ≡ Ok made → MakesStreams (command_of asked) f made → HoldsWritten asked f (written made.outputs f)
 there Help f made sound e holds = record { sources = holds.sources; outputs = tt }
 there Version f made sound e holds = record { sources = holds.sources; outputs = tt }
@@ -150,13 +158,20 @@ there (Drill seed count) f made sound e holds = record { sources = holds.sources
 there (Gain shift tags input output) f made sound e holds = frames-there (Gain shift tags input output) f made holds (one-named _ output f made e) (streams-chosen.gain shift tags input output f made e)
 there (Undo input output) f made sound e holds = frames-there (Undo input output) f made holds (one-named _ output f made e) (streams-chosen.undo input output f made e)
 there (Cut from to least input output) f made sound e holds = frames-there (Cut from to least input output) f made holds (one-named _ output f made e) (streams-chosen.cut from to least input output f made e)
+there (CutExact input from to output) f made sound e holds = frames-there (CutExact input from to output) f made holds (one-named (exact_task from to input) output f made e) (streams-chosen.cut_exact input from to output f made e)
 there (Pack mode input output) f made sound e holds = frames-there (Pack mode input output) f made holds (one-named (pack_task mode input) output f made e) (streams-chosen.pack mode input output f made e)
 there (SplitAt input prefix places) f made sound e holds =
     frames-there (SplitAt input prefix places) f made holds
     (split-named (given places) input prefix f (λ found is. let same : places ≡ found = cc in subst (λ (l : List Place). length l ≤ 100) same sound.2.few) made e)
     (streams-chosen.split_at input prefix places f made e)
-there (SplitBy input prefix sheet) f made sound e holds =
-    frames-there (SplitBy input prefix sheet) f made holds (split-named (told_by sheet) input prefix f (told-few (f sheet)) made e) (streams-chosen.split_by input prefix sheet f made e)
+there (SplitExact input prefix places) f made sound e holds =
+    frames-there (SplitExact input prefix places) f made holds
+    (split-named (given_exact places) input prefix f (λ found is. let same : places ≡ found = cc in subst (λ (l : List ExactPlace). length l ≤ 100) same sound.2.few) made e)
+    (streams-chosen.split_exact input prefix places f made e)
+there (SplitBy false input prefix sheet) f made sound e holds =
+    frames-there (SplitBy false input prefix sheet) f made holds (split-named (told_by sheet) input prefix f (told-few (f sheet)) made e) (streams-chosen.split_by input prefix sheet f made e)
+there (SplitBy true input prefix sheet) f made sound e holds =
+    frames-there (SplitBy true input prefix sheet) f made holds (split-named (told_exact_by sheet) input prefix f (exact-few (f sheet)) made e) (streams-chosen.split_exact_by input prefix sheet f made e)
 there (Join output inputs) f made sound e holds = frames-there (Join output inputs) f made holds (one-named (join_task inputs) output f made e) (streams-chosen.join output inputs f made e)
 there (Fade back input output sheet) f made sound e holds = frames-there (Fade back input output sheet) f made holds (one-named (fade_task sheet back input) output f made e) (streams-chosen.fade back input output sheet f made e)
 there (Salvage input output) f made sound e holds =

@@ -1,5 +1,5 @@
 -- What the program does, from its words and the files that are there.
-use Rattle.std.specs.Prelude.{◌≡◌, ◌≢◌, ◌↔◌, ◌≤◌, ℕ, List, [], ◌∷◌, Option, Some, None, Result, Ok, Err, IfOk, IfSome, IsErr}
+use Rattle.std.specs.Prelude.{◌≡◌, ◌≢◌, ◌↔◌, ◌≤◌, ℕ, true, false, List, [], ◌∷◌, Option, Some, None, Result, Ok, Err, IfOk, IfSome, IsErr}
 use Rattle.outside.specs.Files.{Contents, Files, sent_more, Told, IfTold, OnlyTouches}
 use Rattle.outside.specs.Counts.{Rose, NoneFell}
 use Rattle.outside.specs.Seen.{Heard, Seen}
@@ -12,14 +12,15 @@ use Rattle.gain_edits.specs.Gain.{gain_command}
 use Rattle.gain_edits.specs.Undo.{undo_command}
 use Rattle.fading.specs.Fade.{fade_command}
 use Rattle.frame_edits.specs.Chosen.{cut_command}
+use Rattle.frame_edits.specs.Exact.{exact_command}
 use Rattle.packing.specs.Modes.{pack_mode_command}
 use Rattle.packing.specs.Fewest.{WritesFewest}
 use Rattle.listing.specs.Listing.{list_command}
-use Rattle.splitting.specs.Split.{split_at_command, split_by_command}
+use Rattle.splitting.specs.Split.{split_at_command, split_by_command, split_exact_at_command, split_exact_by_command}
 use Rattle.joining.specs.Join.{join_command}
 use Rattle.drill.specs.Drilled.{drill_command}
 use Rattle.salvaging.specs.Salvaged.{salvage_command}
-use Rattle.job_words.specs.Asked.{Asked, Help, Version, ListFile, Gain, Undo, Cut, Pack, SplitAt, SplitBy, Join, Drill, Fade, Salvage}
+use Rattle.job_words.specs.Asked.{Asked, Help, Version, ListFile, Gain, Undo, Cut, CutExact, Pack, SplitAt, SplitExact, SplitBy, Join, Drill, Fade, Salvage}
 use Rattle.job_words.specs.Words.{job_of}
 use Rattle.sync_survey.specs.Faults.{IsWellFormed, stream_of}
 use Rattle.exact_streams.specs.Chosen.{Frames, ConsistsOf, chosen_of}
@@ -35,9 +36,12 @@ command_of (ListFile input) = list_command input
 command_of (Gain shift tags input output) = gain_command shift tags input output
 command_of (Undo input output) = undo_command input output
 command_of (Cut from to least input output) = cut_command from to least input output
+command_of (CutExact input from to output) = exact_command from to input output
 command_of (Pack mode input output) = pack_mode_command mode input output
 command_of (SplitAt input prefix places) = split_at_command places input prefix
-command_of (SplitBy input prefix sheet) = split_by_command input sheet prefix
+command_of (SplitExact input prefix places) = split_exact_at_command places input prefix
+command_of (SplitBy false input prefix sheet) = split_by_command input sheet prefix
+command_of (SplitBy true input prefix sheet) = split_exact_by_command input sheet prefix
 command_of (Join output inputs) = join_command output inputs
 command_of (Drill seed count) = drill_command seed count
 command_of (Fade back input output sheet) = fade_command sheet back input output

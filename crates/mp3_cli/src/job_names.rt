@@ -45,13 +45,14 @@ pub(crate) fn inputs_of<'a>(job: &Job<'a>) -> ArrayVec<&'a str, 64>
         | Job::Gain { input, .. }
         | Job::Undo { input, .. }
         | Job::Cut { input, .. }
+        | Job::CutExact { input, .. }
         | Job::SplitAt { input, .. }
+        | Job::SplitExact { input, .. }
         | Job::Salvage { input, .. } => names(&[input]),
-        // An arm of its own, since it has a proof of its own.
+        // Arms of their own, since each has a proof of its own.
         Job::Pack { input, .. } => names(&[input]),
-        Job::SplitBy { input, sheet, .. } | Job::Fade { input, sheet, .. } => {
-            names(&[input, sheet])
-        }
+        Job::SplitBy { input, sheet, .. } => names(&[input, sheet]),
+        Job::Fade { input, sheet, .. } => names(&[input, sheet]),
         Job::Join { inputs, .. } => names_of(inputs),
     }
 }
@@ -65,10 +66,13 @@ pub(crate) fn outputs_of<'a>(job: &Job<'a>) -> Outputs<'a>
         Job::Gain { output, .. }
         | Job::Undo { output, .. }
         | Job::Cut { output, .. }
+        | Job::CutExact { output, .. }
         | Job::Pack { output, .. }
         | Job::Fade { output, .. }
         | Job::Join { output, .. }
         | Job::Salvage { output, .. } => Outputs::One(output),
-        Job::SplitAt { prefix, .. } | Job::SplitBy { prefix, .. } => Outputs::Pieces(prefix),
+        Job::SplitAt { prefix, .. } | Job::SplitExact { prefix, .. } => Outputs::Pieces(prefix),
+        // An arm of its own, since it has a proof of its own.
+        Job::SplitBy { prefix, .. } => Outputs::Pieces(prefix),
     }
 }

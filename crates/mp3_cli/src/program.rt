@@ -3,6 +3,8 @@ ghost use Rattle.std.specs.Prelude.{◌≡◌, map, string_bytes, OnOk};
 ghost use Rattle.outside.specs.Counts.{NoneFell};
 ghost use Rattle.commands.specs.Command.{HoldsStreams};
 ghost use Rattle.commands.specs.Said.{fault_of};
+ghost use Rattle.commands.specs.Runs.{IsRunOf};
+ghost use Rattle.job_words.specs.Asked.{SplitBy};
 ghost use Rattle.job_words.specs.Words.{IsSound};
 ghost use Rattle.job_words.specs.Code.{asked};
 ghost use Rattle.program_texts.specs.Names.{names_in};
@@ -13,7 +15,7 @@ use crate::job_names::{inputs_of, outputs_of};
 use commands::EditFault;
 use drill::drill;
 use fading::fade;
-use frame_edits::cut;
+use frame_edits::{cut, cut_exact};
 use gain_edits::{gain, undo};
 use job_words::{Job, job};
 use joining::join;
@@ -22,7 +24,7 @@ use outside::{Folder, Sink};
 use packing::pack_with;
 use program_texts::{Outputs, say_help, say_version, send_bad_word, send_fault, status};
 use salvaging::salvage;
-use splitting::{Points, split};
+use splitting::{ExactPoints, Points, split, split_exact};
 use std::alloc::Global;
 
 /// Sends the line of a fault, if there is one, and answers the status.
@@ -43,6 +45,26 @@ fn report<E: Sink>(
             send_fault(err, &fault, inputs, outputs);
             status(&fault)
         }
+    }
+}
+
+/// Cuts the input at the starts in a cue sheet, to a frame or to a sample. The refusals are those of the command's own call.
+fn split_by_sheet<D: Folder>(
+    alloc: Global,
+    folder: &mut D,
+    exact: bool,
+    input: &str,
+    prefix: &str,
+    sheet: &str,
+) -> Result<(), EditFault>
+    ensures { IsRunOf (command_of (SplitBy exact input.now prefix.now sheet.now))
+        (D.seen folder.old)
+        (D.seen folder.new) result }
+{
+    if exact {
+        split_exact(alloc, folder, input, &ExactPoints::Sheet(sheet), prefix)
+    } else {
+        split(alloc, folder, input, &Points::Sheet(sheet), prefix)
     }
 }
 
@@ -81,6 +103,12 @@ fn do_job<D: Folder, T: Sink>(
             input,
             output,
         } => cut(alloc, folder, input, &from, &to, least, output),
+        Job::CutExact {
+            input,
+            from,
+            to,
+            output,
+        } => cut_exact(alloc, folder, input, &from, &to, output),
         Job::Pack {
             mode,
             input,
@@ -94,11 +122,20 @@ fn do_job<D: Folder, T: Sink>(
             let points = Points::Places(places.as_slice());
             split(alloc, folder, input, &points, prefix)
         }
+        Job::SplitExact {
+            input,
+            prefix,
+            places,
+        } => {
+            let points = ExactPoints::Places(places.as_slice());
+            split_exact(alloc, folder, input, &points, prefix)
+        }
         Job::SplitBy {
+            exact,
             input,
             prefix,
             sheet,
-        } => split(alloc, folder, input, &Points::Sheet(sheet), prefix),
+        } => split_by_sheet(alloc, folder, exact, input, prefix, sheet),
         Job::Join { output, inputs } => join(alloc, folder, output, inputs),
         Job::Drill { seed, count } => drill(alloc, seed, count, out),
         Job::Fade {

@@ -138,6 +138,10 @@ help_text =
     ++ (codes "                         write the frames of IN from FROM on and before TO to OUT, with all main data\n"
     ++ (codes "                         FROM, TO: a frame's number from 0, a time (M.S or M.S.H) or EOF\n"
     ++ (codes "                         --least: each frame with the least bit rate that has room for it\n"
+    ++ (codes "  cut --exact IN FROM TO OUT\n"
+    ++ (codes "                         write the frames that hold the samples of IN from FROM on and before TO to OUT, with\n"
+    ++ (codes "                         the numbers by which players play exactly these samples; FROM, TO: also a sample (Ns),\n"
+    ++ (codes "                         a time M.S.MMM, or EOF- and a time, which is so long before the end\n"
     ++ (codes "  pack IN OUT            write all frames of IN to OUT, each with the least bit rate that has room for it\n"
     ++ (codes "  pack --constant B IN OUT\n"
     ++ (codes "                         the same with the bit rate of B kbit/s alone, which may be too low for some frame\n"
@@ -147,6 +151,10 @@ help_text =
     ++ (codes "                         write the frames of IN from P1 on and before P2 to PREFIX01.mp3, those from P2 on and\n"
     ++ (codes "                         before P3 to PREFIX02.mp3, and so on; places as FROM and TO of cut\n"
     ++ (codes "  split IN PREFIX -c CUE the same at the starts of the tracks in the cue sheet CUE, the last to the end of IN\n"
+    ++ (codes "  split --exact IN PREFIX P1 P2 [P3 to P100]\n"
+    ++ (codes "                         the same with the samples between the places, as cut --exact writes them\n"
+    ++ (codes "  split --exact IN PREFIX -c CUE\n"
+    ++ (codes "                         the same with the samples of each track\n"
     ++ (codes "  join OUT IN1 [IN2 to IN64]\n"
     ++ (codes "                         write the frames of IN1 to IN64, one file after another, to OUT\n"
     ++ (codes "  drill SEED COUNT       make COUNT frames from the number SEED, pack them in memory, and say how long both are\n"
@@ -159,7 +167,7 @@ help_text =
     ++ (codes "  --help, -h             say this\n"
     ++ (codes "  --version              say which version this is\n"
     ++ (codes "status: 0 done; 1 refused; 2 bad word; 3 a file is absent, or reading or writing failed;\n"
-    ++ codes "        4 out of memory\n")))))))))))))))))))))))))))))))))
+    ++ codes "        4 out of memory\n")))))))))))))))))))))))))))))))))))))))))
 
 -- the program's name and version
 unfoldable pub version_text : List ℕ

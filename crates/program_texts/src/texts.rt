@@ -41,7 +41,7 @@ pub fn status(fault: &EditFault) -> u8
 }
 
 /// What the program does, form by form, and the statuses.
-static HELP: [&str; 35] = [
+static HELP: [&str; 43] = [
     "usage: mp3edit COMMAND\n",
     "  list IN                say what stands in the MP3 file IN: tags, junk, head and frames\n",
     "  gain [-s s] [-w] -g N IN OUT\n",
@@ -55,6 +55,10 @@ static HELP: [&str; 35] = [
     "                         write the frames of IN from FROM on and before TO to OUT, with all main data\n",
     "                         FROM, TO: a frame's number from 0, a time (M.S or M.S.H) or EOF\n",
     "                         --least: each frame with the least bit rate that has room for it\n",
+    "  cut --exact IN FROM TO OUT\n",
+    "                         write the frames that hold the samples of IN from FROM on and before TO to OUT, with\n",
+    "                         the numbers by which players play exactly these samples; FROM, TO: also a sample (Ns),\n",
+    "                         a time M.S.MMM, or EOF- and a time, which is so long before the end\n",
     "  pack IN OUT            write all frames of IN to OUT, each with the least bit rate that has room for it\n",
     "  pack --constant B IN OUT\n",
     "                         the same with the bit rate of B kbit/s alone, which may be too low for some frame\n",
@@ -64,6 +68,10 @@ static HELP: [&str; 35] = [
     "                         write the frames of IN from P1 on and before P2 to PREFIX01.mp3, those from P2 on and\n",
     "                         before P3 to PREFIX02.mp3, and so on; places as FROM and TO of cut\n",
     "  split IN PREFIX -c CUE the same at the starts of the tracks in the cue sheet CUE, the last to the end of IN\n",
+    "  split --exact IN PREFIX P1 P2 [P3 to P100]\n",
+    "                         the same with the samples between the places, as cut --exact writes them\n",
+    "  split --exact IN PREFIX -c CUE\n",
+    "                         the same with the samples of each track\n",
     "  join OUT IN1 [IN2 to IN64]\n",
     "                         write the frames of IN1 to IN64, one file after another, to OUT\n",
     "  drill SEED COUNT       make COUNT frames from the number SEED, pack them in memory, and say how long both are\n",

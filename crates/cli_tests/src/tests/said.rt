@@ -20,6 +20,10 @@ const USAGE: &[u8] = b"usage: mp3edit COMMAND
                          write the frames of IN from FROM on and before TO to OUT, with all main data
                          FROM, TO: a frame's number from 0, a time (M.S or M.S.H) or EOF
                          --least: each frame with the least bit rate that has room for it
+  cut --exact IN FROM TO OUT
+                         write the frames that hold the samples of IN from FROM on and before TO to OUT, with
+                         the numbers by which players play exactly these samples; FROM, TO: also a sample (Ns),
+                         a time M.S.MMM, or EOF- and a time, which is so long before the end
   pack IN OUT            write all frames of IN to OUT, each with the least bit rate that has room for it
   pack --constant B IN OUT
                          the same with the bit rate of B kbit/s alone, which may be too low for some frame
@@ -29,6 +33,10 @@ const USAGE: &[u8] = b"usage: mp3edit COMMAND
                          write the frames of IN from P1 on and before P2 to PREFIX01.mp3, those from P2 on and
                          before P3 to PREFIX02.mp3, and so on; places as FROM and TO of cut
   split IN PREFIX -c CUE the same at the starts of the tracks in the cue sheet CUE, the last to the end of IN
+  split --exact IN PREFIX P1 P2 [P3 to P100]
+                         the same with the samples between the places, as cut --exact writes them
+  split --exact IN PREFIX -c CUE
+                         the same with the samples of each track
   join OUT IN1 [IN2 to IN64]
                          write the frames of IN1 to IN64, one file after another, to OUT
   drill SEED COUNT       make COUNT frames from the number SEED, pack them in memory, and say how long both are
@@ -81,7 +89,7 @@ fn run_words(alloc: Global, words: &[&str], is_failing: bool) -> Result<Ran, All
     let mut folder = MemFolder::new(alloc);
     let mut out = MemSink::new(alloc);
     let mut err = MemSink::new(alloc);
-    out.reserve(3000)?;
+    out.reserve(4000)?;
     err.reserve(100)?;
     if is_failing {
         out.fail(1)?;

@@ -131,7 +131,9 @@ fn a_file_without_a_head(rt: HostRuntime) -> Result<(), Fail> {
 fn a_frame_with_bits_stops_it(rt: HostRuntime) -> Result<(), Fail> {
     let mut survey = surveyed(rt.alloc(), WITH_HEAD[2].file)?.ok_or("no survey")?;
     let other = surveyed(rt.alloc(), WITH_HEAD[6].file)?.ok_or("no survey")?;
-    survey.frames[0] = other.frames()[0];
+    if let (Some(first), Some(with_bits)) = (survey.frames.get_mut(0), other.frames().first()) {
+        *first = *with_bits;
+    }
     survey.head_apart();
     assert!(rt; none_is_lost(survey.frames()));
     Ok(())

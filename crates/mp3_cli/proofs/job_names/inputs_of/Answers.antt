@@ -1,9 +1,10 @@
--- In each mode of packing the input alone is read.
-use Rattle.std.proofs.Common.{◌≡◌, ℕ, List, [], ◌∷◌, map, Bor, refl, sym, ap, ◌∙◌}
+-- In each mode of packing the input alone is read, and of a split by a sheet the input and the sheet, to a frame or to a sample.
+use Rattle.std.proofs.Common.{◌≡◌, ℕ, Bool, true, false, List, [], ◌∷◌, map, Bor, refl, sym, ap, ◌∙◌}
 use Rattle.pack_mode.specs.declared.mode.PackMode.{PackMode}
 use Rattle.pack_mode.specs.declared.mode.PackMode.TheVariants.{Least}
 use Rattle.packing.specs.Modes.{pack_mode_command}
 use Rattle.job_words.specs.declared.jobs.Job.{Job}
+use Rattle.job_words.specs.Asked.{SplitBy}
 use Rattle.job_words.specs.Code.{asked}
 use Rattle.mp3_cli.specs.Run.{command_of}
 use Rattle.mp3_cli.proofs.job_names.inputs_of.Goals as goal
@@ -17,3 +18,13 @@ returns-in-Pack c =
     ap (map (λ (name : Bor (List ℕ)). name.now)) c.names.ensures
     ∙ sym (packed_inputs c.in-Pack.mode c.in-Pack.input.now c.in-Pack.output.now)
     ∙ ap (λ (job : Job). (command_of (asked job)).inputs) (sym c.in-Pack.is)
+
+split_inputs : (exact : Bool) (input prefix sheet : List ℕ) → (command_of (SplitBy exact input prefix sheet)).inputs ≡ input ∷ sheet ∷ []
+split_inputs false input prefix sheet = refl
+split_inputs true input prefix sheet = refl
+
+pub returns-in-SplitBy : goal.returns-in-SplitBy
+returns-in-SplitBy c =
+    ap (map (λ (name : Bor (List ℕ)). name.now)) c.names-in-SplitBy.ensures
+    ∙ sym (split_inputs c.in-SplitBy.exact c.in-SplitBy.input.now c.in-SplitBy.prefix.now c.in-SplitBy.sheet.now)
+    ∙ ap (λ (job : Job). (command_of (asked job)).inputs) (sym c.in-SplitBy.is)

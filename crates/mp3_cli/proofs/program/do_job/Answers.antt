@@ -1,10 +1,12 @@
 -- Texts that are said, and commands without a text.
-use Rattle.std.proofs.Common.{◌≢◌, [], Some, rules}
-use Rattle.splitting.specs.Split.{split_at_command}
+use Rattle.std.proofs.Common.{◌≢◌, ℕ, Bool, true, false, List, [], Some, rules}
+use Rattle.splitting.specs.Split.{told_by, told_exact_by, split_at_command, split_exact_at_command}
+use Rattle.job_words.specs.Asked.{SplitBy}
 use Rattle.drill.specs.Drilled.{drill_text}
 use Rattle.drill.proofs.PackedLaws.{drill_text-some}
 use Rattle.program_texts.specs.Texts.{help_text, version_text}
-use Rattle.mp3_cli.proofs.RunLaws.{said_ends, sent_alone, run_ends, told_ends, one_silent, split_silent}
+use Rattle.mp3_cli.specs.Run.{command_of}
+use Rattle.mp3_cli.proofs.RunLaws.{IsSilent, said_ends, sent_alone, run_ends, told_ends, one_silent, split_silent}
 use Rattle.mp3_cli.proofs.program.do_job.Goals as goal
 
 some_help : Some help_text ≢ Some []
@@ -14,6 +16,11 @@ some_help e = absurd cc
 some_version : Some version_text ≢ Some []
 unfolding version_text
 some_version e = absurd cc
+
+-- to a frame or to a sample, a split by a sheet says nothing
+sheet_silent : (exact : Bool) (input prefix sheet : List ℕ) → IsSilent (command_of (SplitBy exact input prefix sheet))
+sheet_silent false input prefix sheet = split_silent (told_by sheet) prefix input
+sheet_silent true input prefix sheet = split_silent (told_exact_by sheet) prefix input
 
 pub returns-in-Help-clause-ends : goal.returns-in-Help-clause-ends
 returns-in-Help-clause-ends g c =
@@ -37,6 +44,9 @@ returns-in-Undo-clause-ends g c = rw c.in-Undo.is (run_ends _ (one_silent _ _) c
 pub returns-in-Cut-clause-ends : goal.returns-in-Cut-clause-ends
 returns-in-Cut-clause-ends g c = rw c.in-Cut.is (run_ends _ (one_silent _ _) c.cut.result _ _ _ c.cut.ensures)
 
+pub returns-in-CutExact-clause-ends : goal.returns-in-CutExact-clause-ends
+returns-in-CutExact-clause-ends g c = rw c.in-CutExact.is (run_ends _ (one_silent _ _) c.cut_exact.result _ _ _ c.cut_exact.ensures)
+
 pub returns-in-Pack-clause-ends : goal.returns-in-Pack-clause-ends
 returns-in-Pack-clause-ends g c = rw c.in-Pack.is (run_ends _ (one_silent _ _) c.pack_with.result _ _ _ c.pack_with.ensures.run)
 
@@ -45,8 +55,15 @@ returns-in-SplitAt-clause-ends g c =
     rw (c.in-SplitAt.is, ← c.as_slice.ensures.value)
     (run_ends (split_at_command c.as_slice.result.now c.in-SplitAt.input.now c.in-SplitAt.prefix.now) (split_silent _ _ _) c.split.result _ _ _ c.split.ensures)
 
+pub returns-in-SplitExact-clause-ends : goal.returns-in-SplitExact-clause-ends
+returns-in-SplitExact-clause-ends g c =
+    rw (c.in-SplitExact.is, ← c.as_slice-in-SplitExact.ensures.value)
+    (run_ends (split_exact_at_command c.as_slice-in-SplitExact.result.now c.in-SplitExact.input.now c.in-SplitExact.prefix.now) (split_silent _ _ _) c.split_exact.result _ _ _ c.split_exact.ensures)
+
 pub returns-in-SplitBy-clause-ends : goal.returns-in-SplitBy-clause-ends
-returns-in-SplitBy-clause-ends g c = rw c.in-SplitBy.is (run_ends _ (split_silent _ _ _) c.split-in-SplitBy.result _ _ _ c.split-in-SplitBy.ensures)
+returns-in-SplitBy-clause-ends g c =
+    rw c.in-SplitBy.is
+    (run_ends _ (sheet_silent c.in-SplitBy.exact c.in-SplitBy.input.now c.in-SplitBy.prefix.now c.in-SplitBy.sheet.now) c.split_by_sheet.result _ _ _ c.split_by_sheet.ensures)
 
 pub returns-in-Join-clause-ends : goal.returns-in-Join-clause-ends
 returns-in-Join-clause-ends g c = rw c.in-Join.is (run_ends _ (one_silent _ _) c.join.result _ _ _ c.join.ensures)
@@ -66,14 +83,23 @@ returns-in-Undo-clause-streams g c = rw c.in-Undo.is c.undo.ensures.streams
 pub returns-in-Pack-clause-streams : goal.returns-in-Pack-clause-streams
 returns-in-Pack-clause-streams g c = rw c.in-Pack.is c.pack_with.ensures.run.streams
 
+pub returns-in-SplitAt-clause-streams : goal.returns-in-SplitAt-clause-streams
+returns-in-SplitAt-clause-streams g c = rw (c.in-SplitAt.is, ← c.as_slice.ensures.value) c.split.ensures.streams
+
+pub returns-in-SplitExact-clause-streams : goal.returns-in-SplitExact-clause-streams
+returns-in-SplitExact-clause-streams g c = rw (c.in-SplitExact.is, ← c.as_slice-in-SplitExact.ensures.value) c.split_exact.ensures.streams
+
 pub returns-in-SplitBy-clause-streams : goal.returns-in-SplitBy-clause-streams
-returns-in-SplitBy-clause-streams g c = rw c.in-SplitBy.is c.split-in-SplitBy.ensures.streams
+returns-in-SplitBy-clause-streams g c = rw c.in-SplitBy.is c.split_by_sheet.ensures.streams
 
 pub returns-in-Fade-clause-streams : goal.returns-in-Fade-clause-streams
 returns-in-Fade-clause-streams g c = rw c.in-Fade.is c.fade.ensures.streams
 
 pub returns-in-Cut-clause-streams : goal.returns-in-Cut-clause-streams
 returns-in-Cut-clause-streams g c = rw c.in-Cut.is c.cut.ensures.streams
+
+pub returns-in-CutExact-clause-streams : goal.returns-in-CutExact-clause-streams
+returns-in-CutExact-clause-streams g c = rw c.in-CutExact.is c.cut_exact.ensures.streams
 
 pub returns-in-Join-clause-streams : goal.returns-in-Join-clause-streams
 returns-in-Join-clause-streams g c = rw c.in-Join.is c.join.ensures.streams

@@ -1,5 +1,5 @@
 -- What is found of the form.
-use Rattle.std.proofs.Common.{◌≡◌, ◌<◌, ◌⊎◌, ◌∙◌, ◌+◌, ◌-◌, List, length, drop, map, string_bytes, inl, inr, ap, refl, arith}
+use Rattle.std.proofs.Common.{◌≡◌, ◌<◌, ◌⊎◌, ◌∙◌, ◌-◌, List, length, drop, map, string_bytes, inl, inr, ap, refl, arith}
 use Rattle.std.specs.List.{drop-map}
 use Rattle.std.proofs.lemmas.List.{length-map, length-drop}
 use Rattle.job_words.specs.declared.kinds.WordKind.{WordKind}
