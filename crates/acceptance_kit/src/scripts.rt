@@ -23,12 +23,12 @@
 
 use crate::tells::run_tells;
 use crate::turns::run_turns;
-use command_rows::before::{fail_calls, prepare};
-use command_rows::ended::compare_ended;
-use command_rows::lines::{last_said, said};
-use command_rows::stop::{Stop, none_of};
+use command_runs::before::{fail_calls, prepare};
 use command_runs::differences::{Found, other_end};
+use command_runs::ended::compare_ended;
+use command_runs::lines::{last_said, said};
 use command_runs::running::{Ended, Program, run_failing};
+use command_runs::stop::{Stop, none_of};
 use outside::MemFolder;
 use std::alloc::{AllocError, AllocFailed, Global};
 use test_files::named::FILES;

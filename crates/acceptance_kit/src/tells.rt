@@ -3,12 +3,12 @@
 //! The status stays, and a prefix of the line was sent: nothing where the first write fails, and all of it where none of the number
 //! is made.
 
-use command_rows::before::prepare;
-use command_rows::ended::{is_line, other_line};
-use command_rows::lines::{last_said, parted, said};
-use command_rows::stop::Stop;
+use command_runs::before::prepare;
 use command_runs::differences::{Found, wants_memory};
+use command_runs::ended::{is_line, other_line};
+use command_runs::lines::{last_said, parted, said};
 use command_runs::running::{Ended, Program, run_failing};
+use command_runs::stop::Stop;
 use outside::MemFolder;
 use std::alloc::Global;
 use test_files::texts::{Named, number_of};

@@ -9,14 +9,14 @@
 //! names them, whole up to one, of which there is a prefix, with nothing after it. One where no call fails ends with status 0 and all
 //! outputs whole. The text counts as the last output.
 
-use command_rows::before::{call_of, fail_call, prepare};
-use command_rows::ended::{is_line, other_line};
-use command_rows::files::{compare_kept, compare_outputs};
-use command_rows::lines::{last_said, parted, said};
-use command_rows::progress::{Progress, progress_of};
-use command_rows::stop::Stop;
+use command_runs::before::{call_of, fail_call, prepare};
 use command_runs::differences::{Found, wants_memory};
+use command_runs::ended::{is_line, other_line};
+use command_runs::files::{compare_kept, compare_outputs};
+use command_runs::lines::{last_said, parted, said};
+use command_runs::progress::{Progress, progress_of};
 use command_runs::running::{Ended, Program, run_failing};
+use command_runs::stop::Stop;
 use outside::{Call, MemFolder};
 use std::alloc::Global;
 use test_files::texts::{Named, number_of};

@@ -1,6 +1,12 @@
-//! What the tests of whole commands stand on: commands in words over a folder and sinks in memory, and how they end otherwise than
-//! they should.
+//! What the tests of whole commands stand on: commands in words over a folder and sinks in memory, what the rows of such commands say (as
+//! `acceptance_kit::scripts` describes them), and how commands end otherwise than they should.
 #![tactic(auto)]
 
+pub mod before;
 pub mod differences;
+pub mod ended;
+pub mod files;
+pub mod lines;
+pub mod progress;
 pub mod running;
+pub mod stop;

@@ -21,10 +21,10 @@ use Rattle.slot_plan.specs.declared.needs.Need.{Need}
 use Rattle.slot_plan.specs.declared.needs.Placed.{Placed}
 use Rattle.slot_plan.specs.LeastPlan.{least_plan}
 use Rattle.slot_plan.specs.Plans.{IsPlan}
-use Rattle.part_needs.specs.Needs.{need_of}
-use Rattle.part_needs.specs.Fit.{any_choice}
-use Rattle.laid_files.specs.LaidFiles.{entry_of}
-use Rattle.laid_files.proofs.LaidFrames.{rows-length}
+use Rattle.laying.specs.Needs.{need_of}
+use Rattle.laying.specs.NeedsFit.{any_choice}
+use Rattle.laying.specs.LaidFiles.{entry_of}
+use Rattle.laying.proofs.LaidFrames.{rows-length}
 use Rattle.laying.specs.Relaid.{stream_in, with_lead_ins, left_behind}
 use Rattle.laying.proofs.ChosenFrames.{survey-had}
 use Rattle.laying.specs.Fits.{reach_behind, FitsFrom, IsFitting}
@@ -36,15 +36,15 @@ use Rattle.commands.specs.One.{Making, most_frames, made_where, unless_clash, cl
 use Rattle.commands.specs.Said.{IsText, SaysAll, SaysPrefix}
 use Rattle.commands.proofs.InputLaws.{made-survey}
 use Rattle.laying.specs.Laid.{Laid, file_laid, stream_laid}
-use Rattle.frame_edits.specs.Chosen.{Chosen, chosen_rows, needs_of, first_plan, part_of, laid_by, first_planning, laying_with, laying_task, chosen_with, all_choice, pack_refuses, pack_command}
-use Rattle.frame_edits.proofs.ChosenLaws.{IsRight, the-plan, plan-fitting, laying-is, all_right}
+use Rattle.cut_edits.specs.Chosen.{Chosen, chosen_rows, needs_of, first_plan, part_of, laid_by, first_planning, laying_with, laying_task, chosen_with, all_choice, pack_refuses, pack_command}
+use Rattle.cut_edits.proofs.ChosenLaws.{IsRight, the-plan, plan-fitting, laying-is, all_right}
 use Rattle.laying.proofs.LaidLaws.{laid-holds}
-use Rattle.drill_stream.specs.Drill.{drill_header, frame_at, drill_frames, drill_stream}
-use Rattle.drill_stream.specs.Laws.{drill_fields, drill_needs}
-use Rattle.drill_stream.specs.declared.summary.Summary.{Summary}
-use Rattle.drill_stream.specs.Summary.{summary_text}
-use Rattle.drill_stream.proofs.DrillLaws.{streams-surveyed, streams-hold}
-use Rattle.drill_stream.proofs.NoLeadIn.{streams-need_no_lead_in}
+use Rattle.drill.specs.Drill.{drill_header, frame_at, drill_frames, drill_stream}
+use Rattle.drill.specs.StreamLaws.{drill_fields, drill_needs}
+use Rattle.drill.specs.declared.summary.Summary.{Summary}
+use Rattle.drill.specs.Summary.{summary_text}
+use Rattle.drill.proofs.DrillLaws.{streams-surveyed, streams-hold}
+use Rattle.drill.proofs.NoLeadIn.{streams-need_no_lead_in}
 use Rattle.drill.specs.Drilled.{packing_of, file_in, packed_file, packed_plan, lead_ins_in, drill_summary, drill_text, drill_command}
 use Rattle.drill.specs.Laws.{IsPacked, DrillsArePacked, DrillsHaveNoLeadIn}
 

@@ -3,16 +3,16 @@ use Rattle.std.specs.Prelude.{ℕ, List, [], ◌∷◌, length, filter, Some, Re
 use Rattle.frame_header.specs.Tables.{window_of}
 use Rattle.slot_plan.specs.declared.needs.Placed.{Placed}
 use Rattle.slot_plan.specs.LeastPlan.{least_plan}
-use Rattle.part_needs.specs.Fit.{any_choice}
+use Rattle.laying.specs.NeedsFit.{any_choice}
 use Rattle.commands.specs.declared.fault.EditFault.{EditFault}
 use Rattle.commands.specs.declared.fault.EditFault.TheVariants.{Sent as NotSent, Memory}
 use Rattle.commands.specs.Command.{Command}
 use Rattle.commands.specs.One.{made_file}
-use Rattle.frame_edits.specs.Chosen.{first_planning, laying_with, all_choice}
-use Rattle.drill_stream.specs.declared.summary.Summary.{Summary}
-use Rattle.drill_stream.specs.Drill.{drill_header, drill_stream}
-use Rattle.drill_stream.specs.Laws.{drill_needs}
-use Rattle.drill_stream.specs.Summary.{summary_text}
+use Rattle.cut_edits.specs.Chosen.{first_planning, laying_with, all_choice}
+use Rattle.drill.specs.declared.summary.Summary.{Summary}
+use Rattle.drill.specs.Drill.{drill_header, drill_stream}
+use Rattle.drill.specs.StreamLaws.{drill_needs}
+use Rattle.drill.specs.Summary.{summary_text}
 
 -- what the packing with the least slots makes of the stream
 abbrev pub packing_of : ℕ → ℕ → Result (List ℕ) EditFault

@@ -1,8 +1,8 @@
 -- What holds of every stream that is made from a seed and packed.
 use Rattle.std.specs.Prelude.{◌≡◌, ℕ, ◌<◌, ◌≤◌, map, Ok}
 use Rattle.sync_survey.specs.Faults.{HoldsStream}
-use Rattle.laid_files.specs.LaidFiles.{entry_of}
-use Rattle.drill_stream.specs.Drill.{drill_frames}
+use Rattle.laying.specs.LaidFiles.{entry_of}
+use Rattle.drill.specs.Drill.{drill_frames}
 use Rattle.drill.specs.Drilled.{packing_of, packed_file, packed_plan, lead_ins_in}
 
 -- the packing isn't refused, and the packed file holds the frames that were drawn, and no others

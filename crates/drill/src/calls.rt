@@ -7,9 +7,9 @@ ghost use Rattle.commands.specs.One.{most_frames};
 ghost use Rattle.commands.specs.Said.{Says, fault_of};
 ghost use Rattle.drill.specs.Drilled.{packed_file, drill_summary, drill_command, IsDrillFault};
 
+use crate::{FRAME_LENGTH, Summary, send_summary, stream_folder, streams_are_long};
 use commands::{EditFault, MOST_FRAMES};
-use drill_stream::{FRAME_LENGTH, Summary, send_summary, stream_folder, streams_are_long};
-use frame_edits::pack;
+use cut_edits::pack;
 use outside::{Failed, Sink};
 use std::alloc::{AllocError, Global};
 use sync_survey::{Survey, survey};

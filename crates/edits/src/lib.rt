@@ -5,25 +5,27 @@
 //!
 //! | call | crate | what it does |
 //! |---|---|---|
-//! | `list` | `listing` | sends what a file holds, a line for each block, junk, head and frame, to a sink |
-//! | `gain`, `undo` | `gain_edits` | moves the gains of a file; undoes the changes that the file's tag lists |
-//! | `fade` | `fading` | moves the gains of a file by a curve over its frames |
-//! | `cut`, `pack` | `frame_edits` | lays the frames between two positions, or all, anew in one file |
-//! | `cut_exact` | `frame_edits` | lays the frames that a decoder needs for some samples anew, with a head by which players play exactly these |
-//! | `pack_with` | `packing` | packs in a mode: with the least slots, one bit rate alone, bit rates from one on, or the fewest bytes |
-//! | `split` | `splitting` | lays the frames between positions anew, a file for each piece |
-//! | `join` | `joining` | lays the frames of several files anew in one |
-//! | `salvage` | `salvaging` | lays what can be read of a damaged file anew, and sends what is missing to a sink |
+//! | `list` | `list_edits` | sends what a file holds, a line for each block, junk, head and frame, to a sink |
+//! | `gain`, `undo`, `fade` | `gain_edits` | moves the gains of a file; undoes the changes that the file's tag lists; moves them by a curve over its frames |
+//! | `cut`, `pack` | `cut_edits` | lays the frames between two positions, or all, anew in one file |
+//! | `cut_exact` | `cut_edits` | lays the frames that a decoder needs for some samples anew, with a head by which players play exactly these |
+//! | `pack_with` | `pack_edits` | packs in a mode: with the least slots, one bit rate alone, bit rates from one on, or the fewest bytes |
+//! | `split` | `split_edits` | lays the frames between positions anew, a file for each piece |
+//! | `join` | `join_edits` | lays the frames of several files anew in one |
+//! | `salvage` | `salvage_edits` | lays what can be read of a damaged file anew, and sends what is missing to a sink |
 //!
 //! What they share, the faults and the one body of those that make one file, is in `commands`.
 
 pub use commands::{EditFault, MOST_FRAMES, Refusal};
-pub use fading::{fade, fade_gives_back, fade_keeps_all};
-pub use frame_edits::{cut, cut_exact, pack};
-pub use gain_edits::{gain, gains_keep_all, opposite_gives_back, undo, undo_gives_back};
-pub use joining::join;
-pub use listing::list;
-pub use moved_gains::{Channels, Shift, Steps, Stuck};
-pub use packing::{PackMode, fewest_bytes, floors_fit, never_longer, pack_with};
-pub use salvaging::salvage;
-pub use splitting::{ExactPoints, Points, split, split_exact};
+pub use cut_edits::{cut, cut_exact, pack};
+pub use gain_edits::{
+    fade, fade_gives_back, fade_keeps_all, gain, gains_keep_all, opposite_gives_back, undo,
+    undo_gives_back,
+};
+pub use join_edits::join;
+pub use list_edits::list;
+pub use moved_gains::Stuck;
+pub use pack_edits::{PackMode, fewest_bytes, floors_fit, never_longer, pack_with};
+pub use requests::{Channels, Shift, Steps};
+pub use salvage_edits::salvage;
+pub use split_edits::{ExactPoints, Points, split, split_exact};

@@ -2,11 +2,11 @@
 use Rattle.std.proofs.Common.{◌≡◌, ℕ, true, false, List, Option, Some, None, Ok, refl, ◌∙◌, ap, subst}
 use Rattle.std.specs.Prelude.{IfSome}
 use Rattle.bit_fields.specs.Bits.{AreBytes}
-use Rattle.file_tag.specs.Places.{IsTagBytes}
+use Rattle.moved_gains.specs.TagPlace.{IsTagBytes}
 use Rattle.sync_survey.specs.Faults.{SurveyFields}
 use Rattle.sync_survey.specs.Survey.{survey_of}
 use Rattle.sync_survey.proofs.SurveyedFiles.{survey_of-parts}
-use Rattle.moved_gains.specs.declared.shift.Shift.{Shift}
+use Rattle.requests.specs.declared.shift.Shift.{Shift}
 use Rattle.moved_gains.specs.Change.{Change}
 use Rattle.moved_gains.specs.Kept.{KeepsAll}
 use Rattle.moved_gains.proofs.KeptFile.{changes_kept, keeps_weaker}

@@ -5,3 +5,7 @@ pub mod RangeAgain
 pub mod OppositeSteps
 pub mod UndoneGains
 pub mod KeptGains
+pub mod FadeLaws
+pub mod FadeProper
+mod TakenBack
+mod KeptFade

@@ -12,11 +12,12 @@ use Rattle.sync_survey.specs.Row.{Row}
 use Rattle.sync_survey.specs.MainData.{StreamFrame, main_bytes, side_of, stream_frame, stream_frames}
 use Rattle.sync_survey.specs.Faults.{SurveyFields, surveyed, stream_of, stream_of_survey, HoldsStream, longest_file}
 use Rattle.sync_survey.proofs.SurveyParts.{surveyed-stream}
-use Rattle.file_tag.specs.Places.{IsTagBytes, with_tag}
-use Rattle.file_tag.specs.Laws.{own_bytes}
+use Rattle.moved_gains.specs.TagPlace.{IsTagBytes, with_tag}
+use Rattle.moved_gains.specs.TagLaws.{own_bytes}
 use Rattle.moved_gains.specs.Course.{even}
-use Rattle.moved_gains.specs.declared.shift.Steps.{Steps}
-use Rattle.moved_gains.specs.Gains.{moved_side, left_steps_of, right_steps_of, steps_of}
+use Rattle.requests.specs.declared.shift.Steps.{Steps}
+use Rattle.requests.specs.Shifts.{left_steps_of, right_steps_of, steps_of}
+use Rattle.moved_gains.specs.Gains.{moved_side}
 use Rattle.moved_gains.specs.Edited.{edited}
 use Rattle.moved_gains.specs.Change.{Change, changed}
 use Rattle.moved_gains.specs.Streams.{moved_survey, without_junk, moved_stream_frame, moved_row, junk_length}
@@ -40,9 +41,9 @@ use Rattle.sync_survey.specs.Survey.{survey_of}
 use Rattle.sync_survey.proofs.FoldersLaws.{survey_of-short}
 use Rattle.commands.specs.declared.fault.Refusal.{Refusal}
 use Rattle.commands.specs.declared.fault.Refusal.TheVariants.{Mono, Joint}
-use Rattle.moved_gains.specs.declared.shift.Channels.{Channels}
-use Rattle.moved_gains.specs.declared.shift.Channels.TheVariants.{Left, Right}
-use Rattle.moved_gains.specs.declared.shift.Shift.{Shift}
+use Rattle.requests.specs.declared.shift.Channels.{Channels}
+use Rattle.requests.specs.declared.shift.Channels.TheVariants.{Left, Right}
+use Rattle.requests.specs.declared.shift.Shift.{Shift}
 use Rattle.commands.specs.Refusing.{or_else, unless}
 use Rattle.gain_edits.specs.Channels.{are_both, is_joint, joint_at, joint_fault, apart_fault, channel_fault}
 use Rattle.gain_edits.specs.GainRange.{range_fault}

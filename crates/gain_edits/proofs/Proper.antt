@@ -2,15 +2,15 @@
 use Rattle.std.proofs.Common.{◌≡◌, ℕ, List, Option, Some, None, Result, Ok, refl, sym, ◌∙◌, subst, arith, ◌+◌, [], ◌∷◌, length, map, Err, ap, ◌==◌, true, false, cond, inl, inr}
 use Rattle.bit_fields.specs.Bits.{AreBytes}
 use Rattle.tag_blocks.specs.Tags.{TagFields, IsTag, tag_bytes}
-use Rattle.file_tag.specs.declared.fault.FileTagFault.{FileTagFault}
-use Rattle.file_tag.specs.Places.{tag_block, IsTagBytes, retagged, tag_at}
-use Rattle.file_tag.specs.Reading.{empty_tag, file_tag}
-use Rattle.file_tag.proofs.NewTag.{own-tag}
-use Rattle.file_tag.proofs.ReadingLaws.{file_tag-none}
+use Rattle.moved_gains.specs.declared.tag_fault.FileTagFault.{FileTagFault}
+use Rattle.moved_gains.specs.TagPlace.{tag_block, IsTagBytes, retagged, tag_at}
+use Rattle.moved_gains.specs.TagReading.{empty_tag, file_tag}
+use Rattle.moved_gains.proofs.NewTag.{own-tag}
+use Rattle.moved_gains.proofs.TagReadingLaws.{file_tag-none}
 use Rattle.sync_survey.specs.declared.places.Piece.{Piece}
 use Rattle.sync_survey.specs.Faults.{SurveyFields, surveyed, stream_of_survey, HoldsStream, stream_by, stream_of}
 use Rattle.std.specs.Prelude.{IfSome, IfErr}
-use Rattle.file_tag.proofs.Retagged.{surveyed-retagged, stream-retagged}
+use Rattle.moved_gains.proofs.Retagged.{surveyed-retagged, stream-retagged}
 use Rattle.std.specs.List.{enumerate_from}
 use Rattle.sync_survey.specs.declared.places.Head.{Head}
 use Rattle.sync_survey.specs.Row.{Row}
@@ -19,7 +19,7 @@ use Rattle.sync_survey.specs.Survey.{survey_of}
 use Rattle.sync_survey.proofs.SurveyParts.{surveyed-allowed}
 use Rattle.commands.specs.declared.fault.EditFault.{EditFault}
 use Rattle.moved_gains.specs.Course.{even}
-use Rattle.moved_gains.specs.declared.shift.Steps.{Steps}
+use Rattle.requests.specs.declared.shift.Steps.{Steps}
 use Rattle.moved_gains.specs.Edited.{edited}
 use Rattle.commands.specs.One.{most_frames, made_by, made_file, IsMaking, IsProper}
 use Rattle.moved_gains.specs.Change.{Change, retag, changed}
@@ -32,9 +32,9 @@ use Rattle.tag_blocks.specs.declared.undo.Undo.{Undo}
 use Rattle.tag_blocks.specs.UndoItems.{undo_from}
 use Rattle.tag_blocks.proofs.TagsLaws.{block_front-tag_bytes}
 use Rattle.tag_blocks.proofs.UndoItemsLaws.{IsTag-with_undo, IsTag-without_undo}
-use Rattle.moved_gains.specs.declared.shift.Shift.{Shift}
+use Rattle.requests.specs.declared.shift.Shift.{Shift}
 use Rattle.gain_edits.specs.GainRange.{range_fault}
-use Rattle.moved_gains.specs.Gains.{steps_of}
+use Rattle.requests.specs.Shifts.{steps_of}
 use Rattle.commands.specs.Refusing.{or_else, then_made}
 use Rattle.gain_edits.specs.Channels.{channel_fault}
 use Rattle.gain_edits.specs.UndoItem.{tag_read, noted_undo, found_undo, undo_steps, next_undo, undo_fault, tag_with, tag_without, bytes_unless_empty, size_fault, output_fault}

@@ -10,7 +10,7 @@ use Rattle.sync_survey.specs.Row.{Row}
 use Rattle.frame_header.specs.Tables.{class_of}
 use Rattle.moved_gains.specs.Course.{even}
 use Rattle.moved_gains.specs.declared.gains.Stuck.{Stuck}
-use Rattle.moved_gains.specs.declared.shift.Steps.{Steps}
+use Rattle.requests.specs.declared.shift.Steps.{Steps}
 use Rattle.moved_gains.specs.Gains.{is_silent_granule, is_outside, moved, moved_side, moved_unless, stuck_in}
 use Rattle.moved_gains.specs.Edited.{stuck_of}
 use Rattle.gain_edits.specs.GainRange.{stuck_fault, range_at, range_fault}

@@ -10,11 +10,11 @@ use Rattle.tag_blocks.specs.UndoItems.{undo_at, undo_from}
 use Rattle.std.specs.Prelude.{IfSome, IfErr, nat_lt, unsigned_abs, ◌⊎◌, is_some}
 use Rattle.std.proofs.lemmas.Result.{IfErr-weaker}
 use Rattle.tag_blocks.specs.Tags.{TagFields, tag_bytes}
-use Rattle.file_tag.specs.declared.fault.FileTagFault.{FileTagFault}
-use Rattle.file_tag.specs.declared.fault.FileTagFault.TheVariants.{TooLarge, Bad as BadBlock, Read, Memory as NoRoom}
+use Rattle.moved_gains.specs.declared.tag_fault.FileTagFault.{FileTagFault}
+use Rattle.moved_gains.specs.declared.tag_fault.FileTagFault.TheVariants.{TooLarge, Bad as BadBlock, Read, Memory as NoRoom}
 use Rattle.outside.specs.declared.exact.ReadFault.TheVariants.{Failed, Shrunk}
-use Rattle.file_tag.specs.Places.{tag_at}
-use Rattle.file_tag.specs.Reading.{file_tag, IsTagCause}
+use Rattle.moved_gains.specs.TagPlace.{tag_at}
+use Rattle.moved_gains.specs.TagReading.{file_tag, IsTagCause}
 use Rattle.sync_survey.specs.Row.{Row}
 use Rattle.sync_survey.specs.Faults.{SurveyFields}
 use Rattle.commands.specs.declared.fault.EditFault.{EditFault}
@@ -26,10 +26,10 @@ use Rattle.commands.specs.Left.{IsLate, IsRefusal, IsOfInput}
 use Rattle.commands.proofs.RefusingLaws.{then_all, unless_late, then_late, of_err}
 use Rattle.moved_gains.specs.Course.{even}
 use Rattle.moved_gains.specs.declared.gains.Stuck.{Stuck}
-use Rattle.moved_gains.specs.declared.shift.Shift.{Shift}
-use Rattle.moved_gains.specs.declared.shift.Steps.{Steps}
+use Rattle.requests.specs.declared.shift.Shift.{Shift}
+use Rattle.requests.specs.declared.shift.Steps.{Steps}
 use Rattle.moved_gains.specs.Edited.{stuck_of}
-use Rattle.moved_gains.specs.Gains.{steps_of}
+use Rattle.requests.specs.Shifts.{steps_of}
 use Rattle.gain_edits.specs.GainRange.{stuck_fault, range_at, range_fault}
 use Rattle.gain_edits.specs.Channels.{is_joint, joint_at, joint_fault, are_both, apart_fault, channel_fault}
 use Rattle.gain_edits.specs.UndoItem.{tag_read, noted_undo, found_undo, next_undo, number_fault, undo_fault, tag_with, size_fault, output_fault, of_tag}

@@ -13,16 +13,16 @@ use Rattle.tag_blocks.specs.UndoItems.{undo_at, undo_from, without_undo}
 use Rattle.tag_blocks.proofs.TagsLaws.{tag_of-tag_bytes, block_front-tag_bytes}
 use Rattle.tag_blocks.proofs.UndoTextLaws.{undo_of-undo_text}
 use Rattle.tag_blocks.proofs.UndoItemsLaws.{undo_from-with_undo, without_undo-with_undo, IsTag-with_undo}
-use Rattle.file_tag.specs.Places.{tag_at, tag_block, tag_length, with_tag}
-use Rattle.file_tag.specs.Reading.{longest_tag, tag_of_block, file_tag, empty_tag}
+use Rattle.moved_gains.specs.TagPlace.{tag_at, tag_block, tag_length, with_tag}
+use Rattle.moved_gains.specs.TagReading.{longest_tag, tag_of_block, file_tag, empty_tag}
 use Rattle.sync_survey.specs.Faults.{SurveyFields, longest_file, surveyed, stream_of, HoldsStream}
 use Rattle.commands.specs.declared.fault.EditFault.{EditFault}
 use Rattle.commands.specs.declared.fault.Refusal.{Refusal}
 use Rattle.commands.specs.declared.fault.Refusal.TheVariants.{UndoRange}
 use Rattle.moved_gains.specs.Course.{even}
-use Rattle.moved_gains.specs.declared.shift.Shift.{Shift}
+use Rattle.requests.specs.declared.shift.Shift.{Shift}
 use Rattle.gain_edits.specs.GainRange.{range_fault}
-use Rattle.moved_gains.specs.Gains.{steps_of}
+use Rattle.requests.specs.Shifts.{steps_of}
 use Rattle.commands.specs.Refusing.{or_else, unless, then_made}
 use Rattle.gain_edits.specs.Channels.{channel_fault}
 use Rattle.gain_edits.specs.UndoItem.{tag_read, noted_undo, next_undo, number_fault, undo_fault, tag_with, tag_without, output_length, size_fault, output_fault, no_undo, found_undo, undo_steps, bytes_unless_empty}
@@ -33,15 +33,15 @@ use Rattle.gain_edits.proofs.Refusals.{not_there}
 use Rattle.bit_fields.specs.Bits.{AreBytes}
 use Rattle.tag_blocks.specs.declared.block.Kind.TheVariants.{Ape}
 use Rattle.tag_blocks.specs.Blocks.{block_front}
-use Rattle.file_tag.specs.Laws.{own_bytes}
-use Rattle.file_tag.proofs.FoundTag.{surveyed-length}
-use Rattle.file_tag.proofs.NewTag.{own-tag}
+use Rattle.moved_gains.specs.TagLaws.{own_bytes}
+use Rattle.moved_gains.proofs.FoundTag.{surveyed-length}
+use Rattle.moved_gains.proofs.NewTag.{own-tag}
 use Rattle.sync_survey.specs.declared.places.Piece.{Piece}
 use Rattle.sync_survey.specs.Survey.{survey_of}
 use Rattle.sync_survey.proofs.FoldersLaws.{survey_of-short}
-use Rattle.moved_gains.specs.declared.shift.Steps.{Steps}
+use Rattle.requests.specs.declared.shift.Steps.{Steps}
 use Rattle.moved_gains.specs.Edited.{edited}
-use Rattle.file_tag.proofs.ReadingLaws.{file_tag-none}
+use Rattle.moved_gains.proofs.TagReadingLaws.{file_tag-none}
 use Rattle.moved_gains.specs.Streams.{junk_length, moved_survey, without_junk}
 use Rattle.commands.specs.One.{most_frames}
 use Rattle.gain_edits.specs.Change.{changed_file}

@@ -2,7 +2,7 @@
 use Rattle.std.specs.Prelude.{◌≡◌, ◌⊎◌, ℕ, Bool, List, map, Result, Ok, Err, MatchResult}
 use Rattle.sync_survey.specs.Faults.{SurveyFields}
 use Rattle.sync_survey.specs.MainData.{StreamFrame}
-use Rattle.moved_gains.specs.declared.shift.Steps.{Steps}
+use Rattle.requests.specs.declared.shift.Steps.{Steps}
 use Rattle.moved_gains.specs.declared.change.Change.{Change as CodeChange}
 use Rattle.moved_gains.specs.Change.{Change, changed, change_in}
 use Rattle.moved_gains.specs.Streams.{moved_stream_frame, stream_in}

@@ -11,8 +11,8 @@ use Rattle.commands.specs.declared.fault.Refusal.{Refusal}
 use Rattle.commands.specs.declared.fault.Refusal.TheVariants.{NoUndo}
 use Rattle.commands.specs.Left.{IsOfInput}
 use Rattle.commands.specs.One.{Task, IsInputFault}
-use Rattle.moved_gains.specs.declared.shift.Steps.{Steps}
-use Rattle.moved_gains.specs.Gains.{steps_of}
+use Rattle.requests.specs.declared.shift.Steps.{Steps}
+use Rattle.requests.specs.Shifts.{steps_of}
 use Rattle.moved_gains.specs.declared.change.Change.{Change as CodeChange}
 use Rattle.moved_gains.specs.Change.{Change, change_in}
 use Rattle.gain_edits.specs.declared.changes.Changes.{Changes}

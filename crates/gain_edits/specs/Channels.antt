@@ -4,9 +4,9 @@ use Rattle.sync_survey.specs.Row.{Row}
 use Rattle.sync_survey.specs.Faults.{SurveyFields}
 use Rattle.commands.specs.declared.fault.Refusal.{Refusal}
 use Rattle.commands.specs.declared.fault.Refusal.TheVariants.{Mono, Joint}
-use Rattle.moved_gains.specs.declared.shift.Channels.{Channels}
-use Rattle.moved_gains.specs.declared.shift.Channels.TheVariants.{Both}
-use Rattle.moved_gains.specs.declared.shift.Shift.{Shift}
+use Rattle.requests.specs.declared.shift.Channels.{Channels}
+use Rattle.requests.specs.declared.shift.Channels.TheVariants.{Both}
+use Rattle.requests.specs.declared.shift.Shift.{Shift}
 use Rattle.commands.specs.Refusing.{first_refusal}
 
 abbrev pub are_both : Channels → Bool

@@ -3,13 +3,13 @@ use Rattle.std.specs.Prelude.{ℕ, if◌then◌else◌, Bool, true, false, List,
 use Rattle.tag_blocks.specs.declared.undo.Undo.{Undo}
 use Rattle.tag_blocks.specs.Tags.{TagFields, tag_bytes}
 use Rattle.tag_blocks.specs.UndoItems.{undo_from}
-use Rattle.file_tag.specs.Places.{tag_at}
-use Rattle.file_tag.specs.Reading.{file_tag}
+use Rattle.moved_gains.specs.TagPlace.{tag_at}
+use Rattle.moved_gains.specs.TagReading.{file_tag}
 use Rattle.sync_survey.specs.Faults.{SurveyFields}
 use Rattle.commands.specs.declared.fault.EditFault.{EditFault}
 use Rattle.moved_gains.specs.Course.{even}
-use Rattle.moved_gains.specs.declared.shift.Shift.{Shift}
-use Rattle.moved_gains.specs.Gains.{steps_of}
+use Rattle.requests.specs.declared.shift.Shift.{Shift}
+use Rattle.requests.specs.Shifts.{steps_of}
 use Rattle.gain_edits.specs.GainRange.{range_fault}
 use Rattle.commands.specs.Refusing.{or_else, unless, then_made}
 use Rattle.gain_edits.specs.Channels.{channel_fault}

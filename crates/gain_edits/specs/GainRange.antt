@@ -5,7 +5,7 @@ use Rattle.commands.specs.declared.fault.Refusal.{Refusal}
 use Rattle.commands.specs.declared.fault.Refusal.TheVariants.{GainRange}
 use Rattle.commands.specs.Refusing.{first_refusal}
 use Rattle.moved_gains.specs.declared.gains.Stuck.{Stuck}
-use Rattle.moved_gains.specs.declared.shift.Steps.{Steps}
+use Rattle.requests.specs.declared.shift.Steps.{Steps}
 use Rattle.moved_gains.specs.Edited.{stuck_of}
 
 -- the gain that would leave the range, in the frame at this offset

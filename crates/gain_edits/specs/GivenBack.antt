@@ -4,13 +4,13 @@ use Rattle.bit_fields.specs.Bits.{AreBytes}
 use Rattle.tag_blocks.specs.declared.undo.UndoItem.TheVariants.{Missing}
 use Rattle.tag_blocks.specs.Tags.{TagFields}
 use Rattle.tag_blocks.specs.UndoItems.{undo_from}
-use Rattle.file_tag.specs.Places.{tag_block, with_tag}
-use Rattle.file_tag.specs.Reading.{file_tag}
+use Rattle.moved_gains.specs.TagPlace.{tag_block, with_tag}
+use Rattle.moved_gains.specs.TagReading.{file_tag}
 use Rattle.sync_survey.specs.Faults.{SurveyFields, stream_of, HoldsStream}
 use Rattle.sync_survey.specs.Survey.{survey_of}
 use Rattle.commands.specs.declared.fault.EditFault.{EditFault}
 use Rattle.moved_gains.specs.Course.{even}
-use Rattle.moved_gains.specs.declared.shift.Shift.{Shift}
+use Rattle.requests.specs.declared.shift.Shift.{Shift}
 use Rattle.commands.specs.Refusing.{then_made}
 use Rattle.gain_edits.specs.UndoItem.{no_undo, undo_steps, bytes_unless_empty}
 use Rattle.moved_gains.specs.Streams.{moved_survey, without_junk}

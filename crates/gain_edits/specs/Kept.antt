@@ -1,10 +1,10 @@
 -- What the commands that change gains keep of a file.
 use Rattle.std.specs.Prelude.{◌≡◌, ℕ, Bool, true, List, Ok}
 use Rattle.bit_fields.specs.Bits.{AreBytes}
-use Rattle.file_tag.specs.Places.{IsTagBytes}
+use Rattle.moved_gains.specs.TagPlace.{IsTagBytes}
 use Rattle.sync_survey.specs.Faults.{SurveyFields}
 use Rattle.sync_survey.specs.Survey.{survey_of}
-use Rattle.moved_gains.specs.declared.shift.Shift.{Shift}
+use Rattle.requests.specs.declared.shift.Shift.{Shift}
 use Rattle.moved_gains.specs.Kept.{KeepsAll}
 use Rattle.commands.specs.One.{most_frames}
 use Rattle.gain_edits.specs.Change.{changed_file}

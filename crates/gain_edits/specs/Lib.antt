@@ -9,3 +9,7 @@ pub mod Movable
 pub mod Changes
 pub mod GivenBack
 pub mod Kept
+pub mod Fade
+pub mod Steps
+pub mod TakenBack
+pub mod FadeKept

@@ -3,14 +3,14 @@ use Rattle.std.specs.Prelude.{ℕ, Bool, true, false, List, Some, Result, Ok, Er
 use Rattle.tag_blocks.specs.declared.undo.Undo.{Undo}
 use Rattle.tag_blocks.specs.Tags.{TagFields}
 use Rattle.tag_blocks.specs.UndoItems.{undo_from}
-use Rattle.file_tag.specs.Places.{tag_at}
-use Rattle.file_tag.specs.Reading.{file_tag}
+use Rattle.moved_gains.specs.TagPlace.{tag_at}
+use Rattle.moved_gains.specs.TagReading.{file_tag}
 use Rattle.sync_survey.specs.declared.survey_fault.SurveyFault.{SurveyFault}
 use Rattle.sync_survey.specs.Faults.{SurveyFields}
 use Rattle.sync_survey.specs.Survey.{survey_of}
 use Rattle.commands.specs.declared.fault.EditFault.{EditFault}
 use Rattle.moved_gains.specs.Course.{even}
-use Rattle.moved_gains.specs.declared.shift.Steps.{Steps}
+use Rattle.requests.specs.declared.shift.Steps.{Steps}
 use Rattle.gain_edits.specs.GainRange.{range_fault}
 use Rattle.commands.specs.Refusing.{unless, then_made}
 use Rattle.gain_edits.specs.UndoItem.{tag_read, no_undo, found_undo, undo_steps, tag_without, bytes_unless_empty}

@@ -5,19 +5,19 @@ use Rattle.tag_blocks.specs.declared.undo.UndoItem.{UndoItem}
 use Rattle.tag_blocks.specs.declared.undo.UndoItem.TheVariants.{Missing, Bad, Found}
 use Rattle.tag_blocks.specs.Tags.{TagFields, tag_bytes}
 use Rattle.tag_blocks.specs.UndoItems.{with_undo, without_undo}
-use Rattle.file_tag.specs.declared.fault.FileTagFault.{FileTagFault}
-use Rattle.file_tag.specs.declared.fault.FileTagFault.TheVariants.{TooLarge, Bad as BadBlock, Read, Memory as NoRoom}
-use Rattle.file_tag.specs.Places.{tag_length}
-use Rattle.file_tag.specs.Reading.{longest_tag}
+use Rattle.moved_gains.specs.declared.tag_fault.FileTagFault.{FileTagFault}
+use Rattle.moved_gains.specs.declared.tag_fault.FileTagFault.TheVariants.{TooLarge, Bad as BadBlock, Read, Memory as NoRoom}
+use Rattle.moved_gains.specs.TagPlace.{tag_length}
+use Rattle.moved_gains.specs.TagReading.{longest_tag}
 use Rattle.sync_survey.specs.Kinds.{of_read}
 use Rattle.sync_survey.specs.Faults.{SurveyFields, longest_file}
 use Rattle.commands.specs.declared.fault.EditFault.{EditFault}
 use Rattle.commands.specs.declared.fault.EditFault.TheVariants.{Input, Refused, Memory}
 use Rattle.commands.specs.declared.fault.Refusal.{Refusal}
 use Rattle.commands.specs.declared.fault.Refusal.TheVariants.{TagTooLarge, BadTag, NoUndo, BadUndo, UndoRange, OutputTooLong}
-use Rattle.moved_gains.specs.declared.shift.Shift.{Shift}
-use Rattle.moved_gains.specs.declared.shift.Steps.{Steps}
-use Rattle.moved_gains.specs.Gains.{steps_of}
+use Rattle.requests.specs.declared.shift.Shift.{Shift}
+use Rattle.requests.specs.declared.shift.Steps.{Steps}
+use Rattle.requests.specs.Shifts.{steps_of}
 use Rattle.commands.specs.Refusing.{or_else}
 use Rattle.moved_gains.specs.Streams.{junk_length}
 

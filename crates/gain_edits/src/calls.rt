@@ -6,8 +6,8 @@ ghost use Rattle.gain_edits.specs.Undo.{undo_command};
 use crate::changes::Changes;
 use crate::edit::GainEdit;
 use commands::{EditFault, make_one};
-use moved_gains::Shift;
 use outside::Folder;
+use requests::Shift;
 use std::alloc::Global;
 
 /// Writes the output, which is the input without the junk before its first frame and with its gains moved by the shift,

@@ -4,7 +4,7 @@ ghost use Rattle.sync_survey.specs.Faults.{tells};
 ghost use Rattle.gain_edits.specs.Channels.{are_both, joint_at as joint_at_lem, joint_fault as joint_fault_lem, channel_fault as channel_fault_lem};
 
 use commands::Refusal;
-use moved_gains::{Channels, Shift};
+use requests::{Channels, Shift};
 use sync_survey::{Row, Survey};
 
 /// The mode of joint stereo (ISO/IEC 11172-3, 2.4.2.3).

@@ -2,7 +2,7 @@
 ghost use Rattle.std.specs.Prelude.{◌≡◌, ◌≤◌, ◌+◌, ◌-◌};
 ghost use Rattle.sync_survey.specs.Faults.{tells};
 ghost use Rattle.sync_survey.specs.Survey.{IsLaidOut};
-ghost use Rattle.file_tag.specs.Places.{tag_length};
+ghost use Rattle.moved_gains.specs.TagPlace.{tag_length};
 ghost use Rattle.gain_edits.specs.Change.{IsDecided};
 ghost use Rattle.gain_edits.specs.Gain.{plain_change as plain_change_lem, noted_change as noted_change_lem, noted_in as noted_in_lem};
 
@@ -10,8 +10,8 @@ use crate::channels::channel_fault;
 use crate::gain_range::even_fault;
 use crate::undo_item::{next_undo, noted_undo};
 use commands::{EditFault, LONGEST_FILE, LONGEST_TAG, Refusal};
-use file_tag::tag_place;
-use moved_gains::{Change, Course, Shift};
+use moved_gains::{Change, Course, tag_place};
+use requests::Shift;
 use std::alloc::Global;
 use sync_survey::Survey;
 use tag_blocks::{Tag, Undo};

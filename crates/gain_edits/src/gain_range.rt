@@ -11,7 +11,8 @@ ghost use Rattle.gain_edits.specs.GainRange.{stuck_fault, range_fault as range_f
 
 use commands::Refusal;
 use frame_header::{Class, Version};
-use moved_gains::{Course, Steps, Stuck, stuck_in};
+use moved_gains::{Course, Stuck, stuck_in};
+use requests::Steps;
 use sync_survey::{Row, Survey};
 
 /// A gain that would leave the range, as a fault of the file, with the offset in bytes of its frame.

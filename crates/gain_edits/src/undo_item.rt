@@ -2,14 +2,14 @@
 ghost use Rattle.std.specs.Prelude.{◌≡◌, ◌≤◌, ◌-ℤ◌, None, Some, unsigned_abs, MatchResult, IfOk, IfErr};
 ghost use Rattle.tag_blocks.specs.UndoText.{FitsText};
 ghost use Rattle.tag_blocks.specs.UndoItems.{undo_from};
-ghost use Rattle.file_tag.specs.Places.{tag_at};
+ghost use Rattle.moved_gains.specs.TagPlace.{tag_at};
 ghost use Rattle.sync_survey.specs.Faults.{tells};
 ghost use Rattle.sync_survey.specs.Survey.{IsLaidOut};
 ghost use Rattle.gain_edits.specs.UndoItem.{of_tag as of_tag_lem, undo_or as undo_or_lem, noted_undo as noted_undo_lem, found_undo as found_undo_lem, undo_steps as undo_steps_lem, next_undo as next_undo_lem, number_fault, undo_fault};
 
 use commands::{EditFault, Refusal};
-use file_tag::{FileTagFault, tag_place};
-use moved_gains::{Shift, Steps};
+use moved_gains::{FileTagFault, tag_place};
+use requests::{Shift, Steps};
 use sync_survey::Survey;
 use tag_blocks::{Tag, Undo, UndoItem};
 

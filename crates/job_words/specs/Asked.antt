@@ -2,8 +2,8 @@
 use Rattle.std.specs.Prelude.{ℕ, Bool, List}
 use Rattle.cue_sheet.specs.declared.place.Place.{Place}
 use Rattle.exact_span.specs.declared.exact_place.ExactPlace.{ExactPlace}
-use Rattle.moved_gains.specs.declared.shift.Shift.{Shift}
-use Rattle.pack_mode.specs.declared.mode.PackMode.{PackMode}
+use Rattle.requests.specs.declared.shift.Shift.{Shift}
+use Rattle.requests.specs.declared.mode.PackMode.{PackMode}
 
 pub data Asked : Type 0 where
   Help : Asked

@@ -1,10 +1,10 @@
 -- The forms that the program's words have, and what the words of a form ask for.
 use Rattle.std.specs.Prelude.{◌≡◌, ◌≤◌, ℕ, ◌+◌, ◌-◌, min, Bool, true, false, not, List, [], ◌∷◌, ◌++◌, length, map, drop, replicate, slice_index_or, codes}
 use Rattle.std.specs.List.{flat_map, list_all}
-use Rattle.moved_gains.specs.declared.shift.Channels.{Channels}
-use Rattle.moved_gains.specs.declared.shift.Channels.TheVariants.{Both}
-use Rattle.pack_mode.specs.declared.mode.PackMode.{PackMode}
-use Rattle.pack_mode.specs.declared.mode.PackMode.TheVariants.{Least as LeastMode, Constant, Floor, Best}
+use Rattle.requests.specs.declared.shift.Channels.{Channels}
+use Rattle.requests.specs.declared.shift.Channels.TheVariants.{Both}
+use Rattle.requests.specs.declared.mode.PackMode.{PackMode}
+use Rattle.requests.specs.declared.mode.PackMode.TheVariants.{Least as LeastMode, Constant, Floor, Best}
 use Rattle.job_words.specs.declared.flags.Flag.{Flag}
 use Rattle.job_words.specs.declared.flags.Flag.TheVariants.{Tagless, Wrapping, Least, Back}
 use Rattle.job_words.specs.declared.forms.Asks.{Asks}

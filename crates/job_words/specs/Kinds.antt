@@ -7,8 +7,8 @@ use Rattle.cue_sheet.specs.Places.{place_of}
 use Rattle.exact_span.specs.declared.exact_place.ExactPlace.{ExactPlace}
 use Rattle.exact_span.specs.declared.exact_place.ExactPlace.TheVariants.{Place as OfPosition}
 use Rattle.exact_span.specs.Places.{exact_place_of}
-use Rattle.moved_gains.specs.declared.shift.Channels.{Channels}
-use Rattle.moved_gains.specs.declared.shift.Channels.TheVariants.{Both, Left, Right}
+use Rattle.requests.specs.declared.shift.Channels.{Channels}
+use Rattle.requests.specs.declared.shift.Channels.TheVariants.{Both, Left, Right}
 
 -- what a word of a form is
 pub data Kind : Type 0 where

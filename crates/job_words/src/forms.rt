@@ -12,8 +12,7 @@ use crate::kinds::{Value, WordKind};
 use arrayvec::ArrayVec;
 use cue_sheet::Place;
 use exact_span::ExactPlace;
-use moved_gains::{Channels, Shift};
-use pack_mode::PackMode;
+use requests::{Channels, PackMode, Shift};
 
 /// What the words of a form ask for.
 #[derive(Clone, Copy)]

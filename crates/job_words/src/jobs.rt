@@ -3,8 +3,7 @@
 use arrayvec::ArrayVec;
 use cue_sheet::Place;
 use exact_span::ExactPlace;
-use moved_gains::Shift;
-use pack_mode::PackMode;
+use requests::{PackMode, Shift};
 
 /// What a list of words asks for. Names are the words themselves.
 #[derive(Debug, PartialEq, Eq, Drop)]

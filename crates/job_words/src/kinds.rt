@@ -6,7 +6,7 @@ ghost use Rattle.job_words.specs.Code.{word_kind, value_said};
 use cue_sheet::Place;
 use cue_sheet::digits::{read_number, read_steps};
 use exact_span::ExactPlace;
-use moved_gains::Channels;
+use requests::Channels;
 
 /// What a word of a form is.
 #[derive(Clone, Copy)]

@@ -38,8 +38,8 @@ use Rattle.sync_survey.proofs.StartLaws.{start-first}
 use Rattle.sync_survey.proofs.SurveyParts.{frames_from, surveyed-parts, data-none_well}
 use Rattle.sync_survey.proofs.PlacedRows.{surveyed-placed}
 use Rattle.sync_survey.proofs.SurveyedFiles.{survey_of-parts}
-use Rattle.laid_files.proofs.KeptBlocks.{surveyed-blocks}
-use Rattle.laid_files.specs.LaidFiles.{HasPairs, IsEntry, AreEntries, entry_of}
+use Rattle.laying.proofs.KeptBlocks.{surveyed-blocks}
+use Rattle.laying.specs.LaidFiles.{HasPairs, IsEntry, AreEntries, entry_of}
 use Rattle.laying.specs.Surveys.{IsWholeAt, HasWholeHead, IsWholeRow, AreWholeRows, HasSurvey}
 use Rattle.laying.specs.Relaid.{packed, all_frames}
 use Rattle.laying.specs.Laws.{SurveysAreHad}

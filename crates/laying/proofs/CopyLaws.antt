@@ -6,7 +6,7 @@ use Rattle.std.specs.List.{concat}
 use Rattle.sync_survey.specs.declared.places.Piece.{Piece}
 use Rattle.sync_survey.specs.Faults.{SurveyFields}
 use Rattle.sync_survey.specs.Survey.{BlocksAreLaid}
-use Rattle.laid_files.specs.LaidFiles.{block_bytes}
+use Rattle.laying.specs.LaidFiles.{block_bytes}
 use Rattle.laying.specs.Written.{goes_in_front}
 use Rattle.laying.specs.Copying.{is_chosen, chosen_bytes}
 

@@ -12,8 +12,8 @@ use Rattle.slot_plan.specs.Parts.{Item, area_in, open_of, item_of, items_of, IsL
 use Rattle.slot_plan.specs.Plans.{AreFor, areas_in, IsPlan}
 use Rattle.slot_plan.specs.Parts.{window_in}
 use Rattle.slot_plan.proofs.AreaLaws.{only_one}
-use Rattle.part_needs.specs.Needs.{need_of, needs_of}
-use Rattle.part_needs.proofs.PartsLaws.{parts_are}
+use Rattle.laying.specs.Needs.{need_of, needs_of}
+use Rattle.laying.proofs.PartsLaws.{parts_are}
 use Rattle.sync_survey.specs.Row.{Row}
 use Rattle.laying.specs.Relaid.{left_behind, AreSlots}
 use Rattle.laying.specs.Fits.{bytes_at, reach_behind, FitsFrom, AreInSlots, IsFitting}

@@ -10,8 +10,8 @@ use Rattle.slot_plan.specs.declared.needs.Placed.{Placed}
 use Rattle.frame_writer.specs.Frames.{Frame, area_in as kept_area}
 use Rattle.sync_survey.specs.MainData.{StreamFrame}
 use Rattle.sync_survey.specs.Faults.{HoldsStream}
-use Rattle.laid_files.specs.LaidFiles.{AreEntries, entry_of, laid_file, IsBlocks, HasInfoSizes}
-use Rattle.laid_files.proofs.LaidLaws.{laid-stream}
+use Rattle.laying.specs.LaidFiles.{AreEntries, entry_of, laid_file, IsBlocks, HasInfoSizes}
+use Rattle.laying.proofs.LaidFileLaws.{laid-stream}
 use Rattle.laying.specs.Relaid.{Part, frames_in, stream_in, IsPart, needs_in, relaid, with_lead_ins, left_behind}
 use Rattle.laying.specs.Fits.{bytes_at, area_at, reach_behind, FitsFrom, AreInSlots, IsFitting}
 use Rattle.laying.specs.Written.{slot_in}

@@ -8,13 +8,13 @@ use Rattle.frame_header.specs.Fields.{ClassFields, IsHeader}
 use Rattle.side_info.specs.declared.side.Side.{Side}
 use Rattle.side_info.specs.Side.{no_side, payload_bytes}
 use Rattle.slot_plan.specs.declared.needs.Need.{Need}
-use Rattle.part_needs.specs.Needs.{need_of}
+use Rattle.laying.specs.Needs.{need_of}
 use Rattle.frame_writer.specs.Frames.{Frame}
 use Rattle.sync_survey.specs.Row.{Row}
 use Rattle.sync_survey.specs.MainData.{StreamFrame}
 use Rattle.sync_survey.specs.Faults.{SurveyFields}
 use Rattle.sync_survey.specs.declared.places.Piece.{Piece}
-use Rattle.laid_files.specs.LaidFiles.{IsBlock, IsBlocks, block_bytes, AreEntries, entry_of}
+use Rattle.laying.specs.LaidFiles.{IsBlock, IsBlocks, block_bytes, AreEntries, entry_of}
 use Rattle.laying.specs.Written.{goes_in_front}
 use Rattle.laying.specs.Surveys.{HasSurvey}
 use Rattle.laying.specs.Relaid.{frame_of, all_frames, Part, frames_in, stream_in, IsPart, AreParts, needs_in}

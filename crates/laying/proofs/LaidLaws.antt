@@ -9,8 +9,8 @@ use Rattle.frame_header.specs.Fields.{IsHeader}
 use Rattle.frame_header.specs.Tables.{class_of, window_of}
 use Rattle.slot_plan.specs.declared.needs.Placed.{Placed}
 use Rattle.slot_plan.specs.Parts.{AreOfClass}
-use Rattle.part_needs.specs.Needs.{need_of}
-use Rattle.part_needs.proofs.FitLaws.{AreKnown, part-fits, part-known}
+use Rattle.laying.specs.Needs.{need_of}
+use Rattle.laying.proofs.NeedsFitLaws.{AreKnown, part-fits, part-known}
 use Rattle.laying.specs.Surveys.{HasSurvey}
 use Rattle.laying.specs.Relaid.{IsPart}
 use Rattle.laying.specs.declared.selected.Selected.{Selected}
@@ -20,7 +20,7 @@ use Rattle.laying.specs.Written.{front_blocks, back_blocks, slot_in, table_entry
 use Rattle.laying.proofs.FittingFrames.{fitting-slots, fitting-files-hold}
 use Rattle.laying.proofs.HoldLaws.{blocks-kept}
 use Rattle.laying.proofs.RelayLaws.{range-next}
-use Rattle.laid_files.specs.LaidFiles.{HasInfoSizes, laid_file}
+use Rattle.laying.specs.LaidFiles.{HasInfoSizes, laid_file}
 use Rattle.sync_survey.specs.Row.{Row}
 use Rattle.sync_survey.specs.Faults.{SurveyFields, HoldsStream}
 

@@ -13,3 +13,15 @@ pub mod CopyLaws
 pub mod FittingFrames
 pub mod LaidLaws
 pub mod PlacesLaws
+pub mod LaidData
+pub mod EntryBytes
+pub mod InfoBytes
+pub mod WholeItems
+pub mod LaidFrames
+pub mod LaidRuns
+pub mod LaidSound
+pub mod LaidFileLaws
+pub mod KeptBlocks
+pub mod BeginLaws
+pub mod NeedsFitLaws
+pub mod PartsLaws

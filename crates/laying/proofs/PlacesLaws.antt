@@ -11,7 +11,7 @@ use Rattle.slot_plan.specs.declared.needs.Placed.{Placed}
 use Rattle.slot_plan.specs.Layouts.{begins_of}
 use Rattle.slot_plan.specs.LeastPlan.{in_slots, first_list, placed_in, laid_early, lead_in_alone, least_plan}
 use Rattle.slot_plan.specs.Parts.{Item, item_of, whole_of, items_of}
-use Rattle.part_needs.specs.Needs.{need_of}
+use Rattle.laying.specs.Needs.{need_of}
 use Rattle.frame_writer.specs.Laid.{BeginsWithin}
 use Rattle.frame_writer.specs.Frames.{Frame, pieces}
 use Rattle.frame_writer.specs.Writing.{Writing}

@@ -17,7 +17,7 @@ use Rattle.slot_plan.specs.declared.needs.Placed.{Placed}
 use Rattle.frame_writer.specs.Laid.{zeros, CanBeLaidFrom}
 use Rattle.frame_writer.specs.Frames.{Frame, pieces, area_in as kept_area}
 use Rattle.sync_survey.specs.MainData.{StreamFrame, no_slot, part_lengths, parts_of}
-use Rattle.laid_files.specs.LaidFiles.{IsEntry, AreEntries, entry_of}
+use Rattle.laying.specs.LaidFiles.{IsEntry, AreEntries, entry_of}
 use Rattle.laying.specs.Relaid.{moved_to, lead_in_to, relaid, silent_before, with_lead_ins, left_behind}
 
 -- ---- one frame of a plan

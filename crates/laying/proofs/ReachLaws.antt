@@ -9,8 +9,8 @@ use Rattle.side_info.specs.Side.{SideFits, payload_bytes}
 use Rattle.reservoir.specs.Window.{IsWindowOver}
 use Rattle.reservoir.proofs.FrameLaws.{frames-held}
 use Rattle.reservoir.proofs.WindowLaws.{window-last}
-use Rattle.part_needs.specs.Needs.{need_of}
-use Rattle.part_needs.proofs.FitLaws.{silent_bytes, end_more}
+use Rattle.laying.specs.Needs.{need_of}
+use Rattle.laying.proofs.NeedsFitLaws.{silent_bytes, end_more}
 use Rattle.sync_survey.specs.Row.{Row}
 use Rattle.sync_survey.specs.MainData.{own_area, is_silent, end_of_data, place, end_before}
 use Rattle.sync_survey.specs.Faults.{SurveyFields}

@@ -18,7 +18,7 @@ use Rattle.side_info.specs.declared.side.Side.{Side}
 use Rattle.side_info.specs.Side.{no_side, payload_bits, payload_bytes}
 use Rattle.reservoir.specs.Window.{IsWindowOver, main_bits, ArePacked}
 use Rattle.frame_writer.specs.Laid.{zeros}
-use Rattle.part_needs.proofs.BeginLaws.{begin-near}
+use Rattle.laying.proofs.BeginLaws.{begin-near}
 use Rattle.sync_survey.specs.declared.places.Head.{Head}
 use Rattle.sync_survey.specs.Row.{Row}
 use Rattle.sync_survey.specs.MainData.{own_area, head_area, place, end_before, start_of_data, end_of_data, area_bytes, head_bytes, main_bytes, payload_at}

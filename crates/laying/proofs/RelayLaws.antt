@@ -7,7 +7,7 @@ use Rattle.std.specs.List.{enumerate_from}
 use Rattle.frame_header.specs.Tables.{class_of, area_of}
 use Rattle.slot_plan.specs.declared.needs.Need.{Need}
 use Rattle.slot_plan.specs.declared.needs.Placed.{Placed}
-use Rattle.part_needs.specs.Needs.{need_of}
+use Rattle.laying.specs.Needs.{need_of}
 use Rattle.outside.specs.Files.{Files, Holds}
 use Rattle.outside.specs.declared.pass.PassFault.{PassFault}
 use Rattle.frame_writer.specs.Laid.{BeginsWithin}

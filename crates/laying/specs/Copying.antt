@@ -3,7 +3,7 @@ use Rattle.std.specs.Prelude.{ℕ, not, Bool, true, false, List, map, filter}
 use Rattle.std.specs.List.{concat}
 use Rattle.sync_survey.specs.declared.places.Piece.{Piece}
 use Rattle.sync_survey.specs.Faults.{SurveyFields}
-use Rattle.laid_files.specs.LaidFiles.{block_bytes}
+use Rattle.laying.specs.LaidFiles.{block_bytes}
 use Rattle.laying.specs.Written.{goes_in_front}
 
 -- the block is one of those that go before the frames, or one of the others

@@ -5,9 +5,9 @@ use Rattle.frame_header.specs.Tables.{window_of}
 use Rattle.slot_plan.specs.declared.needs.Need.{Need}
 use Rattle.slot_plan.specs.declared.needs.Placed.{Placed}
 use Rattle.slot_plan.specs.Plans.{entries}
-use Rattle.part_needs.specs.Needs.{need_of}
+use Rattle.laying.specs.Needs.{need_of}
 use Rattle.frame_writer.specs.Frames.{Frame, frame_bytes}
-use Rattle.laid_files.specs.LaidFiles.{laid_file}
+use Rattle.laying.specs.LaidFiles.{laid_file}
 use Rattle.info_header.specs.declared.fields.Info.{Info}
 use Rattle.info_header.specs.InfoFrame.{info_frame}
 use Rattle.laying.specs.declared.info.Kept.{Kept}

@@ -8,13 +8,13 @@ use Rattle.info_header.specs.declared.fields.Info.{Info}
 use Rattle.frame_writer.specs.Laid.{CanBeLaid}
 use Rattle.frame_writer.specs.Frames.{Frame, pieces}
 use Rattle.sync_survey.specs.Faults.{SurveyFields, surveyed, HoldsStream}
-use Rattle.laid_files.specs.LaidFiles.{IsBlocks, AreEntries, entry_of, HasInfoSizes, laid_file}
+use Rattle.laying.specs.LaidFiles.{IsBlocks, AreEntries, entry_of, HasInfoSizes, laid_file}
 use Rattle.sync_survey.specs.MainData.{StreamFrame}
 use Rattle.laying.specs.Written.{front_blocks, back_blocks, slot_in}
-use Rattle.part_needs.specs.Needs.{need_of, needs_of, asked_of}
+use Rattle.laying.specs.Needs.{need_of, needs_of, asked_of}
 use Rattle.sync_survey.specs.Row.{Row}
 use Rattle.laying.specs.Fits.{FitsFrom, IsFitting}
-use Rattle.part_needs.specs.Fit.{AreFit}
+use Rattle.laying.specs.NeedsFit.{AreFit}
 use Rattle.slot_plan.specs.Parts.{window_in, parts_of}
 use Rattle.laying.specs.Surveys.{HasSurvey}
 use Rattle.laying.specs.Relaid.{Part, frames_in, stream_in, IsPart, AreParts, needs_in, AreSlots, relaid, with_lead_ins}

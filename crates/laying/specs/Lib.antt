@@ -10,3 +10,9 @@ pub mod Laws
 pub mod InfoLaws
 pub mod KeptFields
 pub mod Places
+pub mod LaidFiles
+pub mod LaidLaws
+pub mod Needs
+pub mod NeedsFit
+pub mod NeedsLaws
+pub mod NeedsAnswers

@@ -10,7 +10,7 @@ use Rattle.outside.specs.declared.pass.PassFault.TheVariants.{Write}
 use Rattle.reservoir.specs.Window.{IsWindowOver}
 use Rattle.slot_plan.specs.declared.needs.Need.{Need}
 use Rattle.slot_plan.specs.declared.needs.Placed.{Placed}
-use Rattle.part_needs.specs.Needs.{need_of}
+use Rattle.laying.specs.Needs.{need_of}
 use Rattle.frame_writer.specs.Laid.{BeginsWithin}
 use Rattle.frame_writer.specs.Frames.{Frame, Held, pieces}
 use Rattle.frame_writer.specs.Writing.{Writing, writing, IsNew, AreBehind, IsWriterOf}

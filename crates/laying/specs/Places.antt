@@ -2,7 +2,7 @@
 use Rattle.std.specs.Prelude.{ℕ, zero, suc, Bool, true, false, List, [], ◌∷◌, length, map, take, slice_range}
 use Rattle.frame_header.specs.Tables.{window_of}
 use Rattle.slot_plan.specs.declared.needs.Placed.{Placed}
-use Rattle.part_needs.specs.Needs.{need_of}
+use Rattle.laying.specs.Needs.{need_of}
 use Rattle.frame_writer.specs.Frames.{Frame}
 use Rattle.sync_survey.specs.Faults.{SurveyFields}
 use Rattle.laying.specs.Relaid.{all_frames, relaid}

@@ -7,7 +7,7 @@ use Rattle.frame_header.specs.Fields.{SlotFields, HeaderFields, ClassFields, IsS
 use Rattle.side_info.specs.Side.{no_side}
 use Rattle.slot_plan.specs.declared.needs.Need.{Need}
 use Rattle.slot_plan.specs.declared.needs.Placed.{Placed}
-use Rattle.part_needs.specs.Needs.{need_of}
+use Rattle.laying.specs.Needs.{need_of}
 use Rattle.frame_writer.specs.Laid.{zeros}
 use Rattle.frame_writer.specs.Frames.{Frame}
 use Rattle.sync_survey.specs.Row.{Row}

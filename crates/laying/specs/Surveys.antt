@@ -8,7 +8,7 @@ use Rattle.sync_survey.specs.declared.places.Head.{Head}
 use Rattle.sync_survey.specs.Row.{Row}
 use Rattle.sync_survey.specs.Faults.{SurveyFields}
 use Rattle.sync_survey.specs.Survey.{AreWellPlaced}
-use Rattle.laid_files.specs.LaidFiles.{HasPairs, IsBlocks, block_bytes}
+use Rattle.laying.specs.LaidFiles.{HasPairs, IsBlocks, block_bytes}
 
 -- a frame with this header is whole in the file at the offset
 pub record IsWholeAt (file : List ℕ) (offset : ℕ) (h : HeaderFields) : Type 0 where

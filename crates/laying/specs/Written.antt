@@ -12,7 +12,7 @@ use Rattle.frame_writer.specs.Frames.{Frame}
 use Rattle.sync_survey.specs.declared.places.Piece.{Piece}
 use Rattle.sync_survey.specs.declared.places.Head.{Head}
 use Rattle.sync_survey.specs.Faults.{SurveyFields}
-use Rattle.laid_files.specs.LaidFiles.{block_bytes}
+use Rattle.laying.specs.LaidFiles.{block_bytes}
 
 -- ---- blocks
 

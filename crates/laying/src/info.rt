@@ -12,7 +12,7 @@ ghost use Rattle.sync_survey.specs.Row.{Row as RowFields};
 ghost use Rattle.sync_survey.specs.Faults.{tells};
 ghost use Rattle.sync_survey.specs.Survey.{IsLaidOut};
 ghost use Rattle.slot_plan.specs.declared.needs.Placed.{Placed as PlacedFields};
-ghost use Rattle.laid_files.specs.LaidFiles.{HasInfoSizes};
+ghost use Rattle.laying.specs.LaidFiles.{HasInfoSizes};
 ghost use Rattle.laying.specs.Written.{slot_in, info_for, head_info};
 ghost use Rattle.laying.specs.KeptFields.{HeadAnswer, KeptAnswer};
 ghost use Rattle.laying.specs.Surveys.{HasSurvey};

@@ -1,5 +1,13 @@
-//! Writes frames of surveyed files in the slots of a plan, with all main data laid out again, to cut,
-//! split, join and pack.
+//! Writes frames of surveyed files in the slots of a plan, with all main data laid out again, to cut, split, join and pack; what the
+//! planner is given of these frames; and what a survey of such a file tells.
+//!
+//! ```text
+//! let mut parts = Parts::new(alloc);
+//! parts.push(&survey.frames()[from..to])?;
+//! let plan = plan(alloc, parts.needs(), parts.places(), &Keep)?;
+//! ```
+//!
+//! The law `parts_fit` says that `slot_plan::plan` may be called, `one_part_fits` for one part.
 #![tactic(auto)]
 
 mod blocks;
@@ -7,7 +15,10 @@ mod buffers;
 mod file;
 mod info;
 mod info_laws;
+mod laid_laws;
 mod laws;
+mod needs_laws;
+mod parts;
 mod relay;
 mod selected;
 mod whole;
@@ -15,9 +26,12 @@ mod whole;
 pub use buffers::Buffers;
 pub use info::{Kept, head_fields, info_bytes, info_of, kept_fields};
 pub use info_laws::slots_are_planned;
+pub use laid_laws::{laid_stream, laid_survey, surveyed_blocks};
 pub use laws::{
     asked_plans, blocks_are_kept, entries_hold, files_hold, fitting_files_hold, fitting_slots,
     plans_fit, surveys_are_had,
 };
+pub use needs_laws::{one_part_fits, part_fits, parts_fit};
+pub use parts::Parts;
 pub use relay::Relay;
 pub use selected::Selected;

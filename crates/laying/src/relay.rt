@@ -12,7 +12,7 @@ ghost use Rattle.sync_survey.specs.Faults.{tells};
 ghost use Rattle.sync_survey.specs.MainData.{own_area, place, main_bytes, side_of as side_of_lem};
 ghost use Rattle.sync_survey.specs.Survey.{AreWellPlaced};
 ghost use Rattle.reservoir.specs.Window.{IsWindowOver, window_size};
-ghost use Rattle.part_needs.specs.Needs.{need_of};
+ghost use Rattle.laying.specs.Needs.{need_of};
 ghost use Rattle.laying.specs.Relaid.{payload_of, lead_in_before};
 ghost use Rattle.laying.specs.Fits.{bytes_at, area_at};
 ghost use Rattle.laying.specs.Calls.{Stands, StandsBefore, IsNext, Follows, ReadsOn, GivesArea, CanCut, TakesFrame, Gives, HandsOn, AddsMade};

@@ -2,7 +2,7 @@
 ghost use Rattle.std.specs.Prelude.{◌≡◌, ◌≤◌, length, map, IfOk, IfErr, OnOk};
 ghost use Rattle.frame_header.specs.Tables.{window_of};
 ghost use Rattle.outside.specs.Pass.{route_of, HasPassCause};
-ghost use Rattle.part_needs.specs.Needs.{need_of};
+ghost use Rattle.laying.specs.Needs.{need_of};
 ghost use Rattle.frame_writer.specs.Frames.{reach_of, IsNextSettled};
 ghost use Rattle.sync_survey.specs.Faults.{tells};
 ghost use Rattle.laying.specs.Fits.{FitsFrom};

@@ -23,8 +23,8 @@ use Rattle.moved_gains.specs.declared.course.Course.TheVariants.{Along}
 use Rattle.moved_gains.specs.Course.{alike, steps_in, steps_over}
 use Rattle.moved_gains.specs.Change.{Change}
 use Rattle.moved_gains.proofs.CourseLaws.{survey_numbered}
-use Rattle.fading.specs.Fade.{points_read, curve_read, curve_on, curve_by, faded, fade_in, fade_of}
-use Rattle.fading.proofs.Proper.{faded-parts}
+use Rattle.gain_edits.specs.Fade.{points_read, curve_read, curve_on, curve_by, faded, fade_in, fade_of}
+use Rattle.gain_edits.proofs.FadeProper.{faded-parts}
 use Rattle.legality.specs.Inputs.{EachNext, Input}
 use Rattle.legality.specs.Choices.{CanAllMove, IsLegalFade}
 use Rattle.legality.proofs.InputLaws.{next-cons}

@@ -10,9 +10,9 @@ use Rattle.tag_blocks.specs.declared.undo.UndoItem.{UndoItem}
 use Rattle.tag_blocks.specs.declared.undo.UndoItem.TheVariants.{Missing, Bad, Found}
 use Rattle.tag_blocks.specs.Tags.{TagFields, tag_bytes}
 use Rattle.tag_blocks.specs.UndoItems.{undo_from}
-use Rattle.file_tag.specs.declared.fault.FileTagFault.{FileTagFault}
-use Rattle.file_tag.specs.Places.{tag_at}
-use Rattle.file_tag.specs.Reading.{longest_tag, file_tag}
+use Rattle.moved_gains.specs.declared.tag_fault.FileTagFault.{FileTagFault}
+use Rattle.moved_gains.specs.TagPlace.{tag_at}
+use Rattle.moved_gains.specs.TagReading.{longest_tag, file_tag}
 use Rattle.sync_survey.specs.Row.{Row}
 use Rattle.sync_survey.specs.Faults.{SurveyFields, longest_file}
 use Rattle.commands.specs.declared.fault.EditFault.{EditFault}
@@ -21,13 +21,14 @@ use Rattle.commands.specs.declared.fault.Refusal.TheVariants.{Mono, Joint}
 use Rattle.commands.specs.Refusing.{or_else, unless, then_made}
 use Rattle.commands.proofs.RefusingLaws.{none_first, none_both, first-nil, first-cons, unless_ok}
 use Rattle.moved_gains.specs.declared.gains.Stuck.{Stuck}
-use Rattle.moved_gains.specs.declared.shift.Channels.{Channels}
-use Rattle.moved_gains.specs.declared.shift.Channels.TheVariants.{Both, Left, Right}
-use Rattle.moved_gains.specs.declared.shift.Shift.{Shift}
-use Rattle.moved_gains.specs.declared.shift.Steps.{Steps}
+use Rattle.requests.specs.declared.shift.Channels.{Channels}
+use Rattle.requests.specs.declared.shift.Channels.TheVariants.{Both, Left, Right}
+use Rattle.requests.specs.declared.shift.Shift.{Shift}
+use Rattle.requests.specs.declared.shift.Steps.{Steps}
 use Rattle.moved_gains.specs.Change.{Change}
 use Rattle.moved_gains.specs.Course.{even}
-use Rattle.moved_gains.specs.Gains.{is_silent_granule, is_outside, stuck_at, stuck_in, steps_of}
+use Rattle.requests.specs.Shifts.{steps_of}
+use Rattle.moved_gains.specs.Gains.{is_silent_granule, is_outside, stuck_at, stuck_in}
 use Rattle.moved_gains.specs.Edited.{stuck_of}
 use Rattle.moved_gains.proofs.MovedGains.{within}
 use Rattle.gain_edits.specs.Channels.{are_both, is_joint, joint_at, joint_fault, apart_fault, channel_fault}

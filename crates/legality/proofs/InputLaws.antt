@@ -19,7 +19,7 @@ use Rattle.sync_survey.proofs.SurveyParts.{frames_from, surveyed-parts, surveyed
 use Rattle.sync_survey.proofs.SurveyedFiles.{survey_of-parts}
 use Rattle.commands.specs.Command.{clash_from}
 use Rattle.commands.proofs.MakeLaws.{no_clash}
-use Rattle.packing.proofs.LimitLaws.{few-rows}
+use Rattle.pack_edits.proofs.LimitLaws.{few-rows}
 use Rattle.legality.specs.Inputs.{Each, EachNext, AreApart, Input, IsInput, AreInputs, frames_of, OfOne}
 
 -- ---- lists

@@ -13,10 +13,10 @@ use Rattle.commands.specs.declared.fault.Refusal.TheVariants.{Differ}
 use Rattle.commands.specs.One.{most_frames}
 use Rattle.commands.specs.Refusing.{then_made}
 use Rattle.commands.proofs.RefusingLaws.{then_ok}
-use Rattle.joining.specs.Join.{whole_part, may_follow, part_by, part_of, parts_from, parts_of}
-use Rattle.joining.specs.Inputs.{Follows}
-use Rattle.joining.proofs.InputLaws.{follows-may}
-use Rattle.joining.proofs.PartLaws.{part-is}
+use Rattle.join_edits.specs.Join.{whole_part, may_follow, part_by, part_of, parts_from, parts_of}
+use Rattle.join_edits.specs.Inputs.{Follows}
+use Rattle.join_edits.proofs.InputLaws.{follows-may}
+use Rattle.join_edits.proofs.PartLaws.{part-is}
 use Rattle.legality.specs.Inputs.{Input, AreInputs, frames_of}
 use Rattle.legality.specs.Choices.{AreOfOneClass}
 use Rattle.legality.proofs.InputLaws.{survey-whole, whole-survey, survey-input}

@@ -13,27 +13,27 @@ use Rattle.commands.specs.One.{Task, one_command, most_frames, Making, made_wher
 use Rattle.commands.specs.Refusing.{then_made}
 use Rattle.commands.proofs.RefusingLaws.{then_ok}
 use Rattle.commands.proofs.MadeLaws.{makes-parts, parts-make, made-of, of-made}
-use Rattle.moved_gains.specs.declared.shift.Shift.{Shift}
+use Rattle.requests.specs.declared.shift.Shift.{Shift}
 use Rattle.moved_gains.specs.Change.{changed}
-use Rattle.moved_gains.specs.Gains.{steps_of}
+use Rattle.requests.specs.Shifts.{steps_of}
 use Rattle.gain_edits.specs.Change.{change_task, changed_with, changing}
 use Rattle.gain_edits.specs.Gain.{gain_change, gain_refuses, gain_command}
 use Rattle.gain_edits.specs.Undo.{undo_change, steps_back, undo_refuses, undo_command}
-use Rattle.fading.specs.Fade.{fade_of, fade_change, fade_task, fade_command}
-use Rattle.frame_edits.specs.Chosen.{needs_of, first_plan, first_planning, laying_with, laying_task, cut_choice, all_choice, choices_by, cut_refuses, cut_command}
-use Rattle.frame_edits.proofs.ChosenLaws.{laid-parts, laying-is}
+use Rattle.gain_edits.specs.Fade.{fade_of, fade_change, fade_task, fade_command}
+use Rattle.cut_edits.specs.Chosen.{needs_of, first_plan, first_planning, laying_with, laying_task, cut_choice, all_choice, choices_by, cut_refuses, cut_command}
+use Rattle.cut_edits.proofs.ChosenLaws.{laid-parts, laying-is}
 use Rattle.exact_span.specs.declared.exact_place.ExactPlace.{ExactPlace}
 use Rattle.exact_span.specs.declared.exact_place.ExactPlace.TheVariants.{Place as Position}
-use Rattle.frame_edits.specs.Exact.{exact_refuses, exact_making, exact_task, exact_command}
-use Rattle.frame_edits.proofs.PieceLaws.{piece-parts, exact-is}
-use Rattle.joining.specs.Join.{joined_file, parts_of, join_task, join_command}
+use Rattle.cut_edits.specs.Exact.{exact_refuses, exact_making, exact_task, exact_command}
+use Rattle.cut_edits.proofs.PieceLaws.{piece-parts, exact-is}
+use Rattle.join_edits.specs.Join.{joined_file, parts_of, join_task, join_command}
 use Rattle.laying.specs.Relaid.{Part}
-use Rattle.listing.specs.Listing.{listing, listed_by, listed_where, list_command}
-use Rattle.pack_mode.specs.declared.mode.PackMode.{PackMode}
-use Rattle.pack_mode.specs.declared.mode.PackMode.TheVariants.{Least, Best, Constant, Floor}
-use Rattle.packing.specs.Modes.{plan_by, most_best, allowed_by, unless_fault, limited_by, pack_task, pack_mode_command}
-use Rattle.splitting.specs.Split.{places_where, as_exact, given, told_by, told_refuses, given_exact, told_exact_by, told_exact_refuses, split_at_command, split_by_command, split_exact_at_command, split_exact_by_command}
-use Rattle.splitting.proofs.PartsLaws.{cue-parts, parts-cue}
+use Rattle.list_edits.specs.Listing.{listing, listed_by, listed_where, list_command}
+use Rattle.requests.specs.declared.mode.PackMode.{PackMode}
+use Rattle.requests.specs.declared.mode.PackMode.TheVariants.{Least, Best, Constant, Floor}
+use Rattle.pack_edits.specs.Modes.{plan_by, most_best, allowed_by, unless_fault, limited_by, pack_task, pack_mode_command}
+use Rattle.split_edits.specs.Split.{places_where, as_exact, given, told_by, told_refuses, given_exact, told_exact_by, told_exact_refuses, split_at_command, split_by_command, split_exact_at_command, split_exact_by_command}
+use Rattle.split_edits.proofs.PartsLaws.{cue-parts, parts-cue}
 use Rattle.job_words.specs.Asked.{Help, Version, ListFile, Gain, Undo, Cut, CutExact, Pack, SplitAt, SplitExact, SplitBy, Join, Drill, Fade}
 use Rattle.legality.specs.Inputs.{EachNext, AreApart, Input, AreInputs, frames_of}
 use Rattle.legality.specs.Choices.{IsLegalGain, IsLegalUndo, IsLegalFade, IsRange, IsSampleRange, ArePieces, IsLegalSheet, AreSamplePieces, IsLegalExactSheet, IsLegalPack}
@@ -328,8 +328,8 @@ split-by-law files input prefix sheet =
       cue.pieces,
     ))
     (λ i found e each.
-        let cue = cue-parts (files sheet) found e in
-        record { bytes = cue.bytes; there = cue.there; small = cue.small; starts = cue.starts; read = cue.read; pieces = subst (ArePieces i.survey) (sym cue.all) each })
+    let cue = cue-parts (files sheet) found e in
+    record { bytes = cue.bytes; there = cue.there; small = cue.small; starts = cue.starts; read = cue.read; pieces = subst (ArePieces i.survey) (sym cue.all) each })
     (IsLegalFor (SplitBy false input prefix sheet) files)
     (λ legal. (legal.names, one-of Choice files input most_frames legal.inputs legal.are legal.few legal.choices))
     (λ is. record { names = is.0; inputs = is.1.input ∷ []; are = (is.1.is, tt); few = few-one (length is.1.input.survey.frames) most_frames is.1.few; choices = is.1.choice })
@@ -358,10 +358,10 @@ split-exact-by-law files input prefix sheet =
       cue.pieces,
     ))
     (λ i found e each.
-        let one = then_ok (places_where (files sheet)) exact_list found e in
-        let cue = cue-parts (files sheet) one.0 one.1 in
-        let same : map Position (cue.starts ++ End ∷ []) ≡ found = ap (map Position) cue.all ∙ same-places (map Position one.0) found one.2 in
-        record { bytes = cue.bytes; there = cue.there; small = cue.small; starts = cue.starts; read = cue.read; pieces = subst (AreSamplePieces i) (sym same) each })
+    let one = then_ok (places_where (files sheet)) exact_list found e in
+    let cue = cue-parts (files sheet) one.0 one.1 in
+    let same : map Position (cue.starts ++ End ∷ []) ≡ found = ap (map Position) cue.all ∙ same-places (map Position one.0) found one.2 in
+    record { bytes = cue.bytes; there = cue.there; small = cue.small; starts = cue.starts; read = cue.read; pieces = subst (AreSamplePieces i) (sym same) each })
     (IsLegalFor (SplitBy true input prefix sheet) files)
     (λ legal. (legal.names, one-of Choice files input most_frames legal.inputs legal.are legal.few legal.choices))
     (λ is. record { names = is.0; inputs = is.1.input ∷ []; are = (is.1.is, tt); few = few-one (length is.1.input.survey.frames) most_frames is.1.few; choices = is.1.choice })

@@ -10,8 +10,8 @@ use Rattle.slot_plan.specs.declared.needs.Need.{Need}
 use Rattle.slot_plan.specs.declared.needs.Placed.{Placed}
 use Rattle.slot_plan.specs.Lists.{CanBeLaid}
 use Rattle.slot_plan.specs.Plans.{areas_in}
-use Rattle.part_needs.specs.Needs.{need_of}
-use Rattle.part_needs.specs.Fit.{IsPlaced}
+use Rattle.laying.specs.Needs.{need_of}
+use Rattle.laying.specs.NeedsFit.{IsPlaced}
 use Rattle.rate_plan.specs.Menus.{items_from, CanBeLaidFrom, IsMenuPlan, IsUnfit}
 use Rattle.rate_plan.specs.LeastMenuPlan.{least_menu_plan}
 use Rattle.rate_plan.proofs.LeastMenuPlan.{least_menu_plan-is}
@@ -29,13 +29,13 @@ use Rattle.commands.specs.Refusing.{unless, then_made}
 use Rattle.commands.proofs.RefusingLaws.{then_ok, unless_ok}
 use Rattle.commands.proofs.MadeLaws.{some-frames}
 use Rattle.laying.specs.Laid.{file_laid}
-use Rattle.frame_edits.specs.Chosen.{Chosen, chosen_rows, needs_of, all_choice, Planning, laying_with, laid_by}
-use Rattle.frame_edits.proofs.ChosenLaws.{laid-parts, laying-is, laid-fault}
-use Rattle.pack_mode.specs.declared.mode.PackMode.{PackMode}
-use Rattle.pack_mode.specs.declared.mode.PackMode.TheVariants.{Constant, Floor}
-use Rattle.packing.specs.Rates.{is_rate, menu_in, unless_rate, no_rate, fitted, rates_plan}
-use Rattle.packing.proofs.MenuLaws.{menu-ascends, menu-some}
-use Rattle.packing.proofs.PlanLaws.{rows-some, rows-same, rows-sound, floor-unfit, plan-is, fitted-ok}
+use Rattle.cut_edits.specs.Chosen.{Chosen, chosen_rows, needs_of, all_choice, Planning, laying_with, laid_by}
+use Rattle.cut_edits.proofs.ChosenLaws.{laid-parts, laying-is, laid-fault}
+use Rattle.requests.specs.declared.mode.PackMode.{PackMode}
+use Rattle.requests.specs.declared.mode.PackMode.TheVariants.{Constant, Floor}
+use Rattle.pack_edits.specs.Rates.{is_rate, menu_in, unless_rate, no_rate, fitted, rates_plan}
+use Rattle.pack_edits.proofs.MenuLaws.{menu-ascends, menu-some}
+use Rattle.pack_edits.proofs.PlanLaws.{rows-some, rows-same, rows-sound, floor-unfit, plan-is, fitted-ok}
 use Rattle.legality.specs.Choices.{IsRate, HasRoom, IsFirstUnfit}
 use Rattle.legality.proofs.SplitLaws.{within-ok}
 

@@ -8,8 +8,8 @@ use Rattle.commands.specs.One.{one_command}
 use Rattle.commands.specs.Telling.{with_text}
 use Rattle.commands.proofs.MadeLaws.{makes-parts, parts-make}
 use Rattle.commands.proofs.TellingLaws.{text-parts}
-use Rattle.salvaging.specs.Salvaged.{salvaged_file, made_by, made_where, text_where, salvage_task, salvage_command}
-use Rattle.salvaging.proofs.CommandLaws.{read-where}
+use Rattle.salvage_edits.specs.Salvaged.{salvaged_file, made_by, made_where, text_where, salvage_task, salvage_command}
+use Rattle.salvage_edits.proofs.CommandLaws.{read-where}
 use Rattle.job_words.specs.Asked.{Salvage}
 use Rattle.legality.specs.Choices.{IsLegalSalvage}
 use Rattle.legality.specs.Legal.{IsLegalFor}

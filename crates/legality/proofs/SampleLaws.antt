@@ -14,8 +14,8 @@ use Rattle.sync_survey.specs.Faults.{SurveyFields}
 use Rattle.commands.specs.declared.fault.Refusal.TheVariants.{Span as NoSpan}
 use Rattle.commands.specs.Refusing.{unless}
 use Rattle.commands.proofs.RefusingLaws.{unless_ok}
-use Rattle.frame_edits.specs.Exact.{samples_fault, span_in}
-use Rattle.frame_edits.proofs.PieceLaws.{samples_there}
+use Rattle.cut_edits.specs.Exact.{samples_fault, span_in}
+use Rattle.cut_edits.proofs.PieceLaws.{samples_there}
 use Rattle.legality.specs.Choices.{IsSampleRange}
 
 samples_none : (a b samples : ℕ) → a < b → b ≤ samples → samples_fault a b samples ≡ None

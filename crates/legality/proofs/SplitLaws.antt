@@ -15,16 +15,16 @@ use Rattle.exact_span.specs.declared.exact_place.ExactPlace.{ExactPlace}
 use Rattle.exact_span.specs.declared.span.Span.{Span}
 use Rattle.laying.specs.KeptFields.{fields_of_head}
 use Rattle.laying.specs.Laid.{Laid}
-use Rattle.part_needs.specs.Fit.{own_choice}
+use Rattle.laying.specs.NeedsFit.{own_choice}
 use Rattle.commands.specs.Refusing.{unless, then_made}
 use Rattle.commands.proofs.RefusingLaws.{then_ok}
-use Rattle.frame_edits.specs.Chosen.{Chosen, outside_fault, chosen_with, cut_choice, first_planning, laid_as, laid_with}
-use Rattle.frame_edits.specs.Exact.{span_in, apart, piece_of, exact_laid}
-use Rattle.frame_edits.proofs.ChosenLaws.{chosen-within}
-use Rattle.piece_names.specs.Names.{piece_names}
-use Rattle.splitting.specs.Cutting.{Cutting, with_first, laid_from, laid_at, made_of, made_at, made_by, made_where, unless_equal, made_result, split_command}
-use Rattle.splitting.specs.Split.{frames_between, frames_cut, samples_cut}
-use Rattle.splitting.proofs.PartsLaws.{IsSplit, made_in, split-parts}
+use Rattle.cut_edits.specs.Chosen.{Chosen, outside_fault, chosen_with, cut_choice, first_planning, laid_as, laid_with}
+use Rattle.cut_edits.specs.Exact.{span_in, apart, piece_of, exact_laid}
+use Rattle.cut_edits.proofs.ChosenLaws.{chosen-within}
+use Rattle.requests.specs.Names.{piece_names}
+use Rattle.split_edits.specs.Cutting.{Cutting, with_first, laid_from, laid_at, made_of, made_at, made_by, made_where, unless_equal, made_result, split_command}
+use Rattle.split_edits.specs.Split.{frames_between, frames_cut, samples_cut}
+use Rattle.split_edits.proofs.PartsLaws.{IsSplit, made_in, split-parts}
 use Rattle.legality.specs.Inputs.{EachNext, AreApart, Input}
 use Rattle.legality.specs.Choices.{IsRange, IsSampleRange}
 use Rattle.legality.specs.Laws.{Makes}

@@ -8,10 +8,10 @@ use Rattle.commands.specs.declared.fault.EditFault.{EditFault}
 use Rattle.commands.specs.declared.fault.EditFault.TheVariants.{Refused}
 use Rattle.commands.specs.declared.fault.Refusal.TheVariants.{Unfit}
 use Rattle.commands.specs.One.{most_frames, Making, Task, made_by, made_file, made_where, clash_in, unless_clash, made_result, made_of}
-use Rattle.pack_mode.specs.declared.mode.PackMode.TheVariants.{Constant}
-use Rattle.frame_edits.specs.Chosen.{laying_with, all_choice}
-use Rattle.packing.specs.Rates.{rates_plan}
-use Rattle.packing.specs.Modes.{pack_task, pack_mode_command}
+use Rattle.requests.specs.declared.mode.PackMode.TheVariants.{Constant}
+use Rattle.cut_edits.specs.Chosen.{laying_with, all_choice}
+use Rattle.pack_edits.specs.Rates.{rates_plan}
+use Rattle.pack_edits.specs.Modes.{pack_task, pack_mode_command}
 use Rattle.legality.specs.Legal.{IsUnfitFor}
 use Rattle.legality.specs.Laws.{UnfitIsRefused}
 use Rattle.legality.proofs.InputLaws.{no-clash_apart, apart_no-clash, survey-whole, whole-survey}

@@ -8,7 +8,7 @@ use Rattle.tag_blocks.specs.declared.undo.Undo.{Undo}
 use Rattle.tag_blocks.specs.declared.undo.UndoItem.TheVariants.{Missing, Found}
 use Rattle.tag_blocks.specs.Tags.{TagFields, tag_bytes}
 use Rattle.tag_blocks.specs.UndoItems.{undo_from}
-use Rattle.file_tag.specs.Reading.{longest_tag, file_tag}
+use Rattle.moved_gains.specs.TagReading.{longest_tag, file_tag}
 use Rattle.cue_sheet.specs.declared.place.Place.{Place}
 use Rattle.cue_sheet.specs.declared.place.Place.TheVariants.{End}
 use Rattle.cue_sheet.specs.Places.{frame_at}
@@ -20,7 +20,7 @@ use Rattle.exact_span.specs.PlayedPositions.{played_of, length_of_played}
 use Rattle.laying.specs.KeptFields.{fields_of_head}
 use Rattle.fade_plan.specs.Sheets.{EnvelopePoint, envelope_of}
 use Rattle.fade_plan.specs.Curves.{frame_of, curve_point, steps_at, steps_back}
-use Rattle.part_needs.specs.Needs.{need_of}
+use Rattle.laying.specs.Needs.{need_of}
 use Rattle.rate_plan.specs.Menus.{CanBeLaidFrom, IsUnfit}
 use Rattle.outside.specs.Files.{Contents}
 use Rattle.sync_survey.specs.declared.places.PlacedFrame.{PlacedFrame}
@@ -30,16 +30,16 @@ use Rattle.sync_survey.specs.Faults.{SurveyFields, longest_file}
 use Rattle.commands.specs.Sheet.{longest_sheet}
 use Rattle.salvage.specs.Walk.{first_frame, frames_in}
 use Rattle.salvage.specs.Damaged.{things_from, most_frames}
-use Rattle.moved_gains.specs.declared.shift.Channels.{Channels}
-use Rattle.moved_gains.specs.declared.shift.Channels.TheVariants.{Both, Left, Right}
-use Rattle.moved_gains.specs.declared.shift.Shift.{Shift}
-use Rattle.moved_gains.specs.declared.shift.Steps.{Steps}
-use Rattle.moved_gains.specs.Gains.{steps_of}
+use Rattle.requests.specs.declared.shift.Channels.{Channels}
+use Rattle.requests.specs.declared.shift.Channels.TheVariants.{Both, Left, Right}
+use Rattle.requests.specs.declared.shift.Shift.{Shift}
+use Rattle.requests.specs.declared.shift.Steps.{Steps}
+use Rattle.requests.specs.Shifts.{steps_of}
 use Rattle.moved_gains.specs.Course.{alike}
 use Rattle.gain_edits.specs.UndoItem.{no_undo, undo_steps, next_undo, tag_with, output_length}
-use Rattle.packing.specs.Rates.{menu_in}
-use Rattle.pack_mode.specs.declared.mode.PackMode.{PackMode}
-use Rattle.pack_mode.specs.declared.mode.PackMode.TheVariants.{Least, Best, Constant, Floor}
+use Rattle.pack_edits.specs.Rates.{menu_in}
+use Rattle.requests.specs.declared.mode.PackMode.{PackMode}
+use Rattle.requests.specs.declared.mode.PackMode.TheVariants.{Least, Best, Constant, Floor}
 use Rattle.legality.specs.Inputs.{Each, EachNext, Input}
 
 -- ---- gains (global_gain of ISO/IEC 11172-3 and 13818-3, 2.4.2.7)

@@ -5,20 +5,20 @@ use Rattle.cue_sheet.specs.declared.place.Place.{Place}
 use Rattle.commands.specs.declared.fault.EditFault.TheVariants.{Refused}
 use Rattle.commands.specs.declared.fault.Refusal.TheVariants.{Unfit}
 use Rattle.commands.specs.Command.{Made, Command}
-use Rattle.moved_gains.specs.declared.shift.Shift.{Shift}
+use Rattle.requests.specs.declared.shift.Shift.{Shift}
 use Rattle.gain_edits.specs.Gain.{gain_command}
 use Rattle.gain_edits.specs.Undo.{undo_command}
-use Rattle.fading.specs.Fade.{fade_command}
-use Rattle.frame_edits.specs.Chosen.{cut_command}
-use Rattle.frame_edits.specs.Exact.{exact_command}
+use Rattle.gain_edits.specs.Fade.{fade_command}
+use Rattle.cut_edits.specs.Chosen.{cut_command}
+use Rattle.cut_edits.specs.Exact.{exact_command}
 use Rattle.exact_span.specs.declared.exact_place.ExactPlace.{ExactPlace}
-use Rattle.pack_mode.specs.declared.mode.PackMode.{PackMode}
-use Rattle.pack_mode.specs.declared.mode.PackMode.TheVariants.{Constant}
-use Rattle.packing.specs.Modes.{pack_mode_command}
-use Rattle.listing.specs.Listing.{list_command}
-use Rattle.splitting.specs.Split.{split_at_command, split_by_command, split_exact_at_command, split_exact_by_command}
-use Rattle.joining.specs.Join.{join_command}
-use Rattle.salvaging.specs.Salvaged.{salvage_command}
+use Rattle.requests.specs.declared.mode.PackMode.{PackMode}
+use Rattle.requests.specs.declared.mode.PackMode.TheVariants.{Constant}
+use Rattle.pack_edits.specs.Modes.{pack_mode_command}
+use Rattle.list_edits.specs.Listing.{list_command}
+use Rattle.split_edits.specs.Split.{split_at_command, split_by_command, split_exact_at_command, split_exact_by_command}
+use Rattle.join_edits.specs.Join.{join_command}
+use Rattle.salvage_edits.specs.Salvaged.{salvage_command}
 use Rattle.job_words.specs.Asked.{ListFile, Gain, Undo, Cut, CutExact, Pack, SplitAt, SplitExact, SplitBy, Join, Fade, Salvage}
 use Rattle.legality.specs.Legal.{IsLegalFor, IsUnfitFor}
 

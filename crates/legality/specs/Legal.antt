@@ -2,8 +2,8 @@
 use Rattle.std.specs.Prelude.{ℕ, true, false, ◌≤◌, List, [], ◌∷◌, ◌++◌, length}
 use Rattle.outside.specs.Files.{Contents}
 use Rattle.commands.specs.One.{most_frames}
-use Rattle.piece_names.specs.Names.{piece_names}
-use Rattle.packing.specs.Modes.{allowed_by}
+use Rattle.requests.specs.Names.{piece_names}
+use Rattle.pack_edits.specs.Modes.{allowed_by}
 use Rattle.job_words.specs.Asked.{Asked, Help, Version, ListFile, Gain, Undo, Cut, CutExact, Pack, SplitAt, SplitExact, SplitBy, Join, Drill, Fade, Salvage}
 use Rattle.legality.specs.Inputs.{AreApart, Input, IsInput, AreInputs, frames_of, OfOne}
 use Rattle.legality.specs.Choices.{IsLegalGain, IsLegalUndo, IsLegalFade, IsRange, IsSampleRange, ArePieces, IsLegalSheet, AreSamplePieces, IsLegalExactSheet, IsRate, IsFirstUnfit, IsLegalPack, AreOfOneClass, IsLegalSalvage}

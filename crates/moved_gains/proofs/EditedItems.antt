@@ -17,7 +17,7 @@ use Rattle.sync_survey.proofs.ItemsLaws.{stands-at, header_front-in_range}
 use Rattle.sync_survey.proofs.RunsLaws.{item_of-is}
 use Rattle.sync_survey.proofs.ItemBytes.{IsItem, header_front-four, frame-least, kept_item}
 use Rattle.sync_survey.proofs.ItemLists.{AreItems}
-use Rattle.moved_gains.specs.declared.shift.Steps.{Steps}
+use Rattle.requests.specs.declared.shift.Steps.{Steps}
 use Rattle.moved_gains.specs.Edited.{moved_unless_lost, moved_item, moved_items}
 use Rattle.moved_gains.proofs.MovedFrame.{IsWhole, moved_whole, whole_item}
 

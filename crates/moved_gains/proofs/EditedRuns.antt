@@ -22,9 +22,9 @@ use Rattle.sync_survey.proofs.ItemBytes.{IsItem}
 use Rattle.sync_survey.proofs.ItemLists.{AreItems, ends-stream, items-length, kept_items, nearer, item_at-known, items-run, nearer-none, nearer_frame, nearer_piece, frames-nearer, blocks-nearer}
 use Rattle.sync_survey.proofs.HeadSame.{nearer_head, head_of-nearer}
 use Rattle.sync_survey.proofs.SurveyParts.{frames_from, told_from, IsRead}
-use Rattle.moved_gains.specs.declared.shift.Steps.{Steps}
+use Rattle.requests.specs.declared.shift.Steps.{Steps}
 use Rattle.moved_gains.specs.Edited.{moved_unless_lost, moved_items, moved_stream, is_lost_at, edited}
-use Rattle.file_tag.proofs.WholeFiles.{front_end-is, start_by, not_in_front}
+use Rattle.moved_gains.proofs.WholeFiles.{front_end-is, start_by, not_in_front}
 use Rattle.moved_gains.proofs.MovedFrame.{IsWhole, moved_whole, whole_item}
 use Rattle.moved_gains.proofs.EditedItems.{frame_whole, moved-cons, moved_are, AreMovedAt, frames_moved}
 

@@ -12,7 +12,7 @@ use Rattle.sync_survey.specs.Walk.{head_of}
 use Rattle.sync_survey.specs.MainData.{row_of, rows_of}
 use Rattle.sync_survey.specs.Faults.{SurveyFields, surveyed}
 use Rattle.sync_survey.proofs.SurveyParts.{frames_from, told_from, IsRead, surveyed-parts}
-use Rattle.moved_gains.specs.declared.shift.Steps.{Steps}
+use Rattle.requests.specs.declared.shift.Steps.{Steps}
 use Rattle.moved_gains.specs.Gains.{moved_side}
 use Rattle.moved_gains.specs.Moving.{row_length, moved_row_bytes}
 use Rattle.moved_gains.proofs.MovedFrame.{IsWhole, moved_whole}

@@ -9,7 +9,7 @@ use Rattle.side_info.specs.declared.side.Side.{Side}
 use Rattle.side_info.specs.Granule.{no_granule, GranuleFits}
 use Rattle.side_info.specs.Side.{granule_in, has_granule, SideFits}
 use Rattle.side_info.proofs.SideLaws.{granules_fit}
-use Rattle.moved_gains.specs.declared.shift.Steps.{Steps}
+use Rattle.requests.specs.declared.shift.Steps.{Steps}
 use Rattle.moved_gains.specs.Gains.{is_silent_granule, moved_gain, moved, moved_side}
 
 below : (sum : ℤ) → unsigned_abs (int_rem_euclid sum (pos 256)) < 256

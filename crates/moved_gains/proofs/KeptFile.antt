@@ -6,9 +6,9 @@ use Rattle.std.proofs.Math.Seq.{take-add}
 use Rattle.bit_fields.specs.Bits.{AreBytes}
 use Rattle.sync_survey.specs.Row.{Row}
 use Rattle.sync_survey.specs.Faults.{SurveyFields, surveyed}
-use Rattle.file_tag.specs.Places.{tag_at, tag_length, with_tag}
+use Rattle.moved_gains.specs.TagPlace.{tag_at, tag_length, with_tag}
 use Rattle.outside.specs.Pass.{bytes_between}
-use Rattle.moved_gains.specs.declared.shift.Steps.{Steps}
+use Rattle.requests.specs.declared.shift.Steps.{Steps}
 use Rattle.moved_gains.specs.Edited.{edited}
 use Rattle.moved_gains.specs.Moving.{row_length, row_end, moved_row_bytes}
 use Rattle.moved_gains.specs.Streams.{moved_survey}

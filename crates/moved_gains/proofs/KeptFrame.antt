@@ -23,7 +23,7 @@ use Rattle.side_info.proofs.GranuleLaws.{bits-parts}
 use Rattle.side_info.proofs.SideLaws.{each_class, IsShaped, each_shaped, AreBits-side_bits, length-side_bits}
 use Rattle.side_info.proofs.FrameLaws.{HasRoom, IsRight, overhead-is, length-word, room-least, room-protected, side_there, frame_with-own, shaped-side_in}
 use Rattle.sync_survey.specs.Row.{Row}
-use Rattle.moved_gains.specs.declared.shift.Steps.{Steps}
+use Rattle.requests.specs.declared.shift.Steps.{Steps}
 use Rattle.moved_gains.specs.Gains.{is_silent_granule, moved_gain, moved, moved_side}
 use Rattle.moved_gains.specs.Edited.{moved_frame}
 use Rattle.moved_gains.specs.Moving.{moved_row_bytes}

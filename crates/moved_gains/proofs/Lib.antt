@@ -20,3 +20,14 @@ pub mod TaggedAgain
 pub mod Rows
 pub mod TagEnds
 pub mod BufferLaws
+pub mod FoundTag
+pub mod TagReadingLaws
+pub mod MovedItems
+pub mod WholeFiles
+pub mod SplitItems
+pub mod MovedRows
+pub mod CleanFiles
+pub mod TaggedBytes
+pub mod SplitBlocks
+pub mod Retagged
+pub mod NewTag

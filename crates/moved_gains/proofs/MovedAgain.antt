@@ -8,7 +8,7 @@ use Rattle.side_info.specs.Frame.{frame_with}
 use Rattle.side_info.proofs.SideLaws.{IsShaped}
 use Rattle.side_info.proofs.FrameLaws.{frame_with-again}
 use Rattle.sync_survey.specs.Row.{Row}
-use Rattle.moved_gains.specs.declared.shift.Steps.{Steps}
+use Rattle.requests.specs.declared.shift.Steps.{Steps}
 use Rattle.moved_gains.specs.Gains.{moved, moved_side, moved_unless}
 use Rattle.outside.specs.Pass.{bytes_between}
 use Rattle.moved_gains.specs.Moving.{row_length, row_end, moved_bytes, moved_row_bytes}

@@ -20,7 +20,7 @@ use Rattle.sync_survey.specs.declared.items.Item.TheVariants.{Frame}
 use Rattle.sync_survey.specs.Items.{header_front}
 use Rattle.sync_survey.proofs.ItemsLaws.{header_front-in_range}
 use Rattle.sync_survey.proofs.ItemBytes.{IsItem, header_front-four, frame_item}
-use Rattle.moved_gains.specs.declared.shift.Steps.{Steps}
+use Rattle.requests.specs.declared.shift.Steps.{Steps}
 use Rattle.moved_gains.specs.Gains.{is_silent_granule, moved_gain, moved, moved_side, moved_unless}
 use Rattle.moved_gains.specs.Edited.{moved_frame, moved_unless_lost}
 use Rattle.moved_gains.proofs.GainsLaws.{SideFits-moved_side}

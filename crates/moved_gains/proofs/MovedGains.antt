@@ -16,7 +16,7 @@ use Rattle.side_info.specs.Side.{granule_in, granules_in, payload_bits, payload_
 use Rattle.side_info.proofs.SideLaws.{IsShaped, side_with, each_shaped}
 use Rattle.sync_survey.specs.MainData.{part_lengths}
 use Rattle.moved_gains.specs.declared.gains.Stuck.{Stuck}
-use Rattle.moved_gains.specs.declared.shift.Steps.{Steps}
+use Rattle.requests.specs.declared.shift.Steps.{Steps}
 use Rattle.moved_gains.specs.Gains.{is_silent_granule, is_outside, moved_gain, moved, moved_side, moved_unless, stuck_at, stuck_in}
 
 -- ---- one gain

@@ -18,7 +18,7 @@ use Rattle.sync_survey.specs.Faults.{SurveyFields, surveyed, stream_of_survey}
 use Rattle.sync_survey.proofs.ItemLists.{nearer_frame}
 use Rattle.sync_survey.proofs.HeadSame.{head_bytes-nearer, area-frame}
 use Rattle.sync_survey.proofs.SurveyParts.{frames_from, told_from, IsRead, surveyed-parts}
-use Rattle.moved_gains.specs.declared.shift.Steps.{Steps}
+use Rattle.requests.specs.declared.shift.Steps.{Steps}
 use Rattle.moved_gains.specs.Gains.{moved_side, moved_unless}
 use Rattle.moved_gains.specs.Edited.{edited}
 use Rattle.moved_gains.specs.Streams.{moved_row, moved_head, moved_survey, moved_stream_frame, moved_stream_of}

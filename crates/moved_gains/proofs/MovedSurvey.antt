@@ -31,7 +31,7 @@ use Rattle.sync_survey.proofs.OneItem.{stands-only_at}
 use Rattle.sync_survey.proofs.RunsLaws.{run-ends}
 use Rattle.sync_survey.proofs.ItemLists.{nearer_frame, nearer_piece, blocks-between}
 use Rattle.sync_survey.proofs.SurveyParts.{frames_from, told_from, IsRead, surveyed-told, surveyed-parts, IsSound, IsSoundAt, AreSound, all_faults-none_sound, sound-no_all_faults}
-use Rattle.moved_gains.specs.declared.shift.Steps.{Steps}
+use Rattle.requests.specs.declared.shift.Steps.{Steps}
 use Rattle.moved_gains.specs.Gains.{moved_unless}
 use Rattle.moved_gains.specs.Edited.{moved_unless_lost, edited}
 use Rattle.moved_gains.specs.Streams.{moved_row, moved_head, moved_block, moved_survey}

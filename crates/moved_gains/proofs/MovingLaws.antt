@@ -26,10 +26,10 @@ use Rattle.sync_survey.proofs.ItemsLaws.{stands-at, header_front-in_range}
 use Rattle.sync_survey.proofs.RunsLaws.{cons_list, IsItemOf, item_of-is, run-ends, bytes-ends}
 use Rattle.sync_survey.proofs.StartLaws.{start-first, start-front}
 use Rattle.sync_survey.proofs.SurveyLaws.{surveyed-is, walked, overhead-within}
-use Rattle.file_tag.proofs.WholeFiles.{front_end-is}
+use Rattle.moved_gains.proofs.WholeFiles.{front_end-is}
 use Rattle.sync_survey.proofs.ItemLists.{ends-within}
-use Rattle.file_tag.proofs.FoundTag.{survey_of-surveyed}
-use Rattle.moved_gains.specs.declared.shift.Steps.{Steps}
+use Rattle.moved_gains.proofs.FoundTag.{survey_of-surveyed}
+use Rattle.requests.specs.declared.shift.Steps.{Steps}
 use Rattle.moved_gains.specs.Gains.{moved_side}
 use Rattle.moved_gains.specs.Edited.{moved_unless_lost, moved_item, moved_items, moved_stream, is_lost_at, edited}
 use Rattle.outside.specs.Pass.{bytes_between}

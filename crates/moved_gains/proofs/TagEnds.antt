@@ -1,11 +1,11 @@
 -- Where the tag begins, and where it ends.
 use Rattle.std.proofs.Common.{◌≡◌, ◌+◌, ◌≤◌, Option, Some, None, refl, arith}
-use Rattle.file_tag.specs.Places.{tag_block, tag_at, tag_length}
-use Rattle.file_tag.proofs.FoundTag.{tag-within, last-within}
+use Rattle.moved_gains.specs.TagPlace.{tag_block, tag_at, tag_length}
+use Rattle.moved_gains.proofs.FoundTag.{tag-within, last-within}
 use Rattle.sync_survey.specs.declared.places.Piece.{Piece}
 use Rattle.sync_survey.specs.Faults.{SurveyFields, longest_file}
 use Rattle.sync_survey.specs.Survey.{IsLaidOut}
-use Rattle.file_tag.proofs.ReadingLaws.{place-some}
+use Rattle.moved_gains.proofs.TagReadingLaws.{place-some}
 use Rattle.moved_gains.proofs.TagPlaces.{tag_none}
 
 -- the tag, or the place for one, is within the file

@@ -32,12 +32,12 @@ use Rattle.sync_survey.proofs.SurveyLaws.{overhead-within}
 use Rattle.sync_survey.proofs.WalkLaws.{first_item}
 use Rattle.sync_survey.proofs.ItemLists.{ends-rise, ends-within}
 use Rattle.sync_survey.proofs.SurveyParts.{frames_from, told_from, IsRead, surveyed-parts}
-use Rattle.file_tag.specs.Places.{is_tag, tag_block, tag_at, tag_length, last_end}
-use Rattle.file_tag.proofs.FoundTag.{found_case, last_more}
-use Rattle.file_tag.proofs.WholeFiles.{front_end-is}
-use Rattle.file_tag.proofs.ReadingLaws.{place-some}
+use Rattle.moved_gains.specs.TagPlace.{is_tag, tag_block, tag_at, tag_length, last_end}
+use Rattle.moved_gains.proofs.FoundTag.{found_case, last_more}
+use Rattle.moved_gains.proofs.WholeFiles.{front_end-is}
+use Rattle.moved_gains.proofs.TagReadingLaws.{place-some}
 use Rattle.moved_gains.proofs.EditedRuns.{low_cases}
-use Rattle.moved_gains.specs.declared.shift.Steps.{Steps}
+use Rattle.requests.specs.declared.shift.Steps.{Steps}
 use Rattle.moved_gains.specs.Gains.{moved_side}
 use Rattle.moved_gains.specs.Edited.{is_lost_at}
 use Rattle.moved_gains.specs.Moving.{row_end}

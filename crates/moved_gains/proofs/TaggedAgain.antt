@@ -9,11 +9,11 @@ use Rattle.tag_blocks.specs.Blocks.{block_front}
 use Rattle.tag_blocks.proofs.BlocksLaws.{block_front-least}
 use Rattle.sync_survey.specs.Row.{Row}
 use Rattle.sync_survey.specs.Faults.{SurveyFields, surveyed}
-use Rattle.file_tag.specs.Places.{tag_at, tag_length, with_tag, moved_at, moved_row as tagged_row, retagged}
-use Rattle.file_tag.specs.Laws.{HasNewTag}
-use Rattle.file_tag.proofs.Retagged.{surveyed-retagged}
-use Rattle.file_tag.proofs.NewTag.{tagged-again}
-use Rattle.moved_gains.specs.declared.shift.Steps.{Steps}
+use Rattle.moved_gains.specs.TagPlace.{tag_at, tag_length, with_tag, moved_at, moved_row as tagged_row, retagged}
+use Rattle.moved_gains.specs.TagLaws.{HasNewTag}
+use Rattle.moved_gains.proofs.Retagged.{surveyed-retagged}
+use Rattle.moved_gains.proofs.NewTag.{tagged-again}
+use Rattle.requests.specs.declared.shift.Steps.{Steps}
 use Rattle.moved_gains.specs.Edited.{edited}
 use Rattle.moved_gains.specs.Streams.{moved_row, junk_length, moved_survey}
 use Rattle.outside.specs.Pass.{bytes_between}

@@ -4,7 +4,7 @@ use Rattle.std.proofs.lemmas.Bool.{le-leb, lt-leb}
 use Rattle.std.proofs.lemmas.List.{length-take-le}
 use Rattle.sync_survey.specs.Row.{Row}
 use Rattle.moved_gains.specs.declared.moving.NewTag.{NewTag}
-use Rattle.moved_gains.specs.declared.shift.Steps.{Steps}
+use Rattle.requests.specs.declared.shift.Steps.{Steps}
 use Rattle.outside.specs.Pass.{bytes_between}
 use Rattle.moved_gains.specs.Moving.{row_length, row_end, moved_row_bytes, copied, written_from}
 use Rattle.moved_gains.proofs.Rows.{Each}

@@ -8,13 +8,13 @@ use Rattle.std.proofs.Math.Seq.{take-add}
 use Rattle.sync_survey.specs.declared.places.Piece.{Piece}
 use Rattle.sync_survey.specs.Row.{Row}
 use Rattle.sync_survey.specs.Faults.{SurveyFields, surveyed}
-use Rattle.file_tag.specs.Places.{is_tag, tag_block, tag_at, tag_length, last_end, with_tag}
-use Rattle.file_tag.specs.Laws.{own_bytes}
-use Rattle.file_tag.proofs.FoundTag.{last_more}
-use Rattle.file_tag.proofs.ReadingLaws.{place-some}
-use Rattle.file_tag.proofs.TaggedBytes.{with_tag-is}
+use Rattle.moved_gains.specs.TagPlace.{is_tag, tag_block, tag_at, tag_length, last_end, with_tag}
+use Rattle.moved_gains.specs.TagLaws.{own_bytes}
+use Rattle.moved_gains.proofs.FoundTag.{last_more}
+use Rattle.moved_gains.proofs.TagReadingLaws.{place-some}
+use Rattle.moved_gains.proofs.TaggedBytes.{with_tag-is}
 use Rattle.moved_gains.specs.declared.moving.NewTag.{NewTag}
-use Rattle.moved_gains.specs.declared.shift.Steps.{Steps}
+use Rattle.requests.specs.declared.shift.Steps.{Steps}
 use Rattle.moved_gains.specs.Edited.{edited}
 use Rattle.moved_gains.specs.Streams.{moved_row, moved_block, junk_length, moved_survey}
 use Rattle.moved_gains.specs.Change.{Change, retag, changed}

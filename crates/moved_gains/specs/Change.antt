@@ -1,9 +1,9 @@
 -- What changes in a file, and the file that is written.
 use Rattle.std.specs.Prelude.{ℕ, List, Option, Some, None, option_map}
-use Rattle.file_tag.specs.Places.{with_tag}
+use Rattle.moved_gains.specs.TagPlace.{with_tag}
 use Rattle.sync_survey.specs.Faults.{SurveyFields}
 use Rattle.moved_gains.specs.declared.change.Change.{Change as CodeChange}
-use Rattle.moved_gains.specs.declared.shift.Steps.{Steps}
+use Rattle.requests.specs.declared.shift.Steps.{Steps}
 use Rattle.moved_gains.specs.Course.{steps_over}
 use Rattle.moved_gains.specs.Edited.{edited}
 use Rattle.moved_gains.specs.Streams.{moved_survey}

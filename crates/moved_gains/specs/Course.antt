@@ -4,7 +4,7 @@ use Rattle.fade_plan.specs.Curves.{steps_at, steps_back}
 use Rattle.sync_survey.specs.Row.{Row}
 use Rattle.moved_gains.specs.declared.course.Course.{Course}
 use Rattle.moved_gains.specs.declared.course.Course.TheVariants.{Even, Along}
-use Rattle.moved_gains.specs.declared.shift.Steps.{Steps}
+use Rattle.requests.specs.declared.shift.Steps.{Steps}
 
 -- every frame by the same steps
 abbrev pub even : Steps → ℕ → Steps

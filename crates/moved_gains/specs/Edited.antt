@@ -10,7 +10,7 @@ use Rattle.sync_survey.specs.declared.runs.Part.TheVariants.{Front, Stream}
 use Rattle.sync_survey.specs.Runs.{Placed, run, bytes_in, bytes_of_items}
 use Rattle.sync_survey.specs.Faults.{SurveyFields}
 use Rattle.moved_gains.specs.declared.gains.Stuck.{Stuck}
-use Rattle.moved_gains.specs.declared.shift.Steps.{Steps}
+use Rattle.requests.specs.declared.shift.Steps.{Steps}
 use Rattle.moved_gains.specs.Gains.{moved_side, stuck_in}
 
 -- ---- the bytes

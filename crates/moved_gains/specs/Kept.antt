@@ -16,7 +16,7 @@ use Rattle.side_info.specs.Side.{front_widths, granules_in}
 use Rattle.side_info.specs.Frame.{side_in}
 use Rattle.sync_survey.specs.Row.{Row}
 use Rattle.sync_survey.specs.Faults.{SurveyFields, surveyed}
-use Rattle.file_tag.specs.Places.{tag_at, tag_length}
+use Rattle.moved_gains.specs.TagPlace.{tag_at, tag_length}
 use Rattle.outside.specs.Pass.{bytes_between}
 use Rattle.moved_gains.specs.Gains.{is_silent_granule}
 use Rattle.moved_gains.specs.Moving.{row_end}

@@ -8,3 +8,6 @@ pub mod Moving
 pub mod Kept
 pub mod Buffers
 pub mod Passing
+pub mod TagPlace
+pub mod TagReading
+pub mod TagLaws

@@ -4,11 +4,11 @@ use Rattle.frame_header.specs.Fields.{ClassFields}
 use Rattle.frame_header.specs.Tables.{class_of, length_of, overhead_of}
 use Rattle.side_info.specs.Frame.{side_in, frame_with}
 use Rattle.sync_survey.specs.Row.{Row}
-use Rattle.file_tag.specs.Places.{tag_at, tag_length}
+use Rattle.moved_gains.specs.TagPlace.{tag_at, tag_length}
 use Rattle.sync_survey.specs.Faults.{SurveyFields}
 use Rattle.outside.specs.Pass.{bytes_between}
 use Rattle.moved_gains.specs.declared.moving.NewTag.{NewTag}
-use Rattle.moved_gains.specs.declared.shift.Steps.{Steps}
+use Rattle.requests.specs.declared.shift.Steps.{Steps}
 use Rattle.moved_gains.specs.Gains.{moved_side}
 use Rattle.moved_gains.specs.Change.{Change}
 

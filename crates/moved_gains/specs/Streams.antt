@@ -7,7 +7,7 @@ use Rattle.sync_survey.specs.declared.places.Piece.{Piece}
 use Rattle.sync_survey.specs.Row.{Row}
 use Rattle.sync_survey.specs.MainData.{StreamFrame, main_bytes, stream_frame}
 use Rattle.sync_survey.specs.Faults.{SurveyFields, IsWellFormed, stream_of_survey}
-use Rattle.moved_gains.specs.declared.shift.Steps.{Steps}
+use Rattle.requests.specs.declared.shift.Steps.{Steps}
 use Rattle.moved_gains.specs.Gains.{moved_side, moved_unless}
 
 -- ---- the survey of the edited file

@@ -2,8 +2,8 @@
 ghost use Rattle.std.specs.Prelude.{◌≡◌};
 ghost use Rattle.moved_gains.specs.Course.{alike as alike_lem, steps_in};
 
-use crate::shift::Steps;
 use fade_plan::Curve;
+use requests::Steps;
 
 /// The same steps for both channels, without wrap.
 fn alike(steps: i16) -> Steps

@@ -7,8 +7,8 @@ ghost use Rattle.moved_gains.specs.Moving.{row_length, row_overhead, moved_bytes
 ghost use Rattle.frame_header.specs.Limits.{most_frame_length};
 
 use crate::gains::moved_side;
-use crate::shift::Steps;
 use frame_header::{Class, Version};
+use requests::Steps;
 use side_info::put_gains;
 use sync_survey::Row;
 

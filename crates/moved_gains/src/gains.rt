@@ -2,7 +2,7 @@
 ghost use Rattle.std.specs.Prelude.{◌≡◌, ◌+ℤ◌, ◌<◌, ◌&&◌, not, pos};
 ghost use Rattle.moved_gains.specs.Gains.{is_silent_granule, is_outside, moved as moved_lem, moved_side as moved_side_lem, stuck_at as stuck_at_lem, stuck_in as stuck_in_lem};
 
-use crate::shift::Steps;
+use requests::Steps;
 use side_info::{Granule, Side};
 
 /// A gain that would leave the range from 0 to 255: its granule and its channel, counted from 0, and the

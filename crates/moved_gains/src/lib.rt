@@ -1,7 +1,7 @@
-//! Gains that are moved by steps of 1.5 dB: those of a frame, and those of a whole file, which is read once
-//! from its beginning to its end and written with moved gains, each frame by its own steps, and with
-//! another tag if that changes. What is written is a well-formed file with the same stream except the
-//! gains.
+//! Gains that are moved by steps of 1.5 dB: those of a frame, and those of a whole file, which is read once from its beginning to its end
+//! and written with moved gains, each frame by its own steps, and with another tag if that changes. What is written is a well-formed file
+//! with the same stream except the gains. The tag of a file is its first APEv2 block: where it is, what it says, and what the file with
+//! another tag in its place is.
 #![tactic(auto)]
 
 mod buffers;
@@ -11,7 +11,10 @@ mod front;
 mod gains;
 mod laws;
 mod moving;
-mod shift;
+mod tag_fault;
+mod tag_laws;
+mod tag_places;
+mod tag_reading;
 
 pub use buffers::Buffers;
 pub use change::Change;
@@ -19,4 +22,7 @@ pub use course::Course;
 pub use gains::{Stuck, stuck_in};
 pub use laws::changes_keep_all;
 pub use moving::write_changed;
-pub use shift::{Channels, Shift, Steps};
+pub use tag_fault::FileTagFault;
+pub use tag_laws::{own_tag, retagged_survey, same_stream, tag_again, tagged_bytes};
+pub use tag_places::{TagPlace, first_tag, tag_place};
+pub use tag_reading::read_tag;

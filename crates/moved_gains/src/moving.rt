@@ -19,7 +19,7 @@ use crate::buffers::Buffers;
 use crate::change::Change;
 use crate::course::Course;
 use crate::front::{MovedRow, frame_length};
-use file_tag::tag_place;
+use crate::tag_place;
 use frame_header::Class;
 use outside::{Folder, Pass, PassFault};
 use sync_survey::{Row, Survey};

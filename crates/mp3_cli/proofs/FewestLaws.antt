@@ -5,7 +5,7 @@ use Rattle.outside.specs.Seen.{Heard, Seen}
 use Rattle.job_words.specs.Asked.{Asked, Help, Version, ListFile, Gain, Undo, Cut, CutExact, Pack, SplitAt, SplitExact, SplitBy, Join, Drill, Fade, Salvage}
 use Rattle.job_words.specs.Words.{job_of}
 use Rattle.commands.specs.Left.{IsDone}
-use Rattle.packing.proofs.PackedLengths.{done-fewest}
+use Rattle.pack_edits.proofs.PackedLengths.{done-fewest}
 use Rattle.mp3_cli.proofs.RunLaws.{is_done}
 use Rattle.mp3_cli.specs.Run.{command_of, world, Answers, HasFewest, HasFewestBytes}
 

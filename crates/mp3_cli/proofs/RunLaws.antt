@@ -12,8 +12,8 @@ use Rattle.commands.specs.declared.fault.EditFault.TheVariants.{EqualNames, Inpu
 use Rattle.commands.specs.Kinds.{InputKind, IsAbsent, kind_of, by_kind}
 use Rattle.commands.specs.One.{Task, made_result, made_of, one_command}
 use Rattle.commands.specs.Command.{Made, Command, clash_of, written, Gives}
-use Rattle.splitting.specs.Cutting.{Cutting, split_command}
-use Rattle.splitting.proofs.PartsLaws.{split-parts}
+use Rattle.split_edits.specs.Cutting.{Cutting, split_command}
+use Rattle.split_edits.proofs.PartsLaws.{split-parts}
 use Rattle.drill.specs.Drilled.{IsDrillFault}
 use Rattle.commands.specs.Said.{IsText, Says, fault_of}
 use Rattle.commands.specs.Left.{Why, Rejected, Missing, Unread, Shorter, Unwritten, Unsent, NoMemory, why_of, IsDone, IsRefused, by_why, left_by, Leaves, HasNumbers}

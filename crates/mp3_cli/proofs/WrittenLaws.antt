@@ -19,22 +19,22 @@ use Rattle.commands.specs.declared.fault.EditFault.{EditFault}
 use Rattle.commands.specs.Command.{Output, Made, Command, written, AreStreams, MakesStreams, HoldsStreams}
 use Rattle.commands.specs.One.{Task, made_result, one_command}
 use Rattle.commands.specs.Telling.{with_text}
-use Rattle.salvaging.specs.Salvaged.{text_where, salvage_task}
+use Rattle.salvage_edits.specs.Salvaged.{text_where, salvage_task}
 use Rattle.commands.proofs.RefusingLaws.{then_ok}
 use Rattle.laying.specs.Laid.{Laid}
-use Rattle.frame_edits.specs.Exact.{exact_task}
+use Rattle.cut_edits.specs.Exact.{exact_task}
 use Rattle.job_words.specs.Asked.{Asked, Help, Version, ListFile, Gain, Undo, Cut, CutExact, Pack, SplitAt, SplitExact, SplitBy, Join, Drill, Fade, Salvage}
 use Rattle.job_words.specs.Words.{job_of, IsSound}
-use Rattle.joining.specs.Join.{join_task}
-use Rattle.fading.specs.Fade.{fade_task}
-use Rattle.packing.specs.Modes.{pack_task}
-use Rattle.piece_names.specs.Names.{piece_name, piece_names}
-use Rattle.splitting.specs.Cutting.{Cutting, with_first, laid_from, laid_at, pieces_from, split_command}
-use Rattle.splitting.specs.Split.{places_where, as_exact, given, told_by, given_exact, told_exact_by}
-use Rattle.splitting.proofs.PartsLaws.{split-parts, cue-parts}
+use Rattle.join_edits.specs.Join.{join_task}
+use Rattle.gain_edits.specs.Fade.{fade_task}
+use Rattle.pack_edits.specs.Modes.{pack_task}
+use Rattle.requests.specs.Names.{piece_name, piece_names}
+use Rattle.split_edits.specs.Cutting.{Cutting, with_first, laid_from, laid_at, pieces_from, split_command}
+use Rattle.split_edits.specs.Split.{places_where, as_exact, given, told_by, given_exact, told_exact_by}
+use Rattle.split_edits.proofs.PartsLaws.{split-parts, cue-parts}
 use Rattle.mp3_cli.proofs.RunLaws.{files_where_done, if_told, one_made}
-use Rattle.exact_streams.specs.Chosen.{Frames, ConsistsOf, AllConsistOf, chosen_of}
-use Rattle.exact_streams.proofs.JobLaws.{streams-chosen}
+use Rattle.theorems.specs.Chosen.{Frames, ConsistsOf, AllConsistOf, chosen_of}
+use Rattle.theorems.proofs.JobLaws.{streams-chosen}
 use Rattle.mp3_cli.specs.Run.{command_of, world, Answers, HoldFrames, HoldsWritten, HoldsAllStreams}
 
 -- ---- several outputs

@@ -10,20 +10,20 @@ use Rattle.commands.specs.Left.{IsDone, Leaves, HasNumbers}
 use Rattle.commands.specs.Said.{Says}
 use Rattle.gain_edits.specs.Gain.{gain_command}
 use Rattle.gain_edits.specs.Undo.{undo_command}
-use Rattle.fading.specs.Fade.{fade_command}
-use Rattle.frame_edits.specs.Chosen.{cut_command}
-use Rattle.frame_edits.specs.Exact.{exact_command}
-use Rattle.packing.specs.Modes.{pack_mode_command}
-use Rattle.packing.specs.Fewest.{WritesFewest}
-use Rattle.listing.specs.Listing.{list_command}
-use Rattle.splitting.specs.Split.{split_at_command, split_by_command, split_exact_at_command, split_exact_by_command}
-use Rattle.joining.specs.Join.{join_command}
+use Rattle.gain_edits.specs.Fade.{fade_command}
+use Rattle.cut_edits.specs.Chosen.{cut_command}
+use Rattle.cut_edits.specs.Exact.{exact_command}
+use Rattle.pack_edits.specs.Modes.{pack_mode_command}
+use Rattle.pack_edits.specs.Fewest.{WritesFewest}
+use Rattle.list_edits.specs.Listing.{list_command}
+use Rattle.split_edits.specs.Split.{split_at_command, split_by_command, split_exact_at_command, split_exact_by_command}
+use Rattle.join_edits.specs.Join.{join_command}
 use Rattle.drill.specs.Drilled.{drill_command}
-use Rattle.salvaging.specs.Salvaged.{salvage_command}
+use Rattle.salvage_edits.specs.Salvaged.{salvage_command}
 use Rattle.job_words.specs.Asked.{Asked, Help, Version, ListFile, Gain, Undo, Cut, CutExact, Pack, SplitAt, SplitExact, SplitBy, Join, Drill, Fade, Salvage}
 use Rattle.job_words.specs.Words.{job_of}
 use Rattle.sync_survey.specs.Faults.{IsWellFormed, stream_of}
-use Rattle.exact_streams.specs.Chosen.{Frames, ConsistsOf, chosen_of}
+use Rattle.theorems.specs.Chosen.{Frames, ConsistsOf, chosen_of}
 use Rattle.legality.specs.Legal.{IsLegalFor}
 use Rattle.legality.specs.Laws.{Makes}
 use Rattle.program_texts.specs.Texts.{status_of, fault_line, bad_word_line, help_text, version_text, said_command, GotLine}

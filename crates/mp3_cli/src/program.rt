@@ -13,18 +13,17 @@ ghost use Rattle.mp3_cli.specs.Run.{command_of, fault_status, result_line, world
 
 use crate::job_names::{inputs_of, outputs_of};
 use commands::EditFault;
+use cut_edits::{cut, cut_exact};
 use drill::drill;
-use fading::fade;
-use frame_edits::{cut, cut_exact};
-use gain_edits::{gain, undo};
+use gain_edits::{fade, gain, undo};
 use job_words::{Job, job};
-use joining::join;
-use listing::list;
+use join_edits::join;
+use list_edits::list;
 use outside::{Folder, Sink};
-use packing::pack_with;
+use pack_edits::pack_with;
 use program_texts::{Outputs, say_help, say_version, send_bad_word, send_fault, status};
-use salvaging::salvage;
-use splitting::{ExactPoints, Points, split, split_exact};
+use salvage_edits::salvage;
+use split_edits::{ExactPoints, Points, split, split_exact};
 use std::alloc::Global;
 
 /// Sends the line of a fault, if there is one, and answers the status.

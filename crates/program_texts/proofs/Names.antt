@@ -1,7 +1,7 @@
 -- The names of pieces by their places.
 use Rattle.std.proofs.Common.{◌≡◌, ℕ, ◌+◌, ◌%◌, ◌<◌, List, [], ap, ◌∙◌, arith}
-use Rattle.piece_names.specs.Names.{piece_name, piece_names}
-use Rattle.piece_names.proofs.NamesLaws.{name-at}
+use Rattle.requests.specs.Names.{piece_name, piece_names}
+use Rattle.requests.proofs.NamesLaws.{name-at}
 use Rattle.program_texts.specs.Names.{name_in}
 
 pub piece_at : (prefix : List ℕ) (place : ℕ) → place < 99 → name_in (piece_names prefix) place ≡ piece_name prefix ((place + 1) % 100)

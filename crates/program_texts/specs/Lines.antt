@@ -2,7 +2,7 @@
 use Rattle.std.specs.Prelude.{ℕ, ◌/◌, ◌%◌, ℤ, List, [], ◌∷◌, slice_index, codes, decimal}
 use Rattle.std.specs.List.{flat_map}
 use Rattle.std.specs.Fmt.{signed_decimal}
-use Rattle.piece_names.specs.Names.{piece_name}
+use Rattle.requests.specs.Names.{piece_name}
 use Rattle.program_texts.specs.declared.parts.Part.{Part as CodePart}
 use Rattle.program_texts.specs.declared.parts.Part.TheVariants as code
 

@@ -1,6 +1,6 @@
 -- The names of a command's files, by their places.
 use Rattle.std.specs.Prelude.{ℕ, List, [], ◌∷◌, slice_index_or}
-use Rattle.piece_names.specs.Names.{piece_names}
+use Rattle.requests.specs.Names.{piece_names}
 use Rattle.program_texts.specs.declared.output_names.Outputs.{Outputs}
 use Rattle.program_texts.specs.declared.output_names.Outputs.TheVariants.{None, One, Pieces}
 

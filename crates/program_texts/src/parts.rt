@@ -6,7 +6,7 @@ ghost use Rattle.program_texts.specs.Texts.{GotWhole, GotFront, GotLine};
 use arrayvec::ArrayVec;
 use itoa::Buffer;
 use outside::{Failed, Sink, send_all};
-use piece_names::name_parts;
+use requests::name_parts;
 
 /// A part of a line.
 #[derive(Clone, Copy)]

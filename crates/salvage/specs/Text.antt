@@ -1,9 +1,9 @@
 -- The text that says what is missing of a damaged file.
 use Rattle.std.specs.Prelude.{ℕ, List, ◌++◌, length, map, flat_map, codes, decimal}
-use Rattle.offset_order.specs.declared.merge.Entry.{Entry}
-use Rattle.offset_order.specs.declared.merge.Entry.TheVariants.{First, Second}
-use Rattle.offset_order.specs.Order.{ordered_by}
-use Rattle.offset_order.specs.Merge.{entry_offset}
+use Rattle.sync_survey.specs.declared.merge.Entry.{Entry}
+use Rattle.sync_survey.specs.declared.merge.Entry.TheVariants.{First, Second}
+use Rattle.sync_survey.specs.Order.{ordered_by}
+use Rattle.sync_survey.specs.Merge.{entry_offset}
 use Rattle.salvage.specs.declared.gap.Gap.{Gap}
 use Rattle.salvage.specs.declared.mended.Emptied.{Emptied}
 use Rattle.salvage.specs.Damaged.{DamagedFields}

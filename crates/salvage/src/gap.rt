@@ -1,6 +1,6 @@
 //! What isn't read of a damaged file.
 
-use offset_order::HasOffset;
+use sync_survey::HasOffset;
 
 /// Bytes that aren't read: the offset of the first of them, and how many there are.
 #[derive(Clone, Copy, Debug, PartialEq, Eq)]

@@ -9,10 +9,9 @@ ghost use Rattle.salvage.specs.Mended.{mended_row, mended, emptied_as, emptied_f
 
 use crate::damaged::Damaged;
 use crate::gap::Gap;
-use offset_order::HasOffset;
 use side_info::{FrameFront, Side};
 use std::alloc::{AllocError, Global};
-use sync_survey::{Row, Survey};
+use sync_survey::{HasOffset, Row, Survey};
 
 /// A frame that becomes an empty one: its number, counted from 0 without the head, and its offset in bytes.
 #[derive(Clone, Copy, Debug, PartialEq, Eq)]

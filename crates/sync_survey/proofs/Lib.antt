@@ -23,3 +23,5 @@ pub mod ApartLaws
 pub mod ApartRows
 pub mod EmptiedLaws
 pub mod SurveyedFiles
+pub mod MergeLaws
+pub mod OrderLaws

@@ -14,3 +14,5 @@ pub mod Survey
 pub mod Answers
 pub mod Laws
 pub mod Begun
+pub mod Merge
+pub mod Order

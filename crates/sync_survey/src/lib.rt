@@ -1,5 +1,5 @@
-//! Finds what is where in a file: blocks of tags, junk, a head, and the frames of the stream; or what is
-//! first at fault in it.
+//! Finds what is where in a file: blocks of tags, junk, a head, and the frames of the stream; or what is first at fault in it. `Merge` walks
+//! two lists of such things in order of the offset that each has.
 #![tactic(auto)]
 
 mod apart;
@@ -10,6 +10,7 @@ mod heads;
 mod items;
 mod laws;
 mod looks;
+mod merge;
 mod places;
 mod rows;
 mod runs;
@@ -27,6 +28,7 @@ pub use laws::{
     surveys_hold_streams,
 };
 pub use looks::{LONGEST_FILE, find_length, look};
+pub use merge::{Entry, HasOffset, Merge};
 pub use places::{Head, Piece, PlacedFrame, Start};
 pub use rows::{Before, Behind, Row};
 pub use runs::{Part, Step, step_at};

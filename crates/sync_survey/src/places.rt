@@ -1,7 +1,7 @@
 //! Where things are in a file. Offsets and lengths are in bytes.
 
+use crate::HasOffset;
 use frame_header::Header;
-use offset_order::HasOffset;
 use tag_blocks::Block;
 
 /// A frame, and the offset of its header.

@@ -9,9 +9,9 @@ ghost use Rattle.sync_survey.specs.Items.{header_front};
 ghost use Rattle.sync_survey.specs.Looks.{ReachArea, data_fault, frame_fault, IsBehind};
 ghost use Rattle.frame_header.specs.Limits.{most_frame_length};
 
+use crate::HasOffset;
 use crate::survey_fault::SurveyFault;
 use frame_header::{Class, Header};
-use offset_order::HasOffset;
 use side_info::{Extent, FrameFront, Side, word_said};
 use std::marker::Model;
 

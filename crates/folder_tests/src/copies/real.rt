@@ -2,7 +2,6 @@
 use super::copied;
 use on_disk::{DiskFolder, StdSink};
 use outside::{Failed, FindFault, Folder, Sink};
-use shaky_files::{Moves, Notes, Shaky};
 use std::alloc::Global;
 use std::cell::Cell;
 use std::fs;
@@ -11,6 +10,7 @@ use std::os::unix::fs::symlink;
 use std::process::Abort;
 use std::rt::Files;
 use std::test::Fail;
+use test_files::shaky::{Moves, Notes, Shaky};
 
 // A directory with one file. Each test has its own, since tests may run side by side.
 fn prepare<R: Files + AllocGlobal>(rt: &R, directory: &str, file: &str) -> Result<(), Fail> {

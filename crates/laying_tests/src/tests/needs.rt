@@ -3,8 +3,8 @@ ghost use Rattle.std.specs.Prelude.{◌<◌, ◌≤◌, length, IfOk};
 ghost use Rattle.sync_survey.specs.Faults.{tells};
 ghost use Rattle.sync_survey.specs.Survey.{IsLaidOut};
 
+use laying::{Parts, one_part_fits};
 use outside::{Folder, MemFolder};
-use part_needs::{Parts, one_part_fits};
 use slot_plan::{Keep, Need, Placed, Plan, plan};
 use std::alloc::{AllocError, AllocGlobal};
 use std::process::Abort;

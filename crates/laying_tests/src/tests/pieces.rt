@@ -2,8 +2,8 @@
 //! that follows the description of LAME's tag.
 
 use commands::{EditFault, Refusal};
+use cut_edits::cut_exact;
 use exact_span::ExactPlace;
-use frame_edits::cut_exact;
 use outside::MemFolder;
 use std::alloc::{AllocError, Global};
 use std::process::Abort;

@@ -2,7 +2,7 @@
 //! 381 (ISO/IEC 11172-3, 2.4.3.1), a lead-in at 32 kbit/s 104 and an area of 68.
 ghost use Rattle.std.specs.Prelude.{◌<◌};
 
-use frame_edits::{Chosen, plan_file};
+use cut_edits::{Chosen, plan_file};
 use laying::{Buffers, Kept, Relay};
 use outside::{Folder, MemFolder, Pass, PassFault};
 use std::alloc::{AllocError, AllocGlobal, Global};

@@ -2,7 +2,7 @@
 
 use commands::{EditFault, Refusal};
 use fade_plan::EnvelopeFault;
-use fading::fade;
+use gain_edits::fade;
 use outside::MemFolder;
 use std::alloc::{AllocError, Global};
 use std::process::Abort;

@@ -3,7 +3,7 @@
 
 use commands::{EditFault, Refusal};
 use outside::MemFolder;
-use packing::{PackMode, pack_with};
+use pack_edits::{PackMode, pack_with};
 use std::alloc::{AllocError, Global};
 use std::process::Abort;
 use std::test::Fail;

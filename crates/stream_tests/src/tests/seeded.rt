@@ -1,8 +1,7 @@
 //! Streams made from a seed. Their bytes are those of a program in another language that follows the rules of the generator.
 
 use commands::EditFault;
-use drill::drill;
-use drill_stream::{StreamFault, Summary, send_summary, stream_folder, write_stream};
+use drill::{StreamFault, Summary, drill, send_summary, stream_folder, write_stream};
 use outside::{Call, Failed, MemFolder, MemSink};
 use std::alloc::{AllocError, Global};
 use std::process::Abort;

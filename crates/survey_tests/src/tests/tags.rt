@@ -1,7 +1,7 @@
 //! The tags of small files: where they are, their bytes, and why they aren't read.
 
 use super::untold::Untold;
-use file_tag::*;
+use moved_gains::*;
 use outside::{Call, Folder, MemFolder, ReadFault};
 use std::alloc::{AllocError, AllocGlobal, Global};
 use std::process::Abort;

@@ -1,7 +1,7 @@
 -- What a survey tells of the packed file, and the length of the stream.
 use Rattle.std.proofs.Common.{◌≡◌, ◌<◌, ◌-◌, ◌*◌, length, ap, ◌∙◌, arith}
 use Rattle.sync_survey.specs.Faults.{tells}
-use Rattle.drill_stream.specs.Drill.{drill_stream}
+use Rattle.drill.specs.Drill.{drill_stream}
 use Rattle.drill.specs.Drilled.{packed_file, packed_plan, lead_ins_in}
 use Rattle.drill.proofs.PackedLaws.{no-lead_ins, packed-frames, packed-length}
 use Rattle.drill.proofs.calls.summary_of.Goals as goal

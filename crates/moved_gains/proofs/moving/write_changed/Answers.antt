@@ -8,7 +8,7 @@ use Rattle.outside.proofs.PassLaws.{writes_held, writes_there, writes_then, writ
 use Rattle.sync_survey.specs.Row.{Row}
 use Rattle.sync_survey.specs.Faults.{SurveyFields, tells}
 use Rattle.sync_survey.specs.Survey.{survey_of}
-use Rattle.moved_gains.specs.declared.shift.Steps.{Steps}
+use Rattle.requests.specs.declared.shift.Steps.{Steps}
 use Rattle.moved_gains.specs.declared.moving.NewTag.{NewTag}
 use Rattle.sync_survey.specs.Limits.{most_frames}
 use Rattle.moved_gains.specs.declared.change.Change.{Change as CodeChange}

@@ -1,8 +1,8 @@
 -- In each mode of packing the input alone is read, and of a split by a sheet the input and the sheet, to a frame or to a sample.
 use Rattle.std.proofs.Common.{◌≡◌, ℕ, Bool, true, false, List, [], ◌∷◌, map, Bor, refl, sym, ap, ◌∙◌}
-use Rattle.pack_mode.specs.declared.mode.PackMode.{PackMode}
-use Rattle.pack_mode.specs.declared.mode.PackMode.TheVariants.{Least}
-use Rattle.packing.specs.Modes.{pack_mode_command}
+use Rattle.requests.specs.declared.mode.PackMode.{PackMode}
+use Rattle.requests.specs.declared.mode.PackMode.TheVariants.{Least}
+use Rattle.pack_edits.specs.Modes.{pack_mode_command}
 use Rattle.job_words.specs.declared.jobs.Job.{Job}
 use Rattle.job_words.specs.Asked.{SplitBy}
 use Rattle.job_words.specs.Code.{asked}

@@ -1,6 +1,6 @@
 -- A split by a sheet writes its pieces, to a frame or to a sample.
 use Rattle.std.proofs.Common.{◌≡◌, ℕ, Bool, true, false, List, refl, sym, ap, ◌∙◌}
-use Rattle.piece_names.specs.Names.{piece_names}
+use Rattle.requests.specs.Names.{piece_names}
 use Rattle.job_words.specs.declared.jobs.Job.{Job}
 use Rattle.job_words.specs.Asked.{SplitBy}
 use Rattle.job_words.specs.Code.{asked}

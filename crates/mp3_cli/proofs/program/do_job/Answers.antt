@@ -1,6 +1,6 @@
 -- Texts that are said, and commands without a text.
 use Rattle.std.proofs.Common.{◌≢◌, ℕ, Bool, true, false, List, [], Some, rules}
-use Rattle.splitting.specs.Split.{told_by, told_exact_by, split_at_command, split_exact_at_command}
+use Rattle.split_edits.specs.Split.{told_by, told_exact_by, split_at_command, split_exact_at_command}
 use Rattle.job_words.specs.Asked.{SplitBy}
 use Rattle.drill.specs.Drilled.{drill_text}
 use Rattle.drill.proofs.PackedLaws.{drill_text-some}

@@ -13,7 +13,7 @@ use Rattle.frame_writer.specs.Frames.{Frame, area_in, reach_of, reach_with}
 use Rattle.sync_survey.specs.MainData.{side_of}
 use Rattle.sync_survey.specs.Row.{Row}
 use Rattle.sync_survey.specs.Faults.{SurveyFields, tells}
-use Rattle.part_needs.specs.Needs.{need_of}
+use Rattle.laying.specs.Needs.{need_of}
 use Rattle.frame_writer.specs.Writing.{writing}
 use Rattle.laying.specs.Passing.{IsAreaOf, HoldsWith, Lays, GivesPart, moved_frame, own_reach, writing_in}
 use Rattle.laying.proofs.PlannedFrames.{begun_fits}

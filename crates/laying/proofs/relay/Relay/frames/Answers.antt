@@ -4,7 +4,7 @@ use Rattle.std.specs.Prelude.{slice_range, slice_get, Some}
 use Rattle.std.proofs.lemmas.List.{drop_all}
 use Rattle.std.proofs.lemmas.Result.{err_from_is_err_and}
 use Rattle.frame_header.specs.Tables.{window_of}
-use Rattle.part_needs.specs.Needs.{need_of}
+use Rattle.laying.specs.Needs.{need_of}
 use Rattle.outside.specs.Files.{Holds}
 use Rattle.outside.proofs.PassedLaws.{err_at}
 use Rattle.frame_writer.specs.Laid.{BeginsWithin}

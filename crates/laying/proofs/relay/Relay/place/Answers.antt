@@ -4,7 +4,7 @@ use Rattle.frame_header.specs.Tables.{class_of, area_of, window_of}
 use Rattle.outside.proofs.PassedLaws.{err_at, err_by}
 use Rattle.frame_writer.proofs.WritingLaws.{ok-map}
 use Rattle.sync_survey.specs.Faults.{tells}
-use Rattle.part_needs.specs.Needs.{need_of}
+use Rattle.laying.specs.Needs.{need_of}
 use Rattle.laying.specs.Relaid.{frame_of, moved_to, lead_in_before}
 use Rattle.frame_writer.specs.Frames.{Frame}
 use Rattle.frame_writer.specs.Writing.{writing}

@@ -4,7 +4,7 @@ use Rattle.std.specs.Prelude.{slice_range}
 use Rattle.sync_survey.specs.Row.{Row}
 use Rattle.sync_survey.specs.Faults.{tells}
 use Rattle.slot_plan.specs.Parts.{CanBePlanned}
-use Rattle.part_needs.specs.Needs.{Asked, asked_of}
+use Rattle.laying.specs.Needs.{Asked, asked_of}
 use Rattle.laying_tests.proofs.tests.needs.plan_between.Goals as goal
 
 pub plan-requires-clause-planned : goal.plan-requires-clause-planned

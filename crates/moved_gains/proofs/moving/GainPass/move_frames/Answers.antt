@@ -11,7 +11,7 @@ use Rattle.sync_survey.specs.Row.{Row}
 use Rattle.sync_survey.specs.Survey.{AreLaid}
 use Rattle.sync_survey.proofs.StepLaws.{laid_end}
 use Rattle.moved_gains.specs.declared.moving.NewTag.{NewTag}
-use Rattle.moved_gains.specs.declared.shift.Steps.{Steps}
+use Rattle.requests.specs.declared.shift.Steps.{Steps}
 use Rattle.moved_gains.specs.Course.{steps_in, steps_over}
 use Rattle.moved_gains.specs.Moving.{row_end, AreRowsOf, moved_row_bytes, copied, written_from}
 use Rattle.moved_gains.proofs.CourseLaws.{frame_steps}

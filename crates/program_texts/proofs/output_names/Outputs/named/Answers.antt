@@ -3,7 +3,7 @@ use Rattle.std.proofs.Common.{◌≤◌, [], length, ap, sym, arith}
 use Rattle.std.proofs.lemmas.List.{get_or_past}
 use Rattle.program_texts.specs.Lines.{Name}
 use Rattle.program_texts.specs.Names.{names_in}
-use Rattle.piece_names.proofs.NamesLaws.{names-length}
+use Rattle.requests.proofs.NamesLaws.{names-length}
 use Rattle.program_texts.proofs.Names.{piece_at}
 use Rattle.program_texts.proofs.output_names.Outputs.named.Goals as goal
 use Rattle.program_texts.proofs.output_names.Outputs.named.Goals.{in_default-via-in-One+else-place-eq0, in_default-via-in-Pieces+else-place-lt99, in_default-via-in_default}

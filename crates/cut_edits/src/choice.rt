@@ -1,0 +1,121 @@
+//! Which frames of a file the commands of this crate choose.
+ghost use Rattle.std.specs.Prelude.{◌≡◌, ◌<◌, ◌≤◌, Bool, ℕ, List, length, Ok, Err, MatchResult, IfOk, IfErr};
+ghost use Rattle.outside.specs.Files.{IsThere};
+ghost use Rattle.outside.specs.Seen.{OnFile, OnlyRead};
+ghost use Rattle.cue_sheet.specs.Places.{IsPlace};
+ghost use Rattle.sync_survey.specs.Faults.{tells};
+ghost use Rattle.sync_survey.specs.Survey.{survey_of, IsLaidOut};
+ghost use Rattle.commands.specs.Left.{IsOfInput, IsRefusal};
+ghost use Rattle.commands.specs.One.{most_frames, IsInputFault, Making};
+ghost use Rattle.commands.specs.declared.fault.Refusal.{Refusal};
+ghost use Rattle.cut_edits.specs.Chosen.{chosen_in, Planning, laying_with, cut_choice as cut_choice_lem, all_choice as all_choice_lem, cut_refuses};
+ghost use Rattle.cut_edits.specs.Choices.{choosing_by, refused_by, IsChoice};
+
+use crate::chosen::{Chosen, choose};
+use commands::EditFault;
+use cue_sheet::Place;
+use laying::{Kept, kept_fields};
+use outside::Folder;
+use sync_survey::Survey;
+
+/// Which frames are chosen.
+#[derive(Clone, Copy)]
+pub enum Choice<'a> {
+    /// Those from the first position up to, but not including, the second.
+    Between(&'a Place, &'a Place),
+    /// All, with the quality and extension that the head of the input has.
+    All,
+}
+
+/// The frames between two positions: `Range` where there is none, or where the second is after the end of the file.
+#[tactic(auto, unfolding(crate::specs::Chosen::cut_choice))]
+pub fn cut_choice(survey: &Survey, from: &Place, to: &Place) -> Result<Chosen, EditFault>
+    requires from { IsPlace from.now }
+    requires to { IsPlace to.now }
+    requires few { length (tells survey.now).frames ≤ most_frames }
+    ensures chosen { MatchResult result
+        (λ chosen. (file : List ℕ)
+        → cut_choice_lem from.now to.now file (tells survey.now) ≡ Ok (chosen_in chosen))
+        (λ fault. (file : List ℕ)
+        → cut_choice_lem from.now to.now file (tells survey.now) ≡ Err fault) }
+    ensures some { IfOk result (λ chosen. chosen.from < chosen.to) }
+    ensures within { IfOk result (λ chosen. chosen.to ≤ length (tells survey.now).frames) }
+    ensures refusal { IfErr result (IsRefusal cut_refuses) }
+{
+    let frames = survey.frames().len();
+    let class = survey.class();
+    let from = from.frame_of(class, frames as u32);
+    let to = to.frame_of(class, frames as u32);
+    choose(from, to, frames, Kept::none())
+}
+
+/// All frames, with the quality and extension that the head of the input has.
+///
+/// # Errors
+/// `Input` with `Read` and `Shrunk` where the frame of the head could not be read. The files stay.
+pub fn all_choice<D: Folder>(
+    folder: &mut D,
+    name: &str,
+    survey: &Survey,
+) -> Result<Chosen, EditFault>
+    requires there { IsThere (D.seen folder.old).files name.now }
+    requires laid { IsLaidOut (tells survey.now) }
+    requires few { length (tells survey.now).frames ≤ most_frames }
+    requires surveyed { OnFile (D.seen folder.old) name.now
+        (λ bytes. survey_of bytes most_frames ≡ Ok (tells survey.now)) }
+    ensures chosen { IfOk result (λ chosen. OnFile (D.seen folder.old) name.now
+        (λ bytes. all_choice_lem bytes (tells survey.now) ≡ Ok (chosen_in chosen))) }
+    ensures some { IfOk result (λ chosen. chosen.from < chosen.to) }
+    ensures within { IfOk result (λ chosen. chosen.to ≤ length (tells survey.now).frames) }
+    // Whatever the command makes of them.
+    ensures refused { IfErr result (λ fault. (make : Making)
+        → IsInputFault make name.now (D.seen folder.old)
+        (D.seen folder.new) fault) }
+    ensures numbers { IfErr result (λ fault. (refuses : Refusal → Bool)
+        → IsOfInput refuses fault) }
+    ensures reads { OnlyRead result (D.seen folder.old) (D.seen folder.new) }
+{
+    let kept = match kept_fields(folder, name, survey) {
+        Ok(kept) => kept,
+        Err(fault) => return Err(EditFault::of_pass(0, 0, fault)),
+    };
+    Ok(Chosen {
+        from: 0,
+        to: survey.frames().len(),
+        kept,
+    })
+}
+
+impl<'a> Choice<'a> {
+    /// The chosen frames of a surveyed input: `Range` where there is none between the positions, or where the second is after
+    /// the end; `Input(0, ..)` with `Read` and `Shrunk` where the frame of the head could not be read.
+    pub(crate) fn find<D: Folder>(
+        &self,
+        folder: &mut D,
+        name: &str,
+        survey: &Survey,
+    ) -> Result<Chosen, EditFault>
+        requires choice { IsChoice self.now }
+        requires there { IsThere (D.seen folder.old).files name.now }
+        requires laid { IsLaidOut (tells survey.now) }
+        requires few { length (tells survey.now).frames ≤ most_frames }
+        requires surveyed { OnFile (D.seen folder.old) name.now
+            (λ bytes. survey_of bytes most_frames ≡ Ok (tells survey.now)) }
+        ensures chosen { IfOk result (λ chosen. OnFile (D.seen folder.old) name.now
+            (λ bytes. choosing_by self.now bytes (tells survey.now) ≡ Ok (chosen_in chosen))) }
+        ensures some { IfOk result (λ chosen. chosen.from < chosen.to) }
+        ensures within { IfOk result (λ chosen. chosen.to ≤ length (tells survey.now).frames) }
+        // However the frames are planned.
+        ensures refused { IfErr result (λ fault. (plan : Planning)
+            → IsInputFault (laying_with (choosing_by self.now) plan) name.now
+            (D.seen folder.old)
+            (D.seen folder.new) fault) }
+        ensures numbers { IfErr result (IsOfInput (refused_by self.now)) }
+        ensures reads { OnlyRead result (D.seen folder.old) (D.seen folder.new) }
+    {
+        match *self {
+            Choice::Between(from, to) => cut_choice(survey, from, to),
+            Choice::All => all_choice(folder, name, survey),
+        }
+    }
+}

@@ -1,0 +1,59 @@
+//! What a command that lays chosen frames again makes ready, and the pass that writes its file.
+ghost use Rattle.std.specs.Prelude.{IfOk};
+ghost use Rattle.cut_edits.specs.Layable.{work_file, IsLayable, IsWorkOf};
+
+use commands::OutputPass;
+use laying::{Buffers, Relay, Selected};
+use outside::{Folder, Pass, PassFault};
+use std::alloc::{AllocError, Global};
+use sync_survey::Survey;
+
+/// What is known of the input, the chosen frames with their plan, and the memory of the pass.
+#[derive(Drop)]
+pub struct Work {
+    pub survey: Survey,
+    pub selected: Selected,
+    pub buffers: Buffers,
+}
+
+impl Work {
+    /// What is known and planned, with all memory of the pass.
+    ///
+    /// # Errors
+    /// Where there is no memory.
+    pub fn new(alloc: Global, survey: Survey, selected: Selected) -> Result<Work, AllocError>
+        ensures { IfOk result (IsWorkOf survey selected) }
+    {
+        let buffers = Buffers::new(alloc, survey.class())?;
+        Ok(Work {
+            survey,
+            selected,
+            buffers,
+        })
+    }
+}
+
+impl OutputPass for Work {
+    ghost file_of = { λ work. work_file work };
+
+    ghost IsReady = { λ work input files. IsLayable input work files };
+
+    fn append<D: Folder>(
+        &mut self,
+        folder: &mut D,
+        input: &str,
+        output: &str,
+    ) -> Result<(), PassFault> {
+        let Work {
+            survey,
+            selected,
+            buffers,
+        } = self;
+        let pass = Pass {
+            input,
+            output,
+            length: survey.length(),
+        };
+        Relay { pass, survey }.write(folder, selected, buffers)
+    }
+}

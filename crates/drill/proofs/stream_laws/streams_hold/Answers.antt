@@ -1,0 +1,6 @@
+-- The stream is frames alone.
+use Rattle.drill.proofs.DrillLaws.{streams-hold}
+use Rattle.drill.proofs.stream_laws.streams_hold.Goals as goal
+
+pub returns : goal.returns
+returns c = streams-hold

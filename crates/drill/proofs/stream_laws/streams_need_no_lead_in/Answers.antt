@@ -1,0 +1,6 @@
+-- The frames have a layout without one.
+use Rattle.drill.proofs.NoLeadIn.{streams-need_no_lead_in}
+use Rattle.drill.proofs.stream_laws.streams_need_no_lead_in.Goals as goal
+
+pub returns : goal.returns
+returns c = streams-need_no_lead_in

@@ -1,7 +1,0 @@
--- The lemmas of this crate.
-pub mod DrawsLaws
-pub mod DrawnSide
-pub mod MakingLaws
-pub mod BareStream
-pub mod DrillLaws
-pub mod NoLeadIn

@@ -1,6 +1,0 @@
--- The frames have a layout without one.
-use Rattle.drill_stream.proofs.NoLeadIn.{streams-need_no_lead_in}
-use Rattle.drill_stream.proofs.laws.streams_need_no_lead_in.Goals as goal
-
-pub returns : goal.returns
-returns c = streams-need_no_lead_in

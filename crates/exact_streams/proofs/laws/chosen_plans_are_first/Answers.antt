@@ -1,6 +1,0 @@
--- The frames of a surveyed file have one plan.
-use Rattle.exact_streams.proofs.CaseLaws.{plans-first}
-use Rattle.exact_streams.proofs.laws.chosen_plans_are_first.Goals as goal
-
-pub returns : goal.returns
-returns c = plans-first

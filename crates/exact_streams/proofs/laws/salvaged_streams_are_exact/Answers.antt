@@ -1,6 +1,0 @@
--- All frames of a damaged file are one part.
-use Rattle.exact_streams.proofs.SalvageCase.{salvaged-exact}
-use Rattle.exact_streams.proofs.laws.salvaged_streams_are_exact.Goals as goal
-
-pub returns : goal.returns
-returns c = salvaged-exact

@@ -1,9 +1,0 @@
--- The law, by what both fades together make of the file: no step.
-use Rattle.fading.proofs.TakenBack.{back_again, command_back}
-use Rattle.fading.proofs.laws.fade_gives_back.Goals as goal
-
-pub returns-clause-bytes : goal.returns-clause-bytes
-returns-clause-bytes c = back_again
-
-pub returns-clause-command : goal.returns-clause-command
-returns-clause-command c = command_back

@@ -1,8 +1,0 @@
--- A file without a tag has the empty one.
-use Rattle.std.proofs.Common.{sym, ◌∙◌, ap, Ok}
-use Rattle.sync_survey.specs.Faults.{tells}
-use Rattle.file_tag.proofs.ReadingLaws.{file_tag-none}
-use Rattle.file_tag.proofs.reading.read_tag.Goals as goal
-
-pub returns-in-None-clause-exact : goal.returns-in-None-clause-exact
-returns-in-None-clause-exact g c = λ bytes holds. file_tag-none bytes (tells c.args.survey.now) (sym c.first_tag.ensures ∙ c.in-None.is) ∙ ap Ok (sym c.new.ensures)

@@ -1,4 +1,0 @@
--- What the contracts of this crate cite.
-pub mod Places
-pub mod Reading
-pub mod Laws

@@ -1,8 +1,0 @@
--- What the one body asks of the command.
-use Rattle.std.proofs.Common.{true}
-use Rattle.frame_edits.specs.declared.choice.Choice.TheVariants.{All}
-use Rattle.frame_edits.proofs.ChosenLaws.{edit_proper}
-use Rattle.frame_edits.proofs.calls.pack.Goals as goal
-
-pub make_one-requires-clause-proper : goal.make_one-requires-clause-proper
-make_one-requires-clause-proper g c = edit_proper All true c.args.input.now

@@ -1,0 +1,6 @@
+-- What the one body asks of the command.
+use Rattle.gain_edits.proofs.FadeProper.{fade_proper}
+use Rattle.gain_edits.proofs.fade_calls.fade.Goals as goal
+
+pub make_one-requires-clause-proper : goal.make_one-requires-clause-proper
+make_one-requires-clause-proper g c = fade_proper c.args.sheet.now c.args.back c.args.input.now

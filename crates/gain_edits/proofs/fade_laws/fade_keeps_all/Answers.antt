@@ -1,0 +1,6 @@
+-- The law, by that of every change.
+use Rattle.gain_edits.proofs.KeptFade.{fade_kept}
+use Rattle.gain_edits.proofs.fade_laws.fade_keeps_all.Goals as goal
+
+pub returns : goal.returns
+returns c = fade_kept

@@ -1,0 +1,64 @@
+//! The join command over a folder.
+ghost use Rattle.std.specs.Prelude.{◌≡◌, ◌≤◌, [], ◌∷◌, length, map, string_bytes};
+ghost use Rattle.commands.specs.Command.{clash_from};
+ghost use Rattle.commands.specs.Runs.{IsRunOf};
+ghost use Rattle.join_edits.specs.Join.{join_command};
+
+use crate::inputs::name_at;
+use crate::planned::prepare;
+use crate::surveys::survey_all;
+use crate::written::write_joined;
+use commands::EditFault;
+use outside::Folder;
+use std::alloc::Global;
+
+/// The first of these names that is the output's, counted from 0.
+fn clash(output: &str, inputs: &[String]) -> Option<u32>
+    requires { length inputs.now ≤ 64 }
+    ensures { result ≡ clash_from (output.now ∷ []) 0 (map string_bytes inputs.now) }
+{
+    for place in 0..inputs.len() {
+        if name_at(inputs, place) == output {
+            return Some(place as u32);
+        }
+    }
+    None
+}
+
+/// Writes the output, which is all frames of the inputs, 1 to 64 of one class, in their order and with all main data: the
+/// ID3v2 blocks of the first input before its first frame, an Info frame, and the frames in the slots of their plan, each
+/// with its own bit rate and padding (ISO/IEC 11172-3, 2.4.2.7). A lead-in, one silent frame, comes before the frames of each
+/// input whose first frames need more room for their main data than there is. No other block of any input is written.
+///
+/// # Errors
+/// In this order: `EqualNames` with the first input, counted from 0, whose name is the output's, byte for byte;
+/// then for each input in turn `Input` with its number and the fault of its survey, of which as many frames are allowed as
+/// those before leave of 2,900,000, and `Differ` with its number where its version, frequency or channels aren't those of
+/// the first. After these nothing was created. A file may be named twice.
+///
+/// `Input` with `Read` and `Write(0)` come only where a call of that kind failed, `Input` with `Absent` only where that
+/// input isn't there, and every other answer only where none failed. `Input` with `Read` or `Shrunk` may also come while the
+/// output is written; after it, and after `Write(0)`, the output is as it was or holds a prefix of its bytes, and after
+/// `Write(0)` not all of them. `Memory` may come once the first input was found with a length that it may have, before the
+/// output is created, and not from then on.
+pub fn join<D: Folder>(
+    alloc: Global,
+    folder: &mut D,
+    output: &str,
+    inputs: &[String],
+) -> Result<(), EditFault>
+    requires some { 1 ≤ length inputs.now }
+    requires few { length inputs.now ≤ 64 }
+    // The inputs are well-formed, and the output holds the lead-ins and exactly the frames of their streams.
+    ensures { IsRunOf (join_command output.now (map string_bytes inputs.now))
+        (D.seen folder.old)
+        (D.seen folder.new) result }
+{
+    if let Some(place) = clash(output, inputs) {
+        return Err(EditFault::EqualNames(place));
+    }
+    let surveys = survey_all(alloc, folder, inputs)?;
+    let known = surveys.as_slice();
+    let mut work = prepare(alloc, known)?;
+    write_joined(folder, inputs, output, known, &mut work)
+}

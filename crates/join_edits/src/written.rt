@@ -1,0 +1,129 @@
+//! The second pass of a join.
+ghost use Rattle.std.specs.Prelude.{◌≡◌, ◌≤◌, ◌++◌, List, ℕ, [], ◌∷◌, length, map, string_bytes, None, IfErr, OnOk};
+ghost use Rattle.std.specs.List.{concat};
+ghost use Rattle.outside.specs.Files.{Holds, OnlyTouches};
+ghost use Rattle.outside.specs.Counts.{NoneFell};
+ghost use Rattle.outside.specs.Pass.{Appends, AppendsPrefix, route_of, HasPassCause};
+ghost use Rattle.laying.specs.Written.{front_blocks};
+ghost use Rattle.laying.specs.Passing.{IsReady as IsReadyToPass};
+ghost use Rattle.sync_survey.specs.Faults.{tells};
+ghost use Rattle.commands.specs.One.{most_frames, holding, IsPassFault, first_input};
+ghost use Rattle.commands.specs.Command.{clash_from};
+ghost use Rattle.join_edits.specs.Inputs.{IsOfJoin, AreInputs};
+ghost use Rattle.join_edits.specs.Laying.{IsReady, IsJoin, AppendsJoined, joined_of};
+
+use crate::inputs::{known_at, name_at};
+use crate::laid::lay_all;
+use crate::planned::Work;
+use crate::stopped::Stopped;
+use commands::EditFault;
+use laying::{Buffers, Relay};
+use outside::{Folder, Pass, PassFault};
+use sync_survey::Survey;
+
+/// Appends to the output the ID3v2 blocks of an input before its first frame, and an Info frame of these bytes.
+fn append_front<D: Folder>(
+    relay: &Relay<'_>,
+    folder: &mut D,
+    info: &[u8],
+    buffers: &mut Buffers,
+) -> Result<(), PassFault>
+    requires ready { IsReadyToPass relay.now (D.seen folder.old).files buffers.old.feed }
+    requires none { buffers.old.waiting ≡ [] }
+    ensures written { OnOk result (Appends relay.now.pass.input.now relay.now.pass.output.now
+        (λ file. concat (front_blocks file (tells relay.now.survey.now)) ++ info.now)
+        (D.seen folder.old).files (D.seen folder.new).files) }
+    ensures prefix { IfErr result (AppendsPrefix relay.now.pass.input.now relay.now.pass.output.now
+        (λ file. concat (front_blocks file (tells relay.now.survey.now)) ++ info.now)
+        (D.seen folder.old).files (D.seen folder.new).files) }
+    ensures none { OnOk result (buffers.new.waiting ≡ []) }
+    ensures writer { buffers.new.writer ≡ buffers.old.writer }
+    ensures done { OnOk result ((D.seen folder.new).counts ≡ (D.seen folder.old).counts) }
+    ensures cause { IfErr result (HasPassCause (route_of relay.now.pass) (D.seen folder.old).files
+        (D.seen folder.old).counts (D.seen folder.new).counts) }
+{
+    relay.write_front(folder, info, &mut buffers.feed, &mut buffers.waiting)
+}
+
+/// Appends the file of all frames to the output, beginning with the ID3v2 blocks of the first input. It takes no memory.
+///
+/// # Errors
+/// Those of `Relay::write`, with the number of the input. Then a prefix of the file was appended, and with `Write` not all of
+/// it.
+fn append_joined<'a, D: Folder>(
+    first: &Relay<'a>,
+    folder: &mut D,
+    inputs: &'a [String],
+    surveys: &'a [Survey],
+    work: &mut Work,
+) -> Result<(), Stopped>
+    requires few { length inputs.now ≤ 64 }
+    requires join { IsJoin first.now (map string_bytes inputs.now) (map tells surveys.now)
+        (D.seen folder.old).files }
+    requires ready { IsReady (map tells surveys.now) work.old }
+    ensures { AppendsJoined first.now (map string_bytes inputs.now)
+        (joined_of (D.seen folder.old).files (map string_bytes inputs.now) (map tells surveys.now))
+        (D.seen folder.old) (D.seen folder.new) result }
+{
+    let Work {
+        plan,
+        info,
+        buffers,
+    } = work;
+    if let Err(fault) = append_front(first, folder, info.as_slice(), buffers) {
+        return Err(Stopped { place: 0, fault });
+    }
+    lay_all(first, folder, inputs, surveys, plan.placed(), buffers)?;
+    match first.pass.finish(folder, &mut buffers.waiting) {
+        Ok(()) => Ok(()),
+        Err(fault) => Err(Stopped { place: 0, fault }),
+    }
+}
+
+/// Creates the output and writes it. It takes no memory.
+///
+/// # Errors
+/// `Input` with the number of an input and `Read` or `Shrunk`, and `Write(0)`. Then the output is as it was or holds a prefix
+/// of its bytes, and with `Write` not all of them.
+pub(crate) fn write_joined<D: Folder>(
+    folder: &mut D,
+    inputs: &[String],
+    output: &str,
+    surveys: &[Survey],
+    work: &mut Work,
+) -> Result<(), EditFault>
+    requires some { 1 ≤ length inputs.now }
+    requires few { length inputs.now ≤ 64 }
+    requires inputs { AreInputs None most_frames (D.seen folder.old).files
+        (map string_bytes inputs.now) (map tells surveys.now) }
+    requires apart { clash_from (output.now ∷ []) 0 (map string_bytes inputs.now) ≡ None }
+    requires ready { IsReady (map tells surveys.now) work.old }
+    ensures written { OnOk result ((bytes : List ℕ)
+        → Holds (D.seen folder.old).files (first_input (map string_bytes inputs.now)) bytes
+        → (D.seen folder.new).files ≡ holding (D.seen folder.old).files output.now
+        (joined_of (D.seen folder.old).files (map string_bytes inputs.now)
+        (map tells surveys.now) bytes)) }
+    ensures touches { OnlyTouches (output.now ∷ []) (D.seen folder.old).files
+        (D.seen folder.new).files }
+    ensures done { OnOk result ((D.seen folder.new).counts ≡ (D.seen folder.old).counts) }
+    ensures left { IfErr result (IsPassFault (joined_of (D.seen folder.old).files
+        (map string_bytes inputs.now) (map tells surveys.now))
+        (map string_bytes inputs.now) output.now (D.seen folder.old) (D.seen folder.new)) }
+    ensures numbers { IfErr result (IsOfJoin (length inputs.now)) }
+    ensures counts { NoneFell (D.seen folder.old).counts (D.seen folder.new).counts }
+{
+    let survey = known_at(surveys, 0);
+    let pass = Pass {
+        input: name_at(inputs, 0),
+        output,
+        length: survey.length(),
+    };
+    let first = Relay { pass, survey };
+    let Ok(()) = folder.create(output) else {
+        return Err(EditFault::Write(0));
+    };
+    match append_joined(&first, folder, inputs, surveys, work) {
+        Ok(()) => Ok(()),
+        Err(stopped) => Err(EditFault::of_pass(stopped.place, 0, stopped.fault)),
+    }
+}

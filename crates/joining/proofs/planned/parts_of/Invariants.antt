@@ -1,9 +1,0 @@
--- The surveys before are the parts.
-use Rattle.std.proofs.Common.{◌≡◌, map, take}
-use Rattle.sync_survey.specs.Faults.{tells}
-use Rattle.part_needs.specs.Needs.{asked_of}
-use Rattle.joining.specs.Inputs.{rows_of}
-use Rattle.joining.proofs.planned.parts_of.Given as goal
-
-abbrev pub invariant-loop-survey : goal.invariant-loop-survey
-invariant-loop-survey l = l.parts ≡ asked_of (rows_of (map tells (take l.survey-index l.surveys)))

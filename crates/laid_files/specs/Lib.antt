@@ -1,2 +1,0 @@
-pub mod LaidFiles
-pub mod Laws

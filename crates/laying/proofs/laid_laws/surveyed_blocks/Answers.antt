@@ -1,0 +1,6 @@
+-- A block is known by its own bytes.
+use Rattle.laying.proofs.KeptBlocks.{surveyed-blocks}
+use Rattle.laying.proofs.laid_laws.surveyed_blocks.Goals as goal
+
+pub returns : goal.returns
+returns c = surveyed-blocks

@@ -1,0 +1,6 @@
+-- Several parts can be planned.
+use Rattle.laying.proofs.PartsLaws.{parts-fit}
+use Rattle.laying.proofs.needs_laws.parts_fit.Goals as goal
+
+pub returns : goal.returns
+returns c = parts-fit

@@ -1,0 +1,17 @@
+-- What calls of parts answer and leave.
+use Rattle.std.specs.Prelude.{◌≡◌, ◌+◌, List, [], ◌∷◌, ◌++◌, length, Vec, vec_len, vec_capacity, Result, OnOk, OnErr}
+use Rattle.sync_survey.specs.Row.{Row}
+use Rattle.laying.specs.Needs.{Asked, asked_of}
+
+-- A part was added, or there was no memory and all is as it was.
+pub record PushAnswer {E : Type 0} (rows : List Row) (old new : Asked) (result : Result (Unit {0}) E) : Type 0 where
+  pub added : (parts : List (List Row)) → old ≡ asked_of parts → OnOk result (new ≡ asked_of (parts ++ rows ∷ []))
+  pub needs : OnOk result (length new.needs ≡ length old.needs + length rows)
+  pub places : OnOk result (length new.places ≡ length old.places + 1)
+  pub stays : OnErr result (new ≡ old)
+
+-- One item was added, in the room that was there.
+pub record IsPushed {X Z : Type 0} (old new : Vec X Z) (x : X) : Type 0 where
+  pub pushed : new.items ≡ old.items ++ x ∷ []
+  pub len : vec_len new ≡ vec_len old + 1
+  pub capacity : vec_capacity new ≡ vec_capacity old

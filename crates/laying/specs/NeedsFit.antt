@@ -1,0 +1,43 @@
+-- Parts of streams, and that they can be planned.
+use Rattle.std.specs.Prelude.{◌≡◌, ℕ, ◌<◌, ◌≤◌, List, [], ◌∷◌, length, slice_range, All}
+use Rattle.frame_header.specs.Fields.{SlotFields, ClassFields, HeaderFields}
+use Rattle.frame_header.specs.Tables.{window_of}
+use Rattle.frame_header.specs.Slots.{all_slots}
+use Rattle.sync_survey.specs.Row.{Row}
+use Rattle.sync_survey.specs.Faults.{SurveyFields}
+use Rattle.sync_survey.specs.Survey.{AreWellPlaced}
+use Rattle.slot_plan.specs.Parts.{parts_of, window_in, AreOfClass, CanBePlanned}
+use Rattle.slot_plan.specs.Laws.{ChooseInOrder}
+use Rattle.laying.specs.Needs.{Asked}
+
+-- the frames of this survey are of its class, and their main data have no fault (`surveys_are_placed` says so of every well-formed file,
+-- and the clause `laid` of every survey of a folder)
+abbrev pub IsPlaced : SurveyFields → Type 0
+IsPlaced s = AreWellPlaced s.head s.class s.frames
+
+-- frames of a stream of this class, from one on and before another; there is at least one
+pub record IsPartOf (class : ClassFields) (rows : List Row) : Type 0 where
+  pub survey : SurveyFields
+  pub from : ℕ
+  pub to : ℕ
+  pub placed : IsPlaced survey
+  pub same : survey.class ≡ class
+  pub some : from < to
+  pub within : to ≤ length survey.frames
+  pub are : rows ≡ slice_range survey.frames from to
+
+-- a frame keeps its own slot, or may have any
+abbrev pub own_choice : HeaderFields → List SlotFields
+own_choice h = h.slot ∷ []
+
+abbrev pub any_choice : HeaderFields → List SlotFields
+any_choice h = all_slots
+
+-- parts can be planned, all frames are of this class, also part by part, and their choices are in order by either policy
+pub record AreFit (class : ClassFields) (asked : Asked) : Type 0 where
+  pub all : AreOfClass class asked.needs
+  pub each : All (λ part. AreOfClass class part) (parts_of asked.needs asked.places)
+  pub kept : ChooseInOrder own_choice (parts_of asked.needs asked.places)
+  pub least : ChooseInOrder any_choice (parts_of asked.needs asked.places)
+  pub window : window_in asked.needs ≡ window_of class.version
+  pub planned : CanBePlanned asked.needs asked.places

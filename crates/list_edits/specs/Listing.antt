@@ -1,0 +1,113 @@
+-- The list command: a line for each thing of a file, in order of the offsets, and a summary.
+use Rattle.std.specs.Prelude.{◌≡◌, ℕ, ◌*◌, ◌/◌, ◌%◌, Bool, if◌then◌else◌, List, [], ◌∷◌, ◌++◌, length, flat_map, codes, decimal, Option, Some, None, Result, Ok, Err, false}
+use Rattle.frame_header.specs.declared.version.Version.{Version}
+use Rattle.frame_header.specs.declared.version.Version.TheVariants.{One, Two, TwoFive}
+use Rattle.frame_header.specs.Fields.{ClassFields}
+use Rattle.frame_header.specs.Tables.{class_of, rate_of, length_of, frequency_of, samples_of}
+use Rattle.side_info.specs.Side.{payload_bits}
+use Rattle.tag_blocks.specs.declared.block.Kind.{Kind}
+use Rattle.tag_blocks.specs.declared.block.Kind.TheVariants.{Id3v2, Id3v1, Ape}
+use Rattle.sync_survey.specs.Row.{Row}
+use Rattle.sync_survey.specs.declared.survey_fault.SurveyFault.{SurveyFault}
+use Rattle.sync_survey.specs.declared.survey_fault.SurveyFault.TheVariants.{Absent}
+use Rattle.sync_survey.specs.Faults.{SurveyFields}
+use Rattle.sync_survey.specs.Survey.{survey_of}
+use Rattle.commands.specs.declared.fault.EditFault.{EditFault}
+use Rattle.commands.specs.declared.fault.EditFault.TheVariants.{Input}
+use Rattle.list_edits.specs.declared.things.Thing.{Thing}
+use Rattle.list_edits.specs.declared.things.Thing.TheVariants.{Block, Junk, FirstHead, Frame}
+use Rattle.commands.specs.One.{most_frames}
+use Rattle.commands.specs.Command.{Made, Command}
+use Rattle.list_edits.specs.Decimals.{two_digits}
+use Rattle.list_edits.specs.Things.{things_of, in_order}
+
+-- ---- the line of each thing
+
+abbrev pub kind_name : Kind → List ℕ
+kind_name Id3v2 = codes "ID3v2"
+kind_name Id3v1 = codes "ID3v1"
+kind_name Ape = codes "APEv2"
+
+-- where it begins and how long it is, in bytes
+abbrev pub extent : ℕ → ℕ → List ℕ
+extent at size = codes " at " ++ (decimal at ++ (codes ": " ++ (decimal size ++ codes " bytes\n")))
+
+-- a bit rate in kbit/s, behind the offset
+abbrev pub rate_text : ℕ → List ℕ
+rate_text rate = codes ": " ++ (decimal rate ++ codes " kbit/s")
+
+abbrev pub padding_text : Bool → List ℕ
+padding_text padding = if padding then codes " padded" else []
+
+-- the frame is lost: its main data begin before the file
+abbrev pub lost_text : Bool → List ℕ
+lost_text lost = if lost then codes ", lost" else []
+
+-- number and offset of a frame, its bit rate in kbit/s, its main_data_begin in bytes, and how many bits its main data are
+abbrev pub frame_line : ℕ → Row → List ℕ
+frame_line number row =
+    codes "frame " ++ (decimal number ++ (codes " at " ++ (decimal row.offset ++ (codes ": " ++ (decimal (rate_of (class_of row.header) row.header.slot)
+    ++ (codes " kbit/s" ++ (padding_text row.header.slot.padding ++ (codes ", begin " ++ (decimal row.side.main_data_begin ++ (codes ", bits " ++ (decimal (payload_bits row.side)
+    ++ (lost_text row.lost ++ codes "\n"))))))))))))
+
+unfoldable pub line_of : Thing → List ℕ
+line_of (Block piece) = codes "block " ++ (kind_name piece.block.kind ++ extent piece.offset piece.block.length)
+line_of (Junk at size) = codes "junk" ++ extent at size
+line_of (FirstHead at header) = codes "head" ++ extent at (length_of (class_of header) header.slot)
+line_of (Frame number row) = frame_line number row
+
+-- the line of the first of these things, after which the others are left
+pub record IsNextLine (things rest : List Thing) (text : List ℕ) : Type 0 where
+  pub thing : Thing
+  pub first : things ≡ thing ∷ rest
+  pub line : line_of thing ≡ text
+
+-- ---- the summary
+
+abbrev pub version_name : Version → List ℕ
+version_name One = codes "MPEG-1"
+version_name Two = codes "MPEG-2"
+version_name TwoFive = codes "MPEG-2.5"
+
+-- how long `count` frames of this class sound, in hundredths of a second, rounded down
+abbrev pub hundredths : ClassFields → ℕ → ℕ
+hundredths class count = (count * samples_of class.version * 100) / frequency_of class
+
+-- a time in hundredths of a second as minutes, seconds and hundredths, with dots between them
+abbrev pub time_text : ℕ → List ℕ
+time_text time = decimal (time / 6000) ++ (codes "." ++ (two_digits (time / 100 % 60) ++ (codes "." ++ two_digits (time % 100))))
+
+-- how many frames there are, what they share, and how long they sound
+unfoldable pub summary : ClassFields → ℕ → List ℕ
+summary class count =
+    decimal count ++ (codes " frames, " ++ (version_name class.version ++ (codes ", " ++ (decimal (frequency_of class) ++ (codes " Hz, " ++ (decimal class.channels
+    ++ (codes " channels, " ++ (time_text (hundredths class count) ++ codes "\n"))))))))
+
+-- ---- the command
+
+abbrev pub lines_of : List Thing → List ℕ
+lines_of ts = flat_map line_of ts
+
+-- the lines of all things of a file in order of their offsets, and the summary
+unfoldable pub listing : SurveyFields → List ℕ
+listing s = lines_of (in_order (things_of s)) ++ summary s.class (length s.frames)
+
+abbrev pub listed_by : Result SurveyFields SurveyFault → Result Made EditFault
+listed_by (Err fault) = Err (Input 0 fault)
+listed_by (Ok s) = Ok (record { outputs = []; text = listing s })
+
+abbrev pub listed_where : Option (List ℕ) → Result Made EditFault
+listed_where None = Err (Input 0 Absent)
+listed_where (Some file) = listed_by (survey_of file most_frames)
+
+-- nothing is written to the folder, and the text is that of the input
+abbrev pub list_command : List ℕ → Command
+list_command input = record {
+  inputs = input ∷ [];
+  outputs = [];
+  sources = input ∷ [];
+  always = None;
+  makes = λ files. listed_where (files input);
+  streams = λ files. [];
+  refuses = λ refusal. false;
+}

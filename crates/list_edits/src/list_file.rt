@@ -1,0 +1,113 @@
+//! The list command over a folder.
+ghost use Rattle.std.specs.Prelude.{◌≡◌, [], OnOk, OnErr, IfErr};
+ghost use Rattle.outside.specs.Files.{sent_more};
+ghost use Rattle.outside.specs.Passed.{SentPrefix};
+ghost use Rattle.outside.specs.Counts.{HasCause, OnlyReads};
+ghost use Rattle.sync_survey.specs.Faults.{tells};
+ghost use Rattle.sync_survey.specs.Survey.{IsLaidOut};
+ghost use Rattle.commands.specs.Command.{HoldsStreams};
+ghost use Rattle.commands.specs.Left.{IsDone, Leaves, HasNumbers};
+ghost use Rattle.list_edits.specs.Listing.{listing, list_command};
+ghost use Rattle.commands.specs.Said.{Says, fault_of};
+
+use crate::line::Line;
+use crate::lines::{Common, set_next_line, set_summary};
+use crate::things::Things;
+use commands::{EditFault, MOST_FRAMES, survey_at};
+use outside::{Failed, Folder, SendBuffer, Sink};
+use std::alloc::Global;
+use sync_survey::Survey;
+
+/// Sends the lines of the file and its summary. It takes no memory.
+///
+/// # Errors
+/// Where a write failed. Then a prefix of the text was sent.
+fn send_listing<T: Sink>(survey: &Survey, mut buffer: SendBuffer, out: &mut T) -> Result<(), Failed>
+    requires laid { IsLaidOut (tells survey.now) }
+    requires empty { buffer ≡ [] }
+    ensures sent { OnOk result ((T.heard out.new).sent ≡ sent_more (T.heard out.old).sent
+        (listing (tells survey.now))) }
+    ensures prefix { OnErr result (SentPrefix (listing (tells survey.now)) (T.heard out.old).sent
+        (T.heard out.new).sent) }
+    ensures cause { HasCause (T.heard out.old).faults (T.heard out.new).faults result }
+{
+    let mut line = Line::new();
+    let mut common = Common::new();
+    let mut things = Things::of(survey);
+    while set_next_line(&mut line, &mut common, &mut things) {
+        buffer.push(out, line.bytes())?;
+    }
+    let count = survey.frames().len() as u64;
+    set_summary(&mut line, survey.class(), count);
+    buffer.push(out, line.bytes())?;
+    buffer.finish(out)
+}
+
+/// The last step of the command: sends the lines of the file and its summary. All memory was taken before.
+///
+/// # Errors
+/// `Sent` where a write failed. Then a prefix of the text was sent.
+fn tell<T: Sink>(survey: &Survey, buffer: SendBuffer, out: &mut T) -> Result<(), EditFault>
+    requires laid { IsLaidOut (tells survey.now) }
+    requires empty { buffer ≡ [] }
+    ensures sent { OnOk result ((T.heard out.new).sent ≡ sent_more (T.heard out.old).sent
+        (listing (tells survey.now))) }
+    ensures prefix { OnErr result (SentPrefix (listing (tells survey.now)) (T.heard out.old).sent
+        (T.heard out.new).sent) }
+    ensures cause { HasCause (T.heard out.old).faults (T.heard out.new).faults result }
+    ensures fault { IfErr result (λ fault. fault ≡ EditFault.Sent) }
+{
+    match send_listing(survey, buffer, out) {
+        Ok(()) => Ok(()),
+        Err(Failed) => Err(EditFault::Sent),
+    }
+}
+
+/// Sends what is in the file to `out`: a line for each thing in order of the offsets, and a summary. Nothing
+/// is written to the folder.
+///
+/// | thing | line |
+/// |---|---|
+/// | tag | `block KIND at O: L bytes`, KIND is `ID3v2`, `ID3v1` or `APEv2` |
+/// | junk before the first frame | `junk at O: L bytes` |
+/// | Xing or Info head | `head at O: L bytes` |
+/// | frame | `frame I at O: R kbit/s, begin B, bits P`, with ` padded` after `kbit/s` where padding is set, and with `, lost` at its end where it is lost |
+/// | summary | `N frames, V, F Hz, C channels, M.SS.HH` |
+///
+/// O is an offset and L a length in bytes, I the number of the frame, counted from 0 without the head, R its bit
+/// rate, B its main_data_begin in bytes, P how many bits its main data are; it is lost where they begin before the
+/// file, in frames that were cut off. F is the sampling frequency in Hz, V is `MPEG-1`, `MPEG-2` or `MPEG-2.5`, and
+/// M.SS.HH are minutes, seconds and hundredths, rounded down.
+///
+/// # Errors
+/// `Input(0, ..)` with the fault of the survey of the input, of which 2,900,000 frames are allowed; `Memory` may
+/// come once the input was found with a length that it may have. After these nothing was sent: all memory is
+/// taken before the first byte. `Sent` only where a write to `out` failed; then it got a prefix of the text.
+pub fn list<D: Folder, T: Sink>(
+    alloc: Global,
+    folder: &mut D,
+    input: &str,
+    out: &mut T,
+) -> Result<(), EditFault>
+    ensures done { OnOk result (IsDone (list_command input.now)
+        (D.seen folder.old)
+        (D.seen folder.new)) }
+    ensures left { IfErr result (Leaves (list_command input.now)
+        (D.seen folder.old)
+        (D.seen folder.new)) }
+    // The text, of which a prefix was sent where a write failed.
+    ensures says { Says (list_command input.now) (D.seen folder.old).files
+        (T.heard out.old) (T.heard out.new)
+        (fault_of result) }
+    // Over a folder that tells nothing too.
+    ensures numbers { IfErr result (HasNumbers (list_command input.now)) }
+    // The input is well-formed.
+    ensures streams { OnOk result (HoldsStreams (list_command input.now)
+        (D.seen folder.old).files) }
+    ensures files { (D.seen folder.new).files ≡ (D.seen folder.old).files }
+    ensures counts { OnlyReads (D.seen folder.old).counts (D.seen folder.new).counts }
+{
+    let survey = survey_at(alloc, folder, input, 0, MOST_FRAMES)?;
+    let buffer = SendBuffer::new(alloc)?;
+    tell(&survey, buffer, out)
+}

@@ -1,7 +1,0 @@
--- Nothing is after the end.
-use Rattle.std.proofs.Common.{arith}
-use Rattle.std.proofs.lemmas.List.{drop_all}
-use Rattle.listing.proofs.line.Line.clear.Goals as goal
-
-pub returns : goal.returns
-returns c = drop_all 192 c.self.inside.room (omega arith)

@@ -1,7 +1,0 @@
--- The two digits stand in the table.
-use Rattle.std.proofs.Common.{refl}
-use Rattle.listing.proofs.PairsLaws.{pair_at}
-use Rattle.listing.proofs.line.pair.Goals as goal
-
-pub returns : goal.returns
-returns c = let p = pair_at c.args.number c.requires in rw (p.0, p.1) refl

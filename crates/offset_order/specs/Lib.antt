@@ -1,3 +1,0 @@
--- What the definitions of other crates cite.
-pub mod Merge
-pub mod Order

@@ -1,0 +1,6 @@
+-- Files of the same frames differ in the lengths of their slots alone.
+use Rattle.pack_edits.proofs.PackedLengths.{bytes-fewest}
+use Rattle.pack_edits.proofs.laws.fewest_bytes.Goals as goal
+
+pub returns : goal.returns
+returns c = bytes-fewest

@@ -1,0 +1,33 @@
+-- What holds of packing with the slots of some bit rates, and in the fewest bytes, whatever the code.
+use Rattle.std.specs.Prelude.{◌≡◌, ℕ, ◌≤◌, List, length, Some, Ok, Err}
+use Rattle.outside.specs.Files.{Contents}
+use Rattle.commands.specs.declared.fault.EditFault.TheVariants.{Refused}
+use Rattle.commands.specs.declared.fault.Refusal.TheVariants.{Unfit}
+use Rattle.commands.specs.One.{made_file, made_result}
+use Rattle.requests.specs.declared.mode.PackMode.TheVariants.{Least, Best, Floor}
+use Rattle.cut_edits.specs.Chosen.{laying_with, all_choice}
+use Rattle.pack_edits.specs.Modes.{plan_by, pack_task}
+use Rattle.pack_edits.specs.Fewest.{IsFewest}
+
+-- where all bit rates from one on are allowed, no file is refused with `Unfit`
+abbrev pub FloorsFit : Type 0
+FloorsFit =
+    (rate i : ℕ) (file : List ℕ)
+    → made_file (laying_with all_choice (plan_by (Floor rate))) file ≡ Err (Refused (Unfit i)) → ⊥
+
+-- Where `pack --best` writes a file, `pack` writes one of the same input, and that of `pack --best`
+-- is at most as long.
+abbrev pub NeverLonger : Type 0
+NeverLonger =
+    (input output : List ℕ) (files : Contents) (best : List ℕ)
+    → made_result (pack_task Best input) output files ≡ Ok best
+    → (plain : List ℕ) × (made_result (pack_task Least input) output files ≡ Ok plain)
+    × (length best ≤ length plain)
+
+-- What `pack --best` writes has the fewest bytes of all files of the frames of its input, in
+-- whatever slots their main data have room.
+abbrev pub FewestBytes : Type 0
+FewestBytes =
+    (input output : List ℕ) (files : Contents) (best : List ℕ)
+    → made_result (pack_task Best input) output files ≡ Ok best
+    → (file : List ℕ) × (files input ≡ Some file) × IsFewest file best

@@ -1,0 +1,125 @@
+//! The plan of all frames of a file by a mode, and the Info frame before them.
+ghost use Rattle.std.specs.Prelude.{◌≡◌, ◌≤◌, length, None, Ok, IfOk, IfErr, MatchResult};
+ghost use Rattle.frame_header.specs.Tables.{window_of};
+ghost use Rattle.slot_plan.specs.Parts.{AreOfClass};
+ghost use Rattle.slot_plan.specs.Plans.{entries};
+ghost use Rattle.rate_plan.specs.LeastMenuPlan.{least_menu_plan, IsMenuFault};
+ghost use Rattle.sync_survey.specs.Faults.{tells};
+ghost use Rattle.commands.specs.One.{most_frames};
+ghost use Rattle.cut_edits.specs.Chosen.{chosen_in, needs_of, laid_as, AreThere};
+ghost use Rattle.laying.specs.Laid.{laid_in, IsWritable};
+ghost use Rattle.pack_edits.specs.Answers.{IsPlanFault};
+ghost use Rattle.pack_edits.specs.Rates.{no_rate as no_rate_lem, of_rate as of_rate_lem, menu_in};
+ghost use Rattle.pack_edits.specs.Modes.{allowed_by, plan_by as plan_by_lem, refuses_by};
+
+use crate::menu::menu_of;
+use best_plan::best;
+use commands::{EditFault, Refusal};
+use cut_edits::{Chosen, chosen_parts};
+use frame_header::Class;
+use laying::Selected;
+use rate_plan::{RateFault, rate_plan};
+use requests::PackMode;
+use slot_plan::{Least, Need, Plan, plan};
+use std::alloc::Global;
+use sync_survey::Survey;
+
+/// `NoRate` where the mode names a bit rate, in kbit/s, that no slot of the class has.
+fn no_rate(mode: PackMode, class: Class) -> Option<Refusal>
+    ensures { result ≡ no_rate_lem mode class }
+{
+    let rate = match mode {
+        PackMode::Least | PackMode::Best => return None,
+        PackMode::Constant(rate) | PackMode::Floor(rate) => rate,
+    };
+    if menu_of(PackMode::Constant(rate), class).is_empty() {
+        Some(Refusal::NoRate(rate))
+    } else {
+        None
+    }
+}
+
+/// A fault of the planner as one of a command.
+fn of_rate(fault: RateFault) -> EditFault
+    ensures { result ≡ of_rate_lem fault }
+{
+    match fault {
+        RateFault::Unfit(i) => EditFault::Refused(Refusal::Unfit(i)),
+        RateFault::Memory => EditFault::Memory,
+    }
+}
+
+/// The plan of frames with slots whose bit rates the mode allows: `Unfit` with the first frame up to which the main data have no
+/// room; `Memory`.
+fn plan_menu(alloc: Global, class: Class, needs: &[Need], mode: PackMode) -> Result<Plan, RateFault>
+    requires class { AreOfClass class needs.now }
+    requires some { 1 ≤ length needs.now }
+    requires few { length needs.now ≤ most_frames }
+    requires named { no_rate_lem mode class ≡ None }
+    ensures { MatchResult result
+        (λ plan. least_menu_plan (window_of class.version) (menu_in mode class) needs.now
+        ≡ Ok (entries plan))
+        (IsMenuFault (least_menu_plan (window_of class.version) (menu_in mode class) needs.now)) }
+{
+    let menu = menu_of(mode, class);
+    rate_plan(alloc, needs, menu.as_slice())
+}
+
+/// The plan of chosen frames by a mode.
+fn plan_by(
+    alloc: Global,
+    survey: &Survey,
+    chosen: &Chosen,
+    mode: PackMode,
+) -> Result<Plan, EditFault>
+    requires { AreThere (allowed_by mode) (chosen_in chosen.now) (tells survey.now) }
+    ensures { MatchResult result
+        (λ plan. plan_by_lem mode (tells survey.now).class
+        (needs_of (chosen_in chosen.now) (tells survey.now)) ≡ Ok (entries plan))
+        (IsPlanFault (plan_by_lem mode) (refuses_by mode) (tells survey.now).class
+        (needs_of (chosen_in chosen.now) (tells survey.now))) }
+{
+    let class = survey.class();
+    if let Some(refusal) = no_rate(mode, class) {
+        return Err(refusal.into());
+    }
+    let parts = chosen_parts(alloc, survey, chosen)?;
+    let needs = parts.needs();
+    match mode {
+        PackMode::Least => {
+            let plan = plan(alloc, needs, parts.places(), &Least)?;
+            Ok(plan)
+        }
+        PackMode::Best => {
+            let shortest = best(alloc, needs, &Least)?;
+            Ok(shortest)
+        }
+        PackMode::Constant(_) | PackMode::Floor(_) => {
+            match plan_menu(alloc, class, needs, mode) {
+                Ok(plan) => Ok(plan),
+                Err(fault) => Err(of_rate(fault)),
+            }
+        }
+    }
+}
+
+/// Chosen frames with their plan by a mode, and their Info frame.
+///
+/// # Errors
+/// `NoRate` where the mode names what isn't a bit rate of the class, and `Unfit` where the frames don't fit; `Memory`.
+pub(crate) fn plan_packed(
+    alloc: Global,
+    survey: &Survey,
+    chosen: &Chosen,
+    mode: PackMode,
+) -> Result<Selected, EditFault>
+    requires { AreThere (allowed_by mode) (chosen_in chosen.now) (tells survey.now) }
+    ensures laid { IfOk result (λ l. laid_as (plan_by_lem mode) (tells survey.now)
+        (chosen_in chosen.now) ≡ Ok (laid_in l)) }
+    ensures writable { IfOk result (IsWritable (tells survey.now)) }
+    ensures refused { IfErr result (IsPlanFault (plan_by_lem mode) (refuses_by mode)
+        (tells survey.now).class (needs_of (chosen_in chosen.now) (tells survey.now))) }
+{
+    let plan = plan_by(alloc, survey, chosen, mode)?;
+    Ok(Selected::new(survey, chosen.from, chosen.to, chosen.kept, plan))
+}

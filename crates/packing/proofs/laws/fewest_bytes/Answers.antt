@@ -1,6 +1,0 @@
--- Files of the same frames differ in the lengths of their slots alone.
-use Rattle.packing.proofs.PackedLengths.{bytes-fewest}
-use Rattle.packing.proofs.laws.fewest_bytes.Goals as goal
-
-pub returns : goal.returns
-returns c = bytes-fewest

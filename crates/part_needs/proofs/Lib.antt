@@ -1,3 +1,0 @@
-pub mod BeginLaws
-pub mod FitLaws
-pub mod PartsLaws

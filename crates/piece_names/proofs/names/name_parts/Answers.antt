@@ -1,8 +1,0 @@
--- The prefix, the digits and the ending.
-use Rattle.std.proofs.Common.{refl, append-nil}
-use Rattle.piece_names.specs.Names.{piece_name}
-use Rattle.piece_names.proofs.names.name_parts.Goals as goal
-
-pub returns : goal.returns
-unfolding piece_name
-returns c = simp append-nil (rw (c.digit.ensures, c.digit-2.ensures) refl)

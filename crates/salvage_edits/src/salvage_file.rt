@@ -1,0 +1,101 @@
+//! The salvage command over a folder.
+ghost use Rattle.std.specs.Prelude.{◌≡◌, ◌↔◌, ℕ, None, Some, IfErr, OnOk, IsErrOf};
+ghost use Rattle.outside.specs.Counts.{NoneFell};
+ghost use Rattle.commands.specs.Command.{HoldsStreams, clash_of};
+ghost use Rattle.commands.specs.Left.{IsDone, Leaves, HasNumbers};
+ghost use Rattle.commands.specs.Runs.{IsRunOf};
+ghost use Rattle.commands.specs.Said.{Says, fault_of};
+ghost use Rattle.salvage_edits.specs.Ready.{IsReady};
+ghost use Rattle.salvage_edits.specs.Salvaged.{salvage_command};
+
+use crate::prepared::prepare;
+use crate::report::send_report;
+use crate::work::Work;
+use commands::{EditFault, Inputs, write_output};
+use outside::{Failed, Folder, Sink};
+use std::alloc::Global;
+
+/// Writes the output, and then sends to `out` what is missing. No name of the command clashes, and all is ready.
+///
+/// # Errors
+/// Those of `salvage` from the first byte on that is written.
+fn write_and_tell<D: Folder, T: Sink>(
+    folder: &mut D,
+    input: &str,
+    output: &str,
+    work: &mut Work,
+    out: &mut T,
+) -> Result<(), EditFault>
+    requires free { clash_of (salvage_command input.now output.now) ≡ None }
+    requires ready { IsReady input.now (D.seen folder.old).files work.old }
+    ensures run { IsRunOf (salvage_command input.now output.now)
+        (D.seen folder.old)
+        (D.seen folder.new) result }
+    ensures says { Says (salvage_command input.now output.now) (D.seen folder.old).files
+        (T.heard out.old) (T.heard out.new)
+        (fault_of result) }
+{
+    let count = work.laid.survey.frames().len() as u64;
+    write_output(folder, input, output, &mut work.laid)?;
+    match send_report(&work.report, count, &mut work.sending, out) {
+        Ok(()) => Ok(()),
+        Err(Failed) => Err(EditFault::Sent),
+    }
+}
+
+/// Reads what can be read of a damaged file (`salvage::read_damaged`), writes what is left to the output, and then sends to
+/// `out` what is missing. The output is laid as a cut lays it: the ID3v2 blocks before the first frame, an Info frame whose
+/// extension is all 0, a lead-in where the first frames need one, all frames with their own bit rates and padding, and all
+/// other blocks that were read. A frame whose main data are missing, overlap others or don't fit becomes an empty one, and all
+/// others are as they were.
+///
+/// | line | what it is about |
+/// |---|---|
+/// | `gap at O: L bytes` | L bytes from offset O on that were not read |
+/// | `empty frame I at O` | frame I, counted from 0 without the head, at offset O, that became an empty one |
+/// | `N frames, G gaps, E empty` | how many there are; the last line |
+///
+/// The others are in order of their offsets.
+///
+/// # Errors
+/// In this order: `EqualNames(0)` where the output has the input's name, byte for byte; `Input(0, ..)` with the
+/// fault of the reading; `Memory`. After these nothing was created and nothing sent. `Input(0, ..)` with `Read` or `Shrunk`,
+/// and `Write(0)`, where a call failed, or the input became shorter, while the output was written; then it is as it was or
+/// holds a prefix of its bytes, with `Write(0)` not all of them, and nothing was sent. `Sent` where a write to `out` failed;
+/// then the output is whole, and `out` got a prefix of the text.
+pub fn salvage<D: Folder, T: Sink>(
+    alloc: Global,
+    folder: &mut D,
+    input: &str,
+    output: &str,
+    out: &mut T,
+) -> Result<(), EditFault>
+    ensures done { OnOk result (IsDone (salvage_command input.now output.now)
+        (D.seen folder.old)
+        (D.seen folder.new)) }
+    ensures left { IfErr result (Leaves (salvage_command input.now output.now)
+        (D.seen folder.old)
+        (D.seen folder.new)) }
+    // The text, of which a prefix was sent where a write failed.
+    ensures says { Says (salvage_command input.now output.now) (D.seen folder.old).files
+        (T.heard out.old) (T.heard out.new)
+        (fault_of result) }
+    // Over a folder that tells nothing too.
+    ensures numbers { IfErr result (HasNumbers (salvage_command input.now output.now)) }
+    ensures names { (place : ℕ) → IsErrOf result (EditFault.EqualNames place)
+        ↔ (clash_of (salvage_command input.now output.now) ≡ Some place) }
+    // The output is well-formed, and holds what is left of the input, after at most one lead-in.
+    ensures streams { OnOk result (HoldsStreams (salvage_command input.now output.now)
+        (D.seen folder.old).files) }
+    ensures counts { NoneFell (D.seen folder.old).counts (D.seen folder.new).counts }
+{
+    let inputs = Inputs {
+        source: input,
+        sheet: None,
+    };
+    if let Some(place) = inputs.clash(output) {
+        return Err(EditFault::EqualNames(place));
+    }
+    let mut work = prepare(alloc, folder, input)?;
+    write_and_tell(folder, input, output, &mut work, out)
+}

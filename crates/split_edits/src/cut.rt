@@ -1,0 +1,110 @@
+//! What the commands that split a file differ in.
+ghost use Rattle.std.specs.Prelude.{◌≡◌, ◌⊎◌, ◌≤◌, List, ℕ, Option, length, option_copied, option_to_list, Ok, Err, IfOk, IfErr, OnOk, MatchResult};
+ghost use Rattle.outside.specs.Files.{IsThere};
+ghost use Rattle.outside.specs.Seen.{OnFile, OnlyRead};
+ghost use Rattle.info_header.specs.declared.fields.Info.{Info as InfoFields};
+ghost use Rattle.sync_survey.specs.Faults.{tells, SurveyFields};
+ghost use Rattle.sync_survey.specs.Survey.{survey_of, IsLaidOut};
+ghost use Rattle.laying.specs.Laid.{laid_in, IsWritable};
+ghost use Rattle.commands.specs.Left.{IsRefusal};
+ghost use Rattle.commands.specs.One.{most_frames};
+ghost use Rattle.split_edits.specs.Cutting.{Cutting, ArePlaces};
+ghost use Rattle.split_edits.specs.Steps.{Says, IsPlacesFault, IsOfPlaces, IsHeadFault, IsOfHead, IsSource};
+
+use crate::source::Source;
+use commands::EditFault;
+use laying::Selected;
+use outside::Folder;
+use std::alloc::Global;
+use sync_survey::Survey;
+
+/// Where a file is cut, and what is laid between two of these places.
+pub(crate) trait Cut {
+    /// A place at which a file is cut.
+    type Place: Drop;
+
+    /// At which places it is cut, and what is laid between two of them.
+    ghost cutting: { Self → Cutting Self.Place };
+
+    /// What is asked of it.
+    ghost IsLegal: { Self → Type 0 };
+
+    /// What is asked of a place.
+    ghost IsSound: { Self.Place → Type 0 };
+
+    /// What is read of the head of a file with this survey.
+    ghost head: { List ℕ → SurveyFields → Option InfoFields };
+
+    /// The name of the cue sheet that says the places, if they aren't given.
+    fn sheet(&self) -> Option<&str>
+        ensures { option_to_list (option_copied result) ≡ (cutting self.now).more };
+
+    /// The places: those that are given, or the starts in a cue sheet and the end. The files stay.
+    ///
+    /// # Errors
+    /// Those of `sheet_places`; `Memory`.
+    fn places<D: Folder>(
+        &self,
+        alloc: Global,
+        folder: &mut D,
+    ) -> Result<Vec<Self::Place>, EditFault>
+        requires { IsLegal self.now }
+        ensures places { IfOk result (λ places. Says (cutting self.now) (D.seen folder.old).files
+            (Ok places.items)) }
+        ensures sound { IfOk result (λ places. ArePlaces IsSound places.items) }
+        ensures refused { IfErr result (IsPlacesFault (cutting self.now)
+            (D.seen folder.old)
+            (D.seen folder.new)) }
+        ensures numbers { IfErr result (IsOfPlaces (cutting self.now)) }
+        ensures reads { OnlyRead result (D.seen folder.old) (D.seen folder.new) };
+
+    /// What pieces need of a surveyed input. The files stay.
+    ///
+    /// # Errors
+    /// `Input(0, ..)` with `Read` and `Shrunk` where the frame of the head could not be read.
+    fn read<D: Folder>(
+        &self,
+        folder: &mut D,
+        input: &str,
+        survey: Survey,
+    ) -> Result<Source, EditFault>
+        requires there { IsThere (D.seen folder.old).files input.now }
+        requires laid { IsLaidOut (tells survey) }
+        requires few { length (tells survey).frames ≤ most_frames }
+        requires surveyed { OnFile (D.seen folder.old) input.now
+            (λ bytes. survey_of bytes most_frames ≡ Ok (tells survey)) }
+        ensures source { IfOk result (λ source. OnFile (D.seen folder.old) input.now
+            (λ bytes. IsSource (cutting self.now) head source bytes (tells survey))) }
+        ensures survey { IfOk result (λ source. tells source.survey
+            ≡ (cutting self.now).survey (tells survey)) }
+        ensures laid { IfOk result (λ source. IsLaidOut (tells source.survey)) }
+        ensures few { IfOk result (λ source. length (tells source.survey).frames ≤ most_frames) }
+        ensures refused { IfErr result (IsHeadFault input.now
+            (D.seen folder.old)
+            (D.seen folder.new)) }
+        ensures numbers { IfErr result IsOfHead }
+        ensures reads { OnlyRead result (D.seen folder.old) (D.seen folder.new) };
+
+    /// What is laid from one place of the input to another: refused where there is nothing between them, or where the second
+    /// is after the end; `Memory`.
+    fn select(
+        &self,
+        alloc: Global,
+        source: &Source,
+        from: &Self::Place,
+        to: &Self::Place,
+    ) -> Result<Selected, EditFault>
+        requires from { IsSound from.now }
+        requires to { IsSound to.now }
+        requires laid { IsLaidOut (tells source.now.survey) }
+        requires few { length (tells source.now.survey).frames ≤ most_frames }
+        ensures laid { MatchResult result
+            (λ selected. (file : List ℕ) (s : SurveyFields)
+            → IsSource (cutting self.now) head source.now file s
+            → (cutting self.now).between from.now to.now file s ≡ Ok (laid_in selected))
+            (λ fault. (fault ≡ EditFault.Memory) ⊎ (IsRefusal (cutting self.now).refuses fault
+            × ((file : List ℕ) (s : SurveyFields)
+            → IsSource (cutting self.now) head source.now file s
+            → (cutting self.now).between from.now to.now file s ≡ Err fault))) }
+        ensures writable { IfOk result (IsWritable (tells source.now.survey)) };
+}

@@ -1,0 +1,131 @@
+//! Files that are cut at places of samples.
+ghost use Rattle.std.specs.Prelude.{◌≡◌, map, Ok, IfOk, IfErr};
+ghost use Rattle.outside.specs.Files.{IsThere};
+ghost use Rattle.outside.specs.Seen.{OnFile, OnlyRead};
+ghost use Rattle.exact_span.specs.declared.exact_place.ExactPlace.TheVariants.{Place as Position};
+ghost use Rattle.exact_span.specs.Places.{IsExactPlace};
+ghost use Rattle.laying.specs.KeptFields.{fields_of_head};
+ghost use Rattle.sync_survey.specs.Faults.{tells};
+ghost use Rattle.sync_survey.specs.Survey.{survey_of, IsLaidOut};
+ghost use Rattle.commands.specs.One.{most_frames};
+ghost use Rattle.split_edits.specs.Split.{exact_cutting_of, AreExactPoints};
+ghost use Rattle.split_edits.specs.Steps.{IsHeadFault, IsOfHead};
+
+use crate::cut::Cut;
+use crate::sheet::sheet_places;
+use crate::source::Source;
+use commands::EditFault;
+use cue_sheet::Place;
+use cut_edits::{find_span, select_piece, set_apart};
+use exact_span::ExactPlace;
+use info_header::Info;
+use laying::{Selected, head_fields};
+use outside::Folder;
+use std::alloc::{AllocError, Global};
+use sync_survey::Survey;
+
+/// Where a file is cut, to a sample.
+#[derive(Clone, Copy)]
+pub enum ExactPoints<'a> {
+    /// At these places, 2 to 100: each but the last is where a piece begins, and the last where the last piece ends.
+    Places(&'a [ExactPlace]),
+    /// At the start of each track in the cue sheet of this name, and at the end.
+    Sheet(&'a str),
+}
+
+/// Positions as places of samples.
+fn exact_places(alloc: Global, positions: &[Place]) -> Result<Vec<ExactPlace>, AllocError>
+    ensures { IfOk result (λ places. places.items ≡ map Position positions.now) }
+{
+    let mut places = Vec::new(alloc);
+    for position in positions {
+        places.push(ExactPlace::Place(*position))?;
+    }
+    Ok(places)
+}
+
+/// The fields of the head of the input, if it has one. The files stay.
+///
+/// # Errors
+/// `Input(0, ..)` with `Read` and `Shrunk` where the frame of the head could not be read.
+fn read_head<D: Folder>(
+    folder: &mut D,
+    input: &str,
+    survey: &Survey,
+) -> Result<Option<Info>, EditFault>
+    requires there { IsThere (D.seen folder.old).files input.now }
+    requires laid { IsLaidOut (tells survey.now) }
+    requires surveyed { OnFile (D.seen folder.old) input.now
+        (λ bytes. survey_of bytes most_frames ≡ Ok (tells survey.now)) }
+    ensures head { IfOk result (λ head. OnFile (D.seen folder.old) input.now
+        (λ bytes. head ≡ fields_of_head bytes (tells survey.now).head)) }
+    ensures refused { IfErr result (IsHeadFault input.now
+        (D.seen folder.old)
+        (D.seen folder.new)) }
+    ensures numbers { IfErr result IsOfHead }
+    ensures reads { OnlyRead result (D.seen folder.old) (D.seen folder.new) }
+{
+    match head_fields(folder, input, survey) {
+        Ok(head) => Ok(head),
+        Err(fault) => Err(EditFault::of_pass(0, 0, fault)),
+    }
+}
+
+impl<'a> Cut for ExactPoints<'a> {
+    type Place = ExactPlace;
+
+    ghost cutting = { λ points. exact_cutting_of points };
+
+    ghost IsLegal = { λ points. AreExactPoints points };
+
+    ghost IsSound = { λ place. IsExactPlace place };
+
+    ghost head = { λ file s. fields_of_head file s.head };
+
+    fn sheet(&self) -> Option<&str> {
+        match *self {
+            ExactPoints::Places(_) => None,
+            ExactPoints::Sheet(sheet) => Some(sheet),
+        }
+    }
+
+    fn places<D: Folder>(
+        &self,
+        alloc: Global,
+        folder: &mut D,
+    ) -> Result<Vec<ExactPlace>, EditFault> {
+        match *self {
+            ExactPoints::Places(places) => Ok(places.to_vec(alloc)?),
+            ExactPoints::Sheet(sheet) => {
+                let positions = sheet_places(alloc, folder, sheet)?;
+                let places = exact_places(alloc, positions.as_slice())?;
+                Ok(places)
+            }
+        }
+    }
+
+    fn read<D: Folder>(
+        &self,
+        folder: &mut D,
+        input: &str,
+        survey: Survey,
+    ) -> Result<Source, EditFault> {
+        let head = read_head(folder, input, &survey)?;
+        let mut survey = survey;
+        set_apart(&mut survey);
+        Ok(Source { survey, head })
+    }
+
+    fn select(
+        &self,
+        alloc: Global,
+        source: &Source,
+        from: &ExactPlace,
+        to: &ExactPlace,
+    ) -> Result<Selected, EditFault> {
+        let head = source.head.as_ref();
+        let span = find_span(&source.survey, head, from, to)?;
+        let selected = select_piece(alloc, &source.survey, head, &span)?;
+        Ok(selected)
+    }
+}

@@ -1,0 +1,94 @@
+//! Pieces that are ready to be written.
+ghost use Rattle.std.specs.Prelude.{◌≡◌, ◌⊎◌, ◌+◌, ◌≤◌, List, ℕ, length, map, Ok, Err, IfOk, MatchResult, string_bytes};
+ghost use Rattle.sync_survey.specs.Faults.{tells, SurveyFields};
+ghost use Rattle.sync_survey.specs.Survey.{IsLaidOut};
+ghost use Rattle.laying.specs.Laid.{IsWritable};
+ghost use Rattle.commands.specs.One.{most_frames};
+ghost use Rattle.commands.specs.Left.{IsRefusal};
+ghost use Rattle.requests.specs.Names.{piece_name as piece_name_lem};
+ghost use Rattle.split_edits.specs.Cutting.{laid_at, ArePlaces};
+ghost use Rattle.split_edits.specs.Steps.{IsSource, ArePieces, laid_of};
+
+use crate::cut::Cut;
+use crate::source::Source;
+use commands::EditFault;
+use laying::Selected;
+use requests::piece_name;
+use std::alloc::Global;
+
+/// A piece that is to be written: its name, and its frames with their plan.
+#[derive(Drop)]
+pub(crate) struct Piece {
+    pub name: String,
+    pub selected: Selected,
+}
+
+/// The piece with this number, from one place of the input to another: refused as `Cut::select` says; `Memory`.
+fn make_piece<C: Cut>(
+    alloc: Global,
+    cut: &C,
+    source: &Source,
+    prefix: &str,
+    number: u8,
+    from: &C::Place,
+    to: &C::Place,
+) -> Result<Piece, EditFault>
+    requires from { C.IsSound from.now }
+    requires to { C.IsSound to.now }
+    requires laid { IsLaidOut (tells source.now.survey) }
+    requires few { length (tells source.now.survey).frames ≤ most_frames }
+    requires number { number ≤ 99 }
+    ensures name { IfOk result (λ piece. string_bytes piece.name ≡
+        piece_name_lem prefix.now number) }
+    ensures writable { IfOk result (λ piece. IsWritable (tells source.now.survey) piece.selected) }
+    ensures laid { MatchResult result
+        (λ piece. (file : List ℕ) (s : SurveyFields)
+        → IsSource (C.cutting cut.now) C.head source.now file s
+        → (C.cutting cut.now).between from.now to.now file s ≡ Ok (laid_of piece))
+        (λ fault. (fault ≡ EditFault.Memory) ⊎ (IsRefusal (C.cutting cut.now).refuses fault
+        × ((file : List ℕ) (s : SurveyFields)
+        → IsSource (C.cutting cut.now) C.head source.now file s
+        → (C.cutting cut.now).between from.now to.now file s ≡ Err fault))) }
+{
+    let selected = cut.select(alloc, source, from, to)?;
+    Ok(Piece {
+        name: piece_name(alloc, prefix, number)?,
+        selected,
+    })
+}
+
+/// The pieces from each place to the next: refused as `Cut::select` says, for the first pair that is; `Memory`.
+pub(crate) fn make_pieces<C: Cut>(
+    alloc: Global,
+    cut: &C,
+    source: &Source,
+    places: &[C::Place],
+    prefix: &str,
+) -> Result<Vec<Piece>, EditFault>
+    requires places { ArePlaces C.IsSound places.now }
+    requires laid { IsLaidOut (tells source.now.survey) }
+    requires few { length (tells source.now.survey).frames ≤ most_frames }
+    ensures pieces { IfOk result (λ pieces. ArePieces prefix.now (tells source.now.survey) 1
+        pieces.items) }
+    ensures count { IfOk result (λ pieces. length pieces.items + 1 ≡ length places.now) }
+    ensures laid { MatchResult result
+        (λ pieces. (file : List ℕ) (s : SurveyFields)
+        → IsSource (C.cutting cut.now) C.head source.now file s
+        → laid_at (C.cutting cut.now) file s places.now ≡ Ok (map laid_of pieces.items))
+        (λ fault. (fault ≡ EditFault.Memory) ⊎ (IsRefusal (C.cutting cut.now).refuses fault
+        × ((file : List ℕ) (s : SurveyFields)
+        → IsSource (C.cutting cut.now) C.head source.now file s
+        → laid_at (C.cutting cut.now) file s places.now ≡ Err fault))) }
+{
+    let rest = &places[1..];
+    let mut from = &places[0];
+    let mut pieces = Vec::new(alloc);
+    let mut number = 0;
+    for to in rest {
+        number += 1;
+        let piece = make_piece(alloc, cut, source, prefix, number, from, to)?;
+        pieces.push(piece)?;
+        from = to;
+    }
+    Ok(pieces)
+}

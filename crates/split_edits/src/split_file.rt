@@ -1,0 +1,127 @@
+//! The split commands over a folder.
+ghost use Rattle.std.specs.Prelude.{◌≡◌, ◌∷◌, option_copied, option_to_list};
+ghost use Rattle.commands.specs.Command.{clash_from};
+ghost use Rattle.commands.specs.Runs.{IsRunOf};
+ghost use Rattle.requests.specs.Names.{piece_names};
+ghost use Rattle.split_edits.specs.Cutting.{split_command, IsProper};
+ghost use Rattle.split_edits.specs.Split.{split_command_of, split_exact_command_of, ArePoints, AreExactPoints};
+
+use crate::cut::Cut;
+use crate::exact_points::ExactPoints;
+use crate::piece::make_pieces;
+use crate::points::Points;
+use crate::writing::write_pieces;
+use commands::{EditFault, MOST_FRAMES, survey_at};
+use laying::Buffers;
+use outside::Folder;
+use requests::is_piece_name;
+use std::alloc::Global;
+
+/// The number of the first input that has the name of a piece, however many pieces there are.
+fn clash(input: &str, sheet: Option<&str>, prefix: &str) -> Option<u32>
+    ensures { result ≡ clash_from (piece_names prefix.now) 0 (input.now ∷ option_to_list
+        (option_copied sheet.entry)) }
+{
+    if is_piece_name(prefix, input) {
+        return Some(0);
+    }
+    match sheet {
+        Some(sheet) if is_piece_name(prefix, sheet) => Some(1),
+        _ => None,
+    }
+}
+
+/// Cuts the input: creates and writes a file for each piece, from each place to the next.
+///
+/// # Errors
+/// As `split`, but for the refusals of its places, which are those of `Cut::select`, and for the head of the input, whose frame
+/// is read after the survey where pieces need it.
+fn split_by<C: Cut, D: Folder>(
+    alloc: Global,
+    folder: &mut D,
+    input: &str,
+    cut: &C,
+    prefix: &str,
+) -> Result<(), EditFault>
+    requires legal { C.IsLegal cut.now }
+    requires proper { IsProper (C.cutting cut.now) }
+    ensures { IsRunOf (split_command (C.cutting cut.now) input.now prefix.now)
+        (D.seen folder.old)
+        (D.seen folder.new) result }
+{
+    if let Some(place) = clash(input, cut.sheet(), prefix) {
+        return Err(EditFault::EqualNames(place));
+    }
+    let survey = survey_at(alloc, folder, input, 0, MOST_FRAMES)?;
+    let source = cut.read(folder, input, survey)?;
+    let places = cut.places(alloc, folder)?;
+    let pieces = make_pieces(alloc, cut, &source, places.as_slice(), prefix)?;
+    let mut buffers = Buffers::new(alloc, source.survey.class())?;
+    write_pieces(
+        folder,
+        input,
+        &source.survey,
+        pieces.as_slice(),
+        &mut buffers,
+    )
+}
+
+/// Writes the pieces of the input, which are the frames from each position up to, but not including, the next, with all main
+/// data. Each is a file as `edits::cut` writes one that keeps the slots of its frames: the ID3v2 blocks of the input before
+/// its first frame, an Info frame, these frames in the slots of their plan, with a lead-in where the first of them need more
+/// room for their main data than they have themselves, and all other blocks. The name of a piece is the prefix, two decimal
+/// digits of its number, which is counted from 1, and `.mp3`.
+///
+/// # Errors
+/// In this order: `EqualNames` with 0 where the name of the input is one of the 99 that the prefix can give, byte
+/// for byte, whether there are so many pieces or not, and with 1 where that of the sheet is; `Input(0, ..)` with the fault
+/// of the survey of the input, of which 2,900,000 frames are allowed; of a sheet, which is input 1, `Input(1, ..)` with
+/// `Absent`, `Read` and `Shrunk`, `SheetTooLarge` with its length where it has more than 65,536 bytes, and `Sheet` with its
+/// first fault; `Range` with the numbers of the two frames and that of all frames for the first position and the next between
+/// which there is no frame, or of which the second is after the end. After these nothing was created.
+///
+/// `Input` with `Read` and `Write` come only where a call of that kind failed, `Input` with `Absent` only where that input
+/// isn't there, and every other answer only where none failed. `Write` names the piece, counted from 0. After it, and after
+/// `Input(0, ..)` with `Read` or `Shrunk` where an output was created, the pieces before are whole, and this one is as it was
+/// or holds a prefix of its bytes, and after `Write` not all of them. `Memory` may come once the input was found with a length
+/// that it may have, before the first output is created, and not from then on.
+pub fn split<D: Folder>(
+    alloc: Global,
+    folder: &mut D,
+    input: &str,
+    points: &Points<'_>,
+    prefix: &str,
+) -> Result<(), EditFault>
+    requires { ArePoints points.now }
+    // The input is well-formed, and each piece holds at most one lead-in and then exactly its frames of the input's stream.
+    ensures { IsRunOf (split_command_of points.now input.now prefix.now)
+        (D.seen folder.old)
+        (D.seen folder.new) result }
+{
+    split_by(alloc, folder, input, points, prefix)
+}
+
+/// Writes the pieces of the input, by each of which players play exactly the samples from one place up to, but not including,
+/// the next. Each is a file as `edits::cut_exact` writes one, so that neighbouring pieces share the frames that a decoder needs
+/// for both; played one after another, they are the samples of the input from the first place to the last, each once. A start
+/// in a cue sheet is that many whole samples after the first as take no longer. The name of a piece is as `split` has it.
+///
+/// # Errors
+/// As `split`, and in its order, but for `Span`, which comes in place of `Range`: with the numbers of the two samples and that of
+/// all that are played, for the first place and the next between which there is no sample, or of which the second is after the
+/// end.
+pub fn split_exact<D: Folder>(
+    alloc: Global,
+    folder: &mut D,
+    input: &str,
+    points: &ExactPoints<'_>,
+    prefix: &str,
+) -> Result<(), EditFault>
+    requires { AreExactPoints points.now }
+    // The input is well-formed, and each piece holds at most one lead-in and then exactly the frames of its span.
+    ensures { IsRunOf (split_exact_command_of points.now input.now prefix.now)
+        (D.seen folder.old)
+        (D.seen folder.new) result }
+{
+    split_by(alloc, folder, input, points, prefix)
+}

@@ -1,0 +1,24 @@
+-- What each command writes holds the frames that its job chooses.
+use Rattle.std.proofs.Common.{refl}
+use Rattle.theorems.specs.Laws.{StreamsAreChosen}
+use Rattle.theorems.proofs.ChosenCase.{cut-holds, pack-holds}
+use Rattle.theorems.proofs.SplitCase.{split_at-holds, split_by-holds, split_exact-holds, split_exact_by-holds}
+use Rattle.theorems.proofs.SpanCase.{exact-holds}
+use Rattle.theorems.proofs.JoinCase.{join-holds}
+use Rattle.theorems.proofs.SalvageCase.{salvage-holds}
+
+pub streams-chosen : StreamsAreChosen
+streams-chosen = record {
+  gain = λ shift tags input output files made e. (refl, tt);
+  undo = λ input output files made e. (refl, tt);
+  cut = cut-holds;
+  cut_exact = exact-holds;
+  pack = pack-holds;
+  split_at = split_at-holds;
+  split_by = split_by-holds;
+  split_exact = split_exact-holds;
+  split_exact_by = split_exact_by-holds;
+  join = join-holds;
+  fade = λ back input output sheet files made e. (refl, tt);
+  salvage = salvage-holds;
+}

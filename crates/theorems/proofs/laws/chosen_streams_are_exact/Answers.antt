@@ -1,0 +1,6 @@
+-- One part, whose plan is its first.
+use Rattle.theorems.proofs.CaseLaws.{chosen-exact}
+use Rattle.theorems.proofs.laws.chosen_streams_are_exact.Goals as goal
+
+pub returns : goal.returns
+returns c = chosen-exact

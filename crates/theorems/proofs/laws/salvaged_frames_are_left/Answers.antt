@@ -1,0 +1,6 @@
+-- Frame by frame.
+use Rattle.theorems.proofs.SalvageCase.{salvaged-left}
+use Rattle.theorems.proofs.laws.salvaged_frames_are_left.Goals as goal
+
+pub returns : goal.returns
+returns c = salvaged-left

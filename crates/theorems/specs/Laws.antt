@@ -1,0 +1,122 @@
+-- What holds of the streams and plans of the commands that lay main data anew.
+use Rattle.std.specs.Prelude.{◌≡◌, ℕ, ◌<◌, ◌≤◌, Bool, true, false, List, [], ◌∷◌, map, flat_map, length, slice_get, slice_range, Some, Ok}
+use Rattle.outside.specs.Files.{Contents}
+use Rattle.frame_header.specs.Fields.{SlotFields, HeaderFields, ClassFields}
+use Rattle.frame_header.specs.Tables.{window_of}
+use Rattle.side_info.specs.Side.{no_side}
+use Rattle.cue_sheet.specs.declared.place.Place.{Place}
+use Rattle.slot_plan.specs.declared.needs.Placed.{Placed}
+use Rattle.slot_plan.specs.Plans.{IsPlan}
+use Rattle.laying.specs.Needs.{need_of}
+use Rattle.sync_survey.specs.Row.{Row}
+use Rattle.sync_survey.specs.MainData.{StreamFrame, no_slot, parts_of, part_lengths}
+use Rattle.sync_survey.specs.Faults.{SurveyFields, stream_of}
+use Rattle.sync_survey.specs.Survey.{survey_of}
+use Rattle.salvage.specs.Damaged.{DamagedFields, damaged_of}
+use Rattle.salvage.specs.Mended.{mended}
+use Rattle.salvage.specs.Stream.{salvaged_stream}
+use Rattle.join_edits.specs.Join.{plan_of as joined_plan, joined_stream, join_command}
+use Rattle.laying.specs.NeedsFit.{own_choice}
+use Rattle.laying.specs.Relaid.{Part, stream_in, AreParts, needs_in, with_lead_ins}
+use Rattle.commands.specs.Command.{Made, Command}
+use Rattle.commands.specs.One.{most_frames}
+use Rattle.requests.specs.declared.shift.Shift.{Shift}
+use Rattle.gain_edits.specs.Gain.{gain_command}
+use Rattle.gain_edits.specs.Undo.{undo_command}
+use Rattle.gain_edits.specs.Fade.{fade_command}
+use Rattle.laying.specs.Laid.{stream_laid}
+use Rattle.cut_edits.specs.Chosen.{Chosen, AreUsual, needs_of, first_plan, plan_of, laid_by, cut_command}
+use Rattle.exact_span.specs.declared.exact_place.ExactPlace.{ExactPlace}
+use Rattle.cut_edits.specs.Exact.{exact_command}
+use Rattle.split_edits.specs.Split.{split_at_command, split_by_command, split_exact_at_command, split_exact_by_command}
+use Rattle.salvage_edits.specs.Salvaged.{all_of, left_stream, salvage_command}
+use Rattle.requests.specs.declared.mode.PackMode.{PackMode}
+use Rattle.pack_edits.specs.Modes.{plan_by, pack_mode_command}
+use Rattle.job_words.specs.Asked.{Asked, Gain, Undo, Cut, CutExact, Pack, SplitAt, SplitExact, SplitBy, Join, Fade, Salvage}
+use Rattle.theorems.specs.Exact.{IsExactly}
+use Rattle.theorems.specs.Chosen.{AllConsistOf, chosen_of}
+
+-- Parts of well-formed files in the slots of their plan: the stream is exactly the frames of each part, as in a join.
+abbrev pub PlannedStreamsAreExact : Type 0
+PlannedStreamsAreExact =
+    (class : ClassFields) (choices : HeaderFields → List SlotFields) (parts : List Part) (placed : List Placed)
+    → AreParts class parts → IsPlan (window_of class.version) choices (map needs_in parts) placed
+    → IsExactly (map stream_in parts) (with_lead_ins placed (flat_map stream_in parts))
+
+-- The output of a cut, of a packing with the least slots, and each piece of a split holds exactly the chosen frames of the stream of the input.
+abbrev pub ChosenStreamsAreExact : Type 0
+ChosenStreamsAreExact =
+    (choices : HeaderFields → List SlotFields) (chosen : Chosen) (file : List ℕ) (s : SurveyFields)
+    → AreUsual choices → survey_of file most_frames ≡ Ok s → chosen.from < chosen.to → chosen.to ≤ length s.frames
+    → IsExactly (slice_range (stream_of file) chosen.from chosen.to ∷ []) (stream_laid (laid_by chosen (first_plan choices s.class (needs_of chosen s))) file s)
+
+-- Their plan is the first of all lists of slots, in the order of areas, into which the main data can be laid, with a lead-in only where there is none without.
+abbrev pub ChosenPlansAreFirst : Type 0
+ChosenPlansAreFirst =
+    (choices : HeaderFields → List SlotFields) (chosen : Chosen) (file : List ℕ) (s : SurveyFields)
+    → AreUsual choices → survey_of file most_frames ≡ Ok s → chosen.from < chosen.to → chosen.to ≤ length s.frames
+    → IsPlan (window_of s.class.version) choices (needs_of chosen s ∷ []) (first_plan choices s.class (needs_of chosen s))
+
+-- The output of a packing, in whichever mode, holds exactly the frames of the stream of the input.
+abbrev pub PackedStreamsAreExact : Type 0
+PackedStreamsAreExact =
+    (mode : PackMode) (chosen : Chosen) (file : List ℕ) (s : SurveyFields) (placed : List Placed)
+    → survey_of file most_frames ≡ Ok s → chosen.from < chosen.to → chosen.to ≤ length s.frames
+    → plan_by mode s.class (needs_of chosen s) ≡ Ok placed
+    → IsExactly (slice_range (stream_of file) chosen.from chosen.to ∷ []) (with_lead_ins placed (slice_range (stream_of file) chosen.from chosen.to))
+
+-- The output of a join holds exactly the frames of each part, which are all frames of an input.
+abbrev pub JoinedStreamsAreExact : Type 0
+JoinedStreamsAreExact =
+    (first : Part) (parts : List Part) → AreParts first.survey.class (first ∷ parts)
+    → IsExactly (map stream_in (first ∷ parts)) (joined_stream (first ∷ parts))
+
+-- Its plan is the first of all lists of the frames' own slots, with the lead-in that each part has alone.
+abbrev pub JoinedPlansAreFirst : Type 0
+JoinedPlansAreFirst =
+    (first : Part) (parts : List Part) → AreParts first.survey.class (first ∷ parts)
+    → IsPlan (window_of first.survey.class.version) own_choice (map needs_in (first ∷ parts)) (joined_plan first.survey.class (first ∷ parts))
+
+-- The output of a salvage holds exactly what is left of the damaged file: the frames of all runs, each sound one as it is, and each other one empty.
+abbrev pub SalvagedStreamsAreExact : Type 0
+SalvagedStreamsAreExact = (file : List ℕ) (d : DamagedFields) → damaged_of file ≡ Ok d → IsExactly (salvaged_stream file ∷ []) (left_stream file d)
+
+-- Its plan is the first of all lists of the frames' own slots, as that of a cut of all frames, of which those that aren't sound have no main data.
+abbrev pub SalvagedPlansAreFirst : Type 0
+SalvagedPlansAreFirst =
+    (file : List ℕ) (d : DamagedFields) → damaged_of file ≡ Ok d
+    → IsPlan (window_of d.survey.class.version) own_choice (map need_of (mended d.survey).frames ∷ []) (plan_of (all_of (mended d.survey)) (mended d.survey))
+
+-- Of a frame that is read this is left: its header, and its side information, or no side information and no main data if it isn't sound.
+pub record IsLeftOf (r : Row) (frame : StreamFrame) : Type 0 where
+  pub header : frame.header ≡ record r.header { slot = no_slot }
+  pub sound : r.lost ≡ false → frame.side ≡ record r.side { main_data_begin = 0 }
+  pub empty : r.lost ≡ true → (frame.side ≡ no_side) × (frame.payload ≡ parts_of (part_lengths r.header no_side) [])
+
+-- as many frames are left as are read, in their order
+pub record AreLeftOf (rows : List Row) (frames : List StreamFrame) : Type 0 where
+  pub many : length frames ≡ length rows
+  pub each : (i : ℕ) (r : Row) → slice_get rows i ≡ Some r → (frame : StreamFrame) × (slice_get frames i ≡ Some frame) × IsLeftOf r frame
+
+-- each frame that is read is left, also one that isn't sound
+abbrev pub SalvagedFramesAreLeft : Type 0
+SalvagedFramesAreLeft = (file : List ℕ) (d : DamagedFields) → damaged_of file ≡ Ok d → AreLeftOf d.survey.frames (salvaged_stream file)
+
+-- What a command writes, where it isn't refused, holds exactly the frames that the job chooses.
+abbrev pub HoldsChosen : Asked → Command → Type 0
+HoldsChosen asked command = (files : Contents) (made : Made) → command.makes files ≡ Ok made → AllConsistOf (chosen_of asked files) (command.streams files)
+
+-- so it is of each command
+pub record StreamsAreChosen : Type 0 where
+  pub gain : (shift : Shift) (tags : Bool) (input output : List ℕ) → HoldsChosen (Gain shift tags input output) (gain_command shift tags input output)
+  pub undo : (input output : List ℕ) → HoldsChosen (Undo input output) (undo_command input output)
+  pub cut : (from to : Place) (least : Bool) (input output : List ℕ) → HoldsChosen (Cut from to least input output) (cut_command from to least input output)
+  pub cut_exact : (input : List ℕ) (from to : ExactPlace) (output : List ℕ) → HoldsChosen (CutExact input from to output) (exact_command from to input output)
+  pub pack : (mode : PackMode) (input output : List ℕ) → HoldsChosen (Pack mode input output) (pack_mode_command mode input output)
+  pub split_at : (input prefix : List ℕ) (places : List Place) → HoldsChosen (SplitAt input prefix places) (split_at_command places input prefix)
+  pub split_by : (input prefix sheet : List ℕ) → HoldsChosen (SplitBy false input prefix sheet) (split_by_command input sheet prefix)
+  pub split_exact : (input prefix : List ℕ) (places : List ExactPlace) → HoldsChosen (SplitExact input prefix places) (split_exact_at_command places input prefix)
+  pub split_exact_by : (input prefix sheet : List ℕ) → HoldsChosen (SplitBy true input prefix sheet) (split_exact_by_command input sheet prefix)
+  pub join : (output : List ℕ) (inputs : List (List ℕ)) → HoldsChosen (Join output inputs) (join_command output inputs)
+  pub fade : (back : Bool) (input output sheet : List ℕ) → HoldsChosen (Fade back input output sheet) (fade_command sheet back input output)
+  pub salvage : (input output : List ℕ) → HoldsChosen (Salvage input output) (salvage_command input output)

@@ -1,0 +1,5 @@
+-- What the contracts of this crate cite.
+pub mod Exact
+pub mod Chosen
+pub mod Laws
+pub mod CutLaws

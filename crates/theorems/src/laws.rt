@@ -1,0 +1,62 @@
+//! Laws of the definitions. Each function does nothing: a proof that needs its law calls it.
+ghost use Rattle.theorems.specs.Laws.{PlannedStreamsAreExact, ChosenStreamsAreExact, ChosenPlansAreFirst, PackedStreamsAreExact, JoinedStreamsAreExact, JoinedPlansAreFirst, SalvagedStreamsAreExact, SalvagedPlansAreFirst, SalvagedFramesAreLeft, StreamsAreChosen};
+
+/// The stream of parts of well-formed files, laid in the slots of their plan, is exactly the frames of each part, in order,
+/// each part after at most one lead-in: a frame without main data, with the header of the part's first frame, but
+/// without a check word. The inputs of a join are such parts.
+pub fn planned_streams_are_exact()
+    ensures { PlannedStreamsAreExact }
+{}
+
+/// The output of a cut, of a packing with the least slots, and each piece of a split holds exactly the chosen frames of the
+/// input's stream, after at most one lead-in.
+pub fn chosen_streams_are_exact()
+    ensures { ChosenStreamsAreExact }
+{}
+
+/// The plan by which these outputs are written, without mention of how it is found: of all lists of slots, out of those that
+/// each frame may have, into which the main data can be laid (main_data_begin, ISO/IEC 11172-3 and 13818-3, 2.4.2.7), it is
+/// the first in the order of areas, frame by frame; with a lead-in only where no list has room without one.
+pub fn chosen_plans_are_first()
+    ensures { ChosenPlansAreFirst }
+{}
+
+/// The output of a packing, in whichever mode, holds exactly the chosen frames too.
+pub fn packed_streams_are_exact()
+    ensures { PackedStreamsAreExact }
+{}
+
+/// The output of a join holds exactly the frames of each input, in order, those of each input after at most one lead-in.
+pub fn joined_streams_are_exact()
+    ensures { JoinedStreamsAreExact }
+{}
+
+/// The plan of a join is the first of all lists too, each frame in its own slot: so it says which inputs have a lead-in, and
+/// where main data begin.
+pub fn joined_plans_are_first()
+    ensures { JoinedPlansAreFirst }
+{}
+
+/// The output of a salvage holds exactly what is left of the damaged file, after at most one lead-in: the frames of all runs
+/// between gaps, in order, each sound one as it is, and each other one as an empty frame.
+pub fn salvaged_streams_are_exact()
+    ensures { SalvagedStreamsAreExact }
+{}
+
+/// The plan of a salvage is the first of all lists too, each frame in its own slot, as that of a cut of all frames.
+pub fn salvaged_plans_are_first()
+    ensures { SalvagedPlansAreFirst }
+{}
+
+/// As many frames are left of a damaged file as are read of it: each sound one with its header and its side information except
+/// `main_data_begin`, and each other one with side information that is all 0, and without main data.
+pub fn salvaged_frames_are_left()
+    ensures { SalvagedFramesAreLeft }
+{}
+
+/// What each command writes, where it isn't refused, holds exactly the frames that its job chooses, without mention of plans: a
+/// change of gains all frames of the input, with their gains moved, and no lead-in; every other command the frames of each part,
+/// in order, each part after at most one lead-in. So all commands keep their frames, whatever plans they are laid by.
+pub fn streams_are_chosen()
+    ensures { StreamsAreChosen }
+{}
