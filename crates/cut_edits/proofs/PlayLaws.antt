@@ -30,7 +30,7 @@ use Rattle.cut_edits.proofs.ChosenLaws.{head-extension}
 use Rattle.cut_edits.proofs.HeadLaws.{apart-had, apart-placed}
 use Rattle.cut_edits.proofs.SealedLaws.{for-whole}
 use Rattle.cut_edits.proofs.SpanLaws.{with-fitting, with-many, with-leads}
-use Rattle.cut_edits.proofs.PieceLaws.{samples_there, span_chosen, span_apart, span-there, plain-long}
+use Rattle.cut_edits.proofs.PieceLaws.{samples_there, span_chosen, head_long, span_apart, span-there, plain-long}
 
 -- ---- the fields of a head are those that a struct can have
 
@@ -98,9 +98,22 @@ piece_placed : (head : Option Info) (span : Span) (file : List ℕ) (s : SurveyF
 unfolding piece_of
 piece_placed head span file s = sealed_placed head span file s (slice_get s.frames span.first)
 
-head_long : (file : List ℕ) (head : Option Head) → IfSome (fields_of_head file head) (λ (i : Info). length i.extension ≡ 36)
-head_long file None = tt
-head_long file (Some head) = head-extension file (Some head)
+-- nor the frames
+sealed_from_same : (head : Option Info) (span : Span) (file : List ℕ) (s : SurveyFields) (o : Option Row) → (sealed_from o (laid_span head span s) file s).from ≡ span.first
+sealed_from_same head span file s None = refl
+sealed_from_same head span file s (Some first) = refl
+
+sealed_to_same : (head : Option Info) (span : Span) (file : List ℕ) (s : SurveyFields) (o : Option Row) → (sealed_from o (laid_span head span s) file s).to ≡ span.last
+sealed_to_same head span file s None = refl
+sealed_to_same head span file s (Some first) = refl
+
+pub piece-from : (head : Option Info) (span : Span) (file : List ℕ) (s : SurveyFields) → (piece_of head span file s).from ≡ span.first
+unfolding piece_of
+piece-from head span file s = sealed_from_same head span file s (slice_get s.frames span.first)
+
+pub piece-to : (head : Option Info) (span : Span) (file : List ℕ) (s : SurveyFields) → (piece_of head span file s).to ≡ span.last
+unfolding piece_of
+piece-to head span file s = sealed_to_same head span file s (slice_get s.frames span.first)
 
 pub pieces-play : PiecesPlayTheirSamples
 unfolding span_in

@@ -10,12 +10,13 @@ use Rattle.slot_plan.specs.declared.needs.Placed.{Placed}
 use Rattle.frame_writer.specs.Frames.{Frame, area_in as kept_area}
 use Rattle.sync_survey.specs.MainData.{StreamFrame}
 use Rattle.sync_survey.specs.Faults.{HoldsStream}
-use Rattle.laying.specs.LaidFiles.{AreEntries, entry_of, laid_file, IsBlocks, HasInfoSizes}
-use Rattle.laying.proofs.LaidFileLaws.{laid-stream}
+use Rattle.laying.specs.LaidFiles.{AreEntries, entry_of, laid_file, IsLaidFile, IsBlocks, HasInfoSizes}
+use Rattle.laying.specs.LaidLaws.{LosesNoFrame}
+use Rattle.laying.proofs.LaidFileLaws.{laid-stream, laid-frames-stay}
 use Rattle.laying.specs.Relaid.{Part, frames_in, stream_in, IsPart, needs_in, relaid, with_lead_ins, left_behind}
 use Rattle.laying.specs.Fits.{bytes_at, area_at, reach_behind, FitsFrom, AreInSlots, IsFitting}
 use Rattle.laying.specs.Written.{slot_in}
-use Rattle.laying.specs.Laws.{AreLaidAs, EntriesHold, FilesHold, FittingFilesHold, FittingSlots}
+use Rattle.laying.specs.Laws.{AreLaidAs, EntriesHold, FilesHold, FittingFilesHold, FittingSlots, PlannedFramesStay}
 use Rattle.laying.specs.InfoLaws.{SlotsArePlanned}
 use Rattle.laying.proofs.PlannedFrames.{one, one_in_stream, relaid-cons, stream-cons, one-entry, one-stream, next-map, next-entries, AreLaidFrom, none_laid, laid_more, AreNeedsOf}
 use Rattle.laying.proofs.HoldLaws.{part-entries, part-needs, part-stream, part-some, parts-entries, parts-needs, parts-headers, parts-stream, parts-some}
@@ -92,23 +93,35 @@ pub fitting-laid : (c : ClassFields) (part : Part) (placed : List Placed) → Is
 fitting-laid c part placed is fitting = laid-fitting c (needs_in part) (frames_in part) placed 0 0 0 (part-entries c part is) (part-needs c part is) fitting.slots fitting.fits (omega arith) (omega arith)
 
 -- frames that can be laid, in a file
-file-holds : (c : ClassFields) (frames : List Frame) (stream : List StreamFrame) → AreLaidAs c frames stream
-    → (front : List (List ℕ)) (first : HeaderFields) (info : Info) (back : List (List ℕ)) → IsBlocks front → IsHeader first → class_of first ≡ c → HasInfoSizes info → IsBlocks back
-    → HoldsStream (laid_file front first info frames back) stream
-file-holds c frames stream hold front first info back before header class sizes behind =
-    subst (HoldsStream (laid_file front first info frames back)) hold.stream_is
-    (laid-stream c front first info frames back
-    (record { blocks_before = before; header = header; class = class; sizes = sizes; some = hold.some; entries = hold.entries; laid = hold.fit; blocks_behind = behind }))
+module _ (c : ClassFields) (frames : List Frame) (stream : List StreamFrame) (hold : AreLaidAs c frames stream) (front : List (List ℕ)) (first : HeaderFields) (info : Info) (back : List (List ℕ))
+    (before : IsBlocks front) (header : IsHeader first) (class : class_of first ≡ c) (sizes : HasInfoSizes info) (behind : IsBlocks back) where
+  file_is : IsLaidFile c front first info frames back
+  file_is = record { blocks_before = before; header = header; class = class; sizes = sizes; some = hold.some; entries = hold.entries; laid = hold.fit; blocks_behind = behind }
 
-pub fitting-files-hold : FittingFilesHold
-fitting-files-hold c part placed is fitting =
+  file-holds : HoldsStream (laid_file front first info frames back) stream
+  file-holds = subst (HoldsStream (laid_file front first info frames back)) hold.stream_is (laid-stream c front first info frames back file_is)
+
+  file-loses-none : LosesNoFrame (laid_file front first info frames back)
+  file-loses-none = laid-frames-stay c front first info frames back file_is
+
+fitting_as : (c : ClassFields) (part : Part) (placed : List Placed) → IsPart c part → IsFitting (window_of c.version) (needs_in part) placed
+    → AreLaidAs c (relaid (frames_in part) placed) (with_lead_ins placed (stream_in part))
+fitting_as c part placed is fitting =
     let laid = fitting-laid c part placed is fitting in
-    file-holds c (relaid (frames_in part) placed) (with_lead_ins placed (stream_in part)) (record {
+    record {
       some = some-by (window_of c.version) 0 (needs_in part) (frames_in part) placed (part-needs c part is) fitting.fits (part-some c part is);
       entries = laid.entries;
       fit = laid.fit;
       stream_is = laid.stream_is ∙ ap (with_lead_ins placed) (part-stream c part is);
-    })
+    }
+
+pub fitting-files-hold : FittingFilesHold
+fitting-files-hold c part placed is fitting = file-holds c (relaid (frames_in part) placed) (with_lead_ins placed (stream_in part)) (fitting_as c part placed is fitting)
+
+pub fitting-loses-none : (c : ClassFields) (part : Part) (placed : List Placed) → IsPart c part → IsFitting (window_of c.version) (needs_in part) placed
+    → (front : List (List ℕ)) (first : HeaderFields) (info : Info) (back : List (List ℕ)) → IsBlocks front → IsHeader first → class_of first ≡ c → HasInfoSizes info → IsBlocks back
+    → LosesNoFrame (laid_file front first info (relaid (frames_in part) placed) back)
+fitting-loses-none c part placed is fitting = file-loses-none c (relaid (frames_in part) placed) (with_lead_ins placed (stream_in part)) (fitting_as c part placed is fitting)
 
 -- ---- of parts, as they were planned
 
@@ -127,6 +140,10 @@ entries-hold c choices parts placed some are slots plan =
 
 pub files-hold : FilesHold
 files-hold c choices parts placed some are slots plan = file-holds c (relaid (flat_map frames_in parts) placed) (with_lead_ins placed (flat_map stream_in parts)) (entries-hold c choices parts placed some are slots plan)
+
+pub planned-frames-stay : PlannedFramesStay
+planned-frames-stay c choices parts placed some are slots plan =
+    file-loses-none c (relaid (flat_map frames_in parts) placed) (with_lead_ins placed (flat_map stream_in parts)) (entries-hold c choices parts placed some are slots plan)
 
 pub slots-planned : SlotsArePlanned
 slots-planned c choices parts placed are slots plan =

@@ -19,14 +19,15 @@ use Rattle.sync_survey.specs.declared.places.Start.{Start}
 use Rattle.sync_survey.specs.Row.{Row}
 use Rattle.sync_survey.specs.Walk.{head_of}
 use Rattle.sync_survey.specs.MainData.{rows_of, start_of_data, place, head_bytes, main_bytes, payload_at, parts_of, part_lengths, StreamFrame, stream_frame, stream_frames, marked}
-use Rattle.sync_survey.specs.Faults.{all_faults, surveyed, stream_of_survey, HoldsStream}
-use Rattle.sync_survey.proofs.SurveyParts.{frames_from, told_from, IsRead, surveyed-told, surveyed-stream, sound-no_all_faults}
+use Rattle.sync_survey.specs.Faults.{SurveyFields, all_faults, surveyed, stream_of_survey, HoldsStream}
+use Rattle.sync_survey.proofs.ApartLaws.{near-same}
+use Rattle.sync_survey.proofs.SurveyParts.{frames_from, told_from, IsRead, surveyed-told, surveyed-allowed, surveyed-stream, sound-no_all_faults}
 use Rattle.laying.specs.LaidFiles.{IsEntry, AreEntries, entry_of, laid_file, IsLaidFile, frame_length, rows_from, head_at, frames_place, laid_fields}
-use Rattle.laying.specs.LaidLaws.{LaidStream, LaidSurvey}
+use Rattle.laying.specs.LaidLaws.{LaidStream, LaidSurvey, HasNoneLost, LosesNoFrame, LaidFramesStay}
 use Rattle.laying.proofs.LaidData.{laid-there}
-use Rattle.laying.proofs.LaidFrames.{StandFrom, rows-there, areas-there}
+use Rattle.laying.proofs.LaidFrames.{StandFrom, row-get, rows-there, areas-there}
 use Rattle.laying.proofs.LaidRuns.{start, frames-stand, start-is, head-is, head_area-is, frames-are, blocks-are, no-end_fault}
-use Rattle.laying.proofs.LaidSound.{laid-sound, none-marked, starts-there}
+use Rattle.laying.proofs.LaidSound.{laid-sound, laid-near, none-marked, starts-there}
 
 -- ---- the main data of one frame
 
@@ -161,6 +162,30 @@ module _ (c : ClassFields) (front : List (List ℕ)) (first : HeaderFields) (inf
 
   pub holds : HoldsStream file (map entry_of frames)
   holds = subst (HoldsStream file) stream-is (surveyed-stream file (length frames) (laid_fields front first info frames back) (survey-is (length frames) (omega arith)))
+
+  -- ---- none of its frames is lost
+
+  none_lost : HasNoneLost (laid_fields front first info frames back)
+  unfolding laid_fields
+  none_lost = record {
+    kept = λ i r found. (row-get c file at frames area_data i r is.entries stand found).2.kept;
+    apart = ap (λ (rs : List Row). record (laid_fields front first info frames back) { frames = rs })
+        (near-same head rows (laid-near file c at frames area_data is.entries stand is.laid));
+  }
+
+  -- every survey of it is the same
+  none_by : (allowed : ℕ) (s : SurveyFields) → surveyed file allowed ≡ Ok s → HasNoneLost s
+  none_by allowed s e =
+      let one : Ok s ≡ Ok (laid_fields front first info frames back) =
+      sym (surveyed-allowed file allowed (length file + length frames + 1) s (omega arith) e) ∙ survey-is (length file + length frames + 1) (omega arith) in
+      let same : laid_fields front first info frames back ≡ s = cc in
+      subst HasNoneLost same none_lost
+
+  pub loses-none : LosesNoFrame file
+  loses-none = record { well_formed = holds.well_formed; none = none_by }
+
+pub laid-frames-stay : LaidFramesStay
+laid-frames-stay = loses-none
 
 pub laid-stream : LaidStream
 laid-stream = holds

@@ -17,7 +17,9 @@ use Rattle.laying.specs.declared.selected.Selected.{Selected}
 use Rattle.laying.specs.Fits.{IsFitting}
 use Rattle.laying.specs.Laid.{Laid, part_laid, needs_laid, frames_laid, info_laid, file_from, file_laid, stream_laid, selected_front, laid_in, IsWritable}
 use Rattle.laying.specs.Written.{front_blocks, back_blocks, slot_in, table_entry}
-use Rattle.laying.proofs.FittingFrames.{fitting-slots, fitting-files-hold}
+use Rattle.laying.proofs.FittingFrames.{fitting-slots, fitting-files-hold, fitting-loses-none}
+use Rattle.laying.specs.LaidLaws.{LosesNoFrame}
+use Rattle.laying.specs.Laws.{ChosenFramesStay}
 use Rattle.laying.proofs.HoldLaws.{blocks-kept}
 use Rattle.laying.proofs.RelayLaws.{range-next}
 use Rattle.laying.specs.LaidFiles.{HasInfoSizes, laid_file}
@@ -65,6 +67,11 @@ module _ (laid : Laid) (file : List ℕ) (s : SurveyFields) (is : HasSurvey file
     unfolding AreOfClass
     first-class = (subst (λ (l : List Row). AreOfClass s.class (map need_of l)) rows_are (part-fits s laid.from laid.to is.placed).0).0
 
+    first-loses-none : length laid.extension ≡ 36 → LosesNoFrame (file_from (Some first) laid file s)
+    first-loses-none extension =
+        let kept = blocks-kept file s is in
+        fitting-loses-none s.class (part_laid laid file s) laid.placed part_is fitting (front_blocks file s) first.header (info_laid laid file s) (back_blocks file s) kept.0 first-header first-class (sizes extension) kept.1
+
     first-holds : length laid.extension ≡ 36 → HoldsStream (file_from (Some first) laid file s) (stream_laid laid file s)
     first-holds extension =
         let kept = blocks-kept file s is in
@@ -75,3 +82,12 @@ module _ (laid : Laid) (file : List ℕ) (s : SurveyFields) (is : HasSurvey file
   laid-holds extension =
       let found = first-there s.frames laid.from (omega (arith, some, within)) in
       subst (λ (o : Option Row). HoldsStream (file_from o laid file s) (stream_laid laid file s)) (sym found.1) (first-holds found.0 found.1 extension)
+
+  -- no frame of it is lost
+  pub laid-loses-none : length laid.extension ≡ 36 → LosesNoFrame (file_laid laid file s)
+  laid-loses-none extension =
+      let found = first-there s.frames laid.from (omega (arith, some, within)) in
+      subst (λ (o : Option Row). LosesNoFrame (file_from o laid file s)) (sym found.1) (first-loses-none found.0 found.1 extension)
+
+pub chosen-frames-stay : ChosenFramesStay
+chosen-frames-stay laid file s is some within extension fitting = laid-loses-none laid file s is some within fitting extension

@@ -6,6 +6,7 @@ use Rattle.std.proofs.lemmas.Bool.{le-ltb, ne_eqb}
 use Rattle.std.proofs.lemmas.Option.{slice_get-map, slice_get_within}
 use Rattle.frame_header.specs.Fields.{ClassFields, same_class}
 use Rattle.frame_header.specs.Tables.{class_of}
+use Rattle.side_info.specs.declared.side.Side.{Side}
 use Rattle.side_info.specs.Side.{payload_bytes}
 use Rattle.side_info.specs.Frame.{word_said}
 use Rattle.frame_writer.specs.Laid.{start_of, end_of, areas_end, data_end, CanBeLaid}
@@ -13,6 +14,7 @@ use Rattle.frame_writer.specs.Frames.{Frame, piece_of, pieces}
 use Rattle.sync_survey.specs.declared.places.Head.{Head}
 use Rattle.sync_survey.specs.Row.{Row}
 use Rattle.sync_survey.specs.MainData.{own_area, head_area, is_silent, start_of_data, end_of_data, points_too_far, lacks_data, place, end_behind, end_before, is_lost, marked_row, marked}
+use Rattle.sync_survey.specs.Laws.{AreNear}
 use Rattle.sync_survey.proofs.SurveyParts.{StandWell, IsSound, AreSound}
 use Rattle.laying.specs.LaidFiles.{AreEntries, frame_length, rows_from}
 use Rattle.laying.proofs.LaidData.{IsWellLaid, well-laid, data_end-next, take-last}
@@ -155,3 +157,11 @@ module _ (file : List ℕ) (c : ClassFields) (head : Option Head) (at : ℕ) (fs
         here.own,
         ap (λ n. start_of_data n r) (place-there i) ∙ start-there file c (head_area head) (end i) (area_start i) here.frame r here.row here.laid.begins here.laid.ends,
       )
+
+-- the main data of each frame begin within the areas of the frames before it, the head's left out
+pub laid-near : (file : List ℕ) (c : ClassFields) (at : ℕ) (fs : List Frame) (area_data : List ℕ) → AreEntries c fs → StandFrom file at fs area_data → CanBeLaid (pieces fs) → AreNear (rows_from at fs)
+laid-near file c at fs area_data entries stand fits i r is =
+    let here = is_at file c None at fs area_data entries stand fits i r is in
+    let begins : data_end 0 0 (take i (pieces fs)) + here.frame.kept.side.main_data_begin ≤ areas_end 0 (take i (pieces fs)) = here.laid.begins in
+    let place_is : place None (rows_from at fs) i ≡ 0 + areas_end 0 (take i (pieces fs)) = place-there file c None at fs area_data entries stand fits i in
+    omega (arith, ap (λ (s : Side). s.main_data_begin) here.row.side, begins, place_is)

@@ -1,9 +1,11 @@
 -- Laws of files into whose frames all main data were laid.
-use Rattle.std.specs.Prelude.{◌≡◌, ℕ, ◌≤◌, List, length, map, Ok}
+use Rattle.std.specs.Prelude.{◌≡◌, ℕ, ◌≤◌, false, List, length, map, slice_get, Some, Ok}
 use Rattle.frame_header.specs.Fields.{HeaderFields, ClassFields}
 use Rattle.info_header.specs.declared.fields.Info.{Info}
 use Rattle.frame_writer.specs.Frames.{Frame}
-use Rattle.sync_survey.specs.Faults.{SurveyFields, surveyed, HoldsStream}
+use Rattle.sync_survey.specs.Row.{Row}
+use Rattle.sync_survey.specs.Faults.{SurveyFields, surveyed, IsWellFormed, HoldsStream}
+use Rattle.sync_survey.specs.HeadApart.{head_apart}
 use Rattle.laying.specs.LaidFiles.{IsBlocks, block_bytes, entry_of, laid_file, IsLaidFile, laid_fields}
 
 -- such a file is well-formed, and its stream is the frames that were given
@@ -21,3 +23,23 @@ LaidSurvey =
 -- the bytes of each block of a file without fault are a block, and so may be in such a file
 abbrev pub SurveyedBlocks : Type 0
 SurveyedBlocks = (file : List ℕ) (allowed : ℕ) (s : SurveyFields) → surveyed file allowed ≡ Ok s → IsBlocks (map (block_bytes file) s.blocks)
+
+-- ---- no frame of it is lost
+
+-- no frame is lost, and to set the head apart changes nothing, so none is lost then
+pub record HasNoneLost (s : SurveyFields) : Type 0 where
+  pub kept : (i : ℕ) (r : Row) → slice_get s.frames i ≡ Some r → r.lost ≡ false
+  pub apart : head_apart s ≡ s
+
+-- the file is well-formed, and no frame of it is lost, whether its head is set apart or not
+pub record LosesNoFrame (file : List ℕ) : Type 0 where
+  pub well_formed : IsWellFormed file
+  pub none : (allowed : ℕ) (s : SurveyFields) → surveyed file allowed ≡ Ok s → HasNoneLost s
+
+-- so is every such file: no main data were laid into its Info frame
+abbrev pub LaidFramesStay : Type 0
+LaidFramesStay =
+    (c : ClassFields) (front : List (List ℕ)) (first : HeaderFields) (info : Info)
+    (frames : List Frame) (back : List (List ℕ))
+    → IsLaidFile c front first info frames back
+    → LosesNoFrame (laid_file front first info frames back)

@@ -18,6 +18,8 @@ use Rattle.laying.specs.NeedsFit.{AreFit}
 use Rattle.slot_plan.specs.Parts.{window_in, parts_of}
 use Rattle.laying.specs.Surveys.{HasSurvey}
 use Rattle.laying.specs.Relaid.{Part, frames_in, stream_in, IsPart, AreParts, needs_in, AreSlots, relaid, with_lead_ins}
+use Rattle.laying.specs.Laid.{Laid, needs_laid, file_laid}
+use Rattle.laying.specs.LaidLaws.{LosesNoFrame}
 
 -- there are frames; they are of this class, their main data can be laid as they say, and this is what they are in a stream
 pub record AreLaidAs (c : ClassFields) (frames : List Frame) (stream : List StreamFrame) : Type 0 where
@@ -72,3 +74,22 @@ abbrev pub FittingSlots : Type 0
 FittingSlots =
     (c : ClassFields) (part : Part) (placed : List Placed) → IsPart c part → IsFitting (window_of c.version) (needs_in part) placed
     → map slot_in (relaid (frames_in part) placed) ≡ map (λ (p : Placed). p.slot) placed
+
+-- ---- no frame of them is lost
+
+-- no frame of a file of chosen frames is lost, whether its head is set apart or not, in whatever slots they can be laid
+abbrev pub ChosenFramesStay : Type 0
+ChosenFramesStay =
+    (laid : Laid) (file : List ℕ) (s : SurveyFields)
+    → HasSurvey file s → laid.from < laid.to → laid.to ≤ length s.frames → length laid.extension ≡ 36
+    → IsFitting (window_of s.class.version) (needs_laid laid s) laid.placed
+    → LosesNoFrame (file_laid laid file s)
+
+-- nor is any frame of a file of parts as they were planned
+abbrev pub PlannedFramesStay : Type 0
+PlannedFramesStay =
+    (c : ClassFields) (choices : HeaderFields → List SlotFields) (parts : List Part) (placed : List Placed)
+    → 1 ≤ length parts → AreParts c parts → AreSlots choices → IsPlan (window_of c.version) choices (map needs_in parts) placed
+    → (front : List (List ℕ)) (first : HeaderFields) (info : Info) (back : List (List ℕ))
+    → IsBlocks front → IsHeader first → class_of first ≡ c → HasInfoSizes info → IsBlocks back
+    → LosesNoFrame (laid_file front first info (relaid (flat_map frames_in parts) placed) back)

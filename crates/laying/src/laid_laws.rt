@@ -1,6 +1,6 @@
 //! Laws of files into whose frames all main data were laid. Each function does nothing: a proof that needs
 //! its law calls it.
-ghost use Rattle.laying.specs.LaidLaws.{LaidStream, LaidSurvey, SurveyedBlocks};
+ghost use Rattle.laying.specs.LaidLaws.{LaidStream, LaidSurvey, SurveyedBlocks, LaidFramesStay};
 
 /// A file of blocks, an Info frame, at least one frame, with all main data laid into the areas of the
 /// frames, and blocks is well-formed, and its stream is the frames that were given, with the main data that
@@ -20,4 +20,10 @@ pub fn laid_survey()
 /// are put, so they may be before and after the frames of such a file.
 pub fn surveyed_blocks()
     ensures { SurveyedBlocks }
+{}
+
+/// No frame of such a file is lost, nor is any where the head is set apart: all main data begin after the area
+/// of the Info frame.
+pub fn laid_frames_stay()
+    ensures { LaidFramesStay }
 {}

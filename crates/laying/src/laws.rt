@@ -1,5 +1,5 @@
 //! Laws of files of chosen frames. Each function does nothing: a proof that needs its law calls it.
-ghost use Rattle.laying.specs.Laws.{EntriesHold, FilesHold, SurveysAreHad, BlocksAreKept, PlansFit, AskedPlans, FittingFilesHold, FittingSlots};
+ghost use Rattle.laying.specs.Laws.{EntriesHold, FilesHold, SurveysAreHad, BlocksAreKept, PlansFit, AskedPlans, FittingFilesHold, FittingSlots, ChosenFramesStay, PlannedFramesStay};
 
 /// The frames of parts of surveyed files, in the slots and with the main_data_begin of their plan, are of
 /// the class, and their main data can be laid so. In a stream they are the plan's lead-ins, and each chosen
@@ -50,4 +50,15 @@ pub fn fitting_files_hold()
 /// frames.
 pub fn fitting_slots()
     ensures { FittingSlots }
+{}
+
+/// No frame of a file of chosen frames is lost, nor is any where the head is set apart, whatever the plan by which they
+/// are laid. `cut`, `split` and `pack` write such files.
+pub fn chosen_frames_stay()
+    ensures { ChosenFramesStay }
+{}
+
+/// Nor is any frame of a file of parts as they were planned, which `join` writes.
+pub fn planned_frames_stay()
+    ensures { PlannedFramesStay }
 {}

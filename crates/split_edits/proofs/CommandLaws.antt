@@ -31,6 +31,12 @@ use Rattle.outside.specs.Counts.{HappenedTo, EndedAt}
 use Rattle.outside.specs.Seen.{Seen}
 use Rattle.split_edits.proofs.PiecesLaws.{outputs-are, names-first, names-all, name-here}
 
+-- ---- what is laid from one place on
+
+pub first-parts : (first : Laid) (r : Result (List Laid) EditFault) (ls : List Laid) → with_first first r ≡ Ok ls → (more : List Laid) × (r ≡ Ok more) × (first ∷ more ≡ ls)
+first-parts first (Ok more) ls e = (more, refl, cc)
+first-parts first (Err fault) ls e = absurd cc
+
 -- ---- what holds of every refusal once the input was surveyed
 
 module _ {X : Type 0} (cut : Cutting X) (P : EditFault → Type 0) (between : (from to : X) (file : List ℕ) (s : SurveyFields) → IfErr (cut.between from to file s) P) where
@@ -79,10 +85,6 @@ module _ {X : Type 0} (cut : Cutting X) (proper : IsProper cut) where
   module _ (prefix file : List ℕ) (s : SurveyFields) (octets : AreBytes file) (surveyed : survey_of file most_frames ≡ Ok s) where
     abbrev Hold : ℕ → List Laid → Type 0
     Hold k ls = AreStreams (pieces_from prefix k file (cut.survey s) ls) (map (λ (l : Laid). stream_laid l file (cut.survey s)) ls)
-
-    first-parts : (first : Laid) (r : Result (List Laid) EditFault) (ls : List Laid) → with_first first r ≡ Ok ls → (more : List Laid) × (r ≡ Ok more) × (first ∷ more ≡ ls)
-    first-parts first (Ok more) ls e = (more, refl, cc)
-    first-parts first (Err fault) ls e = absurd cc
 
     from-hold : (k : ℕ) (from : X) (tos : List X) (ls : List Laid) → laid_from cut file s from tos ≡ Ok ls → Hold k ls
     from-hold k from [] ls e = let none : [] ≡ ls = cc in subst (Hold k) none tt

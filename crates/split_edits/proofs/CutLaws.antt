@@ -14,7 +14,6 @@ use Rattle.laying.specs.NeedsFit.{own_choice}
 use Rattle.laying.specs.KeptFields.{fields_of_head}
 use Rattle.laying.specs.Laid.{Laid, file_laid, stream_laid}
 use Rattle.laying.proofs.ChosenFrames.{survey-had}
-use Rattle.sync_survey.specs.declared.places.Head.{Head}
 use Rattle.sync_survey.specs.declared.survey_fault.SurveyFault.TheVariants.{Absent, Read}
 use Rattle.sync_survey.specs.Faults.{SurveyFields, HoldsStream}
 use Rattle.sync_survey.specs.Survey.{survey_of}
@@ -29,9 +28,9 @@ use Rattle.commands.proofs.RefusingLaws.{unless_all, then_all, then_ok}
 use Rattle.commands.proofs.SheetLaws.{sheet-all}
 use Rattle.cut_edits.specs.Chosen.{Chosen, outside_fault, cut_choice, cut_refuses, first_planning, first_plan, needs_of, laid_by, laid_as, laid_with, laid_of, chosen_file, chosen_stream}
 use Rattle.cut_edits.specs.Exact.{apart, samples_fault, span_between, span_in, piece_of, exact_laid, exact_refuses}
-use Rattle.cut_edits.proofs.ChosenLaws.{with_right, chosen-holds, head-extension}
+use Rattle.cut_edits.proofs.ChosenLaws.{with_right, chosen-holds}
 use Rattle.cut_edits.proofs.HeadLaws.{apart-length}
-use Rattle.cut_edits.proofs.PieceLaws.{span-there, span_apart, apart_had, piece-holds}
+use Rattle.cut_edits.proofs.PieceLaws.{head_long, span-there, span_apart, apart_had, piece-holds}
 use Rattle.split_edits.specs.declared.points.Points.{Points}
 use Rattle.split_edits.specs.declared.points.Points.TheVariants.{Places, Sheet as InSheet}
 use Rattle.split_edits.specs.declared.exact_points.ExactPoints.{ExactPoints}
@@ -133,10 +132,6 @@ module _ (P : EditFault → Type 0) (span : (a b samples : ℕ) → P (Refused (
       let a = sample_at s.class samples from in
       let b = sample_at s.class samples to in
       then_all P (span_in from to head s) (λ span. Ok (piece_of head span file (apart s))) (unless_all P (samples_fault a b samples) _ (samples-all (nat_lt a b && nat_le b samples) a b samples)) (λ span. tt)
-
-head_long : (file : List ℕ) (head : Option Head) → IfSome (fields_of_head file head) (λ (i : Info). length i.extension ≡ 36)
-head_long file None = tt
-head_long file (Some head) = head-extension file (Some head)
 
 exact-hold : (from to : ExactPlace) (file : List ℕ) (s : SurveyFields) (laid : Laid) → survey_of file most_frames ≡ Ok s → exact_laid from to file s ≡ Ok laid → HoldsStream (file_laid laid file (apart s)) (stream_laid laid file (apart s))
 unfolding exact_laid

@@ -5,3 +5,4 @@ pub mod CutLaws
 pub mod CommandLaws
 pub mod SheetLaws
 pub mod PartsLaws
+pub mod RecordingLaws

@@ -2,3 +2,4 @@
 pub mod Cutting
 pub mod Split
 pub mod Steps
+pub mod Recording

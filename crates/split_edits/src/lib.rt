@@ -3,6 +3,7 @@
 
 mod cut;
 mod exact_points;
+mod laws;
 mod piece;
 mod points;
 mod sheet;
@@ -11,5 +12,6 @@ mod split_file;
 mod writing;
 
 pub use exact_points::ExactPoints;
+pub use laws::pieces_are_the_recording;
 pub use points::Points;
 pub use split_file::{split, split_exact};

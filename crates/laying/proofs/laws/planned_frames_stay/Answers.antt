@@ -1,0 +1,6 @@
+-- They are laid behind the Info frame.
+use Rattle.laying.proofs.FittingFrames.{planned-frames-stay}
+use Rattle.laying.proofs.laws.planned_frames_stay.Goals as goal
+
+pub returns : goal.returns
+returns c = planned-frames-stay

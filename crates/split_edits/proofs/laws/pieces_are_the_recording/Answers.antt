@@ -1,0 +1,6 @@
+-- Each piece goes on where the one before it ends.
+use Rattle.split_edits.proofs.RecordingLaws.{pieces-recording}
+use Rattle.split_edits.proofs.laws.pieces_are_the_recording.Goals as goal
+
+pub returns : goal.returns
+returns c = pieces-recording
