@@ -1,6 +1,8 @@
-//! Tests of tags, and of positions and cue sheets.
+//! Tests of tags, of positions and cue sheets, and of exact pieces.
 #![tactic(auto)]
 
+#[cfg(test)]
+mod exact;
 #[cfg(test)]
 mod places;
 #[cfg(test)]
