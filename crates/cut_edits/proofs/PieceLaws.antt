@@ -19,7 +19,8 @@ use Rattle.laying.specs.KeptFields.{fields_of_head}
 use Rattle.laying.specs.Laid.{Laid, file_laid, stream_laid, frames_laid, info_laid, needs_laid}
 use Rattle.laying.specs.Fits.{IsFitting}
 use Rattle.laying.specs.Surveys.{HasSurvey}
-use Rattle.laying.proofs.LaidLaws.{first-there, laid-holds}
+use Rattle.laying.specs.LaidLaws.{LosesNoFrame}
+use Rattle.laying.proofs.LaidLaws.{first-there, laid-holds, laid-loses-none}
 use Rattle.laying.proofs.ChosenFrames.{survey-had}
 use Rattle.sync_survey.specs.Row.{Row}
 use Rattle.sync_survey.specs.declared.places.Head.{Head}
@@ -116,6 +117,17 @@ module _ (head : Option Info) (long : IfSome head (λ (i : Info). length i.exten
   pub piece-holds : HoldsStream (file_laid (piece_of head span file s) file s) (stream_laid (piece_of head span file s) file s)
   unfolding piece_of
   piece-holds = sealed_holds (slice_get s.frames span.first) refl
+
+  sealed_loses_none : (o : Option Row) → slice_get s.frames span.first ≡ o → LosesNoFrame (file_laid (sealed_from o plain file s) file s)
+  sealed_loses_none None found = let some = (first-there s.frames span.first (omega (arith, there.some, there.within))).1 in absurd cc
+  sealed_loses_none (Some first) found =
+      laid-loses-none (sealed_from (Some first) plain file s) file s is there.some there.within piece_fits
+      (sealed-whole first.header (info_laid plain file s) (for-whole s.class (frames_laid plain file s) plain.quality plain.extension plain-long)).extension
+
+  -- and no frame of it is lost
+  pub piece-loses-none : LosesNoFrame (file_laid (piece_of head span file s) file s)
+  unfolding piece_of
+  piece-loses-none = sealed_loses_none (slice_get s.frames span.first) refl
 
 -- ---- the command
 

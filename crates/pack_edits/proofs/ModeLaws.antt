@@ -40,7 +40,7 @@ module _ (chosen : Chosen) (s : SurveyFields) (placed : IsPlaced s) (some : chos
   mode-fitting (Constant rate) plan planned = chosen-fitting chosen s placed some within (Constant rate) plan planned
   mode-fitting (Floor rate) plan planned = chosen-fitting chosen s placed some within (Floor rate) plan planned
 
-planning : (mode : PackMode) → IsPlanning (plan_by mode)
+pub planning : (mode : PackMode) → IsPlanning (plan_by mode)
 planning mode = record { late = late mode; fitting = λ chosen s well some within placed planned. (mode-fitting chosen s well some within mode placed planned).fitting }
   where
     late : (mode : PackMode) (class : ClassFields) (needs : List Need) → IfErr (plan_by mode class needs) IsLate

@@ -138,7 +138,7 @@ cut-holds from to least input output files made e =
     (laid-holds (cut_choice from to) plan cut_refuses (λ l. frames_between l from to) (λ file s chosen placed is. cut-exact file s is from to least chosen placed) files input bytes.1 bytes.2, tt)
 
 -- all frames, by the mode of their slots
-packed-made : (mode : PackMode) (o : Option (List ℕ)) (r : Result (List ℕ) EditFault) (new : List ℕ) → limited_by (limit_by mode) o r ≡ Ok new → r ≡ Ok new
+pub packed-made : (mode : PackMode) (o : Option (List ℕ)) (r : Result (List ℕ) EditFault) (new : List ℕ) → limited_by (limit_by mode) o r ≡ Ok new → r ≡ Ok new
 packed-made Best o r new e = limited-made most_best o r new e
 packed-made _ o r new e = e
 

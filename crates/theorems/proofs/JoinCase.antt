@@ -80,9 +80,9 @@ part-stream : (files : Contents) (name file : List ℕ) (allowed : ℕ) (s : Sur
 part-stream files name file allowed s there is = whole-stream file s ∙ sym (stream-is file allowed s is) ∙ sym (ap (λ (o : Option (List ℕ)). stream_of (unwrap_or o [])) there)
 
 -- each is the frames of the input at its place
-record AreFramesOf (files : Contents) (c : ClassFields) (names : List (List ℕ)) (parts : List Part) : Type 0 where
-  are : AreParts c parts
-  frames : map stream_in parts ≡ map (frames_of files) names
+pub record AreFramesOf (files : Contents) (c : ClassFields) (names : List (List ℕ)) (parts : List Part) : Type 0 where
+  pub are : AreParts c parts
+  pub frames : map stream_in parts ≡ map (frames_of files) names
 
 frames-more : (files : Contents) (c : ClassFields) (place : ℕ) (first : Option ClassFields) (allowed : ℕ) (name : List ℕ) (names : List (List ℕ)) (part : Part) (parts : List Part)
     → part_of place first allowed (files name) ≡ Ok part → part.survey.class ≡ c → AreFramesOf files c names parts → AreFramesOf files c (name ∷ names) (part ∷ parts)
@@ -110,17 +110,34 @@ parts-behind files c place allowed (name ∷ names) parts e =
     (frames-more files c place (Some c) allowed name names part more.0 one.1 (ap (λ (p : Part). p.survey.class) (sym is.whole) ∙ is.follows)
     (parts-behind files c (place + 1) (allowed - length part.survey.frames) names more.0 more.1))
 
+-- all inputs
+pub record IsJoinOf (files : Contents) (names : List (List ℕ)) (parts : List Part) : Type 0 where
+  pub first : Part
+  pub more : List Part
+  pub is : first ∷ more ≡ parts
+  pub all : AreFramesOf files first.survey.class names (first ∷ more)
+
+pub parts-join : (files : Contents) (name : List ℕ) (names : List (List ℕ)) (parts : List Part) → parts_of files (name ∷ names) ≡ Ok parts → IsJoinOf files (name ∷ names) parts
+unfolding parts_from
+parts-join files name names parts e =
+    let one = then_ok (part_of 0 None most_frames (files name)) _ parts e in
+    let part : Part = one.0 in
+    let more = parts-more part (parts_from (0 + 1) (Some part.survey.class) (most_frames - length part.survey.frames) files names) parts one.2 in
+    record {
+      first = part;
+      more = more.0;
+      is = more.2;
+      all = frames-more files part.survey.class 0 None most_frames name names part more.0 one.1 refl
+          (parts-behind files part.survey.class (0 + 1) (most_frames - length part.survey.frames) names more.0 more.1);
+    }
+
 parts-exact : (files : Contents) (names : List (List ℕ)) (parts : List Part) → parts_of files names ≡ Ok parts → IsExactly (map (frames_of files) names) (joined_stream parts)
 unfolding parts_from joined_stream IsExactly
 parts-exact files [] parts e = let none : [] ≡ parts = cc in subst (λ (l : List Part). IsExactly [] (joined_stream l)) none refl
 parts-exact files (name ∷ names) parts e =
-    let one = then_ok (part_of 0 None most_frames (files name)) _ parts e in
-    let part : Part = one.0 in
-    let more = parts-more part (parts_from (0 + 1) (Some part.survey.class) (most_frames - length part.survey.frames) files names) parts one.2 in
-    let all =
-    frames-more files part.survey.class 0 None most_frames name names part more.0 one.1 refl (parts-behind files part.survey.class (0 + 1) (most_frames - length part.survey.frames) names more.0 more.1) in
-    subst (λ (l : List Part). IsExactly (map (frames_of files) (name ∷ names)) (joined_stream l)) more.2
-    (subst (λ (l : List (List StreamFrame)). IsExactly l (joined_stream (part ∷ more.0))) all.frames (join-exact part more.0 all.are))
+    let is = parts-join files name names parts e in
+    subst (λ (l : List Part). IsExactly (map (frames_of files) (name ∷ names)) (joined_stream l)) is.is
+    (subst (λ (l : List (List StreamFrame)). IsExactly l (joined_stream (is.first ∷ is.more))) is.all.frames (join-exact is.first is.more is.all.are))
 
 pub join-holds : (output : List ℕ) (inputs : List (List ℕ)) → HoldsChosen (Join output inputs) (join_command output inputs)
 join-holds output inputs files made e =

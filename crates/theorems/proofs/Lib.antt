@@ -7,6 +7,7 @@ pub mod SalvageCase
 pub mod ChosenCase
 pub mod SpanCase
 pub mod SplitCase
+pub mod WrittenFrames
 pub mod JobLaws
 pub mod CutItems
 pub mod CutStart

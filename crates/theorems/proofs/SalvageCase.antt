@@ -48,11 +48,11 @@ module _ (file : List ℕ) (d : DamagedFields) (read : damaged_of file ≡ Ok d)
   laid : IsLaidOut d
   laid = read-laid file d read
 
-  had : HasSurvey file own
-  had = damaged-had file d whole laid
+  pub left-had : HasSurvey file own
+  left-had = damaged-had file d whole laid
 
-  some : 0 < length own.frames
-  some = (survey-mended d laid).some
+  pub left-some : 0 < length own.frames
+  left-some = (survey-mended d laid).some
 
   -- ---- its frames, and their plan
 
@@ -60,12 +60,12 @@ module _ (file : List ℕ) (d : DamagedFields) (read : damaged_of file ≡ Ok d)
   unfolding left_stream
   left-exact =
       subst (λ (l : List StreamFrame). IsExactly (l ∷ []) (with_lead_ins (plan_of (all_of own) own) l)) (laid-left file d whole laid)
-      (had-exact (all_of own) file own had some (omega arith) own_choice (inl refl))
+      (had-exact (all_of own) file own left-had left-some (omega arith) own_choice (inl refl))
 
   left-plan : IsPlan (window_of d.survey.class.version) own_choice (map need_of own.frames ∷ []) (plan_of (all_of own) own)
   left-plan =
       subst (λ (rows : List Row). IsPlan (window_of own.class.version) own_choice (map need_of rows ∷ []) (plan_of (all_of own) own)) (range-whole own.frames)
-      (had-plan (all_of own) file own had some (omega arith) own_choice (inl refl))
+      (had-plan (all_of own) file own left-had left-some (omega arith) own_choice (inl refl))
 
 pub salvaged-exact : SalvagedStreamsAreExact
 salvaged-exact = left-exact

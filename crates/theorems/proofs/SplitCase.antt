@@ -21,6 +21,7 @@ use Rattle.cut_edits.proofs.PieceLaws.{span-there, span_apart, apart_had}
 use Rattle.split_edits.specs.Cutting.{Cutting, with_first, laid_from, laid_at, streams_of, streams_by, streams_where, split_command}
 use Rattle.split_edits.specs.Split.{places_where, given, told_by, given_exact, told_exact_by, frames_between as between_laid}
 use Rattle.split_edits.proofs.PartsLaws.{IsSplit, split-parts, cue-parts}
+use Rattle.split_edits.proofs.CommandLaws.{first-parts}
 use Rattle.job_words.specs.Asked.{SplitAt, SplitExact, SplitBy}
 use Rattle.theorems.specs.Exact.{IsExactly}
 use Rattle.theorems.specs.Chosen.{AllConsistOf, bytes_of, frames_of, frames_between, frames_needed, needed_in, pieces_from, pieces_at, positions_by, positions_in}
@@ -29,10 +30,6 @@ use Rattle.theorems.proofs.ChosenCase.{cut-exact, frames-are}
 use Rattle.theorems.proofs.SpanCase.{piece-exact, frames-are as span-frames, needed-is}
 
 -- ---- whatever is cut
-
-first-parts : (first : Laid) (r : Result (List Laid) EditFault) (all : List Laid) → with_first first r ≡ Ok all → (more : List Laid) × (r ≡ Ok more) × (first ∷ more ≡ all)
-first-parts first (Ok more) all is = (more, refl, cc)
-first-parts first (Err fault) all is = absurd cc
 
 module _ {P : Type 0} (cut : Cutting P) (file : List ℕ) (s : SurveyFields) (frames : P → P → List StreamFrame)
     (exact : (from to : P) (laid : Laid) → cut.between from to file s ≡ Ok laid → IsExactly (frames from to ∷ []) (stream_laid laid file (cut.survey s))) where

@@ -18,13 +18,14 @@ use Rattle.salvage.specs.Stream.{salvaged_stream}
 use Rattle.join_edits.specs.Join.{plan_of as joined_plan, joined_stream, join_command}
 use Rattle.laying.specs.NeedsFit.{own_choice}
 use Rattle.laying.specs.Relaid.{Part, stream_in, AreParts, needs_in, with_lead_ins}
-use Rattle.commands.specs.Command.{Made, Command}
+use Rattle.commands.specs.Command.{Output, Made, Command}
 use Rattle.commands.specs.One.{most_frames}
 use Rattle.requests.specs.declared.shift.Shift.{Shift}
 use Rattle.gain_edits.specs.Gain.{gain_command}
 use Rattle.gain_edits.specs.Undo.{undo_command}
 use Rattle.gain_edits.specs.Fade.{fade_command}
 use Rattle.laying.specs.Laid.{stream_laid}
+use Rattle.laying.specs.LaidLaws.{LosesNoFrame}
 use Rattle.cut_edits.specs.Chosen.{Chosen, AreUsual, needs_of, first_plan, plan_of, laid_by, cut_command}
 use Rattle.exact_span.specs.declared.exact_place.ExactPlace.{ExactPlace}
 use Rattle.cut_edits.specs.Exact.{exact_command}
@@ -120,3 +121,24 @@ pub record StreamsAreChosen : Type 0 where
   pub join : (output : List ℕ) (inputs : List (List ℕ)) → HoldsChosen (Join output inputs) (join_command output inputs)
   pub fade : (back : Bool) (input output sheet : List ℕ) → HoldsChosen (Fade back input output sheet) (fade_command sheet back input output)
   pub salvage : (input output : List ℕ) → HoldsChosen (Salvage input output) (salvage_command input output)
+
+-- each of these files is well-formed, and no frame of it is lost, whether its head is set apart or not
+abbrev pub AllLoseNoFrame : List Output → Type 0
+AllLoseNoFrame [] = Unit {0}
+AllLoseNoFrame (output ∷ outputs) = LosesNoFrame output.bytes × AllLoseNoFrame outputs
+
+-- so is each file that a command writes, where it isn't refused
+abbrev pub WritesAllFrames : Command → Type 0
+WritesAllFrames command = (files : Contents) (made : Made) → command.makes files ≡ Ok made → AllLoseNoFrame made.outputs
+
+-- so it is of each command that lays main data anew
+pub record WrittenFramesStay : Type 0 where
+  pub cut : (from to : Place) (least : Bool) (input output : List ℕ) → WritesAllFrames (cut_command from to least input output)
+  pub cut_exact : (input : List ℕ) (from to : ExactPlace) (output : List ℕ) → WritesAllFrames (exact_command from to input output)
+  pub pack : (mode : PackMode) (input output : List ℕ) → WritesAllFrames (pack_mode_command mode input output)
+  pub split_at : (input prefix : List ℕ) (places : List Place) → WritesAllFrames (split_at_command places input prefix)
+  pub split_by : (input prefix sheet : List ℕ) → WritesAllFrames (split_by_command input sheet prefix)
+  pub split_exact : (input prefix : List ℕ) (places : List ExactPlace) → WritesAllFrames (split_exact_at_command places input prefix)
+  pub split_exact_by : (input prefix sheet : List ℕ) → WritesAllFrames (split_exact_by_command input sheet prefix)
+  pub join : (output : List ℕ) (inputs : List (List ℕ)) → 1 ≤ length inputs → WritesAllFrames (join_command output inputs)
+  pub salvage : (input output : List ℕ) → WritesAllFrames (salvage_command input output)

@@ -1,5 +1,5 @@
 //! Laws of the definitions. Each function does nothing: a proof that needs its law calls it.
-ghost use Rattle.theorems.specs.Laws.{PlannedStreamsAreExact, ChosenStreamsAreExact, ChosenPlansAreFirst, PackedStreamsAreExact, JoinedStreamsAreExact, JoinedPlansAreFirst, SalvagedStreamsAreExact, SalvagedPlansAreFirst, SalvagedFramesAreLeft, StreamsAreChosen};
+ghost use Rattle.theorems.specs.Laws.{PlannedStreamsAreExact, ChosenStreamsAreExact, ChosenPlansAreFirst, PackedStreamsAreExact, JoinedStreamsAreExact, JoinedPlansAreFirst, SalvagedStreamsAreExact, SalvagedPlansAreFirst, SalvagedFramesAreLeft, StreamsAreChosen, WrittenFramesStay};
 
 /// The stream of parts of well-formed files, laid in the slots of their plan, is exactly the frames of each part, in order,
 /// each part after at most one lead-in: a frame without main data, with the header of the part's first frame, but
@@ -59,4 +59,10 @@ pub fn salvaged_frames_are_left()
 /// in order, each part after at most one lead-in. So all commands keep their frames, whatever plans they are laid by.
 pub fn streams_are_chosen()
     ensures { StreamsAreChosen }
+{}
+
+/// No frame of a file that a command writes that lays main data anew is lost, nor is any where the head of the file is set
+/// apart: no main data begin in the Info frame. So if such a file is cut to a sample, all its frames have their main data.
+pub fn written_frames_stay()
+    ensures { WrittenFramesStay }
 {}

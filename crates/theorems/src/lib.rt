@@ -10,5 +10,5 @@ pub use laws::{
     chosen_plans_are_first, chosen_streams_are_exact, joined_plans_are_first,
     joined_streams_are_exact, packed_streams_are_exact, planned_streams_are_exact,
     salvaged_frames_are_left, salvaged_plans_are_first, salvaged_streams_are_exact,
-    streams_are_chosen,
+    streams_are_chosen, written_frames_stay,
 };

@@ -1,0 +1,6 @@
+-- Command by command.
+use Rattle.theorems.proofs.WrittenFrames.{frames-stay}
+use Rattle.theorems.proofs.laws.written_frames_stay.Goals as goal
+
+pub returns : goal.returns
+returns c = frames-stay
