@@ -9,3 +9,4 @@ mod lists;
 mod menus;
 mod parts;
 mod rows;
+mod seams;

@@ -3,13 +3,15 @@ use Rattle.std.proofs.Common.{◌≡◌, ℕ, ◌+◌, ◌<◌, ◌≤◌, List,
 use Rattle.std.proofs.lemmas.List.{drop_all}
 use Rattle.std.specs.Prelude.{slice_range}
 use Rattle.frame_header.specs.Fields.{ClassFields}
-use Rattle.frame_header.specs.Tables.{class_of}
+use Rattle.frame_header.specs.Tables.{class_of, window_of}
 use Rattle.slot_plan.specs.declared.needs.Need.{Need}
 use Rattle.slot_plan.specs.Layouts.{IsFeasible}
+use Rattle.slot_plan.specs.Behind.{FitsBehind, FitBehindWindow, FitBehindFree, CanJoin}
 use Rattle.slot_plan.specs.Parts.{own_frame, own_area, parts_of, ArePartsFeasible, AreOfClass, AreOfOneClass}
 use Rattle.slot_plan.specs.Reserve.{free_behind}
-use Rattle.slot_plan.proofs.ReserveLaws.{AllFit, starts_of, layout-fit}
-use Rattle.slot_plan.proofs.PartLaws.{next_need, parts-cons, parts-none}
+use Rattle.slot_plan.proofs.ReserveLaws.{AllFit}
+use Rattle.slot_plan.proofs.PartLaws.{next_need, one-class, parts-cons, parts-none}
+use Rattle.slot_plan.proofs.BehindLaws.{within-fit, more-behind}
 
 -- ---- one class
 pub class-more : (class : ClassFields) (needs : List Need) (i : ℕ) (need : Need) → i < length needs → need ≡ get_or needs i need → class_of need.header ≡ class → (AreOfClass class (drop i needs) → AreOfClass class needs)
@@ -24,19 +26,41 @@ class-all class (first ∷ needs) i d some all is on =
     subst (λ c. AreOfClass c needs) is (on (subst (AreOfClass class) (sym (drop_all i (first ∷ needs) all)) tt)).1
 
 -- ---- frames that fit
-pub fit-next : (window free next area : ℕ) (part : List Need) (i : ℕ) (need : Need) → i < length part → need ≡ get_or part i need → area ≡ own_area need → need.bytes ≤ free + area → next ≡ free_behind window free need.bytes area
-    → (AllFit window free (map own_frame (drop i part)) → AllFit window window (map own_frame part)) → AllFit window next (map own_frame (drop (i + 1) part)) → AllFit window window (map own_frame part)
+pub fit-next : (window before free next area : ℕ) (part : List Need) (i : ℕ) (need : Need) → i < length part → need ≡ get_or part i need → area ≡ own_area need → need.bytes ≤ free + area → next ≡ free_behind window free need.bytes area
+    → (AllFit window free (map own_frame (drop i part)) → AllFit window before (map own_frame part)) → AllFit window next (map own_frame (drop (i + 1) part)) → AllFit window before (map own_frame part)
 unfolding AllFit
-fit-next window free next area part i need within is own room gives on rest =
+fit-next window before free next area part i need within is own room gives on rest =
     let after : next ≡ free_behind window free need.bytes (own_area need) = gives ∙ ap (λ n. free_behind window free need.bytes n) own in
     on (subst (λ l. AllFit window free (map own_frame l)) (sym (next_need part i need within is))
     (omega (arith, room, own), subst (λ n. AllFit window n (map own_frame (drop (i + 1) part))) after rest))
 
-pub fit-all : (window free : ℕ) (part : List Need) (i : ℕ) → length part ≤ i → (AllFit window free (map own_frame (drop i part)) → AllFit window window (map own_frame part)) → IsFeasible window window (map own_frame part)
-unfolding AllFit IsFeasible
-fit-all window free part i all on =
-    let fit : AllFit window window (map own_frame part) = on (subst (λ l. AllFit window free (map own_frame l)) (sym (drop_all i part all)) tt) in
-    (starts_of window 0 window (map own_frame part), layout-fit window 0 window window (map own_frame part) (omega arith) (omega arith) fit)
+pub fit-all : (window before free : ℕ) (part : List Need) (i : ℕ) → before ≤ window → length part ≤ i → (AllFit window free (map own_frame (drop i part)) → AllFit window before (map own_frame part)) → FitsBehind window before part
+unfolding AllFit
+fit-all window before free part i most all on =
+    within-fit window before (map own_frame part) most (on (subst (λ l. AllFit window free (map own_frame l)) (sym (drop_all i part all)) tt))
+
+-- ---- frames of one class that fit
+pub behind-free : (class : ClassFields) (needs : List Need) (d : Need) (window free : ℕ) → AreOfOneClass needs → class ≡ class_of (get_or needs 0 d).header → window ≡ window_of class.version → free ≤ window → FitsBehind window free needs
+    → FitBehindFree free needs
+behind-free class needs d window free all is gives within fits = record {
+  class = class;
+  same = one-class class needs d all is;
+  within = omega (arith, gives, within);
+  fits = subst (λ n. FitsBehind n free needs) gives fits;
+}
+
+-- and so do they behind a whole window
+pub behind-window : (free : ℕ) (needs : List Need) → FitBehindFree free needs → FitBehindWindow needs
+behind-window free needs fit = record { class = fit.class; same = fit.same; fits = more-behind (window_of fit.class.version) free (window_of fit.class.version) needs fit.within fit.fits }
+
+pub joins-window : (free other : ℕ) (needs : List Need) → 0 < length needs → FitBehindFree free needs → other ≤ free → CanJoin other needs
+joins-window free other needs some fit less = record {
+  some = some;
+  class = fit.class;
+  same = fit.same;
+  within = omega (arith, less, fit.within);
+  fits = more-behind (window_of fit.class.version) free (window_of fit.class.version) needs fit.within fit.fits;
+}
 
 -- ---- parts that fit
 pub parts-fit : (window : ℕ) (needs : List Need) (parts : List ℕ) (at from end : ℕ) → at < length parts → from ≡ get_or parts at 0 → (at + 1 < length parts → end ≡ get_or parts (at + 1) 0) → (length parts ≤ at + 1 → end ≡ length needs)

@@ -9,3 +9,6 @@ pub mod LeadInLaws
 pub mod OnePlan
 pub mod LeastPlan
 pub mod LedLaws
+pub mod BehindLaws
+pub mod JoinLaws
+pub mod OwnLeadIn

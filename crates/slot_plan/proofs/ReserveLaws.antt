@@ -31,7 +31,7 @@ starts_of window end before (frame ∷ frames) =
     let start = max end (before - window) in
     start ∷ starts_of window (start + frame.bytes) (before + frame.area) frames
 
-max-is : (m n : ℕ) → max m n ≡ m + (n - m)
+pub max-is : (m n : ℕ) → max m n ≡ m + (n - m)
 max-is m n = omega arith
 
 -- the free bytes before each frame
@@ -208,7 +208,7 @@ append-can window xs ys first second =
     can-needed window (xs ++ ys) (first.0 ++ second.0) (append-chosen xs ys first.0 second.0 first.1 second.1) (append-needed xs ys behind.0 ∙ here.0) (append-within window xs ys behind.0 here.1 behind.1)
 
 -- ---- fewer of the frames, and more free bytes
-fit-more : (window free more : ℕ) (frames : List Frame) → free ≤ more → AllFit window free frames → AllFit window more frames
+pub fit-more : (window free more : ℕ) (frames : List Frame) → free ≤ more → AllFit window free frames → AllFit window more frames
 unfolding AllFit
 fit-more window free more [] less fit = tt
 fit-more window free more (frame ∷ frames) less fit =

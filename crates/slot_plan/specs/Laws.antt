@@ -1,5 +1,5 @@
 -- What holds of the definitions, whatever the code.
-use Rattle.std.specs.Prelude.{◌≡◌, ℕ, ◌<◌, ◌↔◌, false, List, [], ◌∷◌, map, Contains, All, AllPairs, Some, None}
+use Rattle.std.specs.Prelude.{◌≡◌, ℕ, ◌<◌, ◌≤◌, ◌↔◌, true, false, List, [], ◌∷◌, ◌++◌, map, Contains, All, AllPairs, Some, None}
 use Rattle.frame_header.specs.Fields.{SlotFields, ClassFields, HeaderFields, IsClass}
 use Rattle.frame_header.specs.Tables.{class_of, area_of, window_of}
 use Rattle.frame_header.specs.Slots.{all_slots}
@@ -7,8 +7,9 @@ use Rattle.slot_plan.specs.declared.needs.Need.{Need}
 use Rattle.slot_plan.specs.declared.needs.Placed.{Placed}
 use Rattle.slot_plan.specs.Lists.{Open, CanBeLaid, IsLeast}
 use Rattle.slot_plan.specs.Parts.{open_of, item_of, lead_in_of, items_of, areas_with, window_in, parts_of, AreOfClass, ArePartsFeasible, IsLeadIn}
-use Rattle.slot_plan.specs.Plans.{IsPlan, IsLedPlan}
+use Rattle.slot_plan.specs.Plans.{AreFor, IsPlan, IsLedPlan}
 use Rattle.slot_plan.specs.LeastPlan.{least_plan, led_plan}
+use Rattle.slot_plan.specs.Behind.{FitsBehind, IsWanted, IsLeft, IsLeadInSlot}
 
 -- a part's frames after one lead-in, which may have any slot
 abbrev pub behind_any : (HeaderFields → List SlotFields) → Need → List Need → List Open
@@ -72,3 +73,37 @@ abbrev pub LedWhereNeeded : Type 0
 LedWhereNeeded =
     (window : ℕ) (choices : HeaderFields → List SlotFields) (part : List Need) (placed : List Placed)
     → (CanBeLaid window (map open_of (items_of choices part None)) → ⊥) → IsPlan window choices (part ∷ []) placed → IsLedPlan window choices part placed
+
+-- Frames and then others fit behind some free bytes exactly where the first do and what the others want is at most what the first leave.
+abbrev pub FitsBehindWhatIsLeft : Type 0
+FitsBehindWhatIsLeft =
+    (window free : ℕ) (first others : List Need) → free ≤ window → FitsBehind window window others
+    → FitsBehind window free (first ++ others)
+    ↔ (FitsBehind window free first × ((left wanted : ℕ) → IsLeft window free first left → IsWanted window others wanted → wanted ≤ left))
+
+-- what frames and then others leave is what the others leave behind what the first leave
+abbrev pub LeavesGoOn : Type 0
+LeavesGoOn =
+    (window free mid left : ℕ) (first others : List Need) → free ≤ window → IsLeft window free first mid
+    → IsLeft window free (first ++ others) left ↔ IsLeft window mid others left
+
+-- frames fit behind exactly the bytes that are at least what they want
+abbrev pub FitsWhereWanted : Type 0
+FitsWhereWanted = (window free wanted : ℕ) (needs : List Need) → IsWanted window needs wanted → FitsBehind window free needs ↔ (wanted ≤ free)
+
+-- the frames of a plan, each in its own slot, without a lead-in
+abbrev pub AreOwn : List Need → List Placed → Type 0
+AreOwn needs placed = AreFor (map (item_of (λ h. h.slot ∷ [])) needs) placed
+
+-- the same behind their lead-in
+unfoldable pub AreLed : ℕ → List Need → List Placed → Type 0
+AreLed window [] placed = ⊥
+AreLed window (first ∷ needs) [] = ⊥
+AreLed window (first ∷ needs) (p ∷ placed) =
+    (p.lead_in ≡ true) × IsLeadInSlot window (class_of first.header) (first ∷ needs) p.slot × AreOwn (first ∷ needs) placed
+
+-- the plan of one part whose frames keep their slots has no lead-in where they want nothing, and else theirs
+abbrev pub LeadInWhereWanted : Type 0
+LeadInWhereWanted =
+    (window : ℕ) (needs : List Need) (placed : List Placed) → IsPlan window (λ h. h.slot ∷ []) (needs ∷ []) placed
+    → (FitsBehind window 0 needs → AreOwn needs placed) × ((FitsBehind window 0 needs → ⊥) → AreLed window needs placed)

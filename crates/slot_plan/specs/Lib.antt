@@ -1,3 +1,4 @@
+pub mod Behind
 pub mod ClassLengths
 pub mod Laws
 pub mod Layouts

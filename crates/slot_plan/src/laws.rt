@@ -1,6 +1,6 @@
-//! Laws of the definitions that the contract of `plan` cites. Each function does nothing: a proof that needs its law
-//! calls it.
-ghost use Rattle.slot_plan.specs.Laws.{LeadInsComeFirst, PlansAreUnique, LeastPlanIsThePlan, LedPlanIsThePlan, LedWhereNeeded};
+//! Laws of the definitions that the contracts of `plan`, `wants` and `leaves` cite. Each function does nothing: a proof
+//! that needs its law calls it.
+ghost use Rattle.slot_plan.specs.Laws.{LeadInsComeFirst, PlansAreUnique, LeastPlanIsThePlan, LedPlanIsThePlan, LedWhereNeeded, FitsBehindWhatIsLeft, LeavesGoOn, FitsWhereWanted, LeadInWhereWanted};
 
 /// If the frames of a part can't be laid without a lead-in, its lead-in is the one with the smallest area
 /// with which they can. This is the first entry of the lexicographically least list of these frames after
@@ -31,4 +31,26 @@ pub fn led_plan_is_the_plan()
 /// If the frames of a part can't be laid without a lead-in, its plan is its led plan.
 pub fn led_where_needed()
     ensures { LedWhereNeeded }
+{}
+
+/// Frames and then others fit behind some free bytes exactly where the first do and what the others want is at
+/// most what the first leave. So one number stands for all frames before a seam.
+pub fn fits_behind_what_is_left()
+    ensures { FitsBehindWhatIsLeft }
+{}
+
+/// What frames and then others leave is what the others leave behind what the first leave.
+pub fn leaves_go_on()
+    ensures { LeavesGoOn }
+{}
+
+/// Frames fit behind exactly the bytes that are at least what they want.
+pub fn fits_where_wanted()
+    ensures { FitsWhereWanted }
+{}
+
+/// The plan of one part whose frames keep their slots has no lead-in where they want nothing. Else it begins
+/// with their lead-in, in the slot of the header that `lead_in` answers.
+pub fn lead_in_where_wanted()
+    ensures { LeadInWhereWanted }
 {}

@@ -3,6 +3,7 @@
 #![tactic(auto)]
 
 mod ascending;
+mod behind;
 mod laws;
 mod lengths;
 mod needs;
@@ -15,9 +16,10 @@ mod slots;
 mod table;
 
 pub use ascending::largest_area_of;
+pub use behind::{joins, lead_in, leaves, wants};
 pub use laws::{
-    lead_ins_come_first, least_plan_is_the_plan, led_plan_is_the_plan, led_where_needed,
-    plans_are_unique,
+    fits_behind_what_is_left, fits_where_wanted, lead_in_where_wanted, lead_ins_come_first,
+    least_plan_is_the_plan, leaves_go_on, led_plan_is_the_plan, led_where_needed, plans_are_unique,
 };
 pub use lengths::Lengths;
 pub use needs::{Need, Placed, Plan};

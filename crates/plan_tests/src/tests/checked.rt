@@ -1,7 +1,8 @@
 //! Whether the functions that plan may be called.
-ghost use Rattle.std.specs.Prelude.{◌+◌, ◌≡◌, ◌<◌, ◌≤◌, AllPairs, All, IsTrue, length, slice_index, map};
+ghost use Rattle.std.specs.Prelude.{ℕ, ◌+◌, ◌≡◌, ◌<◌, ◌≤◌, AllPairs, All, IsTrue, length, slice_index, map};
 ghost use Rattle.slot_plan.specs.Layouts.{IsFeasible};
 ghost use Rattle.slot_plan.specs.Parts.{own_frame, parts_of, AreOfOneClass, ArePartsFeasible};
+ghost use Rattle.slot_plan.specs.Behind.{FitBehindFree, FitBehindWindow, CanJoin};
 
 use slot_plan::{Need, end_of, free_behind};
 
@@ -42,12 +43,13 @@ pub fn are_of_one_class(needs: &[Need]) -> bool
     true
 }
 
-/// Whether the frames can be laid in their own slots after a whole window.
-pub fn fit(window: u32, part: &[Need]) -> bool
-    requires { window ≤ 511 }
-    ensures { IsTrue result → IsFeasible window window (map own_frame part.now) }
+/// Whether the frames can be laid in their own slots after so many free bytes.
+pub fn fit(window: u32, before: u32, part: &[Need]) -> bool
+    requires window { window ≤ 511 }
+    requires before { before ≤ window }
+    ensures { IsTrue result → IsFeasible window before (map own_frame part.now) }
 {
-    let mut free = window;
+    let mut free = before;
     for need in part {
         let area = need.header.area();
         if need.bytes > free + area {
@@ -58,6 +60,25 @@ pub fn fit(window: u32, part: &[Need]) -> bool
     true
 }
 
+/// Whether the frames are of one class and fit behind so many bytes, which are at most the window. Then they may be
+/// asked what they want and leave, and in which slot they join others that left no more.
+pub fn fit_behind(needs: &[Need], free: u32) -> bool
+    requires some { 0 < length needs.now }
+    ensures free { IsTrue result → FitBehindFree free needs.now }
+    ensures window { IsTrue result → FitBehindWindow needs.now }
+    ensures join { IsTrue result → (left : ℕ) → left ≤ free → CanJoin left needs.now }
+{
+    let class = needs[0].header.class();
+    let window = class.window();
+    if free > window {
+        return false;
+    }
+    if !are_of_one_class(needs) {
+        return false;
+    }
+    fit(window, free, needs)
+}
+
 /// Whether the frames of each part can.
 pub fn all_fit(window: u32, needs: &[Need], parts: &[u32]) -> bool
     requires window { window ≤ 511 }
@@ -66,7 +87,11 @@ pub fn all_fit(window: u32, needs: &[Need], parts: &[u32]) -> bool
     ensures { IsTrue result → ArePartsFeasible window (parts_of needs.now parts.now) }
 {
     for (at, from) in parts.iter().enumerate() {
-        if !fit(window, &needs[*from as usize..end_of(needs, parts, at)]) {
+        if !fit(
+            window,
+            window,
+            &needs[*from as usize..end_of(needs, parts, at)],
+        ) {
             return false;
         }
     }

@@ -12,7 +12,7 @@ pub fn best_of<R: Abort + AllocGlobal>(rt: &R, needs: &[Need]) -> Result<Option<
     assert!(rt; needs.len() <= 200_000);
     assert!(rt; are_of_one_class(needs));
     let window = needs[0].header.class().window();
-    if !fit(window, needs) {
+    if !fit(window, window, needs) {
         return Ok(None);
     }
     Ok(Some(best(rt.alloc(), needs, &Least)?))

@@ -50,7 +50,8 @@ fn searched<R: Abort + AllocGlobal>(
 ) -> Result<bool, AllocError> {
     assert!(rt; !needs.is_empty());
     let class = needs[0].header.class();
-    if !fit(class.window(), needs) {
+    let window = class.window();
+    if !fit(window, window, needs) {
         return Ok(false);
     }
     let are_so = are_searched(rt, needs, class.slots().as_slice())?;

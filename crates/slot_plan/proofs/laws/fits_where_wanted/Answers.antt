@@ -1,0 +1,6 @@
+-- More bytes than they want are enough.
+use Rattle.slot_plan.proofs.BehindLaws.{where-wanted}
+use Rattle.slot_plan.proofs.laws.fits_where_wanted.Goals as goal
+
+pub returns : goal.returns
+returns c = where-wanted

@@ -1,0 +1,6 @@
+-- A lead-in exactly where the frames want something.
+use Rattle.slot_plan.proofs.OwnLeadIn.{lead-where-wanted}
+use Rattle.slot_plan.proofs.laws.lead_in_where_wanted.Goals as goal
+
+pub returns : goal.returns
+returns c = lead-where-wanted

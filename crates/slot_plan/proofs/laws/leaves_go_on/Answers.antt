@@ -1,0 +1,6 @@
+-- What the others leave is what all leave.
+use Rattle.slot_plan.proofs.BehindLaws.{left-on}
+use Rattle.slot_plan.proofs.laws.leaves_go_on.Goals as goal
+
+pub returns : goal.returns
+returns c = left-on
