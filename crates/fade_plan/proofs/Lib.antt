@@ -3,5 +3,6 @@ pub mod LowLaws
 pub mod SheetLaws
 pub mod CurveLaws
 pub mod StepsLaws
+pub mod WithinLaws
 pub mod EvenLaws
 pub mod OppositeLaws

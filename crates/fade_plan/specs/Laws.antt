@@ -1,5 +1,5 @@
--- Laws of curves: how their steps go from point to point, and that the opposite envelope gives the opposite steps.
-use Rattle.std.specs.Prelude.{◌≡◌, ◌<◌, ◌≤◌, ℕ, List, [], ◌∷◌, ◌++◌, map, Result, Ok, Err, neg_ℤ}
+-- Laws of curves: how their steps go from point to point and how far they go, and that the opposite envelope gives the opposite steps.
+use Rattle.std.specs.Prelude.{◌≡◌, ◌<◌, ◌≤◌, ℕ, Bool, ◌&&◌, IsTrue, List, [], ◌∷◌, ◌++◌, map, All, Result, Ok, Err, ℤ, pos, neg_ℤ, int_le}
 use Rattle.std.specs.List.{AllPairs}
 use Rattle.frame_header.specs.Fields.{ClassFields}
 use Rattle.fade_plan.specs.Sheets.{EnvelopePoint}
@@ -21,6 +21,19 @@ pub record CurvesGoEvenly : Type 0 where
       → steps_at (front ++ (p ∷ q ∷ back)) frame ≡ steps_between p q frame
   -- from the last point's frame on its steps
   pub behind : (front : List CurvePoint) (p : CurvePoint) (frame : ℕ) → AreRising (front ++ (p ∷ [])) → p.frame ≤ frame → steps_at (front ++ (p ∷ [])) frame ≡ p.steps
+
+-- ---- how far
+
+-- from so many steps down to so many up
+abbrev pub is_within : ℕ → ℕ → ℤ → Bool
+is_within down up steps = int_le (neg_ℤ (pos down)) steps && int_le steps (pos up)
+
+pub record CurvesStayWithin : Type 0 where
+  -- where the steps of all points are, those of every frame are
+  pub all : (down up : ℕ) (points : List CurvePoint) → All (λ p. IsTrue (is_within down up p.steps)) points
+      → (frame : ℕ) → IsTrue (is_within down up (steps_at points frame))
+  -- every frame has the steps of a point that is the only one
+  pub one : (p : CurvePoint) (frame : ℕ) → steps_at (p ∷ []) frame ≡ p.steps
 
 -- ---- the opposite
 

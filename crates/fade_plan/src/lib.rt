@@ -13,4 +13,4 @@ mod point;
 pub use curve::Curve;
 pub use envelope::Envelope;
 pub use envelope_fault::EnvelopeFault;
-pub use laws::{curves_go_evenly, opposite_curves};
+pub use laws::{curves_go_evenly, curves_stay_within, opposite_curves};

@@ -1,6 +1,8 @@
 -- The lemmas of this crate.
 pub mod CourseLaws
 pub mod MovedGains
+pub mod ExtremesLaws
+pub mod TakenSteps
 pub mod MovingLaws
 pub mod WrittenLaws
 pub mod GainsLaws

@@ -134,7 +134,7 @@ moved_whole false steps h frame whole =
 pub whole_item : (h : HeaderFields) (frame : List ℕ) → IsWhole h frame → IsItem (Frame h) frame
 whole_item h frame whole = frame_item h frame whole.header whole.size (omega (arith, (whole_room h frame whole).1))
 
-gain_fits : (c : ClassFields) (has : Bool) (g : Granule) → MatchBool has (GranuleFits c.version g) (g ≡ no_granule) → g.global_gain < 256
+pub gain_fits : (c : ClassFields) (has : Bool) (g : Granule) → MatchBool has (GranuleFits c.version g) (g ≡ no_granule) → g.global_gain < 256
 gain_fits c true g fits = omega (arith, fits.global_gain)
 gain_fits c false g none = omega (arith, ap (λ (h : Granule). h.global_gain) none)
 

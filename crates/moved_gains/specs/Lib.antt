@@ -1,5 +1,7 @@
 -- What the contracts of this crate cite.
 pub mod Gains
+pub mod GainExtremes
+pub mod StepLaws
 pub mod Course
 pub mod Edited
 pub mod Streams

@@ -1,0 +1,6 @@
+-- The law, by the gains that leave the range.
+use Rattle.moved_gains.proofs.TakenSteps.{take_steps}
+use Rattle.moved_gains.proofs.laws.gains_take_steps.Goals as goal
+
+pub returns : goal.returns
+returns c = take_steps

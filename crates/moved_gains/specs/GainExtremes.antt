@@ -1,0 +1,81 @@
+-- The gains of a file that move, the least and the greatest of them, and the steps that they take.
+use Rattle.std.specs.Prelude.{◌≡◌, ℕ, ◌-◌, ◌<◌, ◌≤◌, min, max, Bool, true, ◌&&◌, if◌then◌else◌}
+use Rattle.std.specs.Prelude.{List, [], ◌∷◌, ◌++◌, flat_map, fold, All, Contains, Option, Some, None}
+use Rattle.std.specs.Prelude.{ℤ, pos, neg_ℤ, int_le}
+use Rattle.frame_header.specs.Fields.{ClassFields}
+use Rattle.side_info.specs.declared.granule.Granule.{Granule}
+use Rattle.side_info.specs.declared.side.Side.{Side}
+use Rattle.side_info.specs.Side.{granule_in}
+use Rattle.sync_survey.specs.Row.{Row}
+use Rattle.moved_gains.specs.declared.gain_extremes.Gains.{Gains}
+use Rattle.moved_gains.specs.Gains.{is_silent_granule}
+use Rattle.moved_gains.specs.Moving.{AreOfClass}
+
+-- ---- the gains that move
+
+-- the gain of a granule's channel that has main data; that of a silent one never moves
+abbrev pub gain_that_moves : Granule → List ℕ
+gain_that_moves g = if is_silent_granule g then [] else g.global_gain ∷ []
+
+-- those of a channel in both granules of a frame; a granule that the class lacks is silent
+abbrev pub gains_in : ℕ → Side → List ℕ
+gains_in channel s =
+    gain_that_moves (granule_in s 0 channel) ++ gain_that_moves (granule_in s 1 channel)
+
+-- those of a channel in a frame; a lost one has none
+abbrev pub gains_at : ℕ → Row → List ℕ
+gains_at channel row = if row.lost then [] else gains_in channel row.side
+
+-- those of a channel in all these frames, in their order
+unfoldable pub moving_gains : ℕ → List Row → List ℕ
+moving_gains channel rows = flat_map (gains_at channel) rows
+
+-- those of the left channel and those of the right one
+abbrev pub moving_on_both : List Row → List ℕ
+moving_on_both rows = moving_gains 0 rows ++ moving_gains 1 rows
+
+-- the frames are of a class that has this channel
+pub record HasChannel (channel : ℕ) (rows : List Row) : Type 0 where
+  pub class : ClassFields
+  pub same : AreOfClass class rows
+  pub below : channel < class.channels
+
+-- ---- the least and the greatest
+
+-- the least and the greatest of these gains; none where there are none
+unfoldable pub extremes : List ℕ → Option Gains
+extremes [] = None
+extremes (gain ∷ gains) = Some (record { least = fold min gain gains; greatest = fold max gain gains })
+
+-- they are two of these gains, and each of these is from the one to the other
+pub record AreExtremes (gains : List ℕ) (g : Gains) : Type 0 where
+  pub least : Contains gains g.least
+  pub greatest : Contains gains g.greatest
+  pub between : All (λ gain. (g.least ≤ gain) × (gain ≤ g.greatest)) gains
+
+-- the least and the greatest gain of a channel that move in these frames
+abbrev pub extremes_of : ℕ → List Row → Option Gains
+extremes_of channel rows = extremes (moving_gains channel rows)
+
+-- the same of both channels together
+abbrev pub extremes_of_both : List Row → Option Gains
+extremes_of_both rows = extremes (moving_on_both rows)
+
+-- those of some gains and of others, together
+abbrev pub joined : Option Gains → Option Gains → Option Gains
+joined None other = other
+joined (Some g) None = Some g
+joined (Some g) (Some h) =
+    Some (record { least = min g.least h.least; greatest = max g.greatest h.greatest })
+
+-- ---- steps
+
+-- no gain leaves the range from 0 to 255 by so many steps: by any where no gain moves
+abbrev pub takes : Option Gains → ℤ → Bool
+takes None steps = true
+takes (Some g) steps = int_le (neg_ℤ (pos g.least)) steps && int_le steps (pos (255 - g.greatest))
+
+-- nor by as many the other way
+abbrev pub takes_back : Option Gains → ℤ → Bool
+takes_back None steps = true
+takes_back (Some g) steps = int_le (neg_ℤ (pos (255 - g.greatest))) steps && int_le steps (pos g.least)
