@@ -19,12 +19,12 @@
 pub use commands::{EditFault, MOST_FRAMES, Refusal};
 pub use cut_edits::{cut, cut_exact, pack};
 pub use gain_edits::{
-    fade, fade_gives_back, fade_keeps_all, gain, gains_keep_all, opposite_gives_back, undo,
-    undo_gives_back,
+    fade, fade_gives_back, fade_keeps_all, gain, gains_keep_all, opposite_gives_back,
+    steps_are_exact, undo, undo_gives_back,
 };
 pub use join_edits::join;
 pub use list_edits::list;
-pub use moved_gains::Stuck;
+pub use moved_gains::{Gains, Stuck, gains_of};
 pub use pack_edits::{PackMode, fewest_bytes, floors_fit, never_longer, pack_with};
 pub use requests::{Channels, Shift, Steps};
 pub use salvage_edits::salvage;

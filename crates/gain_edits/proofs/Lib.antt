@@ -7,5 +7,6 @@ pub mod UndoneGains
 pub mod KeptGains
 pub mod FadeLaws
 pub mod FadeProper
+pub mod ExactLaws
 mod TakenBack
 mod KeptFade

@@ -13,3 +13,4 @@ pub mod Fade
 pub mod Steps
 pub mod TakenBack
 pub mod FadeKept
+pub mod ExactSteps

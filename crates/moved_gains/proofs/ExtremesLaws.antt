@@ -48,30 +48,35 @@ joined-assoc (Some f) (Some g) (Some h) =
     let greatest : max (max f.greatest g.greatest) h.greatest ≡ max f.greatest (max g.greatest h.greatest) = omega arith in
     ap₂ (λ (a b : ℕ). Some (record { least = a; greatest = b })) least greatest
 
+-- none beside them change nothing
 pub joined-None : (g : Option Gains) → joined g None ≡ g
 joined-None None = refl
 joined-None (Some g) = refl
 
 -- ---- of frames
 
+-- without frames no gain moves
 pub moving-nil : (channel : ℕ) → moving_gains channel [] ≡ []
 unfolding moving_gains
 moving-nil channel = refl
 
+-- the gains of frames are those of the first and those of the others
 pub moving-cons : (channel : ℕ) (row : Row) (rows : List Row) → moving_gains channel (row ∷ rows) ≡ gains_at channel row ++ moving_gains channel rows
 unfolding moving_gains
 moving-cons channel row rows = refl
 
+-- no gains have no least and no greatest
 pub extremes-nil : extremes [] ≡ None
 unfolding extremes
 extremes-nil = refl
 
--- those of frames are those of the first and those of the others
+-- and so are the least and the greatest of them
 pub extremes-cons : (channel : ℕ) (row : Row) (rows : List Row) → extremes_of channel (row ∷ rows) ≡ joined (extremes (gains_at channel row)) (extremes_of channel rows)
 extremes-cons channel row rows = ap extremes (moving-cons channel row rows) ∙ sym (joined-extremes (gains_at channel row) (moving_gains channel rows))
 
 -- ---- what they are
 
+-- where there are none, there are no gains
 pub extremes-None : (xs : List ℕ) → extremes xs ≡ None → xs ≡ []
 unfolding extremes
 extremes-None [] e = refl
@@ -128,6 +133,7 @@ are_extremes a xs = record {
   between = λ k d lt. between a xs k d lt;
 }
 
+-- where there are some, they are the least and the greatest
 pub extremes-Some : (xs : List ℕ) (g : Gains) → extremes xs ≡ Some g → AreExtremes xs g
 unfolding extremes
 extremes-Some [] g e = absurd cc
@@ -135,16 +141,19 @@ extremes-Some (x ∷ xs) g e =
     let same : record { least = fold min x xs; greatest = fold max x xs } ≡ g = cc in
     subst (AreExtremes (x ∷ xs)) same (are_extremes x xs)
 
+-- the same of what a call answers
 pub some_extremes : (xs : List ℕ) (o : Option Gains) → o ≡ extremes xs → IfSome o (AreExtremes xs)
 some_extremes xs None is = tt
 some_extremes xs (Some g) is = extremes-Some xs g (sym is)
 
+-- and where it answers none
 pub no_extremes : (xs : List ℕ) (o : Option Gains) → o ≡ extremes xs → IfNone o (xs ≡ [])
 no_extremes xs None is = extremes-None xs (sym is)
 no_extremes xs (Some g) is = tt
 
 -- ---- frame by frame
 
+-- what has no first frame has no frame
 pub no_first : (rows : List Row) → None ≡ slice_get rows 0 → rows ≡ []
 no_first [] is = refl
 no_first (row ∷ rows) is = absurd cc
@@ -160,6 +169,7 @@ extremes-from channel rows i row lt is =
     ap (extremes_of channel) (next_row rows i row lt ∙ ap (λ (r : Row). r ∷ drop (i + 1) rows) (sym is))
     ∙ extremes-cons channel row (drop (i + 1) rows)
 
+-- behind the last frame there are none
 pub extremes-behind : (channel : ℕ) (rows : List Row) (i : ℕ) → length rows ≤ i → extremes_of channel (drop i rows) ≡ None
 extremes-behind channel rows i end = ap (extremes_of channel) (drop_all i rows end) ∙ ap extremes (moving-nil channel) ∙ extremes-nil
 

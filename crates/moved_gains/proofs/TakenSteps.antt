@@ -79,6 +79,7 @@ takes_down g n = by_least g.least
         (λ is. lt-ltb n (suc a) (omega (arith, leb-true n a is)))
         (λ is. le-leb n a (omega (arith, ltb-true n (suc a) is)))
 
+-- one gain takes steps exactly where it doesn't leave the range by them
 pub takes-one : (gain : ℕ) (steps : ℤ) → gain < 256 → takes (Some (record { least = gain; greatest = gain })) steps ≡ inside steps gain
 takes-one gain (pos n) small =
     takes_up (record { least = gain; greatest = gain }) n
@@ -129,6 +130,7 @@ and_assoc : (a b c : Bool) → (a && (b && c)) ≡ ((a && b) && c)
 and_assoc true b c = refl
 and_assoc false b c = refl
 
+-- none of two lists leaves the range where none of the one does and none of the other
 pub inside-append : (steps : ℤ) (xs ys : List ℕ) → all_inside steps (xs ++ ys) ≡ (all_inside steps xs && all_inside steps ys)
 inside-append steps [] ys = refl
 inside-append steps (x ∷ xs) ys = ap (λ b. inside steps x && b) (inside-append steps xs ys) ∙ and_assoc (inside steps x) (all_inside steps xs) (all_inside steps ys)
@@ -205,10 +207,12 @@ row_stuck left right row =
 
 -- ---- all frames
 
+-- without frames no gain leaves the range
 pub stuck-nil : (steps : ℕ → Steps) → some_stuck steps [] ≡ false
 unfolding some_stuck
 stuck-nil steps = refl
 
+-- a gain of frames leaves it where one of the first frame does or one of the others
 pub stuck-cons : (steps : ℕ → Steps) (row : Row) (rows : List Row) → some_stuck steps (row ∷ rows) ≡ (is_some (stuck_of (steps row.offset) row) || some_stuck steps rows)
 unfolding some_stuck
 stuck-cons steps row rows = refl
@@ -314,6 +318,7 @@ mono_moving class (row ∷ rows) same one fits =
 
 -- ---- the law
 
+-- when a gain of frames that fit leaves the range
 pub take_steps : (rows : List Row) → AreFitting rows → TakeSteps rows
 take_steps rows fits = record {
   apart_is = λ left right. rows_stuck left right rows ∙ sym (ap₂ (λ (a b : Bool). not (a && b)) (takes-all (moving_gains 0 rows) left left_small) (takes-all (moving_gains 1 rows) right right_small));

@@ -2,5 +2,6 @@
 mod apart;
 mod damaged;
 mod folders;
+mod gains;
 mod tags;
 mod untold;

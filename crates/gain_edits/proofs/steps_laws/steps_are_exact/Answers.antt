@@ -1,0 +1,6 @@
+-- The law, by the gains that leave the range.
+use Rattle.gain_edits.proofs.ExactLaws.{exact-steps}
+use Rattle.gain_edits.proofs.steps_laws.steps_are_exact.Goals as goal
+
+pub returns : goal.returns
+returns c = exact-steps

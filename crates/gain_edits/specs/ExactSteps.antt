@@ -1,0 +1,85 @@
+-- The steps that a file takes are exact. Which they are is told by the least and the greatest gain that move.
+use Rattle.std.specs.Prelude.{◌≡◌, ℕ, ◌≤◌, Bool, true, false, not, if◌then◌else◌, IsTrue, List, [], ◌∷◌, length, All}
+use Rattle.std.specs.Prelude.{Option, Some, None, Result, Ok, Err, is_ok, ℤ}
+use Rattle.fade_plan.specs.Sheets.{EnvelopePoint, envelope_of}
+use Rattle.sync_survey.specs.Faults.{SurveyFields}
+use Rattle.sync_survey.specs.Survey.{survey_of}
+use Rattle.requests.specs.declared.shift.Channels.{Channels}
+use Rattle.requests.specs.declared.shift.Channels.TheVariants.{Both, Left, Right}
+use Rattle.requests.specs.declared.shift.Shift.{Shift}
+use Rattle.moved_gains.specs.declared.gain_extremes.Gains.{Gains}
+use Rattle.moved_gains.specs.GainExtremes.{extremes_of, extremes_of_both, takes, takes_back}
+use Rattle.commands.specs.declared.fault.EditFault.{EditFault}
+use Rattle.commands.specs.declared.fault.EditFault.TheVariants.{Refused}
+use Rattle.commands.specs.declared.fault.Refusal.{Refusal}
+use Rattle.commands.specs.declared.fault.Refusal.TheVariants.{GainRange}
+use Rattle.commands.specs.One.{most_frames}
+use Rattle.commands.specs.Sheet.{longest_sheet}
+use Rattle.gain_edits.specs.Channels.{apart_fault}
+use Rattle.gain_edits.specs.Change.{changed_file}
+use Rattle.gain_edits.specs.Gain.{gain_change}
+use Rattle.gain_edits.specs.Fade.{fade_change}
+
+-- ---- refusals since a gain would leave the range
+
+abbrev pub is_of_range : Refusal → Bool
+is_of_range (GainRange offset granule channel gain) = true
+is_of_range _ = false
+
+abbrev pub is_range_fault : EditFault → Bool
+is_range_fault (Refused refusal) = is_of_range refusal
+is_range_fault _ = false
+
+abbrev pub leaves_range : {T : Type 0} → Result T EditFault → Bool
+leaves_range (Ok made) = false
+leaves_range (Err fault) = is_range_fault fault
+
+-- what is made of a file is so refused exactly where the steps aren't taken, and else it is made
+pub record IsMadeWhere (taken : Bool) (made : Result (List ℕ) EditFault) : Type 0 where
+  pub refused : leaves_range made ≡ not taken
+  pub accepted : is_ok made ≡ taken
+
+-- ---- the commands
+
+-- so many steps on these channels, without wrap
+abbrev pub strict : Channels → ℤ → Shift
+strict channels steps = record { channels = channels; steps = steps; wrap = false }
+
+-- what `gain` makes of a file, with or without a note in its tag
+abbrev pub gained : Shift → Bool → List ℕ → Result (List ℕ) EditFault
+gained shift tags file = changed_file (gain_change shift tags) file
+
+-- what `fade` makes of it by a sheet of these bytes, with or without `--back`
+abbrev pub faded_by_sheet : List ℕ → Bool → List ℕ → Result (List ℕ) EditFault
+faded_by_sheet sheet back file = changed_file (fade_change (Some sheet) back) file
+
+-- a point's steps are taken: with `--back` as many the other way are
+abbrev pub takes_point : Option Gains → Bool → ℤ → Bool
+takes_point gains back steps = if back then takes_back gains steps else takes gains steps
+
+-- ---- the law
+
+-- The steps that a file with this survey takes, of which it is told the gains that move.
+pub record TakesExactly (file : List ℕ) (s : SurveyFields) : Type 0 where
+  -- on both channels: those of the gains of both together
+  pub both : (steps : ℤ) → IsMadeWhere (takes (extremes_of_both s.frames) steps) (gained (strict Both steps) false file)
+  -- which are those of the one channel where there is only one
+  pub mono : s.class.channels ≡ 1 → extremes_of_both s.frames ≡ extremes_of 0 s.frames
+  -- on one channel alone, if it may change alone: those of its gains
+  pub left : apart_fault s ≡ None → (steps : ℤ) → IsMadeWhere (takes (extremes_of 0 s.frames) steps) (gained (strict Left steps) false file)
+  pub right : apart_fault s ≡ None → (steps : ℤ) → IsMadeWhere (takes (extremes_of 1 s.frames) steps) (gained (strict Right steps) false file)
+  -- noted in the tag, no other steps are refused for the range
+  pub noted : (shift : Shift) → leaves_range (gained shift true file) ≡ true → leaves_range (gained shift false file) ≡ true
+  -- nor any with wrap, or where no gain moves
+  pub wrap : (shift : Shift) (tags : Bool) → shift.wrap ≡ true → leaves_range (gained shift tags file) ≡ false
+  pub still : extremes_of_both s.frames ≡ None → (shift : Shift) (tags : Bool) → leaves_range (gained shift tags file) ≡ false
+  -- a fade all of whose points have steps that are taken isn't refused for the range
+  pub fade : (sheet : List ℕ) (back : Bool) (points : List EnvelopePoint) → envelope_of sheet ≡ Ok points
+      → All (λ point. IsTrue (takes_point (extremes_of_both s.frames) back point.steps)) points → leaves_range (faded_by_sheet sheet back file) ≡ false
+  -- and one of a single point is so refused exactly where its steps aren't taken
+  pub fade_of_one : (sheet : List ℕ) (back : Bool) (point : EnvelopePoint) → length sheet ≤ longest_sheet → envelope_of sheet ≡ Ok (point ∷ [])
+      → IsMadeWhere (takes_point (extremes_of_both s.frames) back point.steps) (faded_by_sheet sheet back file)
+
+-- of every well-formed file
+abbrev pub StepsAreExact : Type 0
+StepsAreExact = (file : List ℕ) (s : SurveyFields) → survey_of file most_frames ≡ Ok s → TakesExactly file s
