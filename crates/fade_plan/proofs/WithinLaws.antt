@@ -1,5 +1,5 @@
 -- A curve goes no further up or down than its points.
-use Rattle.std.proofs.Common.{◌≡◌, ℕ, zero, suc, ◌+◌, ◌-◌, ◌*◌, ◌/◌, ◌<◌, ◌≤◌, Bool, true, false, cond, ltb, leb, nat_le, nat_lt, ◌&&◌, List, [], ◌∷◌, length, get_or, Option, Some, None, refl, sym, ◌∙◌, ap, ap₂, subst, arith}
+use Rattle.std.proofs.Common.{◌≡◌, ℕ, zero, suc, ◌+◌, ◌-◌, ◌*◌, ◌/◌, ◌<◌, ◌≤◌, Bool, true, false, cond, ltb, leb, nat_le, nat_lt, List, [], ◌∷◌, length, Option, Some, None, refl, sym, ◌∙◌, ap, ap₂, subst, arith}
 use Rattle.std.specs.Prelude.{ℤ, pos, negsuc, neg_ℤ, ◌+ℤ◌, ◌*ℤ◌, int_div, int_le, reverse, find, IsTrue}
 use Rattle.std.specs.Cmp.{both_ways}
 use Rattle.std.specs.List.{All}
@@ -48,6 +48,7 @@ within-opposite down up z =
     back (pos zero) is = record { down_to = is.up_to; up_to = is.down_to }
     back (pos (suc n)) is = record { down_to = is.up_to; up_to = is.down_to }
     back (negsuc n) is = record { down_to = is.up_to; up_to = is.down_to }
+
     there : (z : ℤ) → IsFar up down z → IsFar down up (neg_ℤ z)
     there (pos zero) is = record { down_to = is.up_to; up_to = is.down_to }
     there (pos (suc n)) is = record { down_to = is.up_to; up_to = is.down_to }
@@ -170,8 +171,10 @@ steps_within down up points all frame = by_points (last_up_to points frame) (fir
   where
     last : (p : CurvePoint) → last_up_to points frame ≡ Some p → (nat_le p.frame frame ≡ true) × (is_within down up p.steps ≡ true)
     last p is = found (λ p. is_within down up p.steps ≡ true) (λ p. nat_le p.frame frame) (reverse points) p (all_back (λ p. is_within down up p.steps ≡ true) points all) is
+
     first : (q : CurvePoint) → first_behind points frame ≡ Some q → (nat_lt frame q.frame ≡ true) × (is_within down up q.steps ≡ true)
     first q is = found (λ p. is_within down up p.steps ≡ true) (λ p. nat_lt frame p.frame) points q all is
+
     by_points : (o r : Option CurvePoint) → last_up_to points frame ≡ o → first_behind points frame ≡ r → is_within down up (steps_by o r frame) ≡ true
     by_points None None e d = near down up (pos 0) (none_far down up)
     by_points None (Some q) e d = (first q d).1

@@ -1,5 +1,7 @@
--- Laws of curves: how their steps go from point to point and how far they go, and that the opposite envelope gives the opposite steps.
-use Rattle.std.specs.Prelude.{◌≡◌, ◌<◌, ◌≤◌, ℕ, Bool, ◌&&◌, IsTrue, List, [], ◌∷◌, ◌++◌, map, All, Result, Ok, Err, ℤ, pos, neg_ℤ, int_le}
+-- Laws of curves: how their steps go from point to point, how far they go, and that the opposite
+-- envelope gives the opposite steps.
+use Rattle.std.specs.Prelude.{◌≡◌, ◌<◌, ◌≤◌, ℕ, Bool, ◌&&◌, IsTrue, List, [], ◌∷◌, ◌++◌}
+use Rattle.std.specs.Prelude.{map, All, Result, Ok, Err, ℤ, pos, neg_ℤ, int_le}
 use Rattle.std.specs.List.{AllPairs}
 use Rattle.frame_header.specs.Fields.{ClassFields}
 use Rattle.fade_plan.specs.Sheets.{EnvelopePoint}
@@ -30,7 +32,8 @@ is_within down up steps = int_le (neg_ℤ (pos down)) steps && int_le steps (pos
 
 pub record CurvesStayWithin : Type 0 where
   -- where the steps of all points are, those of every frame are
-  pub all : (down up : ℕ) (points : List CurvePoint) → All (λ p. IsTrue (is_within down up p.steps)) points
+  pub all : (down up : ℕ) (points : List CurvePoint)
+      → All (λ p. IsTrue (is_within down up p.steps)) points
       → (frame : ℕ) → IsTrue (is_within down up (steps_at points frame))
   -- every frame has the steps of a point that is the only one
   pub one : (p : CurvePoint) (frame : ℕ) → steps_at (p ∷ []) frame ≡ p.steps

@@ -1,7 +1,7 @@
 -- The steps that a file takes are exact.
-use Rattle.std.proofs.Common.{◌≡◌, ℕ, zero, suc, ◌<◌, ◌≤◌, Bool, true, false, cond, ◌&&◌, ◌||◌, not, ltb, List, [], ◌∷◌, length, map, All, Option, Some, None, is_some, Result, Ok, Err, refl, sym, ◌∙◌, ap, ap₂, subst, arith, ℤ, pos, neg_ℤ}
+use Rattle.std.proofs.Common.{◌≡◌, ℕ, zero, suc, ◌≤◌, Bool, true, false, cond, ◌&&◌, ◌||◌, not, ltb, List, [], ◌∷◌, length, map, All, Option, Some, None, is_some, Result, Ok, Err, refl, sym, ◌∙◌, ap, ap₂, subst, arith, ℤ, pos}
 use Rattle.std.specs.Prelude.{◌-◌, ◌==◌, IsTrue, is_ok, slice_get, unsigned_abs}
-use Rattle.std.proofs.lemmas.Bool.{le-ltb, and_parts, or_from, false_from_ne_true, both_ways, not_from_true}
+use Rattle.std.proofs.lemmas.Bool.{le-ltb, and_parts, false_from_ne_true, both_ways}
 use Rattle.frame_header.specs.Fields.{ClassFields}
 use Rattle.frame_header.specs.Tables.{class_of}
 use Rattle.side_info.specs.Side.{SideFits}
@@ -12,7 +12,6 @@ use Rattle.tag_blocks.specs.Tags.{TagFields, tag_bytes}
 use Rattle.tag_blocks.specs.UndoItems.{undo_from}
 use Rattle.fade_plan.specs.Sheets.{EnvelopePoint, envelope_of}
 use Rattle.fade_plan.specs.Curves.{CurvePoint, curve_point, not_rising, curve_of, unless_at, steps_at, steps_back}
-use Rattle.fade_plan.specs.Laws.{is_within}
 use Rattle.fade_plan.proofs.WithinLaws.{within-opposite, steps_within, steps_of_one}
 use Rattle.sync_survey.specs.Row.{Row}
 use Rattle.sync_survey.specs.Faults.{SurveyFields, longest_file}
@@ -32,8 +31,7 @@ use Rattle.moved_gains.specs.declared.tag_fault.FileTagFault.TheVariants.{TooLar
 use Rattle.moved_gains.specs.Course.{even, alike, number_at, steps_over}
 use Rattle.moved_gains.specs.Change.{Change}
 use Rattle.moved_gains.specs.Edited.{stuck_of}
-use Rattle.moved_gains.specs.GainExtremes.{moving_gains, extremes, extremes_of, extremes_of_both, takes, takes_back}
-use Rattle.moved_gains.specs.Moving.{AreOfClass}
+use Rattle.moved_gains.specs.GainExtremes.{moving_gains, extremes_of, extremes_of_both, takes}
 use Rattle.moved_gains.specs.StepLaws.{AreFitting, some_stuck, apart, TakeSteps}
 use Rattle.moved_gains.specs.TagPlace.{tag_at}
 use Rattle.moved_gains.specs.TagReading.{file_tag, longest_tag}
@@ -50,10 +48,10 @@ use Rattle.commands.proofs.RefusingLaws.{first-nil, first-cons}
 use Rattle.gain_edits.specs.Channels.{are_both, is_joint, joint_at, joint_fault, apart_fault, channel_fault}
 use Rattle.gain_edits.specs.Change.{Changing, changed_with, changing, changed_file}
 use Rattle.gain_edits.specs.GainRange.{stuck_fault, range_at, range_fault}
-use Rattle.gain_edits.specs.UndoItem.{tag_read, of_tag, noted_undo, undo_or, no_undo, next_undo, number_fault, undo_fault, tag_with, size_fault, output_length, output_fault}
+use Rattle.gain_edits.specs.UndoItem.{tag_read, noted_undo, no_undo, next_undo, number_fault, undo_fault, tag_with, size_fault, output_length, output_fault}
 use Rattle.gain_edits.specs.Gain.{plain_change, noted_change, noted_in, gain_change}
 use Rattle.gain_edits.specs.Fade.{points_read, curve_read, curve_on, faded, fade_in, fade_of, fade_change}
-use Rattle.gain_edits.specs.ExactSteps.{is_of_range, leaves_range, IsMadeWhere, strict, gained, faded_by_sheet, takes_point, TakesExactly, StepsAreExact}
+use Rattle.gain_edits.specs.ExactSteps.{is_of_range, leaves_range, IsMadeWhere, strict, gained, faded_by_sheet, takes_point, StepsAreExact}
 
 -- ---- refusals for the range
 

@@ -1,5 +1,7 @@
--- The steps that a file takes are exact. Which they are is told by the least and the greatest gain that move.
-use Rattle.std.specs.Prelude.{◌≡◌, ℕ, ◌≤◌, Bool, true, false, not, if◌then◌else◌, IsTrue, List, [], ◌∷◌, length, All}
+-- The steps that a file takes are exact. Which they are is told by the least and the greatest gain
+-- that move.
+use Rattle.std.specs.Prelude.{◌≡◌, ℕ, ◌≤◌, Bool, true, false, not, if◌then◌else◌, IsTrue}
+use Rattle.std.specs.Prelude.{List, [], ◌∷◌, length, All}
 use Rattle.std.specs.Prelude.{Option, Some, None, Result, Ok, Err, is_ok, ℤ}
 use Rattle.fade_plan.specs.Sheets.{EnvelopePoint, envelope_of}
 use Rattle.sync_survey.specs.Faults.{SurveyFields}
@@ -59,27 +61,38 @@ takes_point gains back steps = if back then takes_back gains steps else takes ga
 
 -- ---- the law
 
--- The steps that a file with this survey takes, of which it is told the gains that move.
+-- The steps that a file with this survey takes: the gains that move tell them.
 pub record TakesExactly (file : List ℕ) (s : SurveyFields) : Type 0 where
   -- on both channels: those of the gains of both together
-  pub both : (steps : ℤ) → IsMadeWhere (takes (extremes_of_both s.frames) steps) (gained (strict Both steps) false file)
+  pub both : (steps : ℤ) → IsMadeWhere (takes (extremes_of_both s.frames) steps)
+      (gained (strict Both steps) false file)
   -- which are those of the one channel where there is only one
   pub mono : s.class.channels ≡ 1 → extremes_of_both s.frames ≡ extremes_of 0 s.frames
   -- on one channel alone, if it may change alone: those of its gains
-  pub left : apart_fault s ≡ None → (steps : ℤ) → IsMadeWhere (takes (extremes_of 0 s.frames) steps) (gained (strict Left steps) false file)
-  pub right : apart_fault s ≡ None → (steps : ℤ) → IsMadeWhere (takes (extremes_of 1 s.frames) steps) (gained (strict Right steps) false file)
+  pub left : apart_fault s ≡ None → (steps : ℤ)
+      → IsMadeWhere (takes (extremes_of 0 s.frames) steps) (gained (strict Left steps) false file)
+  pub right : apart_fault s ≡ None → (steps : ℤ)
+      → IsMadeWhere (takes (extremes_of 1 s.frames) steps) (gained (strict Right steps) false file)
   -- noted in the tag, no other steps are refused for the range
-  pub noted : (shift : Shift) → leaves_range (gained shift true file) ≡ true → leaves_range (gained shift false file) ≡ true
+  pub noted : (shift : Shift) → leaves_range (gained shift true file) ≡ true
+      → leaves_range (gained shift false file) ≡ true
   -- nor any with wrap, or where no gain moves
-  pub wrap : (shift : Shift) (tags : Bool) → shift.wrap ≡ true → leaves_range (gained shift tags file) ≡ false
-  pub still : extremes_of_both s.frames ≡ None → (shift : Shift) (tags : Bool) → leaves_range (gained shift tags file) ≡ false
+  pub wrap : (shift : Shift) (tags : Bool) → shift.wrap ≡ true
+      → leaves_range (gained shift tags file) ≡ false
+  pub still : extremes_of_both s.frames ≡ None → (shift : Shift) (tags : Bool)
+      → leaves_range (gained shift tags file) ≡ false
   -- a fade all of whose points have steps that are taken isn't refused for the range
-  pub fade : (sheet : List ℕ) (back : Bool) (points : List EnvelopePoint) → envelope_of sheet ≡ Ok points
-      → All (λ point. IsTrue (takes_point (extremes_of_both s.frames) back point.steps)) points → leaves_range (faded_by_sheet sheet back file) ≡ false
+  pub fade : (sheet : List ℕ) (back : Bool) (points : List EnvelopePoint)
+      → envelope_of sheet ≡ Ok points
+      → All (λ point. IsTrue (takes_point (extremes_of_both s.frames) back point.steps)) points
+      → leaves_range (faded_by_sheet sheet back file) ≡ false
   -- and one of a single point is so refused exactly where its steps aren't taken
-  pub fade_of_one : (sheet : List ℕ) (back : Bool) (point : EnvelopePoint) → length sheet ≤ longest_sheet → envelope_of sheet ≡ Ok (point ∷ [])
-      → IsMadeWhere (takes_point (extremes_of_both s.frames) back point.steps) (faded_by_sheet sheet back file)
+  pub fade_of_one : (sheet : List ℕ) (back : Bool) (point : EnvelopePoint)
+      → length sheet ≤ longest_sheet → envelope_of sheet ≡ Ok (point ∷ [])
+      → IsMadeWhere (takes_point (extremes_of_both s.frames) back point.steps)
+      (faded_by_sheet sheet back file)
 
 -- of every well-formed file
 abbrev pub StepsAreExact : Type 0
-StepsAreExact = (file : List ℕ) (s : SurveyFields) → survey_of file most_frames ≡ Ok s → TakesExactly file s
+StepsAreExact =
+    (file : List ℕ) (s : SurveyFields) → survey_of file most_frames ≡ Ok s → TakesExactly file s

@@ -1,10 +1,10 @@
 -- The steps that gains take: where no gain of a list leaves the range, the least and the greatest don't, and the other way round.
 use Rattle.std.proofs.Common.{◌≡◌, ℕ, zero, suc, ◌+◌, ◌-◌, ◌<◌, ◌≤◌, ltb, leb, min, max, Bool, true, false, not, ◌&&◌, ◌||◌, cond, List, [], ◌∷◌, ◌++◌, Option, Some, None, is_some, ℤ, pos, negsuc, ◌+ℤ◌, neg_ℤ, refl, sym, ◌∙◌, ap, ap₂, arith}
-use Rattle.std.specs.Prelude.{int_le, IsTrue, MatchBool, slice_get}
+use Rattle.std.specs.Prelude.{int_le, MatchBool}
 use Rattle.std.specs.Cmp.{both_ways}
 use Rattle.std.specs.Option.{option_or}
 use Rattle.std.proofs.Math.IntN.{+ℤ_idr}
-use Rattle.std.proofs.lemmas.Bool.{ltb-true, ltb-false, leb-true, leb-false, lt-ltb, le-ltb, le-leb, lt-leb, and_parts, and_from}
+use Rattle.std.proofs.lemmas.Bool.{ltb-true, ltb-false, leb-true, lt-ltb, le-ltb, le-leb, lt-leb, and_parts, and_from}
 use Rattle.std.proofs.lemmas.List.{append-nil}
 use Rattle.frame_header.specs.declared.version.Version.{Version}
 use Rattle.frame_header.specs.Fields.{ClassFields}
@@ -21,7 +21,7 @@ use Rattle.moved_gains.specs.Gains.{is_silent_granule, is_outside, stuck_at, stu
 use Rattle.moved_gains.specs.Course.{even, alike}
 use Rattle.moved_gains.specs.Edited.{stuck_of}
 use Rattle.moved_gains.specs.Moving.{AreOfClass}
-use Rattle.moved_gains.specs.GainExtremes.{gain_that_moves, gains_in, gains_at, moving_gains, extremes, joined, extremes_of, extremes_of_both, takes}
+use Rattle.moved_gains.specs.GainExtremes.{gain_that_moves, gains_in, gains_at, moving_gains, extremes, joined, extremes_of_both, takes}
 use Rattle.moved_gains.specs.StepLaws.{AreFitting, some_stuck, apart, TakeSteps}
 use Rattle.moved_gains.proofs.MovedGains.{is_stuck, wrapped-free}
 use Rattle.moved_gains.proofs.MovedFrame.{gain_fits}
@@ -295,6 +295,7 @@ no_second c granule one = by_granule (ltb granule (granules_of c.version))
   where
     few : ltb 1 c.channels ≡ false
     few = le-ltb 1 c.channels (omega (arith, one))
+
     by_granule : (b : Bool) → (b && ltb 1 c.channels) ≡ false
     by_granule true = few
     by_granule false = refl
@@ -336,8 +337,10 @@ take_steps rows fits = record {
   where
     left_small : AreSmall (moving_gains 0 rows)
     left_small = small_moving 0 rows fits
+
     right_small : AreSmall (moving_gains 1 rows)
     right_small = small_moving 1 rows fits
+
     on_both : (steps : ℤ) → takes (extremes_of_both rows) steps ≡ (all_inside steps (moving_gains 0 rows) && all_inside steps (moving_gains 1 rows))
     on_both steps =
         takes-all (moving_gains 0 rows ++ moving_gains 1 rows) steps (small-append (moving_gains 0 rows) (moving_gains 1 rows) left_small right_small)

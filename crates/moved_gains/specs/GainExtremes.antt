@@ -1,6 +1,7 @@
 -- The gains of a file that move, the least and the greatest of them, and the steps that they take.
-use Rattle.std.specs.Prelude.{◌≡◌, ℕ, ◌-◌, ◌<◌, ◌≤◌, min, max, Bool, true, ◌&&◌, if◌then◌else◌}
-use Rattle.std.specs.Prelude.{List, [], ◌∷◌, ◌++◌, flat_map, fold, All, Contains, Option, Some, None}
+use Rattle.std.specs.Prelude.{ℕ, ◌-◌, ◌<◌, ◌≤◌, min, max, Bool, true, ◌&&◌, if◌then◌else◌}
+use Rattle.std.specs.Prelude.{List, [], ◌∷◌, ◌++◌, flat_map, fold, All, Contains, Option, Some}
+use Rattle.std.specs.Prelude.{None}
 use Rattle.std.specs.Prelude.{ℤ, pos, neg_ℤ, int_le}
 use Rattle.frame_header.specs.Fields.{ClassFields}
 use Rattle.side_info.specs.declared.granule.Granule.{Granule}
@@ -45,7 +46,8 @@ pub record HasChannel (channel : ℕ) (rows : List Row) : Type 0 where
 -- the least and the greatest of these gains; none where there are none
 unfoldable pub extremes : List ℕ → Option Gains
 extremes [] = None
-extremes (gain ∷ gains) = Some (record { least = fold min gain gains; greatest = fold max gain gains })
+extremes (gain ∷ gains) =
+    Some (record { least = fold min gain gains; greatest = fold max gain gains })
 
 -- they are two of these gains, and each of these is from the one to the other
 pub record AreExtremes (gains : List ℕ) (g : Gains) : Type 0 where
@@ -73,9 +75,11 @@ joined (Some g) (Some h) =
 -- no gain leaves the range from 0 to 255 by so many steps: by any where no gain moves
 abbrev pub takes : Option Gains → ℤ → Bool
 takes None steps = true
-takes (Some g) steps = int_le (neg_ℤ (pos g.least)) steps && int_le steps (pos (255 - g.greatest))
+takes (Some g) steps =
+    int_le (neg_ℤ (pos g.least)) steps && int_le steps (pos (255 - g.greatest))
 
 -- nor by as many the other way
 abbrev pub takes_back : Option Gains → ℤ → Bool
 takes_back None steps = true
-takes_back (Some g) steps = int_le (neg_ℤ (pos (255 - g.greatest))) steps && int_le steps (pos g.least)
+takes_back (Some g) steps =
+    int_le (neg_ℤ (pos (255 - g.greatest))) steps && int_le steps (pos g.least)

@@ -1,7 +1,9 @@
 //! The gains that move, of small files: their side information was worked out bit by bit from the standard's tables.
+ghost use Rattle.sync_survey.specs.Faults.{tells};
+ghost use Rattle.sync_survey.specs.Survey.{IsLaidOut};
 
 use moved_gains::{Gains, gains_of, joined};
-use outside::MemFolder;
+use outside::{Folder, MemFolder};
 use std::alloc::{AllocError, Global};
 use std::process::Abort;
 use std::test::Fail;
@@ -47,28 +49,23 @@ struct Case {
     gains: Option<(u8, u8)>,
 }
 
-static CASES: [Case; 8] = table! {
+static CASES: [Case; 9] = table! {
     Case { name, file, channel, gains }
     ("a lost frame before, left", &[LOST, SOUND], 0, Some((100, 110)))
     ("a lost frame before, right", &[LOST, SOUND], 1, Some((120, 130)))
     ("a silent granule", &[LAST_SILENT], 1, Some((101, 101)))
     ("both granules silent", &[RIGHT_ALONE], 0, None)
+    ("the other channel of these", &[RIGHT_ALONE], 1, Some((9, 9)))
     ("a silent frame among others", &[SOUND, Z, LAST_SILENT], 0, Some((50, 110)))
     ("one channel", &[MONO], 0, Some((30, 40)))
     ("one granule, left", &[LOWER], 0, Some((30, 30)))
     ("one granule, right", &[LOWER], 1, Some((40, 40)))
 };
 
-/// The survey of the file, where there is one.
-fn surveyed(alloc: Global, frames: &[Frame]) -> Result<Option<Survey>, AllocError> {
-    let file = file_of(alloc, frames)?;
-    let mut folder = MemFolder::new(alloc);
-    folder.put("song", &file)?;
-    Ok(survey(alloc, &mut folder, "song", 10).ok())
-}
-
 /// The least and the greatest gain of a channel that move, where any does.
-fn moving(survey: &Survey, channel: u8) -> Option<(u8, u8)> {
+fn moving(survey: &Survey, channel: u8) -> Option<(u8, u8)>
+    requires { IsLaidOut (tells survey.now) }
+{
     if channel >= survey.class().channels {
         return None;
     }
@@ -76,11 +73,19 @@ fn moving(survey: &Survey, channel: u8) -> Option<(u8, u8)> {
     Some((gains.least, gains.greatest))
 }
 
+/// The same of the file `a`; `None` too where it has no survey.
+fn gains_in<D: Folder>(alloc: Global, folder: &mut D, channel: u8) -> Option<(u8, u8)> {
+    match survey(alloc, folder, "a", 10) {
+        Ok(survey) => moving(&survey, channel),
+        Err(_) => None,
+    }
+}
+
 fn has_gains(alloc: Global, case: &Case) -> Result<bool, AllocError> {
-    let Some(survey) = surveyed(alloc, case.file)? else {
-        return Ok(false);
-    };
-    Ok(moving(&survey, case.channel) == case.gains)
+    let file = file_of(alloc, case.file)?;
+    let mut folder = MemFolder::new(alloc);
+    folder.put("a", &file)?;
+    Ok(gains_in(alloc, &mut folder, case.channel) == case.gains)
 }
 
 #[test]

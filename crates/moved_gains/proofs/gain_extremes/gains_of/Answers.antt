@@ -1,5 +1,5 @@
 -- The frames before are passed one by one, and what is found is the least and the greatest of the list.
-use Rattle.std.proofs.Common.{◌≡◌, ◌+◌, length, drop, refl, sym, ◌∙◌, ap, arith}
+use Rattle.std.proofs.Common.{◌+◌, length, drop, refl, sym, ◌∙◌, ap, arith}
 use Rattle.std.specs.Option.{option_copied}
 use Rattle.std.proofs.lemmas.Option.{slice_get_read}
 use Rattle.frame_header.specs.Tables.{class_of}
