@@ -6,6 +6,7 @@
 //! | call | crate | what it does |
 //! |---|---|---|
 //! | `list` | `list_edits` | sends what a file holds, a line for each block, junk, head and frame, to a sink |
+//! | `info` | `list_edits` | sends what a file is, in a few lines, to a sink |
 //! | `gain`, `undo`, `fade` | `gain_edits` | moves the gains of a file; undoes the changes that the file's tag lists; moves them by a curve over its frames |
 //! | `cut`, `pack` | `cut_edits` | lays the frames between two positions, or all, anew in one file |
 //! | `cut_exact` | `cut_edits` | lays the frames that a decoder needs for some samples anew, with a head by which players play exactly these |
@@ -23,7 +24,7 @@ pub use gain_edits::{
     steps_are_exact, undo, undo_gives_back,
 };
 pub use join_edits::join;
-pub use list_edits::list;
+pub use list_edits::{info, list};
 pub use moved_gains::{Gains, Stuck, gains_of};
 pub use pack_edits::{PackMode, fewest_bytes, floors_fit, never_longer, pack_with};
 pub use requests::{Channels, Shift, Steps};

@@ -4,9 +4,9 @@ ghost use Rattle.exact_span.specs.Extensions.{has_encoder as has_encoder_lem, de
 
 use info_header::Info;
 
-/// What a head counts: frames, at least 1, and delay and padding in samples.
-#[derive(Clone, Copy)]
-pub(crate) struct Counts {
+/// What a head counts: frames, at least 1, and delay and padding in samples, two numbers of 12 bits.
+#[derive(Clone, Copy, Debug, PartialEq, Eq)]
+pub struct Counts {
     pub frames: u32,
     pub delay: u32,
     pub padding: u32,
@@ -38,8 +38,9 @@ fn padding_in(extension: &[u8; 36]) -> u32
     256 * u32::from(extension[22] % 16) + u32::from(extension[23])
 }
 
-/// What the head counts. `None` where there is no head, or it doesn't count.
-pub(crate) fn counts_of(info: Option<&Info>) -> Option<Counts>
+/// What the head counts. `None` where there is no head, or it has no number of frames or the number
+/// 0, or its extension doesn't begin with `LAME`, `Lavf` or `Lavc`.
+pub fn counts_of(info: Option<&Info>) -> Option<Counts>
     ensures counts { result ≡ counts_of_lem (option_copied info.entry) }
     ensures padding { IfSome result (λ counts. counts.padding < 4096) }
     ensures delay { IfSome result (λ counts. counts.delay < 4096) }

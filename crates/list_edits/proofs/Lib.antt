@@ -4,4 +4,5 @@ pub mod DecimalLaws
 pub mod RateLaws
 pub mod ThingsLaws
 pub mod ListingLaws
-pub mod ListLaws
+pub mod TextLaws
+pub mod InfoLaws

@@ -1,5 +1,5 @@
 -- The lines of a text, one after another, and what is sent of them: those of entries, and a last one.
-use Rattle.std.proofs.Common.{◌≡◌, ℕ, List, [], ◌∷◌, ◌++◌, sym, ◌∙◌, ap, subst, append_assoc}
+use Rattle.std.proofs.Common.{◌≡◌, ℕ, List, [], ◌∷◌, ◌++◌, sym, ◌∙◌, ap, subst, append_assoc, append-nil}
 use Rattle.std.specs.Prelude.{Result, Ok, Err, OnOk, OnErr, flat_map}
 use Rattle.outside.specs.Files.{Sent, sent_more}
 use Rattle.outside.specs.Passed.{SentOn, SentPrefix}
@@ -27,6 +27,17 @@ module _ {A : Type 0} (line : A → List ℕ) (all : List A) where
     sent = sent_more_on (line t) h.sent more;
   }
 
+  -- nothing is left
+  pub all_lines : (left : List A) (waits : List ℕ) (old now : Sent) → IsSaidTo line all left waits old now → left ≡ [] → SentOn (flat_map line all) waits old now
+  all_lines left waits old now h is =
+      subst (λ text. SentOn text waits old now) (sym (h.lines ∙ ap (λ ts. h.done ++ flat_map line ts) is ∙ append-nil h.done)) h.sent
+
+  -- a line that failed
+  pub line_failed : (left rest : List A) (t : A) (waits : List ℕ) (old now new : Sent) → IsSaidTo line all left waits old now → left ≡ t ∷ rest
+      → SentPrefix (waits ++ line t) now new → SentPrefix (flat_map line all) old new
+  line_failed left rest t waits old now new h is part =
+      subst (λ text. SentPrefix text old new) (sym (lines_split left rest t h.done is h.lines)) (sent_prefix_of (flat_map line rest) (sent_more_prefix (line t) h.sent part))
+
   module _ (last : List ℕ) where
     text_is : (done : List ℕ) (left : List A) → flat_map line all ≡ done ++ flat_map line left → flat_map line all ++ last ≡ done ++ (flat_map line left ++ last)
     text_is done left is = ap (λ front. front ++ last) is ∙ append_assoc done (flat_map line left) last
@@ -34,10 +45,7 @@ module _ {A : Type 0} (line : A → List ℕ) (all : List A) where
     -- a line that failed
     pub said_failed : (left rest : List A) (t : A) (waits : List ℕ) (old now new : Sent) → IsSaidTo line all left waits old now → left ≡ t ∷ rest
         → SentPrefix (waits ++ line t) now new → SentPrefix (flat_map line all ++ last) old new
-    said_failed left rest t waits old now new h is part =
-        let behind : List ℕ = flat_map line rest ++ last in
-        let whole : flat_map line all ++ last ≡ (h.done ++ line t) ++ behind = text_is (h.done ++ line t) rest (lines_split left rest t h.done is h.lines) in
-        subst (λ text. SentPrefix text old new) (sym whole) (sent_prefix_of behind (sent_more_prefix (line t) h.sent part))
+    said_failed left rest t waits old now new h is part = sent_prefix_of last (line_failed left rest t waits old now new h is part)
 
     -- nothing is left but the last line
     all_said : (left : List A) (waits : List ℕ) (old now : Sent) → IsSaidTo line all left waits old now → left ≡ []

@@ -1,5 +1,5 @@
 -- The list command: a line for each thing of a file, in order of the offsets, and a summary.
-use Rattle.std.specs.Prelude.{◌≡◌, ℕ, ◌*◌, ◌/◌, ◌%◌, Bool, if◌then◌else◌, List, [], ◌∷◌, ◌++◌, length, flat_map, codes, decimal, Option, Some, None, Result, Ok, Err, false}
+use Rattle.std.specs.Prelude.{◌≡◌, ℕ, ◌*◌, ◌/◌, ◌%◌, Bool, if◌then◌else◌, List, [], ◌∷◌, ◌++◌, length, flat_map, codes, decimal, Option, Result}
 use Rattle.frame_header.specs.declared.version.Version.{Version}
 use Rattle.frame_header.specs.declared.version.Version.TheVariants.{One, Two, TwoFive}
 use Rattle.frame_header.specs.Fields.{ClassFields}
@@ -9,17 +9,14 @@ use Rattle.tag_blocks.specs.declared.block.Kind.{Kind}
 use Rattle.tag_blocks.specs.declared.block.Kind.TheVariants.{Id3v2, Id3v1, Ape}
 use Rattle.sync_survey.specs.Row.{Row}
 use Rattle.sync_survey.specs.declared.survey_fault.SurveyFault.{SurveyFault}
-use Rattle.sync_survey.specs.declared.survey_fault.SurveyFault.TheVariants.{Absent}
 use Rattle.sync_survey.specs.Faults.{SurveyFields}
-use Rattle.sync_survey.specs.Survey.{survey_of}
 use Rattle.commands.specs.declared.fault.EditFault.{EditFault}
-use Rattle.commands.specs.declared.fault.EditFault.TheVariants.{Input}
 use Rattle.list_edits.specs.declared.things.Thing.{Thing}
 use Rattle.list_edits.specs.declared.things.Thing.TheVariants.{Block, Junk, FirstHead, Frame}
-use Rattle.commands.specs.One.{most_frames}
 use Rattle.commands.specs.Command.{Made, Command}
 use Rattle.list_edits.specs.Decimals.{two_digits}
 use Rattle.list_edits.specs.Things.{things_of, in_order}
+use Rattle.list_edits.specs.TextCommand.{text_by, text_where, text_command}
 
 -- ---- the line of each thing
 
@@ -77,11 +74,15 @@ hundredths class count = (count * samples_of class.version * 100) / frequency_of
 abbrev pub time_text : ℕ → List ℕ
 time_text time = decimal (time / 6000) ++ (codes "." ++ (two_digits (time / 100 % 60) ++ (codes "." ++ two_digits (time % 100))))
 
+-- what the frames of a class share: the version, the sampling frequency, and the number of channels
+abbrev pub class_text : ClassFields → List ℕ
+class_text class =
+    version_name class.version ++ (codes ", " ++ (decimal (frequency_of class) ++ (codes " Hz, " ++ (decimal class.channels ++ codes " channels"))))
+
 -- how many frames there are, what they share, and how long they sound
 unfoldable pub summary : ClassFields → ℕ → List ℕ
 summary class count =
-    decimal count ++ (codes " frames, " ++ (version_name class.version ++ (codes ", " ++ (decimal (frequency_of class) ++ (codes " Hz, " ++ (decimal class.channels
-    ++ (codes " channels, " ++ (time_text (hundredths class count) ++ codes "\n"))))))))
+    decimal count ++ (codes " frames, " ++ (class_text class ++ (codes ", " ++ (time_text (hundredths class count) ++ codes "\n"))))
 
 -- ---- the command
 
@@ -93,21 +94,11 @@ unfoldable pub listing : SurveyFields → List ℕ
 listing s = lines_of (in_order (things_of s)) ++ summary s.class (length s.frames)
 
 abbrev pub listed_by : Result SurveyFields SurveyFault → Result Made EditFault
-listed_by (Err fault) = Err (Input 0 fault)
-listed_by (Ok s) = Ok (record { outputs = []; text = listing s })
+listed_by = text_by listing
 
 abbrev pub listed_where : Option (List ℕ) → Result Made EditFault
-listed_where None = Err (Input 0 Absent)
-listed_where (Some file) = listed_by (survey_of file most_frames)
+listed_where = text_where (λ file. listing)
 
--- nothing is written to the folder, and the text is that of the input
+-- the text is the listing of the input
 abbrev pub list_command : List ℕ → Command
-list_command input = record {
-  inputs = input ∷ [];
-  outputs = [];
-  sources = input ∷ [];
-  always = None;
-  makes = λ files. listed_where (files input);
-  streams = λ files. [];
-  refuses = λ refusal. false;
-}
+list_command = text_command (λ file. listing)

@@ -1,12 +1,16 @@
-//! The command that lists what a file holds.
+//! The commands that send a text of one file: `list`, what it holds, and `info`, what it is in a few lines.
 #![tactic(auto)]
 
+mod info_file;
+mod info_lines;
 mod leading_digits;
 mod line;
 mod lines;
 mod list_file;
 mod rate_text;
 mod things;
+mod totals;
 
+pub use info_file::info;
 pub use line::Line;
 pub use list_file::list;

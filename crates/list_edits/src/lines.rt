@@ -1,6 +1,6 @@
 //! The lines of a listing.
 ghost use Rattle.std.specs.Prelude.{◌≡◌, ◌+◌, ◌<◌, ◌≤◌, ◌++◌, true, false, [], length, codes};
-ghost use Rattle.list_edits.specs.Listing.{kind_name as kind_name_lem, version_name as version_name_lem, extent as extent_lem, frame_line as frame_line_lem, line_of, IsNextLine, time_text, summary};
+ghost use Rattle.list_edits.specs.Listing.{kind_name as kind_name_lem, version_name as version_name_lem, extent as extent_lem, frame_line as frame_line_lem, line_of, IsNextLine, time_text, hundredths, class_text, summary};
 ghost use Rattle.list_edits.specs.Things.{left};
 
 use crate::leading_digits::LeadingDigits;
@@ -161,17 +161,34 @@ fn set_time(line: &mut Line, time: u128)
     line.put(Buffer::new().format(time / 6000).as_bytes());
 }
 
+/// Makes the text the end of a line: how long `count` frames of this class sound.
+pub(crate) fn set_duration(line: &mut Line, class: Class, count: u64)
+    ensures text { line.new ≡ time_text (hundredths class count) ++ codes "\n" }
+    ensures few { length line.new ≤ 64 }
+{
+    let samples = u128::from(count) * u128::from(class.samples());
+    set_time(line, samples * 100 / u128::from(class.frequency()));
+}
+
+/// Puts what the frames of a class share before a line: version, sampling frequency and number of channels.
+pub(crate) fn put_class(line: &mut Line, class: Class)
+    requires { length line.old + 64 ≤ 192 }
+    ensures class { line.new ≡ class_text class ++ line.old }
+    ensures few { length line.new ≤ length line.old + 64 }
+{
+    line.put_counted(u64::from(class.channels), b" channels");
+    line.put_counted(u64::from(class.frequency()), b" Hz, ");
+    line.put(b", ");
+    line.put(version_name(class.version));
+}
+
 /// Makes the text the summary of `count` frames of this class.
 #[tactic(auto, unfolding(crate::specs::Listing::summary))]
 pub(crate) fn set_summary(line: &mut Line, class: Class, count: u64)
     ensures { line.new ≡ summary class count }
 {
-    let frequency = class.frequency();
-    let samples = u128::from(count) * u128::from(class.samples());
-    set_time(line, samples * 100 / u128::from(frequency));
-    line.put_counted(u64::from(class.channels), b" channels, ");
-    line.put_counted(u64::from(frequency), b" Hz, ");
+    set_duration(line, class, count);
     line.put(b", ");
-    line.put(version_name(class.version));
+    put_class(line, class);
     line.put_counted(count, b" frames, ");
 }

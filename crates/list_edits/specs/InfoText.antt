@@ -1,0 +1,146 @@
+-- The info command: in a few lines, what a file is, whether frames are missing, and by how many
+-- steps its gains can move.
+use Rattle.std.specs.Prelude.{ℕ, ◌-◌, ◌==◌, ◌&&◌, if◌then◌else◌, Bool, true, List, [], ◌∷◌, ◌++◌, length, flat_map, codes, decimal, Option, Some, None}
+use Rattle.frame_header.specs.Fields.{ClassFields}
+use Rattle.info_header.specs.declared.fields.Info.{Info}
+use Rattle.info_header.specs.Info.{text_of}
+use Rattle.exact_span.specs.declared.extensions.Counts.{Counts}
+use Rattle.exact_span.specs.Extensions.{counts_of}
+use Rattle.exact_span.specs.PlayedPositions.{played_of, length_of_played}
+use Rattle.sync_survey.specs.Row.{Row}
+use Rattle.sync_survey.specs.Faults.{SurveyFields}
+use Rattle.moved_gains.specs.declared.gain_extremes.Gains.{Gains}
+use Rattle.moved_gains.specs.GainExtremes.{extremes_of, extremes_of_both}
+use Rattle.laying.specs.KeptFields.{fields_of_head}
+use Rattle.commands.specs.Command.{Command}
+use Rattle.list_edits.specs.Listing.{class_text, time_text, hundredths}
+use Rattle.list_edits.specs.TextCommand.{text_command}
+use Rattle.list_edits.specs.Totals.{lost_in, least_rate, greatest_rate, main_data_in, areas_in, stream_length}
+
+-- ---- the frames
+
+-- what they share
+abbrev pub class_line : ClassFields → List ℕ
+class_line class = class_text class ++ codes "\n"
+
+-- how many there are, how many of them are lost, and how long they sound
+abbrev pub frames_line : ClassFields → List Row → List ℕ
+frames_line class rows =
+    decimal (length rows) ++ (codes " frames, " ++ (decimal (lost_in rows) ++ (codes " lost, "
+    ++ (time_text (hundredths class (length rows)) ++ codes "\n"))))
+
+abbrev pub up_to : ℕ → ℕ → List ℕ
+up_to least greatest = if least == greatest then [] else codes " to " ++ decimal greatest
+
+-- the least and the greatest bit rate, in kbit/s, or the only one
+abbrev pub rates_line : List Row → List ℕ
+rates_line rows =
+    decimal (least_rate rows) ++ (up_to (least_rate rows) (greatest_rate rows) ++ codes " kbit/s\n")
+
+-- how many bytes of main data there are, and how many there could be
+abbrev pub main_data_line : SurveyFields → List ℕ
+main_data_line s =
+    decimal (main_data_in s.frames) ++ (codes " of "
+    ++ (decimal (areas_in s) ++ codes " bytes are main data\n"))
+
+-- ---- the head
+
+-- a number that the head has
+abbrev pub number_text : Option ℕ → List ℕ → List ℕ
+number_text None unit = []
+number_text (Some n) unit = codes ", " ++ (decimal n ++ unit)
+
+-- its text, and its numbers of frames and of bytes
+abbrev pub head_line : Option Info → List ℕ
+head_line None = codes "no head\n"
+head_line (Some info) =
+    text_of info.vbr ++ (codes " head" ++ (number_text info.frames (codes " frames")
+    ++ (number_text info.bytes (codes " bytes") ++ codes "\n")))
+
+-- the head has no such number, or this one
+abbrev pub agrees : Option ℕ → ℕ → Bool
+agrees None n = true
+agrees (Some said) n = said == n
+
+abbrev pub is_as_said : Option Info → ℕ → ℕ → Bool
+is_as_said None frames bytes = true
+is_as_said (Some info) frames bytes = agrees info.frames frames && agrees info.bytes bytes
+
+abbrev pub but_line : ℕ → ℕ → List ℕ
+but_line frames bytes =
+    codes "but " ++ (decimal frames ++ (codes " frames, "
+    ++ (decimal bytes ++ codes " bytes are here\n")))
+
+-- where the head has another number of frames or of bytes: so many are here
+abbrev pub here_lines : Option Info → ℕ → ℕ → List (List ℕ)
+here_lines head frames bytes =
+    if is_as_said head frames bytes then [] else but_line frames bytes ∷ []
+
+-- ---- what is played
+
+-- delay and padding, in samples, where the head counts
+abbrev pub counts_text : Option Counts → List ℕ
+counts_text None = []
+counts_text (Some counts) =
+    codes "delay " ++ (decimal counts.delay ++ (codes ", padding "
+    ++ (decimal counts.padding ++ codes ", ")))
+
+-- and how many samples are played
+abbrev pub played_line : Option Info → ClassFields → ℕ → List ℕ
+played_line head class frames =
+    counts_text (counts_of head) ++ (codes "plays "
+    ++ (decimal (length_of_played (played_of head class frames)) ++ codes " samples\n"))
+
+-- ---- the gains that move
+
+-- by how many steps they can move down and up
+abbrev pub steps_text : Gains → List ℕ
+steps_text g =
+    codes "steps -" ++ (decimal g.least ++ (codes " to +"
+    ++ (decimal (255 - g.greatest) ++ codes "\n")))
+
+-- the least and the greatest gain of a channel, and its steps
+abbrev pub gains_text : Option Gains → List ℕ
+gains_text None = codes "no gains\n"
+gains_text (Some g) =
+    codes "gains " ++ (decimal g.least ++ (codes " to "
+    ++ (decimal g.greatest ++ (codes ", " ++ steps_text g))))
+
+-- the steps of both channels together
+abbrev pub both_text : Option Gains → List ℕ
+both_text None = codes "no gains\n"
+both_text (Some g) = steps_text g
+
+-- of the one channel
+abbrev pub mono_lines : List Row → List (List ℕ)
+mono_lines rows = (codes "mono: " ++ gains_text (extremes_of 0 rows)) ∷ []
+
+-- of each of two, and of both
+abbrev pub stereo_lines : List Row → List (List ℕ)
+stereo_lines rows =
+    (codes "left: " ++ gains_text (extremes_of 0 rows))
+    ∷ (codes "right: " ++ gains_text (extremes_of 1 rows))
+    ∷ (codes "both: " ++ both_text (extremes_of_both rows)) ∷ []
+
+abbrev pub gain_lines : ℕ → List Row → List (List ℕ)
+gain_lines channels rows = if channels == 1 then mono_lines rows else stereo_lines rows
+
+-- ---- the command
+
+-- the 7 to 10 lines of a file with this head
+unfoldable pub info_lines : Option Info → SurveyFields → List (List ℕ)
+info_lines head s =
+    let count = length s.frames in
+    class_line s.class ∷ frames_line s.class s.frames ∷ rates_line s.frames ∷ main_data_line s
+    ∷ head_line head ∷ (here_lines head count (stream_length s)
+    ++ (played_line head s.class count ∷ gain_lines s.class.channels s.frames))
+
+abbrev pub info_text : Option Info → SurveyFields → List ℕ
+info_text head s = flat_map (λ line. line) (info_lines head s)
+
+-- the text is that of the input, by the head that its bytes have
+abbrev pub info_of : List ℕ → SurveyFields → List ℕ
+info_of file s = info_text (fields_of_head file s.head) s
+
+abbrev pub info_command : List ℕ → Command
+info_command = text_command info_of

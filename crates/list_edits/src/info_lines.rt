@@ -1,0 +1,275 @@
+//! The lines in which `info` says what a file is.
+ghost use Rattle.std.specs.Prelude.{◌≡◌, ◌+◌, ◌≤◌, if◌then◌else◌, [], ◌++◌, codes, length, flat_map, option_copied};
+ghost use Rattle.sync_survey.specs.Faults.{tells};
+ghost use Rattle.sync_survey.specs.Survey.{IsLaidOut};
+ghost use Rattle.commands.specs.One.{most_frames};
+ghost use Rattle.moved_gains.specs.GainExtremes.{HasChannel};
+ghost use Rattle.list_edits.specs.InfoText.{class_line as class_line_lem, frames_line as frames_line_lem, rates_line as rates_line_lem, main_data_line as main_data_line_lem, number_text, head_line as head_line_lem, agrees as agrees_lem, is_as_said as is_as_said_lem, but_line, counts_text, played_line as played_line_lem, steps_text, gains_text, both_text, mono_lines as mono_lines_lem, stereo_lines as stereo_lines_lem, gain_lines as gain_lines_lem, info_text};
+
+use crate::line::Line;
+use crate::lines::{put_class, set_duration};
+use crate::totals::{Rates, areas_in, lost_in, main_data_in, rates_in, stream_length};
+use exact_span::{Counts, Played, counts_of};
+use frame_header::Class;
+use info_header::Info;
+use moved_gains::{Gains, gains_of, joined};
+use sync_survey::{Row, Survey};
+
+/// What all frames share.
+fn class_line(class: Class) -> Line
+    ensures { result ≡ class_line_lem class }
+{
+    let mut line = Line::new();
+    line.put(b"\n");
+    put_class(&mut line, class);
+    line
+}
+
+/// How many frames there are, how many of them are lost, and how long they sound.
+fn frames_line(class: Class, rows: &[Row]) -> Line
+    ensures { result ≡ frames_line_lem class rows.now }
+{
+    let count = rows.len() as u64;
+    let mut line = Line::new();
+    set_duration(&mut line, class, count);
+    line.put_counted(lost_in(rows), b" lost, ");
+    line.put_counted(count, b" frames, ");
+    line
+}
+
+/// The least and the greatest bit rate, or the only one.
+fn rates_line(rows: &[Row]) -> Line
+    ensures { result ≡ rates_line_lem rows.now }
+{
+    let Rates { least, greatest } = rates_in(rows);
+    let mut line = Line::new();
+    line.put(b" kbit/s\n");
+    if least != greatest {
+        line.put_number(u64::from(greatest));
+        line.put(b" to ");
+    }
+    line.put_number(u64::from(least));
+    line
+}
+
+/// How many bytes of main data there are, and how many there could be.
+fn main_data_line(survey: &Survey) -> Line
+    requires { length (tells survey.now).frames ≤ most_frames }
+    ensures { result ≡ main_data_line_lem (tells survey.now) }
+{
+    let mut line = Line::new();
+    line.put_counted(areas_in(survey), b" bytes are main data\n");
+    line.put_counted(main_data_in(survey.frames()), b" of ");
+    line
+}
+
+/// Puts a number that the head has before a line.
+fn put_said(line: &mut Line, number: Option<u32>, unit: &[u8])
+    requires room { length line.old + length unit.now + 22 ≤ 192 }
+    ensures text { line.new ≡ number_text number unit.now ++ line.old }
+    ensures few { length line.new ≤ length line.old + length unit.now + 22 }
+{
+    if let Some(number) = number {
+        line.put_counted(u64::from(number), unit);
+        line.put(b", ");
+    }
+}
+
+/// The text of the head, and its numbers of frames and of bytes.
+fn head_line(head: Option<&Info>) -> Line
+    ensures { result ≡ head_line_lem (option_copied head.entry) }
+{
+    let mut line = Line::new();
+    let Some(info) = head else {
+        line.put(b"no head\n");
+        return line;
+    };
+    line.put(b"\n");
+    put_said(&mut line, info.bytes, b" bytes");
+    put_said(&mut line, info.frames, b" frames");
+    line.put(b" head");
+    if info.vbr {
+        line.put(b"Xing");
+    } else {
+        line.put(b"Info");
+    }
+    line
+}
+
+/// Whether the head has no such number, or this one.
+fn agrees(said: Option<u32>, number: u64) -> bool
+    ensures { result ≡ agrees_lem said number }
+{
+    match said {
+        Some(said) => u64::from(said) == number,
+        None => true,
+    }
+}
+
+/// Whether neither number of the head says that there are more frames or bytes than these, or fewer.
+fn is_as_said(head: Option<&Info>, frames: u64, bytes: u64) -> bool
+    ensures { result ≡ is_as_said_lem (option_copied head.entry) frames bytes }
+{
+    match head {
+        Some(info) => agrees(info.frames, frames) && agrees(info.bytes, bytes),
+        None => true,
+    }
+}
+
+/// How many frames and bytes there are, where the head says otherwise; else nothing.
+fn here_line(head: Option<&Info>, frames: u64, bytes: u64) -> Line
+    ensures { result ≡ (if is_as_said_lem (option_copied head.entry) frames bytes then [] else
+        but_line frames bytes) }
+{
+    let mut line = Line::new();
+    if is_as_said(head, frames, bytes) {
+        return line;
+    }
+    line.put_counted(bytes, b" bytes are here\n");
+    line.put_counted(frames, b" frames, ");
+    line.put(b"but ");
+    line
+}
+
+/// Puts delay and padding before a line, where the head counts.
+fn put_delay(line: &mut Line, counts: Option<Counts>)
+    requires { length line.old + 80 ≤ 192 }
+    ensures { line.new ≡ counts_text counts ++ line.old }
+{
+    if let Some(counts) = counts {
+        line.put_counted(u64::from(counts.padding), b", ");
+        line.put_counted(u64::from(counts.delay), b", padding ");
+        line.put(b"delay ");
+    }
+}
+
+/// Delay and padding, where the head counts, and how many samples are played.
+fn played_line(head: Option<&Info>, class: Class, frames: u32) -> Line
+    ensures { result ≡ played_line_lem (option_copied head.entry) class frames }
+{
+    let mut line = Line::new();
+    line.put_counted(Played::of(head, class, frames).length(), b" samples\n");
+    line.put(b"plays ");
+    put_delay(&mut line, counts_of(head));
+    line
+}
+
+/// Puts by how many steps these gains can move, down and up, before an empty line.
+fn put_steps(line: &mut Line, gains: Gains)
+    requires { line.old ≡ [] }
+    ensures steps { line.new ≡ steps_text gains }
+    ensures few { length line.new ≤ 64 }
+{
+    line.put(b"\n");
+    line.put_number(u64::from(255 - gains.greatest));
+    line.put_counted(u64::from(gains.least), b" to +");
+    line.put(b"steps -");
+}
+
+/// The least and the greatest gain of a channel with this name, and by how many steps they can move.
+fn channel_line(name: &[u8], gains: Option<Gains>) -> Line
+    requires { length name.now ≤ 8 }
+    ensures { result ≡ name.now ++ gains_text gains }
+{
+    let mut line = Line::new();
+    match gains {
+        Some(gains) => {
+            put_steps(&mut line, gains);
+            line.put_counted(u64::from(gains.greatest), b", ");
+            line.put_counted(u64::from(gains.least), b" to ");
+            line.put(b"gains ");
+        }
+        None => line.put(b"no gains\n"),
+    }
+    line.put(name);
+    line
+}
+
+/// By how many steps the gains of both channels can move, of which these are the least and the greatest.
+fn both_line(gains: Option<Gains>) -> Line
+    ensures { result ≡ codes "both: " ++ both_text gains }
+{
+    let mut line = Line::new();
+    match gains {
+        Some(gains) => put_steps(&mut line, gains),
+        None => line.put(b"no gains\n"),
+    }
+    line.put(b"both: ");
+    line
+}
+
+/// The line of the one channel, and two empty ones.
+fn mono_lines(rows: &[Row]) -> (Line, Line, Line)
+    requires { HasChannel 0 rows.now }
+    ensures { result.0 ++ (result.1 ++ (result.2 ++ [])) ≡ flat_map (λ line. line)
+        (mono_lines_lem rows.now) }
+{
+    let gains = gains_of(rows, 0);
+    (channel_line(b"mono: ", gains), Line::new(), Line::new())
+}
+
+/// The lines of the two channels, and that of both.
+fn stereo_lines(rows: &[Row]) -> (Line, Line, Line)
+    requires left { HasChannel 0 rows.now }
+    requires right { HasChannel 1 rows.now }
+    ensures { result.0 ++ (result.1 ++ (result.2 ++ [])) ≡ flat_map (λ line. line)
+        (stereo_lines_lem rows.now) }
+{
+    let left = gains_of(rows, 0);
+    let right = gains_of(rows, 1);
+    let both = joined(left, right);
+    (
+        channel_line(b"left: ", left),
+        channel_line(b"right: ", right),
+        both_line(both),
+    )
+}
+
+/// The lines of so many channels.
+fn channel_lines(channels: u8, rows: &[Row]) -> (Line, Line, Line)
+    requires left { HasChannel 0 rows.now }
+    requires right { (channels ≡ 1 → ⊥) → HasChannel 1 rows.now }
+    ensures { result.0 ++ (result.1 ++ (result.2 ++ [])) ≡ flat_map (λ line. line)
+        (gain_lines_lem channels rows.now) }
+{
+    if channels == 1 {
+        mono_lines(rows)
+    } else {
+        stereo_lines(rows)
+    }
+}
+
+/// The lines of the channels of a surveyed file, and that of both.
+fn gain_lines(survey: &Survey) -> (Line, Line, Line)
+    requires { IsLaidOut (tells survey.now) }
+    ensures { result.0 ++ (result.1 ++ (result.2 ++ [])) ≡ flat_map (λ line. line)
+        (gain_lines_lem (tells survey.now).class.channels (tells survey.now).frames) }
+{
+    let class = survey.class();
+    let rows = survey.frames();
+    channel_lines(class.channels, rows)
+}
+
+/// All lines of a surveyed file with this head, at most 10. The others are empty.
+pub(crate) fn info_lines(survey: &Survey, head: Option<&Info>) -> [Line; 10]
+    requires laid { IsLaidOut (tells survey.now) }
+    requires few { length (tells survey.now).frames ≤ most_frames }
+    ensures { flat_map (λ line. line) result ≡ info_text (option_copied head.entry)
+        (tells survey.now) }
+{
+    let class = survey.class();
+    let rows = survey.frames();
+    let (left, right, both) = gain_lines(survey);
+    [
+        class_line(class),
+        frames_line(class, rows),
+        rates_line(rows),
+        main_data_line(survey),
+        head_line(head),
+        here_line(head, rows.len() as u64, stream_length(survey)),
+        played_line(head, class, rows.len() as u32),
+        left,
+        right,
+        both,
+    ]
+}
