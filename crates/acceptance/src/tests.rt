@@ -6,6 +6,7 @@ mod drill_rows;
 mod exact;
 mod fade;
 mod gain;
+mod info;
 mod join;
 mod list;
 mod many_frames;
@@ -54,6 +55,11 @@ fn expect_rows<R: Abort + AllocGlobal>(rt: &R, texts: &[&'static str]) -> Result
 #[test]
 fn lists(rt: HostRuntime) -> Result<(), Fail> {
     expect_rows(&rt, &[list::ROWS])
+}
+
+#[test]
+fn says_what_files_are(rt: HostRuntime) -> Result<(), Fail> {
+    expect_rows(&rt, &[info::ROWS])
 }
 
 #[test]

@@ -18,7 +18,7 @@ use Rattle.exact_span.specs.declared.exact_place.ExactPlace.TheVariants.{Place a
 use Rattle.exact_span.specs.Places.{sample_of, millis_of, back_of, exact_place_of, IsExactPlace}
 use Rattle.job_words.specs.declared.flags.Flag.{Flag}
 use Rattle.job_words.specs.Kinds.{Kind, Fixed, Name, Steps, Channel, Place, Exact, Rate, Seed, Count, Said, NameSaid, StepsSaid, PlaceSaid, ExactSaid, SeedSaid, CountSaid, is_name, seed_in, count_in, said, said_first, fits_kind, name_said, steps_said, place_said, exact_said, seed_said, count_said, said_at, values_of}
-use Rattle.job_words.specs.Forms.{Form, Shape, forms, help, short_help, version, list_form, gain_form, channel_form, undo_form, cut_form, exact_form, pack_form, constant_form, floor_form, best_form, split_form, exact_split_form, sheet_form, exact_sheet_form, join_form, drill_form, fade_form, salvage_form, kinds_behind, front_of, reads_of, asked_of}
+use Rattle.job_words.specs.Forms.{Form, Shape, forms, help, short_help, version, list_form, info_form, gain_form, channel_form, undo_form, cut_form, exact_form, pack_form, constant_form, floor_form, best_form, split_form, exact_split_form, sheet_form, exact_sheet_form, join_form, drill_form, fade_form, salvage_form, kinds_behind, front_of, reads_of, asked_of}
 use Rattle.job_words.specs.Words.{have_kinds, kinds_in, IsName, IsStepCount, IsSeed, IsCount, IsSound}
 use Rattle.job_words.proofs.Lists.{zipped, zip_drop, zip_replicate}
 use Rattle.job_words.proofs.Follow.{length-kinds_behind}
@@ -181,6 +181,7 @@ forms_are_sound =
     (also (once short_help refl (λ given values words at. tt))
     (also (once version refl (λ given values words at. tt))
     (also (once list_form refl (λ given values words at. at 0))
+    (also (once info_form refl (λ given values words at. at 0))
     (also (once gain_form refl (λ given values words at. (at 2, at 3, at 1)))
     (also (once channel_form refl (λ given values words at. (at 3, at 4, at 2)))
     (also (once undo_form refl (λ given values words at. (at 1, at 2)))
@@ -197,7 +198,7 @@ forms_are_sound =
     (also join_is_sound
     (also (once drill_form refl (λ given values words at. (at 0, at 1)))
     (also (once fade_form refl (λ given values words at. (at 0, at 1, at 2)))
-    (also (once salvage_form refl (λ given values words at. (at 0, at 1))) tt)))))))))))))))))))))
+    (also (once salvage_form refl (λ given values words at. (at 0, at 1))) tt))))))))))))))))))))))
 
 pub shape_is_sound : (shape : Shape) (words : List (List ℕ)) → Contains forms shape.form → have_kinds (kinds_in words shape) words ≡ true → IsSound (asked_of shape words)
 shape_is_sound shape words member all =

@@ -8,8 +8,9 @@ use Rattle.requests.specs.declared.mode.PackMode.{PackMode}
 pub data Asked : Type 0 where
   Help : Asked
   Version : Asked
-  -- the file's name
+  -- the file's name, of one that is listed and of one of which is said what it is
   ListFile : List ℕ → Asked
+  InfoFile : List ℕ → Asked
   -- the change, whether it is noted in the tag, the names of the input and of the output
   Gain : Shift → Bool → List ℕ → List ℕ → Asked
   -- the names of the input and of the output

@@ -9,7 +9,7 @@ use Rattle.job_words.specs.declared.jobs.Job.{Job}
 use Rattle.job_words.specs.declared.jobs.Job.TheVariants as job
 use Rattle.job_words.specs.Kinds.{Kind, Fixed, Name, Steps, Channel, Place, Exact, Rate, Seed, Count, Said, Itself, NameSaid, StepsSaid, ChannelSaid, PlaceSaid, ExactSaid, RateSaid, SeedSaid, CountSaid}
 use Rattle.job_words.specs.Forms.{Form}
-use Rattle.job_words.specs.Asked.{Asked, Help, Version, ListFile, Gain, Undo, Cut, CutExact, Pack, SplitAt, SplitExact, SplitBy, Join, Drill, Fade, Salvage}
+use Rattle.job_words.specs.Asked.{Asked, Help, Version, ListFile, InfoFile, Gain, Undo, Cut, CutExact, Pack, SplitAt, SplitExact, SplitBy, Join, Drill, Fade, Salvage}
 
 abbrev pub word_kind : WordKind → Kind
 word_kind (code.Fixed text) = Fixed text.now
@@ -40,6 +40,7 @@ abbrev pub asked : Job → Asked
 asked job.Help = Help
 asked job.Version = Version
 asked (job.List input) = ListFile input.now
+asked (job.Info input) = InfoFile input.now
 asked (job.Gain shift tags input output) = Gain shift tags input.now output.now
 asked (job.Undo input output) = Undo input.now output.now
 asked (job.Cut from to least input output) = Cut from to least input.now output.now

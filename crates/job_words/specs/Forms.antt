@@ -11,7 +11,7 @@ use Rattle.job_words.specs.declared.forms.Asks.{Asks}
 use Rattle.job_words.specs.declared.forms.Asks.TheVariants as asks
 use Rattle.job_words.specs.Kinds.{Kind, Fixed, Name, Steps, Channel, Place, Exact, Rate, Seed, Count, Said, fits_kind, name_at, said_at, steps_said, channels_said, place_said, exact_said, rate_said, seed_said, count_said, values_of}
 use Rattle.job_words.specs.Flags.{given_kinds, first_word, is_given, orders}
-use Rattle.job_words.specs.Asked.{Asked, Help, Version, ListFile, Gain, Undo, Cut, CutExact, Pack, SplitAt, SplitExact, SplitBy, Join, Drill, Fade, Salvage}
+use Rattle.job_words.specs.Asked.{Asked, Help, Version, ListFile, InfoFile, Gain, Undo, Cut, CutExact, Pack, SplitAt, SplitExact, SplitBy, Join, Drill, Fade, Salvage}
 
 -- the command's word, the flags that may be after it, the kinds of the words after those, how many further words of the last kind there may be,
 -- and what is asked for
@@ -36,6 +36,10 @@ version = record { command = codes "--version"; flags = []; kinds = []; more = 0
 -- `list IN`
 abbrev pub list_form : Form
 list_form = record { command = codes "list"; flags = []; kinds = Name ∷ []; more = 0; asks = asks.List }
+
+-- `info IN`
+abbrev pub info_form : Form
+info_form = record { command = codes "info"; flags = []; kinds = Name ∷ []; more = 0; asks = asks.Info }
 
 -- `gain [-s s] [-w] -g N IN OUT`
 abbrev pub gain_form : Form
@@ -111,8 +115,8 @@ salvage_form = record { command = codes "salvage"; flags = []; kinds = Name ∷ 
 -- all of them
 abbrev pub forms : List Form
 forms =
-    help ∷ short_help ∷ version ∷ list_form ∷ gain_form ∷ channel_form ∷ undo_form ∷ cut_form ∷ exact_form ∷ pack_form ∷ constant_form
-    ∷ floor_form ∷ best_form ∷ split_form ∷ exact_split_form ∷ sheet_form ∷ exact_sheet_form ∷ join_form ∷ drill_form ∷ fade_form ∷ salvage_form ∷ []
+    help ∷ short_help ∷ version ∷ list_form ∷ info_form ∷ gain_form ∷ channel_form ∷ undo_form ∷ cut_form ∷ exact_form ∷ pack_form
+    ∷ constant_form ∷ floor_form ∷ best_form ∷ split_form ∷ exact_split_form ∷ sheet_form ∷ exact_sheet_form ∷ join_form ∷ drill_form ∷ fade_form ∷ salvage_form ∷ []
 
 -- ---- the kinds of a form's words
 
@@ -172,6 +176,7 @@ abbrev pub reads_of : Asks → List Flag → List Said → List (List ℕ) → A
 reads_of asks.Help given values words = Help
 reads_of asks.Version given values words = Version
 reads_of asks.List given values words = ListFile (name_at values 0)
+reads_of asks.Info given values words = InfoFile (name_at values 0)
 reads_of asks.Gain given values words = gain_asked Both given values 1
 reads_of asks.ChannelGain given values words = gain_asked (channels_said (said_at values 1)) given values 2
 reads_of asks.Undo given values words = Undo (name_at values 1) (name_at values 2)

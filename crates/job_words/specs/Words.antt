@@ -7,7 +7,7 @@ use Rattle.cue_sheet.specs.Places.{IsPlace}
 use Rattle.exact_span.specs.declared.exact_place.ExactPlace.{ExactPlace}
 use Rattle.exact_span.specs.Places.{IsExactPlace}
 use Rattle.job_words.specs.Kinds.{Kind, is_name, fits_kind}
-use Rattle.job_words.specs.Asked.{Asked, Help, Version, ListFile, Gain, Undo, Cut, CutExact, Pack, SplitAt, SplitExact, SplitBy, Join, Drill, Fade, Salvage}
+use Rattle.job_words.specs.Asked.{Asked, Help, Version, ListFile, InfoFile, Gain, Undo, Cut, CutExact, Pack, SplitAt, SplitExact, SplitBy, Join, Drill, Fade, Salvage}
 use Rattle.job_words.specs.Forms.{forms, Shape, shapes, kinds_for, asked_of}
 
 -- ---- the reading
@@ -110,6 +110,7 @@ abbrev pub IsSound : Asked → Type 0
 IsSound Help = Unit {0}
 IsSound Version = Unit {0}
 IsSound (ListFile input) = IsName input
+IsSound (InfoFile input) = IsName input
 IsSound (Gain shift tags input output) = IsName input × IsName output × IsStepCount shift.steps
 IsSound (Undo input output) = IsName input × IsName output
 IsSound (Cut from to least input output) = IsName input × IsName output × IsPlace from × IsPlace to

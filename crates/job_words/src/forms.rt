@@ -20,6 +20,7 @@ pub(crate) enum Asks {
     Help,
     Version,
     List,
+    Info,
     Gain,
     ChannelGain,
     Undo,
@@ -63,7 +64,7 @@ macro_rules! form {
 
 /// The forms. C is a channel, N a number of steps, B a bit rate, SEED and COUNT are numbers, P1 to P100, FROM and TO positions, after
 /// `--exact` places among the samples; all others are names.
-pub(crate) static FORMS: [Form; 21] = [
+pub(crate) static FORMS: [Form; 22] = [
     // `--help`
     form!(Help: "--help" [] [] 0),
     // `-h`
@@ -72,6 +73,8 @@ pub(crate) static FORMS: [Form; 21] = [
     form!(Version: "--version" [] [] 0),
     // `list IN`
     form!(List: "list" [] [Name] 0),
+    // `info IN`
+    form!(Info: "info" [] [Name] 0),
     // `gain [-s s] [-w] -g N IN OUT`
     form!(Gain: "gain" [Tagless Wrapping] [Fixed("-g") Steps Name Name] 0),
     // `gain [-s s] [-w] -l C N IN OUT`
@@ -213,6 +216,9 @@ impl Asks {
             Asks::Help => Job::Help,
             Asks::Version => Job::Version,
             Asks::List => Job::List {
+                input: name_at(values, 0),
+            },
+            Asks::Info => Job::Info {
                 input: name_at(values, 0),
             },
             Asks::Gain => gain(Channels::Both, given, values, 1),

@@ -17,6 +17,11 @@ pub enum Job<'a> {
         /// The name of the file to read.
         input: &'a str,
     },
+    /// Say in a few lines what the file `input` is, and by which steps its gains can move.
+    Info {
+        /// The name of the file to read.
+        input: &'a str,
+    },
     /// Move the gains of the file `input`, and write the result to `output`.
     Gain {
         /// The change.

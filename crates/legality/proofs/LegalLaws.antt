@@ -28,13 +28,16 @@ use Rattle.cut_edits.specs.Exact.{exact_refuses, exact_making, exact_task, exact
 use Rattle.cut_edits.proofs.PieceLaws.{piece-parts, exact-is}
 use Rattle.join_edits.specs.Join.{joined_file, parts_of, join_task, join_command}
 use Rattle.laying.specs.Relaid.{Part}
-use Rattle.list_edits.specs.Listing.{listing, listed_by, listed_where, list_command}
+use Rattle.laying.specs.KeptFields.{fields_of_head}
+use Rattle.list_edits.specs.TextCommand.{text_by, text_where, text_command}
+use Rattle.list_edits.specs.Listing.{listing, list_command}
+use Rattle.list_edits.specs.InfoText.{info_text, info_command}
 use Rattle.requests.specs.declared.mode.PackMode.{PackMode}
 use Rattle.requests.specs.declared.mode.PackMode.TheVariants.{Least, Best, Constant, Floor}
 use Rattle.pack_edits.specs.Modes.{plan_by, most_best, allowed_by, unless_fault, limited_by, pack_task, pack_mode_command}
 use Rattle.split_edits.specs.Split.{places_where, as_exact, given, told_by, told_refuses, given_exact, told_exact_by, told_exact_refuses, split_at_command, split_by_command, split_exact_at_command, split_exact_by_command}
 use Rattle.split_edits.proofs.PartsLaws.{cue-parts, parts-cue}
-use Rattle.job_words.specs.Asked.{Help, Version, ListFile, Gain, Undo, Cut, CutExact, Pack, SplitAt, SplitExact, SplitBy, Join, Drill, Fade}
+use Rattle.job_words.specs.Asked.{Help, Version, ListFile, InfoFile, Gain, Undo, Cut, CutExact, Pack, SplitAt, SplitExact, SplitBy, Join, Drill, Fade}
 use Rattle.legality.specs.Inputs.{EachNext, AreApart, Input, AreInputs, frames_of}
 use Rattle.legality.specs.Choices.{IsLegalGain, IsLegalUndo, IsLegalFade, IsRange, IsSampleRange, ArePieces, IsLegalSheet, AreSamplePieces, IsLegalExactSheet, IsLegalPack}
 use Rattle.legality.specs.Legal.{IsLegalFor}
@@ -67,34 +70,55 @@ drill-legal seed count files = record { names = no-names []; inputs = []; are = 
 few-one : (n most : ℕ) → n ≤ most → n + 0 ≤ most
 few-one n most few = omega (arith, few)
 
--- ---- list
+-- ---- a text of one input
 
 no-outputs : (input : List ℕ) → AreApart (input ∷ []) []
 no-outputs input = All-cons (λ name. Contains [] name → ⊥) input [] (λ has. omega (arith, has.1)) (no-names [])
 
-list-parts : (files : Contents) (input : List ℕ) (o : Option (List ℕ)) (made : Made) → files input ≡ o → listed_where o ≡ Ok made → IsLegalFor (ListFile input) files
-list-parts files input None made there e = absurd cc
-list-parts files input (Some file) made there e = at (survey_of file most_frames) refl e
-  where
-    at : (r : Result SurveyFields SurveyFault) → survey_of file most_frames ≡ r → listed_by r ≡ Ok made → IsLegalFor (ListFile input) files
-    at (Err fault) surveyed e = absurd cc
-    at (Ok s) surveyed e = record {
-      names = no-outputs input;
-      inputs = record { bytes = file; survey = s } ∷ [];
-      are = (survey-input files input file most_frames s there surveyed, tt);
-      few = few-one (length s.frames) most_frames (survey-whole file most_frames s surveyed).few;
-      choices = tt;
-    }
+-- nothing is chosen
+abbrev NoChoice : Input → Type 0
+NoChoice input = Unit {0}
 
-parts-list : (files : Contents) (input : List ℕ) → IsLegalFor (ListFile input) files → Makes (list_command input) files
-parts-list files input legal = at legal.inputs legal.are legal.few
-  where
-    at : (inputs : List Input) → AreInputs files (input ∷ []) inputs → frames_of inputs ≤ most_frames → Makes (list_command input) files
-    at [] are few = absurd are
-    at (i ∷ j ∷ inputs) are few = absurd are.1
-    at (i ∷ []) are few =
-        let surveyed = whole-survey i.bytes most_frames i.survey (record { long = are.0.long; well_formed = are.0.well_formed; few = omega (arith, few) }) in
-        (record { outputs = []; text = listing i.survey }, ap listed_where are.0.there ∙ ap listed_by surveyed)
+one-read : (files : Contents) (name : List ℕ) (inputs : List Input) → AreInputs files (name ∷ []) inputs → frames_of inputs ≤ most_frames → IsOne NoChoice files name most_frames
+one-read files name [] are few = absurd are
+one-read files name (input ∷ []) are few = record { input = input; is = are.0; few = omega (arith, few); choice = tt }
+one-read files name (input ∷ next ∷ inputs) are few = absurd are.1
+
+-- the text is sent exactly of an input without fault
+module _ (text : List ℕ → SurveyFields → List ℕ) (files : Contents) (input : List ℕ) where
+  text-one : (o : Option (List ℕ)) (made : Made) → files input ≡ o → text_where text o ≡ Ok made → IsOne NoChoice files input most_frames
+  text-one None made there e = absurd cc
+  text-one (Some file) made there e = at (survey_of file most_frames) refl e
+    where
+      at : (r : Result SurveyFields SurveyFault) → survey_of file most_frames ≡ r → text_by (text file) r ≡ Ok made → IsOne NoChoice files input most_frames
+      at (Err fault) surveyed e = absurd cc
+      at (Ok s) surveyed e = record {
+        input = record { bytes = file; survey = s };
+        is = survey-input files input file most_frames s there surveyed;
+        few = (survey-whole file most_frames s surveyed).few;
+        choice = tt;
+      }
+
+  one-text : IsOne NoChoice files input most_frames → Makes (text_command text input) files
+  one-text one = (
+    record { outputs = []; text = text one.input.bytes one.input.survey },
+    ap (text_where text) one.is.there ∙ ap (text_by (text one.input.bytes)) (one-survey NoChoice files input most_frames one),
+  )
+
+  text-law : (Legal : Type 0) → (Legal → IsOne NoChoice files input most_frames) → (IsOne NoChoice files input most_frames → Legal) → Legal ↔ Makes (text_command text input) files
+  text-law Legal parts whole = ((λ legal. one-text (parts legal)), (λ made. whole (text-one (files input) made.0 refl made.1)))
+
+list-law : (files : Contents) (input : List ℕ) → IsLegalFor (ListFile input) files ↔ Makes (list_command input) files
+list-law files input =
+    text-law (λ file. listing) files input (IsLegalFor (ListFile input) files)
+    (λ legal. one-read files input legal.inputs legal.are legal.few)
+    (λ one. record { names = no-outputs input; inputs = one.input ∷ []; are = (one.is, tt); few = few-one (length one.input.survey.frames) most_frames one.few; choices = tt })
+
+info-law : (files : Contents) (input : List ℕ) → IsLegalFor (InfoFile input) files ↔ Makes (info_command input) files
+info-law files input =
+    text-law (λ file s. info_text (fields_of_head file s.head) s) files input (IsLegalFor (InfoFile input) files)
+    (λ legal. one-read files input legal.inputs legal.are legal.few)
+    (λ one. record { names = no-outputs input; inputs = one.input ∷ []; are = (one.is, tt); few = few-one (length one.input.survey.frames) most_frames one.few; choices = tt })
 
 -- ---- a file of one input
 
@@ -392,7 +416,8 @@ join-law files output inputs = (
 
 pub legal-is-accepted : LegalIsAccepted
 legal-is-accepted = record {
-  list = λ files input. (parts-list files input, (λ made. list-parts files input (files input) made.0 refl made.1));
+  list = list-law;
+  info = info-law;
   gain = λ files shift tags input output. gain-law shift tags files input output;
   undo = undo-law;
   cut = cut-law;

@@ -16,10 +16,11 @@ use Rattle.requests.specs.declared.mode.PackMode.{PackMode}
 use Rattle.requests.specs.declared.mode.PackMode.TheVariants.{Constant}
 use Rattle.pack_edits.specs.Modes.{pack_mode_command}
 use Rattle.list_edits.specs.Listing.{list_command}
+use Rattle.list_edits.specs.InfoText.{info_command}
 use Rattle.split_edits.specs.Split.{split_at_command, split_by_command, split_exact_at_command, split_exact_by_command}
 use Rattle.join_edits.specs.Join.{join_command}
 use Rattle.salvage_edits.specs.Salvaged.{salvage_command}
-use Rattle.job_words.specs.Asked.{ListFile, Gain, Undo, Cut, CutExact, Pack, SplitAt, SplitExact, SplitBy, Join, Fade, Salvage}
+use Rattle.job_words.specs.Asked.{ListFile, InfoFile, Gain, Undo, Cut, CutExact, Pack, SplitAt, SplitExact, SplitBy, Join, Fade, Salvage}
 use Rattle.legality.specs.Legal.{IsLegalFor, IsUnfitFor}
 
 -- the command isn't refused
@@ -29,6 +30,7 @@ Makes command files = (made : Made) × (command.makes files ≡ Ok made)
 -- for each command and all files, whatever was chosen, it is legal exactly where it isn't refused
 pub record LegalIsAccepted : Type 0 where
   pub list : (files : Contents) (input : List ℕ) → IsLegalFor (ListFile input) files ↔ Makes (list_command input) files
+  pub info : (files : Contents) (input : List ℕ) → IsLegalFor (InfoFile input) files ↔ Makes (info_command input) files
   pub gain : (files : Contents) (shift : Shift) (tags : Bool) (input output : List ℕ) → IsLegalFor (Gain shift tags input output) files ↔ Makes (gain_command shift tags input output) files
   pub undo : (files : Contents) (input output : List ℕ) → IsLegalFor (Undo input output) files ↔ Makes (undo_command input output) files
   pub cut : (files : Contents) (from to : Place) (least : Bool) (input output : List ℕ) → IsLegalFor (Cut from to least input output) files ↔ Makes (cut_command from to least input output) files

@@ -4,7 +4,7 @@ use Rattle.outside.specs.Files.{Contents}
 use Rattle.commands.specs.One.{most_frames}
 use Rattle.requests.specs.Names.{piece_names}
 use Rattle.pack_edits.specs.Modes.{allowed_by}
-use Rattle.job_words.specs.Asked.{Asked, Help, Version, ListFile, Gain, Undo, Cut, CutExact, Pack, SplitAt, SplitExact, SplitBy, Join, Drill, Fade, Salvage}
+use Rattle.job_words.specs.Asked.{Asked, Help, Version, ListFile, InfoFile, Gain, Undo, Cut, CutExact, Pack, SplitAt, SplitExact, SplitBy, Join, Drill, Fade, Salvage}
 use Rattle.legality.specs.Inputs.{AreApart, Input, IsInput, AreInputs, frames_of, OfOne}
 use Rattle.legality.specs.Choices.{IsLegalGain, IsLegalUndo, IsLegalFade, IsRange, IsSampleRange, ArePieces, IsLegalSheet, AreSamplePieces, IsLegalExactSheet, IsRate, IsFirstUnfit, IsLegalPack, AreOfOneClass, IsLegalSalvage}
 
@@ -15,6 +15,7 @@ abbrev pub sources_of : Asked → List (List ℕ)
 sources_of Help = []
 sources_of Version = []
 sources_of (ListFile input) = input ∷ []
+sources_of (InfoFile input) = input ∷ []
 sources_of (Gain shift tags input output) = input ∷ []
 sources_of (Undo input output) = input ∷ []
 sources_of (Cut from to least input output) = input ∷ []
@@ -40,6 +41,7 @@ abbrev pub outputs_of : Asked → List (List ℕ)
 outputs_of Help = []
 outputs_of Version = []
 outputs_of (ListFile input) = []
+outputs_of (InfoFile input) = []
 outputs_of (Gain shift tags input output) = output ∷ []
 outputs_of (Undo input output) = output ∷ []
 outputs_of (Cut from to least input output) = output ∷ []
@@ -64,6 +66,7 @@ abbrev pub AreLegal : Asked → Contents → List Input → Type 0
 AreLegal Help files inputs = Unit {0}
 AreLegal Version files inputs = Unit {0}
 AreLegal (ListFile input) files inputs = Unit {0}
+AreLegal (InfoFile input) files inputs = Unit {0}
 AreLegal (Gain shift tags input output) files inputs = OfOne (IsLegalGain shift tags) inputs
 AreLegal (Undo input output) files inputs = OfOne IsLegalUndo inputs
 AreLegal (Cut from to least input output) files inputs = OfOne (λ i. IsRange i.survey from to) inputs

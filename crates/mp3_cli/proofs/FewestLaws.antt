@@ -2,7 +2,7 @@
 use Rattle.std.proofs.Common.{◌≡◌, ℕ, List, Result, Ok, sym, subst}
 use Rattle.std.specs.Prelude.{IfOk}
 use Rattle.outside.specs.Seen.{Heard, Seen}
-use Rattle.job_words.specs.Asked.{Asked, Help, Version, ListFile, Gain, Undo, Cut, CutExact, Pack, SplitAt, SplitExact, SplitBy, Join, Drill, Fade, Salvage}
+use Rattle.job_words.specs.Asked.{Asked, Help, Version, ListFile, InfoFile, Gain, Undo, Cut, CutExact, Pack, SplitAt, SplitExact, SplitBy, Join, Drill, Fade, Salvage}
 use Rattle.job_words.specs.Words.{job_of}
 use Rattle.commands.specs.Left.{IsDone}
 use Rattle.pack_edits.proofs.PackedLengths.{done-fewest}
@@ -13,6 +13,7 @@ has-fewest : (asked : Asked) (old new : Seen) → IsDone (command_of asked) old 
 has-fewest Help old new done = tt
 has-fewest Version old new done = tt
 has-fewest (ListFile input) old new done = tt
+has-fewest (InfoFile input) old new done = tt
 has-fewest (Gain shift tags input output) old new done = tt
 has-fewest (Undo input output) old new done = tt
 has-fewest (Cut from to least input output) old new done = tt

@@ -1,7 +1,7 @@
 -- What is legal is what is accepted, whatever the words ask for.
 use Rattle.std.proofs.Common.{◌↔◌, ℕ, true, false, [], Result, Ok, Err, refl}
 use Rattle.outside.specs.Files.{Contents}
-use Rattle.job_words.specs.Asked.{Asked, Help, Version, ListFile, Gain, Undo, Cut, CutExact, Pack, SplitAt, SplitExact, SplitBy, Join, Drill, Fade, Salvage}
+use Rattle.job_words.specs.Asked.{Asked, Help, Version, ListFile, InfoFile, Gain, Undo, Cut, CutExact, Pack, SplitAt, SplitExact, SplitBy, Join, Drill, Fade, Salvage}
 use Rattle.job_words.specs.Words.{job_of}
 use Rattle.legality.specs.Legal.{IsLegalFor}
 use Rattle.legality.specs.Laws.{Makes}
@@ -15,6 +15,7 @@ legal-for Help files = ((λ legal. (record { outputs = []; text = help_text }, r
 legal-for Version files = ((λ legal. (record { outputs = []; text = version_text }, refl)), (λ made. version-legal files))
 legal-for (Drill seed count) files = ((λ legal. (record { outputs = []; text = drill_text seed count }, refl)), (λ made. drill-legal seed count files))
 legal-for (ListFile input) files = of-commands.list files input
+legal-for (InfoFile input) files = of-commands.info files input
 legal-for (Gain shift tags input output) files = of-commands.gain files shift tags input output
 legal-for (Undo input output) files = of-commands.undo files input output
 legal-for (Cut from to least input output) files = of-commands.cut files from to least input output

@@ -23,7 +23,7 @@ use Rattle.salvage_edits.specs.Salvaged.{text_where, salvage_task}
 use Rattle.commands.proofs.RefusingLaws.{then_ok}
 use Rattle.laying.specs.Laid.{Laid}
 use Rattle.cut_edits.specs.Exact.{exact_task}
-use Rattle.job_words.specs.Asked.{Asked, Help, Version, ListFile, Gain, Undo, Cut, CutExact, Pack, SplitAt, SplitExact, SplitBy, Join, Drill, Fade, Salvage}
+use Rattle.job_words.specs.Asked.{Asked, Help, Version, ListFile, InfoFile, Gain, Undo, Cut, CutExact, Pack, SplitAt, SplitExact, SplitBy, Join, Drill, Fade, Salvage}
 use Rattle.job_words.specs.Words.{job_of, IsSound}
 use Rattle.join_edits.specs.Join.{join_task}
 use Rattle.gain_edits.specs.Fade.{fade_task}
@@ -154,6 +154,7 @@ there : (asked : Asked) (f : Contents) (made : Made) → IsSound asked → (comm
 there Help f made sound e holds = record { sources = holds.sources; outputs = tt }
 there Version f made sound e holds = record { sources = holds.sources; outputs = tt }
 there (ListFile input) f made sound e holds = record { sources = holds.sources; outputs = tt }
+there (InfoFile input) f made sound e holds = record { sources = holds.sources; outputs = tt }
 there (Drill seed count) f made sound e holds = record { sources = holds.sources; outputs = tt }
 there (Gain shift tags input output) f made sound e holds = frames-there (Gain shift tags input output) f made holds (one-named _ output f made e) (streams-chosen.gain shift tags input output f made e)
 there (Undo input output) f made sound e holds = frames-there (Undo input output) f made holds (one-named _ output f made e) (streams-chosen.undo input output f made e)

@@ -16,11 +16,12 @@ use Rattle.cut_edits.specs.Exact.{exact_command}
 use Rattle.pack_edits.specs.Modes.{pack_mode_command}
 use Rattle.pack_edits.specs.Fewest.{WritesFewest}
 use Rattle.list_edits.specs.Listing.{list_command}
+use Rattle.list_edits.specs.InfoText.{info_command}
 use Rattle.split_edits.specs.Split.{split_at_command, split_by_command, split_exact_at_command, split_exact_by_command}
 use Rattle.join_edits.specs.Join.{join_command}
 use Rattle.drill.specs.Drilled.{drill_command}
 use Rattle.salvage_edits.specs.Salvaged.{salvage_command}
-use Rattle.job_words.specs.Asked.{Asked, Help, Version, ListFile, Gain, Undo, Cut, CutExact, Pack, SplitAt, SplitExact, SplitBy, Join, Drill, Fade, Salvage}
+use Rattle.job_words.specs.Asked.{Asked, Help, Version, ListFile, InfoFile, Gain, Undo, Cut, CutExact, Pack, SplitAt, SplitExact, SplitBy, Join, Drill, Fade, Salvage}
 use Rattle.job_words.specs.Words.{job_of}
 use Rattle.sync_survey.specs.Faults.{IsWellFormed, stream_of}
 use Rattle.theorems.specs.Chosen.{Frames, ConsistsOf, chosen_of}
@@ -33,6 +34,7 @@ abbrev pub command_of : Asked → Command
 command_of Help = said_command help_text
 command_of Version = said_command version_text
 command_of (ListFile input) = list_command input
+command_of (InfoFile input) = info_command input
 command_of (Gain shift tags input output) = gain_command shift tags input output
 command_of (Undo input output) = undo_command input output
 command_of (Cut from to least input output) = cut_command from to least input output

@@ -42,6 +42,7 @@ pub(crate) fn inputs_of<'a>(job: &Job<'a>) -> ArrayVec<&'a str, 64>
     match *job {
         Job::Help | Job::Version | Job::Drill { .. } => Names::new(),
         Job::List { input }
+        | Job::Info { input }
         | Job::Gain { input, .. }
         | Job::Undo { input, .. }
         | Job::Cut { input, .. }
@@ -62,7 +63,9 @@ pub(crate) fn outputs_of<'a>(job: &Job<'a>) -> Outputs<'a>
     ensures { names_in result ≡ (command_of (asked job.now)).outputs }
 {
     match *job {
-        Job::Help | Job::Version | Job::Drill { .. } | Job::List { .. } => Outputs::None,
+        Job::Help | Job::Version | Job::Drill { .. } | Job::List { .. } | Job::Info { .. } => {
+            Outputs::None
+        }
         Job::Gain { output, .. }
         | Job::Undo { output, .. }
         | Job::Cut { output, .. }

@@ -18,7 +18,7 @@ use drill::drill;
 use gain_edits::{fade, gain, undo};
 use job_words::{Job, job};
 use join_edits::join;
-use list_edits::list;
+use list_edits::{info, list};
 use outside::{Folder, Sink};
 use pack_edits::pack_with;
 use program_texts::{Outputs, say_help, say_version, send_bad_word, send_fault, status};
@@ -88,6 +88,7 @@ fn do_job<D: Folder, T: Sink>(
         Job::Help => say_help(out),
         Job::Version => say_version(out),
         Job::List { input } => list(alloc, folder, input, out),
+        Job::Info { input } => info(alloc, folder, input, out),
         Job::Gain {
             shift,
             tags,

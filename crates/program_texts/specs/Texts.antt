@@ -127,6 +127,7 @@ unfoldable pub help_text : List ℕ
 help_text =
     codes "usage: mp3edit COMMAND\n"
     ++ (codes "  list IN                say what stands in the MP3 file IN: tags, junk, head and frames\n"
+    ++ (codes "  info IN                say in a few lines what IN is, and how many steps down and up its gains can move\n"
     ++ (codes "  gain [-s s] [-w] -g N IN OUT\n"
     ++ (codes "                         write IN to OUT, louder by N steps of 1.5 dB (quieter below 0)\n"
     ++ (codes "  gain [-s s] [-w] -l C N IN OUT\n"
@@ -167,7 +168,7 @@ help_text =
     ++ (codes "  --help, -h             say this\n"
     ++ (codes "  --version              say which version this is\n"
     ++ (codes "status: 0 done; 1 refused; 2 bad word; 3 a file is absent, or reading or writing failed;\n"
-    ++ codes "        4 out of memory\n")))))))))))))))))))))))))))))))))))))))))
+    ++ codes "        4 out of memory\n"))))))))))))))))))))))))))))))))))))))))))
 
 -- the program's name and version
 unfoldable pub version_text : List ℕ

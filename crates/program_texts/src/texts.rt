@@ -41,9 +41,10 @@ pub fn status(fault: &EditFault) -> u8
 }
 
 /// What the program does, form by form, and the statuses.
-static HELP: [&str; 43] = [
+static HELP: [&str; 44] = [
     "usage: mp3edit COMMAND\n",
     "  list IN                say what stands in the MP3 file IN: tags, junk, head and frames\n",
+    "  info IN                say in a few lines what IN is, and how many steps down and up its gains can move\n",
     "  gain [-s s] [-w] -g N IN OUT\n",
     "                         write IN to OUT, louder by N steps of 1.5 dB (quieter below 0)\n",
     "  gain [-s s] [-w] -l C N IN OUT\n",

@@ -22,7 +22,7 @@ use Rattle.requests.specs.Shifts.{steps_of}
 use Rattle.moved_gains.specs.Streams.{moved_stream_frame}
 use Rattle.gain_edits.specs.Undo.{steps_back}
 use Rattle.gain_edits.specs.Fade.{faded_stream}
-use Rattle.job_words.specs.Asked.{Asked, Help, Version, ListFile, Gain, Undo, Cut, CutExact, Pack, SplitAt, SplitExact, SplitBy, Join, Drill, Fade, Salvage}
+use Rattle.job_words.specs.Asked.{Asked, Help, Version, ListFile, InfoFile, Gain, Undo, Cut, CutExact, Pack, SplitAt, SplitExact, SplitBy, Join, Drill, Fade, Salvage}
 use Rattle.theorems.specs.Exact.{IsExactly}
 
 -- ---- the frames of one output
@@ -119,4 +119,5 @@ chosen_of (Salvage input output) files = InParts (salvaged_stream (bytes_of file
 chosen_of Help files = []
 chosen_of Version files = []
 chosen_of (ListFile input) files = []
+chosen_of (InfoFile input) files = []
 chosen_of (Drill seed count) files = []

@@ -300,9 +300,10 @@ fn a_file_that_becomes_shorter(rt: HostRuntime) -> Result<(), Fail> {
 
 // Each survey makes one read, and so do a sheet and the second pass over each input. The line names the file that became shorter, and
 // nothing but the output is created.
-static READ: [Case; 21] = table! {
+static READ: [Case; 22] = table! {
     Case { words, found, trouble, status, line, ends, created }
     ("list a", 513, Trouble::Short(0, 100), 3, "a: shrunk from 513 to 100\n", 1, 0)
+    ("info a", 513, Trouble::Short(0, 100), 3, "a: shrunk from 513 to 100\n", 1, 0)
     ("gain -s s -g 1 a o", 513, Trouble::Short(1, 100), 3, "a: shrunk from 513 to 100\n", 1, 1)
     ("fade a o fade", 513, Trouble::Short(0, 100), 3, "a: shrunk from 513 to 100\n", 1, 0)
     ("fade a o fade", 513, Trouble::Short(1, 3), 3, "fade: shrunk from 4 to 3\n", 1, 0)
@@ -327,8 +328,9 @@ static READ: [Case; 21] = table! {
 
 // 864 bytes, of which 417 from byte 30 on are the head. It is read after the survey; in the second pass its area, from byte 66 on, is the
 // first that is missing.
-static HEADED: [Case; 3] = table! {
+static HEADED: [Case; 4] = table! {
     Case { words, found, trouble, status, line, ends, created }
+    ("info a", 864, Trouble::Short(1, 35), 3, "a: shrunk from 864 to 35\n", 1, 0)
     ("pack a o", 864, Trouble::Short(1, 35), 3, "a: shrunk from 864 to 35\n", 1, 0)
     ("pack --best a o", 864, Trouble::Short(1, 35), 3, "a: shrunk from 864 to 35\n", 1, 0)
     ("pack a o", 864, Trouble::Short(2, 35), 3, "a: shrunk from 864 to 66\n", 1, 1)

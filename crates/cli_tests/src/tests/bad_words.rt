@@ -38,6 +38,13 @@ gain -u -w a b => bad word 3
 gain -u a => bad word 4
 gain -u a b c => bad word 5
 
+# Files of which is said what they are.
+info => bad word 2
+info '' => bad word 2
+info -a => bad word 2
+info a b => bad word 3
+Info a => bad word 1
+
 # Splits and joins.
 split => bad word 2
 split a -p 0 1 => bad word 3

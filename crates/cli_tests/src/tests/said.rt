@@ -9,6 +9,7 @@ use test_files::table;
 
 const USAGE: &[u8] = b"usage: mp3edit COMMAND
   list IN                say what stands in the MP3 file IN: tags, junk, head and frames
+  info IN                say in a few lines what IN is, and how many steps down and up its gains can move
   gain [-s s] [-w] -g N IN OUT
                          write IN to OUT, louder by N steps of 1.5 dB (quieter below 0)
   gain [-s s] [-w] -l C N IN OUT

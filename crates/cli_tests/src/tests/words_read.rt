@@ -30,6 +30,7 @@ gain -u a b => Undo { input: \"a\", output: \"b\" }
 
 # Files to list and pack. Any number of one to three digits is a word for a bit rate.
 list a => List { input: \"a\" }
+info a => Info { input: \"a\" }
 pack a b => Pack { mode: Least, input: \"a\", output: \"b\" }
 pack --constant 96 a b => Pack { mode: Constant(96), input: \"a\", output: \"b\" }
 pack --constant 0 a b => Pack { mode: Constant(0), input: \"a\", output: \"b\" }
