@@ -397,6 +397,7 @@ def commands(random, files):
     found = results.survey_or_fault(data)
     count = len(found.frames) if isinstance(found, frames.Survey) else 3
     yield ["list", "x"]
+    yield ["info", "x"]
     yield ["gain", "-s", "s", *mode(random, data), "x", "o"]
     yield ["gain", *mode(random, data), "x", "o"]
     yield ["gain", "-u", "x", "o"]

@@ -7,7 +7,8 @@ helps to check.
 
 The words are those of "Synopsis" in docs/MANUAL.md, the lines those of its "Messages", and their order is "The order of refusals" in
 docs/DECISIONS.md. Files are bytes by name. frames.py says what is in a file and moves gains, laid.py lays main data, fades.py reads
-positions and the sheets of fades, spans.py makes exact pieces, drill.py draws streams from seeds, and damaged.py says what can be read of a damaged file.
+positions and the sheets of fades, spans.py makes exact pieces, about.py says what a file is, drill.py draws streams from seeds, and
+damaged.py says what can be read of a damaged file.
 """
 import re
 import sys
@@ -16,6 +17,7 @@ from functools import lru_cache
 from pathlib import Path
 
 sys.dont_write_bytecode = True
+import about  # noqa: E402
 import damaged  # noqa: E402
 import drill as drills  # noqa: E402
 import fades  # noqa: E402
@@ -86,6 +88,7 @@ MODES = [["-g", steps], ["-l", channel, steps]]
 FORMS = [(["gain", *front, *mode, name, name], 1) for front in FRONTS for mode in MODES]
 FORMS += [
     (["list", name], 1),
+    (["info", name], 1),
     (["gain", "-u", name, name], 1),
     (["cut", name, is_place, is_place, name], 1),
     (["cut", "--least", name, is_place, is_place, name], 1),
@@ -223,6 +226,11 @@ def list_file(words, files):
     return Result(text="".join(f"{it}\n" for it in frames.lines_of(surveyed(words[1], files))))
 
 
+def info(words, files):
+    found = surveyed(words[1], files)
+    return Result(text="".join(f"{it}\n" for it in about.lines_of(files[words[1]], found)))
+
+
 def gain(words, files):
     source, output = words[-2:]
     judge_names([source], [output])
@@ -357,7 +365,7 @@ def drill(words, files):
 
 
 COMMANDS = {
-    **{"list": list_file, "gain": gain, "cut": cut, "pack": pack, "split": split, "join": join, "fade": fade, "salvage": salvage},
+    **{"list": list_file, "info": info, "gain": gain, "cut": cut, "pack": pack, "split": split, "join": join, "fade": fade, "salvage": salvage},
     "drill": drill,
 }
 
