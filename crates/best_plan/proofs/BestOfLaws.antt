@@ -1,6 +1,5 @@
 -- The best plan is that of the function.
-use Rattle.std.proofs.Common.{◌≡◌, ℕ, zero, suc, ◌<◌, ◌≤◌, ◌==◌, ◌&&◌, ◌||◌, cond, Bool, true, false, inl, inr, List, [], ◌∷◌, ◌++◌, map, Contains, Option, Some, None, refl, sym, ap, ◌∙◌, subst, arith}
-use Rattle.std.specs.Prelude.{◌⊎◌, ◌↔◌, ltb, sum, flat_map, filter}
+use Rattle.std.proofs.Common.{◌≡◌, ℕ, zero, suc, ◌<◌, ◌≤◌, ◌==◌, ◌&&◌, ◌||◌, cond, Bool, true, false, inl, inr, List, [], ◌∷◌, ◌++◌, map, Contains, Option, Some, None, refl, sym, ap, ◌∙◌, subst, arith, ◌⊎◌, ◌↔◌, ltb, sum, flat_map, filter}
 use Rattle.std.proofs.lemmas.Bool.{ltb-true, ltb-false, eqb-true, eqb-false, or_cases, and_parts}
 use Rattle.std.proofs.lemmas.List.{append-nil}
 use Rattle.frame_header.specs.Fields.{SlotFields, HeaderFields}
@@ -88,9 +87,8 @@ among-choices items (s ∷ choices) slot slots (suc k, within, at) rest =
 among-lists : (items : List Item) (slots : List SlotFields) → AreOf items slots → Among (all_lists items) slots
 unfolding AreOf all_lists
 among-lists [] [] of = inl refl
-among-lists [] (slot ∷ slots) of = absurd of
-among-lists (item ∷ items) [] of = absurd of
 among-lists (item ∷ items) (slot ∷ slots) of = among-choices items item.choices slot slots of.0 (among-lists items slots of.1)
+among-lists _ _ of = absurd of
 
 from-choices : (items : List Item) (choices : List SlotFields) (list : List SlotFields) → Among (flat_map (after_slot items) choices) list
     → (slot : SlotFields) × (slots : List SlotFields) × Contains choices slot × Among (all_lists items) slots × (slot ∷ slots ≡ list)
@@ -242,9 +240,8 @@ cheapest-is items (placed ∷ plans) found e = of (cheapest items plans) refl e 
 pub chosen-for : (items : List Item) (placed : List Placed) → AreFor items placed → AreChosen (map open_of items) (areas_in items placed)
 unfolding AreFor areas_in AreChosen
 chosen-for [] [] slots = tt
-chosen-for [] (p ∷ placed) slots = absurd slots
-chosen-for (item ∷ items) [] slots = absurd slots
 chosen-for (item ∷ items) (p ∷ placed) slots = (Contains-area item.class item.protected item.choices p.slot slots.1, chosen-for items placed slots.2)
+chosen-for _ _ slots = absurd slots
 
 -- ---- the best plan of items
 

@@ -1,6 +1,5 @@
 -- The plan's list is one of those with as many lead-ins.
-use Rattle.std.proofs.Common.{◌≡◌, ℕ, zero, suc, ◌≤◌, true, false, Bool, List, [], ◌∷◌, map, sum, Contains, Option, Some, None, refl, sym, subst, arith}
-use Rattle.std.specs.Prelude.{◌↔◌}
+use Rattle.std.proofs.Common.{◌≡◌, ℕ, zero, suc, ◌≤◌, true, false, Bool, List, [], ◌∷◌, map, sum, Contains, Option, Some, None, refl, sym, subst, arith, ◌↔◌}
 use Rattle.std.proofs.lemmas.List.{append-nil}
 use Rattle.frame_header.specs.Fields.{SlotFields, ClassFields, HeaderFields}
 use Rattle.frame_header.specs.Tables.{class_of, area_of}

@@ -92,12 +92,11 @@ table-sums window choices (need ∷ needs) sums places table left within =
 pub table-bound : (window : ℕ) (choices : HeaderFields → List SlotFields) (needs : List Need) (sums places areas : List ℕ) → IsTable window choices needs sums places → AreChosen (opens_in choices needs) areas → sum areas ≤ 1441 * length needs
 unfolding IsTable AreChosen
 table-bound window choices [] sums places [] table chosen = omega arith
-table-bound window choices [] sums places (area ∷ areas) table chosen = absurd chosen
-table-bound window choices (need ∷ needs) sums places [] table chosen = absurd chosen
 table-bound window choices (need ∷ needs) sums places (area ∷ areas) table chosen =
     let rest = table-bound window choices needs table.later table.before areas table.behind chosen.1 in
     let here = table.most chosen.0.0 0 chosen.0.1 in
     omega (arith, rest, here, placed-at (areas_for choices need) area chosen.0, sum-cons area areas)
+table-bound window choices _ sums places _ table chosen = absurd chosen
 
 -- each frame may keep its slot
 pub table-own : (window : ℕ) (choices : HeaderFields → List SlotFields) (needs : List Need) (sums places : List ℕ) → IsTable window choices needs sums places → AreChosen (opens_in choices needs) (map own_area needs)

@@ -1,6 +1,5 @@
 -- A command that reads one file: the faults of its input, and what it makes of it.
-use Rattle.std.proofs.Common.{◌≡◌, ℕ, ◌≤◌, false, List, [], ◌∷◌, length, Option, Some, None, refl, sym, ◌∙◌, ap, ap₂, subst, Result, Ok, Err, arith, inl}
-use Rattle.std.specs.Prelude.{Bool, IfErr, unwrap_or}
+use Rattle.std.proofs.Common.{◌≡◌, ℕ, ◌≤◌, false, List, [], ◌∷◌, length, Option, Some, None, refl, sym, ◌∙◌, ap, ap₂, subst, Result, Ok, Err, arith, inl, Bool, IfErr, unwrap_or}
 use Rattle.bit_fields.specs.Bits.{AreBytes}
 use Rattle.outside.specs.Files.{Contents, Files, Holds, IsThere, Told, Untold, IfTold}
 use Rattle.outside.proofs.FilesLaws.{there_holds}

@@ -1,6 +1,5 @@
 -- A command that makes one file: what it leaves by its steps.
-use Rattle.std.proofs.Common.{◌≡◌, ◌≢◌, ℕ, ◌≤◌, List, [], ◌∷◌, length, slice_index_or, Option, Some, None, refl, sym, ◌∙◌, ap, subst, Result, Ok, Err, Bool, true, false, cond, inl, inr, arith}
-use Rattle.std.specs.Prelude.{◌↔◌, IfErr, IsErrOf, OnOk, bytes_eq, ◌||◌}
+use Rattle.std.proofs.Common.{◌≡◌, ◌≢◌, ℕ, ◌≤◌, List, [], ◌∷◌, length, slice_index_or, Option, Some, None, refl, sym, ◌∙◌, ap, subst, Result, Ok, Err, Bool, true, false, cond, inl, inr, arith, ◌↔◌, IfErr, IsErrOf, OnOk, bytes_eq, ◌||◌}
 use Rattle.std.specs.List.{list_any}
 use Rattle.bit_fields.specs.Bits.{AreBytes}
 use Rattle.outside.specs.Files.{Contents, Files, Holds, IsThere, Told, Untold, IfTold, OnlyTouches}

@@ -1,6 +1,5 @@
 -- What is read of a sheet.
-use Rattle.std.proofs.Common.{◌≡◌, ℕ, cond, true, false, List, length, Option, Some, None, Ok, Err, refl, sym, ◌∙◌, ap, subst}
-use Rattle.std.specs.Prelude.{IfErr, nat_lt}
+use Rattle.std.proofs.Common.{◌≡◌, ℕ, cond, true, false, List, length, Option, Some, None, Ok, Err, refl, sym, ◌∙◌, ap, subst, IfErr, nat_lt}
 use Rattle.outside.specs.Files.{Files, is_told}
 use Rattle.outside.specs.Counts.{Counts, HappenedTo, EndedAt, NothingFailed}
 use Rattle.outside.specs.Exact.{HasReadCause}

@@ -1,6 +1,5 @@
 -- A command with a text leaves of the files what it leaves without.
-use Rattle.std.proofs.Common.{◌≡◌, ℕ, List, Result, Ok, Err, refl, sym, ◌∙◌, ap, subst, inl, inr}
-use Rattle.std.specs.Prelude.{◌⊎◌, IfErr}
+use Rattle.std.proofs.Common.{◌≡◌, ℕ, List, Result, Ok, Err, refl, sym, ◌∙◌, ap, subst, inl, inr, ◌⊎◌, IfErr}
 use Rattle.outside.specs.Files.{Contents, Files, Told, Untold, IfTold}
 use Rattle.outside.specs.Seen.{Seen}
 use Rattle.commands.specs.declared.fault.EditFault.{EditFault}

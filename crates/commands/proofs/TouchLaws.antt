@@ -1,7 +1,6 @@
 -- Which names a command touches, however it ends: none but those of its outputs.
-use Rattle.std.proofs.Common.{◌≢◌, ℕ, ◌+◌, take, sym, ap, subst, inl, inr}
+use Rattle.std.proofs.Common.{◌≢◌, ℕ, ◌+◌, take, sym, ap, subst, inl, inr, ◌≡◌, ◌⊎◌}
 use Rattle.std.proofs.lemmas.List.Elements.{All-take}
-use Rattle.std.specs.Prelude.{◌≡◌, ◌⊎◌}
 use Rattle.outside.specs.Files.{Files, OnlyTouches}
 use Rattle.outside.proofs.FilesLaws.{touches_none, touches_more}
 use Rattle.outside.specs.Seen.{Seen}

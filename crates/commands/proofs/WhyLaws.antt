@@ -41,13 +41,8 @@ pub of_why : {A : ByWhy (Type 0)} {P : Type 0} (why : Why) → by_why A why → 
 of_why why h each = by_any why (each_why why h each)
   where
     by_any : {P : Type 0} (why : Why) → by_why (always P) why → P
-    by_any Rejected h = h
-    by_any Missing h = h
-    by_any Unread h = h
-    by_any Shorter h = h
     by_any (Unwritten k) h = h
-    by_any Unsent h = h
-    by_any NoMemory h = h
+    by_any _ h = h
 
 -- the same of two that stand together
 abbrev pub and_by : ByWhy (Type 0) → ByWhy (Type 0) → ByWhy (Type 0)

@@ -1,9 +1,8 @@
 -- A cue sheet has at most 99 starts, since it has at most 99 tracks and each track has one at most.
-use Rattle.std.proofs.Common.{◌≡◌, ℕ, ◌+◌, ◌||◌, Bool, true, false, cond, List, [], ◌∷◌, ◌++◌, length, Option, Some, None, Ok, refl, sym, ◌∙◌, ap, subst, not, arith, length-append, append_assoc, append-nil}
-use Rattle.std.specs.Prelude.{◌<◌, ◌≤◌, nat_le}
+use Rattle.std.proofs.Common.{◌≡◌, ℕ, ◌+◌, ◌||◌, Bool, true, false, cond, List, [], ◌∷◌, ◌++◌, length, Option, Some, None, Ok, refl, sym, ◌∙◌, ap, subst, not, arith, length-append, append_assoc, append-nil, ◌<◌, ◌≤◌, nat_le}
 use Rattle.std.specs.Option.{option_or}
 use Rattle.std.specs.List.{count_by, last_or}
-use Rattle.std.proofs.lemmas.Bool.{leb-true, leb-false}
+use Rattle.std.proofs.lemmas.Bool.{leb-true, leb-false, or_parts}
 use Rattle.std.proofs.lemmas.List.{length-map}
 use Rattle.std.proofs.lemmas.List.Elements.{filter_map-append}
 use Rattle.cue_sheet.specs.declared.entry.Entry.{Entry}
@@ -42,10 +41,6 @@ record IsFew (count : ℕ) (s : Seen) : Type 0 where
 
 at_front : IsFew 0 (record { lines = 0; file = false; tracks = 0; started = false; last = None })
 at_front = record { most = omega arith; few = omega arith; open_track = λ e some. some }
-
-or_parts : (a b : Bool) → (a || b) ≡ false → (a ≡ false) × (b ≡ false)
-or_parts true b e = absurd cc
-or_parts false b e = (refl, e)
 
 if_fault : (b : Bool) (line : ℕ) → line_fault b line ≡ None → b ≡ false
 if_fault true line e = absurd cc

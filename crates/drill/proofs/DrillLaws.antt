@@ -1,11 +1,10 @@
 -- The stream of a number consists of frames alone, with all main data laid into their areas.
-use Rattle.std.proofs.Common.{◌≡◌, ℕ, zero, suc, ◌+◌, ◌-◌, ◌*◌, ◌/◌, ◌%◌, ◌^◌, ◌≤◌, ◌<◌, ◌⊎◌, inl, inr, false, ◌||◌, List, [], ◌∷◌, ◌++◌, length, take, drop, map, None, Ok, refl, sym, ◌∙◌, ap, ap₂, subst, arith, append_assoc, append-nil, length-append, lit<, lit≤}
-use Rattle.std.specs.Prelude.{codes, bytes_eq}
+use Rattle.std.proofs.Common.{◌≡◌, ℕ, zero, suc, ◌+◌, ◌-◌, ◌*◌, ◌/◌, ◌%◌, ◌^◌, ◌≤◌, ◌<◌, ◌⊎◌, inl, inr, false, ◌||◌, List, [], ◌∷◌, ◌++◌, length, take, drop, map, None, Ok, refl, sym, ◌∙◌, ap, ap₂, subst, arith, append_assoc, append-nil, length-append, lit<, lit≤, codes, bytes_eq}
 use Rattle.std.specs.List.{All, range_with_len}
 use Rattle.std.proofs.lemmas.Bool.{ne_eqb, cases_lt}
 use Rattle.std.proofs.Math.Seq.{take-append-add}
 use Rattle.std.proofs.lemmas.List.FromFn.{length-range_with_len}
-use Rattle.std.proofs.lemmas.List.{length-map, length-drop, drop_at, length-take-le, length-replicate}
+use Rattle.std.proofs.lemmas.List.{length-map, length-drop, drop_at, length-take-le, length-replicate, nil_from_length}
 use Rattle.std.proofs.lemmas.List.Elements.{All-nil, All-cons, All-head, All-tail, All-append, All-take, All-replicate}
 use Rattle.std.proofs.lemmas.Nat.{mod_below}
 use Rattle.bit_fields.specs.Bits.{bits_of, bits, bytes, number, AreBits}
@@ -122,10 +121,6 @@ unfolding number
 number-zeros zero = refl
 number-zeros (suc n) = omega (arith, number-zeros n)
 
-none-left : {X : Type 0} (xs : List X) → length xs ≡ 0 → xs ≡ []
-none-left [] none = refl
-none-left (x ∷ xs) none = absurd (omega (arith, none))
-
 -- the first bits of a byte and 0 after them
 part-low : (high low octet : ℕ) → octet < 64 → octet / 2 ^ low % 2 ^ high * 2 ^ low < 64
 part-low high low octet small = omega (arith, small, mod-most (octet / 2 ^ low) (2 ^ high), part-most (octet / 2 ^ low % 2 ^ high) (octet / 2 ^ low) octet (2 ^ low) (mod-most (octet / 2 ^ low) (2 ^ high)) (div-most octet (2 ^ low)))
@@ -160,7 +155,7 @@ spelled-front o os count many =
 
 first-byte : (o : ℕ) (os : List ℕ) (count : ℕ) → All IsLow (o ∷ os) → length (o ∷ os) ≡ (count + 7) / 8 → (8 ≤ count → All IsLow (first_bits (count - 8) os)) → (count < 8) ⊎ (8 ≤ count) → All IsLow (first_bits count (o ∷ os))
 first-byte o os count low long later (inl few) =
-    let one : os ≡ [] = none-left os (omega (arith, few, long)) in
+    let one : os ≡ [] = nil_from_length os (omega (arith, few, long)) in
     let eight = take count (bits_of 8 o) ++ zeros (8 - count) in
     let long_eight : length eight ≡ 8 = omega (arith, few, length-append (take count (bits_of 8 o)) (zeros (8 - count)), length-take-le count (bits_of 8 o) (omega (arith, few, length-bits_of 8 o)), length-replicate {A = ℕ} (8 - count) 0) in
     let is : spelled count (o ∷ os) ≡ eight ++ [] =
@@ -176,7 +171,7 @@ first-byte o os count low long later (inr many) =
 
 first-low : (octets : List ℕ) (count : ℕ) → All IsLow octets → length octets ≡ (count + 7) / 8 → All IsLow (first_bits count octets)
 first-low [] count low long =
-    let none : spelled count [] ≡ [] = none-left (spelled count []) (length-spelled count [] (omega (arith, long))) in
+    let none : spelled count [] ≡ [] = nil_from_length (spelled count []) (length-spelled count [] (omega (arith, long))) in
     subst (λ (xs : List ℕ). All IsLow xs) (sym (ap bytes none ∙ bytes-nil)) (All-nil IsLow)
 first-low (o ∷ os) count low long = first-byte o os count low long (λ many. first-low os (count - 8) (All-tail IsLow o os low) (omega (arith, many, long))) (cases_lt count 8)
 

@@ -1,6 +1,5 @@
 -- The frames of a stream have a layout without a lead-in: that in which they were drawn.
-use Rattle.std.proofs.Common.{◌≡◌, ℕ, zero, suc, ◌+◌, false, List, [], ◌∷◌, length, map, Option, Some, None, refl, sym, ◌∙◌, ap, subst, arith, append-nil}
-use Rattle.std.specs.Prelude.{Contains}
+use Rattle.std.proofs.Common.{◌≡◌, ℕ, zero, suc, ◌+◌, false, List, [], ◌∷◌, length, map, Option, Some, None, refl, sym, ◌∙◌, ap, subst, arith, append-nil, Contains}
 use Rattle.std.specs.List.{All}
 use Rattle.std.proofs.Math.Path.{transport}
 use Rattle.std.proofs.lemmas.List.Elements.{All-nil, All-cons}
@@ -89,9 +88,8 @@ module _ (choices : HeaderFields → List SlotFields) (own : Contains (choices d
   none-placed : (needs : List Need) (placed : List Placed) → AreFor (map (item_of choices) needs) placed → All (λ p. p.lead_in ≡ false) placed
   unfolding AreFor
   none-placed [] [] are = All-nil (λ p. p.lead_in ≡ false)
-  none-placed [] (p ∷ placed) are = absurd are
-  none-placed (need ∷ needs) [] are = absurd are
   none-placed (need ∷ needs) (p ∷ placed) are = All-cons (λ q. q.lead_in ≡ false) p placed are.0 (none-placed needs placed are.2)
+  none-placed _ _ are = absurd are
 
   items-alone : (part : List Need) → whole_of choices (part ∷ []) (None ∷ []) ≡ map (item_of choices) part
   unfolding whole_of items_of

@@ -1,8 +1,8 @@
 -- A stream made from a seed, packed: the packing isn't refused, the packed file holds the frames that were drawn, and needs no lead-in.
-use Rattle.std.proofs.Common.{◌≡◌, ◌≢◌, ℕ, suc, ◌-◌, ◌<◌, ◌≤◌, ◌&&◌, Bool, true, false, List, [], ◌∷◌, ◌++◌, length, take, map, Option, Some, None, Result, Ok, Err, refl, sym, ◌∙◌, ap, subst, inl, inr, arith, rules}
-use Rattle.std.specs.Prelude.{All, slice_range, nat_lt, nat_le, decimal}
+use Rattle.std.proofs.Common.{◌≡◌, ◌≢◌, ℕ, suc, ◌-◌, ◌<◌, ◌≤◌, ◌&&◌, Bool, true, false, List, [], ◌∷◌, ◌++◌, length, take, map, Option, Some, None, Result, Ok, Err, refl, sym, ◌∙◌, ap, subst, inl, inr, arith, rules, All, slice_range, nat_lt, nat_le, decimal}
 use Rattle.std.proofs.lemmas.List.{length-map}
 use Rattle.std.proofs.lemmas.List.FromFn.{length-map-range_with_len}
+use Rattle.std.proofs.lemmas.Option.{same_Some}
 use Rattle.frame_header.specs.Tables.{window_of}
 use Rattle.frame_header.proofs.SlotLaws.{Contains-all_slots}
 use Rattle.outside.specs.Files.{Contents, Files, sent_more, Holds, Told}
@@ -64,14 +64,13 @@ same-stream : (window reach : ℕ) (needs : List Need) (placed : List Placed) (s
     → with_lead_ins placed stream ≡ stream
 unfolding FitsFrom with_lead_ins
 same-stream window reach [] [] [] fits none many = refl
-same-stream window reach [] [] (f ∷ stream) fits none many = absurd (omega (arith, many))
 same-stream window reach [] (p ∷ placed) stream fits none many = absurd fits
 same-stream window reach (need ∷ needs) [] stream fits none many = absurd fits
-same-stream window reach (need ∷ needs) (p ∷ placed) [] fits none many = absurd (omega (arith, many))
 same-stream window reach (need ∷ needs) (p ∷ placed) (f ∷ stream) fits none many =
     let here : p.lead_in ≡ false = none 0 p (omega arith) in
     let behind : FitsFrom window (reach_behind window p need) needs placed = subst (λ (b : Bool). FitsFrom window (reach_behind window p need) (left_behind b need needs) placed) here fits.2 in
     rw here (ap (λ l. f ∷ l) (same-stream window (reach_behind window p need) needs placed stream behind (rest-none p placed none) (omega (arith, many))))
+same-stream window reach _ _ _ fits none many = absurd (omega (arith, many))
 
 -- ---- lists and surveys
 
@@ -228,12 +227,9 @@ abbrev text_in : Result Made EditFault → List ℕ
 text_in (Ok made) = made.text
 text_in (Err fault) = []
 
-some_is : {A : Type 0} (a b : A) → Some a ≡ Some b → a ≡ b
-some_is a b e = cc
-
 module _ (seed count : ℕ) (files : Files) (old new : Heard) where
   text-is : (text : List ℕ) → IsText (drill_command seed count) files text → text ≡ drill_text seed count
-  text-is text (inl always) = sym (some_is (drill_text seed count) text always)
+  text-is text (inl always) = sym (same_Some (drill_text seed count) text always)
   text-is text (inr told) = sym (ap text_in told.3 ∙ told.4)
 
   pub told-all : new.sent ≡ sent_more old.sent (drill_text seed count) → new.faults ≡ old.faults → SaysAll (drill_command seed count) files old new

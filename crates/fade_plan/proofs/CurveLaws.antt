@@ -1,6 +1,5 @@
 -- The last point up to a frame and the first one after it, among points that are parted there.
-use Rattle.std.proofs.Common.{◌≡◌, ℕ, suc, ◌+◌, ◌-◌, ◌<◌, ◌≤◌, Bool, true, false, cond, nat_le, nat_lt, List, [], ◌∷◌, ◌++◌, length, get_or, take, drop, map, Some, None, option_map, refl, sym, ap, ap₂, subst, ◌∙◌, arith, length-drop, length-append}
-use Rattle.std.specs.Prelude.{reverse, find}
+use Rattle.std.proofs.Common.{◌≡◌, ℕ, suc, ◌+◌, ◌-◌, ◌<◌, ◌≤◌, Bool, true, false, cond, nat_le, nat_lt, List, [], ◌∷◌, ◌++◌, length, get_or, take, drop, map, Some, None, option_map, refl, sym, ap, ap₂, subst, ◌∙◌, arith, length-drop, length-append, reverse, find}
 use Rattle.std.specs.List.{All, AllWithin, slice_get}
 use Rattle.std.specs.List.Sorted.{IsNonDecreasingBy}
 use Rattle.std.specs.Option.{option_or}

@@ -1,6 +1,5 @@
 -- The steps between two points are no more than those of the points.
-use Rattle.std.proofs.Common.{◌≡◌, ℕ, zero, suc, true, false, cond, ltb, ◌-◌, ◌+◌, ◌*◌, ◌/◌, ◌<◌, ◌≤◌, w64, FitsSigned, to_z, of_z, ◌^◌, refl, sym, ap, ap₂, subst, ◌∙◌, arith}
-use Rattle.std.specs.Prelude.{ℤ, pos, negsuc, neg_ℤ, ◌+ℤ◌, ◌*ℤ◌, int_div, unsigned_abs}
+use Rattle.std.proofs.Common.{◌≡◌, ℕ, zero, suc, true, false, cond, ltb, ◌-◌, ◌+◌, ◌*◌, ◌/◌, ◌<◌, ◌≤◌, w64, FitsSigned, to_z, of_z, ◌^◌, refl, sym, ap, ap₂, subst, ◌∙◌, arith, ℤ, pos, negsuc, neg_ℤ, ◌+ℤ◌, ◌*ℤ◌, int_div, unsigned_abs}
 use Rattle.std.proofs.lemmas.Int.{unsigned_abs-mul, to_z-of_z, to_z_pos, fits_signed_from_abs}
 use mir.Syntax.{w16}
 use Rattle.std.proofs.Math.IntN.{sub_ℕ}

@@ -11,14 +11,9 @@ use Rattle.frame_header.specs.Reading.{header_of_class}
 
 version-same : (v w : Version) → version_number v ≡ version_number w → v ≡ w
 version-same One One e = refl
-version-same One Two e = absurd cc
-version-same One TwoFive e = absurd cc
-version-same Two One e = absurd cc
 version-same Two Two e = refl
-version-same Two TwoFive e = absurd cc
-version-same TwoFive One e = absurd cc
-version-same TwoFive Two e = absurd cc
 version-same TwoFive TwoFive e = refl
+version-same _ _ e = absurd cc
 
 class-parts : (c d : ClassFields) → c.version ≡ d.version → c.frequency_index ≡ d.frequency_index → c.channels ≡ d.channels → c ≡ d
 class-parts c d version frequency channels =

@@ -3,8 +3,7 @@ use Rattle.std.proofs.Common.{◌≡◌, Bool, true, false, ◌&&◌, refl, sym,
 
 stuck : (a b : Bool) → (a && (b && false)) ≡ false
 stuck true true = refl
-stuck true false = refl
-stuck false b = refl
+stuck _ _ = refl
 
 last : (v s w : Bool) → ((w && v) && s) ≡ (v && (s && w))
 last true true true = refl
@@ -17,13 +16,8 @@ last false s false = refl
 -- version and slot, compared last, as if they were compared in their places
 reorder : (v p s f r m x y z w : Bool) → ((((((((((p && f) && r) && m) && x) && y) && z) && w)) && v) && s) ≡ (v && (p && (s && (f && (r && (m && (x && (y && (z && w)))))))))
 reorder v false s f r m x y z w = sym (stuck v true)
-reorder v true s false r m x y z w = sym (stuck v s)
-reorder v true s true false m x y z w = sym (stuck v s)
-reorder v true s true true false x y z w = sym (stuck v s)
-reorder v true s true true true false y z w = sym (stuck v s)
-reorder v true s true true true true false z w = sym (stuck v s)
-reorder v true s true true true true true false w = sym (stuck v s)
 reorder v true s true true true true true true w = last v s w
+reorder v true s _ _ _ _ _ _ w = sym (stuck v s)
 
 pub compared_last : (v p s f r m x y z w : Bool) {a b c d e g h i j k : Bool} → a ≡ p → b ≡ (a && f) → c ≡ (b && r) → d ≡ (c && m) → e ≡ (d && x) → g ≡ (e && y) → h ≡ (g && z) → i ≡ (h && w) → j ≡ (i && v) → k ≡ (j && s)
     → k ≡ (v && (p && (s && (f && (r && (m && (x && (y && (z && w)))))))))

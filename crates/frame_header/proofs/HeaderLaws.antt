@@ -6,7 +6,7 @@ use Rattle.std.specs.Int.{to_be_bytes, w32}
 use mir.Val.{bool_byte}
 use Rattle.bit_fields.specs.Bits.{bits, bits_of, number, AreBits, AreBytes}
 use Rattle.bit_fields.specs.Groups.{group, numbers_at, spelled, Fits}
-use Rattle.std.proofs.lemmas.Bool.{ne_eqb, eqb-true, true≢false, false≢true, eqb-false, and_parts}
+use Rattle.std.proofs.lemmas.Bool.{ne_eqb, eqb-true, true≢false, eqb-false, and_parts, not-true}
 use Rattle.bit_fields.proofs.BitsLaws.{number-middle_of, AreBits-bits, length-bits, bits-injective, bits-be_bytes}
 use Rattle.bit_fields.proofs.GroupsLaws.{group-below, joined, spelled-joined, length-spelled, AreBits-spelled, numbers_at-spelled, spelled-numbers_at}
 use Rattle.frame_header.specs.declared.header.NotHeader.{NotHeader}
@@ -65,10 +65,6 @@ header_fields-groups h v p rate padding frequency private mode extension copyrig
       emphasis = e10 i;
     }
 
-is_not : (b : Bool) → not b ≡ true → b ≡ false
-is_not true h = absurd (false≢true h)
-is_not false h = refl
-
 -- ---- what is read is within its ranges
 
 ok_is : (a b : HeaderFields) → good a ≡ good b → a ≡ b
@@ -79,9 +75,8 @@ unfolding header_in
 header_in-ok h fields is = by_cases (is_readable h) (eqb (rate_bits h) 0) refl refl is
   where
     by_cases : (r z : Bool) → is_readable h ≡ r → eqb (rate_bits h) 0 ≡ z → cond r (cond z (Err Free) (good (header_fields h))) (Err No) ≡ good fields → (is_readable h ≡ true) × (rate_bits h ≢ 0) × (header_fields h ≡ fields)
-    by_cases false z readable none e = absurd cc
-    by_cases true true readable none e = absurd cc
     by_cases true false readable some e = (readable, (λ none. true≢false (sym (eq-eqb _ _ none) ∙ some)), ok_is _ _ e)
+    by_cases _ _ readable none e = absurd cc
 
 -- the tests of a readable header, as facts
 record IsReadable (h : List ℕ) : Type 0 where
@@ -100,10 +95,10 @@ readable h passes =
     let marks = and_parts _ _ front.0 in
     record {
       sync = eqb-true _ _ marks.0;
-      version = eqb-false _ _ (is_not _ marks.1);
+      version = eqb-false _ _ (not-true _ marks.1);
       layer = eqb-true _ _ front.1;
-      rate = eqb-false _ _ (is_not _ first.1);
-      frequency = eqb-false _ _ (is_not _ parts.1);
+      rate = eqb-false _ _ (not-true _ first.1);
+      frequency = eqb-false _ _ (not-true _ parts.1);
     }
 
 fields_in_range : (h : List ℕ) → AreBits h → IsReadable h → rate_bits h ≢ 0 → IsHeader (header_fields h)
@@ -123,11 +118,9 @@ IsHeader-read h fields bits is =
     subst IsHeader ok.2 (fields_in_range h bits (readable h ok.0) ok.1)
 
 version_again : (n : ℕ) → n < 4 → n ≢ 1 → version_number (cond (eqb n 3) One (cond (eqb n 2) Two TwoFive)) ≡ n
-version_again zero h some = refl
 version_again (suc zero) h some = absurd (omega arith)
-version_again (suc (suc zero)) h some = refl
-version_again (suc (suc (suc zero))) h some = refl
 version_again (suc (suc (suc (suc n)))) h some = absurd (omega arith)
+version_again _ h some = refl
 
 -- what the bits of a header say of its version, its frequency and its bit rate
 pub record SaysClass (h : List ℕ) (fields : HeaderFields) : Type 0 where
@@ -183,8 +176,7 @@ numbers_at-groups at (width ∷ widths) bs =
 
 version_number-below : (v : Version) → version_number v < 4
 version_number-below One = lit< tt
-version_number-below Two = lit< tt
-version_number-below TwoFive = lit< tt
+version_number-below _ = lit< tt
 
 flag-below : (flag : Bool) → flag_of flag < 2
 flag-below true = lit< tt
@@ -259,13 +251,11 @@ groups_written h is = sym (numbers_at-groups 0 header_widths (header_bits h)) �
 
 version_back : (v : Version) → v ≡ cond (eqb (version_number v) 3) One (cond (eqb (version_number v) 2) Two TwoFive)
 version_back One = refl
-version_back Two = refl
-version_back TwoFive = refl
+version_back _ = refl
 
 version_some : (v : Version) → eqb (version_number v) 1 ≡ false
 version_some One = refl
-version_some Two = refl
-version_some TwoFive = refl
+version_some _ = refl
 
 flag_back : (flag : Bool) → flag ≡ eqb (flag_of flag) 1
 flag_back true = refl
@@ -305,14 +295,12 @@ header_in-header_bits h is =
     (sym (g 12))))
 
 flag_again : (bit : ℕ) → bit < 2 → flag_of (eqb bit 1) ≡ bit
-flag_again zero h = refl
-flag_again (suc zero) h = refl
 flag_again (suc (suc bit)) h = absurd (omega arith)
+flag_again _ h = refl
 
 protection_again : (bit : ℕ) → bit < 2 → protection_of (eqb bit 0) ≡ bit
-protection_again zero h = refl
-protection_again (suc zero) h = refl
 protection_again (suc (suc bit)) h = absurd (omega arith)
+protection_again _ h = refl
 
 numbers_read : (bs : List ℕ) → AreBits bs → IsReadable bs → header_numbers (header_fields bs) ≡ groups_from 0 header_widths bs
 unfolding header_numbers header_fields

@@ -1,7 +1,7 @@
 -- Bounds on the tables and on the lengths that follow from them.
-use Rattle.std.proofs.Common.{◌≡◌, ℕ, ◌+◌, ◌-◌, ◌*◌, ◌/◌, ◌<◌, ◌≤◌, Bool, true, false, cond, zero, suc, List, [], map, length, get_or, leb, eqb, refl, sym, ap, ap₂, ◌∙◌, lit<, lit≤, arith}
+use Rattle.std.proofs.Common.{◌≡◌, ℕ, ◌+◌, ◌-◌, ◌*◌, ◌/◌, ◌<◌, ◌≤◌, Bool, true, false, cond, suc, List, [], map, length, get_or, leb, eqb, refl, sym, ap, ap₂, ◌∙◌, lit<, lit≤, arith}
 use Rattle.std.proofs.lemmas.Nat.{le-div}
-use Rattle.std.proofs.lemmas.Bool.{leb-true, eqb-true, true≢false}
+use Rattle.std.proofs.lemmas.Bool.{leb-true, eqb-true, true≢false, true_from_ne_false}
 use mir.Val.{bool_byte}
 use Rattle.std.proofs.lemmas.List.{get_or-map}
 use Rattle.std.proofs.lemmas.List.Folds.{list_all_at}
@@ -19,13 +19,9 @@ least_rate version = get_or (rates version) 0 0
 abbrev pub highest_frequency : Version → ℕ
 highest_frequency version = get_or (frequencies version) 1 0
 
-not_false : (b : Bool) → (b ≡ false → ⊥) → b ≡ true
-not_false true h = refl
-not_false false h = absurd (h refl)
-
 -- what a test says of a whole table holds at each of its places
 all_pass : (p : ℕ → Bool) (xs : List ℕ) (i : ℕ) → list_all p xs ≡ true → i < length xs → p (get_or xs i 0) ≡ true
-all_pass p xs i all lt = not_false (p (get_or xs i 0)) (λ fails. true≢false (sym all ∙ list_all_at p xs i 0 lt fails))
+all_pass p xs i all lt = true_from_ne_false (p (get_or xs i 0)) (λ fails. true≢false (sym all ∙ list_all_at p xs i 0 lt fails))
 
 least : (version : Version) (i : ℕ) → i < 14 → least_rate version ≤ get_or (rates version) i 0
 least One i lt = leb-true 32 (get_or (rates One) i 0) (all_pass (λ r. leb 32 r) (rates One) i refl lt)
@@ -39,8 +35,7 @@ greatest TwoFive i lt = leb-true (get_or (rates TwoFive) i 0) 320 (all_pass (λ 
 
 lowest : (version : Version) → 8 ≤ least_rate version
 lowest One = lit< tt
-lowest Two = lit< tt
-lowest TwoFive = lit< tt
+lowest _ = lit< tt
 
 -- the bit rates of all versions are between 8 and 320 kbit/s
 pub rate-least : (c : ClassFields) (s : SlotFields) → IsSlot s → 8 ≤ rate_of c s
@@ -88,23 +83,14 @@ area_some c s class slot = omega (arith, length-least c s class slot, room c.ver
 -- ---- the table of lengths
 row_is : (version : Version) (frequency : ℕ) → frequency < 3
     → get_or LENGTHS (3 * version_place version + frequency) [] ≡ map (λ rate. (length_factor version * (1000 * rate)) / get_or (frequencies version) frequency 0) (rates version)
-row_is One zero h = refl
-row_is One (suc zero) h = refl
-row_is One (suc (suc zero)) h = refl
 row_is One (suc (suc (suc frequency))) h = absurd (omega arith)
-row_is Two zero h = refl
-row_is Two (suc zero) h = refl
-row_is Two (suc (suc zero)) h = refl
 row_is Two (suc (suc (suc frequency))) h = absurd (omega arith)
-row_is TwoFive zero h = refl
-row_is TwoFive (suc zero) h = refl
-row_is TwoFive (suc (suc zero)) h = refl
 row_is TwoFive (suc (suc (suc frequency))) h = absurd (omega arith)
+row_is _ _ h = refl
 
 length-rates : (version : Version) → length (rates version) ≡ 14
 length-rates One = refl
-length-rates Two = refl
-length-rates TwoFive = refl
+length-rates _ = refl
 
 flag_byte : (flag : Bool) → bool_byte flag ≡ cond flag 1 0
 flag_byte true = refl
@@ -125,14 +111,13 @@ length_in_table-is c s class slot =
 -- no entry is above 1,440
 entries_most : (row i : ℕ) → row < 9 → i < 14 → get_or (get_or LENGTHS row []) i 0 ≤ 1440
 entries_most row i lt within =
-    let full : length (get_or LENGTHS row []) ≡ 14 = eqb-true _ _ (not_false _ (λ fails. true≢false (list_all_at (λ (entries : List ℕ). eqb (length entries) 14) LENGTHS row [] lt fails))) in
-    let below : list_all (λ n. leb n 1440) (get_or LENGTHS row []) ≡ true = not_false _ (λ fails. true≢false (list_all_at (λ (entries : List ℕ). list_all (λ n. leb n 1440) entries) LENGTHS row [] lt fails)) in
+    let full : length (get_or LENGTHS row []) ≡ 14 = eqb-true _ _ (true_from_ne_false _ (λ fails. true≢false (list_all_at (λ (entries : List ℕ). eqb (length entries) 14) LENGTHS row [] lt fails))) in
+    let below : list_all (λ n. leb n 1440) (get_or LENGTHS row []) ≡ true = true_from_ne_false _ (λ fails. true≢false (list_all_at (λ (entries : List ℕ). list_all (λ n. leb n 1440) entries) LENGTHS row [] lt fails)) in
     leb-true _ 1440 (all_pass (λ n. leb n 1440) (get_or LENGTHS row []) i below (omega arith))
 
 row_below : (version : Version) (frequency : ℕ) → frequency < 3 → 3 * version_place version + frequency < 9
 row_below One frequency h = omega arith
-row_below Two frequency h = omega arith
-row_below TwoFive frequency h = omega arith
+row_below _ frequency h = omega arith
 
 bool_byte-most : (flag : Bool) → bool_byte flag ≤ 1
 bool_byte-most true = lit≤ tt

@@ -93,18 +93,10 @@ rises ns = all_below 27 (λ k. ltb (get_or ns k 0) (get_or ns (k + 1) 0))
 
 lengths-rise : (version : Version) (frequency channels : ℕ) → frequency < 3 → rises (map (length_of (record { version = version; frequency_index = frequency; channels = channels })) all_slots) ≡ true
 unfolding all_slots slots_to length_of rate_of frequency_of
-lengths-rise One zero channels h = refl
-lengths-rise One (suc zero) channels h = refl
-lengths-rise One (suc (suc zero)) channels h = refl
 lengths-rise One (suc (suc (suc frequency))) channels h = absurd (omega arith)
-lengths-rise Two zero channels h = refl
-lengths-rise Two (suc zero) channels h = refl
-lengths-rise Two (suc (suc zero)) channels h = refl
 lengths-rise Two (suc (suc (suc frequency))) channels h = absurd (omega arith)
-lengths-rise TwoFive zero channels h = refl
-lengths-rise TwoFive (suc zero) channels h = refl
-lengths-rise TwoFive (suc (suc zero)) channels h = refl
 lengths-rise TwoFive (suc (suc (suc frequency))) channels h = absurd (omega arith)
+lengths-rise _ _ channels h = refl
 
 -- the slot at a place, and its length
 abbrev pub nth_slot : ℕ → SlotFields
@@ -160,8 +152,7 @@ area-largest c s protected class is =
 
 side-least : (version : Version) (channels : ℕ) → 9 ≤ side_bytes_of version channels
 side-least One channels = elim (eqb channels 1) as (λ b. 9 ≤ cond b 17 32) [ true ↦ lit≤ tt | false ↦ lit≤ tt ]
-side-least Two channels = elim (eqb channels 1) as (λ b. 9 ≤ cond b 9 17) [ true ↦ lit≤ tt | false ↦ lit≤ tt ]
-side-least TwoFive channels = elim (eqb channels 1) as (λ b. 9 ≤ cond b 9 17) [ true ↦ lit≤ tt | false ↦ lit≤ tt ]
+side-least _ channels = elim (eqb channels 1) as (λ b. 9 ≤ cond b 9 17) [ true ↦ lit≤ tt | false ↦ lit≤ tt ]
 
 -- no area is larger than 1,428 bytes: the longest frame less its header and the least side information
 pub area-most : (c : ClassFields) (s : SlotFields) (protected : Bool) → IsClass c → IsSlot s → area_of c s protected ≤ 1428
@@ -175,15 +166,13 @@ unfolding length_of rate_of frequency_of
 spans One zero channels h = elim (eqb channels 1) as (λ b. 515 + cond b 17 32 ≤ 1045) [ true ↦ lit≤ tt | false ↦ lit≤ tt ]
 spans One (suc zero) channels h = elim (eqb channels 1) as (λ b. 515 + cond b 17 32 ≤ 961) [ true ↦ lit≤ tt | false ↦ lit≤ tt ]
 spans One (suc (suc zero)) channels h = elim (eqb channels 1) as (λ b. 515 + cond b 17 32 ≤ 1441) [ true ↦ lit≤ tt | false ↦ lit≤ tt ]
-spans One (suc (suc (suc frequency))) channels h = absurd (omega arith)
 spans Two zero channels h = elim (eqb channels 1) as (λ b. 259 + cond b 9 17 ≤ 523) [ true ↦ lit≤ tt | false ↦ lit≤ tt ]
 spans Two (suc zero) channels h = elim (eqb channels 1) as (λ b. 259 + cond b 9 17 ≤ 481) [ true ↦ lit≤ tt | false ↦ lit≤ tt ]
 spans Two (suc (suc zero)) channels h = elim (eqb channels 1) as (λ b. 259 + cond b 9 17 ≤ 721) [ true ↦ lit≤ tt | false ↦ lit≤ tt ]
-spans Two (suc (suc (suc frequency))) channels h = absurd (omega arith)
 spans TwoFive zero channels h = elim (eqb channels 1) as (λ b. 259 + cond b 9 17 ≤ 1045) [ true ↦ lit≤ tt | false ↦ lit≤ tt ]
 spans TwoFive (suc zero) channels h = elim (eqb channels 1) as (λ b. 259 + cond b 9 17 ≤ 961) [ true ↦ lit≤ tt | false ↦ lit≤ tt ]
 spans TwoFive (suc (suc zero)) channels h = elim (eqb channels 1) as (λ b. 259 + cond b 9 17 ≤ 1441) [ true ↦ lit≤ tt | false ↦ lit≤ tt ]
-spans TwoFive (suc (suc (suc frequency))) channels h = absurd (omega arith)
+spans _ (suc (suc (suc frequency))) channels h = absurd (omega arith)
 
 -- an unprotected frame of the largest slot has room for as many bytes as main_data_begin can count
 pub window-spanned : (c : ClassFields) → IsClass c → window_of c.version ≤ area_of c largest_slot false

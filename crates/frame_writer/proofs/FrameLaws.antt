@@ -1,5 +1,5 @@
 -- Laws of frames that wait.
-use Rattle.std.proofs.Common.{◌≡◌, ℕ, ◌⊎◌, inl, inr, ◌+◌, ◌*◌, ◌≤◌, ◌<◌, min, Bool, true, false, cond, eqb, List, [], ◌∷◌, ◌++◌, length, take, drop, refl, sym, subst, ap, ap₂, ◌∙◌, append_assoc, append-nil, arith, length-append, mul-suc, lit≤}
+use Rattle.std.proofs.Common.{◌≡◌, ℕ, ◌⊎◌, inl, inr, ◌+◌, ◌*◌, ◌≤◌, ◌<◌, min, Bool, true, false, cond, eqb, List, [], ◌∷◌, ◌++◌, length, take, drop, refl, sym, subst, ap, ap₂, ◌∙◌, append_assoc, append-nil, arith, length-append, mul-suc, lit≤, slice_get, Some, unwrap_or, Result, Ok, Err, IsOk, OnOk, ◌↔◌}
 use Rattle.std.proofs.lemmas.List.{length-drop, take-append-le, drop-append-le, map-append}
 use Rattle.std.proofs.Math.Seq.{take-length}
 use Rattle.std.proofs.Math.Nat.{min-eq_left, min-eq_right}
@@ -14,7 +14,6 @@ use Rattle.frame_header.proofs.SlotLaws.{area-is, area-most}
 use Rattle.side_info.specs.Side.{SideFits}
 use Rattle.side_info.specs.Frame.{front_of}
 use Rattle.circular_buffer.specs.Buffer.{Buffer, buffer}
-use Rattle.std.specs.Prelude.{slice_get, Some, unwrap_or, Result, Ok, Err, IsOk, OnOk, ◌↔◌}
 use Rattle.side_info.specs.FrameFields.{FrameFields}
 use Rattle.frame_writer.specs.Laid.{Piece, Waiting, laid, AreLaid, BeginsWithin}
 use Rattle.frame_writer.specs.Frames.{area_in, areas_in, first_bytes, framed, Frame, piece_of, all_kept, pieces, frame_bytes, Held, held_bytes, AreOf, IsNextSettled, AreWritten}

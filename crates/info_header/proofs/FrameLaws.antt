@@ -1,8 +1,7 @@
 -- Laws of the Info frame: its slot has room for the fields, and no slot with room has a smaller area.
-use Rattle.std.proofs.Common.{◌≡◌, ℕ, zero, suc, ◌+◌, ◌-◌, ◌≤◌, ◌<◌, Bool, true, false, cond, List, [], ◌∷◌, ◌++◌, length, drop, replicate, get_or, refl, sym, ap, ◌∙◌, subst, arith, inl, inr, lit≤}
+use Rattle.std.proofs.Common.{◌≡◌, ℕ, zero, suc, ◌+◌, ◌-◌, ◌≤◌, ◌<◌, Bool, true, false, cond, List, [], ◌∷◌, ◌++◌, length, drop, replicate, get_or, refl, sym, ap, ◌∙◌, subst, arith, inl, inr, lit≤, nat_le, Ok}
 use Rattle.std.proofs.lemmas.Bool.{cases_lt, le-leb, leb-true, lt-leb}
 use Rattle.std.proofs.lemmas.List.{drop_more, drop_all, get_or-map}
-use Rattle.std.specs.Prelude.{nat_le, Ok}
 use Rattle.frame_header.specs.declared.version.Version.{Version}
 use Rattle.frame_header.specs.declared.version.Version.TheVariants.{One, Two, TwoFive}
 use Rattle.frame_header.specs.Fields.{SlotFields, ClassFields, HeaderFields, IsSlot, IsClass}
@@ -44,8 +43,7 @@ first-none c slots i end = ap (first_with_room c) (drop_all i slots end)
 
 window_some : (version : Version) → 255 ≤ window_of version
 window_some One = lit≤ tt
-window_some Two = lit≤ tt
-window_some TwoFive = lit≤ tt
+window_some _ = lit≤ tt
 
 room_if : (c : ClassFields) (slot other : SlotFields) (b : Bool) → nat_le 156 (area_of c slot false) ≡ b → 156 ≤ area_of c other false → 156 ≤ area_of c (cond b slot other) false
 room_if c slot other true is behind = leb-true 156 (area_of c slot false) is

@@ -1,16 +1,13 @@
 -- Where a head's text is: within the frame, and at one of two places.
-use Rattle.std.proofs.Common.{◌≡◌, ◌⊎◌, ℕ, ◌+◌, ◌-◌, ◌<◌, ◌≤◌, Bool, true, false, ◌&&◌, ◌||◌, List, length, take, drop, None, refl, ap, ◌∙◌, codes, arith, inl, inr}
+use Rattle.std.proofs.Common.{◌≡◌, ◌⊎◌, ℕ, ◌+◌, ◌-◌, ◌<◌, ◌≤◌, Bool, true, false, ◌&&◌, List, length, take, drop, None, refl, ap, ◌∙◌, codes, arith, inl, inr}
 use Rattle.std.specs.Str.{bytes_eq}
 use Rattle.std.proofs.lemmas.List.{length-take, length-drop}
 use Rattle.std.proofs.lemmas.Slice.Eq.{bytes_eq-Decides}
+use Rattle.std.proofs.lemmas.Bool.{or_cases}
 use Rattle.frame_header.specs.Fields.{HeaderFields}
 use Rattle.info_header.specs.HeadText.{has_text, low_place, high_place, head_text_of}
 
 -- ---- the whole text is in the frame
-
-either : (a b : Bool) → (a || b) ≡ true → (a ≡ true) ⊎ (b ≡ true)
-either true b h = inl refl
-either false b h = inr h
 
 long_part : (at : ℕ) (frame text : List ℕ) → length text ≡ 4 → bytes_eq (take 4 (drop at frame)) text ≡ true → at + 4 ≤ length frame
 long_part at frame text four is =
@@ -24,7 +21,7 @@ either_long at frame (inr info) = long_part at frame (codes "Info") refl info
 
 pub has_text-within : (at : ℕ) (frame : List ℕ) → has_text at frame ≡ true → at + 4 ≤ length frame
 unfolding has_text
-has_text-within at frame is = either_long at frame (either _ _ is)
+has_text-within at frame is = either_long at frame (or_cases _ _ is)
 
 short_cases : (at : ℕ) (frame : List ℕ) → length frame < at + 4 → (b : Bool) → has_text at frame ≡ b → b ≡ false
 short_cases at frame short true is = absurd (omega (arith, has_text-within at frame is))

@@ -1,6 +1,5 @@
 -- The bounds of main_data_begin, which has nine bits in MPEG-1, and eight in MPEG-2 and MPEG-2.5.
-use Rattle.std.proofs.Common.{ℕ, ◌^◌, ◌<◌, ◌≤◌, ◌==◌, Bool, true, false, cond, [], ◌∷◌, arith}
-use Rattle.std.specs.Prelude.{slice_index}
+use Rattle.std.proofs.Common.{ℕ, ◌^◌, ◌<◌, ◌≤◌, ◌==◌, Bool, true, false, cond, [], ◌∷◌, arith, slice_index}
 use Rattle.frame_header.specs.declared.version.Version.{Version}
 use Rattle.frame_header.specs.declared.version.Version.TheVariants.{One, Two, TwoFive}
 use Rattle.frame_header.specs.Fields.{ClassFields}
@@ -18,8 +17,7 @@ eight_bits false begin fits = omega (arith, fits)
 
 begin_within : (version : Version) (channels begin : ℕ) → begin < 2 ^ slice_index (front_widths_of version channels) 0 → begin ≤ window_of version
 begin_within One channels begin fits = nine_bits (channels == 1) begin fits
-begin_within Two channels begin fits = eight_bits (channels == 1) begin fits
-begin_within TwoFive channels begin fits = eight_bits (channels == 1) begin fits
+begin_within _ channels begin fits = eight_bits (channels == 1) begin fits
 
 pub begin-near : (c : ClassFields) (s : Side) → SideFits c s → s.main_data_begin ≤ window_of c.version
 begin-near c s fits = begin_within c.version c.channels s.main_data_begin fits.main_data_begin

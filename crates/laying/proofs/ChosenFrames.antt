@@ -1,6 +1,5 @@
 -- The frames of a surveyed file: their main data are within the file, and as many bits as their side information says.
-use Rattle.std.proofs.Common.{◌≡◌, ℕ, zero, suc, ◌+◌, ◌-◌, ◌*◌, ◌/◌, ◌≤◌, cond, Bool, true, false, List, [], ◌∷◌, ◌++◌, length, map, take, drop, Option, Some, None, Ok, refl, sym, ◌∙◌, ap, ap₂, subst, arith, length-append, length-drop}
-use Rattle.std.specs.Prelude.{flat_map, slice_get, sum_by, option_map}
+use Rattle.std.proofs.Common.{◌≡◌, ℕ, zero, suc, ◌+◌, ◌-◌, ◌*◌, ◌/◌, ◌≤◌, cond, Bool, true, false, List, [], ◌∷◌, ◌++◌, length, map, take, drop, Option, Some, None, Ok, refl, sym, ◌∙◌, ap, ap₂, subst, arith, length-append, length-drop, flat_map, slice_get, sum_by, option_map}
 use Rattle.std.specs.List.{cons_option, enumerate_from}
 use Rattle.std.proofs.lemmas.Bool.{ltb-false}
 use Rattle.std.proofs.lemmas.List.{length-take-le, take_at, drop_at}
@@ -43,7 +42,7 @@ use Rattle.laying.specs.LaidFiles.{HasPairs, IsEntry, AreEntries, entry_of}
 use Rattle.laying.specs.Surveys.{IsWholeAt, HasWholeHead, IsWholeRow, AreWholeRows, HasSurvey}
 use Rattle.laying.specs.Relaid.{packed, all_frames}
 use Rattle.laying.specs.Laws.{SurveysAreHad}
-use Rattle.laying.proofs.PlannedFrames.{no_bytes}
+use Rattle.sync_survey.proofs.EmptiedLaws.{no_bytes}
 
 -- ---- whole frames
 

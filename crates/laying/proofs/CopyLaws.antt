@@ -1,7 +1,6 @@
 -- Blocks that are copied, one after the other.
-use Rattle.std.proofs.Common.{◌≡◌, ℕ, zero, suc, ◌+◌, ◌<◌, ◌≤◌, cond, Bool, true, false, List, [], ◌∷◌, ◌++◌, length, map, drop, refl, sym, ◌∙◌, ap, subst, arith, append-nil}
+use Rattle.std.proofs.Common.{◌≡◌, ℕ, zero, suc, ◌+◌, ◌<◌, ◌≤◌, cond, Bool, true, false, List, [], ◌∷◌, ◌++◌, length, map, drop, refl, sym, ◌∙◌, ap, subst, arith, append-nil, filter, not, slice_index_or}
 use mathlib.Core.Bool.{beq}
-use Rattle.std.specs.Prelude.{filter, not, slice_index_or}
 use Rattle.std.specs.List.{concat}
 use Rattle.sync_survey.specs.declared.places.Piece.{Piece}
 use Rattle.sync_survey.specs.Faults.{SurveyFields}

@@ -1,6 +1,5 @@
 -- A plan can be written frame by frame: its starts are as early as they may be, so no later than those of a layout. Its slots are some of the 28.
-use Rattle.std.proofs.Common.{◌≡◌, ℕ, ◌+◌, ◌-◌, ◌≤◌, min, cond, Bool, true, false, List, [], ◌∷◌, ◌++◌, map, get_or, drop, Contains, Option, Some, None, refl, sym, ap, ap₂, subst, arith}
-use Rattle.std.specs.Prelude.{max, flat_map}
+use Rattle.std.proofs.Common.{◌≡◌, ℕ, ◌+◌, ◌-◌, ◌≤◌, min, cond, Bool, true, false, List, [], ◌∷◌, ◌++◌, map, get_or, drop, Contains, Option, Some, None, refl, sym, ap, ap₂, subst, arith, max, flat_map}
 use Rattle.std.proofs.Math.Nat.{le-max_left, le-max_right, max-le}
 use Rattle.frame_header.specs.Fields.{SlotFields, HeaderFields, IsSlot, IsHeader}
 use Rattle.frame_header.specs.Tables.{class_of, area_of}
@@ -29,9 +28,8 @@ IsAsked false item need = (item.class ≡ class_of need.header) × (item.protect
 
 abbrev pub Asks : List Item → List Need → Type 0
 Asks [] [] = Unit {0}
-Asks [] (need ∷ needs) = ⊥
-Asks (item ∷ items) [] = ⊥
 Asks (item ∷ items) (need ∷ needs) = IsAsked item.lead_in item need × Asks items (left_behind item.lead_in need needs)
+Asks _ _ = ⊥
 
 pub asked-area : (b : Bool) (item : Item) (need : Need) (slot : SlotFields) → IsAsked b item need → area_in item slot ≡ area_of (class_of need.header) slot (cond b false need.header.protected)
 asked-area true item need slot is = ap₂ (λ c protected. area_of c slot protected) is.0 is.1
@@ -49,10 +47,8 @@ fits-on : (window : ℕ) (items : List Item) (needs : List Need) (placed : List 
     → FitsFrom window (min window (before - low)) needs placed
 unfolding AreFor IsLayout begins_of frames_of areas_in FitsFrom
 fits-on window [] [] [] end low before starts asks for_items layout early within begins = tt
-fits-on window [] [] (p ∷ placed) end low before starts asks for_items layout early within begins = absurd for_items
 fits-on window [] (need ∷ needs) placed end low before starts asks for_items layout early within begins = absurd asks
 fits-on window (item ∷ items) [] placed end low before starts asks for_items layout early within begins = absurd asks
-fits-on window (item ∷ items) (need ∷ needs) [] end low before starts asks for_items layout early within begins = absurd for_items
 fits-on window (item ∷ items) (need ∷ needs) (p ∷ placed) end low before [] asks for_items layout early within begins = absurd layout
 fits-on window (item ∷ items) (need ∷ needs) (p ∷ placed) end low before (start ∷ starts) asks for_items layout early within begins =
     let at = max low (before - window) in
@@ -70,6 +66,7 @@ fits-on window (item ∷ items) (need ∷ needs) (p ∷ placed) end low before (
       subst (λ n. FitsFrom window n (left_behind p.lead_in need needs) placed) behind
           (fits-on window items (left_behind p.lead_in need needs) placed (start + item.bytes) (at + item.bytes) (before + area_in item p.slot) starts follow for_items.2 layout.4 (omega (arith, first)) (omega (arith, first, layout.3)) (ap (drop 1) begins)),
     )
+fits-on window _ _ _ end low before starts asks for_items layout early within begins = absurd for_items
 
 -- items that ask for these frames, laid as early as they may be
 pub items-fit : (window : ℕ) (items : List Item) (needs : List Need) (placed : List Placed) → Asks items needs → AreFor items placed → IsFeasible window 0 (frames_of (map open_of items) (areas_in items placed))
@@ -130,9 +127,8 @@ AreOpen (item ∷ items) = AllSlots item × AreOpen items
 pub open-in_slots : (items : List Item) (placed : List Placed) → AreOpen items → AreFor items placed → AreInSlots placed
 unfolding AreFor
 open-in_slots [] [] are for_items = tt
-open-in_slots [] (p ∷ placed) are for_items = absurd for_items
-open-in_slots (item ∷ items) [] are for_items = absurd for_items
 open-in_slots (item ∷ items) (p ∷ placed) are for_items = (are.0 p.slot for_items.1, open-in_slots items placed are.1 for_items.2)
+open-in_slots _ _ are for_items = absurd for_items
 
 -- the headers are those of frames
 abbrev pub AreHeaders : List Need → Type 0

@@ -1,7 +1,6 @@
 -- Frames in the slots and with the main_data_begin of any plan that can be written frame by frame: they can be laid, and are what they were.
 -- So are those of parts as they were planned.
-use Rattle.std.specs.Prelude.{flat_map}
-use Rattle.std.proofs.Common.{◌≡◌, ℕ, ◌+◌, ◌-◌, ◌<◌, ◌≤◌, cond, Bool, true, false, List, [], ◌∷◌, length, map, refl, sym, ◌∙◌, ap, ap₂, subst, arith}
+use Rattle.std.proofs.Common.{◌≡◌, ℕ, ◌+◌, ◌-◌, ◌<◌, ◌≤◌, cond, Bool, true, false, List, [], ◌∷◌, length, map, refl, sym, ◌∙◌, ap, ap₂, subst, arith, flat_map}
 use Rattle.frame_header.specs.Fields.{SlotFields, HeaderFields, ClassFields, IsHeader}
 use Rattle.info_header.specs.declared.fields.Info.{Info}
 use Rattle.frame_header.specs.Tables.{class_of, area_of, window_of}
@@ -41,8 +40,6 @@ laid-fitting : (c : ClassFields) (needs : List Need) (fs : List Frame) (placed :
     → AreLaidFrom c end before (relaid fs placed) (with_lead_ins placed (map entry_of fs))
 unfolding FitsFrom
 laid-fitting c [] [] placed reach end before are needs_are slots fits near room = none_laid c end before placed
-laid-fitting c [] (f ∷ fs) placed reach end before are needs_are slots fits near room = absurd needs_are
-laid-fitting c (need ∷ needs) [] placed reach end before are needs_are slots fits near room = absurd needs_are
 laid-fitting c (need ∷ needs) (f ∷ fs) [] reach end before are needs_are slots fits near room = absurd fits
 laid-fitting c (need ∷ needs) (f ∷ fs) (p ∷ placed) reach end before are needs_are slots fits near room =
     let window = window_of c.version in
@@ -59,6 +56,7 @@ laid-fitting c (need ∷ needs) (f ∷ fs) (p ∷ placed) reach end before are n
     (subst (λ (l : List StreamFrame). AreLaidFrom c end before (g ∷ relaid (left_behind p.lead_in f fs) placed) l) (sym (stream-cons p placed (entry_of f) (map entry_of fs)))
     (laid_more c end before bytes area g (relaid (left_behind p.lead_in f fs) placed) (one_in_stream p.lead_in (entry_of f)) (with_lead_ins placed (left_behind p.lead_in (entry_of f) (map entry_of fs)))
     (one-entry c p f slots.0 (omega (arith, fits.0, near)) are.0 p.lead_in) (one-stream p.lead_in p f) piece.0 piece.2 (omega (arith, begins, fits.0, room)) (omega (arith, begins, fits.0, fits.1, room)) there))
+laid-fitting c _ _ placed reach end before are needs_are slots fits near room = absurd needs_are
 
 one-slot : (b : Bool) (p : Placed) (f : Frame) → slot_in (one b p f) ≡ p.slot
 one-slot true p f = refl
@@ -67,14 +65,13 @@ one-slot false p f = refl
 slots-by : (window reach : ℕ) (needs : List Need) (fs : List Frame) (placed : List Placed) → AreNeedsOf needs fs → FitsFrom window reach needs placed → map slot_in (relaid fs placed) ≡ map (λ (p : Placed). p.slot) placed
 unfolding FitsFrom relaid
 slots-by window reach [] [] [] are fits = refl
-slots-by window reach [] [] (p ∷ placed) are fits = absurd fits
 slots-by window reach [] (f ∷ fs) placed are fits = absurd are
 slots-by window reach (need ∷ needs) [] placed are fits = absurd are
-slots-by window reach (need ∷ needs) (f ∷ fs) [] are fits = absurd fits
 slots-by window reach (need ∷ needs) (f ∷ fs) (p ∷ placed) are fits =
     ap (map slot_in) (relaid-cons p placed f fs)
     ∙ ap₂ (λ (s : SlotFields) (l : List SlotFields). s ∷ l) (one-slot p.lead_in p f)
     (slots-by window (reach_behind window p need) (left_behind p.lead_in need needs) (left_behind p.lead_in f fs) placed (next-needs p.lead_in need needs f fs are) fits.2)
+slots-by window reach _ _ _ are fits = absurd fits
 
 some-by : (window reach : ℕ) (needs : List Need) (fs : List Frame) (placed : List Placed) → AreNeedsOf needs fs → FitsFrom window reach needs placed → 0 < length fs → 0 < length (relaid fs placed)
 unfolding FitsFrom

@@ -1,6 +1,5 @@
 -- The frames of parts, what a plan is given of them, and the blocks of a file.
-use Rattle.std.proofs.Common.{◌≡◌, ℕ, zero, suc, ◌+◌, ◌-◌, cond, Bool, true, false, List, [], ◌∷◌, ◌++◌, length, map, take, drop, refl, sym, ◌∙◌, ap, ap₂, subst, arith, length-append, length-drop}
-use Rattle.std.specs.Prelude.{flat_map, slice_range, filter, not, ◌<◌, ◌≤◌}
+use Rattle.std.proofs.Common.{◌≡◌, ℕ, zero, suc, ◌+◌, ◌-◌, cond, Bool, true, false, List, [], ◌∷◌, ◌++◌, length, map, take, drop, refl, sym, ◌∙◌, ap, ap₂, subst, arith, length-append, length-drop, flat_map, slice_range, filter, not, ◌<◌, ◌≤◌}
 use Rattle.std.specs.List.{enumerate_from}
 use Rattle.std.proofs.lemmas.List.{take-map, drop-map, map-append, length-map, length-take}
 use Rattle.std.proofs.lemmas.List.FromFn.{length-enumerate_from}
@@ -19,16 +18,16 @@ use Rattle.laying.specs.Written.{goes_in_front}
 use Rattle.laying.specs.Surveys.{HasSurvey}
 use Rattle.laying.specs.Relaid.{frame_of, all_frames, Part, frames_in, stream_in, IsPart, AreParts, needs_in}
 use Rattle.laying.specs.Laws.{BlocksAreKept}
-use Rattle.laying.proofs.PlannedFrames.{no_bytes, AreNeedsOf}
+use Rattle.sync_survey.proofs.EmptiedLaws.{no_bytes}
+use Rattle.laying.proofs.PlannedFrames.{AreNeedsOf}
 use Rattle.laying.proofs.FitLaws.{AreHeaders, AllHeaders}
 use Rattle.laying.proofs.ChosenFrames.{frames-of}
 
 -- ---- some of the frames
 
 entries-take : (c : ClassFields) (n : ℕ) (fs : List Frame) → AreEntries c fs → AreEntries c (take n fs)
-entries-take c zero fs are = tt
-entries-take c (suc n) [] are = tt
 entries-take c (suc n) (f ∷ fs) are = (are.0, entries-take c n fs are.1)
+entries-take c _ _ are = tt
 
 entries-drop : (c : ClassFields) (n : ℕ) (fs : List Frame) → AreEntries c fs → AreEntries c (drop n fs)
 entries-drop c zero fs are = are
@@ -36,18 +35,16 @@ entries-drop c (suc n) [] are = tt
 entries-drop c (suc n) (f ∷ fs) are = entries-drop c n fs are.1
 
 needs-take : (n : ℕ) (needs : List Need) (fs : List Frame) → AreNeedsOf needs fs → AreNeedsOf (take n needs) (take n fs)
-needs-take zero needs fs are = tt
-needs-take (suc n) [] [] are = tt
 needs-take (suc n) [] (f ∷ fs) are = absurd are
 needs-take (suc n) (need ∷ needs) [] are = absurd are
 needs-take (suc n) (need ∷ needs) (f ∷ fs) are = (are.0, are.1, needs-take n needs fs are.2)
+needs-take _ _ _ are = tt
 
 needs-drop : (n : ℕ) (needs : List Need) (fs : List Frame) → AreNeedsOf needs fs → AreNeedsOf (drop n needs) (drop n fs)
 needs-drop zero needs fs are = are
 needs-drop (suc n) [] [] are = tt
-needs-drop (suc n) [] (f ∷ fs) are = absurd are
-needs-drop (suc n) (need ∷ needs) [] are = absurd are
 needs-drop (suc n) (need ∷ needs) (f ∷ fs) are = needs-drop n needs fs are.2
+needs-drop (suc n) _ _ are = absurd are
 
 range-map : {X Y : Type 0} (f : X → Y) (from to : ℕ) (xs : List X) → map f (slice_range xs from to) ≡ slice_range (map f xs) from to
 range-map f from to xs = sym (ap (take (to - from)) (drop-map f from xs) ∙ take-map f (to - from) (drop from xs))
@@ -101,9 +98,8 @@ parts-entries c (p ∷ parts) are = entries-append c (frames_in p) (flat_map fra
 
 needs-append : (needs more : List Need) (fs gs : List Frame) → AreNeedsOf needs fs → AreNeedsOf more gs → AreNeedsOf (needs ++ more) (fs ++ gs)
 needs-append [] more [] gs front back = back
-needs-append [] more (f ∷ fs) gs front back = absurd front
-needs-append (need ∷ needs) more [] gs front back = absurd front
 needs-append (need ∷ needs) more (f ∷ fs) gs front back = (front.0, front.1, needs-append needs more fs gs front.2 back)
+needs-append _ more _ gs front back = absurd front
 
 pub parts-needs : (c : ClassFields) (parts : List Part) → AreParts c parts → AreNeedsOf (flat_map (λ (part : List Need). part) (map needs_in parts)) (flat_map frames_in parts)
 parts-needs c [] are = tt

@@ -1,6 +1,5 @@
 -- The Info frame: its bytes are an item, its text is after its side information, and how long its area is.
-use Rattle.std.proofs.Common.{get_or, ◌≡◌, ℕ, ◌+◌, ◌-◌, ◌||◌, cond, Bool, true, false, suc, ◌<◌, List, [], ◌∷◌, ◌++◌, length, take, drop, replicate, Option, Some, None, refl, sym, ◌∙◌, ap, codes, arith, append_assoc, length-append}
-use Rattle.std.specs.Prelude.{IfSome}
+use Rattle.std.proofs.Common.{get_or, ◌≡◌, ℕ, ◌+◌, ◌-◌, ◌||◌, cond, Bool, true, false, suc, ◌<◌, List, [], ◌∷◌, ◌++◌, length, take, drop, replicate, Option, Some, None, refl, sym, ◌∙◌, ap, codes, arith, append_assoc, length-append, IfSome}
 use Rattle.std.specs.Str.{bytes_eq}
 use Rattle.std.proofs.lemmas.List.{length-replicate, drop-drop, drop_at}
 use Rattle.std.specs.Int.{bytes_high_first}

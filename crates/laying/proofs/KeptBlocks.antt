@@ -28,12 +28,8 @@ whole_block bytes b is within =
 
 pub block_more : (file : List ℕ) (at : ℕ) (item : Item) (blocks : List Piece) → item_at file at ≡ item → at + size_of item ≤ length file → IsBlocks (map (block_bytes file) blocks)
     → IsBlocks (map (block_bytes file) (cons_option (block_as at item) blocks))
-block_more file at (Frame h) blocks is within are = are
-block_more file at Free blocks is within are = are
 block_more file at (Block b) blocks is within are = (whole_block (drop at file) b (stands-at file at (Block b) is) (omega (arith, within, length-drop at file)), are)
-block_more file at Zero blocks is within are = are
-block_more file at End blocks is within are = are
-block_more file at Nothing blocks is within are = are
+block_more file at _ blocks is within are = are
 
 pub ends-blocks : (part : Part) (file : List ℕ) (from : ℕ) (ps : List Placed) (to : ℕ) → AreEndToEnd part file from ps to → IsBlocks (map (block_bytes file) (blocks_of ps))
 ends-blocks part file from [] to ends = tt

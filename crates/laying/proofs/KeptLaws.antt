@@ -1,6 +1,5 @@
 -- What the head of a file says.
-use Rattle.std.proofs.Common.{◌≡◌, ℕ, List, [], take, drop, Option, Some, None, refl, sym, ◌∙◌, ap}
-use Rattle.std.specs.Prelude.{replicate}
+use Rattle.std.proofs.Common.{◌≡◌, ℕ, List, [], take, drop, Option, Some, None, refl, sym, ◌∙◌, ap, replicate}
 use Rattle.frame_header.specs.Tables.{class_of, length_of}
 use Rattle.info_header.specs.Info.{info_in, field_in, field_place}
 use Rattle.sync_survey.specs.declared.places.Head.{Head}

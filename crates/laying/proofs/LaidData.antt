@@ -1,6 +1,5 @@
 -- Main data laid into areas: how many bytes they are together, and where each frame's are.
-use Rattle.std.proofs.Common.{◌≡◌, ℕ, zero, suc, ◌+◌, ◌-◌, ◌≤◌, List, [], ◌∷◌, ◌++◌, length, take, drop, Some, None, refl, sym, ◌∙◌, ap, subst, arith, append_assoc, length-append}
-use Rattle.std.specs.Prelude.{slice_get}
+use Rattle.std.proofs.Common.{◌≡◌, ℕ, zero, suc, ◌+◌, ◌-◌, ◌≤◌, List, [], ◌∷◌, ◌++◌, length, take, drop, Some, None, refl, sym, ◌∙◌, ap, subst, arith, append_assoc, length-append, slice_get}
 use Rattle.std.proofs.lemmas.List.{drop-drop, drop_at}
 use Rattle.frame_writer.specs.Laid.{Piece, zeros, start_of, end_of, areas_end, data_end, CanBeLaidFrom, laid_from}
 use Rattle.frame_writer.proofs.LaidLaws.{length-zeros}

@@ -1,6 +1,5 @@
 -- Such a file is well-formed, its survey tells what was put into it, and its stream is the frames that were given.
-use Rattle.std.proofs.Common.{◌≡◌, ℕ, zero, suc, ◌+◌, ◌-◌, ◌≤◌, false, List, [], ◌∷◌, ◌++◌, length, take, drop, map, Option, Some, Ok, refl, sym, ◌∙◌, ap, ap₂, subst, arith, zero-add}
-use Rattle.std.specs.Prelude.{slice_get, option_map}
+use Rattle.std.proofs.Common.{◌≡◌, ℕ, zero, suc, ◌+◌, ◌-◌, ◌≤◌, false, List, [], ◌∷◌, ◌++◌, length, take, drop, map, Option, Some, Ok, refl, sym, ◌∙◌, ap, ap₂, subst, arith, zero-add, slice_get, option_map}
 use Rattle.std.specs.List.{concat, enumerate_from}
 use Rattle.std.proofs.lemmas.List.{take-append-le, drop-drop, drop_at}
 use Rattle.std.proofs.lemmas.Option.{slice_get-map}

@@ -1,6 +1,5 @@
 -- Frames into whose areas bytes were laid: the items that they are, and what is read back of them where they are in a file.
-use Rattle.std.proofs.Common.{◌≡◌, ℕ, zero, suc, ◌+◌, ◌≤◌, ◌==◌, ◌&&◌, not, Bool, true, false, List, [], ◌∷◌, ◌++◌, length, take, drop, map, Some, refl, sym, ◌∙◌, ap, ap₂, subst, arith, append_assoc, length-append, length-drop, take-append-drop}
-use Rattle.std.specs.Prelude.{flat_map, slice_get, sum_by}
+use Rattle.std.proofs.Common.{◌≡◌, ℕ, zero, suc, ◌+◌, ◌≤◌, ◌==◌, ◌&&◌, not, Bool, true, false, List, [], ◌∷◌, ◌++◌, length, take, drop, map, Some, refl, sym, ◌∙◌, ap, ap₂, subst, arith, append_assoc, length-append, length-drop, take-append-drop, flat_map, slice_get, sum_by}
 use Rattle.std.proofs.lemmas.Bool.{eq-eqb}
 use Rattle.std.proofs.lemmas.List.{length-take-le, take_at, drop_at, drop-drop}
 use Rattle.std.proofs.lemmas.List.Sums.{sum_by-cons}

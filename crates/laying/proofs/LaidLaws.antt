@@ -1,6 +1,5 @@
 -- Frames in the slots of any plan by which they can be laid: the file of them holds their stream.
-use Rattle.std.proofs.Common.{◌≡◌, ℕ, zero, suc, ◌+◌, List, [], ◌∷◌, length, map, Option, Some, ◌++◌, refl, sym, ◌∙◌, subst, arith, append_assoc}
-use Rattle.std.specs.Prelude.{◌<◌, ◌≤◌, slice_get, slice_range}
+use Rattle.std.proofs.Common.{◌≡◌, ℕ, zero, suc, ◌+◌, List, [], ◌∷◌, length, map, Option, Some, ◌++◌, refl, sym, ◌∙◌, subst, arith, append_assoc, ◌<◌, ◌≤◌, slice_get, slice_range}
 use Rattle.std.specs.List.{range_with_len, concat}
 use Rattle.std.proofs.lemmas.List.{length-map}
 use Rattle.std.proofs.lemmas.List.FromFn.{length-range_with_len}

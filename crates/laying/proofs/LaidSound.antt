@@ -1,8 +1,7 @@
 -- No frame of such a file is at fault, and none is lost.
-use Rattle.std.proofs.Common.{◌≡◌, ℕ, zero, suc, ◌+◌, ◌<◌, ◌≤◌, ◌==◌, ◌&&◌, ◌||◌, not, cond, Bool, true, false, List, [], ◌∷◌, length, take, drop, map, Option, Some, None, refl, sym, ◌∙◌, ap, ap₂, subst, arith, zero-add}
-use Rattle.std.specs.Prelude.{slice_get, option_map}
+use Rattle.std.proofs.Common.{◌≡◌, ℕ, zero, suc, ◌+◌, ◌<◌, ◌≤◌, ◌==◌, ◌||◌, not, cond, Bool, true, false, List, [], ◌∷◌, length, take, drop, map, Option, Some, None, refl, sym, ◌∙◌, ap, ap₂, subst, arith, zero-add, slice_get, option_map}
 use Rattle.std.specs.List.{enumerate_from}
-use Rattle.std.proofs.lemmas.Bool.{le-ltb, ne_eqb}
+use Rattle.std.proofs.lemmas.Bool.{le-ltb, ne_eqb, and_right}
 use Rattle.std.proofs.lemmas.Option.{slice_get-map, slice_get_within}
 use Rattle.frame_header.specs.Fields.{ClassFields, same_class}
 use Rattle.frame_header.specs.Tables.{class_of}
@@ -21,10 +20,6 @@ use Rattle.laying.proofs.LaidData.{IsWellLaid, well-laid, data_end-next, take-la
 use Rattle.laying.proofs.LaidFrames.{StandFrom, IsRowOf, row-get, areas-sum, rows-length, same-class}
 
 -- ---- one frame
-
-and_false : (b : Bool) (x : Bool) → x ≡ false → (b && x) ≡ false
-and_false true x is = is
-and_false false x is = refl
 
 either_most : (b : Bool) (m n most : ℕ) → m ≤ most → n ≤ most → cond b m n ≤ most
 either_most true m n most first second = first
@@ -47,7 +42,7 @@ module _ (file : List ℕ) (c : ClassFields) (head : ℕ) (end area_start : ℕ)
   reaches = le-ltb _ _ (omega (arith, begin-is, begins))
 
   pub has_data : (ended : ℕ) → lacks_data (head + area_start) ended r ≡ false
-  has_data ended = and_false (ended == 0) (points_too_far (head + area_start) r) reaches
+  has_data ended = and_right (ended == 0) (points_too_far (head + area_start) r) reaches
 
   well : (ended : ℕ) → ended ≤ head + end → StandWell (head + area_start) ended r
   well ended before = record {

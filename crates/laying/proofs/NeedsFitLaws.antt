@@ -2,8 +2,7 @@
 -- window before it. So at least those bytes are free before each frame that are after the main data before it, as far as the window shows
 -- them; also if silent and lost frames, which don't change where main data end, are between. After a whole window of free bytes no frame
 -- has fewer.
-use Rattle.std.proofs.Common.{◌≡◌, ℕ, zero, suc, ◌+◌, ◌-◌, ◌≤◌, ◌||◌, Bool, true, false, cond, List, [], ◌∷◌, take, drop, map, Option, Some, refl, sym, ap, ◌∙◌, subst, arith}
-use Rattle.std.specs.Prelude.{slice_get, slice_range, sum_by}
+use Rattle.std.proofs.Common.{◌≡◌, ℕ, zero, suc, ◌+◌, ◌-◌, ◌≤◌, ◌||◌, Bool, true, false, cond, List, [], ◌∷◌, take, drop, map, Option, Some, refl, sym, ap, ◌∙◌, subst, arith, slice_get, slice_range, sum_by}
 use Rattle.std.proofs.lemmas.Bool.{eqb-true, ltb-false}
 use Rattle.std.proofs.lemmas.List.{drop-map, take-map}
 use Rattle.std.proofs.lemmas.List.Sums.{sum_by-cons}
@@ -79,14 +78,12 @@ AreKnown [] = Unit {0}
 AreKnown (r ∷ rows) = IsHeader r.header × AreKnown rows
 
 known-take : (n : ℕ) (rows : List Row) → AreKnown rows → AreKnown (take n rows)
-known-take zero rows all = tt
-known-take (suc n) [] all = tt
 known-take (suc n) (r ∷ rows) all = (all.0, known-take n rows all.1)
+known-take _ _ all = tt
 
 known-drop : (n : ℕ) (rows : List Row) → AreKnown rows → AreKnown (drop n rows)
-known-drop zero rows all = all
-known-drop (suc n) [] all = all
 known-drop (suc n) (r ∷ rows) all = known-drop n rows all.1
+known-drop _ _ all = all
 
 module _ (head : Option Head) (class : ClassFields) (rows : List Row) (placed : AreWellPlaced head class rows) where
   -- these rows are those from number n on
@@ -135,9 +132,8 @@ module _ (head : Option Head) (class : ClassFields) (rows : List Row) (placed : 
 
 fit-take : (window free n : ℕ) (frames : List Frame) → AllFit window free frames → AllFit window free (take n frames)
 unfolding AllFit
-fit-take window free zero frames fit = tt
-fit-take window free (suc n) [] fit = tt
 fit-take window free (suc n) (frame ∷ frames) fit = (fit.0, fit-take window (free_behind window free frame.bytes frame.area) n frames fit.1)
+fit-take window free _ _ fit = tt
 
 range-map : {X Y : Type 0} (f : X → Y) (from to : ℕ) (xs : List X) → slice_range (map f xs) from to ≡ map f (slice_range xs from to)
 range-map f from to xs = ap (take (to - from)) (drop-map f from xs) ∙ take-map f (to - from) (drop from xs)

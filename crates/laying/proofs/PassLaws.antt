@@ -1,6 +1,5 @@
 -- Steps of a pass, one after the other.
-use Rattle.std.proofs.Common.{◌≡◌, ◌≢◌, ℕ, ◌+◌, ◌≤◌, List, [], ◌∷◌, ◌++◌, length, take, refl, sym, ◌∙◌, ap, subst, arith, append_assoc, append-nil, length-append}
-use Rattle.std.specs.Prelude.{Result, Ok, Err, IsErrAnd, OnOk}
+use Rattle.std.proofs.Common.{◌≡◌, ◌≢◌, ℕ, ◌+◌, ◌≤◌, List, [], ◌∷◌, ◌++◌, length, take, refl, sym, ◌∙◌, ap, subst, arith, append_assoc, append-nil, length-append, Result, Ok, Err, IsErrAnd, OnOk}
 use Rattle.std.proofs.Math.Seq.{take-append-add}
 use Rattle.outside.specs.Files.{Files, appended, Holds, IsThere}
 use Rattle.outside.specs.Feed.{Fed}

@@ -1,6 +1,5 @@
 -- The first places of a plan, which all frames of one input take, and those after them.
-use Rattle.std.proofs.Common.{◌≡◌, ℕ, zero, suc, ◌+◌, ◌-◌, ◌<◌, ◌≤◌, Bool, true, false, List, [], ◌∷◌, ◌++◌, length, map, take, drop, Option, Some, None, refl, sym, ◌∙◌, ap, ap₂, subst, arith, append-nil, length-append}
-use Rattle.std.specs.Prelude.{slice_range, flat_map, option_map, unwrap_or}
+use Rattle.std.proofs.Common.{◌≡◌, ℕ, zero, suc, ◌+◌, ◌-◌, ◌<◌, ◌≤◌, Bool, true, false, List, [], ◌∷◌, ◌++◌, length, map, take, drop, Option, Some, None, refl, sym, ◌∙◌, ap, ap₂, subst, arith, append-nil, length-append, slice_range, flat_map, option_map, unwrap_or}
 use Rattle.std.proofs.lemmas.List.{length-map, take_all}
 use Rattle.outside.specs.Files.{Files}
 use Rattle.outside.specs.declared.pass.PassFault.{PassFault}
@@ -31,10 +30,8 @@ use Rattle.laying.proofs.RelayLaws.{relaid-end, begins-left, part_more}
 
 placed-length : (items : List Item) (slots : List SlotFields) (begins : List ℕ) → length (placed_in items slots begins) ≤ length items
 unfolding placed_in
-placed-length [] slots begins = omega arith
-placed-length (item ∷ items) [] begins = omega arith
-placed-length (item ∷ items) (slot ∷ slots) [] = omega arith
 placed-length (item ∷ items) (slot ∷ slots) (begin ∷ begins) = omega (arith, placed-length items slots begins)
+placed-length _ _ _ = omega arith
 
 least-length : (window : ℕ) (items : List Item) (found : Option (List SlotFields)) → length (unwrap_or (option_map (laid_early window items) found) []) ≤ length items
 least-length window items None = omega arith

@@ -1,10 +1,9 @@
 -- Frames in the slots and with the main_data_begin of their plan can be laid, and are what they were.
-use Rattle.std.proofs.Common.{◌≡◌, ℕ, ◌+◌, ◌-◌, ◌*◌, ◌/◌, ◌^◌, ◌<◌, ◌≤◌, ◌==◌, cond, Bool, true, false, List, [], ◌∷◌, length, map, take, drop, Contains, refl, sym, ◌∙◌, ap, ap₂, subst, arith}
-use Rattle.std.specs.Prelude.{slice_index}
+use Rattle.std.proofs.Common.{◌≡◌, ℕ, ◌+◌, ◌-◌, ◌*◌, ◌/◌, ◌^◌, ◌<◌, ◌≤◌, ◌==◌, cond, Bool, true, false, List, [], ◌∷◌, length, map, take, drop, Contains, refl, sym, ◌∙◌, ap, ap₂, subst, arith, slice_index}
 use Rattle.std.proofs.lemmas.List.{get_or_default}
 use Rattle.bit_fields.specs.Bits.{bits}
 use Rattle.frame_header.specs.declared.version.Version.{Version}
-use Rattle.frame_header.specs.declared.version.Version.TheVariants.{One, Two, TwoFive}
+use Rattle.frame_header.specs.declared.version.Version.TheVariants.{One}
 use Rattle.frame_header.specs.Fields.{SlotFields, ClassFields, HeaderFields, IsSlot}
 use Rattle.frame_header.specs.Tables.{window_of}
 use Rattle.frame_header.specs.Slots.{all_slots, slot_of}
@@ -17,6 +16,7 @@ use Rattle.slot_plan.specs.declared.needs.Placed.{Placed}
 use Rattle.frame_writer.specs.Laid.{zeros, CanBeLaidFrom}
 use Rattle.frame_writer.specs.Frames.{Frame, pieces, area_in as kept_area}
 use Rattle.sync_survey.specs.MainData.{StreamFrame, no_slot, part_lengths, parts_of}
+use Rattle.sync_survey.proofs.EmptiedLaws.{no_bits, no_bytes}
 use Rattle.laying.specs.LaidFiles.{IsEntry, AreEntries, entry_of}
 use Rattle.laying.specs.Relaid.{moved_to, lead_in_to, relaid, silent_before, with_lead_ins, left_behind}
 
@@ -48,8 +48,7 @@ below_two false = omega arith
 
 window_below : (v : Version) (channels : ℕ) → window_of v < 2 ^ slice_index (front_widths_of v channels) 0
 window_below One channels = below_one (channels == 1)
-window_below Two channels = below_two (channels == 1)
-window_below TwoFive channels = below_two (channels == 1)
+window_below _ channels = below_two (channels == 1)
 
 pub begun_fits : (c : ClassFields) (s : Side) (begin : ℕ) → SideFits c s → begin ≤ window_of c.version → SideFits c (record s { main_data_begin = begin })
 begun_fits c s begin fits within = record {
@@ -66,14 +65,6 @@ bits_begun s begin = refl
 bytes_begun : (s : Side) (begin : ℕ) → payload_bytes (record s { main_data_begin = begin }) ≡ payload_bytes s
 unfolding payload_bytes
 bytes_begun s begin = ap (λ n. (n + 7) / 8) (bits_begun s begin)
-
-no_bits : payload_bits no_side ≡ 0
-unfolding payload_bits
-no_bits = refl
-
-pub no_bytes : payload_bytes no_side ≡ 0
-unfolding payload_bytes
-no_bytes = ap (λ n. (n + 7) / 8) no_bits
 
 nothing_filled : (n m : ℕ) → n ≡ 0 → m ≡ 0 → drop n (bits []) ≡ zeros (8 * m - n)
 unfolding bits
@@ -158,9 +149,8 @@ laid_more c end before bytes area g gs q qs is same long wide starts ends behind
 -- this is what a plan is given of these frames
 abbrev pub AreNeedsOf : List Need → List Frame → Type 0
 AreNeedsOf [] [] = Unit {0}
-AreNeedsOf [] (f ∷ fs) = ⊥
-AreNeedsOf (need ∷ needs) [] = ⊥
 AreNeedsOf (need ∷ needs) (f ∷ fs) = (need.header ≡ f.kept.header) × (need.bytes ≡ length f.payload) × AreNeedsOf needs fs
+AreNeedsOf _ _ = ⊥
 
 -- each of the 28 is a slot
 pub slot_among : (slot : SlotFields) → Contains all_slots slot → IsSlot slot

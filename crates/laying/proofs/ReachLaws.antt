@@ -1,6 +1,5 @@
 -- A window that holds no more than later main data can reach.
-use Rattle.std.proofs.Common.{◌≡◌, ℕ, suc, min, ◌+◌, ◌-◌, ◌<◌, ◌≤◌, cond, Bool, true, false, List, ◌++◌, length, take, drop, Some, inl, inr, refl, sym, ◌∙◌, ap, ap₂, append-nil, subst, arith, length-drop, length-append, append_assoc}
-use Rattle.std.specs.Prelude.{◌||◌, slice_get}
+use Rattle.std.proofs.Common.{◌≡◌, ℕ, suc, min, ◌+◌, ◌-◌, ◌<◌, ◌≤◌, cond, Bool, true, false, List, ◌++◌, length, take, drop, Some, inl, inr, refl, sym, ◌∙◌, ap, ap₂, append-nil, subst, arith, length-drop, length-append, append_assoc, ◌||◌, slice_get}
 use Rattle.std.proofs.lemmas.Bool.{ltb-false, cases_lt}
 use Rattle.std.proofs.lemmas.List.{take-append-drop}
 use Rattle.outside.specs.Files.{Files}

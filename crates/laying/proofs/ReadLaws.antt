@@ -1,9 +1,8 @@
 -- The main data of frames as they are read, area by area.
-use Rattle.std.proofs.Common.{◌≡◌, ◌≢◌, eqb, ℕ, zero, suc, min, ◌+◌, ◌-◌, ◌*◌, ◌/◌, ◌≤◌, cond, Bool, true, false, List, [], ◌∷◌, ◌++◌, length, take, drop, Option, Some, inl, inr, refl, sym, ◌∙◌, ap, ap₂, subst, arith, length-drop, length-append, append-nil, append_assoc}
-use Rattle.std.specs.Prelude.{IfSome, ◌⊎◌, ◌==◌, flat_map, slice_get, sum_by, replicate}
+use Rattle.std.proofs.Common.{◌≡◌, ◌≢◌, eqb, ℕ, zero, suc, min, ◌+◌, ◌-◌, ◌*◌, ◌/◌, ◌≤◌, cond, Bool, true, false, List, [], ◌∷◌, ◌++◌, length, take, drop, Option, Some, inl, inr, refl, sym, ◌∙◌, ap, ap₂, subst, arith, length-drop, length-append, append-nil, append_assoc, IfSome, ◌⊎◌, ◌==◌, flat_map, slice_get, sum_by, replicate}
 use Rattle.std.proofs.lemmas.Bool.{ltb-false}
 use Rattle.std.proofs.lemmas.Bool.Decides.{eqb_tells}
-use Rattle.std.proofs.lemmas.List.{length-replicate, length-take-le, take-append-drop, drop-drop}
+use Rattle.std.proofs.lemmas.List.{length-replicate, length-take-le, take-append-drop, drop-drop, nil_from_length}
 use Rattle.std.proofs.Math.Seq.{drop-append-add}
 use Rattle.std.proofs.lemmas.List.Sums.{sum_by-cons}
 use Rattle.outside.specs.Files.{Files, Holds, IsThere, Told, Untold}
@@ -11,7 +10,7 @@ use Rattle.outside.proofs.FilesLaws.{there_holds}
 use Rattle.bit_fields.specs.Bits.{bits, bytes, AreBits, AreBytes}
 use Rattle.bit_fields.proofs.BitsLaws.{length-bits, bits-injective, AreBelow-take, AreBelow-drop, AreBits-bits, bits-front}
 use Rattle.frame_header.specs.declared.version.Version.{Version}
-use Rattle.frame_header.specs.declared.version.Version.TheVariants.{One, Two, TwoFive}
+use Rattle.frame_header.specs.declared.version.Version.TheVariants.{One}
 use Rattle.frame_header.specs.Fields.{ClassFields, HeaderFields}
 use Rattle.frame_header.specs.Tables.{class_of, length_of, overhead_of, window_of}
 use Rattle.side_info.specs.declared.side.Side.{Side}
@@ -109,8 +108,7 @@ window_most c = by_version c.version
   where
     by_version : (v : Version) → window_of v ≤ 511
     by_version One = omega arith
-    by_version Two = omega arith
-    by_version TwoFive = omega arith
+    by_version _ = omega arith
 
 pub data-within : (head : Option Head) (c : ClassFields) (rows : List Row) (i : ℕ) (r : Row) → IsWellPlaced head c rows i r → r.lost ≡ false → IsWithin head rows i r
 data-within head c rows i r is kept =
@@ -231,13 +229,9 @@ last-whole window input files s first i there (inl none) over =
       long = omega (arith, over.long, skipped);
       is = λ file holds.
           let own = over.is file holds in
-          let empty : own.0 ≡ [] = none_of own.0 (own.1 ∙ skipped) in
+          let empty : own.0 ≡ [] = nil_from_length own.0 (own.1 ∙ skipped) in
           sym (own.2 ∙ ap (λ (l : List ℕ). l ++ over.main) empty);
     }
-  where
-    none_of : (l : List ℕ) → length l ≡ 0 → l ≡ []
-    none_of [] e = refl
-    none_of (x ∷ xs) e = absurd (omega (arith, e))
 last-whole window input (Untold touched) s first i there (inr far) over =
     let skipped : List ℕ = replicate (skipped_before s first) 0 in
     record {

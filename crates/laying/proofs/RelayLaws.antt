@@ -1,8 +1,7 @@
 -- Frames one after another, as they are planned.
-use Rattle.std.proofs.Common.{◌≡◌, ℕ, zero, suc, ◌+◌, ◌-◌, ◌<◌, ◌≤◌, min, cond, Bool, true, false, List, [], ◌∷◌, ◌++◌, length, get_or, map, take, drop, Some, refl, sym, ◌∙◌, ap, ap₂, subst, arith, append_assoc, append-nil, ◌⊎◌, inl, inr}
+use Rattle.std.proofs.Common.{◌≡◌, ℕ, zero, suc, ◌+◌, ◌-◌, ◌<◌, ◌≤◌, min, cond, Bool, true, false, List, [], ◌∷◌, ◌++◌, length, get_or, map, take, drop, Some, refl, sym, ◌∙◌, ap, ap₂, subst, arith, append_assoc, append-nil, ◌⊎◌, inl, inr, slice_get, slice_range}
 use Rattle.std.proofs.lemmas.Bool.{cases_lt}
 use Rattle.std.proofs.lemmas.Option.{slice_get-get_or}
-use Rattle.std.specs.Prelude.{slice_get, slice_range}
 use Rattle.std.specs.List.{enumerate_from}
 use Rattle.frame_header.specs.Tables.{class_of, area_of}
 use Rattle.slot_plan.specs.declared.needs.Need.{Need}
@@ -142,11 +141,10 @@ pub begins-left : (window reach : ℕ) (needs : List Need) (fs : List Frame) (pl
     → BeginsWithin (last_reach window reach needs placed) (pieces more) → BeginsWithin reach (pieces (relaid fs placed ++ more))
 unfolding FitsFrom last_reach relaid
 begins-left window reach [] [] [] more are fits begins = begins
-begins-left window reach [] [] (p ∷ placed) more are fits begins = absurd fits
 begins-left window reach [] (f ∷ fs) placed more are fits begins = absurd are
 begins-left window reach (need ∷ needs) [] placed more are fits begins = absurd are
-begins-left window reach (need ∷ needs) (f ∷ fs) [] more are fits begins = absurd fits
 begins-left window reach (need ∷ needs) (f ∷ fs) (p ∷ placed) more are fits begins = omega (arith, one_begin p.lead_in p f, fits.0)
+begins-left window reach _ _ _ more are fits begins = absurd fits
 
 -- frames that are left after those of which a write failed
 pub part_more : (input output : List ℕ) (made rest whole : List ℕ → List Frame) (reach last : ℕ) (old : Writing) (before after : Files) {fault : PassFault}

@@ -27,6 +27,7 @@ use Rattle.moved_gains.specs.Edited.{moved_unless_lost, moved_items, moved_strea
 use Rattle.moved_gains.proofs.WholeFiles.{front_end-is, start_by, not_in_front}
 use Rattle.moved_gains.proofs.MovedFrame.{IsWhole, moved_whole, whole_item}
 use Rattle.moved_gains.proofs.EditedItems.{frame_whole, moved-cons, moved_are, AreMovedAt, frames_moved}
+use Rattle.moved_gains.proofs.MovedRows.{numbered-by}
 
 -- ---- the start of the edited file
 
@@ -53,11 +54,6 @@ pub moved_first : (steps : ℕ → Steps) (lost : ℕ → Bool) (file : List ℕ
     → moved_stream steps lost file o (record { offset = first.offset; item = Frame first.header } ∷ ps) ≡ first_bytes steps lost file first o ++ moved_items steps lost file ps
 moved_first steps lost file first ps None = moved-cons steps lost file (record { offset = first.offset; item = Frame first.header }) ps
 moved_first steps lost file first ps (Some head) = ap (λ l. l ++ moved_items steps lost file ps) (append-nil (frame_bytes file first))
-
-numbered-mapped : (gap : ℕ) (o : Option Head) (frames : List PlacedFrame) → numbered (option_map (nearer_head gap) o) (map (nearer_frame gap) frames) ≡ map (nearer_frame gap) (numbered o frames)
-numbered-mapped gap None frames = refl
-numbered-mapped gap (Some head) [] = refl
-numbered-mapped gap (Some head) (p ∷ ps) = refl
 
 -- the offsets of the lost frames of a file
 abbrev pub lost_from : List ℕ → Start → ℕ → Bool
@@ -257,7 +253,7 @@ module _ (steps : ℕ → Steps) (file : List ℕ) (allowed : ℕ) (start : Star
   pub new-frames : frames_from new_file (moved_start start) ≡ map (nearer_frame gap) (frames_from file start)
   new-frames =
       ap₂ numbered new-head (ap (λ (r : Run). frames_of r.items) new-stream ∙ frames-nearer gap items)
-      ∙ numbered-mapped gap head (frames_of items)
+      ∙ numbered-by (λ at. at - gap) head (frames_of items)
       ∙ ap (λ (r : Run). map (nearer_frame gap) (numbered head (frames_of r.items))) (sym stream_is)
 
   pub new-blocks : all_blocks new_file (moved_start start) ≡ blocks_of front.items ++ map (nearer_piece gap) (blocks_of (stream_run file start).items)

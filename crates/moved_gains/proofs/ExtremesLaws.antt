@@ -2,7 +2,7 @@
 use Rattle.std.proofs.Common.{◌≡◌, ℕ, zero, suc, ◌+◌, ◌<◌, ◌≤◌, min, max, cond, true, false, List, [], ◌∷◌, ◌++◌, length, get_or, drop, fold, Contains, Option, Some, None, inl, inr, refl, sym, ◌∙◌, ap, ap₂, subst, arith}
 use Rattle.std.specs.Prelude.{◌==◌, slice_index_or, slice_get, IfSome, IfNone}
 use Rattle.std.proofs.lemmas.Bool.{cases_lt}
-use Rattle.std.proofs.lemmas.List.{append-nil, drop_all}
+use Rattle.std.proofs.lemmas.List.{append-nil, drop_all, drop_more}
 use Rattle.std.proofs.lemmas.List.Sums.{fold-append}
 use Rattle.frame_header.specs.Fields.{ClassFields}
 use Rattle.frame_header.specs.Tables.{class_of}
@@ -12,7 +12,6 @@ use Rattle.sync_survey.specs.Survey.{IsLaidOut}
 use Rattle.moved_gains.specs.declared.gain_extremes.Gains.{Gains}
 use Rattle.moved_gains.specs.GainExtremes.{gains_at, moving_gains, extremes, extremes_of, joined, AreExtremes, HasChannel}
 use Rattle.moved_gains.proofs.CourseLaws.{out_classed}
-use Rattle.moved_gains.proofs.Rows.{next_row}
 
 -- ---- of two lists together
 
@@ -166,7 +165,7 @@ extremes-empty channel rows is = sym (ap (extremes_of channel) (no_first rows is
 pub extremes-from : (channel : ℕ) (rows : List Row) (i : ℕ) (row : Row) → i < length rows → row ≡ get_or rows i row
     → extremes_of channel (drop i rows) ≡ joined (extremes (gains_at channel row)) (extremes_of channel (drop (i + 1) rows))
 extremes-from channel rows i row lt is =
-    ap (extremes_of channel) (next_row rows i row lt ∙ ap (λ (r : Row). r ∷ drop (i + 1) rows) (sym is))
+    ap (extremes_of channel) (drop_more rows i row lt ∙ ap (λ (r : Row). r ∷ drop (i + 1) rows) (sym is))
     ∙ extremes-cons channel row (drop (i + 1) rows)
 
 -- behind the last frame there are none

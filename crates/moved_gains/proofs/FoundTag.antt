@@ -31,9 +31,8 @@ use Rattle.moved_gains.specs.TagPlace.{is_tag, tag_block, frame_end, last_end}
 -- ---- the first of several blocks
 
 ape_by : (at size : ℕ) (kind : Kind) → is_tag (record { offset = at; block = record { kind = kind; length = size } }) ≡ true → kind ≡ Ape
-ape_by at size Id3v2 is = absurd (false≢true is)
-ape_by at size Id3v1 is = absurd (false≢true is)
 ape_by at size Ape is = refl
+ape_by at size _ is = absurd (false≢true is)
 
 -- a tag is an APEv2 block
 pub tag_kind : (b : Piece) → is_tag b ≡ true → b.block ≡ record { kind = Ape; length = b.block.length }
@@ -74,15 +73,11 @@ tag-within s b laid e = tag_laid 0 s.blocks s.length b laid.blocks e
 module _ (part : Part) (file : List ℕ) where
   one_found : (at : ℕ) (item : Item) (bs : List Piece) (b : Piece) → item_of part file at ≡ Some item → (find is_tag bs ≡ Some b → item_of part file b.offset ≡ Some (Block b.block))
       → find is_tag (cons_option (block_as at item) bs) ≡ Some b → item_of part file b.offset ≡ Some (Block b.block)
-  one_found at (Frame h) bs b here later e = later e
-  one_found at Free bs b here later e = later e
   one_found at (Block x) bs b here later e =
       found_case (record { offset = at; block = x }) b bs (item_of part file b.offset ≡ Some (Block b.block)) e
       (λ is same. subst (λ (y : Piece). item_of part file y.offset ≡ Some (Block y.block)) same here)
       (λ none rest. later rest)
-  one_found at Zero bs b here later e = later e
-  one_found at End bs b here later e = later e
-  one_found at Nothing bs b here later e = later e
+  one_found at _ bs b here later e = later e
 
   -- among items that follow end to end
   pub found_item : (from : ℕ) (ps : List Placed) (to : ℕ) (b : Piece) → AreEndToEnd part file from ps to → find is_tag (blocks_of ps) ≡ Some b → item_of part file b.offset ≡ Some (Block b.block)

@@ -1,6 +1,5 @@
 -- Side information with moved gains still fits its class.
-use Rattle.std.proofs.Common.{◌≡◌, ◌<◌, Bool, true, false, cond, ap, arith, ℤ, pos, negsuc, ◌+ℤ◌}
-use Rattle.std.specs.Prelude.{MatchBool, unsigned_abs}
+use Rattle.std.proofs.Common.{◌≡◌, ◌<◌, Bool, true, false, cond, ap, arith, ℤ, pos, negsuc, ◌+ℤ◌, MatchBool, unsigned_abs}
 use Rattle.std.specs.Int.{int_rem_euclid}
 use Rattle.frame_header.specs.declared.version.Version.{Version}
 use Rattle.frame_header.specs.Fields.{ClassFields}

@@ -1,7 +1,6 @@
 -- A frame with moved gains differs from what it was in gains and in the check word alone.
-use Rattle.std.proofs.Common.{◌≡◌, ℕ, ◌≤◌, Bool, true, false, cond, not, List, [], ◌∷◌, ◌++◌, length, take, drop, sum, refl, sym, ◌∙◌, ap, ap₂, subst, arith, ℤ, append_assoc, take-append-drop, length-take, length-drop}
-use Rattle.std.specs.Prelude.{flat_map, MatchBool}
-use Rattle.std.proofs.lemmas.Bool.{false≢true}
+use Rattle.std.proofs.Common.{◌≡◌, ℕ, ◌≤◌, Bool, true, false, cond, not, List, [], ◌∷◌, ◌++◌, length, take, drop, sum, refl, sym, ◌∙◌, ap, ap₂, subst, arith, ℤ, append_assoc, take-append-drop, length-take, length-drop, flat_map, MatchBool}
+use Rattle.std.proofs.lemmas.Bool.{false≢true, not-false}
 use Rattle.std.proofs.lemmas.List.{drop-drop, take_at, drop_at, take-append-le, drop-append-le}
 use Rattle.bit_fields.specs.Bits.{bits, bits_of, bytes, AreBytes}
 use Rattle.bit_fields.specs.Groups.{spelled}
@@ -59,10 +58,6 @@ changing_same changes width xs ys fields old new m n same later = (
 
 -- ---- granules
 
-silent-is : (b : Bool) → not b ≡ false → b ≡ true
-silent-is true e = refl
-silent-is false e = absurd cc
-
 -- a granule with another gain, which is its own if it is silent
 other_gain : (version : Version) (g : Granule) (gain : ℕ) (fields : List Field) (old new : List ℕ) → (is_silent_granule g ≡ true → gain ≡ g.global_gain) → AreSameBut fields old new
     → AreSameBut (granule_fields version g ++ fields) (granule_bits version g ++ old) (granule_bits version (record g { global_gain = gain }) ++ new)
@@ -74,7 +69,7 @@ other_gain version g gain fields old new silent later =
     let rest : AreSameBut (staying widths ++ fields) (behind ++ old) (behind ++ new) = staying_same widths behind fields old new (length-spelled widths numbers refl) later in
     let field : Field = record { width = 8; changes = not (is_silent_granule g) } in
     let own = changing_same (not (is_silent_granule g)) 8 (bits_of 8 g.global_gain) (bits_of 8 gain) (staying widths ++ fields) (behind ++ old) (behind ++ new) (length-bits_of 8 g.global_gain) (length-bits_of 8 gain)
-    (λ stays. ap (bits_of 8) (silent (silent-is (is_silent_granule g) stays))) rest in
+    (λ stays. ap (bits_of 8) (silent (not-false (is_silent_granule g) stays))) rest in
     let all = staying_same (12 ∷ 9 ∷ []) before (field ∷ (staying widths ++ fields)) (bits_of 8 g.global_gain ++ (behind ++ old)) (bits_of 8 gain ++ (behind ++ new)) (length-spelled (12 ∷ 9 ∷ []) (g.part2_3_length ∷ g.big_values ∷ []) refl) own in
     let old_is : granule_bits version g ++ old ≡ before ++ (bits_of 8 g.global_gain ++ (behind ++ old)) =
     ap (λ l. l ++ old) (bits-parts version g) ∙ append_three before (bits_of 8 g.global_gain) behind old in
@@ -101,8 +96,6 @@ AreMoved _ _ = ⊥
 all_same : (version : Version) (gs hs : List Granule) (area : List ℕ) → AreMoved gs hs
     → AreSameBut (flat_map (granule_fields version) gs) (flat_map (granule_bits version) gs ++ area) (flat_map (granule_bits version) hs ++ area)
 all_same version [] [] area moved = refl
-all_same version [] (h ∷ hs) area moved = absurd moved
-all_same version (g ∷ gs) [] area moved = absurd moved
 all_same version (g ∷ gs) (h ∷ hs) area moves =
     let fields = flat_map (granule_fields version) gs in
     let old = flat_map (granule_bits version) gs in
@@ -112,6 +105,7 @@ all_same version (g ∷ gs) (h ∷ hs) area moves =
     (moved_same version moves.0.0 g fields (old ++ area) (new ++ area) (all_same version gs hs area moves.1)) in
     subst (λ l. AreSameBut (granule_fields version g ++ fields) l ((granule_bits version h ++ new) ++ area)) (sym (append_assoc (granule_bits version g) old area))
     (subst (λ l. AreSameBut (granule_fields version g ++ fields) (granule_bits version g ++ (old ++ area)) l) (sym (append_assoc (granule_bits version h) new area)) one)
+all_same version _ _ area moved = absurd moved
 
 granules_moved : (steps : Steps) (c : ClassFields) → IsClass c → (s : Side) → IsShaped s → AreMoved (granules_in c s) (granules_in c (moved_side steps s))
 unfolding granules_in moved_side

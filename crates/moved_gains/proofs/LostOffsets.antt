@@ -1,6 +1,5 @@
 -- Frames are in order. So a frame is lost if a lost frame is at its offset, since no two frames are at one offset.
-use Rattle.std.proofs.Common.{◌≡◌, ℕ, zero, suc, ◌+◌, ◌<◌, ◌≤◌, ◌==◌, ◌&&◌, ◌||◌, Bool, true, false, List, [], ◌∷◌, map, Option, Some, None, refl, sym, ◌∙◌, ap, ap₂, subst, arith, zero-add}
-use Rattle.std.specs.Prelude.{slice_get}
+use Rattle.std.proofs.Common.{◌≡◌, ℕ, zero, suc, ◌+◌, ◌<◌, ◌≤◌, ◌==◌, ◌&&◌, ◌||◌, Bool, true, false, List, [], ◌∷◌, map, Option, Some, None, refl, sym, ◌∙◌, ap, ap₂, subst, arith, zero-add, slice_get}
 use Rattle.std.specs.List.{cons_option, enumerate_from}
 use Rattle.std.proofs.lemmas.Bool.{eq-eqb, ne_eqb}
 use Rattle.sync_survey.specs.declared.items.Item.{Item}
@@ -152,9 +151,8 @@ items_rising : (file : List ℕ) (part : Part) (from : ℕ) (ps : List Placed) (
 items_rising file part from ps to ends = end_rising from (rows_of file (frames_of ps)) to (items_end (λ at. false) file part from ps to ends)
 
 numbered_rising : (file : List ℕ) (from : ℕ) (o : Option Head) (ps : List PlacedFrame) → AreRising from (rows_of file ps) → AreRising from (rows_of file (numbered o ps))
-numbered_rising file from None ps rise = rise
-numbered_rising file from (Some head) [] rise = rise
 numbered_rising file from (Some head) (p ∷ ps) rise = rising_less from (suc p.offset) (rows_of file ps) (omega (arith, rise.0)) rise.1
+numbered_rising file from _ _ rise = rise
 
 pub walk_rising : (file : List ℕ) (start : Start) (o : Option Head) → AreRising start.first.offset (rows_of file (numbered o (frames_of (stream_run file start).items)))
 walk_rising file start o =

@@ -1,5 +1,5 @@
 -- A frame with moved gains: what it has in common with the frame, moved twice, and not at all.
-use Rattle.std.proofs.Common.{◌≡◌, ℕ, zero, suc, ◌+◌, ◌-◌, ◌<◌, Bool, true, false, cond, List, [], ◌++◌, length, take, drop, refl, sym, ◌∙◌, ap, arith, ℤ, Ok}
+use Rattle.std.proofs.Common.{◌≡◌, ℕ, zero, suc, ◌+◌, ◌-◌, ◌<◌, Bool, true, false, cond, List, [], ◌++◌, length, take, drop, refl, sym, ◌∙◌, ap, arith, ℤ, Ok, MatchBool}
 use Rattle.bit_fields.specs.Bits.{bits_of, bytes, AreBytes}
 use Rattle.bit_fields.proofs.BitsLaws.{AreBits-bits_of, AreBytes-bytes, AreBelow-append, AreBelow-take, AreBelow-drop}
 use Rattle.frame_header.specs.Fields.{HeaderFields, ClassFields, IsClass}
@@ -10,7 +10,6 @@ use Rattle.side_info.specs.declared.granule.Granule.{Granule}
 use Rattle.side_info.specs.declared.side.Side.{Side}
 use Rattle.side_info.specs.Granule.{GranuleFits, no_granule}
 use Rattle.side_info.specs.Side.{granule_in, has_granule, side_bits, SideFits, HasOtherGains}
-use Rattle.std.specs.Prelude.{MatchBool}
 use Rattle.side_info.specs.Frame.{side_in, word_part, frame_with}
 use Rattle.side_info.specs.CheckWord.{check_word_of}
 use Rattle.side_info.proofs.SideLaws.{AreBits-side_bits, each_class, IsShaped, side_with, each_shaped}

@@ -1,6 +1,5 @@
 -- Gains that are moved: twice, not at all, and what they leave.
-use Rattle.std.proofs.Common.{◌≡◌, ℕ, ◌+◌, ◌-◌, ◌<◌, ◌==◌, suc, List, [], ◌∷◌, take, map, Bool, true, false, cond, ◌&&◌, ◌||◌, not, Option, Some, None, refl, sym, ◌∙◌, ap, ap₂, arith, ℤ, pos, negsuc, ◌+ℤ◌}
-use Rattle.std.specs.Prelude.{◌/◌, ◌%◌, ◌*◌, flat_map, unsigned_abs}
+use Rattle.std.proofs.Common.{◌≡◌, ℕ, ◌+◌, ◌-◌, ◌<◌, ◌==◌, suc, List, [], ◌∷◌, take, map, Bool, true, false, cond, ◌&&◌, ◌||◌, not, Option, Some, None, refl, sym, ◌∙◌, ap, ap₂, arith, ℤ, pos, negsuc, ◌+ℤ◌, ◌/◌, ◌%◌, ◌*◌, flat_map, unsigned_abs}
 use Rattle.std.specs.Int.{int_rem_euclid}
 use Rattle.std.specs.Option.{option_or}
 use Rattle.std.proofs.Math.IntN.{+ℤ_assoc, +ℤ_idr}
@@ -167,23 +166,12 @@ free_of false stuck e = refl
 none_of : (b : Bool) (stuck : Stuck) → b ≡ false → cond b (Some stuck) None ≡ None
 none_of b stuck e = ap (λ a. cond a (Some stuck) None) e
 
-record AllNone (a b c d : Option Stuck) : Type 0 where
-  first : a ≡ None
-  second : b ≡ None
-  third : c ≡ None
-  fourth : d ≡ None
+none_each : (a b : Option Stuck) → option_or a b ≡ None → (a ≡ None) × (b ≡ None)
+none_each None b e = (refl, e)
+none_each (Some x) b e = absurd cc
 
-all_none : (a b c d : Option Stuck) → option_or a (option_or b (option_or c d)) ≡ None → AllNone a b c d
-all_none (Some x) b c d e = absurd cc
-all_none None (Some x) c d e = absurd cc
-all_none None None (Some x) d e = absurd cc
-all_none None None None d e = record { first = refl; second = refl; third = refl; fourth = e }
-
-none_then : (a b c d : Option Stuck) → a ≡ None → b ≡ None → c ≡ None → d ≡ None → option_or a (option_or b (option_or c d)) ≡ None
-none_then (Some x) b c d p q r s = absurd cc
-none_then None (Some x) c d p q r s = absurd cc
-none_then None None (Some x) d p q r s = absurd cc
-none_then None None None d p q r s = s
+none_both : (a b : Option Stuck) → a ≡ None → b ≡ None → option_or a b ≡ None
+none_both a b p q = ap₂ option_or p q
 
 -- the four gains stay within the range
 pub record AreFree (left right : ℤ) (g h k l : Granule) : Type 0 where
@@ -196,16 +184,18 @@ pub free-parts : (steps : Steps) (m p a b : ℕ) (g h k l : Granule) → steps.w
 unfolding stuck_in
 free-parts steps m p a b g h k l strict free =
     let s = side_with m p a b g h k l in
-    let nones = all_none (stuck_at steps.left s 0 0) (stuck_at steps.right s 0 1) (stuck_at steps.left s 1 0) (stuck_at steps.right s 1 1)
+    let all = none_each (stuck_at steps.left s 0 0) (option_or (stuck_at steps.right s 0 1) (option_or (stuck_at steps.left s 1 0) (stuck_at steps.right s 1 1)))
     (sym (ap (λ w. cond w None (option_or (stuck_at steps.left s 0 0) (option_or (stuck_at steps.right s 0 1) (option_or (stuck_at steps.left s 1 0) (stuck_at steps.right s 1 1))))) strict) ∙ free) in
-    record { first = free_of _ _ nones.first; second = free_of _ _ nones.second; third = free_of _ _ nones.third; fourth = free_of _ _ nones.fourth }
+    let behind = none_each (stuck_at steps.right s 0 1) (option_or (stuck_at steps.left s 1 0) (stuck_at steps.right s 1 1)) all.1 in
+    let last = none_each (stuck_at steps.left s 1 0) (stuck_at steps.right s 1 1) behind.1 in
+    record { first = free_of _ _ all.0; second = free_of _ _ behind.0; third = free_of _ _ last.0; fourth = free_of _ _ last.1 }
 
 pub free-whole : (steps : Steps) (m p a b : ℕ) (g h k l : Granule) → AreFree steps.left steps.right g h k l → steps.wrap ≡ false → stuck_in steps (side_with m p a b g h k l) ≡ None
 unfolding stuck_in
 free-whole steps m p a b g h k l free strict =
     let s = side_with m p a b g h k l in
     ap (λ w. cond w None (option_or (stuck_at steps.left s 0 0) (option_or (stuck_at steps.right s 0 1) (option_or (stuck_at steps.left s 1 0) (stuck_at steps.right s 1 1))))) strict
-    ∙ none_then _ _ _ _ (none_of _ _ free.first) (none_of _ _ free.second) (none_of _ _ free.third) (none_of _ _ free.fourth)
+    ∙ none_both _ _ (none_of _ _ free.first) (none_both _ _ (none_of _ _ free.second) (none_both _ _ (none_of _ _ free.third) (none_of _ _ free.fourth)))
 
 pub wrapped-free : (steps : Steps) (s : Side) → steps.wrap ≡ true → stuck_in steps s ≡ None
 unfolding stuck_in
@@ -239,8 +229,7 @@ side_then one two all s shaped wraps left right first whole = by_wrap one.wrap a
     by_wrap : (v w : Bool) → one.wrap ≡ v → all.wrap ≡ w → stuck_in two (moved_side one s) ≡ None
     by_wrap false false e d =
         each_shaped (ThenGoal one two all) (then-with one two all e (wraps ∙ ap₂ (λ (x y : Bool). x || y) e d) d left right) s shaped first whole
-    by_wrap false true e d = wrapped-free two (moved_side one s) (wraps ∙ ap₂ (λ (x y : Bool). x || y) e d)
-    by_wrap true w e d = wrapped-free two (moved_side one s) (wraps ∙ ap₂ (λ (x y : Bool). x || y) e d)
+    by_wrap _ _ e d = wrapped-free two (moved_side one s) (wraps ∙ ap₂ (λ (x y : Bool). x || y) e d)
 
 -- ---- what moved gains leave
 
@@ -282,10 +271,9 @@ lengths-with : (steps : Steps) (version : Version) (mono : Bool) (m p a b : ℕ)
 unfolding moved_side
 lengths-with steps One true m p a b g h k l = λ i. moved-payload steps.left g i ∷ moved-payload steps.left k i ∷ []
 lengths-with steps One false m p a b g h k l = λ i. moved-payload steps.left g i ∷ moved-payload steps.right h i ∷ moved-payload steps.left k i ∷ moved-payload steps.right l i ∷ []
-lengths-with steps Two true m p a b g h k l = λ i. moved-payload steps.left g i ∷ []
 lengths-with steps Two false m p a b g h k l = λ i. moved-payload steps.left g i ∷ moved-payload steps.right h i ∷ []
-lengths-with steps TwoFive true m p a b g h k l = λ i. moved-payload steps.left g i ∷ []
 lengths-with steps TwoFive false m p a b g h k l = λ i. moved-payload steps.left g i ∷ moved-payload steps.right h i ∷ []
+lengths-with steps _ true m p a b g h k l = λ i. moved-payload steps.left g i ∷ []
 
 pub lengths-moved : (steps : Steps) (h : HeaderFields) (s : Side) → IsShaped s → part_lengths h (moved_side steps s) ≡ part_lengths h s
 unfolding granules_in

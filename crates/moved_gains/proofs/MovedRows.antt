@@ -1,7 +1,7 @@
--- Frames that are in another file as they are in this one, each at an offset that its own decides: they have the same rows, faults and
--- marks, and hold the same stream.
-use Rattle.std.proofs.Common.{false, ◌≡◌, ℕ, zero, suc, ◌+◌, ◌≤◌, Bool, List, [], ◌∷◌, ◌++◌, take, drop, map, Option, option_map, Some, None, refl, sym, ◌∙◌, ap, ap₂, subst, arith}
-use Rattle.std.specs.Prelude.{sum_by, slice_get, flat_map}
+-- Rows with other offsets and side information that says the same of main data: the same frames are lost, and none has a fault that had
+-- none. So frames that are in another file as they are in this one, each at an offset that its own decides, have the same rows, faults
+-- and marks, and hold the same stream.
+use Rattle.std.proofs.Common.{false, ◌≡◌, ℕ, zero, suc, ◌+◌, ◌-◌, ◌≤◌, ◌==◌, ◌&&◌, ◌||◌, ltb, cond, Bool, List, [], ◌∷◌, ◌++◌, take, drop, map, Option, option_map, Some, None, refl, sym, ◌∙◌, ap, ap₂, subst, arith, sum_by, slice_get, flat_map}
 use Rattle.std.specs.List.{enumerate_from}
 use Rattle.std.proofs.lemmas.Option.{slice_get-map}
 use Rattle.std.proofs.lemmas.List.{take-map}
@@ -11,16 +11,19 @@ use Rattle.frame_header.specs.Tables.{class_of, length_of, overhead_of}
 use Rattle.frame_header.proofs.Lengths.{area_some}
 use Rattle.frame_header.proofs.HeaderLaws.{IsClass-class_of}
 use Rattle.info_header.specs.HeadText.{head_text_of}
+use Rattle.side_info.specs.declared.side.Side.{Side}
+use Rattle.side_info.specs.Side.{payload_bits, payload_bytes}
 use Rattle.side_info.specs.Frame.{side_in, word_said}
 use Rattle.side_info.proofs.FrameLaws.{side_in-take, word_said-take}
 use Rattle.sync_survey.specs.declared.places.PlacedFrame.{PlacedFrame}
 use Rattle.sync_survey.specs.declared.places.Head.{Head}
+use Rattle.sync_survey.specs.declared.survey_fault.SurveyFault.{SurveyFault}
 use Rattle.sync_survey.specs.Row.{Row}
-use Rattle.sync_survey.specs.Walk.{frame_bytes, head_of}
-use Rattle.sync_survey.specs.MainData.{row_of, rows_of, own_area, head_area, lacks_data, place, end_behind, end_before, is_lost, marked_row, marked, area_bytes, head_bytes, main_bytes, payload_at, parts_of, part_lengths, side_of, start_of_data, StreamFrame, stream_frame, stream_frames}
-use Rattle.sync_survey.specs.Faults.{all_faults}
+use Rattle.sync_survey.specs.Walk.{frame_bytes, head_of, numbered, end_fault}
+use Rattle.sync_survey.specs.MainData.{row_of, rows_of, own_area, head_area, is_silent, lacks_data, end_of_data, place, end_behind, end_before, is_lost, marked_row, marked, area_bytes, head_bytes, main_bytes, payload_at, parts_of, part_lengths, side_of, start_of_data, StreamFrame, stream_frame, stream_frames}
+use Rattle.sync_survey.specs.Faults.{has_wrong_word, all_faults}
 use Rattle.sync_survey.proofs.SurveyLaws.{overhead-within}
-use Rattle.sync_survey.proofs.SurveyParts.{IsSound, IsSoundAt, AreSound, all_faults-none_sound, sound-no_all_faults}
+use Rattle.sync_survey.proofs.SurveyParts.{IsSoundAt, AreSound, all_faults-none_sound, sound-no_all_faults}
 use Rattle.sync_survey.proofs.HeadSame.{area-frame}
 use Rattle.sync_survey.proofs.ItemLists.{frame_by}
 use Rattle.moved_gains.proofs.MovedItems.{IsKept, AreKept}
@@ -31,93 +34,143 @@ row_by to r = record r { offset = to r.offset }
 abbrev pub head_by : (ℕ → ℕ) → Head → Head
 head_by to head = record head { offset = to head.offset }
 
-module _ (to : ℕ → ℕ) (head : Option Head) where
-  -- ---- where main data are doesn't depend on offsets
+-- the frames that have numbers, elsewhere
+pub numbered-by : (to : ℕ → ℕ) (o : Option Head) (frames : List PlacedFrame) → numbered (option_map (head_by to) o) (map (frame_by to) frames) ≡ map (frame_by to) (numbered o frames)
+numbered-by to (Some head) (p ∷ ps) = refl
+numbered-by to _ _ = refl
+
+-- the end is where it may be if it was so
+pub end_fault-by : (file new : List ℕ) (to : ℕ → ℕ) (frames : List PlacedFrame) (o : Option SurveyFault) → end_fault file frames o ≡ None → end_fault new (map (frame_by to) frames) None ≡ None
+end_fault-by file new to [] (Some fault) e = absurd cc
+end_fault-by file new to [] None e = absurd cc
+end_fault-by file new to (p ∷ ps) o e = refl
+
+-- ---- rows with other offsets and side information
+
+-- side information that says the same of main data
+pub record KeepsData (old new : Side) : Type 0 where
+  pub begin : new.main_data_begin ≡ old.main_data_begin
+  pub bits : payload_bits new ≡ payload_bits old
+  pub bytes : payload_bytes new ≡ payload_bytes old
+
+module _ (to : ℕ → ℕ) (offset : Row → ℕ) (side : Row → Side) (head : Option Head) (rows : List Row) where
+  abbrev changed : Row → Row
+  changed r = record r { offset = offset r; side = side r }
 
   abbrev new_head : Option Head
   new_head = option_map (head_by to) head
 
-  areas : (rows : List Row) → sum_by (λ (r : Row). own_area r.header) (map (row_by to) rows) ≡ sum_by (λ (r : Row). own_area r.header) rows
+  abbrev new_rows : List Row
+  new_rows = map changed rows
+
+  areas : (rs : List Row) → sum_by (λ (r : Row). own_area r.header) (map changed rs) ≡ sum_by (λ (r : Row). own_area r.header) rs
   areas [] = refl
-  areas (r ∷ rows) =
-      sum_by-cons (λ (q : Row). own_area q.header) (row_by to r) (map (row_by to) rows)
-      ∙ ap (λ n. own_area r.header + n) (areas rows)
-      ∙ sym (sum_by-cons (λ (q : Row). own_area q.header) r rows)
+  areas (r ∷ rs) =
+      sum_by-cons (λ (q : Row). own_area q.header) (changed r) (map changed rs)
+      ∙ ap (λ n. own_area r.header + n) (areas rs)
+      ∙ sym (sum_by-cons (λ (q : Row). own_area q.header) r rs)
 
-  head_area-by : head_area new_head ≡ head_area head
-  head_area-by = cases head
-    where
-      cases : (o : Option Head) → head_area (option_map (head_by to) o) ≡ head_area o
-      cases None = refl
-      cases (Some found) = refl
+  head_area-by : (o : Option Head) → head_area (option_map (head_by to) o) ≡ head_area o
+  head_area-by None = refl
+  head_area-by (Some found) = refl
 
-  module _ (rows : List Row) where
-    abbrev new_rows : List Row
-    new_rows = map (row_by to) rows
+  -- the areas are where they were
+  pub place-by : (i : ℕ) → place new_head new_rows i ≡ place head rows i
+  unfolding place
+  place-by i = ap₂ (λ m n. m + n) (head_area-by head) (ap (sum_by (λ (r : Row). own_area r.header)) (take-map changed i rows) ∙ areas (take i rows))
 
-    pub place-by : (i : ℕ) → place new_head new_rows i ≡ place head rows i
-    unfolding place
-    place-by i = ap₂ (λ m n. m + n) head_area-by (ap (sum_by (λ (r : Row). own_area r.header)) (take-map (row_by to) i rows) ∙ areas (take i rows))
+  -- what is at i among them is the row there, changed
+  row_get : (rs : List Row) (i : ℕ) (q : Row) → slice_get (map changed rs) i ≡ Some q → (r : Row) × (slice_get rs i ≡ Some r) × (changed r ≡ q)
+  row_get [] i q is = absurd cc
+  row_get (r ∷ rs) zero q is = (r, refl, cc)
+  row_get (r ∷ rs) (suc i) q is = row_get rs i q is
 
-    behind_by : (place_now ended : ℕ) (o : Option Row) → end_behind place_now ended (option_map (row_by to) o) ≡ end_behind place_now ended o
-    behind_by place_now ended None = refl
-    behind_by place_now ended (Some r) = refl
+  module _ (keeps : (i : ℕ) (r : Row) → slice_get rows i ≡ Some r → KeepsData r.side (side r)) where
+    lacks-by : (place_now new_place ended new_ended : ℕ) (r : Row) → (side r).main_data_begin ≡ r.side.main_data_begin → new_place ≡ place_now → new_ended ≡ ended → lacks_data new_place new_ended (changed r) ≡ lacks_data place_now ended r
+    lacks-by place_now new_place ended new_ended r begin same_place same_ended = ap₂ (λ (a b : Bool). a && b) (ap (λ n. n == 0) same_ended) (ap₂ ltb same_place begin)
 
-    pub end-by : (i : ℕ) → end_before new_head new_rows i ≡ end_before head rows i
+    data_end-by : (place_now new_place : ℕ) (r : Row) → KeepsData r.side (side r) → new_place ≡ place_now → end_of_data new_place (changed r) ≡ end_of_data place_now r
+    data_end-by place_now new_place r kept same_place = ap₂ (λ m n. m + n) (ap₂ (λ m n. m - n) same_place kept.begin) kept.bytes
+
+    behind-by : (place_now new_place ended new_ended : ℕ) (o : Option Row) → ((r : Row) → o ≡ Some r → KeepsData r.side (side r)) → new_place ≡ place_now → new_ended ≡ ended
+        → end_behind new_place new_ended (option_map changed o) ≡ end_behind place_now ended o
+    behind-by place_now new_place ended new_ended None kept same_place same_ended = same_ended
+    behind-by place_now new_place ended new_ended (Some r) kept same_place same_ended =
+        let own = kept r refl in
+        let silent : is_silent (changed r) ≡ is_silent r = ap (λ n. n == 0) own.bits in
+        let lacks = lacks-by place_now new_place ended new_ended r own.begin same_place same_ended in
+        let loud = data_end-by place_now new_place r own same_place in
+        λ i. cond (silent i || lacks i) (same_ended i) (loud i)
+
+    end-by : (i : ℕ) → end_before new_head new_rows i ≡ end_before head rows i
     unfolding end_before
     end-by zero = refl
-    end-by (suc i) =
-        ap₂ (λ m n. end_behind m n (slice_get new_rows i)) (place-by i) (end-by i)
-        ∙ ap (end_behind (place head rows i) (end_before head rows i)) (slice_get-map (row_by to) rows i)
-        ∙ behind_by (place head rows i) (end_before head rows i) (slice_get rows i)
+    end-by (suc i) = ap (end_behind _ _) (slice_get-map changed rows i) ∙ behind-by _ _ _ _ (slice_get rows i) (keeps i) (place-by i) (end-by i)
 
     -- the same frames are lost
-    lost-by : (i : ℕ) (r : Row) → is_lost new_head new_rows i (row_by to r) ≡ is_lost head rows i r
-    lost-by i r = ap₂ (λ m n. lacks_data m n r) (place-by i) (end-by i)
+    pub lost-by : (i : ℕ) (r : Row) → (side r).main_data_begin ≡ r.side.main_data_begin → is_lost new_head new_rows i (changed r) ≡ is_lost head rows i r
+    lost-by i r begin = lacks-by _ _ _ _ r begin (place-by i) (end-by i)
 
-    marks : (n : ℕ) (more : List Row)
-        → map (λ (p : ℕ × Row). marked_row new_head new_rows p.0 p.1) (enumerate_from n (map (row_by to) more)) ≡ map (row_by to) (map (λ (p : ℕ × Row). marked_row head rows p.0 p.1) (enumerate_from n more))
-    marks n [] = refl
-    marks n (r ∷ more) = ap₂ (λ (b : Bool) (l : List Row). record (row_by to r) { lost = b } ∷ l) (lost-by n r) (marks (n + 1) more)
+    -- with right check words they have no fault if they had none
+    pub sound-by : (file new : List ℕ) (class : ClassFields) (allowed : ℕ) → ((i : ℕ) (r : Row) → slice_get rows i ≡ Some r → has_wrong_word (word_said (drop (offset r) new)) (changed r) ≡ false)
+        → AreSound file head class allowed rows → AreSound new new_head class allowed new_rows
+    sound-by file new class allowed words sound i q is =
+        let found = row_get rows i q is in
+        let r = found.0 in
+        let own = keeps i r found.1 in
+        let here = sound i r found.1 in
+        subst (IsSoundAt new new_head class allowed new_rows i) found.2 (record {
+          same = here.same;
+          word = words i r found.1;
+          main = λ has.
+              let well = here.main (sym (lost-by i r own.begin) ∙ has) in
+              record {
+                begins = ap₂ ltb (place-by i) own.begin ∙ well.begins;
+                apart = ap₂ ltb (ap₂ (λ m n. m - n) (place-by i) own.begin) (end-by i) ∙ well.apart;
+                within = ap₂ ltb (ap (λ n. n + own_area r.header) (place-by i)) (data_end-by _ _ r own (place-by i)) ∙ well.within;
+              };
+          few = here.few;
+        })
 
-    pub marked-by : marked new_head new_rows ≡ map (row_by to) (marked head rows)
-    unfolding marked
-    marked-by = marks 0 rows
+-- ---- rows that are elsewhere
 
-    -- ---- the same stream, where the main data are the same
+keeps_own : (s : Side) → KeepsData s s
+keeps_own s = record { begin = refl; bits = refl; bytes = refl }
 
-    frame_same : (main : List ℕ) (i : ℕ) (r : Row) → stream_frame main new_head new_rows i (row_by to r) ≡ stream_frame main head rows i r
-    frame_same main i r = ap (λ n. record (stream_frame main head rows i r) { payload = parts_of (part_lengths r.header (side_of r)) (payload_at main (start_of_data n r) (side_of r)) }) (place-by i)
+module _ (to : ℕ → ℕ) (head : Option Head) (rows : List Row) where
+  abbrev far_head : Option Head
+  far_head = option_map (head_by to) head
 
-    frames_same : (main : List ℕ) (n : ℕ) (more : List Row)
-        → map (λ (p : ℕ × Row). stream_frame main new_head new_rows p.0 p.1) (enumerate_from n (map (row_by to) more)) ≡ map (λ (p : ℕ × Row). stream_frame main head rows p.0 p.1) (enumerate_from n more)
-    frames_same main n [] = refl
-    frames_same main n (r ∷ more) = ap₂ (λ (f : StreamFrame) (l : List StreamFrame). f ∷ l) (frame_same main n r) (frames_same main (n + 1) more)
+  abbrev far_rows : List Row
+  far_rows = map (row_by to) rows
 
-    pub stream-by : (main : List ℕ) → stream_frames main new_head new_rows ≡ stream_frames main head rows
-    unfolding stream_frames
-    stream-by main = frames_same main 0 rows
+  lost_same : (i : ℕ) (r : Row) → is_lost far_head far_rows i (row_by to r) ≡ is_lost head rows i r
+  lost_same i r = lost-by to (λ (r : Row). to r.offset) (λ (r : Row). r.side) head rows (λ i r is. keeps_own r.side) i r refl
 
-    -- ---- no fault
+  marks : (n : ℕ) (more : List Row)
+      → map (λ (p : ℕ × Row). marked_row far_head far_rows p.0 p.1) (enumerate_from n (map (row_by to) more)) ≡ map (row_by to) (map (λ (p : ℕ × Row). marked_row head rows p.0 p.1) (enumerate_from n more))
+  marks n [] = refl
+  marks n (r ∷ more) = ap₂ (λ (b : Bool) (l : List Row). record (row_by to r) { lost = b } ∷ l) (lost_same n r) (marks (n + 1) more)
 
-    sound_by : (said class_said : ℕ) (class : ClassFields) (allowed i : ℕ) (r : Row) → class_said ≡ said → IsSound said class allowed (place head rows i) (end_before head rows i) i r
-        → IsSound class_said class allowed (place new_head new_rows i) (end_before new_head new_rows i) i (row_by to r)
-    sound_by said class_said class allowed i r same sound =
-        let plain : IsSound said class allowed (place head rows i) (end_before head rows i) i (row_by to r) = record {
-          same = sound.same;
-          word = sound.word;
-          main = λ has. let well = sound.main has in record { begins = well.begins; apart = well.apart; within = well.within };
-          few = sound.few;
-        } in
-        subst (λ m. IsSound class_said class allowed m (end_before new_head new_rows i) i (row_by to r)) (sym (place-by i))
-        (subst (λ n. IsSound class_said class allowed (place head rows i) n i (row_by to r)) (sym (end-by i))
-        (subst (λ w. IsSound w class allowed (place head rows i) (end_before head rows i) i (row_by to r)) (sym same) plain))
+  pub marked-by : marked far_head far_rows ≡ map (row_by to) (marked head rows)
+  unfolding marked
+  marked-by = marks 0 rows
 
--- what is at i among moved rows is the row there, moved
-row_get : (to : ℕ → ℕ) (rows : List Row) (i : ℕ) (r : Row) → slice_get (map (row_by to) rows) i ≡ Some r → (q : Row) × (slice_get rows i ≡ Some q) × (row_by to q ≡ r)
-row_get to [] i r is = absurd cc
-row_get to (q ∷ rows) zero r is = (q, refl, cc)
-row_get to (q ∷ rows) (suc i) r is = row_get to rows i r is
+  -- ---- the same stream, where the main data are the same
+
+  frame_same : (main : List ℕ) (i : ℕ) (r : Row) → stream_frame main far_head far_rows i (row_by to r) ≡ stream_frame main head rows i r
+  frame_same main i r =
+      ap (λ n. record (stream_frame main head rows i r) { payload = parts_of (part_lengths r.header (side_of r)) (payload_at main (start_of_data n r) (side_of r)) })
+      (place-by to (λ (r : Row). to r.offset) (λ (r : Row). r.side) head rows i)
+
+  frames_same : (main : List ℕ) (n : ℕ) (more : List Row)
+      → map (λ (p : ℕ × Row). stream_frame main far_head far_rows p.0 p.1) (enumerate_from n (map (row_by to) more)) ≡ map (λ (p : ℕ × Row). stream_frame main head rows p.0 p.1) (enumerate_from n more)
+  frames_same main n [] = refl
+  frames_same main n (r ∷ more) = ap₂ (λ (f : StreamFrame) (l : List StreamFrame). f ∷ l) (frame_same main n r) (frames_same main (n + 1) more)
+
+  pub stream-by : (main : List ℕ) → stream_frames main far_head far_rows ≡ stream_frames main head rows
+  unfolding stream_frames
+  stream-by main = frames_same main 0 rows
 
 module _ (to : ℕ → ℕ) (file new : List ℕ) where
   -- ---- one frame
@@ -176,21 +229,15 @@ module _ (to : ℕ → ℕ) (file new : List ℕ) where
       subst (λ (x : Row). word_said (drop (to x.offset) new) ≡ word_said (drop x.offset file)) same (word_same p kept.0)
   word_get (p ∷ ps) (suc i) r kept is = word_get ps i r kept.1 is
 
-  all_sound : (head : Option Head) (class : ClassFields) (allowed : ℕ) (ps : List PlacedFrame) → AreKept to file new ps → AreSound file head class allowed (rows_of file ps)
-      → AreSound new (option_map (head_by to) head) class allowed (map (row_by to) (rows_of file ps))
-  all_sound head class allowed ps kept sound = λ i r is.
-      let rows = rows_of file ps in
-      let found = row_get to rows i r is in
-      let q = found.0 in
-      subst (IsSoundAt new (option_map (head_by to) head) class allowed (map (row_by to) rows) i) found.2
-      (sound_by to head rows (word_said (drop q.offset file)) (word_said (drop (to q.offset) new)) class allowed i q (word_get ps i q kept found.1) (sound i q found.1))
-
   -- they have no fault there if they have none here
   pub no_faults-by : (head : Option Head) (class : ClassFields) (allowed : ℕ) (ps : List PlacedFrame) → AreKept to file new ps → all_faults file head class allowed (rows_of file ps) ≡ []
       → all_faults new (option_map (head_by to) head) class allowed (map (row_by to) (rows_of file ps)) ≡ []
   no_faults-by head class allowed ps kept none =
-      sound-no_all_faults new (option_map (head_by to) head) class allowed (map (row_by to) (rows_of file ps))
-      (all_sound head class allowed ps kept (all_faults-none_sound file head class allowed (rows_of file ps) none))
+      let rows = rows_of file ps in
+      let sound = all_faults-none_sound file head class allowed rows none in
+      sound-no_all_faults new (option_map (head_by to) head) class allowed (map (row_by to) rows)
+      (sound-by to (λ (r : Row). to r.offset) (λ (r : Row). r.side) head rows (λ i r is. keeps_own r.side) file new class allowed
+      (λ i r is. ap (λ w. has_wrong_word w r) (word_get ps i r kept is) ∙ (sound i r is).word) sound)
 
   -- ---- their main data
 

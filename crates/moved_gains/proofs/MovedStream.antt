@@ -1,6 +1,5 @@
 -- The stream of the edited file is that of the file, with the gains of each frame moved.
-use Rattle.std.proofs.Common.{◌≡◌, ℕ, ◌+◌, ◌-◌, ◌*◌, ◌≤◌, Bool, true, false, cond, List, [], ◌∷◌, ◌++◌, take, drop, map, Option, option_map, Ok, refl, sym, ◌∙◌, ap, ap₂, subst, arith}
-use Rattle.std.specs.Prelude.{flat_map}
+use Rattle.std.proofs.Common.{◌≡◌, ℕ, ◌+◌, ◌-◌, ◌*◌, ◌≤◌, Bool, true, false, cond, List, [], ◌∷◌, ◌++◌, take, drop, map, Option, option_map, Ok, refl, sym, ◌∙◌, ap, ap₂, subst, arith, flat_map}
 use Rattle.std.specs.List.{enumerate_from}
 use Rattle.bit_fields.specs.Bits.{bits, AreBytes}
 use Rattle.frame_header.specs.Tables.{class_of, length_of, overhead_of}

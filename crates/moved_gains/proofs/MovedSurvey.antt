@@ -1,11 +1,8 @@
 -- The survey of the edited file is that of the file, with moved gains and without the junk.
-use Rattle.std.proofs.Common.{◌≡◌, ℕ, zero, suc, ◌+◌, ◌-◌, ◌<◌, ◌≤◌, ◌==◌, ltb, Bool, true, false, cond, ◌&&◌, ◌||◌, not, List, [], ◌∷◌, ◌++◌, length, take, drop, map, Option, Some, None, option_map, Ok, refl, sym, ◌∙◌, ap, ap₂, subst, arith, zero-add}
-use Rattle.std.specs.Prelude.{sum_by, slice_get, IfSome}
+use Rattle.std.proofs.Common.{◌≡◌, ℕ, zero, suc, ◌+◌, ◌-◌, ◌<◌, ◌≤◌, ◌==◌, ltb, Bool, true, false, cond, ◌&&◌, not, List, [], ◌∷◌, ◌++◌, length, take, drop, map, Option, Some, None, option_map, Ok, refl, sym, ◌∙◌, ap, ap₂, subst, arith, zero-add, slice_get}
 use Rattle.std.specs.List.{enumerate_from}
-use Rattle.std.proofs.lemmas.Option.{slice_get-map}
-use Rattle.std.proofs.lemmas.Bool.{eq-eqb, eqb-true, lt-ltb, le-ltb}
-use Rattle.std.proofs.lemmas.List.{take_at, take-map, map-append, map-id, drop_all}
-use Rattle.std.proofs.lemmas.List.Sums.{sum_by-cons}
+use Rattle.std.proofs.lemmas.Bool.{eq-eqb, eqb-true, lt-ltb, le-ltb, not-false}
+use Rattle.std.proofs.lemmas.List.{take_at, map-append, map-id, drop_all}
 use Rattle.bit_fields.specs.Bits.{AreBytes}
 use Rattle.frame_header.specs.Fields.{ClassFields}
 use Rattle.frame_header.specs.Tables.{class_of, length_of}
@@ -19,18 +16,17 @@ use Rattle.sync_survey.specs.declared.places.PlacedFrame.{PlacedFrame}
 use Rattle.sync_survey.specs.declared.places.Piece.{Piece}
 use Rattle.sync_survey.specs.declared.places.Head.{Head}
 use Rattle.sync_survey.specs.declared.places.Start.{Start}
-use Rattle.sync_survey.specs.declared.survey_fault.SurveyFault.{SurveyFault}
 use Rattle.sync_survey.specs.Row.{Row}
 use Rattle.sync_survey.specs.declared.runs.Part.TheVariants.{Front, Stream}
 use Rattle.sync_survey.specs.Items.{item_at}
 use Rattle.sync_survey.specs.Runs.{Run, run, blocks_of}
 use Rattle.sync_survey.specs.Walk.{stream_run, frame_bytes, head_of, all_blocks, fault_at, end_fault}
-use Rattle.sync_survey.specs.MainData.{row_of, rows_of, own_area, head_area, is_silent, start_of_data, end_of_data, lacks_data, place, end_behind, end_before, is_lost, marked_row, marked}
+use Rattle.sync_survey.specs.MainData.{row_of, rows_of, start_of_data, place, is_lost, marked_row, marked}
 use Rattle.sync_survey.specs.Faults.{has_wrong_word, all_faults, class_from, SurveyFields, surveyed}
 use Rattle.sync_survey.proofs.OneItem.{stands-only_at}
 use Rattle.sync_survey.proofs.RunsLaws.{run-ends}
 use Rattle.sync_survey.proofs.ItemLists.{nearer_frame, nearer_piece, blocks-between}
-use Rattle.sync_survey.proofs.SurveyParts.{frames_from, told_from, IsRead, surveyed-told, surveyed-parts, IsSound, IsSoundAt, AreSound, all_faults-none_sound, sound-no_all_faults}
+use Rattle.sync_survey.proofs.SurveyParts.{frames_from, told_from, IsRead, surveyed-told, surveyed-parts, AreSound, all_faults-none_sound, sound-no_all_faults}
 use Rattle.requests.specs.declared.shift.Steps.{Steps}
 use Rattle.moved_gains.specs.Gains.{moved_unless}
 use Rattle.moved_gains.specs.Edited.{moved_unless_lost, edited}
@@ -39,16 +35,13 @@ use Rattle.moved_gains.proofs.MovedGains.{payload_bits-unless, payload-unless, b
 use Rattle.moved_gains.proofs.MovedFrame.{IsWhole, whole_room, IsMoved, moved_whole}
 use Rattle.moved_gains.proofs.EditedItems.{IsMovedAt, AreMovedAt}
 use Rattle.moved_gains.proofs.LostOffsets.{lost-at, walk_rising}
+use Rattle.moved_gains.proofs.MovedRows.{KeepsData, place-by, lost-by, sound-by, end_fault-by}
 use Rattle.moved_gains.proofs.EditedRuns.{gap_of, lost_from, moved_start, new_file, front_low, stream_is, stop_is, front_stop, new-length, new-stream, new-start, new-head, new-frames, new-blocks, frames-moved}
 
 -- ---- the check words of a file without fault
 
 right_by : (b : Bool) (said right : ℕ) → (b && not (said == right)) ≡ false → b ≡ true → said ≡ right
-right_by true said right e is = eqb-true said right (not_cases (said == right) e)
-  where
-    not_cases : (x : Bool) → not x ≡ false → x ≡ true
-    not_cases true h = refl
-    not_cases false h = absurd cc
+right_by true said right e is = eqb-true said right (not-false (said == right) e)
 right_by false said right e is = absurd cc
 
 -- the side information and the check word of a whole frame are in its own bytes
@@ -134,55 +127,15 @@ pub rows_shaped : (file : List ℕ) (ps : List PlacedFrame) → AreShaped (rows_
 rows_shaped file [] = tt
 rows_shaped file (p ∷ ps) = (shaped-side_in p.header (drop p.offset file), rows_shaped file ps)
 
--- frames that keep their headers keep their places
-areas-kept : (f : Row → Row) → ((r : Row) → (f r).header ≡ r.header) → (rows : List Row) → sum_by (λ (r : Row). own_area r.header) (map f rows) ≡ sum_by (λ (r : Row). own_area r.header) rows
-areas-kept f same [] = refl
-areas-kept f same (r ∷ rows) =
-    sum_by-cons (λ (q : Row). own_area q.header) (f r) (map f rows)
-    ∙ ap₂ (λ m n. m + n) (ap own_area (same r)) (areas-kept f same rows)
-    ∙ sym (sum_by-cons (λ (q : Row). own_area q.header) r rows)
-
-head_area-moved : (gap : ℕ) (o : Option Head) → head_area (option_map (moved_head gap) o) ≡ head_area o
-head_area-moved gap None = refl
-head_area-moved gap (Some head) = refl
-
-pub place-kept : (f : Row → Row) → ((r : Row) → (f r).header ≡ r.header) → (gap : ℕ) (o : Option Head) (rows : List Row) (i : ℕ) → place (option_map (moved_head gap) o) (map f rows) i ≡ place o rows i
-unfolding place
-place-kept f same gap o rows i =
-    ap₂ (λ m n. m + n) (head_area-moved gap o) (ap (sum_by (λ (r : Row). own_area r.header)) (take-map f i rows) ∙ areas-kept f same (take i rows))
-
 pub start-moved : (steps : ℕ → Steps) (gap : ℕ) (o : Option Head) (rows : List Row) (i : ℕ) (r : Row)
     → start_of_data (place (option_map (moved_head gap) o) (map (moved_row steps gap) rows) i) (moved_row steps gap r) ≡ start_of_data (place o rows i) r
-start-moved steps gap o rows i r = ap₂ (λ m n. m - n) (place-kept (moved_row steps gap) (λ q. refl) gap o rows i) (begin-unless r.lost (steps r.offset) r.side)
+start-moved steps gap o rows i r =
+    ap₂ (λ m n. m - n) (place-by (λ at. at - gap) (λ (q : Row). q.offset - gap) (λ (q : Row). moved_unless q.lost (steps q.offset) q.side) o rows i) (begin-unless r.lost (steps r.offset) r.side)
 
-module _ (steps : ℕ → Steps) (lost : ℕ → Bool) (gap : ℕ) where
-  abbrev moved_by : Row → Row
-  moved_by r = moved_plain steps lost gap r
-
-  place-moved : (o : Option Head) (rows : List Row) (i : ℕ) → place (option_map (moved_head gap) o) (map moved_by rows) i ≡ place o rows i
-  place-moved o rows i = place-kept moved_by (λ q. refl) gap o rows i
-
-  lacks-moved : (place_now new_place ended new_ended : ℕ) (r : Row) → new_place ≡ place_now → new_ended ≡ ended → lacks_data new_place new_ended (moved_by r) ≡ lacks_data place_now ended r
-  lacks-moved place_now new_place ended new_ended r same_place same_ended =
-      ap₂ (λ (a b : Bool). a && b) (ap (λ n. n == 0) same_ended) (ap₂ ltb same_place (begin-unless (lost r.offset) (steps r.offset) r.side))
-
-  data_end-moved : (place_now new_place : ℕ) (r : Row) → new_place ≡ place_now → IsShaped r.side → end_of_data new_place (moved_by r) ≡ end_of_data place_now r
-  data_end-moved place_now new_place r same_place shaped =
-      ap₂ (λ m n. m + n) (ap₂ (λ m n. m - n) same_place (begin-unless (lost r.offset) (steps r.offset) r.side)) (payload-unless (lost r.offset) (steps r.offset) r.side shaped)
-
-  behind-moved : (place_now new_place ended new_ended : ℕ) (r : Option Row) → new_place ≡ place_now → new_ended ≡ ended → IfSome r (λ q. IsShaped q.side)
-      → end_behind new_place new_ended (option_map moved_by r) ≡ end_behind place_now ended r
-  behind-moved place_now new_place ended new_ended None same_place same_ended shaped = same_ended
-  behind-moved place_now new_place ended new_ended (Some r) same_place same_ended shaped =
-      let silent : is_silent (moved_by r) ≡ is_silent r = ap (λ n. n == 0) (payload_bits-unless (lost r.offset) (steps r.offset) r.side shaped) in
-      let lacks = lacks-moved place_now new_place ended new_ended r same_place same_ended in
-      let loud = data_end-moved place_now new_place r same_place shaped in
-      λ i. cond (silent i || lacks i) (same_ended i) (loud i)
-
-shaped_get : (rows : List Row) (i : ℕ) → AreShaped rows → IfSome (slice_get rows i) (λ q. IsShaped q.side)
-shaped_get [] i shaped = tt
-shaped_get (r ∷ rows) zero shaped = shaped.0
-shaped_get (r ∷ rows) (suc i) shaped = shaped_get rows i shaped.1
+shaped_at : (rows : List Row) (i : ℕ) (r : Row) → AreShaped rows → slice_get rows i ≡ Some r → IsShaped r.side
+shaped_at [] i r shaped is = absurd cc
+shaped_at (q ∷ rows) zero r shaped is = let same : q ≡ r = cc in subst (λ (x : Row). IsShaped x.side) same shaped.0
+shaped_at (q ∷ rows) (suc i) r shaped is = shaped_at rows i r shaped.1 is
 
 module _ (steps : ℕ → Steps) (lost : ℕ → Bool) (gap : ℕ) (o : Option Head) (rows : List Row) (shaped : AreShaped rows) where
   abbrev near_head : Option Head
@@ -191,16 +144,26 @@ module _ (steps : ℕ → Steps) (lost : ℕ → Bool) (gap : ℕ) (o : Option H
   abbrev near_rows : List Row
   near_rows = map (moved_plain steps lost gap) rows
 
-  pub end-moved : (i : ℕ) → end_before near_head near_rows i ≡ end_before o rows i
-  unfolding end_before
-  end-moved zero = refl
-  end-moved (suc i) =
-      ap (end_behind _ _) (slice_get-map (moved_plain steps lost gap) rows i)
-      ∙ behind-moved steps lost gap _ _ _ _ (slice_get rows i) (place-moved steps lost gap o rows i) (end-moved i) (shaped_get rows i shaped)
+  abbrev side_by : Row → Side
+  side_by r = moved_unless (lost r.offset) (steps r.offset) r.side
+
+  keeps : (i : ℕ) (r : Row) → slice_get rows i ≡ Some r → KeepsData r.side (side_by r)
+  keeps i r is =
+      let own = shaped_at rows i r shaped is in
+      record {
+        begin = begin-unless (lost r.offset) (steps r.offset) r.side;
+        bits = payload_bits-unless (lost r.offset) (steps r.offset) r.side own;
+        bytes = payload-unless (lost r.offset) (steps r.offset) r.side own;
+      }
 
   -- the same frames are lost
-  pub lost-moved : (i : ℕ) (r : Row) → is_lost near_head near_rows i (moved_plain steps lost gap r) ≡ is_lost o rows i r
-  lost-moved i r = lacks-moved steps lost gap _ _ _ _ r (place-moved steps lost gap o rows i) (end-moved i)
+  lost-moved : (i : ℕ) (r : Row) → is_lost near_head near_rows i (moved_plain steps lost gap r) ≡ is_lost o rows i r
+  lost-moved i r = lost-by (λ at. at - gap) (λ (q : Row). q.offset - gap) side_by o rows keeps i r (begin-unless (lost r.offset) (steps r.offset) r.side)
+
+  -- with right check words they have no fault if they had none
+  sound-moved : (file new : List ℕ) (class : ClassFields) (allowed : ℕ) → ((i : ℕ) (r : Row) → slice_get rows i ≡ Some r → has_wrong_word (word_said (drop (r.offset - gap) new)) (moved_plain steps lost gap r) ≡ false)
+      → AreSound file o class allowed rows → AreSound new near_head class allowed near_rows
+  sound-moved file new class allowed words sound = sound-by (λ at. at - gap) (λ (q : Row). q.offset - gap) side_by o rows keeps file new class allowed words sound
 
   marks_moved : (n : ℕ) (more : List Row) → ((i : ℕ) (r : Row) → slice_get more i ≡ Some r → lost r.offset ≡ is_lost o rows (n + i) r)
       → map (λ (p : ℕ × Row). marked_row near_head near_rows p.0 p.1) (enumerate_from n (map (moved_plain steps lost gap) more))
@@ -219,48 +182,13 @@ module _ (steps : ℕ → Steps) (lost : ℕ → Bool) (gap : ℕ) (o : Option H
   unfolding marked
   marked-moved agree = marks_moved 0 rows (λ i r is. agree i r is ∙ ap (λ m. is_lost o rows m r) (sym (zero-add i)))
 
-rows_right : (steps : ℕ → Steps) (lost : ℕ → Bool) (file new : List ℕ) (gap : ℕ) (ps : List PlacedFrame) → AreMovedAt steps lost file new gap ps → AreRight file (rows_of file ps) → AreRight new (map (moved_plain steps lost gap) (rows_of file ps))
+rows_right : (steps : ℕ → Steps) (lost : ℕ → Bool) (file new : List ℕ) (gap : ℕ) (ps : List PlacedFrame) → AreMovedAt steps lost file new gap ps → AreRight file (rows_of file ps)
+    → (i : ℕ) (r : Row) → slice_get (rows_of file ps) i ≡ Some r → has_wrong_word (word_said (drop (r.offset - gap) new)) (moved_plain steps lost gap r) ≡ false
 rows_right steps lost file new gap [] at right i r is = absurd cc
 rows_right steps lost file new gap (p ∷ ps) at right zero r is =
-    let same : moved_plain steps lost gap (row_of file p) ≡ r = cc in
-    subst (λ x. has_wrong_word (word_said (drop x.offset new)) x ≡ false) same (right_word steps lost file new gap p at.0 (right 0 (row_of file p) refl))
+    let same : row_of file p ≡ r = cc in
+    subst (λ (x : Row). has_wrong_word (word_said (drop (x.offset - gap) new)) (moved_plain steps lost gap x) ≡ false) same (right_word steps lost file new gap p at.0 (right 0 (row_of file p) refl))
 rows_right steps lost file new gap (p ∷ ps) at right (suc i) r is = rows_right steps lost file new gap ps at.1 (λ i r is. right (suc i) r is) i r is
-
-sound-moved : (steps : ℕ → Steps) (lost : ℕ → Bool) (said new_said : ℕ) (gap : ℕ) (class : ClassFields) (allowed place_now ended count new_place new_ended : ℕ) (r : Row) → new_place ≡ place_now → new_ended ≡ ended → IsShaped r.side
-    → has_wrong_word new_said (moved_plain steps lost gap r) ≡ false → IsSound said class allowed place_now ended count r → IsSound new_said class allowed new_place new_ended count (moved_plain steps lost gap r)
-sound-moved steps lost said new_said gap class allowed place_now ended count new_place new_ended r same_place same_ended shaped word sound =
-    let begin = begin-unless (lost r.offset) (steps r.offset) r.side in
-    record {
-      same = sound.same;
-      word = word;
-      main = λ has.
-          let well = sound.main (sym (lacks-moved steps lost gap place_now new_place ended new_ended r same_place same_ended) ∙ has) in
-          record {
-            begins = ap₂ ltb same_place begin ∙ well.begins;
-            apart = ap₂ ltb (ap₂ (λ m n. m - n) same_place begin) same_ended ∙ well.apart;
-            within = ap₂ ltb (ap (λ n. n + own_area r.header) same_place) (data_end-moved steps lost gap place_now new_place r same_place shaped) ∙ well.within;
-          };
-      few = sound.few;
-    }
-
--- what is at i among moved rows is the row there, moved
-moved_get : (steps : ℕ → Steps) (lost : ℕ → Bool) (gap : ℕ) (rows : List Row) (i : ℕ) (r : Row) → slice_get (map (moved_plain steps lost gap) rows) i ≡ Some r → (q : Row) × (slice_get rows i ≡ Some q) × (moved_plain steps lost gap q ≡ r)
-moved_get steps lost gap [] i r is = absurd cc
-moved_get steps lost gap (q ∷ rows) zero r is = (q, refl, cc)
-moved_get steps lost gap (q ∷ rows) (suc i) r is = moved_get steps lost gap rows i r is
-
-some_shaped : (rows : List Row) (i : ℕ) (q : Row) → AreShaped rows → slice_get rows i ≡ Some q → IsShaped q.side
-some_shaped rows i q shaped is = subst (λ (o : Option Row). IfSome o (λ x. IsShaped x.side)) is (shaped_get rows i shaped)
-
-all_sound : (steps : ℕ → Steps) (lost : ℕ → Bool) (file new : List ℕ) (gap : ℕ) (o : Option Head) (class : ClassFields) (allowed : ℕ) (rows : List Row) → AreShaped rows → AreRight new (map (moved_plain steps lost gap) rows)
-    → AreSound file o class allowed rows → AreSound new (option_map (moved_head gap) o) class allowed (map (moved_plain steps lost gap) rows)
-all_sound steps lost file new gap o class allowed rows shaped right sound = λ i r is.
-    let found = moved_get steps lost gap rows i r is in
-    let q = found.0 in
-    let word = right i r is in
-    subst (IsSoundAt new (option_map (moved_head gap) o) class allowed (map (moved_plain steps lost gap) rows) i) found.2
-    (sound-moved steps lost (word_said (drop q.offset file)) (word_said (drop (q.offset - gap) new)) gap class allowed (place o rows i) (end_before o rows i) i _ _ q (place-moved steps lost gap o rows i)
-    (end-moved steps lost gap o rows shaped i) (some_shaped rows i q shaped found.1) (subst (λ x. has_wrong_word (word_said (drop x.offset new)) x ≡ false) (sym found.2) word) (sound i q found.1))
 
 -- ---- blocks
 
@@ -273,12 +201,7 @@ before_first first gap b below = let is : ltb b.offset first ≡ true = lt-ltb b
 behind_first : (first gap : ℕ) (b : Piece) → first ≤ b.offset → moved_block first gap b ≡ nearer_piece gap b
 behind_first first gap b above = let is : ltb b.offset first ≡ false = le-ltb b.offset first above in ap (λ (x : Bool). cond x b (nearer_piece gap b)) is
 
--- ---- the end
-
-end_cases : (file new : List ℕ) (gap : ℕ) (frames : List PlacedFrame) (o : Option SurveyFault) → end_fault file frames o ≡ None → end_fault new (map (nearer_frame gap) frames) None ≡ None
-end_cases file new gap [] (Some fault) e = absurd cc
-end_cases file new gap [] None e = absurd cc
-end_cases file new gap (p ∷ ps) o e = refl
+-- ---- the survey
 
 module _ (steps : ℕ → Steps) (file : List ℕ) (allowed : ℕ) (start : Start) (all : AreBytes file) (read : IsRead file allowed start) where
   abbrev new : List ℕ
@@ -312,7 +235,7 @@ module _ (steps : ℕ → Steps) (file : List ℕ) (allowed : ℕ) (start : Star
   no_faults =
       ap₂ (λ (o : Option Head) (rs : List Row). all_faults new o (class_from start) allowed rs) (new-head steps file allowed start all read) new-rows
       ∙ sound-no_all_faults new (option_map (moved_head gap) head) (class_from start) allowed (map (moved_plain steps lost gap) rows)
-      (all_sound steps lost file new gap head (class_from start) allowed rows (rows_shaped file (frames_from file start)) (rows_right steps lost file new gap (frames_from file start) moved_frames words) sound)
+      (sound-moved steps lost gap head rows (rows_shaped file (frames_from file start)) file new (class_from start) allowed (rows_right steps lost file new gap (frames_from file start) moved_frames words) sound)
 
   -- the frames with the marks of the lost ones
   pub new-marked : (told_from new (moved_start start)).frames ≡ map (moved_row steps gap) (told_from file start).frames
@@ -332,7 +255,7 @@ module _ (steps : ℕ → Steps) (file : List ℕ) (allowed : ℕ) (start : Star
       let full : length new ≤ (stream_run new (moved_start start)).stop =
       omega (arith, stop, new-length steps file allowed start all read, ap (λ (r : Run). r.stop) (stream_is steps file allowed start all read), stop_is steps file allowed start all read) in
       ap₂ (end_fault new) (new-frames steps file allowed start all read) (ended (stream_run new (moved_start start)).stop full)
-      ∙ end_cases file new gap (frames_from file start) _ read.end
+      ∙ end_fault-by file new (λ at. at - gap) (frames_from file start) _ read.end
 
   -- nothing is at fault in the edited file
   pub new-read : IsRead new allowed (moved_start start)

@@ -1,6 +1,5 @@
 -- What is written is the edited file.
-use Rattle.std.proofs.Common.{◌≡◌, ℕ, ◌+◌, ◌-◌, ◌≤◌, List, [], ◌∷◌, ◌++◌, length, take, drop, Option, Some, None, Ok, refl, sym, ◌∙◌, ap, ap₂, subst, arith, append_assoc, take-append-drop, append-nil, length-drop, length-append}
-use Rattle.std.specs.Prelude.{option_to_list, Bool, cond}
+use Rattle.std.proofs.Common.{◌≡◌, ℕ, ◌+◌, ◌-◌, ◌≤◌, List, [], ◌∷◌, ◌++◌, length, take, drop, Option, Some, None, Ok, refl, sym, ◌∙◌, ap, ap₂, subst, arith, append_assoc, take-append-drop, append-nil, length-drop, length-append, option_to_list, Bool, cond}
 use Rattle.std.proofs.lemmas.List.{drop-drop, take_at, take_all}
 use Rattle.std.proofs.Math.Seq.{take-add}
 use Rattle.frame_header.specs.Fields.{HeaderFields}
@@ -104,11 +103,7 @@ frame_step steps lost part file frames at h here =
 item_step : (steps : ℕ → Steps) (lost : ℕ → Bool) (part : Part) (file : List ℕ) (frames : List PlacedFrame) (at : ℕ) (item : Item) → IsItemOf part file at item → IsBehind (at + size_of item) (rows_by lost file frames)
     → moved_from steps file at (rows_by lost file (option_to_list (frame_as at item) ++ frames)) ≡ moved_item (steps at) (lost at) item (item_bytes file at item) ++ moved_from steps file (at + size_of item) (rows_by lost file frames)
 item_step steps lost part file frames at (Frame h) here behind = frame_step steps lost part file frames at h here
-item_step steps lost part file frames at Free here behind = kept steps lost file frames at Free behind
-item_step steps lost part file frames at (Block b) here behind = kept steps lost file frames at (Block b) behind
-item_step steps lost part file frames at Zero here behind = kept steps lost file frames at Zero behind
-item_step steps lost part file frames at End here behind = kept steps lost file frames at End behind
-item_step steps lost part file frames at Nothing here behind = kept steps lost file frames at Nothing behind
+item_step steps lost part file frames at item here behind = kept steps lost file frames at item behind
 
 -- items that follow end to end are written as the moved items
 pub moved_from-items : (steps : ℕ → Steps) (lost : ℕ → Bool) (part : Part) (file : List ℕ) (ps : List Placed) (from to : ℕ) → AreEndToEnd part file from ps to

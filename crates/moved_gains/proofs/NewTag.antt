@@ -1,6 +1,5 @@
 -- The tag of a file that got another one, and the file's own.
-use Rattle.std.proofs.Common.{◌≡◌, ℕ, ◌+◌, ◌≤◌, ◌==◌, Bool, true, false, cond, ltb, inl, inr, List, [], ◌∷◌, ◌++◌, length, take, drop, map, Option, Some, None, Result, Ok, Err, refl, sym, ◌∙◌, ap, ap₂, subst, arith}
-use Rattle.std.specs.Prelude.{filter}
+use Rattle.std.proofs.Common.{◌≡◌, ℕ, ◌+◌, ◌≤◌, ◌==◌, Bool, true, false, cond, ltb, inl, inr, List, [], ◌∷◌, ◌++◌, length, take, drop, map, Option, Some, None, Result, Ok, Err, refl, sym, ◌∙◌, ap, ap₂, subst, arith, filter}
 use Rattle.std.specs.List.{find}
 use Rattle.std.specs.Option.{option_or}
 use Rattle.std.proofs.lemmas.Bool.{ne_eqb, ltb-false}
@@ -99,10 +98,9 @@ own_are file allowed s e None is = let none : tag_length s ≡ 0 = rw is refl in
 own_are file allowed s e (Some b) is = subst IsTagBytes (sym (own_is file s b is)) (inr (tag-there file allowed s b e is).front)
 
 read_by : (at size : ℕ) (tag : TagFields) (long : Bool) (r : Result TagFields TagFault) → cond long (Err (TooLarge size)) (in_file at r) ≡ Ok tag → (long ≡ false) × (r ≡ Ok tag)
-read_by at size tag true r e = absurd cc
 read_by at size tag false (Ok found) e = (refl, cc)
 read_by at size tag false (Err (BadTag inside)) e = absurd cc
-read_by at size tag false (Err NoMemory) e = absurd cc
+read_by at size tag _ _ e = absurd cc
 
 -- a block whose tag is read isn't too long, and its bytes are those of the tag
 block_bytes : (at : ℕ) (block : List ℕ) (tag : TagFields) → AreBytes block → block_front block ≡ Some (record { kind = Ape; length = length block }) → tag_of_block at block ≡ Ok tag → IsTag tag × (tag_bytes tag ≡ block)

@@ -1,6 +1,5 @@
 -- The survey of a file with another tag, and its stream.
-use Rattle.std.proofs.Common.{◌≡◌, ℕ, ◌+◌, ◌-◌, ◌≤◌, ◌==◌, false, cond, inl, inr, List, [], ◌∷◌, ◌++◌, length, take, drop, map, Option, Some, None, option_map, Ok, refl, sym, ◌∙◌, ap, ap₂, subst, arith}
-use Rattle.std.specs.Prelude.{filter, option_to_list}
+use Rattle.std.proofs.Common.{◌≡◌, ℕ, ◌+◌, ◌-◌, ◌≤◌, ◌==◌, false, cond, inl, inr, List, [], ◌∷◌, ◌++◌, length, take, drop, map, Option, Some, None, option_map, Ok, refl, sym, ◌∙◌, ap, ap₂, subst, arith, filter, option_to_list}
 use Rattle.std.proofs.lemmas.Bool.{ne_eqb}
 use Rattle.std.proofs.lemmas.List.{map-append, take_all, drop_all}
 use Rattle.tag_blocks.specs.declared.block.Kind.TheVariants.{Ape}
@@ -13,7 +12,6 @@ use Rattle.sync_survey.specs.declared.places.Head.{Head}
 use Rattle.sync_survey.specs.declared.places.Start.{Start}
 use Rattle.sync_survey.specs.Row.{Row}
 use Rattle.sync_survey.specs.declared.runs.Part.TheVariants.{Stream}
-use Rattle.sync_survey.specs.declared.survey_fault.SurveyFault.{SurveyFault}
 use Rattle.sync_survey.specs.Items.{item_at}
 use Rattle.sync_survey.specs.Runs.{Placed, item_of, AreEndToEnd, frames_of, blocks_of}
 use Rattle.sync_survey.specs.Walk.{stream_run, head_of, numbered, all_blocks, fault_at, end_fault}
@@ -29,25 +27,14 @@ use Rattle.moved_gains.proofs.TagReadingLaws.{place-some}
 use Rattle.moved_gains.proofs.MovedItems.{item-moved, ends-moved, ends-append, AreKept, kept-append, frames-kept}
 use Rattle.moved_gains.proofs.WholeFiles.{IsClean, clean, start_with, clean-start}
 use Rattle.moved_gains.proofs.SplitItems.{IsSplit}
-use Rattle.moved_gains.proofs.MovedRows.{row_by, head_by, marked-by, stream-by, head-by, rows-by, no_faults-by, main-by}
+use Rattle.moved_gains.proofs.MovedRows.{row_by, head_by, numbered-by, end_fault-by, marked-by, stream-by, head-by, rows-by, no_faults-by, main-by}
 use Rattle.moved_gains.proofs.CleanFiles.{items, rest, items-frames, items-blocks, frames-is, blocks-append, split}
 use Rattle.moved_gains.proofs.TaggedBytes.{new-own, new-length, stays, front-moved, later-moved}
 use Rattle.moved_gains.proofs.SplitBlocks.{IsOld, items-begin, blocks-stay, blocks-before, blocks-behind}
 
-numbered-mapped : (to : ℕ → ℕ) (o : Option Head) (frames : List PlacedFrame) → numbered (option_map (head_by to) o) (map (frame_by to) frames) ≡ map (frame_by to) (numbered o frames)
-numbered-mapped to None frames = refl
-numbered-mapped to (Some head) [] = refl
-numbered-mapped to (Some head) (p ∷ ps) = refl
-
 numbered-kept : (to : ℕ → ℕ) (file new : List ℕ) (o : Option Head) (frames : List PlacedFrame) → AreKept to file new frames → AreKept to file new (numbered o frames)
-numbered-kept to file new None frames kept = kept
-numbered-kept to file new (Some head) [] kept = kept
 numbered-kept to file new (Some head) (p ∷ ps) kept = kept.1
-
-end_cases : (file new : List ℕ) (to : ℕ → ℕ) (frames : List PlacedFrame) (o : Option SurveyFault) → end_fault file frames o ≡ None → end_fault new (map (frame_by to) frames) None ≡ None
-end_cases file new to [] (Some fault) e = absurd cc
-end_cases file new to [] None e = absurd cc
-end_cases file new to (p ∷ ps) o e = refl
+numbered-kept to file new _ _ kept = kept
 
 -- ---- the new tag among the items
 
@@ -201,7 +188,7 @@ module _ (file : List ℕ) (allowed : ℕ) (start : Start) (read : IsRead file a
   new_numbered : frames_from new new_start ≡ map (frame_by to) (frames_from file start)
   new_numbered =
       ap₂ numbered new_head new_clean.frames
-      ∙ numbered-mapped to head all
+      ∙ numbered-by to head all
       ∙ ap (map (frame_by to)) (sym (frames-is file allowed start read no_junk))
 
   numbered_kept : AreKept to file new (frames_from file start)
@@ -221,7 +208,7 @@ module _ (file : List ℕ) (allowed : ℕ) (start : Start) (read : IsRead file a
       let nothing : drop (stream_run new new_start).stop new ≡ [] = drop_all (stream_run new new_start).stop new (omega (arith, stop)) in
       let ended : fault_at (stream_run new new_start).stop (item_at new (stream_run new new_start).stop) ≡ None =
       ap (fault_at (stream_run new new_start).stop) (sym (stands-only_at new (stream_run new new_start).stop End nothing)) in
-      ap₂ (end_fault new) new_numbered ended ∙ end_cases file new to (frames_from file start) _ read.end
+      ap₂ (end_fault new) new_numbered ended ∙ end_fault-by file new to (frames_from file start) _ read.end
 
   new_read : IsRead new allowed new_start
   new_read = record { start_is = clean-start new first _ _ new_clean; frames = no_faults; end = whole_end }

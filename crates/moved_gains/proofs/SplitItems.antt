@@ -59,11 +59,7 @@ tag_more file at (Block x) ps to b is ends later e =
     found_case here b (blocks_of ps) (IsSplitAt file at (record { offset = at; item = Block x } ∷ ps) to b) e
     (λ tag same. subst (IsSplitAt file at (record { offset = at; item = Block x } ∷ ps) to) same (record { front = []; rest = ps; before = refl; behind = ends; frames = refl; blocks = refl; none = refl }))
     (λ none rest. push file at (Block x) ps b.offset (b.offset + b.block.length) to (b ∷ []) is (λ y same. let one : here ≡ y = cc in subst (λ (z : Piece). is_tag z ≡ false) one none) (later rest))
-tag_more file at (Frame h) ps to b is ends later e = push file at (Frame h) ps b.offset (b.offset + b.block.length) to (b ∷ []) is (λ y same. absurd cc) (later e)
-tag_more file at Free ps to b is ends later e = push file at Free ps b.offset (b.offset + b.block.length) to (b ∷ []) is (λ y same. absurd cc) (later e)
-tag_more file at Zero ps to b is ends later e = push file at Zero ps b.offset (b.offset + b.block.length) to (b ∷ []) is (λ y same. absurd cc) (later e)
-tag_more file at End ps to b is ends later e = push file at End ps b.offset (b.offset + b.block.length) to (b ∷ []) is (λ y same. absurd cc) (later e)
-tag_more file at Nothing ps to b is ends later e = push file at Nothing ps b.offset (b.offset + b.block.length) to (b ∷ []) is (λ y same. absurd cc) (later e)
+tag_more file at item ps to b is ends later e = push file at item ps b.offset (b.offset + b.block.length) to (b ∷ []) is (λ y same. absurd cc) (later e)
 
 pub split-tag : (file : List ℕ) (from : ℕ) (ps : List Placed) (to : ℕ) (b : Piece) → AreEndToEnd Stream file from ps to → find is_tag (blocks_of ps) ≡ Some b → IsSplitAt file from ps to b
 split-tag file from [] to b ends e = absurd cc
@@ -118,10 +114,7 @@ module _ (file : List ℕ) (to : ℕ) where
       let here : Piece = record { offset = at; block = x } in
       let parts = none_first here (blocks_of ps) none in
       push file at (Block x) ps (stop_of (final p rest)) (stop_of (final p rest)) to [] is (λ y same. let one : here ≡ y = cc in subst (λ (z : Piece). is_tag z ≡ false) one parts.0) (later p rest e parts.1)
-  last_item at Free ps p rest is ends later e none = push file at Free ps (stop_of (final p rest)) (stop_of (final p rest)) to [] is (λ y same. absurd cc) (later p rest e none)
-  last_item at Zero ps p rest is ends later e none = push file at Zero ps (stop_of (final p rest)) (stop_of (final p rest)) to [] is (λ y same. absurd cc) (later p rest e none)
-  last_item at End ps p rest is ends later e none = push file at End ps (stop_of (final p rest)) (stop_of (final p rest)) to [] is (λ y same. absurd cc) (later p rest e none)
-  last_item at Nothing ps p rest is ends later e none = push file at Nothing ps (stop_of (final p rest)) (stop_of (final p rest)) to [] is (λ y same. absurd cc) (later p rest e none)
+  last_item at item ps p rest is ends later e none = push file at item ps (stop_of (final p rest)) (stop_of (final p rest)) to [] is (λ y same. absurd cc) (later p rest e none)
 
   pub split-last : (from : ℕ) (ps : List Placed) (p : PlacedFrame) (rest : List PlacedFrame) → AreEndToEnd Stream file from ps to → frames_of ps ≡ p ∷ rest → find is_tag (blocks_of ps) ≡ None → IsSplitBehind file from ps to (stop_of (final p rest))
   split-last from [] p rest ends e none = absurd cc
@@ -136,9 +129,8 @@ last_placed file p [] = refl
 last_placed file p (q ∷ qs) = last_more (row_of file p) (row_of file q) (rows_of file qs) ∙ last_placed file q qs
 
 last_each : (head : Option Head) (all : List Row) (n : ℕ) (rows : List Row) → last_end (map (λ (p : ℕ × Row). marked_row head all p.0 p.1) (enumerate_from n rows)) ≡ last_end rows
-last_each head all n [] = refl
-last_each head all n (r ∷ []) = refl
 last_each head all n (r ∷ q ∷ rows) = last_more (marked_row head all n r) (marked_row head all (n + 1) q) (map (λ (p : ℕ × Row). marked_row head all p.0 p.1) (enumerate_from (n + 1 + 1) rows)) ∙ last_each head all (n + 1) (q ∷ rows) ∙ sym (last_more r q rows)
+last_each head all n _ = refl
 
 last_marked : (head : Option Head) (rows : List Row) → last_end (marked head rows) ≡ last_end rows
 unfolding marked

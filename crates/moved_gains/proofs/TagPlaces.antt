@@ -1,6 +1,5 @@
 -- Where the tag of a file is among its frames: before all of them, or after some and before the others.
-use Rattle.std.proofs.Common.{◌≡◌, ℕ, suc, ◌+◌, ◌<◌, ◌≤◌, true, false, List, [], ◌∷◌, ◌++◌, length, take, drop, map, Bool, cond, Option, Some, None, Ok, refl, sym, ◌∙◌, ap, ap₂, subst, arith, inl, inr, length-drop, append-nil}
-use Rattle.std.specs.Prelude.{◌⊎◌}
+use Rattle.std.proofs.Common.{◌≡◌, ℕ, suc, ◌+◌, ◌<◌, ◌≤◌, true, false, List, [], ◌∷◌, ◌++◌, length, take, drop, map, Bool, cond, Option, Some, None, Ok, refl, sym, ◌∙◌, ap, ap₂, subst, arith, inl, inr, length-drop, append-nil, ◌⊎◌}
 use Rattle.std.specs.List.{find, cons_option, enumerate_from}
 use Rattle.std.specs.Option.{option_or}
 use Rattle.std.proofs.lemmas.List.{length-take-le, length-map, map-append}
@@ -11,7 +10,7 @@ use Rattle.frame_header.proofs.HeaderLaws.{IsClass-class_of}
 use Rattle.side_info.specs.Frame.{side_in, frame_with}
 use Rattle.side_info.proofs.FrameLaws.{shaped-side_in, length-frame_with}
 use Rattle.sync_survey.specs.declared.items.Item.{Item}
-use Rattle.sync_survey.specs.declared.items.Item.TheVariants.{Frame, Free, Block, Zero, End, Nothing}
+use Rattle.sync_survey.specs.declared.items.Item.TheVariants.{Frame, Block}
 use Rattle.sync_survey.specs.declared.places.PlacedFrame.{PlacedFrame}
 use Rattle.sync_survey.specs.declared.places.Piece.{Piece}
 use Rattle.sync_survey.specs.declared.places.Head.{Head}
@@ -20,7 +19,7 @@ use Rattle.sync_survey.specs.Row.{Row}
 use Rattle.sync_survey.specs.declared.runs.Part.{Part}
 use Rattle.sync_survey.specs.declared.runs.Part.TheVariants.{Front, Stream}
 use Rattle.sync_survey.specs.Items.{item_at, size_of}
-use Rattle.sync_survey.specs.Runs.{Placed, Run, run, AreEndToEnd, frame_as, block_as, frames_of, blocks_of}
+use Rattle.sync_survey.specs.Runs.{Placed, Run, run, AreEndToEnd, frame_as, frames_of, blocks_of}
 use Rattle.sync_survey.specs.declared.survey_fault.SurveyFault.{SurveyFault}
 use Rattle.sync_survey.specs.Walk.{stream_run, head_of, numbered, fault_at, end_fault}
 use Rattle.sync_survey.specs.MainData.{row_of, rows_of, marked_row, marked}
@@ -30,10 +29,11 @@ use Rattle.sync_survey.proofs.RunsLaws.{IsItemOf, item_of-is, run-next, run-ends
 use Rattle.sync_survey.proofs.StartLaws.{start-first, start-front}
 use Rattle.sync_survey.proofs.SurveyLaws.{overhead-within}
 use Rattle.sync_survey.proofs.WalkLaws.{first_item}
-use Rattle.sync_survey.proofs.ItemLists.{ends-rise, ends-within}
+use Rattle.sync_survey.proofs.ItemLists.{ends-stream, ends-within}
 use Rattle.sync_survey.proofs.SurveyParts.{frames_from, told_from, IsRead, surveyed-parts}
 use Rattle.moved_gains.specs.TagPlace.{is_tag, tag_block, tag_at, tag_length, last_end}
-use Rattle.moved_gains.proofs.FoundTag.{found_case, last_more}
+use Rattle.moved_gains.proofs.FoundTag.{found_item, last_more}
+use Rattle.moved_gains.proofs.SplitItems.{split-tag}
 use Rattle.moved_gains.proofs.WholeFiles.{front_end-is}
 use Rattle.moved_gains.proofs.TagReadingLaws.{place-some}
 use Rattle.moved_gains.proofs.EditedRuns.{low_cases}
@@ -96,56 +96,18 @@ module _ (lost : ℕ → Bool) (file : List ℕ) where
     some = cut.some;
   }
 
-  cut_more : (part : Part) (at : ℕ) (item : Item) (ps : List Placed) (b : Piece) (to : ℕ) → IsItemOf part file at item → EndBy (at + size_of item) (by (frames_of ps)) to
-      → (find is_tag (blocks_of ps) ≡ Some b → IsCut (at + size_of item) (frames_of ps) b to)
-      → find is_tag (cons_option (block_as at item) (blocks_of ps)) ≡ Some b → IsCut at (cons_option (frame_as at item) (frames_of ps)) b to
-  cut_more part at (Frame h) ps b to here rest later e =
-      let cut = later e in
+  -- they split at the first tag among their items
+  pub items_cut : (from : ℕ) (ps : List Placed) (b : Piece) (to : ℕ) → AreEndToEnd Stream file from ps to → find is_tag (blocks_of ps) ≡ Some b → IsCut from (frames_of ps) b to
+  items_cut from ps b to ends e =
+      let split = split-tag file from ps to b ends e in
       record {
-        before = record { offset = at; header = h } ∷ cut.before;
-        behind = cut.behind;
-        all = ap (λ (l : List PlacedFrame). record { offset = at; header = h } ∷ l) cut.all;
-        front = (omega arith, omega (arith, here.some), cut.front);
-        rest = cut.rest;
-        some = cut.some;
+        before = frames_of split.front;
+        behind = frames_of split.rest;
+        all = split.frames;
+        front = items_end lost file Stream from split.front b.offset split.before;
+        rest = items_end lost file Stream (b.offset + b.block.length) split.rest to split.behind;
+        some = (item_of-is Stream file b.offset (Block b.block) (found_item Stream file from ps to b ends e)).some;
       }
-  cut_more part at Free ps b to here rest later e = cut_later at (at + 0) (frames_of ps) b to (omega arith) (later e)
-  cut_more part at (Block x) ps b to here rest later e =
-      found_case (record { offset = at; block = x }) b (blocks_of ps) (IsCut at (frames_of ps) b to) e
-      (λ is same. subst (λ y. IsCut at (frames_of ps) y to) same
-      (record { before = []; behind = frames_of ps; all = refl; front = omega arith; rest = rest; some = here.some }))
-      (λ none found. cut_later at (at + x.length) (frames_of ps) b to (omega arith) (later found))
-  cut_more part at Zero ps b to here rest later e = cut_later at (at + 1) (frames_of ps) b to (omega arith) (later e)
-  cut_more part at End ps b to here rest later e = cut_later at (at + 0) (frames_of ps) b to (omega arith) (later e)
-  cut_more part at Nothing ps b to here rest later e = cut_later at (at + 0) (frames_of ps) b to (omega arith) (later e)
-
-  pub items_cut : (part : Part) (from : ℕ) (ps : List Placed) (b : Piece) (to : ℕ) → AreEndToEnd part file from ps to → find is_tag (blocks_of ps) ≡ Some b → IsCut from (frames_of ps) b to
-  items_cut part from [] b to ends e = absurd cc
-  items_cut part from (p ∷ ps) b to ends e =
-      let here = item_of-is part file p.offset p.item ends.1 in
-      let next = p.offset + size_of p.item in
-      subst (λ n. IsCut n (frames_of (p ∷ ps)) b to) ends.0
-      (cut_more part p.offset p.item ps b to here (items_end lost file part next ps to ends.2) (λ found. items_cut part next ps b to ends.2 found) e)
-
-  -- ---- a block before all frames
-
-  front_more : (part : Part) (at : ℕ) (item : Item) (ps : List Placed) (b : Piece) (to : ℕ) → IsItemOf part file at item → at + size_of item ≤ to → (find is_tag (blocks_of ps) ≡ Some b → (0 < b.block.length) × (b.offset + b.block.length ≤ to))
-      → find is_tag (cons_option (block_as at item) (blocks_of ps)) ≡ Some b → (0 < b.block.length) × (b.offset + b.block.length ≤ to)
-  front_more part at (Frame h) ps b to here up later e = later e
-  front_more part at Free ps b to here up later e = later e
-  front_more part at (Block x) ps b to here up later e =
-      found_case (record { offset = at; block = x }) b (blocks_of ps) ((0 < b.block.length) × (b.offset + b.block.length ≤ to)) e
-      (λ is same. subst (λ (y : Piece). (0 < y.block.length) × (y.offset + y.block.length ≤ to)) same (here.some, up))
-      (λ none found. later found)
-  front_more part at Zero ps b to here up later e = later e
-  front_more part at End ps b to here up later e = later e
-  front_more part at Nothing ps b to here up later e = later e
-
-  pub items_within : (part : Part) (from : ℕ) (ps : List Placed) (b : Piece) (to : ℕ) → AreEndToEnd part file from ps to → find is_tag (blocks_of ps) ≡ Some b → (0 < b.block.length) × (b.offset + b.block.length ≤ to)
-  items_within part from [] b to ends e = absurd cc
-  items_within part from (p ∷ ps) b to ends e =
-      let next = p.offset + size_of p.item in
-      front_more part p.offset p.item ps b to (item_of-is part file p.offset p.item ends.1) (ends-rise part file next ps to ends.2) (λ found. items_within part next ps b to ends.2 found) e
 
 -- ---- the end of the last frame
 
@@ -324,10 +286,12 @@ module _ (steps : ℕ → Steps) (file : List ℕ) (allowed : ℕ) (start : Star
   place_by : (x y : Option Piece) → find is_tag (blocks_of front.items) ≡ x → find is_tag (blocks_of later.items) ≡ y → tag_block s ≡ option_or x y → IsInFront s ⊎ IsApart s
   place_by (Some b) y front_is later_is is =
       let tag = place-some s b is in
-      let here = items_within lost file Front 0 front.items b front.stop (run-ends Front file 0) front_is in
-      inl (record { some = omega (arith, tag.1, here.0); before = omega (arith, tag.0, tag.1, here.1, front_stop) })
+      let ends = ends-stream Front file 0 front.items front.stop (run-ends Front file 0) in
+      let cut = items_cut lost file 0 front.items b front.stop ends front_is in
+      let last = end_rises (b.offset + b.block.length) (rows_by lost file cut.behind) front.stop cut.rest in
+      inl (record { some = omega (arith, tag.1, cut.some); before = omega (arith, tag.0, tag.1, last, front_stop) })
   place_by None (Some b) front_is later_is is =
-      let cut = items_cut lost file Stream (first + size) later.items b later.stop later_ends later_is in
+      let cut = items_cut lost file (first + size) later.items b later.stop later_ends later_is in
       let beyond = end_rises (first + size) (rows_by lost file cut.before) b.offset cut.front in
       inr (among_by b is (omega (arith, beyond, first_whole.some)) (cut_by head b cut))
   place_by None None front_is later_is is =

@@ -61,11 +61,10 @@ module _ (name : List ℕ) (files : Files) (s : SurveyFields) (surveyed : (bytes
 
     -- so is its fault
     pub block-cause : (before after : Counts) (fault : FileTagFault) → after ≡ before → IsBlockCause b.offset block fault → IsTagCause name files s before after fault
-    block-cause before after (TooLarge size) same cause = absurd cause
     block-cause before after (Bad at) same cause =
         let place = place-some s b tag in
         let low : tag_at s ≤ at = omega (arith, place.0, cause.1) in
         let high : 0 < tag_length s → at < tag_at s + tag_length s = λ some. let less = cause.2 (omega (arith, long, place.1, some)) in omega (arith, less, long, place.0, place.1) in
         ((λ bytes holds. tag_is bytes holds (Err (Bad at)) (cause.0 (front_there bytes holds))), low, high, same)
-    block-cause before after (Read fault) same cause = absurd cause
     block-cause before after Memory same cause = same
+    block-cause before after _ same cause = absurd cause

@@ -1,10 +1,10 @@
 -- A file all of whose bytes are blocks, zero bytes and frames: its stream starts at the first frame, without junk.
-use Rattle.std.proofs.Common.{◌≡◌, ℕ, ◌+◌, ◌≤◌, true, List, [], ◌∷◌, ◌++◌, length, Option, Some, None, Ok, refl, ◌∙◌, ap, ap₂, subst, arith}
+use Rattle.std.proofs.Common.{◌≡◌, ℕ, ◌+◌, ◌≤◌, true, List, [], ◌∷◌, ◌++◌, length, Some, None, Ok, refl, ◌∙◌, ap, ap₂, subst, arith}
 use Rattle.std.specs.List.{cons_option}
 use Rattle.std.proofs.lemmas.Bool.{false≢true, le-leb}
 use Rattle.frame_header.specs.Fields.{HeaderFields}
 use Rattle.sync_survey.specs.declared.items.Item.{Item}
-use Rattle.sync_survey.specs.declared.items.Item.TheVariants.{Frame, Free, Block, Zero, End, Nothing}
+use Rattle.sync_survey.specs.declared.items.Item.TheVariants.{Frame, Free, End, Nothing}
 use Rattle.sync_survey.specs.declared.places.PlacedFrame.{PlacedFrame}
 use Rattle.sync_survey.specs.declared.places.Piece.{Piece}
 use Rattle.sync_survey.specs.declared.places.Start.{Start}
@@ -13,6 +13,7 @@ use Rattle.sync_survey.specs.Items.{item_at, size_of, fits}
 use Rattle.sync_survey.specs.Runs.{Placed, Run, whole, item_of, run, AreEndToEnd, frame_as, block_as, frames_of, blocks_of}
 use Rattle.sync_survey.specs.Start.{start_at, front_end_of, start_of}
 use Rattle.sync_survey.proofs.RunsLaws.{item_of-is, item_of-whole, item_of-past, run-next, run-stopped, run-only}
+use Rattle.moved_gains.proofs.SplitItems.{cons-append}
 
 pub not_in_front : (file : List ℕ) (at : ℕ) (h : HeaderFields) → item_at file at ≡ Frame h → item_of Front file at ≡ None
 unfolding item_of
@@ -50,25 +51,18 @@ passed file at item p rest blocks is clean =
       first = clean.first;
       frames = clean.frames;
       stop = clean.stop;
-      blocks_are = ap (λ (r : Run). blocks_of r.items ++ blocks_of (run Stream file p.offset).items) front ∙ more (block_as at item) (blocks_of (run Front file (at + size_of item)).items) (blocks_of (run Stream file p.offset).items) ∙ ap (cons_option (block_as at item)) clean.blocks_are;
+      blocks_are = ap (λ (r : Run). blocks_of r.items ++ blocks_of (run Stream file p.offset).items) front ∙ cons-append (block_as at item) (blocks_of (run Front file (at + size_of item)).items) (blocks_of (run Stream file p.offset).items) ∙ ap (cons_option (block_as at item)) clean.blocks_are;
     }
-  where
-    more : (o : Option Piece) (xs ys : List Piece) → cons_option o xs ++ ys ≡ cons_option o (xs ++ ys)
-    more None xs ys = refl
-    more (Some x) xs ys = refl
 
 one_item : (file : List ℕ) (at : ℕ) (item : Item) (ps : List Placed) (p : PlacedFrame) (rest : List PlacedFrame) → item_of Stream file at ≡ Some item → AreEndToEnd Stream file (at + size_of item) ps (length file)
     → (frames_of ps ≡ p ∷ rest → IsClean file (at + size_of item) p rest (blocks_of ps)) → cons_option (frame_as at item) (frames_of ps) ≡ p ∷ rest → IsClean file at p rest (cons_option (block_as at item) (blocks_of ps))
 one_item file at (Frame h) ps p rest is ends later e = frame_first file at h ps p rest is ends e
 one_item file at Free ps p rest is ends later e = absurd (false≢true (item_of-is Stream file at Free is).belongs)
-one_item file at (Block b) ps p rest is ends later e =
-    let here = item_of-is Stream file at (Block b) is in
-    passed file at (Block b) p rest (blocks_of ps) (item_of-whole Front file at (Block b) here.is refl here.within) (later e)
-one_item file at Zero ps p rest is ends later e =
-    let here = item_of-is Stream file at Zero is in
-    passed file at Zero p rest (blocks_of ps) (item_of-whole Front file at Zero here.is refl here.within) (later e)
 one_item file at End ps p rest is ends later e = absurd (false≢true (item_of-is Stream file at End is).belongs)
 one_item file at Nothing ps p rest is ends later e = absurd (false≢true (item_of-is Stream file at Nothing is).belongs)
+one_item file at item ps p rest is ends later e =
+    let here = item_of-is Stream file at item is in
+    passed file at item p rest (blocks_of ps) (item_of-whole Front file at item here.is refl here.within) (later e)
 
 pub clean : (file : List ℕ) (from : ℕ) (ps : List Placed) (p : PlacedFrame) (rest : List PlacedFrame) → AreEndToEnd Stream file from ps (length file) → frames_of ps ≡ p ∷ rest → IsClean file from p rest (blocks_of ps)
 clean file from [] p rest ends e = absurd cc

@@ -85,9 +85,7 @@ moved_split steps file at to (row ∷ before) behind ends next =
 
 not_all : (a b c : Bool) (l m : List ℕ) → c ≡ false → cond (a && (b && c)) l m ≡ m
 not_all true true true l m e = absurd cc
-not_all true true false l m e = refl
-not_all true false c l m e = refl
-not_all false b c l m e = refl
+not_all _ _ _ l m e = refl
 
 module _ (steps : ℕ → Steps) (file : List ℕ) (tag : NewTag) where
   abbrev new : List ℕ

@@ -1,6 +1,5 @@
 -- What is written is the changed file: the edited one with the new tag in the place of its tag.
-use Rattle.std.proofs.Common.{◌≡◌, ℕ, ◌+◌, ◌-◌, ◌<◌, ◌≤◌, ltb, Bool, true, false, cond, List, [], ◌∷◌, ◌++◌, length, take, drop, map, Option, Some, None, option_map, Ok, refl, sym, ◌∙◌, ap, ap₂, subst, arith, inl, inr, append_assoc, length-append, length-drop}
-use Rattle.std.specs.Prelude.{◌⊎◌}
+use Rattle.std.proofs.Common.{◌≡◌, ℕ, ◌+◌, ◌-◌, ◌<◌, ◌≤◌, ltb, Bool, true, false, cond, List, [], ◌∷◌, ◌++◌, length, take, drop, map, Option, Some, None, option_map, Ok, refl, sym, ◌∙◌, ap, ap₂, subst, arith, inl, inr, append_assoc, length-append, length-drop, ◌⊎◌}
 use Rattle.std.specs.List.{find}
 use Rattle.std.proofs.lemmas.Bool.{lt-ltb, le-ltb}
 use Rattle.std.proofs.lemmas.List.{drop-drop, take_at, drop_at, length-take-le}
@@ -257,5 +256,4 @@ written-changed change tag file allowed s new is = at change.tag tag new
         ap₂ (λ n (l : List ℕ). take n file ++ l) none (written-none change.steps file s.first s.frames)
         ∙ written-edited change.steps file allowed s is
     at (Some bytes) (Some t) new = tag_case change.steps file allowed s is t bytes new
-    at None (Some t) new = absurd new
-    at (Some bytes) None new = absurd new
+    at _ _ new = absurd new

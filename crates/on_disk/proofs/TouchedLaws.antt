@@ -1,10 +1,9 @@
 -- A name that was added to those that may have been touched.
-use Rattle.std.proofs.Common.{◌≡◌, ℕ, List, refl, ◌∙◌, ap, inr, string_bytes}
+use Rattle.std.proofs.Common.{◌≡◌, ℕ, List, refl, ◌∙◌, ap, inr, string_bytes, Bool, true, false, cond, ◌||◌, ◌&&◌, bytes_eq, IsTrue, Result, Ok, Err, OnOk, OnErr}
 use Rattle.std.proofs.lemmas.Map.Text.{btree_set_updates_text}
 use Rattle.std.specs.BTreeSet.{UpdatesBy}
 use Rattle.std.specs.Cmp.Lexicographic.{slice_cmp}
 use Rattle.std.specs.Ordering.{nat_cmp}
-use Rattle.std.specs.Prelude.{Bool, true, false, cond, ◌||◌, ◌&&◌, bytes_eq, IsTrue, Result, Ok, Err, OnOk, OnErr}
 use Rattle.std.specs.String.{string_cmp}
 use Rattle.on_disk.specs.Names.{touched_in}
 use Rattle.on_disk.specs.declared.touched.Touched.{Touched as TouchedNames}

@@ -1,6 +1,5 @@
 -- The frames of a well-formed file have a best plan, and can be laid by it.
-use Rattle.std.proofs.Common.{◌≡◌, ℕ, ◌<◌, ◌≤◌, true, false, Bool, List, [], ◌∷◌, length, map, Option, Some, None, Ok, refl, sym, ap, subst, inr}
-use Rattle.std.specs.Prelude.{unwrap_or}
+use Rattle.std.proofs.Common.{◌≡◌, ℕ, ◌<◌, ◌≤◌, true, false, Bool, List, [], ◌∷◌, length, map, Option, Some, None, Ok, refl, sym, ap, subst, inr, unwrap_or}
 use Rattle.frame_header.specs.Tables.{window_of}
 use Rattle.frame_header.specs.Slots.{all_slots}
 use Rattle.slot_plan.specs.declared.needs.Need.{Need}
@@ -30,9 +29,8 @@ use Rattle.pack_edits.proofs.PlanLaws.{IsFittingFew, asks-from, items-fitting, w
 -- the items of a best plan are those of a plan from the menu of all slots
 behind-from : (lead_in : Bool) (needs : List Need) → items_from lead_in all_slots needs ≡ items_behind lead_in any_choice needs
 unfolding items_behind items_from
-behind-from false needs = refl
-behind-from true [] = refl
 behind-from true (first ∷ needs) = refl
+behind-from _ _ = refl
 
 pub asks-behind : (lead_in : Bool) (needs : List Need) → Asks (items_behind lead_in any_choice needs) needs
 asks-behind lead_in needs = subst (λ items. Asks items needs) (behind-from lead_in needs) (asks-from lead_in all_slots needs)

@@ -1,6 +1,5 @@
 -- How long a file of frames in the slots of a plan is: what is in front of the frames and behind them, and the lengths of the slots.
-use Rattle.std.proofs.Common.{◌≡◌, ℕ, ◌+◌, ◌-◌, ◌≤◌, List, [], ◌∷◌, ◌++◌, length, map, take, drop, Option, Some, None, refl, ◌∙◌, ap, arith, length-append, length-drop}
-use Rattle.std.specs.Prelude.{◌<◌, slice_get}
+use Rattle.std.proofs.Common.{◌≡◌, ℕ, ◌+◌, ◌-◌, ◌≤◌, List, [], ◌∷◌, ◌++◌, length, map, take, drop, Option, Some, None, refl, ◌∙◌, ap, arith, length-append, length-drop, ◌<◌, slice_get}
 use Rattle.std.specs.List.{concat}
 use Rattle.std.proofs.lemmas.List.{length-take-le}
 use Rattle.std.proofs.lemmas.List.Sums.{sum_by-cons}
@@ -72,8 +71,6 @@ size_of c placed = bytes_of c (λ (p : Placed). p.slot) placed
 
 same-size : (c : ClassFields) (fs : List Frame) (placed : List Placed) → map slot_in fs ≡ map (λ (p : Placed). p.slot) placed → bytes_of c slot_in fs ≡ size_of c placed
 same-size c [] [] same = refl
-same-size c [] (p ∷ placed) same = absurd cc
-same-size c (f ∷ fs) [] same = absurd cc
 same-size c (f ∷ fs) (p ∷ placed) same =
     let slot : slot_in f ≡ p.slot = cc in
     let rest : map slot_in fs ≡ map (λ (q : Placed). q.slot) placed = cc in
@@ -84,6 +81,7 @@ same-size c (f ∷ fs) (p ∷ placed) same =
       sum_by-cons (λ (g : Frame). length_of c (slot_in g)) f fs,
       sum_by-cons (λ (q : Placed). length_of c q.slot) p placed,
     )
+same-size c _ _ same = absurd cc
 
 -- ---- the file
 

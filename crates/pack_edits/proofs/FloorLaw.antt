@@ -1,6 +1,5 @@
 -- Where all bit rates from one on are allowed, no file is refused with `Unfit`.
-use Rattle.std.proofs.Common.{◌≡◌, ℕ, ◌&&◌, Bool, true, false, cond, List, length, Some, None, Result, Ok, Err, refl, ap, inl, inr}
-use Rattle.std.specs.Prelude.{nat_lt, nat_le}
+use Rattle.std.proofs.Common.{◌≡◌, ℕ, ◌&&◌, Bool, true, false, cond, List, length, Some, None, Result, Ok, Err, refl, ap, inl, inr, nat_lt, nat_le}
 use Rattle.frame_header.specs.Tables.{window_of}
 use Rattle.slot_plan.specs.declared.needs.Placed.{Placed}
 use Rattle.rate_plan.specs.LeastMenuPlan.{least_menu_plan}

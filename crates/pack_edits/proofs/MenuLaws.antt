@@ -1,7 +1,6 @@
 -- The slots of some bit rates: their areas ascend, there are some where the named one is a bit rate of the class, and the largest slot is among those
 -- of all bit rates from one on.
-use Rattle.std.proofs.Common.{◌≡◌, ℕ, zero, suc, ◌-◌, ◌<◌, ◌≤◌, ◌==◌, ◌&&◌, Bool, true, false, cond, List, [], ◌∷◌, length, get_or, All, Contains, AllPairs, None, Some, refl, subst, arith}
-use Rattle.std.specs.Prelude.{leb, slice_index, filter}
+use Rattle.std.proofs.Common.{◌≡◌, ℕ, zero, suc, ◌-◌, ◌<◌, ◌≤◌, ◌==◌, ◌&&◌, Bool, true, false, cond, List, [], ◌∷◌, length, get_or, All, Contains, AllPairs, None, Some, refl, subst, arith, leb, slice_index, filter}
 use Rattle.std.specs.List.{list_all}
 use Rattle.std.proofs.lemmas.List.{get_or-map, length-map, get_or_default}
 use Rattle.std.proofs.lemmas.List.Kept.{AllPairs-filter}
@@ -59,8 +58,7 @@ rate-is rate class none = omega (arith, ltb-true 0 (length (menu_in (Constant ra
 rates-top : (version : Version) → list_all (λ (s : SlotFields). leb (slice_index (rates version) (s.rate_index - 1)) (slice_index (rates version) 13)) all_slots ≡ true
 unfolding all_slots slots_to
 rates-top One = refl
-rates-top Two = refl
-rates-top TwoFive = refl
+rates-top _ = refl
 
 -- where all of these numbers are at most this, so is one of them
 any-most : (f : SlotFields → ℕ) (n most : ℕ) (xs : List SlotFields) → list_all (λ x. leb (f x) most) xs ≡ true → 1 ≤ length (filter (λ x. f x == n) xs) → n ≤ most
@@ -105,7 +103,6 @@ kept-some : (mode : PackMode) (class : ClassFields) → Contains (menu_in mode c
 kept-some mode class has = omega (arith, has.1)
 
 pub menu-some : (mode : PackMode) (class : ClassFields) → no_rate mode class ≡ None → 1 ≤ length (menu_in mode class)
-menu-some Least class none = kept-some Least class (largest-kept Least class refl)
-menu-some Best class none = kept-some Best class (largest-kept Best class refl)
 menu-some (Constant rate) class none = rate-is rate class none
 menu-some (Floor rate) class none = kept-some (Floor rate) class (floor-largest rate class none)
+menu-some x class none = kept-some x class (largest-kept x class refl)

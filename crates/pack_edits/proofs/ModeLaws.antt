@@ -1,6 +1,5 @@
 -- What the one body asks of a packing in each mode.
-use Rattle.std.proofs.Common.{◌≡◌, ℕ, ◌<◌, ◌≤◌, List, length, Ok, refl, subst, inr, arith}
-use Rattle.std.specs.Prelude.{IfErr}
+use Rattle.std.proofs.Common.{◌≡◌, ℕ, ◌<◌, ◌≤◌, List, length, Ok, refl, subst, inr, arith, IfErr}
 use Rattle.frame_header.specs.Fields.{ClassFields}
 use Rattle.frame_header.specs.Tables.{window_of}
 use Rattle.outside.specs.Files.{Files, Holds}
@@ -44,10 +43,9 @@ pub planning : (mode : PackMode) → IsPlanning (plan_by mode)
 planning mode = record { late = late mode; fitting = λ chosen s well some within placed planned. (mode-fitting chosen s well some within mode placed planned).fitting }
   where
     late : (mode : PackMode) (class : ClassFields) (needs : List Need) → IfErr (plan_by mode class needs) IsLate
-    late Least class needs = tt
-    late Best class needs = tt
     late (Constant rate) class needs = rates-late (Constant rate) class needs
     late (Floor rate) class needs = rates-late (Floor rate) class needs
+    late _ class needs = tt
 
 -- the task, if the input may have as many frames as in all commands
 abbrev free_task : PackMode → List ℕ → Task

@@ -1,6 +1,5 @@
 -- What `pack --best` writes, and what `pack` writes of the same input.
-use Rattle.std.specs.Prelude.{OnOk}
-use Rattle.std.proofs.Common.{◌≡◌, ℕ, ◌≤◌, List, [], ◌∷◌, length, Option, Some, None, Result, Ok, Err, refl, sym, ◌∙◌, ap, subst}
+use Rattle.std.proofs.Common.{◌≡◌, ℕ, ◌≤◌, List, [], ◌∷◌, length, Option, Some, None, Result, Ok, Err, refl, sym, ◌∙◌, ap, subst, OnOk}
 use Rattle.outside.specs.Files.{Contents, Files, Told, Untold, with_file, Holds, IfTold}
 use Rattle.outside.proofs.FilesLaws.{with_file_here}
 use Rattle.frame_header.specs.Tables.{window_of}
@@ -155,9 +154,8 @@ written-fewest input output file made (Told f) new done there holds =
 
 pub done-fewest : (mode : PackMode) (input output : List ℕ) (old new : Seen) → IsDone (pack_mode_command mode input output) old new → WritesFewest mode input output old.files new.files
 done-fewest Best input output old new done = λ file made there holds. written-fewest input output file made old.files new.files done.made there holds
-done-fewest Least input output old new done = tt
 done-fewest (Constant rate) input output old new done = tt
-done-fewest (Floor rate) input output old new done = tt
+done-fewest _ input output old new done = tt
 
 -- what a run with this answer left
 pub run-fewest : (mode : PackMode) (input output : List ℕ) (old new : Seen) (answer : Result (Unit {0}) EditFault) → IsRunOf (pack_mode_command mode input output) old new answer → OnOk answer (WritesFewest mode input output old.files new.files)

@@ -1,6 +1,5 @@
 -- The plan with the slots of some bit rates: it can be laid, and with all bit rates from one on there is always one.
-use Rattle.std.proofs.Common.{◌≡◌, ℕ, zero, suc, ◌+◌, ◌-◌, get_or, append-nil, ◌<◌, ◌≤◌, Bool, true, false, List, [], ◌∷◌, length, map, drop, All, Contains, None, Result, Ok, Err, refl, sym, ◌∙◌, ap, subst, arith, length-drop}
-use Rattle.std.specs.Prelude.{IfErr, MatchResult}
+use Rattle.std.proofs.Common.{◌≡◌, ℕ, zero, suc, ◌+◌, ◌-◌, get_or, append-nil, ◌<◌, ◌≤◌, Bool, true, false, List, [], ◌∷◌, length, map, drop, All, Contains, None, Result, Ok, Err, refl, sym, ◌∙◌, ap, subst, arith, length-drop, IfErr, MatchResult}
 use Rattle.std.proofs.lemmas.List.{length-map, length-take}
 use Rattle.frame_header.specs.Fields.{SlotFields, ClassFields, IsSlot, IsClass}
 use Rattle.frame_header.specs.Tables.{window_of}
@@ -66,9 +65,8 @@ from-length true menu (first ∷ needs) = omega (arith, length-map needs (item_o
 for-length : (items : List Item) (placed : List Placed) → AreFor items placed → length placed ≡ length items
 unfolding AreFor
 for-length [] [] for_items = refl
-for-length [] (p ∷ placed) for_items = absurd for_items
-for-length (item ∷ items) [] for_items = absurd for_items
 for-length (item ∷ items) (p ∷ placed) for_items = ap suc (for-length items placed for_items.2)
+for-length _ _ for_items = absurd for_items
 
 -- by it frames can be laid, with at most one lead-in
 pub record IsFittingFew (window : ℕ) (needs : List Need) (placed : List Placed) : Type 0 where
@@ -220,5 +218,4 @@ module _ (chosen : Chosen) (s : SurveyFields) (placed : IsPlaced s) (some : chos
   pub menu-plan : (mode : PackMode) (plan : List Placed) → IsNamed mode → no_rate mode s.class ≡ None → menu_answer mode ≡ Ok plan → plan_by mode s.class (needs_of chosen s) ≡ Ok plan
   menu-plan (Constant rate) plan named none is = plan-is (Constant rate) (Ok plan) none is
   menu-plan (Floor rate) plan named none is = plan-is (Floor rate) (Ok plan) none is
-  menu-plan Least plan named none is = absurd named
-  menu-plan Best plan named none is = absurd named
+  menu-plan _ plan named none is = absurd named

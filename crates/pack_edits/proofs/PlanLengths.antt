@@ -1,6 +1,5 @@
 -- Of all plans by which frames can be laid, with no lead-ins but those of the best plan, none has shorter slots.
-use Rattle.std.proofs.Common.{◌≡◌, ℕ, suc, ◌+◌, ◌≤◌, Bool, true, false, List, [], ◌∷◌, map, sum, All, Contains, Option, Some, None, refl, sym, ◌∙◌, ap, subst, inl, inr, arith}
-use Rattle.std.specs.Prelude.{◌↔◌}
+use Rattle.std.proofs.Common.{◌≡◌, ℕ, suc, ◌+◌, ◌≤◌, Bool, true, false, List, [], ◌∷◌, map, sum, All, Contains, Option, Some, None, refl, sym, ◌∙◌, ap, subst, inl, inr, arith, ◌↔◌}
 use Rattle.std.proofs.lemmas.List.Elements.{All-cons}
 use Rattle.std.proofs.lemmas.List.Sums.{sum_by-cons}
 use Rattle.frame_header.specs.Fields.{SlotFields, ClassFields, IsClass}
@@ -31,31 +30,28 @@ use Rattle.pack_edits.proofs.FileLengths.{size_of}
 -- the places of lead-ins are those of the items
 abbrev Flagged : List Item → List Placed → Type 0
 Flagged [] [] = Unit {0}
-Flagged [] (p ∷ placed) = ⊥
-Flagged (item ∷ items) [] = ⊥
 Flagged (item ∷ items) (p ∷ placed) = (p.lead_in ≡ item.lead_in) × Flagged items placed
+Flagged _ _ = ⊥
 
 flagged-same : (items : List Item) (placed other : List Placed) → AreFor items placed → lead_ins other ≡ lead_ins placed → Flagged items other
 unfolding AreFor
 flagged-same [] [] [] for_items same = tt
-flagged-same [] [] (o ∷ other) for_items same = absurd cc
 flagged-same [] (p ∷ placed) other for_items same = absurd for_items
 flagged-same (item ∷ items) [] other for_items same = absurd for_items
-flagged-same (item ∷ items) (p ∷ placed) [] for_items same = absurd cc
 flagged-same (item ∷ items) (p ∷ placed) (o ∷ other) for_items same =
     let first : o.lead_in ≡ p.lead_in = cc in
     let rest : lead_ins other ≡ lead_ins placed = cc in
     (first ∙ for_items.0, flagged-same items placed other for_items.2 rest)
+flagged-same _ _ _ for_items same = absurd cc
 
 flagged-none : (window reach : ℕ) (needs : List Need) (other : List Placed) → FitsFrom window reach needs other → All (λ p. p.lead_in ≡ false) other → Flagged (map (item_of any_choice) needs) other
 unfolding FitsFrom
 flagged-none window reach [] [] fits none = tt
-flagged-none window reach [] (o ∷ other) fits none = absurd fits
-flagged-none window reach (need ∷ needs) [] fits none = absurd fits
 flagged-none window reach (need ∷ needs) (o ∷ other) fits none =
     let first : o.lead_in ≡ false = none 0 o (omega arith) in
     let behind : FitsFrom window (reach_behind window o need) needs other = subst (λ b. FitsFrom window (reach_behind window o need) (left_behind b need needs) other) first fits.2 in
     (first, flagged-none window (reach_behind window o need) needs other behind (λ k d lt. none (suc k) d (omega (arith, lt))))
+flagged-none window reach _ _ fits none = absurd fits
 
 -- ---- such a plan has one of the lists among which the best is the shortest
 
@@ -76,20 +72,17 @@ wide-behind true (first ∷ needs) = (refl, wide-each (first ∷ needs))
 for-flagged : (items : List Item) (placed : List Placed) → AreWide items → Flagged items placed → AreInSlots placed → AreFor items placed
 unfolding AreFor
 for-flagged [] [] wide flagged slots = tt
-for-flagged [] (p ∷ placed) wide flagged slots = absurd flagged
-for-flagged (item ∷ items) [] wide flagged slots = absurd flagged
 for-flagged (item ∷ items) (p ∷ placed) wide flagged slots =
     (flagged.0, subst (λ l. Contains l p.slot) (sym wide.0) (Contains-all_slots p.slot slots.0), for-flagged items placed wide.1 flagged.1 slots.1)
+for-flagged _ _ wide flagged slots = absurd flagged
 
 -- its main data have room, whatever main_data_begin it gives them
 fits-room : (window reach free : ℕ) (items : List Item) (needs : List Need) (placed : List Placed) → Asks items needs → Flagged items placed → FitsFrom window reach needs placed → reach ≤ free
     → AllFit window free (frames_of (map open_of items) (areas_in items placed))
 unfolding FitsFrom AllFit frames_of areas_in
 fits-room window reach free [] [] [] asks flagged fits within = tt
-fits-room window reach free [] [] (p ∷ placed) asks flagged fits within = absurd flagged
 fits-room window reach free [] (need ∷ needs) placed asks flagged fits within = absurd asks
 fits-room window reach free (item ∷ items) [] placed asks flagged fits within = absurd asks
-fits-room window reach free (item ∷ items) (need ∷ needs) [] asks flagged fits within = absurd flagged
 fits-room window reach free (item ∷ items) (need ∷ needs) (p ∷ placed) asks flagged fits within =
     let is : IsAsked p.lead_in item need = subst (λ b. IsAsked b item need) (sym flagged.0) asks.0 in
     let follow : Asks items (left_behind p.lead_in need needs) = subst (λ b. Asks items (left_behind b need needs)) (sym flagged.0) asks.1 in
@@ -98,6 +91,7 @@ fits-room window reach free (item ∷ items) (need ∷ needs) (p ∷ placed) ask
       omega (arith, area, bytes, fits.0, fits.1, within),
       fits-room window (reach_behind window p need) (free_behind window free item.bytes (area_in item p.slot)) items (left_behind p.lead_in need needs) placed follow flagged.1 fits.2 (omega (arith, area, bytes, fits.0, fits.1, within)),
     )
+fits-room window reach free _ _ _ asks flagged fits within = absurd flagged
 
 -- ---- the lengths of its slots
 
@@ -124,8 +118,6 @@ overheads (item ∷ items) = overhead_of item.class item.protected + overheads i
 size-is : (c : ClassFields) (items : List Item) (placed : List Placed) → IsClass c → AreAllOf c items → AreInSlots placed → AreFor items placed → size_of c placed ≡ sum (areas_in items placed) + overheads items
 unfolding AreFor areas_in
 size-is c [] [] class all slots for_items = refl
-size-is c [] (p ∷ placed) class all slots for_items = absurd for_items
-size-is c (item ∷ items) [] class all slots for_items = absurd for_items
 size-is c (item ∷ items) (p ∷ placed) class all slots for_items =
     let own = area-is item.class p.slot item.protected (subst IsClass (sym all.0) class) slots.0 in
     omega (
@@ -136,6 +128,7 @@ size-is c (item ∷ items) (p ∷ placed) class all slots for_items =
       sum_by-cons (λ (q : Placed). length_of c q.slot) p placed,
       sum-cons (area_in item p.slot) (areas_in items placed),
     )
+size-is c _ _ class all slots for_items = absurd for_items
 
 -- ---- the best plan
 
@@ -179,16 +172,14 @@ module _ (window : ℕ) (c : ClassFields) (needs : List Need) (class : IsClass c
 flags-for : (items : List Item) (placed : List Placed) → AreFor items placed → lead_ins placed ≡ map (λ (item : Item). item.lead_in) items
 unfolding AreFor
 flags-for [] [] for_items = refl
-flags-for [] (p ∷ placed) for_items = absurd for_items
-flags-for (item ∷ items) [] for_items = absurd for_items
 flags-for (item ∷ items) (p ∷ placed) for_items = ap (λ b. b ∷ lead_ins placed) for_items.0 ∙ ap (λ l. item.lead_in ∷ l) (flags-for items placed for_items.2)
+flags-for _ _ for_items = absurd for_items
 
 none-for : (needs : List Need) (placed : List Placed) → AreFor (map (item_of any_choice) needs) placed → All (λ p. p.lead_in ≡ false) placed
 unfolding AreFor
 none-for [] [] for_items = λ k d lt. absurd (omega (arith, lt))
-none-for [] (p ∷ placed) for_items = absurd for_items
-none-for (need ∷ needs) [] for_items = absurd for_items
 none-for (need ∷ needs) (p ∷ placed) for_items = All-cons (λ (q : Placed). q.lead_in ≡ false) p placed for_items.0 (none-for needs placed for_items.2)
+none-for _ _ for_items = absurd for_items
 
 module _ (window : ℕ) (best placed : List Placed) where
   by-lead : (needs : List Need) (lead_in : Bool) (other : Option SlotFields) → (lead_in ≡ false) ↔ CanBeLaid window (map open_of (map (item_of any_choice) needs)) → AreFor (items_behind lead_in any_choice needs) best

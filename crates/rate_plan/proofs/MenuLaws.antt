@@ -1,6 +1,5 @@
 -- Menus of slots that are side by side among all slots.
-use Rattle.std.proofs.Common.{◌≡◌, ℕ, ◌+◌, ◌-◌, ◌<◌, ◌≤◌, Bool, List, length, get_or, take, drop, Contains, AllPairs, sym, ap, ◌∙◌, subst, lit≤, arith}
-use Rattle.std.specs.Prelude.{slice_range}
+use Rattle.std.proofs.Common.{◌≡◌, ℕ, ◌+◌, ◌-◌, ◌<◌, ◌≤◌, Bool, List, length, get_or, take, drop, Contains, AllPairs, sym, ap, ◌∙◌, subst, lit≤, arith, slice_range}
 use Rattle.std.proofs.lemmas.List.{take-map, drop-map, get_or-take, get_or-drop, length-take-le, length-drop}
 use Rattle.frame_header.specs.Fields.{SlotFields, ClassFields, IsClass}
 use Rattle.frame_header.specs.Tables.{area_of}

@@ -16,8 +16,7 @@ use Rattle.rate_plan.specs.Menus.{from_menu, items_from, IsMenuPlan}
 
 pub window-most : (version : Version) → window_of version ≤ 511
 window-most One = lit≤ tt
-window-most Two = lit≤ tt
-window-most TwoFive = lit≤ tt
+window-most _ = lit≤ tt
 
 nothing-placed : (window free : ℕ) → ArePlaced window free [] []
 unfolding ArePlaced

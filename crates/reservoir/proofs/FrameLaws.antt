@@ -1,5 +1,5 @@
 -- How far the main data of a frame reach.
-use Rattle.std.proofs.Common.{ℕ, ◌^◌, ◌≤◌, cond, true, false, eqb, List, [], ◌∷◌, ◌++◌, refl, sym, subst, append-nil, append_assoc, arith, lit≤}
+use Rattle.std.proofs.Common.{ℕ, ◌^◌, ◌≤◌, cond, true, false, eqb, List, [], ◌∷◌, ◌++◌, refl, sym, subst, append-nil, append_assoc, arith, lit≤, slice_index}
 use Rattle.circular_buffer.specs.Buffer.{keep_last}
 use Rattle.frame_header.specs.declared.version.Version.{Version}
 use Rattle.frame_header.specs.declared.version.Version.TheVariants.{One, Two, TwoFive}
@@ -7,7 +7,6 @@ use Rattle.frame_header.specs.Tables.{class_of}
 use Rattle.frame_header.proofs.HeaderLaws.{IsClass-class_of}
 use Rattle.frame_header.proofs.SlotLaws.{area-most}
 use Rattle.side_info.specs.Side.{front_widths_of}
-use Rattle.std.specs.Prelude.{slice_index}
 use Rattle.reservoir.specs.Window.{IsWindowOver}
 use Rattle.reservoir.specs.Laws.{joined, held_behind, AreasAreHeld, FramesAreHeld}
 use Rattle.reservoir.proofs.WindowLaws.{window-more}

@@ -1,10 +1,9 @@
 -- Laws of windows: the last bytes of main data, and the bits of a frame's main data among them.
-use Rattle.std.proofs.Common.{◌≡◌, ℕ, zero, suc, min, ◌<◌, inl, inr, ◌+◌, ◌-◌, ◌*◌, ◌/◌, ◌%◌, ◌^◌, ◌≤◌, List, [], ◌∷◌, ◌++◌, length, take, drop, replicate, refl, sym, subst, ap, ap₂, ◌∙◌, append_assoc, append-nil, arith, length-append}
+use Rattle.std.proofs.Common.{◌≡◌, ℕ, zero, suc, min, ◌<◌, inl, inr, ◌+◌, ◌-◌, ◌*◌, ◌/◌, ◌%◌, ◌^◌, ◌≤◌, List, [], ◌∷◌, ◌++◌, length, take, drop, replicate, refl, sym, subst, ap, ap₂, ◌∙◌, append_assoc, append-nil, arith, length-append, get_or}
 use Rattle.std.proofs.lemmas.List.{length-drop, length-take-le, take-append-le, drop-append-le, take-append-drop, drop-drop}
 use Rattle.std.proofs.Math.Seq.{drop-append-add, take-append-add, drop-length, take-length, take-add, drop-cons}
 use Rattle.std.proofs.Math.Nat.{min-eq_left, min-eq_right, zero-div}
 use Rattle.std.proofs.lemmas.Bool.{cases_lt}
-use Rattle.std.specs.Prelude.{get_or}
 use Rattle.circular_buffer.specs.Buffer.{keep_last}
 use Rattle.bit_fields.specs.Bits.{bits, bits_of}
 use Rattle.bit_fields.proofs.BitsLaws.{length-bits_of, take-bits, drop-bits, bits_of-mod, bits_of-cat, take-bits_of, bits-nil, bits-one, bits-cons, bits-append}

@@ -1,7 +1,7 @@
 -- Of a file without fault all is read that its survey tells.
-use Rattle.std.proofs.Common.{◌≡◌, ℕ, zero, suc, ◌+◌, ◌<◌, ◌≤◌, ◌==◌, ◌&&◌, ◌||◌, Bool, true, false, cond, not, List, [], ◌∷◌, ◌++◌, length, drop, map, Option, Some, None, Ok, Err, refl, sym, ◌∙◌, ap, ap₂, subst, arith, append-nil, length-drop}
-use Rattle.std.specs.Prelude.{slice_get, is_some, option_and_then, option_to_list}
+use Rattle.std.proofs.Common.{◌≡◌, ℕ, zero, suc, ◌+◌, ◌<◌, ◌≤◌, ◌==◌, ◌&&◌, ◌||◌, Bool, true, false, cond, not, List, [], ◌∷◌, ◌++◌, length, drop, map, Option, Some, None, Ok, Err, refl, sym, ◌∙◌, ap, ap₂, subst, arith, append-nil, length-drop, slice_get, is_some, option_and_then, option_to_list}
 use Rattle.std.specs.List.{enumerate_from, cons_option}
+use Rattle.std.proofs.lemmas.Bool.{not-false, or_right, or_left}
 use Rattle.frame_header.specs.Fields.{HeaderFields, ClassFields, same_class}
 use Rattle.frame_header.specs.Tables.{class_of}
 use Rattle.side_info.specs.Frame.{word_said, word_right}
@@ -39,13 +39,8 @@ use Rattle.salvage.proofs.ProgressLaws.{few_counted}
 -- ---- frames without fault are usable
 
 right_by : (protected right : Bool) → (protected && not right) ≡ false → (not protected || right) ≡ true
-right_by true true is = refl
 right_by true false is = absurd cc
-right_by false right is = refl
-
-not_not : (b : Bool) → not b ≡ false → b ≡ true
-not_not true is = refl
-not_not false is = absurd cc
+right_by _ _ is = refl
 
 -- the frame is of the class, and its check word isn't wrong
 pub record HasNoFault (file : List ℕ) (class : ClassFields) (r : Row) : Type 0 where
@@ -56,7 +51,7 @@ word_by : (file : List ℕ) (class : ClassFields) (p : PlacedFrame) → HasNoFau
 word_by file class p sound = right_by p.header.protected (word_said (drop p.offset file) == word_right p.header (drop p.offset file)) sound.word
 
 usable_by : (file : List ℕ) (class : ClassFields) (p : PlacedFrame) → HasNoFault file class (row_of file p) → is_usable (Later class) p (drop p.offset file) ≡ true
-usable_by file class p sound = ap₂ (λ (a b : Bool). a && b) (not_not _ sound.same) (word_by file class p sound)
+usable_by file class p sound = ap₂ (λ (a b : Bool). a && b) (not-false _ sound.same) (word_by file class p sound)
 
 abbrev AreUsable : List ℕ → ClassFields → List PlacedFrame → Type 0
 AreUsable file class [] = Unit {0}
@@ -164,23 +159,16 @@ judged-marked file head class allowed rows sound =
 
 -- ---- its first frame is the first that is read
 
-or_true : (a b : Bool) → b ≡ true → (a || b) ≡ true
-or_true true b is = refl
-or_true false b is = is
-
-true_or : (a b : Bool) → a ≡ true → (a || b) ≡ true
-true_or a b is = ap (λ x. x || b) is
-
 head_seen : (file : List ℕ) (p : PlacedFrame) (head : Head) → head_of file p ≡ Some head → is_head p (drop p.offset file) ≡ true
 unfolding head_of
 head_seen file p head is = ap is_some is
 
 first_usable : (file : List ℕ) (class : ClassFields) (start : Start) (o : Option Head) → item_of Stream file start.first.offset ≡ Some (Frame start.first.header) → head_of file start.first ≡ o
     → ((i : ℕ) (r : Row) → slice_get (rows_of file (numbered o (frames_of (stream_run file start).items))) i ≡ Some r → HasNoFault file class r) → is_usable First start.first (drop start.first.offset file) ≡ true
-first_usable file class start (Some head) here is sound = or_true _ _ (head_seen file start.first head is)
+first_usable file class start (Some head) here is sound = or_right _ _ (head_seen file start.first head is)
 first_usable file class start None here is sound =
     let frames = frames-next Stream file start.first.offset (Frame start.first.header) here in
-    true_or _ _ (word_by file class start.first (sound zero (row_of file start.first) (ap (λ ps. slice_get (rows_of file ps) zero) frames)))
+    or_left _ _ (word_by file class start.first (sound zero (row_of file start.first) (ap (λ ps. slice_get (rows_of file ps) zero) frames)))
 
 read_first : (file : List ℕ) (at : ℕ) (h : HeaderFields) → item_of Stream file at ≡ Some (Frame h) → is_usable First (record { offset = at; header = h }) (drop at file) ≡ true → option_and_then (frame_as at) (item_read file First at) ≡ Some (record { offset = at; header = h })
 unfolding item_read
@@ -189,7 +177,6 @@ read_first file at h here usable = ap (λ o. option_and_then (frame_as at) (if_r
 no_frame : (file : List ℕ) (at : ℕ) (item : Item) (b : Bool) → item_at file at ≡ item → ((h : HeaderFields) → item ≡ Frame h → ⊥) → option_and_then (frame_as at) (item_read file First at) ≡ None
 unfolding item_read item_of
 no_frame file at (Frame h) b is none = absurd (none h refl)
-no_frame file at Free b is none = ap (λ i. option_and_then (frame_as at) (if_read file First at (whole Stream file at i))) is
 no_frame file at (Block block) b is none = ap (λ i. option_and_then (frame_as at) (if_read file First at (whole Stream file at i))) is ∙ by_fit (fits file at (Block block))
   where
     by_fit : (f : Bool) → option_and_then (frame_as at) (if_read file First at (cond f (Some (Block block)) None)) ≡ None
@@ -200,8 +187,7 @@ no_frame file at Zero b is none = ap (λ i. option_and_then (frame_as at) (if_re
     by_fit : (f : Bool) → option_and_then (frame_as at) (if_read file First at (cond f (Some Zero) None)) ≡ None
     by_fit true = refl
     by_fit false = refl
-no_frame file at End b is none = ap (λ i. option_and_then (frame_as at) (if_read file First at (whole Stream file at i))) is
-no_frame file at Nothing b is none = ap (λ i. option_and_then (frame_as at) (if_read file First at (whole Stream file at i))) is
+no_frame file at _ b is none = ap (λ i. option_and_then (frame_as at) (if_read file First at (whole Stream file at i))) is
 
 usable_here : (file : List ℕ) (role : Role) (at : ℕ) (p : PlacedFrame) → anchored_frame file at ≡ Some p → is_usable role p (drop p.offset file) ≡ true → usable_anchored file role at ≡ Some p
 unfolding usable_anchored

@@ -1,6 +1,6 @@
 -- The main data of the frames that are kept are where they may be among those of all runs.
 use Rattle.std.proofs.Common.{◌≡◌, ℕ, ◌+◌, ◌-◌, ◌≤◌, ◌&&◌, ◌||◌, Bool, true, false, cond, not, List, [], ◌∷◌, ◌++◌, length, Option, refl, ◌∙◌, ap, ap₂, arith}
-use Rattle.std.proofs.lemmas.Bool.{ltb-false, le-ltb, and_parts}
+use Rattle.std.proofs.lemmas.Bool.{ltb-false, le-ltb, and_parts, not-true, not-false}
 use Rattle.side_info.specs.Side.{payload_bytes}
 use Rattle.sync_survey.specs.declared.places.Head.{Head}
 use Rattle.sync_survey.specs.Row.{Row}
@@ -18,22 +18,14 @@ pub record IsWithin (place ended : ℕ) (r : Row) : Type 0 where
   pub apart : ended ≤ place - r.side.main_data_begin
   pub ends : (place - r.side.main_data_begin) + payload_bytes r.side ≤ place + own_area r.header
 
-pub not_true : (b : Bool) → not b ≡ true → b ≡ false
-not_true true is = absurd cc
-not_true false is = refl
-
-pub not_false : (b : Bool) → not b ≡ false → b ≡ true
-not_false true is = refl
-not_false false is = absurd cc
-
 pub sound_within : (place ended : ℕ) (r : Row) → is_sound place ended r ≡ true → IsWithin place ended r
 sound_within place ended r is =
     let parts = and_parts _ _ is in
     let front = and_parts _ _ parts.0 in
     record {
-      begins = ltb-false _ _ (not_true _ front.0);
-      apart = ltb-false _ _ (not_true _ front.1);
-      ends = ltb-false _ _ (not_true _ parts.1);
+      begins = ltb-false _ _ (not-true _ front.0);
+      apart = ltb-false _ _ (not-true _ front.1);
+      ends = ltb-false _ _ (not-true _ parts.1);
     }
 
 within_sound : (place ended : ℕ) (r : Row) → IsWithin place ended r → is_sound place ended r ≡ true
@@ -72,11 +64,10 @@ module _ (head : Option Head) where
   -- where the main data end after a frame
   end_by : (base now ended : ℕ) (b : Before) (r : Row) (sound silent : Bool) → is_sound b.place b.ended r ≡ sound → is_silent r ≡ silent → now ≡ base + b.place → ended ≤ base + b.ended → ended ≤ now
       → (cond (not sound || silent) ended (end_of_data now r) ≤ base + cond (sound && not silent) (end_of_data b.place r) b.ended) × (cond (not sound || silent) ended (end_of_data now r) ≤ now + own_area r.header)
-  end_by base now ended b r true true is other at low high = (low, omega (arith, high))
   end_by base now ended b r true false is other at low high =
       let here = sound_within b.place b.ended r is in
       (omega (arith, at, here.begins), omega (arith, at, here.begins, here.ends))
-  end_by base now ended b r false silent is other at low high = (low, omega (arith, high))
+  end_by base now ended b r _ _ is other at low high = (low, omega (arith, high))
 
   module _ (rows : List Row) (b : Before) (kept : AreKeptTo head rows b) (r : Row) where
     abbrev marked_one : Row
@@ -84,7 +75,7 @@ module _ (head : Option Head) where
 
     sound_by : not (is_sound b.place b.ended r) ≡ false → is_sound (place head rows (length rows)) (end_of_kept head rows (length rows)) r ≡ true
     sound_by mark =
-        let here = sound_within b.place b.ended r (not_false _ mark) in
+        let here = sound_within b.place b.ended r (not-false _ mark) in
         within_sound (place head rows (length rows)) (end_of_kept head rows (length rows)) r (record {
           begins = omega (arith, kept.place_is, here.begins);
           apart = omega (arith, kept.place_is, kept.ended_is, here.begins, here.apart);

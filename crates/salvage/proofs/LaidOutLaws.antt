@@ -1,6 +1,5 @@
 -- What is read of a damaged file is in order within it, by the definition alone.
-use Rattle.std.proofs.Common.{◌≡◌, ℕ, zero, suc, ◌+◌, ◌-◌, ◌<◌, ◌≤◌, Bool, true, false, cond, ltb, List, [], ◌∷◌, ◌++◌, length, drop, Option, Some, None, Ok, Err, Result, inl, inr, refl, sym, ◌∙◌, ap, subst, arith, append_assoc, append-nil}
-use Rattle.std.specs.Prelude.{IfSome, option_and_then, option_map}
+use Rattle.std.proofs.Common.{◌≡◌, ℕ, zero, suc, ◌+◌, ◌-◌, ◌<◌, ◌≤◌, Bool, true, false, cond, ltb, List, [], ◌∷◌, ◌++◌, length, drop, Option, Some, None, Ok, Err, Result, inl, inr, refl, sym, ◌∙◌, ap, subst, arith, append_assoc, append-nil, IfSome, option_and_then, option_map}
 use Rattle.std.specs.Option.{option_or}
 use Rattle.std.specs.List.{cons_option}
 use Rattle.std.proofs.lemmas.Bool.{ltb-true, ltb-false, and_parts}
@@ -208,8 +207,7 @@ first-by : (file : List ℕ) (at : ℕ) (o : Option Item) (next : Option PlacedF
 first-by file at (Some (Frame h)) next first is follows e =
     let same : record { offset = at; header = h } ≡ first = cc in
     subst (IsNext file at) same (record { low = omega arith; frame = is (Frame h) refl })
-first-by file at (Some _) next first is follows e = let found = follows first e in record { low = omega (arith, found.low); frame = found.frame }
-first-by file at None next first is follows e = let found = follows first e in record { low = omega (arith, found.low); frame = found.frame }
+first-by file at _ next first is follows e = let found = follows first e in record { low = omega (arith, found.low); frame = found.frame }
 
 -- it is whole in the file, not before the front's end
 pub first_frame-is : (file : List ℕ) (at : ℕ) (first : PlacedFrame) → first_frame file at ≡ Some first → IsNext file at first
@@ -343,9 +341,8 @@ read-laid file d e = let read = damaged_of-is file d e in damaged-laid file d re
 -- ---- when something is read
 
 row-many : (file : List ℕ) (b : Before) (at : ℕ) (thing : Thing) (rows : List Row) (frames : List PlacedFrame) → length rows ≡ length frames → length (rows_here file b at thing ++ rows) ≡ length (cons_option (frame_in at thing) frames)
-row-many file b at (IsGap n) rows frames same = same
 row-many file b at (IsItem (Frame h)) rows frames same = ap suc same
-row-many file b at (IsItem _) rows frames same = same
+row-many file b at _ rows frames same = same
 
 rows-many : (file : List ℕ) (b : Before) (ts : List PlacedThing) → length (rows_left file b ts) ≡ length (frames_in ts)
 rows-many file b [] = refl

@@ -1,15 +1,12 @@
 -- With its emptied frames as frames without main data, what is read of a damaged file is laid out as a file without fault.
-use Rattle.std.proofs.Common.{◌≡◌, ℕ, zero, suc, ◌+◌, ◌-◌, ◌≤◌, ◌<◌, ◌==◌, ◌&&◌, ◌||◌, Bool, true, false, cond, List, [], ◌∷◌, ◌++◌, length, map, take, drop, get_or, Option, Some, None, refl, sym, ◌∙◌, ap, ap₂, subst, arith, append_assoc}
-use Rattle.std.specs.Prelude.{slice_get, sum_by, option_map, option_to_list}
+use Rattle.std.proofs.Common.{◌≡◌, ℕ, zero, suc, ◌+◌, ◌-◌, ◌≤◌, ◌<◌, ◌==◌, ◌||◌, Bool, true, false, cond, List, [], ◌∷◌, ◌++◌, length, map, take, drop, get_or, Option, Some, None, refl, sym, ◌∙◌, ap, ap₂, subst, arith, append_assoc, slice_get, sum_by, option_map, option_to_list}
 use Rattle.std.proofs.Math.ListN.{set}
-use Rattle.std.proofs.lemmas.Bool.{le-ltb, and_parts}
+use Rattle.std.proofs.lemmas.Bool.{le-ltb, and_parts, and_right, not-true}
 use Rattle.std.proofs.lemmas.Option.{slice_get-map}
 use Rattle.std.proofs.lemmas.List.{take-map, length-map, drop_more, take_more, set_at, map-append, length-take-le}
-use Rattle.std.proofs.lemmas.List.Sums.{sum_by-cons}
 use Rattle.frame_header.specs.Fields.{ClassFields, IsHeader}
 use Rattle.frame_header.specs.Tables.{class_of, length_of}
-use Rattle.side_info.specs.Side.{no_side, SideFits, payload_bits, payload_bytes}
-use Rattle.side_info.proofs.SideLaws.{SideFits-no_side}
+use Rattle.side_info.specs.Side.{no_side, SideFits, payload_bytes}
 use Rattle.sync_survey.specs.declared.places.Head.{Head}
 use Rattle.sync_survey.specs.Row.{Row}
 use Rattle.sync_survey.specs.declared.survey_fault.SurveyFault.{SurveyFault}
@@ -17,39 +14,16 @@ use Rattle.sync_survey.specs.MainData.{own_area, head_area, place, is_silent, po
 use Rattle.sync_survey.specs.Faults.{overlaps, overruns, data_faults}
 use Rattle.sync_survey.specs.Survey.{AreLaid, IsWellPlaced, AreWellPlaced, IsLaidOut as IsLaidSurvey}
 use Rattle.sync_survey.proofs.RunsLaws.{cons_list}
+pub use Rattle.sync_survey.proofs.EmptiedLaws.{empty_row}
+use Rattle.sync_survey.proofs.EmptiedLaws.{header_by, emptied_true, emptied_false, no_bits, no_bytes, fits_by, some_row, areas_same, laid_emptied}
 use Rattle.salvage.specs.declared.mended.Emptied.{Emptied}
 use Rattle.salvage.specs.Sound.{is_sound}
 use Rattle.salvage.specs.Kept.{kept_end, end_of_kept, AreKeptWell}
 use Rattle.salvage.specs.Progress.{AreOfClass, IsLaidOut}
 use Rattle.salvage.specs.Damaged.{DamagedFields}
 use Rattle.salvage.specs.Mended.{mended_row, mended, emptied_as, emptied_from}
-use Rattle.salvage.proofs.KeptLaws.{not_true}
 
 -- ---- one frame
-
-abbrev pub empty_row : Row → Row
-empty_row r = record r { side = no_side; lost = false }
-
-header_by : (b : Bool) (r : Row) → (cond b (empty_row r) r).header ≡ r.header
-header_by true r = refl
-header_by false r = refl
-
-pub mended-header : (r : Row) → (mended_row r).header ≡ r.header
-mended-header r = header_by r.lost r
-
-mended-true : (r : Row) → r.lost ≡ true → mended_row r ≡ empty_row r
-mended-true r is = ap (λ b. cond b (empty_row r) r) is
-
-mended-false : (r : Row) → r.lost ≡ false → mended_row r ≡ r
-mended-false r is = ap (λ b. cond b (empty_row r) r) is
-
-no_bits : payload_bits no_side ≡ 0
-unfolding payload_bits
-no_bits = refl
-
-pub none-bytes : payload_bytes no_side ≡ 0
-unfolding payload_bytes payload_bits
-none-bytes = refl
 
 -- it has no fault, and isn't lost
 record IsWell (place ended : ℕ) (q : Row) : Type 0 where
@@ -60,30 +34,24 @@ record IsWell (place ended : ℕ) (q : Row) : Type 0 where
 
 well_by : (place ended : ℕ) (r : Row) (lost : Bool) → r.lost ≡ lost → ended ≤ place → (r.lost ≡ false → is_sound place ended r ≡ true) → IsWell place ended (mended_row r)
 well_by place ended r true is before sound =
-    subst (IsWell place ended) (sym (mended-true r is)) (record {
+    subst (IsWell place ended) (sym (emptied_true r is)) (record {
       far = le-ltb place 0 (omega arith);
       apart = le-ltb (place - 0) ended (omega (arith, before));
-      within = le-ltb (place + own_area r.header) ((place - 0) + payload_bytes no_side) (omega (arith, none-bytes));
+      within = le-ltb (place + own_area r.header) ((place - 0) + payload_bytes no_side) (omega (arith, no_bytes));
       kept = refl;
     })
 well_by place ended r false is before sound =
     let parts = and_parts _ _ (sound is) in
     let front = and_parts _ _ parts.0 in
-    subst (IsWell place ended) (sym (mended-false r is)) (record { far = not_true _ front.0; apart = not_true _ front.1; within = not_true _ parts.1; kept = is })
+    subst (IsWell place ended) (sym (emptied_false r is)) (record { far = not-true _ front.0; apart = not-true _ front.1; within = not-true _ parts.1; kept = is })
 
 no_faults : (lacks far apart within : Bool) (x y z : SurveyFault) → far ≡ false → apart ≡ false → within ≡ false → cond lacks [] (cond far (x ∷ []) [] ++ cond apart (y ∷ []) [] ++ cond within (z ∷ []) []) ≡ []
 no_faults true far apart within x y z no_far no_apart no_within = refl
-no_faults false true apart within x y z no_far no_apart no_within = absurd cc
-no_faults false false true within x y z no_far no_apart no_within = absurd cc
-no_faults false false false true x y z no_far no_apart no_within = absurd cc
 no_faults false false false false x y z no_far no_apart no_within = refl
-
-none_lacks : (zero far : Bool) → far ≡ false → (zero && far) ≡ false
-none_lacks true far is = is
-none_lacks false far is = refl
+no_faults false _ _ _ x y z no_far no_apart no_within = absurd cc
 
 well-unmarked : (place ended : ℕ) (q : Row) → IsWell place ended q → q.lost ≡ lacks_data place ended q
-well-unmarked place ended q well = well.kept ∙ sym (none_lacks (ended == 0) (points_too_far place q) well.far)
+well-unmarked place ended q well = well.kept ∙ sym (and_right (ended == 0) (points_too_far place q) well.far)
 
 well-sound : (place ended : ℕ) (q : Row) → IsWell place ended q → data_faults place ended q ≡ []
 well-sound place ended q well = no_faults (lacks_data place ended q) (points_too_far place q) (overlaps place ended q) (overruns place q) _ _ _ well.far well.apart well.within
@@ -95,27 +63,21 @@ or_none false lacks is = is
 
 behind_by : (place ended : ℕ) (r : Row) (lost : Bool) → r.lost ≡ lost → IsWell place ended (mended_row r) → end_behind place ended (Some (mended_row r)) ≡ kept_end place ended (Some r)
 behind_by place ended r true is well =
-    ap (λ q. end_behind place ended (Some q)) (mended-true r is)
+    ap (λ q. end_behind place ended (Some q)) (emptied_true r is)
     ∙ ap (λ n. cond ((n == 0) || lacks_data place ended (empty_row r)) ended (end_of_data place (empty_row r))) no_bits
     ∙ sym (ap (λ b. cond (b || is_silent r) ended (end_of_data place r)) is)
 behind_by place ended r false is well =
-    let own = subst (IsWell place ended) (mended-false r is) well in
-    ap (λ q. end_behind place ended (Some q)) (mended-false r is)
-    ∙ ap (λ b. cond b ended (end_of_data place r)) (or_none (is_silent r) (lacks_data place ended r) (none_lacks (ended == 0) (points_too_far place r) own.far))
+    let own = subst (IsWell place ended) (emptied_false r is) well in
+    ap (λ q. end_behind place ended (Some q)) (emptied_false r is)
+    ∙ ap (λ b. cond b ended (end_of_data place r)) (or_none (is_silent r) (lacks_data place ended r) (and_right (ended == 0) (points_too_far place r) own.far))
     ∙ sym (ap (λ b. cond (b || is_silent r) ended (end_of_data place r)) is)
 
 -- ---- all frames
 
-areas-same : (rows : List Row) → sum_by (λ (q : Row). own_area q.header) (map mended_row rows) ≡ sum_by (λ (q : Row). own_area q.header) rows
-areas-same [] = refl
-areas-same (r ∷ rows) =
-    let area = λ (q : Row). own_area q.header in
-    sum_by-cons area (mended_row r) (map mended_row rows) ∙ ap₂ (λ m n. own_area m + n) (mended-header r) (areas-same rows) ∙ sym (sum_by-cons area r rows)
-
 pub place-same : (head : Option Head) (rows : List Row) (i : ℕ) → place head (map mended_row rows) i ≡ place head rows i
 unfolding place
 place-same head rows i =
-    ap (λ l. head_area head + sum_by (λ (q : Row). own_area q.header) l) (take-map mended_row i rows) ∙ ap (λ n. head_area head + n) (areas-same (take i rows))
+    ap (λ l. head_area head + sum_by (λ (q : Row). own_area q.header) l) (take-map mended_row i rows) ∙ ap (λ n. head_area head + n) (areas_same (take i rows))
 
 -- the frames have headers of the standard and are of the class, and their side fields are within their bits
 pub record IsFitting (class : ClassFields) (r : Row) : Type 0 where
@@ -150,29 +112,21 @@ module _ (head : Option Head) (rows : List Row) (kept : AreKeptWell head rows) w
       ∙ behind-at i (slice_get rows i) refl
 
   module _ (class : ClassFields) (are : AreFitting class rows) where
-    fits_by : (r : Row) (lost : Bool) → r.lost ≡ lost → SideFits class r.side → SideFits class (mended_row r).side
-    fits_by r true is fits = subst (λ (q : Row). SideFits class q.side) (sym (mended-true r is)) (SideFits-no_side class)
-    fits_by r false is fits = subst (λ (q : Row). SideFits class q.side) (sym (mended-false r is)) fits
-
     placed-at : (i : ℕ) (r : Row) → slice_get rows i ≡ Some r → IsWellPlaced head class (map mended_row rows) i (mended_row r)
     placed-at i r found =
         let own = fitting-at class rows i r are found in
         let well = well-at i r found in
         record {
-          known = subst IsHeader (sym (mended-header r)) own.known;
-          class_is = ap class_of (mended-header r) ∙ own.class_is;
-          fits = fits_by r r.lost refl own.fits;
+          known = subst IsHeader (sym (header_by r.lost r)) own.known;
+          class_is = ap class_of (header_by r.lost r) ∙ own.class_is;
+          fits = fits_by class r r.lost refl own.fits;
           mark = well-unmarked (place head rows i) (end_of_kept head rows i) (mended_row r) well ∙ ap₂ (λ m n. lacks_data m n (mended_row r)) (sym (place-same head rows i)) (sym (end-same i));
           sound = ap₂ (λ m n. data_faults m n (mended_row r)) (place-same head rows i) (end-same i) ∙ well-sound (place head rows i) (end_of_kept head rows i) (mended_row r) well;
         }
 
-    some-row : (o : Option Row) (q : Row) → option_map mended_row o ≡ Some q → (r : Row) × (o ≡ Some r) × (mended_row r ≡ q)
-    some-row None q e = absurd cc
-    some-row (Some r) q e = (r, refl, cc)
-
     pub placed-mended : AreWellPlaced head class (map mended_row rows)
     placed-mended i q found =
-        let own = some-row (slice_get rows i) q (sym (slice_get-map mended_row rows i) ∙ found) in
+        let own = some_row (slice_get rows i) q (sym (slice_get-map mended_row rows i) ∙ found) in
         subst (IsWellPlaced head class (map mended_row rows) i) own.2 (placed-at i own.0 own.1)
 
 fitting_laid : (class : ClassFields) (from to : ℕ) (rows : List Row) → AreOfClass class rows → AreLaid from rows to → AreFitting class rows
@@ -180,22 +134,13 @@ fitting_laid class from to [] are laid = tt
 fitting_laid class from to (r ∷ rows) are laid =
     (record { known = are.0; class_is = are.1; fits = subst (λ c. SideFits c r.side) are.1 laid.1 }, fitting_laid class (r.offset + length_of (class_of r.header) r.header.slot) to rows are.2 laid.2)
 
-laid_one : (from to : ℕ) (r : Row) (rows : List Row) (b : Bool) → from ≤ r.offset → SideFits (class_of r.header) r.side → AreLaid (r.offset + length_of (class_of r.header) r.header.slot) rows to → AreLaid from (cond b (empty_row r) r ∷ rows) to
-laid_one from to r rows true low fits rest = (low, SideFits-no_side (class_of r.header), rest)
-laid_one from to r rows false low fits rest = (low, fits, rest)
-
-laid-mended : (from to : ℕ) (rows : List Row) → AreLaid from rows to → AreLaid from (map mended_row rows) to
-laid-mended from to [] laid = laid
-laid-mended from to (r ∷ rows) laid =
-    laid_one from to r (map mended_row rows) r.lost laid.0 laid.1 (laid-mended (r.offset + length_of (class_of r.header) r.header.slot) to rows laid.2)
-
 pub survey-mended : (d : DamagedFields) → IsLaidOut d → IsLaidSurvey (mended d.survey)
 survey-mended d laid = record {
   junk = laid.junk;
   first = laid.first;
   head = laid.head;
   some = omega (arith, laid.some, length-map d.survey.frames mended_row);
-  frames = laid-mended d.survey.first d.survey.length d.survey.frames laid.frames;
+  frames = laid_emptied d.survey.first d.survey.length d.survey.frames laid.frames;
   blocks = laid.blocks;
   few = laid.long;
   placed = placed-mended d.survey.head d.survey.frames laid.kept d.survey.class (fitting_laid d.survey.class d.survey.first d.survey.length d.survey.frames laid.class laid.frames);
@@ -219,9 +164,8 @@ mended_step rows now i d new within is one =
   where
     at_end : (front : List Row) (x : Row) (rest : List Row) (i : ℕ) → length front ≡ i → get_or (front ++ (x ∷ rest)) i d ≡ x
     at_end [] x rest zero e = refl
-    at_end [] x rest (suc i) e = absurd (omega (arith, e))
-    at_end (y ∷ front) x rest zero e = absurd (omega (arith, e))
     at_end (y ∷ front) x rest (suc i) e = at_end front x rest i (omega (arith, e))
+    at_end _ x rest _ e = absurd (omega (arith, e))
 
 -- ---- where none becomes an empty one
 
@@ -234,4 +178,4 @@ pub mended_none : (number : ℕ) (rows : List Row) → emptied_from number rows 
 mended_none number [] none = refl
 mended_none number (r ∷ rows) none =
     let parts = none_lost number r (emptied_from (number + 1) rows) r.lost refl (sym (cons_list (emptied_as number r) (emptied_from (number + 1) rows)) ∙ none) in
-    ap₂ (λ (x : Row) xs. x ∷ xs) (mended-false r parts.0) (mended_none (number + 1) rows parts.1)
+    ap₂ (λ (x : Row) xs. x ∷ xs) (emptied_false r parts.0) (mended_none (number + 1) rows parts.1)

@@ -1,6 +1,5 @@
 -- One thing more is read.
-use Rattle.std.proofs.Common.{◌≡◌, ℕ, zero, suc, ◌+◌, ◌-◌, ◌<◌, ◌≤◌, ◌==◌, Bool, true, false, cond, ltb, List, [], ◌∷◌, ◌++◌, length, drop, Option, Some, None, Ok, Err, refl, sym, ◌∙◌, ap, ap₂, subst, arith, append-nil}
-use Rattle.std.specs.Prelude.{option_to_list, slice_get}
+use Rattle.std.proofs.Common.{◌≡◌, ℕ, ◌+◌, ◌-◌, ◌<◌, ◌≤◌, ◌==◌, Bool, true, false, cond, ltb, List, [], ◌∷◌, ◌++◌, length, drop, Option, Some, None, Ok, Err, refl, sym, ◌∙◌, ap, ap₂, subst, arith, append-nil, option_to_list, slice_get, IfSome}
 use Rattle.std.specs.List.{prefix_len}
 use Rattle.frame_header.specs.Fields.{HeaderFields, ClassFields, IsHeader}
 use Rattle.frame_header.specs.Tables.{class_of}
@@ -35,7 +34,7 @@ use Rattle.salvage.specs.Steps.{admits_item}
 use Rattle.salvage.specs.Progress.{class_in, BeginsSo, whole_of, told_of, IsReadTo, GapsAreLaid, AreOfClass, IsLaidTo, IsLaidOut}
 use Rattle.salvage.specs.Damaged.{DamagedFields, damaged_from, unless_too_many, counted, with_number, damaged_by, damaged, damaged_of, most_frames}
 use Rattle.std.proofs.lemmas.Bool.{ltb-true, and_parts}
-use Rattle.std.specs.Prelude.{IfSome}
+use Rattle.std.proofs.lemmas.Option.{slice_get_past}
 use Rattle.sync_survey.specs.declared.places.Head.{Head}
 use Rattle.sync_survey.specs.declared.runs.Part.TheVariants.{Front}
 use Rattle.sync_survey.specs.Runs.{run, blocks_of}
@@ -240,14 +239,9 @@ first_none file front_end front none = ap (λ n. damaged_by file n (first_frame 
 pub no_first : (file : List ℕ) (front_end : ℕ) → front_end ≡ front_end_of file → length file ≤ longest_file → first_frame file front_end ≡ None → damaged_of file ≡ Err (NoFrame front_end)
 no_first file front_end front few none = damaged_of-short file few ∙ first_none file front_end front none
 
-past_end : (rows : List Row) (n : ℕ) → length rows ≤ n → slice_get rows n ≡ None
-past_end [] n few = refl
-past_end (r ∷ rows) zero few = absurd (omega (arith, few))
-past_end (r ∷ rows) (suc n) few = past_end rows n (omega (arith, few))
-
 pub few_counted : (front_end : ℕ) (rows : List Row) (d : DamagedFields) → (rows ≡ [] → ⊥) → length rows ≤ most_frames → counted front_end rows d ≡ Ok d
 few_counted front_end [] d some few = absurd (some refl)
-few_counted front_end (r ∷ rows) d some few = ap (λ o. unless_too_many o d) (past_end (r ∷ rows) most_frames few)
+few_counted front_end (r ∷ rows) d some few = ap (λ o. unless_too_many o d) (slice_get_past (r ∷ rows) most_frames few)
 
 -- what the code tells is what is read
 told_is : (file : List ℕ) (b : Begun) (found : Found) → BeginsSo file b → length file ≡ b.size → IsReadWhole file b found → whole_of file b ≡ told_of b found

@@ -21,11 +21,8 @@ module _ (name : List ℕ) (files : Files) (before after : Counts) (fault : Surv
   ReadCause kind = IsUnreadBy name files before after (end_of fault) (RefusesDamaged name files before after fault) kind
 
   cause_by : (kind : InputKind) → SurveyCause kind → (kind ≡ IsRefused → RefusesDamaged name files before after fault) → ReadCause kind
-  cause_by IsAbsent is refused = is
-  cause_by IsUnread is refused = is
-  cause_by IsShorter is refused = is
-  cause_by IsTooMuch is refused = is
   cause_by IsRefused is refused = refused refl
+  cause_by _ is refused = is
 
   -- a call failed, the file became shorter, or there is no memory
   pub outside_refusal : IsRefusal name files 0 before after fault → IsFromOutside fault → IsReadRefusal name files before after fault

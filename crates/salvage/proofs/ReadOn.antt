@@ -1,6 +1,5 @@
 -- How a damaged file is read on, by an item that is read at the offset that was reached.
-use Rattle.std.specs.Prelude.{MatchResult, OnOk}
-use Rattle.std.proofs.Common.{◌≡◌, ℕ, ◌+◌, ◌≤◌, true, List, length, Some, Result, ◌⊎◌, inl, inr, sym, subst, arith}
+use Rattle.std.proofs.Common.{◌≡◌, ℕ, ◌+◌, ◌≤◌, true, List, length, Some, Result, ◌⊎◌, inl, inr, sym, subst, arith, MatchResult, OnOk}
 use Rattle.outside.specs.Files.{Holds}
 use Rattle.outside.specs.Feed.{Fed}
 use Rattle.outside.specs.Seen.{Seen}

@@ -1,6 +1,5 @@
 -- What is known of a result, by its cases.
-use Rattle.std.proofs.Common.{Result, Ok, Err}
-use Rattle.std.specs.Prelude.{MatchResult, OnOk, IfOk, IfErr}
+use Rattle.std.proofs.Common.{Result, Ok, Err, MatchResult, OnOk, IfOk, IfErr}
 
 pub on_both : {T E : Type 0} (r : Result T E) (P : T → Type 0) (Q : E → Type 0) (A B : Type 0) → MatchResult r P Q → OnOk r B → ((x : T) → P x → B → A) → OnOk r A
 on_both (Ok x) P Q A B is other then = then x is other

@@ -1,6 +1,6 @@
 -- What the bytes of a frame say before its header is read.
-use Rattle.std.proofs.Common.{◌≡◌, ◌≢◌, ℕ, zero, suc, ◌+◌, ◌-◌, ◌*◌, ◌/◌, ◌%◌, ◌^◌, ◌<◌, ◌≤◌, ◌&&◌, ◌||◌, ◌==◌, ◌⊎◌, inl, inr, eqb, Bool, true, false, cond, not, List, [], ◌∷◌, length, take, drop, get_or, None, Ok, Err, refl, sym, ◌∙◌, ap, ap₂, subst, arith, codes, lit<, take_all, length-drop}
-use Rattle.std.proofs.lemmas.Bool.{false≢true, eqb-true, eqb-false, eq-eqb, ne_eqb, and_parts}
+use Rattle.std.proofs.Common.{◌≡◌, ◌≢◌, ℕ, zero, suc, ◌+◌, ◌-◌, ◌*◌, ◌/◌, ◌%◌, ◌^◌, ◌<◌, ◌≤◌, ◌&&◌, ◌||◌, ◌==◌, ◌⊎◌, inl, inr, eqb, Bool, true, false, cond, not, List, [], ◌∷◌, length, take, drop, get_or, None, Ok, Err, refl, sym, ◌∙◌, ap, ap₂, subst, arith, codes, lit<, is_some, option_map}
+use Rattle.std.proofs.lemmas.Bool.{false≢true, eqb-true, eqb-false, eq-eqb, ne_eqb, and_parts, not-true, and_from, or_cases, and_right}
 use Rattle.std.proofs.lemmas.List.{get_or-take, get_or-drop, drop-drop, length-take}
 use Rattle.std.proofs.lemmas.Slice.Eq.{bytes_eq-Decides}
 use Rattle.bit_fields.specs.Bits.{bits, number}
@@ -22,7 +22,6 @@ use Rattle.sync_survey.specs.declared.items.Item.{Item}
 use Rattle.sync_survey.specs.declared.items.Item.TheVariants.{Frame, Block, End}
 use Rattle.sync_survey.specs.Items.{Stands, header_front, item_front}
 use Rattle.sync_survey.specs.Start.{is_anchor}
-use Rattle.std.specs.Prelude.{is_some, option_map}
 use Rattle.std.specs.Str.{bytes_eq}
 use Rattle.side_info.specs.CheckWord.{check_word_of}
 use Rattle.side_info.specs.Side.{side_at}
@@ -98,19 +97,14 @@ record Says (bytes : List ℕ) (h : HeaderFields) : Type 0 where
   pub protected : h.protected ≡ eqb (get_or bytes 1 0 % 2) 0
   pub mode : h.mode ≡ get_or bytes 3 0 / 64
 
-pub is_not : (b : Bool) → not b ≡ true → b ≡ false
-is_not true e = absurd (false≢true e)
-is_not false e = refl
-
 record Read (h : List ℕ) (fields : HeaderFields) : Type 0 where
   pub readable : is_readable h ≡ true
   pub some : rate_bits h ≢ 0
   pub is : header_fields h ≡ fields
 
 read_cases : (h : List ℕ) (r z : Bool) (fields : HeaderFields) → is_readable h ≡ r → eqb (rate_bits h) 0 ≡ z → cond r (cond z (Err FreeHeader) (Ok (header_fields h))) (Err No) ≡ Ok fields → Read h fields
-read_cases h false z fields is none e = absurd cc
-read_cases h true true fields is none e = absurd cc
 read_cases h true false fields is none e = record { readable = is; some = eqb-false _ _ none; is = cc }
+read_cases h _ _ fields is none e = absurd cc
 
 read_in : (h : List ℕ) (fields : HeaderFields) → header_in h ≡ Ok fields → Read h fields
 unfolding header_in
@@ -133,9 +127,9 @@ module _ (a b c d : ℕ) (rest : List ℕ) (a_few : a < 256) (b_few : b < 256) (
       let rate = rate_is a b c d a_few b_few c_few d_few in record {
         first = omega (arith, sync, a_few, b_few);
         sync = omega (arith, sync, a_few, b_few);
-        version_not = λ e. eqb-false _ _ (is_not _ marks.1) (version ∙ e);
+        version_not = λ e. eqb-false _ _ (not-true _ marks.1) (version ∙ e);
         layer = sym (layer_is a b c d a_few b_few c_few d_few) ∙ eqb-true _ _ front.1;
-        rate_not = λ e. eqb-false _ _ (is_not _ first.1) (rate ∙ e);
+        rate_not = λ e. eqb-false _ _ (not-true _ first.1) (rate ∙ e);
         rate_some = λ e. read.some (rate ∙ e);
         version = ap (λ (f : HeaderFields). f.version) (sym read.is) ∙ ap version_said version;
         rate = ap (λ (f : HeaderFields). f.slot.rate_index) (sym read.is) ∙ rate;
@@ -145,10 +139,6 @@ module _ (a b c d : ℕ) (rest : List ℕ) (a_few : a < 256) (b_few : b < 256) (
         mode = ap (λ (f : HeaderFields). f.mode) (sym read.is) ∙ mode_is a b c d a_few b_few c_few d_few;
       }
 
--- all bytes from a place on
-pub rest_is : (xs : List ℕ) (k : ℕ) → take (length xs - k) (drop k xs) ≡ drop k xs
-rest_is xs k = take_all (length xs - k) (drop k xs) (omega (arith, length-drop k xs))
-
 abbrev pub AreFew : List ℕ → Type 0
 AreFew bytes = (i : ℕ) → get_or bytes i 0 < 256
 
@@ -156,11 +146,8 @@ pub few_behind : (xs : List ℕ) (k : ℕ) → AreFew xs → AreFew (drop k xs)
 few_behind xs k few = λ i. subst (λ n. n < 256) (sym (get_or-drop k xs i 0)) (few (k + i))
 
 says : (bytes : List ℕ) (h : HeaderFields) → AreFew bytes → 4 ≤ length bytes → header_at (take 4 bytes) ≡ Ok h → Says bytes h
-says [] h few many e = absurd (omega (arith, many))
-says (a ∷ []) h few many e = absurd (omega (arith, many))
-says (a ∷ b ∷ []) h few many e = absurd (omega (arith, many))
-says (a ∷ b ∷ c ∷ []) h few many e = absurd (omega (arith, many))
 says (a ∷ b ∷ c ∷ d ∷ rest) h few many e = says_four a b c d rest (few 0) (few 1) (few 2) (few 3) h (read_at (a ∷ b ∷ c ∷ d ∷ []) h e)
+says _ h few many e = absurd (omega (arith, many))
 
 header_says : (bytes : List ℕ) (h : HeaderFields) → AreFew bytes → header_front bytes ≡ Ok h → Says bytes h
 header_says bytes h few e =
@@ -209,9 +196,8 @@ entry v t v_few t_few =
 
 padded : (v : Version) (f r n : ℕ) → n < 2 → length_by v f r (eqb n 1) ≡ length_by v f r false + n
 unfolding length_of rate_of frequency_of
-padded v f r zero few = omega arith
-padded v f r (suc zero) few = omega arith
 padded v f r (suc (suc n)) few = absurd (omega (arith, few))
+padded v f r _ few = omega arith
 
 pub length_told : (second third : ℕ) → second < 256 → third < 256 → get_or LENGTHS (second / 8 % 4 * 64 + third / 4) 0 + third / 2 % 2 ≡ length_said second third
 unfolding length_said
@@ -224,17 +210,12 @@ length_told second third second_few third_few =
 -- ---- what may be an anchor
 
 numbered : (n : ℕ) → n < 4 → n ≢ 1 → version_number (version_said n) ≡ n
-numbered zero few not_one = refl
 numbered (suc zero) few not_one = absurd (not_one refl)
-numbered (suc (suc zero)) few not_one = refl
-numbered (suc (suc (suc zero))) few not_one = refl
 numbered (suc (suc (suc (suc n)))) few not_one = absurd (omega (arith, few))
+numbered _ few not_one = refl
 
 version_number_said : (bytes : List ℕ) (h : HeaderFields) → Says bytes h → version_number h.version ≡ get_or bytes 1 0 / 8 % 4
 version_number_said bytes h s = ap version_number s.version ∙ numbered (get_or bytes 1 0 / 8 % 4) (omega arith) s.version_not
-
-and_true : (x y : Bool) → x ≡ true → y ≡ true → (x && y) ≡ true
-and_true x y a b = ap₂ (λ (x y : Bool). x && y) a b
 
 not_zero : (m n : ℕ) → m ≢ n → not (eqb m n) ≡ true
 not_zero m n e = ap not (ne_eqb m n e)
@@ -255,8 +236,8 @@ follows own next h g o n e =
     let third = sym n.frequency ∙ same.1 ∙ o.frequency in
     let fourth : channels_said (get_or next 3 0) ≡ channels_said (get_or own 3 0) =
     ap (λ m. cond (eqb m 3) 1 2) (sym n.mode) ∙ same.2 ∙ ap (λ m. cond (eqb m 3) 1 2) o.mode in
-    and_true _ _
-    (and_true _ _ (and_true _ _ (and_true _ _ (eq-eqb _ _ n.first) (eq-eqb _ _ second)) (eq-eqb _ _ third)) (and_true _ _ (not_zero _ _ n.rate_some) (not_zero _ _ n.rate_not)))
+    and_from _ _
+    (and_from _ _ (and_from _ _ (and_from _ _ (eq-eqb _ _ n.first) (eq-eqb _ _ second)) (eq-eqb _ _ third)) (and_from _ _ (not_zero _ _ n.rate_some) (not_zero _ _ n.rate_not)))
     (eq-eqb _ _ fourth)
 
 -- a byte of a text that the bytes begin with
@@ -305,9 +286,8 @@ not_anchor own next h own_few next_few many is bare letters = by_item (item_fron
 -- ---- a check word that is wrong
 
 side_cases : (first lower : Bool) (channels : ℕ) → side_bytes_of (cond first One (cond lower Two TwoFive)) channels ≡ cond first (cond (eqb channels 1) 17 32) (cond (eqb channels 1) 9 17)
-side_cases true lower channels = refl
 side_cases false true channels = refl
-side_cases false false channels = refl
+side_cases _ _ channels = refl
 
 side_is : (bytes : List ℕ) (h : HeaderFields) → Says bytes h → side_size_of (class_of h) ≡ side_said (get_or bytes 1 0) (get_or bytes 3 0)
 unfolding side_size_of
@@ -315,10 +295,6 @@ side_is bytes h s =
     let version = get_or bytes 1 0 / 8 % 4 in
     ap₂ (λ (v : Version) (m : ℕ). side_bytes_of v (cond (eqb m 3) 1 2)) s.version s.mode
     ∙ side_cases (eqb version 3) (eqb version 2) (channels_said (get_or bytes 3 0))
-
-either : (a b : Bool) → (a || b) ≡ true → (a ≡ true) ⊎ (b ≡ true)
-either true b e = inl refl
-either false b e = inr e
 
 letter_of : (at : ℕ) (frame text : List ℕ) → 0 < length text → bytes_eq (take 4 (drop at frame)) text ≡ true → get_or frame at 0 ≡ get_or text 0 0
 letter_of at frame text some is =
@@ -332,7 +308,7 @@ letter_by at frame (inr info) = ap may_begin_text (letter_of at frame (codes "In
 
 text_begins : (at : ℕ) (frame : List ℕ) → has_text at frame ≡ true → may_begin_text (get_or frame at 0) ≡ true
 unfolding has_text
-text_begins at frame is = letter_by at frame (either _ _ is)
+text_begins at frame is = letter_by at frame (or_cases _ _ is)
 
 text_cases : (at size : ℕ) (own : List ℕ) → may_begin_text (get_or own at 0) ≡ false → (b : Bool) → has_text at (take size own) ≡ b → b ≡ false
 text_cases at size own none true is =
@@ -343,10 +319,6 @@ text_cases at size own none false is = refl
 
 no_text : (at size : ℕ) (own : List ℕ) → may_begin_text (get_or own at 0) ≡ false → has_text at (take size own) ≡ false
 no_text at size own none = text_cases at size own none (has_text at (take size own)) refl
-
-no_second : (a b : Bool) → b ≡ false → (a && b) ≡ false
-no_second true b is = is
-no_second false b is = refl
 
 low_is : (side : ℕ) (h : HeaderFields) → side_size_of (class_of h) ≡ side → low_place h ≡ 4 + side
 unfolding low_place
@@ -382,14 +354,14 @@ module _ (own : List ℕ) (few : AreFew own) (side right : ℕ) (side_said_is : 
       let same : side_size_of (class_of h) ≡ side = side_is own h s ∙ sym side_said_is in
       let none : head_text_of h (take size own) ≡ None =
       head_text_of-none h (take size own) (no_text (low_place h) size own (ap (λ n. may_begin_text (get_or own n 0)) (low_is side h same) ∙ low))
-      (no_second h.protected _ (no_text (high_place h) size own (ap (λ n. may_begin_text (get_or own n 0)) (high_is side h same) ∙ high))) in
+      (and_right h.protected _ (no_text (high_place h) size own (ap (λ n. may_begin_text (get_or own n 0)) (high_is side h same) ∙ high))) in
       ap (λ o. is_some (option_map (headed offset h) o)) none
 
   pub unusable_word : IsUnusable own
   unusable_word First offset h e =
       let s = header_says own h few e in
       ap₂ (λ (a b : Bool). a || b) (wrong_word h e s) (no_head offset h s)
-  unusable_word (Later class) offset h e = no_second (same_class (class_of h) class) _ (wrong_word h e (header_says own h few e))
+  unusable_word (Later class) offset h e = and_right (same_class (class_of h) class) _ (wrong_word h e (header_says own h few e))
 
 -- ---- a frame that has no anchor, or isn't usable
 

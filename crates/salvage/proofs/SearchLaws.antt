@@ -1,6 +1,6 @@
 -- The next usable frame.
-use Rattle.std.proofs.Common.{◌≡◌, ℕ, zero, suc, ◌+◌, ◌-◌, ◌<◌, ◌≤◌, ◌&&◌, ◌⊎◌, leb, Bool, true, false, cond, inl, inr, List, [], ◌∷◌, length, drop, get_or, Option, Some, None, Result, Ok, Err, refl, sym, ◌∙◌, ap, ap₂, subst, arith}
-use Rattle.std.proofs.lemmas.Bool.{false≢true, leb-true, leb-false}
+use Rattle.std.proofs.Common.{◌≡◌, ℕ, zero, suc, ◌+◌, ◌-◌, ◌<◌, ◌≤◌, ◌⊎◌, leb, Bool, true, false, cond, inl, inr, List, [], ◌∷◌, length, drop, get_or, Option, Some, None, Result, Ok, Err, refl, sym, ◌∙◌, ap, ap₂, subst, arith, option_and_then, IfOk}
+use Rattle.std.proofs.lemmas.Bool.{false≢true, leb-true, leb-false, and_right}
 use Rattle.frame_header.specs.Fields.{HeaderFields}
 use Rattle.frame_header.specs.Tables.{class_of, length_of}
 use Rattle.sync_survey.specs.declared.items.Item.{Item}
@@ -19,17 +19,12 @@ use Rattle.salvage.specs.Walk.{item_read, first_frame}
 use Rattle.salvage.specs.Steps.{may_begin, IsBare}
 use Rattle.salvage.proofs.UsableLaws.{usable_behind}
 use Rattle.salvage.proofs.SaidLaws.{header_begins}
-use Rattle.std.specs.Prelude.{option_and_then, IfOk}
 use Rattle.std.specs.Option.{option_or}
 use Rattle.outside.specs.Files.{Files, Holds}
 use Rattle.sync_survey.specs.declared.survey_fault.SurveyFault.{SurveyFault}
 use Rattle.sync_survey.specs.Runs.{frame_as}
 
 -- ---- no usable anchored frame
-
-no_second : (a b : Bool) → b ≡ false → (a && b) ≡ false
-no_second true b is = is
-no_second false b is = refl
 
 pub not_usable : (file : List ℕ) (role : Role) (at : ℕ) → anchored_frame file at ≡ None → usable_anchored file role at ≡ None
 unfolding usable_anchored
@@ -105,7 +100,7 @@ module _ (file : List ℕ) (at : ℕ) (front : List ℕ) (left : ℕ) (shows : S
       let size = length_of (class_of h) h.slot in
       let place : at + (k + size) ≡ (at + k) + size = omega arith in
       let behind : item_front (drop (k + size) front) ≡ item_at file ((at + k) + size) = item_at-behind file at front left shows (k + size) near ∙ ap (item_at file) place in
-      no_second (fits file (at + k) (Frame h)) (is_anchor (class_of h) (item_at file ((at + k) + size))) (sym (ap (is_anchor (class_of h)) behind) ∙ none)
+      and_right (fits file (at + k) (Frame h)) (is_anchor (class_of h) (item_at file ((at + k) + size))) (sym (ap (is_anchor (class_of h)) behind) ∙ none)
 
   bare_frame : (role : Role) (k : ℕ) (h : HeaderFields) → item_front (drop k front) ≡ Frame h → k + length_of (class_of h) h.slot ≤ 4064
       → (is_anchor (class_of h) (item_front (drop (k + length_of (class_of h) h.slot) front)) ≡ false) ⊎ (is_usable role (record { offset = at + k; header = h }) (drop k front) ≡ false)

@@ -1,6 +1,5 @@
 -- The frames of all runs, judged one after the other.
-use Rattle.std.proofs.Common.{◌≡◌, ℕ, ◌+◌, not, List, [], ◌∷◌, ◌++◌, length, map, Option, None, refl, sym, ◌∙◌, ap, ap₂, arith, append_assoc, length-append}
-use Rattle.std.specs.Prelude.{flat_map}
+use Rattle.std.proofs.Common.{◌≡◌, ℕ, ◌+◌, not, List, [], ◌∷◌, ◌++◌, length, map, Option, None, refl, sym, ◌∙◌, ap, ap₂, arith, append_assoc, length-append, flat_map}
 use Rattle.std.specs.List.{enumerate_from}
 use Rattle.sync_survey.specs.declared.items.Item.TheVariants.{Frame}
 use Rattle.sync_survey.specs.declared.places.Head.{Head}
@@ -66,9 +65,8 @@ runs-from file head runs = ap₂ (λ (a b : List Row). a ++ b) (judged-from head
 
 -- one thing more before the others
 thing_first : (file : List ℕ) (b : Before) (at : ℕ) (thing : Thing) (runs : FrameRuns) → runs_from file b (runs_behind at thing runs) ≡ rows_here file b at thing ++ runs_from file (before_here file b at thing) runs
-thing_first file b at (IsGap n) runs = refl
 thing_first file b at (IsItem (Frame h)) runs = refl
-thing_first file b at (IsItem _) runs = refl
+thing_first file b at _ runs = refl
 
 all_things : (file : List ℕ) (b : Before) (ts : List PlacedThing) → runs_from file b (runs_of ts) ≡ rows_left file b ts
 all_things file b [] = refl

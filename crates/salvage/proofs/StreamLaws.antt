@@ -1,9 +1,9 @@
 -- The stream of what is read, run by run, is that of all frames as a survey tells of them.
-use Rattle.std.proofs.Common.{◌≡◌, ℕ, suc, ◌+◌, ◌-◌, ◌*◌, ◌≤◌, Bool, true, false, cond, not, List, [], ◌∷◌, ◌++◌, length, take, drop, map, Option, Some, None, Ok, refl, sym, ◌∙◌, ap, ap₂, subst, arith, append_assoc, length-append, length-take, length-drop}
-use Rattle.std.specs.Prelude.{flat_map, IfSome}
+use Rattle.std.proofs.Common.{◌≡◌, ℕ, suc, ◌+◌, ◌-◌, ◌*◌, ◌≤◌, Bool, true, false, cond, not, List, [], ◌∷◌, ◌++◌, length, take, drop, map, Option, Some, None, Ok, refl, sym, ◌∙◌, ap, ap₂, subst, arith, append_assoc, length-append, length-take, length-drop, flat_map, IfSome}
 use Rattle.std.specs.List.{enumerate_from}
 use Rattle.std.proofs.lemmas.List.{take-append-le, drop-append-le}
 use Rattle.std.proofs.lemmas.List.Concat.{flat_map-append}
+use Rattle.std.proofs.lemmas.Bool.{not-false}
 use Rattle.bit_fields.specs.Bits.{bits}
 use Rattle.bit_fields.proofs.BitsLaws.{bits-append, length-bits}
 use Rattle.frame_header.specs.Fields.{HeaderFields, ClassFields}
@@ -28,8 +28,9 @@ use Rattle.salvage.specs.Damaged.{DamagedFields, damaged_from, things_from, dama
 use Rattle.sync_survey.specs.Start.{front_end_of}
 use Rattle.sync_survey.specs.Walk.{head_of}
 use Rattle.sync_survey.proofs.StepLaws.{laid_end}
+use Rattle.sync_survey.proofs.EmptiedLaws.{no_bits}
 use Rattle.salvage.proofs.SoundLaws.{judged_from, judged-from}
-use Rattle.salvage.proofs.KeptLaws.{sound_within, not_false}
+use Rattle.salvage.proofs.KeptLaws.{sound_within}
 use Rattle.salvage.proofs.LaidOutLaws.{damaged-from, damaged_of-is, read-laid}
 
 -- ---- frames one after the other
@@ -94,12 +95,8 @@ abbrev AllFit : ℕ → ℕ → List Row → Type 0
 AllFit size place [] = Unit {0}
 AllFit size place (r ∷ rows) = (r.lost ≡ false → Fits size place r) × AllFit size (place + own_area r.header) rows
 
-none_lost : payload_bits no_side ≡ 0
-unfolding payload_bits
-none_lost = refl
-
 pub payload_none : (main : List ℕ) (start : ℕ) → payload_at main start no_side ≡ []
-payload_none main start = ap (λ n. take n (drop (8 * start) (bits main))) none_lost
+payload_none main start = ap (λ n. take n (drop (8 * start) (bits main))) no_bits
 
 frame_among : (before main behind : List ℕ) (place : ℕ) (r : Row) (lost : Bool) → r.lost ≡ lost → (lost ≡ false → Fits (length main) place r) → frame_at (before ++ (main ++ behind)) (length before + place) r ≡ frame_at main place r
 frame_among before main behind place r true is fits =
@@ -131,7 +128,7 @@ areas_judged b (r ∷ rows) = ap (λ n. own_area r.header + n) (areas_judged (be
 fits_by : (size : ℕ) (b : Before) (r : Row) → not (is_sound b.place b.ended r) ≡ false → b.place + own_area r.header ≤ size → Fits size b.place r
 unfolding payload_bytes
 fits_by size b r mark room =
-    let here = sound_within b.place b.ended r (not_false _ mark) in
+    let here = sound_within b.place b.ended r (not-false _ mark) in
     (here.begins, omega (arith, here.ends, room))
 
 judged_fit : (size : ℕ) (b : Before) (rows : List Row) → b.place + areas rows ≤ size → AllFit size b.place (judged_from b rows)

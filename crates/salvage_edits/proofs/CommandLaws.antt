@@ -1,6 +1,5 @@
 -- What the command leaves, by its steps.
-use Rattle.std.proofs.Common.{◌≡◌, ℕ, ◌≤◌, List, [], ◌∷◌, length, Option, Some, None, Result, Ok, Err, refl, sym, ◌∙◌, ap, ap₂, subst, inl, arith}
-use Rattle.std.specs.Prelude.{IfErr, slice_get}
+use Rattle.std.proofs.Common.{◌≡◌, ℕ, ◌≤◌, List, [], ◌∷◌, length, Option, Some, None, Result, Ok, Err, refl, sym, ◌∙◌, ap, ap₂, subst, inl, arith, IfErr, slice_get}
 use Rattle.std.specs.Result.{IsErrAnd}
 use Rattle.std.proofs.lemmas.List.{length-map}
 use Rattle.bit_fields.specs.Bits.{AreBytes}
@@ -104,37 +103,15 @@ module _ (input : List ℕ) where
 
     pub early-fault : (fault : SurveyFault) → IsReadFault input files before counts fault → IsEarlyFault (salvage_task input) (seen files before) (seen after counts) (of_input fault)
     early-fault Absent h = record { defined = refuses-absent files h.0; rose = h.1; files = same }
-    early-fault (TooLong n) h = let r = rejected (TooLong n) h in record { defined = r.0; stays = r.1 }
     early-fault Read h = record { before = before_first files (salvage_task input).makes (Input 0 Read) refl; rose = h; files = same }
     early-fault (Shrunk first second) h = record { ended = record { rose = h.ended; counts = h.counts; untold = h.nothing_told }; files = same }
     early-fault NoRoom h = record { there = h.there; few = h.few; stays = ap₂ seen same h.counts }
-    early-fault (NoFrame at) h = let r = rejected (NoFrame at) h in record { defined = r.0; stays = r.1 }
-    early-fault (LostSync at) h = let r = rejected (LostSync at) h in record { defined = r.0; stays = r.1 }
-    early-fault (Truncated at) h = let r = rejected (Truncated at) h in record { defined = r.0; stays = r.1 }
-    early-fault (FreeFormat at) h = let r = rejected (FreeFormat at) h in record { defined = r.0; stays = r.1 }
-    early-fault (Mixed at) h = let r = rejected (Mixed at) h in record { defined = r.0; stays = r.1 }
-    early-fault (CheckWord at said right) h = let r = rejected (CheckWord at said right) h in record { defined = r.0; stays = r.1 }
-    early-fault (BackPointer at begin present) h = let r = rejected (BackPointer at begin present) h in record { defined = r.0; stays = r.1 }
-    early-fault (Overlap at) h = let r = rejected (Overlap at) h in record { defined = r.0; stays = r.1 }
-    early-fault (Overrun at bits room) h = let r = rejected (Overrun at bits room) h in record { defined = r.0; stays = r.1 }
-    early-fault (TooManyFrames at) h = let r = rejected (TooManyFrames at) h in record { defined = r.0; stays = r.1 }
+    early-fault x h = let r = rejected x h in record { defined = r.0; stays = r.1 }
 
   pub early-numbers : (fault : SurveyFault) → HasRightNumbers fault → IsOfInputs (salvage_task input) (of_input fault)
-  early-numbers Absent h = (omega arith, λ e. absurd cc, h, inl refl)
   early-numbers (TooLong n) h = (omega arith, λ e. absurd cc, h, inl refl)
-  early-numbers Read h = (omega arith, λ e. absurd cc, h, inl refl)
-  early-numbers (Shrunk first second) h = (omega arith, λ e. absurd cc, h, inl refl)
   early-numbers NoRoom h = tt
-  early-numbers (NoFrame at) h = (omega arith, λ e. absurd cc, h, inl refl)
-  early-numbers (LostSync at) h = (omega arith, λ e. absurd cc, h, inl refl)
-  early-numbers (Truncated at) h = (omega arith, λ e. absurd cc, h, inl refl)
-  early-numbers (FreeFormat at) h = (omega arith, λ e. absurd cc, h, inl refl)
-  early-numbers (Mixed at) h = (omega arith, λ e. absurd cc, h, inl refl)
-  early-numbers (CheckWord at said right) h = (omega arith, λ e. absurd cc, h, inl refl)
-  early-numbers (BackPointer at begin present) h = (omega arith, λ e. absurd cc, h, inl refl)
-  early-numbers (Overlap at) h = (omega arith, λ e. absurd cc, h, inl refl)
-  early-numbers (Overrun at bits room) h = (omega arith, λ e. absurd cc, h, inl refl)
-  early-numbers (TooManyFrames at) h = (omega arith, λ e. absurd cc, h, inl refl)
+  early-numbers _ h = (omega arith, λ e. absurd cc, h, inl refl)
 
   -- want of memory, once the input was read
   pub early-memory : (old new : Seen) (d : DamagedFields) → IsThere old.files input → IsReadOf input old.files d → new ≡ old → NeedsMemory input old new

@@ -30,7 +30,8 @@ use Rattle.salvage.specs.Mended.{mended_row, mended}
 use Rattle.salvage.proofs.WalkLaws.{item_read-is}
 use Rattle.salvage.proofs.SoundLaws.{runs-left}
 use Rattle.salvage.proofs.LaidOutLaws.{first_frame-is, damaged-from}
-use Rattle.salvage.proofs.MendedLaws.{empty_row, survey-mended}
+use Rattle.sync_survey.proofs.EmptiedLaws.{empty_row}
+use Rattle.salvage.proofs.MendedLaws.{survey-mended}
 use Rattle.laying.specs.LaidFiles.{HasPairs, IsBlocks, block_bytes}
 use Rattle.laying.proofs.KeptBlocks.{block_more, ends-blocks, blocks-append}
 use Rattle.laying.specs.Surveys.{IsWholeAt, IsWholeRow, AreWholeRows, HasSurvey}
@@ -56,13 +57,8 @@ module _ (file : List ℕ) where
   paired-append (x ∷ xs) ys front back = (front.0, paired-append xs ys front.1 back)
 
   here-paired : (b : Before) (at : ℕ) (thing : Thing) → ArePaired (rows_here file b at thing)
-  here-paired b at (IsGap n) = tt
   here-paired b at (IsItem (Frame h)) = (shaped_pairs (side_in h (drop at file)) (shaped-side_in h (drop at file)), tt)
-  here-paired b at (IsItem Free) = tt
-  here-paired b at (IsItem (Block block)) = tt
-  here-paired b at (IsItem Zero) = tt
-  here-paired b at (IsItem End) = tt
-  here-paired b at (IsItem Nothing) = tt
+  here-paired b at _ = tt
 
   left-paired : (b : Before) (ts : List PlacedThing) → ArePaired (rows_left file b ts)
   left-paired b [] = tt

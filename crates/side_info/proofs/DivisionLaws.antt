@@ -17,24 +17,21 @@ abbrev taken : ℕ → ℕ
 taken bit = bit * polynomial
 
 step_cases : (top bit shifted : ℕ) → top < 2 → bit < 2 → cond (eqb top bit) shifted (bit_xor shifted polynomial) ≡ bit_xor shifted (taken (bit_xor top bit))
-step_cases zero zero shifted ht hb = sym (xor_zero_r shifted)
 step_cases zero (suc zero) shifted ht hb = refl
 step_cases (suc zero) zero shifted ht hb = refl
-step_cases (suc zero) (suc zero) shifted ht hb = sym (xor_zero_r shifted)
 step_cases (suc (suc top)) bit shifted ht hb = absurd (omega arith)
 step_cases zero (suc (suc bit)) shifted ht hb = absurd (omega arith)
 step_cases (suc zero) (suc (suc bit)) shifted ht hb = absurd (omega arith)
+step_cases _ _ shifted ht hb = sym (xor_zero_r shifted)
 
 step-is : (word bit : ℕ) → bit < 2 → bit_step word bit ≡ bit_xor (word * 2 % 65536) (taken (bit_xor (bit_at word 15) bit))
 unfolding bit_step
 step-is word bit h = step_cases (bit_at word 15) bit (word * 2 % 65536) (mod_below (word / 2 ^ 15) 2 (lit< tt)) h
 
 taken-xor : (a b : ℕ) → a < 2 → b < 2 → taken (bit_xor a b) ≡ bit_xor (taken a) (taken b)
-taken-xor zero b ha hb = refl
-taken-xor (suc zero) zero ha hb = refl
-taken-xor (suc zero) (suc zero) ha hb = refl
 taken-xor (suc zero) (suc (suc b)) ha hb = absurd (omega arith)
 taken-xor (suc (suc a)) b ha hb = absurd (omega arith)
+taken-xor _ _ ha hb = refl
 
 -- ---- exclusive or
 xor_four : (a b c d : ℕ) → bit_xor (bit_xor a b) (bit_xor c d) ≡ bit_xor (bit_xor a c) (bit_xor b d)
@@ -317,15 +314,8 @@ remainder-bits_append word xs ys = sym (remainder-append (bits xs) (bits ys) wor
 -- the first eight of some bytes
 pub eight_list : (word : ℕ) (xs : List ℕ) → word < 2 ^ 16 → ((i : ℕ) → get_or xs i 0 < 256) → 8 ≤ length xs
     → bit_xor (bit_xor (bit_xor (bit_xor (bit_xor (bit_xor (bit_xor (get_or (table 7) (bit_xor (word / 256) (get_or xs 0 0)) 0) (get_or (table 6) (bit_xor (word % 256) (get_or xs 1 0)) 0)) (get_or (table 5) (get_or xs 2 0) 0)) (get_or (table 4) (get_or xs 3 0) 0)) (get_or (table 3) (get_or xs 4 0) 0)) (get_or (table 2) (get_or xs 5 0) 0)) (get_or (table 1) (get_or xs 6 0) 0)) (get_or (table 0) (get_or xs 7 0) 0) ≡ remainder word (bits (take 8 xs))
-eight_list word [] small few long = absurd (omega (arith, long))
-eight_list word (a ∷ []) small few long = absurd (omega (arith, long))
-eight_list word (a ∷ b ∷ []) small few long = absurd (omega (arith, long))
-eight_list word (a ∷ b ∷ c ∷ []) small few long = absurd (omega (arith, long))
-eight_list word (a ∷ b ∷ c ∷ d ∷ []) small few long = absurd (omega (arith, long))
-eight_list word (a ∷ b ∷ c ∷ d ∷ e ∷ []) small few long = absurd (omega (arith, long))
-eight_list word (a ∷ b ∷ c ∷ d ∷ e ∷ f ∷ []) small few long = absurd (omega (arith, long))
-eight_list word (a ∷ b ∷ c ∷ d ∷ e ∷ f ∷ g ∷ []) small few long = absurd (omega (arith, long))
 eight_list word (a ∷ b ∷ c ∷ d ∷ e ∷ f ∷ g ∷ h ∷ rest) small few long = sym (remainder-eight word a b c d e f g h small (few 0) (few 1) (few 2) (few 3) (few 4) (few 5) (few 6) (few 7))
+eight_list word _ small few long = absurd (omega (arith, long))
 
 -- eight bytes more
 pub remainder-eight_more : (word : ℕ) (xs : List ℕ) (at : ℕ) → remainder (remainder word (bits (take at xs))) (bits (take 8 (take 8 (drop at xs)))) ≡ remainder word (bits (take (at + 8) xs))
@@ -336,9 +326,6 @@ remainder-eight_more word xs at =
 
 -- the last two of four bytes
 pub two_list : (word : ℕ) (xs : List ℕ) → length xs ≡ 4 → remainder (remainder word (bits_of 8 (get_or xs 2 0))) (bits_of 8 (get_or xs 3 0)) ≡ remainder word (bits (drop 2 xs))
-two_list word [] long = absurd (omega (arith, long))
-two_list word (a ∷ []) long = absurd (omega (arith, long))
-two_list word (a ∷ b ∷ []) long = absurd (omega (arith, long))
-two_list word (a ∷ b ∷ c ∷ []) long = absurd (omega (arith, long))
 two_list word (a ∷ b ∷ c ∷ d ∷ []) long = sym (remainder-pair word c d)
 two_list word (a ∷ b ∷ c ∷ d ∷ e ∷ rest) long = absurd (omega (arith, long))
+two_list word _ long = absurd (omega (arith, long))

@@ -1,5 +1,5 @@
 -- What stays, and what is read back, where other side information is put into a frame.
-use Rattle.std.proofs.Common.{◌≡◌, ℕ, zero, suc, ◌+◌, ◌*◌, ◌^◌, ◌%◌, ◌<◌, ◌≤◌, Bool, true, false, cond, List, [], ◌∷◌, ◌++◌, length, get_or, take, drop, refl, sym, ◌∙◌, ap, ap₂, arith, lit<, append_assoc, length-drop, length-append, take-append-drop}
+use Rattle.std.proofs.Common.{◌≡◌, ℕ, zero, suc, ◌+◌, ◌*◌, ◌^◌, ◌%◌, ◌<◌, ◌≤◌, Bool, true, false, cond, List, [], ◌∷◌, ◌++◌, length, get_or, take, drop, refl, sym, ◌∙◌, ap, ap₂, arith, lit<, append_assoc, length-drop, length-append, take-append-drop, bit_xor}
 use Rattle.std.specs.Int.{to_be_bytes, from_be_bytes, w16}
 use Rattle.std.proofs.lemmas.Nat.{mod_below, xor_lt, from_be_bytes-to_be_bytes_2}
 use Rattle.std.proofs.lemmas.List.{take_at, drop_at, length-take, drop-drop, take-take}
@@ -9,7 +9,6 @@ use Rattle.frame_header.specs.Fields.{HeaderFields, ClassFields, IsClass}
 use Rattle.frame_header.specs.Tables.{class_of, side_size_of, overhead_of}
 use Rattle.side_info.specs.declared.side.Side.{Side}
 use Rattle.side_info.specs.Side.{side_at, side_bits, SideFits}
-use Rattle.std.specs.Prelude.{bit_xor}
 use Rattle.side_info.specs.CheckWord.{polynomial, bit_step, remainder, start_word, check_word_of}
 use Rattle.side_info.specs.Frame.{side_place, side_part, side_in, word_said, word_part, frame_with}
 use Rattle.side_info.proofs.ReadLaws.{side_size-small}

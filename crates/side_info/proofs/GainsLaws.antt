@@ -91,8 +91,7 @@ four_in false one two h k = k
 
 four_widths : (version : Version) (channels : ℕ) → length (front_widths_of version channels) ≡ 4
 four_widths One channels = four_in (eqb channels 1) (9 ∷ 5 ∷ 4 ∷ 0 ∷ []) (9 ∷ 3 ∷ 4 ∷ 4 ∷ []) refl refl
-four_widths Two channels = four_in (eqb channels 1) (8 ∷ 1 ∷ 0 ∷ 0 ∷ []) (8 ∷ 2 ∷ 0 ∷ 0 ∷ []) refl refl
-four_widths TwoFive channels = four_in (eqb channels 1) (8 ∷ 1 ∷ 0 ∷ 0 ∷ []) (8 ∷ 2 ∷ 0 ∷ 0 ∷ []) refl refl
+four_widths _ channels = four_in (eqb channels 1) (8 ∷ 1 ∷ 0 ∷ 0 ∷ []) (8 ∷ 2 ∷ 0 ∷ 0 ∷ []) refl refl
 
 length-front : (version : Version) (channels m p : ℕ) (cs : List ℕ) → length cs ≡ 2 → length (spelled (front_widths_of version channels) (m ∷ p ∷ cs)) ≡ front_size version channels
 length-front version channels m p cs two = length-spelled (front_widths_of version channels) (m ∷ p ∷ cs) (omega (arith, four_widths version channels))

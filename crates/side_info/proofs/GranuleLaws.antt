@@ -20,9 +20,8 @@ is_set-bit_of true = refl
 is_set-bit_of false = refl
 
 pub bit_of-is_set : (bit : ℕ) → bit < 2 → bit_of (is_set bit) ≡ bit
-bit_of-is_set zero h = refl
-bit_of-is_set (suc zero) h = refl
 bit_of-is_set (suc (suc bit)) h = absurd (omega arith)
+bit_of-is_set _ h = refl
 
 pub bit_of-below : (flag : Bool) → bit_of flag < 2
 bit_of-below true = omega arith
@@ -50,8 +49,7 @@ granule_of-numbers g = λ i. record {
 -- preflag is at most one bit
 preflag-below : (version : Version) (n : ℕ) → n < 2 ^ preflag_width version → n < 2
 preflag-below One n h = omega arith
-preflag-below Two n h = omega arith
-preflag-below TwoFive n h = omega arith
+preflag-below _ n h = omega arith
 
 numbers_same : (version : Version) (ns : List ℕ) → Fits (granule_widths version) ns → length ns ≡ 9 → granule_numbers (granule_of ns) ≡ ns
 unfolding granule_of granule_numbers

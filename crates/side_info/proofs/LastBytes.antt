@@ -20,7 +20,7 @@ use Rattle.side_info.specs.Granule.{granule_size, granule_numbers, granule_bits}
 use Rattle.side_info.specs.Side.{front_widths, granule_in, granules_in, side_bits}
 use Rattle.side_info.specs.Frame.{side_place, side_part, side_in, frame_with}
 use Rattle.side_info.proofs.GranuleLaws.{length-flat}
-use Rattle.side_info.proofs.SideLaws.{IsShaped, side_with, each_shaped, each_class, length-side_bits}
+use Rattle.side_info.proofs.SideLaws.{IsShaped, each_class, length-side_bits, each_side}
 use Rattle.side_info.proofs.FrameLaws.{HasRoom, overhead-is, drop-take-append, side_there, side_part-frame_with, area-frame_with, shaped-side_in}
 
 -- ---- after the gain of a granule
@@ -68,35 +68,16 @@ behind_others c ns gs last long =
     ∙ ap (drop (sum (front_widths c) + length gs * granule_size c.version)) (sym (append_assoc front others end))
     ∙ drop_at (front ++ others) end (sum (front_widths c) + length gs * granule_size c.version) size
 
-abbrev EndsWithLast : ClassFields → Side → Type 0
-EndsWithLast c s = drop (8 * side_size_of c - granule_size c.version) (side_bits c s) ≡ granule_bits c.version (last_granule c s)
-
-ends_one_mono : (f m p a b : ℕ) (g h k l : Granule) → EndsWithLast (class_with One f 1) (side_with m p a b g h k l)
-unfolding side_bits granules_in side_size_of
-ends_one_mono f m p a b g h k l = behind_others (class_with One f 1) (m ∷ p ∷ a ∷ b ∷ []) (g ∷ []) k refl
-
-ends_one_stereo : (f m p a b : ℕ) (g h k l : Granule) → EndsWithLast (class_with One f 2) (side_with m p a b g h k l)
-unfolding side_bits granules_in side_size_of
-ends_one_stereo f m p a b g h k l = behind_others (class_with One f 2) (m ∷ p ∷ a ∷ b ∷ []) (g ∷ h ∷ k ∷ []) l refl
-
-ends_two_mono : (f m p a b : ℕ) (g h k l : Granule) → EndsWithLast (class_with Two f 1) (side_with m p a b g h k l)
-unfolding side_bits granules_in side_size_of
-ends_two_mono f m p a b g h k l = behind_others (class_with Two f 1) (m ∷ p ∷ a ∷ b ∷ []) [] g refl
-
-ends_two_stereo : (f m p a b : ℕ) (g h k l : Granule) → EndsWithLast (class_with Two f 2) (side_with m p a b g h k l)
-unfolding side_bits granules_in side_size_of
-ends_two_stereo f m p a b g h k l = behind_others (class_with Two f 2) (m ∷ p ∷ a ∷ b ∷ []) (g ∷ []) h refl
-
-ends_as_two : (f channels : ℕ) (s : Side) → EndsWithLast (class_with Two f channels) s → EndsWithLast (class_with TwoFive f channels) s
-unfolding side_bits granules_in granule_bits side_size_of
-ends_as_two f channels s two = two
-
 -- side information ends with the bits of its last granule and channel
 pub last_granule-side_bits : (c : ClassFields) → IsClass c → (s : Side) → IsShaped s → drop (8 * side_size_of c - granule_size c.version) (side_bits c s) ≡ granule_bits c.version (last_granule c s)
-last_granule-side_bits c class s shaped =
-    each_shaped (EndsWithLast c)
-    (each_class (λ d. (m p a b : ℕ) (g h k l : Granule) → EndsWithLast d (side_with m p a b g h k l)) ends_one_mono ends_one_stereo ends_two_mono ends_two_stereo (λ f channels two m p a b g h k l. ends_as_two f channels (side_with m p a b g h k l) (two m p a b g h k l)) c class)
-    s shaped
+unfolding side_bits granules_in granule_bits side_size_of
+last_granule-side_bits =
+    each_side (λ c s. drop (8 * side_size_of c - granule_size c.version) (side_bits c s) ≡ granule_bits c.version (last_granule c s))
+    (λ f m p a b g h k l. behind_others (class_with One f 1) (m ∷ p ∷ a ∷ b ∷ []) (g ∷ []) k refl)
+    (λ f m p a b g h k l. behind_others (class_with One f 2) (m ∷ p ∷ a ∷ b ∷ []) (g ∷ h ∷ k ∷ []) l refl)
+    (λ f m p a b g h k l. behind_others (class_with Two f 1) (m ∷ p ∷ a ∷ b ∷ []) [] g refl)
+    (λ f m p a b g h k l. behind_others (class_with Two f 2) (m ∷ p ∷ a ∷ b ∷ []) (g ∷ []) h refl)
+    (λ f channels s two. two)
 
 -- ---- the last two bytes
 

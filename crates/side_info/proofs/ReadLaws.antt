@@ -50,8 +50,7 @@ module _ (bs : List ℕ) (begin private first second n : ℕ) (all : AreBits bs)
 -- ---- a granule, from three numbers
 pub size-is : (version : Version) → granule_size version ≡ 54 + compress_width version + preflag_width version
 size-is One = refl
-size-is Two = refl
-size-is TwoFive = refl
+size-is _ = refl
 
 -- preflag is all that is above the two lowest bits
 pub preflag_once : (version : Version) (last : ℕ) → last < 2 ^ (preflag_width version + 2) → last / 4 % 2 ≡ last / 4
@@ -110,9 +109,8 @@ module _ (version : Version) (bs : List ℕ) (at first middle last : ℕ) (all :
 
 pub set_both : {A : Type 0} (xs : List A) (first second : A) → length xs ≡ 2 → slice_set (slice_set xs 0 first) 1 second ≡ first ∷ second ∷ []
 set_both (x ∷ y ∷ []) first second two = refl
-set_both [] first second two = absurd (omega (arith, two))
-set_both (x ∷ []) first second two = absurd (omega (arith, two))
 set_both (x ∷ y ∷ z ∷ xs) first second two = absurd (omega (arith, two))
+set_both _ first second two = absurd (omega (arith, two))
 
 pub pair_of_one : (version : Version) (channels : ℕ) (bs : List ℕ) (first : Granule) → first ≡ granule_at version bs → channels ≡ 1 → first ∷ no_granule ∷ [] ≡ pair_at version channels bs
 pair_of_one version channels bs first is one = rw (one, is) refl
@@ -127,8 +125,7 @@ pair_of_two version channels at width bs first second wide is next two =
 -- ---- the whole, from its parts
 sizes : (version : Version) (channels : ℕ) → side_bytes_of version channels ≤ 32
 sizes One channels = elim (eqb channels 1) as (λ b. cond b 17 32 ≤ 32) [ true ↦ lit≤ tt | false ↦ lit≤ tt ]
-sizes Two channels = elim (eqb channels 1) as (λ b. cond b 9 17 ≤ 32) [ true ↦ lit≤ tt | false ↦ lit≤ tt ]
-sizes TwoFive channels = elim (eqb channels 1) as (λ b. cond b 9 17 ≤ 32) [ true ↦ lit≤ tt | false ↦ lit≤ tt ]
+sizes _ channels = elim (eqb channels 1) as (λ b. cond b 9 17 ≤ 32) [ true ↦ lit≤ tt | false ↦ lit≤ tt ]
 
 -- side information has at most 32 bytes
 pub side_size-small : (c : ClassFields) → side_size_of c ≤ 32

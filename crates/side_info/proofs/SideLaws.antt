@@ -104,6 +104,15 @@ module _ (P : Side → Type 0) (each : (m p a b : ℕ) (g h k l : Granule) → P
   pub each_shaped : (s : Side) → IsShaped s → P s
   each_shaped s shaped = by_scfsi s.main_data_begin s.private_bits s.scfsi s.granules shaped.scfsi shaped.granules shaped.first shaped.second
 
+-- so what holds of the side information of each combination with two of each holds of every one
+pub each_side : (P : ClassFields → Side → Type 0) → ((f m p a b : ℕ) (g h k l : Granule) → P (class_with One f 1) (side_with m p a b g h k l)) → ((f m p a b : ℕ) (g h k l : Granule) → P (class_with One f 2) (side_with m p a b g h k l))
+    → ((f m p a b : ℕ) (g h k l : Granule) → P (class_with Two f 1) (side_with m p a b g h k l)) → ((f m p a b : ℕ) (g h k l : Granule) → P (class_with Two f 2) (side_with m p a b g h k l))
+    → ((f channels : ℕ) (s : Side) → P (class_with Two f channels) s → P (class_with TwoFive f channels) s) → (c : ClassFields) → IsClass c → (s : Side) → IsShaped s → P c s
+each_side P one_mono one_stereo two_mono two_stereo as_two c class s shaped =
+    each_shaped (P c)
+    (each_class (λ d. (m p a b : ℕ) (g h k l : Granule) → P d (side_with m p a b g h k l)) one_mono one_stereo two_mono two_stereo (λ f channels two m p a b g h k l. as_two f channels (side_with m p a b g h k l) (two m p a b g h k l)) c class)
+    s shaped
+
 -- the side information of these numbers of the fields before the granules, and these granules
 unfoldable built : ClassFields → List ℕ → List ℕ → Side
 built c front bs = record {
@@ -167,15 +176,12 @@ fits_two f channels s fits = record { main_data_begin = fits.main_data_begin; pr
 fits_two_five : (f channels : ℕ) (s : Side) → SideFits (class_with Two f channels) s → SideFits (class_with TwoFive f channels) s
 fits_two_five f channels s fits = record { main_data_begin = fits.main_data_begin; private_bits = fits.private_bits; scfsi = fits.scfsi; granules = fits.granules }
 
-back_as_two : (f channels m p a b : ℕ) (g h k l : Granule) → GivesBack (class_with Two f channels) (side_with m p a b g h k l) → GivesBack (class_with TwoFive f channels) (side_with m p a b g h k l)
+back_as_two : (f channels : ℕ) (s : Side) → GivesBack (class_with Two f channels) s → GivesBack (class_with TwoFive f channels) s
 unfolding side_at side_bits granules_in granule_at granule_bits
-back_as_two f channels m p a b g h k l two fits = two (fits_two f channels (side_with m p a b g h k l) fits)
+back_as_two f channels s two fits = two (fits_two f channels s fits)
 
 pub side_at-side_bits : (c : ClassFields) → IsClass c → (s : Side) → IsShaped s → SideFits c s → side_at c (side_bits c s) ≡ s
-side_at-side_bits c class s shaped =
-    each_shaped (GivesBack c)
-    (each_class (λ d. (m p a b : ℕ) (g h k l : Granule) → GivesBack d (side_with m p a b g h k l)) back_one_mono back_one_stereo back_two_mono back_two_stereo (λ f channels two m p a b g h k l. back_as_two f channels m p a b g h k l (two m p a b g h k l)) c class)
-    s shaped
+side_at-side_bits = each_side GivesBack back_one_mono back_one_stereo back_two_mono back_two_stereo back_as_two
 
 -- ---- what side information and bits are
 pub AreBits-side_bits : (c : ClassFields) (s : Side) → AreBits (side_bits c s)
@@ -184,40 +190,21 @@ AreBits-side_bits c s =
     AreBelow-append 2 (spelled (front_widths c) (s.main_data_begin ∷ s.private_bits ∷ s.scfsi)) (flat_map (granule_bits c.version) (granules_in c s))
     (AreBits-spelled (front_widths c) (s.main_data_begin ∷ s.private_bits ∷ s.scfsi)) (AreBits-flat c.version (granules_in c s))
 
-abbrev Long : ClassFields → Side → Type 0
-Long c s = length (side_bits c s) ≡ 8 * side_size_of c
-
 -- the numbers of the fields before the granules that the class has, and the granules
 long : (c : ClassFields) (ns : List ℕ) (gs : List Granule) → length ns ≡ length (front_widths c) → length (spelled (front_widths c) ns ++ flat_map (granule_bits c.version) gs) ≡ sum (front_widths c) + length gs * granule_size c.version
 long c ns gs l =
     length-append (spelled (front_widths c) ns) (flat_map (granule_bits c.version) gs)
     ∙ ap₂ (λ m n. m + n) (length-spelled (front_widths c) ns l) (length-flat c.version gs)
 
-long_one_mono : (f m p a b : ℕ) (g h k l : Granule) → Long (class_with One f 1) (side_with m p a b g h k l)
-unfolding side_bits granules_in side_size_of
-long_one_mono f m p a b g h k l = long (class_with One f 1) (m ∷ p ∷ a ∷ b ∷ []) (g ∷ k ∷ []) refl
-
-long_one_stereo : (f m p a b : ℕ) (g h k l : Granule) → Long (class_with One f 2) (side_with m p a b g h k l)
-unfolding side_bits granules_in side_size_of
-long_one_stereo f m p a b g h k l = long (class_with One f 2) (m ∷ p ∷ a ∷ b ∷ []) (g ∷ h ∷ k ∷ l ∷ []) refl
-
-long_two_mono : (f m p a b : ℕ) (g h k l : Granule) → Long (class_with Two f 1) (side_with m p a b g h k l)
-unfolding side_bits granules_in side_size_of
-long_two_mono f m p a b g h k l = long (class_with Two f 1) (m ∷ p ∷ a ∷ b ∷ []) (g ∷ []) refl
-
-long_two_stereo : (f m p a b : ℕ) (g h k l : Granule) → Long (class_with Two f 2) (side_with m p a b g h k l)
-unfolding side_bits granules_in side_size_of
-long_two_stereo f m p a b g h k l = long (class_with Two f 2) (m ∷ p ∷ a ∷ b ∷ []) (g ∷ h ∷ []) refl
-
-long_as_two : (f channels : ℕ) (s : Side) → Long (class_with Two f channels) s → Long (class_with TwoFive f channels) s
-unfolding side_bits granules_in granule_bits side_size_of
-long_as_two f channels s two = two
-
 pub length-side_bits : (c : ClassFields) → IsClass c → (s : Side) → IsShaped s → length (side_bits c s) ≡ 8 * side_size_of c
-length-side_bits c class s shaped =
-    each_shaped (Long c)
-    (each_class (λ d. (m p a b : ℕ) (g h k l : Granule) → Long d (side_with m p a b g h k l)) long_one_mono long_one_stereo long_two_mono long_two_stereo (λ f channels two m p a b g h k l. long_as_two f channels (side_with m p a b g h k l) (two m p a b g h k l)) c class)
-    s shaped
+unfolding side_bits granules_in granule_bits side_size_of
+length-side_bits =
+    each_side (λ c s. length (side_bits c s) ≡ 8 * side_size_of c)
+    (λ f m p a b g h k l. long (class_with One f 1) (m ∷ p ∷ a ∷ b ∷ []) (g ∷ k ∷ []) refl)
+    (λ f m p a b g h k l. long (class_with One f 2) (m ∷ p ∷ a ∷ b ∷ []) (g ∷ h ∷ k ∷ l ∷ []) refl)
+    (λ f m p a b g h k l. long (class_with Two f 1) (m ∷ p ∷ a ∷ b ∷ []) (g ∷ []) refl)
+    (λ f m p a b g h k l. long (class_with Two f 2) (m ∷ p ∷ a ∷ b ∷ []) (g ∷ h ∷ []) refl)
+    (λ f channels s two. two)
 
 pub IsShaped-side_at : (c : ClassFields) (bs : List ℕ) → IsShaped (side_at c bs)
 unfolding side_at
@@ -263,15 +250,24 @@ scfsi_fit c a b ha hb zero = ha
 scfsi_fit c a b ha hb (suc zero) = hb
 scfsi_fit c a b ha hb (suc (suc channel)) = pow_pos (front_width c (2 + suc (suc channel)))
 
+abbrev pub FrontFits : ClassFields → Side → Type 0
+FrontFits c s = (s.main_data_begin < 2 ^ front_width c 0) × (s.private_bits < 2 ^ front_width c 1) × (get_or s.scfsi 0 0 < 2 ^ front_width c 2) × (get_or s.scfsi 1 0 < 2 ^ front_width c 3)
+
+abbrev pub PairFits : ClassFields → Side → ℕ → Type 0
+PairFits c s granule = FitsAt c s granule 0 × FitsAt c s granule 1
+
+fits_with : (c : ClassFields) (m p a b : ℕ) (g h k l : Granule) → FrontFits c (side_with m p a b g h k l) → PairFits c (side_with m p a b g h k l) 0 → PairFits c (side_with m p a b g h k l) 1 → SideFits c (side_with m p a b g h k l)
+fits_with c m p a b g h k l front first second = record {
+  main_data_begin = front.0;
+  private_bits = front.1;
+  scfsi = scfsi_fit c a b front.2 front.3;
+  granules = granules_fit c m p a b g h k l first.0 first.1 second.0 second.1;
+}
+
 -- fields that fit in the front, and granules that fit
 fits_by : (c : ClassFields) (m p a b : ℕ) (g h k l : Granule) → (m < 2 ^ front_width c 0) × ((p < 2 ^ front_width c 1) × ((a < 2 ^ front_width c 2) × ((b < 2 ^ front_width c 3) × Unit {0})))
     → FitsAt c (side_with m p a b g h k l) 0 0 → FitsAt c (side_with m p a b g h k l) 0 1 → FitsAt c (side_with m p a b g h k l) 1 0 → FitsAt c (side_with m p a b g h k l) 1 1 → SideFits c (side_with m p a b g h k l)
-fits_by c m p a b g h k l front x0 x1 x2 x3 = record {
-  main_data_begin = front.0;
-  private_bits = front.1.0;
-  scfsi = scfsi_fit c a b front.1.1.0 front.1.1.1.0;
-  granules = granules_fit c m p a b g h k l x0 x1 x2 x3;
-}
+fits_by c m p a b g h k l front x0 x1 x2 x3 = fits_with c m p a b g h k l (front.0, front.1.0, front.1.1.0, front.1.1.1.0) (x0, x1) (x2, x3)
 
 fits_one_mono : (f : ℕ) (bs : List ℕ) → AreBits bs → SideFits (class_with One f 1) (side_at (class_with One f 1) bs)
 unfolding side_at numbers_at
@@ -330,20 +326,6 @@ pub div_ceil-eight : (n : ℕ) → div_ceil n 8 ≡ (n + 7) / 8
 div_ceil-eight n = grind arith
 
 -- ---- what fits, by parts
-abbrev pub FrontFits : ClassFields → Side → Type 0
-FrontFits c s = (s.main_data_begin < 2 ^ front_width c 0) × (s.private_bits < 2 ^ front_width c 1) × (get_or s.scfsi 0 0 < 2 ^ front_width c 2) × (get_or s.scfsi 1 0 < 2 ^ front_width c 3)
-
-abbrev pub PairFits : ClassFields → Side → ℕ → Type 0
-PairFits c s granule = FitsAt c s granule 0 × FitsAt c s granule 1
-
-fits_with : (c : ClassFields) (m p a b : ℕ) (g h k l : Granule) → FrontFits c (side_with m p a b g h k l) → PairFits c (side_with m p a b g h k l) 0 → PairFits c (side_with m p a b g h k l) 1 → SideFits c (side_with m p a b g h k l)
-fits_with c m p a b g h k l front first second = record {
-  main_data_begin = front.0;
-  private_bits = front.1;
-  scfsi = scfsi_fit c a b front.2 front.3;
-  granules = granules_fit c m p a b g h k l first.0 first.1 second.0 second.1;
-}
-
 pub SideFits-from_parts : (c : ClassFields) (s : Side) → IsShaped s → FrontFits c s → PairFits c s 0 → PairFits c s 1 → SideFits c s
 SideFits-from_parts c = each_shaped (λ s. FrontFits c s → PairFits c s 0 → PairFits c s 1 → SideFits c s) (fits_with c)
 

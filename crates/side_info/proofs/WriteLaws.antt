@@ -31,23 +31,19 @@ bool_byte-is false = refl
 granule_joined : (version : Version) (g : Granule) → ((g.part2_3_length * 131072 + g.big_values * 256 + g.global_gain) * 2 ^ (compress_width version + 23) + (g.scalefac_compress * 8388608 + bit_of g.window_switching * 4194304 + g.detail)) * 2 ^ (preflag_width version + 2) + (bit_of g.preflag * 4 + bit_of g.scalefac_scale * 2 + bit_of g.count1table_select) ≡ joined (granule_widths version) (granule_numbers g)
 unfolding joined granule_numbers
 granule_joined One g = omega arith
-granule_joined Two g = omega arith
-granule_joined TwoFive g = omega arith
+granule_joined _ g = omega arith
 
 granule_most : (version : Version) → 2 ^ granule_size version ≤ 2 ^ 63
 granule_most One = lit≤ tt
-granule_most Two = lit≤ tt
-granule_most TwoFive = lit≤ tt
+granule_most _ = lit≤ tt
 
 compress_most : (version : Version) → compress_width version ≤ 9
 compress_most One = lit≤ tt
-compress_most Two = lit≤ tt
-compress_most TwoFive = lit≤ tt
+compress_most _ = lit≤ tt
 
 pub preflag_most : (version : Version) → preflag_width version ≤ 1
 preflag_most One = lit≤ tt
-preflag_most Two = lit≤ tt
-preflag_most TwoFive = lit≤ tt
+preflag_most _ = lit≤ tt
 
 -- those before preflag
 abbrev upper_of : Version → Granule → ℕ
@@ -57,8 +53,7 @@ upper_of version g =
 
 upper_below : (version : Version) (g : Granule) → GranuleFits version g → upper_of version g < 2 ^ 64
 upper_below One g fits = omega (arith, fits.part2_3_length, fits.big_values, fits.global_gain, fits.scalefac_compress, fits.detail, bit_of-below g.window_switching)
-upper_below Two g fits = omega (arith, fits.part2_3_length, fits.big_values, fits.global_gain, fits.scalefac_compress, fits.detail, bit_of-below g.window_switching)
-upper_below TwoFive g fits = omega (arith, fits.part2_3_length, fits.big_values, fits.global_gain, fits.scalefac_compress, fits.detail, bit_of-below g.window_switching)
+upper_below _ g fits = omega (arith, fits.part2_3_length, fits.big_values, fits.global_gain, fits.scalefac_compress, fits.detail, bit_of-below g.window_switching)
 
 pub upper_fits : (version : Version) (g : Granule) → GranuleFits version g → (compress first middle : ℕ) → compress ≡ compress_width version
     → first ≡ g.part2_3_length * 131072 + g.big_values * 256 + g.global_gain → middle ≡ g.scalefac_compress * 8388608 + bit_of g.window_switching * 4194304 + g.detail
@@ -102,8 +97,7 @@ front_of_one version channels e = ap (front_widths_of version) (sym e)
 
 pub front_of_two : (version : Version) (channels : ℕ) → (channels ≡ 1 → ⊥) → front_widths_of version 2 ≡ front_widths_of version channels
 front_of_two One channels h = let test : eqb channels 1 ≡ false = ne_eqb channels 1 h in rw test refl
-front_of_two Two channels h = let test : eqb channels 1 ≡ false = ne_eqb channels 1 h in rw test refl
-front_of_two TwoFive channels h = let test : eqb channels 1 ≡ false = ne_eqb channels 1 h in rw test refl
+front_of_two _ channels h = let test : eqb channels 1 ≡ false = ne_eqb channels 1 h in rw test refl
 
 pub front_spelled : (begin private first second : ℕ) (ws : List ℕ) → begin ∷ private ∷ first ∷ second ∷ [] ≡ ws → (m p : ℕ) (cs : List ℕ) (n : ℕ) → m < 2 ^ get_or ws 0 0 → p < 2 ^ get_or ws 1 0 → ((k : ℕ) → get_or cs k 0 < 2 ^ get_or ws (2 + k) 0) → length cs ≡ 2
     → n ≡ joined (begin ∷ private ∷ first ∷ second ∷ []) (m ∷ p ∷ get_or cs 0 0 ∷ get_or cs 1 0 ∷ []) → bits_of (sum ws) n ≡ spelled ws (m ∷ p ∷ cs)
@@ -223,8 +217,7 @@ module _ (gs hs : List Granule) (front a b : ℕ) (gs_two : length gs ≡ 2) (hs
 -- a granule of 63 bits where there is but one granule
 pub size_of_two : (version : Version) → granules_of version ≡ 1 → granule_size version ≡ 63
 size_of_two One one = absurd (omega arith)
-size_of_two Two one = refl
-size_of_two TwoFive one = refl
+size_of_two _ one = refl
 
 -- ---- the bytes of each class
 pub size_one : (version : Version) (channels n : ℕ) → version ≡ One → channels ≡ n → side_size_of (class_with version 0 channels) ≡ side_size_of (class_with One 0 n)

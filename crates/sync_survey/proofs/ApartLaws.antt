@@ -1,33 +1,27 @@
 -- Frames that are lost when the head is set apart. In a file without fault these are the frames whose main data begin before the areas of the
 -- frames before them, the head's left out; and all others have their main data in the areas without the head's.
-use Rattle.std.proofs.Common.{◌≡◌, ℕ, zero, suc, ◌+◌, ◌-◌, ◌<◌, ◌≤◌, ◌==◌, ◌&&◌, ◌||◌, Bool, true, false, cond, List, [], ◌∷◌, ◌++◌, length, map, take, drop, get_or, Option, Some, None, refl, sym, ◌∙◌, ap, ap₂, subst, arith, append_assoc}
-use Rattle.std.specs.Prelude.{slice_get, sum_by, option_map}
+use Rattle.std.proofs.Common.{◌≡◌, ℕ, zero, suc, ◌+◌, ◌-◌, ◌<◌, ◌≤◌, ◌==◌, ◌||◌, Bool, true, false, cond, List, [], ◌∷◌, map, take, Option, Some, None, refl, sym, ◌∙◌, ap, ap₂, subst, arith, slice_get, sum_by}
 use Rattle.std.specs.List.{enumerate_from}
-use Rattle.std.proofs.Math.ListN.{set}
-use Rattle.std.proofs.lemmas.Bool.{eq-eqb, eqb-true, lt-ltb, le-ltb, ltb-true, ltb-false, and_parts}
+use Rattle.std.proofs.lemmas.Bool.{eq-eqb, eqb-true, lt-ltb, le-ltb, ltb-true, ltb-false, and_parts, and_from, and_right}
 use Rattle.std.proofs.lemmas.List.Sums.{sum_by-cons}
 use Rattle.frame_header.specs.Fields.{ClassFields}
-use Rattle.side_info.specs.Side.{payload_bits, payload_bytes}
+use Rattle.side_info.specs.Side.{payload_bytes}
 use Rattle.sync_survey.specs.declared.places.Head.{Head}
 use Rattle.sync_survey.specs.Row.{Row}
 use Rattle.sync_survey.specs.MainData.{own_area, head_area, is_silent, points_too_far, lacks_data, end_of_data, end_behind, place, end_before, is_lost, marked_row, marked}
-use Rattle.sync_survey.specs.Faults.{overlaps, overruns, data_faults}
+use Rattle.sync_survey.specs.Faults.{data_faults}
 use Rattle.sync_survey.specs.HeadApart.{apart_row, apart_rows, set_apart}
 use Rattle.sync_survey.specs.Laws.{AreSilentOrLost}
 use Rattle.sync_survey.specs.Survey.{IsWellPlaced, AreWellPlaced}
-use Rattle.sync_survey.proofs.LostFrames.{loud-end, none-empty, empty-none}
+use Rattle.sync_survey.proofs.LostFrames.{none-empty}
 use Rattle.sync_survey.proofs.SurveyParts.{StandWell, data-none_well}
 use Rattle.sync_survey.proofs.PlacedRows.{placed_by, place-marked, end-marked, found-marked, from_some}
 
 -- ---- one frame
 
-both_true : (a b : Bool) → a ≡ true → b ≡ true → (a && b) ≡ true
-both_true true b e f = f
-both_true false b e f = absurd cc
-
 -- its main data begin before the areas, and none end before it
 lacks_by : (place ended : ℕ) (r : Row) → ended ≡ 0 → place < r.side.main_data_begin → lacks_data place ended r ≡ true
-lacks_by place ended r none far = both_true (ended == 0) (points_too_far place r) (eq-eqb ended 0 none) (lt-ltb place r.side.main_data_begin far)
+lacks_by place ended r none far = and_from (ended == 0) (points_too_far place r) (eq-eqb ended 0 none) (lt-ltb place r.side.main_data_begin far)
 
 record Lacks (place ended : ℕ) (r : Row) : Type 0 where
   none : ended ≡ 0
@@ -117,14 +111,13 @@ module _ (area at ended other : ℕ) (r : Row) (less : other ≤ ended - area) (
 
   less_by : (silent lost lost_apart : Bool) → is_silent r ≡ silent → lacks_data (area + at) ended r ≡ lost → lacks_data at other r ≡ lost_apart
       → cond (silent || lost_apart) other (end_of_data at r) ≤ cond (silent || lost) ended (end_of_data (area + at) r) - area
-  less_by true lost lost_apart silent is apart = less
-  less_by false true true silent is apart = less
   less_by false true false silent is apart =
       let had = lacks_parts (area + at) ended r is in
       let begins = near apart in
       absurd (omega (arith, had.far, begins))
   less_by false false true silent is apart = let stands = well is in omega (arith, less, stands.apart)
   less_by false false false silent is apart = let begins = near apart in omega (arith, begins)
+  less_by _ _ _ silent is apart = less
 
   less_behind : end_behind at other (Some r) ≤ end_behind (area + at) ended (Some r) - area
   less_behind = less_by (is_silent r) (lacks_data (area + at) ended r) (lacks_data at other r) refl refl refl
@@ -219,7 +212,7 @@ near_stays rows n [] near = refl
 near_stays rows n (x ∷ xs) near =
     let here : x.side.main_data_begin ≤ place None rows n = omega (arith, near zero x refl, ap (place None rows) (the_same n)) in
     ap₂ (λ (b : Bool) (l : List Row). record x { lost = b } ∷ l)
-    (ap (λ b. x.lost || b) (none_far (end_before None rows n == 0) (points_too_far (place None rows n) x) (le-ltb (place None rows n) x.side.main_data_begin here)) ∙ or_false x.lost)
+    (ap (λ b. x.lost || b) (and_right (end_before None rows n == 0) (points_too_far (place None rows n) x) (le-ltb (place None rows n) x.side.main_data_begin here)) ∙ or_false x.lost)
     (near_stays rows (n + 1) xs (λ i r is. subst (λ m. r.side.main_data_begin ≤ place None rows m) (next_same n i) (near (suc i) r is)))
   where
     the_same : (n : ℕ) → n + 0 ≡ n
@@ -227,10 +220,6 @@ near_stays rows n (x ∷ xs) near =
 
     next_same : (n i : ℕ) → n + suc i ≡ (n + 1) + i
     next_same n i = omega arith
-
-    none_far : (none far : Bool) → far ≡ false → (none && far) ≡ false
-    none_far true far is = is
-    none_far false far is = refl
 
     or_false : (b : Bool) → (b || false) ≡ b
     or_false true = refl

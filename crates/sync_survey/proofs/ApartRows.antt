@@ -1,6 +1,5 @@
 -- The loops that mark the frames that are lost without a head, and that make lost frames empty ones.
-use Rattle.std.proofs.Common.{◌≡◌, ℕ, zero, suc, ◌+◌, ◌-◌, ◌<◌, ◌≤◌, ◌==◌, ◌&&◌, ◌||◌, Bool, true, false, cond, List, [], ◌∷◌, ◌++◌, length, map, take, drop, get_or, Option, Some, None, refl, sym, ◌∙◌, ap, ap₂, subst, arith, append_assoc, ltb}
-use Rattle.std.specs.Prelude.{slice_get, min, ◌^◌}
+use Rattle.std.proofs.Common.{◌≡◌, ℕ, zero, suc, ◌+◌, ◌-◌, ◌<◌, ◌≤◌, ◌==◌, ◌&&◌, ◌||◌, Bool, true, false, cond, List, [], ◌∷◌, ◌++◌, length, map, take, drop, get_or, Option, Some, None, refl, sym, ◌∙◌, ap, ap₂, subst, arith, append_assoc, ltb, slice_get, min, ◌^◌}
 use Rattle.std.specs.List.{enumerate_from}
 use Rattle.std.proofs.Math.ListN.{set}
 use Rattle.std.proofs.Math.Nat.{min-le_left, min-eq_left, min-eq_right}
@@ -17,9 +16,8 @@ use Rattle.sync_survey.proofs.LostFrames.{loud-end, none-empty, empty-none}
 
 at_end : (front : List Row) (x : Row) (rest : List Row) (i : ℕ) (d : Row) → length front ≡ i → get_or (front ++ (x ∷ rest)) i d ≡ x
 at_end [] x rest zero d e = refl
-at_end [] x rest (suc i) d e = absurd (omega (arith, e))
-at_end (y ∷ front) x rest zero d e = absurd (omega (arith, e))
 at_end (y ∷ front) x rest (suc i) d e = at_end front x rest i d (omega (arith, e))
+at_end _ x rest _ d e = absurd (omega (arith, e))
 
 module _ (rows now front : List Row) (i : ℕ) (d : Row) (size : length front ≡ i) (within : i < length rows) (is : now ≡ front ++ drop i rows) where
   split : now ≡ front ++ (get_or rows i d ∷ drop (i + 1) rows)
@@ -183,9 +181,8 @@ module _ (rows : List Row) where
         }
 
     loud_end : (silent far : Bool) → is_silent here ≡ silent → (silent || far) ≡ false → 1 ≤ cond (silent || far) 0 (end_of_data (place None rows i) here)
-    loud_end true far is kept = absurd cc
-    loud_end false true is kept = absurd cc
     loud_end false false is kept = loud-end (place None rows i) here is
+    loud_end _ _ is kept = absurd cc
 
     -- it has main data that aren't lost, and no later one is lost
     pub marked-last : (is_silent (get_or now i d) || points_too_far areas (get_or now i d)) ≡ false → set now i new ≡ apart_rows rows

@@ -1,6 +1,5 @@
 -- The faults of bytes: all but those of a file that isn't there, is too long, or can't be read.
-use Rattle.std.proofs.Common.{◌≡◌, ℕ, ◌+◌, Bool, true, false, cond, not, List, [], ◌∷◌, ◌++◌, drop, Option, Some, None, Result, Ok, Err, refl, subst}
-use Rattle.std.specs.Prelude.{◌==◌, flat_map, option_to_list}
+use Rattle.std.proofs.Common.{◌≡◌, ℕ, ◌+◌, Bool, true, false, cond, not, List, [], ◌∷◌, ◌++◌, drop, Option, Some, None, Result, Ok, Err, refl, subst, ◌==◌, flat_map, option_to_list}
 use Rattle.std.specs.List.{enumerate_from}
 use Rattle.frame_header.specs.Fields.{ClassFields}
 use Rattle.frame_header.specs.Tables.{class_of}
@@ -93,9 +92,8 @@ stop_of_bytes : (at : ℕ) (item : Item) (fault : SurveyFault) → fault_at at i
 stop_of_bytes at (Frame h) fault is = let same : Truncated at ≡ fault = cc in subst IsOfBytes same tt
 stop_of_bytes at Free fault is = let same : FreeFormat at ≡ fault = cc in subst IsOfBytes same tt
 stop_of_bytes at (Block b) fault is = let same : Truncated at ≡ fault = cc in subst IsOfBytes same tt
-stop_of_bytes at Zero fault is = let same : LostSync at ≡ fault = cc in subst IsOfBytes same tt
 stop_of_bytes at End fault is = absurd cc
-stop_of_bytes at Nothing fault is = let same : LostSync at ≡ fault = cc in subst IsOfBytes same tt
+stop_of_bytes at _ fault is = let same : LostSync at ≡ fault = cc in subst IsOfBytes same tt
 
 last_of_bytes : (file : List ℕ) (frames : List PlacedFrame) (o : Option SurveyFault) → ((fault : SurveyFault) → o ≡ Some fault → IsOfBytes fault) → AreOfBytes (option_to_list (end_fault file frames o))
 last_of_bytes file frames (Some fault) own = (own fault refl, tt)

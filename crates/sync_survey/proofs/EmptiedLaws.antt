@@ -1,9 +1,8 @@
 -- With its lost frames as frames without main data, a survey is laid out as that of a file without fault; and so it is where the head was set
 -- apart.
-use Rattle.std.proofs.Common.{◌≡◌, ℕ, zero, suc, ◌+◌, ◌-◌, ◌<◌, ◌≤◌, ◌==◌, ◌&&◌, ◌||◌, Bool, true, false, cond, List, [], ◌∷◌, length, map, take, Option, Some, None, refl, sym, ◌∙◌, ap, ap₂, subst, arith}
-use Rattle.std.specs.Prelude.{slice_get, sum_by, option_map}
+use Rattle.std.proofs.Common.{◌≡◌, ℕ, zero, suc, ◌+◌, ◌-◌, ◌≤◌, ◌==◌, ◌||◌, Bool, true, false, cond, List, [], ◌∷◌, length, map, take, Option, Some, None, refl, sym, ◌∙◌, ap, ap₂, subst, arith, slice_get, sum_by, option_map}
 use Rattle.std.specs.List.{enumerate_from}
-use Rattle.std.proofs.lemmas.Bool.{le-ltb, ltb-false}
+use Rattle.std.proofs.lemmas.Bool.{le-ltb, and_right}
 use Rattle.std.proofs.lemmas.Option.{slice_get-map}
 use Rattle.std.proofs.lemmas.List.{take-map, length-map}
 use Rattle.std.proofs.lemmas.List.FromFn.{length-enumerate_from}
@@ -14,8 +13,8 @@ use Rattle.side_info.specs.Side.{no_side, payload_bits, payload_bytes, SideFits}
 use Rattle.side_info.proofs.SideLaws.{SideFits-no_side}
 use Rattle.sync_survey.specs.declared.places.Head.{Head}
 use Rattle.sync_survey.specs.Row.{Row}
-use Rattle.sync_survey.specs.MainData.{own_area, head_area, is_silent, points_too_far, lacks_data, end_of_data, end_behind, place, end_before, marked}
-use Rattle.sync_survey.specs.Faults.{SurveyFields, overlaps, overruns, data_faults}
+use Rattle.sync_survey.specs.MainData.{own_area, head_area, is_silent, points_too_far, lacks_data, end_of_data, end_behind, place, end_before}
+use Rattle.sync_survey.specs.Faults.{SurveyFields, data_faults}
 use Rattle.sync_survey.specs.HeadApart.{apart_row, apart_rows, set_apart, head_apart, emptied_row, emptied}
 use Rattle.sync_survey.specs.Survey.{AreLaid, IsWellPlaced, AreWellPlaced, IsLaidOut}
 use Rattle.sync_survey.proofs.SurveyParts.{data-none_well}
@@ -23,30 +22,26 @@ use Rattle.sync_survey.proofs.ApartLaws.{Stands, stands_by, sound-by, area-more,
 
 -- ---- one frame
 
-abbrev empty_row : Row → Row
+abbrev pub empty_row : Row → Row
 empty_row r = record r { side = no_side; lost = false }
 
-header_by : (b : Bool) (r : Row) → (cond b (empty_row r) r).header ≡ r.header
+pub header_by : (b : Bool) (r : Row) → (cond b (empty_row r) r).header ≡ r.header
 header_by true r = refl
 header_by false r = refl
 
-emptied_true : (r : Row) → r.lost ≡ true → emptied_row r ≡ empty_row r
+pub emptied_true : (r : Row) → r.lost ≡ true → emptied_row r ≡ empty_row r
 emptied_true r is = ap (λ b. cond b (empty_row r) r) is
 
-emptied_false : (r : Row) → r.lost ≡ false → emptied_row r ≡ r
+pub emptied_false : (r : Row) → r.lost ≡ false → emptied_row r ≡ r
 emptied_false r is = ap (λ b. cond b (empty_row r) r) is
 
-no_bits : payload_bits no_side ≡ 0
+pub no_bits : payload_bits no_side ≡ 0
 unfolding payload_bits
 no_bits = refl
 
-no_bytes : payload_bytes no_side ≡ 0
+pub no_bytes : payload_bytes no_side ≡ 0
 unfolding payload_bytes payload_bits
 no_bytes = refl
-
-none_lacks : (none far : Bool) → far ≡ false → (none && far) ≡ false
-none_lacks true far is = is
-none_lacks false far is = refl
 
 -- What is so before an area of the file, and before the same area among those that were counted at first: `ended` and `other` are where the
 -- main data end, and the latter no further on.
@@ -66,7 +61,7 @@ module _ (more at ended other : ℕ) (r : Row) (less : other ≤ more + ended) (
   stands_emptied = stands_emptied_by r.lost refl
 
   none_lost : lacks_data (more + at) other (emptied_row r) ≡ false
-  none_lost = none_lacks (other == 0) (points_too_far (more + at) (emptied_row r)) (le-ltb (more + at) (emptied_row r).side.main_data_begin stands_emptied.begins)
+  none_lost = and_right (other == 0) (points_too_far (more + at) (emptied_row r)) (le-ltb (more + at) (emptied_row r).side.main_data_begin stands_emptied.begins)
 
   kept_by : (lost : Bool) → r.lost ≡ lost → (emptied_row r).lost ≡ false
   kept_by true is = ap (λ (q : Row). q.lost) (emptied_true r is)
@@ -93,9 +88,17 @@ module _ (more at ended other : ℕ) (r : Row) (less : other ≤ more + ended) (
       (subst (λ b. Goes (cond (is_silent r || r.lost) ended (end_of_data at r)) (cond (is_silent (emptied_row r) || b) other (end_of_data (more + at) (emptied_row r)))) (sym none_lost)
       (goes_by (is_silent r) r.lost refl refl))
 
+pub fits_by : (class : ClassFields) (r : Row) (lost : Bool) → r.lost ≡ lost → SideFits class r.side → SideFits class (emptied_row r).side
+fits_by class r true is fits = subst (λ (q : Row). SideFits class q.side) (sym (emptied_true r is)) (SideFits-no_side class)
+fits_by class r false is fits = subst (λ (q : Row). SideFits class q.side) (sym (emptied_false r is)) fits
+
+pub some_row : (o : Option Row) (q : Row) → option_map emptied_row o ≡ Some q → (r : Row) × (o ≡ Some r) × (emptied_row r ≡ q)
+some_row None q e = absurd cc
+some_row (Some r) q e = (r, refl, cc)
+
 -- ---- all frames
 
-areas_same : (rows : List Row) → sum_by (λ (q : Row). own_area q.header) (map emptied_row rows) ≡ sum_by (λ (q : Row). own_area q.header) rows
+pub areas_same : (rows : List Row) → sum_by (λ (q : Row). own_area q.header) (map emptied_row rows) ≡ sum_by (λ (q : Row). own_area q.header) rows
 areas_same [] = refl
 areas_same (r ∷ rows) =
     let area = λ (q : Row). own_area q.header in
@@ -137,10 +140,6 @@ module _ (head : Option Head) (class : ClassFields) (rows : List Row) (placed : 
       (subst (λ o. GoesTo (at (suc i)) (end_behind (at i) (end_before None rows i) (slice_get rows i)) (end_behind (more + at i) (end_before head (map emptied_row rows) i) o)) (sym (slice_get-map emptied_row rows i))
       (goes_next i (slice_get rows i) refl (goes_at i)))
 
-  fits_by : (r : Row) (lost : Bool) → r.lost ≡ lost → SideFits class r.side → SideFits class (emptied_row r).side
-  fits_by r true is fits = subst (λ (q : Row). SideFits class q.side) (sym (emptied_true r is)) (SideFits-no_side class)
-  fits_by r false is fits = subst (λ (q : Row). SideFits class q.side) (sym (emptied_false r is)) fits
-
   placed_at : (i : ℕ) (r : Row) → slice_get rows i ≡ Some r → IsWellPlaced head class (map emptied_row rows) i (emptied_row r)
   placed_at i r found =
       let is = placed i r found in
@@ -152,14 +151,10 @@ module _ (head : Option Head) (class : ClassFields) (rows : List Row) (placed : 
       record {
         known = subst IsHeader (sym (header_by r.lost r)) is.known;
         class_is = ap class_of (header_by r.lost r) ∙ is.class_is;
-        fits = fits_by r r.lost refl is.fits;
+        fits = fits_by class r r.lost refl is.fits;
         mark = unmarked ∙ sym kept ∙ ap (λ n. lacks_data n other (emptied_row r)) (sym (place_emptied i));
         sound = ap (λ n. data_faults n other (emptied_row r)) (place_emptied i) ∙ sound-by (more + at i) other (emptied_row r) (lacks_data (more + at i) other (emptied_row r)) refl (λ none. stands);
       }
-
-  some_row : (o : Option Row) (q : Row) → option_map emptied_row o ≡ Some q → (r : Row) × (o ≡ Some r) × (emptied_row r ≡ q)
-  some_row None q e = absurd cc
-  some_row (Some r) q e = (r, refl, cc)
 
   pub placed-emptied : AreWellPlaced head class (map emptied_row rows)
   placed-emptied i q found =
@@ -172,7 +167,7 @@ laid_one : (from to : ℕ) (r : Row) (rows : List Row) (b : Bool) → from ≤ r
 laid_one from to r rows true low fits rest = (low, SideFits-no_side (class_of r.header), rest)
 laid_one from to r rows false low fits rest = (low, fits, rest)
 
-laid_emptied : (from to : ℕ) (rows : List Row) → AreLaid from rows to → AreLaid from (map emptied_row rows) to
+pub laid_emptied : (from to : ℕ) (rows : List Row) → AreLaid from rows to → AreLaid from (map emptied_row rows) to
 laid_emptied from to [] laid = laid
 laid_emptied from to (r ∷ rows) laid =
     laid_one from to r (map emptied_row rows) r.lost laid.0 laid.1 (laid_emptied (r.offset + length_of (class_of r.header) r.header.slot) to rows laid.2)

@@ -1,6 +1,5 @@
 -- The faults of a file are listed by their offsets, so that the first of them has the smallest.
-use Rattle.std.proofs.Common.{◌≡◌, ℕ, ◌+◌, ◌≤◌, ◌⊎◌, Bool, true, false, cond, ltb, not, List, [], ◌∷◌, ◌++◌, length, drop, Option, Some, None, Result, Ok, Err, refl, sym, ◌∙◌, ap, subst, inl, inr, ⊎_elim, arith, append_assoc}
-use Rattle.std.specs.Prelude.{◌==◌, flat_map, IfErr, option_to_list}
+use Rattle.std.proofs.Common.{◌≡◌, ℕ, ◌+◌, ◌≤◌, ◌⊎◌, Bool, true, false, cond, ltb, not, List, [], ◌∷◌, ◌++◌, length, drop, Option, Some, None, Result, Ok, Err, refl, sym, ◌∙◌, ap, subst, inl, inr, ⊎_elim, arith, append_assoc, ◌==◌, flat_map, IfErr, option_to_list}
 use Rattle.std.specs.List.{enumerate_from}
 use Rattle.frame_header.specs.Fields.{ClassFields}
 use Rattle.frame_header.specs.Tables.{class_of}
@@ -174,9 +173,8 @@ stop_place : (stop : ℕ) (item : Item) (fault : SurveyFault) → fault_at stop 
 stop_place stop (Frame h) fault e = let same : Truncated stop ≡ fault = cc in sym (ap fault_place same)
 stop_place stop Free fault e = let same : FreeFormat stop ≡ fault = cc in sym (ap fault_place same)
 stop_place stop (Block b) fault e = let same : Truncated stop ≡ fault = cc in sym (ap fault_place same)
-stop_place stop Zero fault e = let same : LostSync stop ≡ fault = cc in sym (ap fault_place same)
 stop_place stop End fault e = absurd cc
-stop_place stop Nothing fault e = let same : LostSync stop ≡ fault = cc in sym (ap fault_place same)
+stop_place stop _ fault e = let same : LostSync stop ≡ fault = cc in sym (ap fault_place same)
 
 end_place : (file : List ℕ) (frames : List PlacedFrame) (stop : ℕ) (o : Option SurveyFault) → stop ≤ length file → fault_at stop (item_at file stop) ≡ o → NoneBefore stop (option_to_list (end_fault file frames o))
 end_place file frames stop (Some fault) within is = (omega (arith, stop_place stop (item_at file stop) fault is), tt)

@@ -50,8 +50,7 @@ front_as-take kind n bytes within = rw (begins-take kind n bytes within, length_
 known_within : (kind : Kind) (bytes : List ℕ) → known_by kind ≤ length_as kind bytes
 unfolding id3v2_length ape_length
 known_within Id3v2 bytes = omega arith
-known_within Id3v1 bytes = omega arith
-known_within Ape bytes = omega arith
+known_within _ bytes = omega arith
 
 -- a block is known by its own bytes, whatever is after them
 pub block_front-bytes : (bytes rest : List ℕ) (b : TagBlock) → block_front bytes ≡ Some b → b.length ≤ length bytes → block_front (take b.length bytes ++ rest) ≡ Some b

@@ -24,11 +24,10 @@ byte_stands b bs true is no_header no_block = ap (λ x. x ∷ []) (eqb-true b 0 
 byte_stands b bs false is no_header no_block = (no_header, no_block, (λ e. absurd cc), (λ e. let first : b ≡ 0 = cc in let zero : (b == 0) ≡ true = ap (λ x. x == 0) first in absurd (false≢true (sym is ∙ zero))))
 
 stands_by : (bytes : List ℕ) (r : Result HeaderFields NotHeader) (o : Option TagBlock) → header_front bytes ≡ r → block_front bytes ≡ o → Stands bytes (by_header r (by_block o (by_byte bytes)))
-stands_by bytes (Ok h) o header block = header
-stands_by bytes (Err FreeHeader) o header block = header
 stands_by bytes (Err No) (Some b) header block = block
 stands_by [] (Err No) None header block = refl
 stands_by (b ∷ bs) (Err No) None header block = byte_stands b bs (b == 0) refl header block
+stands_by bytes _ o header block = header
 
 pub stands : (bytes : List ℕ) → Stands bytes (item_front bytes)
 unfolding item_front

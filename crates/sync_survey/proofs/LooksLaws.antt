@@ -76,14 +76,12 @@ own_size item left size some within is = record { least = omega (arith, is); som
 
 sized_by : (part : Part) (front : List ℕ) (left size : ℕ) (item : Item) → Stands front item → belongs part item ≡ true → size_of item ≤ left → length front ≤ left → Counts item front size → IsSized item left size
 sized_by part front left size (Frame h) here is within all counts = own_size (Frame h) left size (some_by front part (Frame h) here is) within (counts.1 (λ e. cc))
-sized_by part front left size Free here is within all counts = absurd (false≢true is)
 sized_by part front left size (Block b) here is within all counts = own_size (Block b) left size (some_by front part (Block b) here is) within (counts.1 (λ e. cc))
 sized_by part front left size Zero here is within all counts =
     let many = zero_counted front here in
     let size_is = counts.0 refl in
     record { least = omega (arith, many, size_is); some = omega (arith, many, size_is); within = omega (arith, all, size_is, prefix_len-le-length zero_test front) }
-sized_by part front left size End here is within all counts = absurd (false≢true is)
-sized_by part front left size Nothing here is within all counts = absurd (false≢true is)
+sized_by part front left size _ here is within all counts = absurd (false≢true is)
 
 pub sized : (part : Part) (front : List ℕ) (left size : ℕ) (item : Item) → item ≡ item_front front → belongs part item ≡ true → size_of item ≤ left → length front ≤ left → (item ≡ Zero → size ≡ prefix_len zero_test front)
     → ((item ≡ Zero → ⊥) → size ≡ size_of item) → IsSized item left size

@@ -1,7 +1,6 @@
 -- Lost frames have only silent and lost frames before them, since the main data of any other frame end after 0.
-use Rattle.std.proofs.Common.{◌≡◌, ℕ, zero, suc, ◌<◌, ◌≤◌, ◌⊎◌, ◌==◌, Bool, true, false, cond, ◌&&◌, ◌||◌, List, Option, Some, None, inl, inr, refl, sym, ◌∙◌, ap, subst, arith, ⊎_elim}
-use Rattle.std.specs.Prelude.{slice_get}
-use Rattle.std.proofs.lemmas.Bool.{eq-eqb, eqb-true, and_parts}
+use Rattle.std.proofs.Common.{◌≡◌, ℕ, zero, suc, ◌<◌, ◌≤◌, ◌⊎◌, ◌==◌, Bool, true, false, cond, ◌||◌, List, Option, Some, None, inl, inr, refl, sym, ◌∙◌, ap, subst, arith, ⊎_elim, slice_get}
+use Rattle.std.proofs.lemmas.Bool.{eq-eqb, eqb-true, and_parts, and_from}
 use Rattle.side_info.specs.Side.{payload_bits, payload_bytes}
 use Rattle.sync_survey.specs.declared.places.Head.{Head}
 use Rattle.sync_survey.specs.Row.{Row}
@@ -31,10 +30,9 @@ zero_behind : (place ended : ℕ) (r : Row) → end_behind place ended (Some r) 
 zero_behind place ended r e = zero_cases place ended r (is_silent r) (lacks_data place ended r) refl refl e
 
 empty_cases : (silent lost : Bool) (ended other : ℕ) → (silent ≡ true) ⊎ (lost ≡ true) → ended ≡ 0 → cond (silent || lost) ended other ≡ 0
-empty_cases true lost ended other empty none = none
-empty_cases false true ended other empty none = none
 empty_cases false false ended other (inl e) none = absurd cc
 empty_cases false false ended other (inr e) none = absurd cc
+empty_cases _ _ ended other empty none = none
 
 -- ---- after several
 
@@ -76,10 +74,6 @@ module _ (head : Option Head) (rows : List Row) where
 
   -- ---- one frame
 
-  true_both : (a b : Bool) → a ≡ true → b ≡ true → (a && b) ≡ true
-  true_both true b e f = f
-  true_both false b e f = absurd cc
-
   pub lost-leads : (i : ℕ) (r : Row) → is_lost head rows i r ≡ true → (points_too_far (place head rows i) r ≡ true) × AreSilentOrLost head rows i
   lost-leads i r lost =
       let parts = and_parts (end_before head rows i == 0) (points_too_far (place head rows i) r) lost in
@@ -87,4 +81,4 @@ module _ (head : Option Head) (rows : List Row) where
 
   pub leads-lost : (i : ℕ) (r : Row) → (points_too_far (place head rows i) r ≡ true) × AreSilentOrLost head rows i → is_lost head rows i r ≡ true
   leads-lost i r leads =
-      true_both (end_before head rows i == 0) (points_too_far (place head rows i) r) (eq-eqb (end_before head rows i) 0 (empty-none i leads.1)) leads.0
+      and_from (end_before head rows i == 0) (points_too_far (place head rows i) r) (eq-eqb (end_before head rows i) 0 (empty-none i leads.1)) leads.0

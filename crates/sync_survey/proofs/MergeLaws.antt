@@ -1,6 +1,5 @@
 -- A walk over two lists meets the entries of both in order.
-use Rattle.std.proofs.Common.{◌≡◌, ℕ, [], ◌∷◌, map, Option, Some, None, refl, sym, ◌∙◌, ap}
-use Rattle.std.specs.Prelude.{MatchOption}
+use Rattle.std.proofs.Common.{◌≡◌, ℕ, [], ◌∷◌, map, Option, Some, None, refl, sym, ◌∙◌, ap, MatchOption}
 use Rattle.sync_survey.specs.declared.merge.Entry.{Entry}
 use Rattle.sync_survey.specs.declared.merge.Entry.TheVariants.{First, Second}
 use Rattle.sync_survey.specs.declared.merge.Merge.{Merge}

@@ -50,16 +50,14 @@ no_header_by true r none = none refl
 no_header_by false r none = refl
 
 result_cases : (r : Result HeaderFields NotHeader) → (r ≢ Err No → ⊥) → r ≡ Err No
-result_cases (Ok h) not = absurd (not (λ e. cc))
-result_cases (Err FreeHeader) not = absurd (not (λ e. cc))
 result_cases (Err No) not = refl
+result_cases _ not = absurd (not (λ e. cc))
 
 four_bytes : (bytes : List ℕ) → get_or bytes 0 0 < 255 → 4 ≤ length bytes → header_at (take 4 bytes) ≡ Err No
 unfolding header_at
-four_bytes [] below long = absurd (omega (arith, long))
-four_bytes (a ∷ []) below long = absurd (omega (arith, long))
 four_bytes (a ∷ b ∷ rest) below long =
     result_cases _ (λ header. let ones = sync_byte a b (take 2 rest) (omega (arith, below)) (readable_sync _ (readable_cases _ _ refl header)) in omega (arith, ones, below))
+four_bytes _ below long = absurd (omega (arith, long))
 
 pub no_header : (bytes : List ℕ) → get_or bytes 0 0 < 255 → header_front bytes ≡ Err No
 unfolding header_front
@@ -69,8 +67,7 @@ no_header bytes below = no_header_by _ _ (λ long. four_bytes bytes below (leb-t
 
 below_ones : (kind : Kind) → first_byte kind < 255
 below_ones Id3v2 = omega arith
-below_ones Id3v1 = omega arith
-below_ones Ape = omega arith
+below_ones _ = omega arith
 
 block_front-below : (bytes : List ℕ) (b : TagBlock) → block_front bytes ≡ Some b → get_or bytes 0 0 < 255
 block_front-below bytes b is = omega (arith, block_front-first bytes b is, below_ones b.kind)
@@ -99,8 +96,6 @@ by_byte-zero (b ∷ bs) first = let same : b ≡ 0 = cc in (same, ap (λ x. by_b
 -- an item with which bytes begin is the one that the definition finds
 pub stands-only : (bytes : List ℕ) (item : Item) → Stands bytes item → item ≡ item_front bytes
 unfolding item_front
-stands-only bytes (Frame h) here = ap (λ r. by_header r (by_block (block_front bytes) (by_byte bytes))) (sym here)
-stands-only bytes Free here = ap (λ r. by_header r (by_block (block_front bytes) (by_byte bytes))) (sym here)
 stands-only bytes (Block b) here =
     let header = no_header bytes (block_front-below bytes b here) in
     sym (λ i. by_header (header i) (by_block (here i) (by_byte bytes)))
@@ -115,6 +110,7 @@ stands-only bytes End here =
     let block = no_block bytes first in
     sym (λ i. by_header (header i) (by_block (block i) (by_byte (here i))))
 stands-only bytes Nothing here = sym ((λ i. by_header (here.0 i) (by_block (here.1 i) (by_byte bytes))) ∙ by_byte-nothing bytes here.2 here.3)
+stands-only bytes _ here = ap (λ r. by_header r (by_block (block_front bytes) (by_byte bytes))) (sym here)
 
 -- at an offset of a file
 pub stands-only_at : (file : List ℕ) (at : ℕ) (item : Item) → Stands (drop at file) item → item ≡ item_at file at

@@ -1,8 +1,8 @@
 -- The main data of the frames so far are where they may be, whatever is told of the file.
-use Rattle.std.proofs.Common.{◌≡◌, ℕ, zero, suc, ◌+◌, ◌<◌, Bool, true, false, List, [], ◌∷◌, ◌++◌, length, take, map, Option, Some, None, Ok, refl, sym, ◌∙◌, ap, ap₂, subst, arith}
-use Rattle.std.specs.Prelude.{not, slice_get, sum_by, option_map}
+use Rattle.std.proofs.Common.{◌≡◌, ℕ, zero, suc, ◌+◌, ◌<◌, false, List, [], ◌∷◌, ◌++◌, length, take, map, Option, Some, None, Ok, refl, sym, ◌∙◌, ap, ap₂, subst, arith, not, slice_get, sum_by, option_map}
 use Rattle.std.specs.List.{enumerate_from, cons_option}
 use Rattle.std.proofs.lemmas.List.Sums.{sum_by-cons}
+use Rattle.std.proofs.lemmas.Bool.{not-false}
 use Rattle.frame_header.specs.Fields.{ClassFields, IsClass, IsHeader, same_class}
 use Rattle.frame_header.specs.Tables.{class_of}
 use Rattle.frame_header.proofs.HeaderLaws.{IsClass-class_of}
@@ -35,12 +35,8 @@ use Rattle.sync_survey.proofs.SurveyParts.{frames_from, surveyed-parts, IsSound,
 
 -- ---- the same class
 
-not_not : (b : Bool) → not b ≡ false → b ≡ true
-not_not true e = refl
-not_not false e = absurd cc
-
 class-sound : (c d : ClassFields) → not (same_class c d) ≡ false → c ≡ d
-class-sound c d e = same_class-is c d (not_not (same_class c d) e)
+class-sound c d e = same_class-is c d (not-false (same_class c d) e)
 
 -- ---- one frame more
 
@@ -122,12 +118,11 @@ module _ (head : Option Head) (rows : List Row) where
   areas_in l = sum_by (λ (r : Row). own_area r.header) l
 
   areas-marked : (i n : ℕ) (xs : List Row) → areas_in (take i (marks_from n xs)) ≡ areas_in (take i xs)
-  areas-marked zero n xs = refl
-  areas-marked (suc i) n [] = refl
   areas-marked (suc i) n (x ∷ xs) =
       sum_by-cons (λ (r : Row). own_area r.header) (marked_row head rows n x) (take i (marks_from (n + 1) xs))
       ∙ ap (λ m. own_area x.header + m) (areas-marked i (n + 1) xs)
       ∙ sym (sum_by-cons (λ (r : Row). own_area r.header) x (take i xs))
+  areas-marked _ n _ = refl
 
   get-marked : (i n : ℕ) (xs : List Row) → slice_get (marks_from n xs) i ≡ option_map (marked_row head rows (n + i)) (slice_get xs i)
   get-marked i n [] = refl
@@ -188,9 +183,8 @@ known_items part file from (p ∷ ps) to ends =
 
 known_numbered : (head : Option Head) (ps : List PlacedFrame) → AllKnown ps → AllKnown (numbered head ps)
 unfolding AllKnown
-known_numbered None ps all = all
-known_numbered (Some head) [] all = all
 known_numbered (Some head) (p ∷ ps) all = all.1
+known_numbered _ _ all = all
 
 row_known : (file : List ℕ) (ps : List PlacedFrame) (i : ℕ) (r : Row) → AllKnown ps → slice_get (rows_of file ps) i ≡ Some r → IsHeader r.header
 unfolding AllKnown

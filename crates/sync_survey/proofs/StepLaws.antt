@@ -1,6 +1,5 @@
 -- One item more is judged and kept.
-use Rattle.std.proofs.Common.{◌≡◌, ℕ, ◌+◌, ◌<◌, ◌≤◌, ◌==◌, min, false, List, [], ◌∷◌, ◌++◌, length, drop, Option, Some, None, Err, refl, sym, ◌∙◌, ap, ap₂, subst, inl, inr, arith, append-nil, length-append}
-use Rattle.std.specs.Prelude.{option_to_list}
+use Rattle.std.proofs.Common.{◌≡◌, ℕ, ◌+◌, ◌<◌, ◌≤◌, ◌==◌, min, false, List, [], ◌∷◌, ◌++◌, length, drop, Option, Some, None, Err, refl, sym, ◌∙◌, ap, ap₂, subst, inl, inr, arith, append-nil, length-append, option_to_list}
 use Rattle.std.proofs.lemmas.Bool.{true≢false, eq-eqb, cases_lt}
 use Rattle.frame_header.specs.Fields.{HeaderFields, ClassFields, IsHeader}
 use Rattle.frame_header.specs.Tables.{class_of, length_of, overhead_of, area_of}

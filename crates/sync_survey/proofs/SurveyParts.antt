@@ -1,6 +1,5 @@
 -- What a survey without fault says of a file: where its stream starts, and that nothing is at fault from there on.
-use Rattle.std.proofs.Common.{◌≡◌, ℕ, zero, suc, ◌+◌, ◌<◌, ◌≤◌, ◌==◌, Bool, true, false, cond, List, [], ◌∷◌, ◌++◌, length, drop, Option, Some, None, Ok, refl, sym, ◌∙◌, ap, ap₂, arith, zero-add}
-use Rattle.std.specs.Prelude.{option_to_list, not, flat_map, slice_get}
+use Rattle.std.proofs.Common.{◌≡◌, ℕ, zero, suc, ◌+◌, ◌<◌, ◌≤◌, ◌==◌, Bool, true, false, cond, List, [], ◌∷◌, ◌++◌, length, drop, Option, Some, None, Ok, refl, sym, ◌∙◌, ap, ap₂, arith, zero-add, option_to_list, not, flat_map, slice_get}
 use Rattle.std.specs.List.{enumerate_from}
 use Rattle.std.proofs.lemmas.Option.{slice_get_within}
 use Rattle.std.proofs.lemmas.Bool.{ne_eqb}
@@ -193,9 +192,8 @@ sound_allowed file head class allowed other rows few sound = λ i r is.
     }
 
 numbered_few : (head : Option Head) (frames : List PlacedFrame) → length (numbered head frames) ≤ length frames
-numbered_few None frames = omega arith
-numbered_few (Some head) [] = omega arith
 numbered_few (Some head) (p ∷ ps) = omega arith
+numbered_few _ _ = omega arith
 
 -- there are no more frames than bytes
 pub numbered-few : (file : List ℕ) (start : Start) → start_of file ≡ Ok start → length (rows_of file (frames_from file start)) ≤ length file

@@ -44,14 +44,9 @@ begins-first Ape bytes is = ape_first bytes is
 
 kinds : (j k : Kind) → first_byte j ≡ first_byte k → j ≡ k
 kinds Id3v2 Id3v2 e = refl
-kinds Id3v2 Id3v1 e = absurd (omega arith)
-kinds Id3v2 Ape e = absurd (omega arith)
-kinds Id3v1 Id3v2 e = absurd (omega arith)
 kinds Id3v1 Id3v1 e = refl
-kinds Id3v1 Ape e = absurd (omega arith)
-kinds Ape Id3v2 e = absurd (omega arith)
-kinds Ape Id3v1 e = absurd (omega arith)
 kinds Ape Ape e = refl
+kinds _ _ e = absurd (omega arith)
 
 -- bytes begin with one kind at most
 pub one_kind : (j k : Kind) (bytes : List ℕ) → begins j bytes ≡ true → begins k bytes ≡ true → j ≡ k
@@ -113,8 +108,7 @@ block_front-first bytes b is = begins-first b.kind bytes (block_front-begins byt
 
 first_byte-below : (kind : Kind) → (0 < first_byte kind) × (first_byte kind < 255)
 first_byte-below Id3v2 = (omega arith, omega arith)
-first_byte-below Id3v1 = (omega arith, omega arith)
-first_byte-below Ape = (omega arith, omega arith)
+first_byte-below _ = (omega arith, omega arith)
 
 pub block_front-not_zero : (bytes : List ℕ) (b : Block) → block_front bytes ≡ Some b → get_or bytes 0 0 ≢ 0
 block_front-not_zero bytes b is = λ zero. omega (arith, zero, block_front-first bytes b is, (first_byte-below b.kind).0)
@@ -124,8 +118,7 @@ block_front-not_zero bytes b is = λ zero. omega (arith, zero, block_front-first
 least_as : (kind : Kind) (bytes : List ℕ) → 10 ≤ length_as kind bytes
 unfolding id3v2_length ape_length
 least_as Id3v2 bytes = omega arith
-least_as Id3v1 bytes = omega arith
-least_as Ape bytes = omega arith
+least_as _ bytes = omega arith
 
 -- a block has at least 10 bytes
 pub block_front-least : (bytes : List ℕ) (b : Block) → block_front bytes ≡ Some b → 10 ≤ b.length
@@ -134,10 +127,9 @@ block_front-least bytes b is = omega (arith, (block_front-begins bytes b is).1, 
 -- ---- only the first 32 bytes matter
 
 long_cases : (k n : ℕ) (bytes : List ℕ) → k ≤ n → (a b : Bool) → leb k (length (take n bytes)) ≡ a → leb k (length bytes) ≡ b → a ≡ b
-long_cases k n bytes within true true e f = refl
-long_cases k n bytes within false false e f = refl
 long_cases k n bytes within true false e f = absurd (omega (arith, leb-true k (length (take n bytes)) e, leb-false k (length bytes) f, length-take n bytes))
 long_cases k n bytes within false true e f = absurd (omega (arith, leb-false k (length (take n bytes)) e, leb-true k (length bytes) f, length-take n bytes))
+long_cases k n bytes within _ _ e f = refl
 
 pub long_take : (k n : ℕ) (bytes : List ℕ) → k ≤ n → leb k (length (take n bytes)) ≡ leb k (length bytes)
 long_take k n bytes within = long_cases k n bytes within _ _ refl refl

@@ -43,10 +43,9 @@ pub octets-drop : (n : ℕ) (bytes : List ℕ) → AreOctets bytes → AreOctets
 octets-drop n bytes octets = λ i. subst (λ b. b < 256) (sym (get_or-drop n bytes i 0)) (octets (n + i))
 
 pub octets-take : (n : ℕ) (bytes : List ℕ) → AreOctets bytes → (i : ℕ) → get_or (take n bytes) i 0 < 256
-octets-take zero bytes octets i = omega arith
-octets-take (suc n) [] octets i = omega arith
 octets-take (suc n) (b ∷ bytes) octets zero = octets 0
 octets-take (suc n) (b ∷ bytes) octets (suc i) = octets-take n bytes (λ k. octets (suc k)) i
+octets-take _ _ octets i = omega arith
 
 pub little_bytes-ape_number : (at : ℕ) (bytes : List ℕ) → AreOctets bytes → at + 4 ≤ length bytes → little_bytes 4 (ape_number at bytes) ≡ take 4 (drop at bytes)
 little_bytes-ape_number at bytes octets within =
@@ -226,8 +225,7 @@ item_at-item_bytes item rest is =
 
 admitted_cases : (met is : Bool) (other item : TagItem) → is_undo other ≡ is → cond (met && is) None (Some other) ≡ Some item → (Some other ≡ Some item) × ((met && is) ≡ false)
 admitted_cases true true other item own e = absurd cc
-admitted_cases true false other item own e = (e, refl)
-admitted_cases false is other item own e = (e, refl)
+admitted_cases _ _ other item own e = (e, refl)
 
 some_same : (a b : TagItem) → Some a ≡ Some b → a ≡ b
 some_same a b e = cc

@@ -375,10 +375,9 @@ fault_cases : (block : List ℕ) (a b c d : Bool) (items_long : ℕ) (tag : TagF
     → cond (not a) (Err (TagFault.BadTag 24)) (cond (not b) (Err (TagFault.BadTag (32 + items_long))) (cond (not c) (Err (TagFault.BadTag (32 + items_long))) (cond (not d) (Err (TagFault.BadTag (footer_place block))) (Ok tag)))) ≡ Err (TagFault.BadTag place)
     → place < length block
 fault_cases block false b c d n tag place long within e = let here : 24 ≡ place = cc in omega (arith, here, long)
-fault_cases block true false c d n tag place long within e = let here : 32 + n ≡ place = cc in omega (arith, here, within)
-fault_cases block true true false d n tag place long within e = let here : 32 + n ≡ place = cc in omega (arith, here, within)
 fault_cases block true true true false n tag place long within e = let here : footer_place block ≡ place = cc in omega (arith, here, long)
 fault_cases block true true true true n tag place long within e = absurd cc
+fault_cases block true _ _ d n tag place long within e = let here : 32 + n ≡ place = cc in omega (arith, here, within)
 
 pub place-within : (block : List ℕ) (place : ℕ) → AreOctets block → 64 ≤ length block → tag_of block ≡ Err (TagFault.BadTag place) → place < length block
 unfolding tag_of
@@ -389,11 +388,8 @@ place-within block place octets long e =
 -- ---- a block that is a tag has no fault
 
 ok_cases : (a b c d : Bool) (x y z w : TagFault) (t tag : TagFields) → cond (not a) (Err x) (cond (not b) (Err y) (cond (not c) (Err z) (cond (not d) (Err w) (Ok t)))) ≡ Ok tag → (a ≡ true) × (b ≡ true) × (c ≡ true) × (d ≡ true) × (t ≡ tag)
-ok_cases false b c d x y z w t tag e = absurd cc
-ok_cases true false c d x y z w t tag e = absurd cc
-ok_cases true true false d x y z w t tag e = absurd cc
-ok_cases true true true false x y z w t tag e = absurd cc
 ok_cases true true true true x y z w t tag e = (refl, refl, refl, refl, cc)
+ok_cases _ _ _ _ x y z w t tag e = absurd cc
 
 pub tag_of-ok : (block : List ℕ) (tag : TagFields) → AreOctets block → block_front block ≡ Some (record { kind = Ape; length = length block }) → length block ≤ 1048576 → tag_of block ≡ Ok tag → IsWhole block × (tag_in block ≡ tag)
 unfolding tag_of

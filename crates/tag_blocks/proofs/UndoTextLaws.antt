@@ -109,10 +109,6 @@ sign_cases a b c d sign are whole false own =
     rw own (plus_back b c d (digits_number (a ∷ b ∷ c ∷ d ∷ [])) are ∙ ap (λ x. x ∷ b ∷ c ∷ d ∷ []) (sym plus))
 
 four_back : (four : List ℕ) → length four ≡ 4 → is_steps four ≡ true → is_minus_zero four ≡ false → steps_text (steps_of four) ≡ four
-four_back [] l is whole = absurd (omega (arith, l))
-four_back (a ∷ []) l is whole = absurd (omega (arith, l))
-four_back (a ∷ b ∷ []) l is whole = absurd (omega (arith, l))
-four_back (a ∷ b ∷ c ∷ []) l is whole = absurd (omega (arith, l))
 four_back (a ∷ b ∷ c ∷ d ∷ []) l is whole =
     let three = and_parts _ _ is in
     let two = and_parts _ _ three.0 in
@@ -123,6 +119,7 @@ four_back (a ∷ b ∷ c ∷ d ∷ []) l is whole =
     let back = digit_back b c d (leb-true 48 b first.0) (leb-true b 57 first.1) (leb-true 48 c second.0) (leb-true c 57 second.1) (leb-true 48 d third.0) (leb-true d 57 third.1) (digits_number (a ∷ b ∷ c ∷ d ∷ [])) refl in
     sign_cases a b c d one.0 (record { first = back.0; second = back.1; third = back.2 }) whole (a == 45) refl
 four_back (a ∷ b ∷ c ∷ d ∷ e ∷ more) l is whole = absurd (omega (arith, l))
+four_back _ l is whole = absurd (omega (arith, l))
 
 eleven : (value : List ℕ) → length value ≡ 11 → value ≡ take 4 value ++ (get_or value 4 0 ∷ (take 4 (drop 5 value) ++ (get_or value 9 0 ∷ (get_or value 10 0 ∷ []))))
 eleven value l =

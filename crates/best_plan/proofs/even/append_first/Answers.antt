@@ -1,6 +1,5 @@
 -- The place before.
-use Rattle.std.proofs.Common.{◌+◌, ◌-◌, ◌++◌, take, ap₂, ◌∙◌, arith}
-use Rattle.std.specs.Prelude.{replicate}
+use Rattle.std.proofs.Common.{◌+◌, ◌-◌, ◌++◌, take, ap₂, ◌∙◌, arith, replicate}
 use Rattle.best_plan.proofs.EvenLaws.{first-more, first-all}
 use Rattle.best_plan.proofs.even.append_first.Goals as goal
 

@@ -1,6 +1,5 @@
 -- One area more, from the last to the first.
-use Rattle.std.proofs.Common.{◌≡◌, ◌+◌, ◌-◌, ◌++◌, ◌∙◌, length, take, get_or, sym, ap, ap₂, subst, arith}
-use Rattle.std.specs.Prelude.{replicate}
+use Rattle.std.proofs.Common.{◌≡◌, ◌+◌, ◌-◌, ◌++◌, ◌∙◌, length, take, get_or, sym, ap, ap₂, subst, arith, replicate}
 use Rattle.best_plan.specs.Rows.{AreSums}
 use Rattle.best_plan.proofs.NearLaws.{IsNearTo, near-begin, near-next, near-end, wrote-back}
 use Rattle.best_plan.proofs.near.append_near.Goals as goal

@@ -1,6 +1,5 @@
 -- A clash of names, what was met before the output is created, and the second pass.
-use Rattle.std.proofs.Common.{◌≡◌, ◌≢◌, ℕ, List, [], ◌∷◌, ap₂, sym, subst, rules}
-use Rattle.std.specs.Prelude.{IfErr, OnOk}
+use Rattle.std.proofs.Common.{◌≡◌, ◌≢◌, ℕ, List, [], ◌∷◌, ap₂, sym, subst, rules, IfErr, OnOk}
 use Rattle.outside.specs.Files.{Holds}
 use Rattle.commands.specs.One.{holding, one_command, IsPassFault}
 use Rattle.outside.proofs.CountsLaws.{none_fell_by_reads}

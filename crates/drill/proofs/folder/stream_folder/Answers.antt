@@ -1,6 +1,5 @@
 -- The stream that was written, and the room that was reserved after it.
-use Rattle.std.proofs.Common.{◌≡◌, ◌+◌, ◌*◌, ◌∙◌, ℕ, List, Option, Some, max, refl, sym, ap, subst, arith}
-use Rattle.std.specs.Prelude.{unwrap_or, bytes_eq}
+use Rattle.std.proofs.Common.{◌≡◌, ◌+◌, ◌*◌, ◌∙◌, ℕ, List, Option, Some, max, refl, sym, ap, subst, arith, unwrap_or, bytes_eq}
 use Rattle.std.proofs.lemmas.Map.{update_same}
 use Rattle.outside.specs.Files.{Files, Contents, Holds, Told}
 use Rattle.outside.specs.Memory.{contents_of, rooms_of, room_of}

@@ -1,6 +1,5 @@
 -- The fields of the head are those of the bytes of its frame.
-use Rattle.std.proofs.Common.{rules, ◌≡◌, ℕ, List, length, take, drop, sym, ◌∙◌, ap, arith, Option, Some, None}
-use Rattle.std.specs.Prelude.{replicate}
+use Rattle.std.proofs.Common.{rules, ◌≡◌, ℕ, List, length, take, drop, sym, ◌∙◌, ap, arith, Option, Some, None, replicate}
 use Rattle.std.proofs.lemmas.List.{length-take-le, length-replicate}
 use Rattle.info_header.specs.declared.fields.Info.{Info}
 use Rattle.sync_survey.specs.Faults.{tells}

@@ -1,6 +1,5 @@
 -- By the slots alone.
-use Rattle.std.proofs.Common.{◌≡◌, ℕ, List, length, subst}
-use Rattle.std.specs.Prelude.{IfSome}
+use Rattle.std.proofs.Common.{◌≡◌, ℕ, List, length, subst, IfSome}
 use Rattle.slot_plan.specs.declared.needs.Placed.{Placed}
 use Rattle.laying.proofs.InfoLaws.{fields-are}
 use Rattle.laying.proofs.info.info_of.Goals as goal

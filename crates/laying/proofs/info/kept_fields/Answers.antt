@@ -1,6 +1,5 @@
 -- The fields of the head are those of the bytes of its frame; without a head there is none.
-use Rattle.std.proofs.Common.{rules, ◌≡◌, ℕ, List, length, take, drop, sym, ◌∙◌, ap, arith}
-use Rattle.std.specs.Prelude.{replicate}
+use Rattle.std.proofs.Common.{rules, ◌≡◌, ℕ, List, length, take, drop, sym, ◌∙◌, ap, arith, replicate}
 use Rattle.std.proofs.lemmas.List.{length-take-le, length-replicate}
 use Rattle.info_header.specs.declared.fields.Info.{Info}
 use Rattle.sync_survey.specs.Faults.{tells}

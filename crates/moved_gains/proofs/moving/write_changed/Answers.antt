@@ -1,6 +1,5 @@
 -- The bytes up to the junk, then those from the first frame on, and what still waits.
-use Rattle.std.proofs.Common.{rules, ◌≡◌, ◌++◌, List, [], ℕ, Option, length, refl, sym, ◌∙◌, ap, ap₂, subst, arith, Ok, append-nil}
-use Rattle.std.specs.Prelude.{IfErr}
+use Rattle.std.proofs.Common.{rules, ◌≡◌, ◌++◌, List, [], ℕ, Option, length, refl, sym, ◌∙◌, ap, ap₂, subst, arith, Ok, append-nil, IfErr}
 use Rattle.std.proofs.lemmas.Result.{err_from_is_err_and, on_ok_weaker}
 use Rattle.outside.specs.Pass.{Writes, route, HasPassCause}
 use Rattle.outside.proofs.PassedLaws.{err_at, err_by}

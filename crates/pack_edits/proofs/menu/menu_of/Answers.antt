@@ -1,6 +1,5 @@
 -- What is kept of slots in order is in order.
-use Rattle.std.proofs.Common.{◌∙◌, sym, ap, subst}
-use Rattle.std.specs.Prelude.{filter}
+use Rattle.std.proofs.Common.{◌∙◌, sym, ap, subst, filter}
 use Rattle.rate_plan.specs.Menus.{AreAscending}
 use Rattle.pack_edits.specs.Rates.{allows}
 use Rattle.pack_edits.proofs.MenuLaws.{menu-areas}

@@ -1,6 +1,5 @@
 -- What each planner is asked for, and that its answer is the plan of the mode.
-use Rattle.std.proofs.Common.{◌≡◌, ◌≤◌, ℕ, List, None, Ok, refl, sym, ◌∙◌, ap, subst, inl, inr, length, map, arith}
-use Rattle.std.specs.Prelude.{◌⊎◌}
+use Rattle.std.proofs.Common.{◌≡◌, ◌≤◌, ℕ, List, None, Ok, refl, sym, ◌∙◌, ap, subst, inl, inr, length, map, arith, ◌⊎◌}
 use Rattle.std.proofs.lemmas.List.{length-map}
 use Rattle.frame_header.specs.Fields.{ClassFields}
 use Rattle.frame_header.specs.Tables.{window_of}

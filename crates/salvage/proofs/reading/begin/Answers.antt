@@ -1,6 +1,5 @@
 -- Where the file begins, or why that isn't known: there is no first frame, or a call failed.
-use Rattle.std.proofs.Common.{refl, sym, ◌∙◌, subst, arith}
-use Rattle.std.specs.Prelude.{IfSome}
+use Rattle.std.proofs.Common.{refl, sym, ◌∙◌, subst, arith, IfSome}
 use Rattle.outside.specs.Files.{Holds}
 use Rattle.outside.proofs.PassedLaws.{err_at}
 use Rattle.sync_survey.specs.declared.survey_fault.SurveyFault.TheVariants.{NoFrame}

@@ -1,12 +1,12 @@
 -- The word that is right is another.
 use Rattle.std.proofs.Common.{◌≡◌, ◌+◌, ◌-◌, take, drop, sym, ◌∙◌, ap, arith, length-drop}
-use Rattle.std.proofs.lemmas.Bool.{eqb-false}
+use Rattle.std.proofs.lemmas.Bool.{eqb-false, not-true}
 use Rattle.std.proofs.lemmas.List.{length-take}
 use Rattle.bit_fields.specs.Bits.{bits}
 use Rattle.side_info.specs.CheckWord.{check_word_of}
 use Rattle.side_info.specs.Side.{side_at}
 use Rattle.frame_header.specs.Tables.{class_of}
-use Rattle.salvage.proofs.SaidLaws.{is_not, unusable_word}
+use Rattle.salvage.proofs.SaidLaws.{unusable_word}
 use Rattle.salvage.proofs.said.has_wrong_word.Goals as goal
 
 pub returns : goal.returns
@@ -20,4 +20,4 @@ returns c = λ told.
     (λ h read same.
     c.check_word_of_bytes.ensures.read h read (omega (arith, same, c.if-size-side.false, c.requires.within, length-take (6 + side - 6) (drop 6 own), length-drop 6 own))
     ∙ ap (λ n. check_word_of h (side_at (class_of h) (bits (take n (drop 6 own))))) many)
-    (λ same. eqb-false _ _ (is_not _ told) (c.word_said.ensures ∙ same))
+    (λ same. eqb-false _ _ (not-true _ told) (c.word_said.ensures ∙ same))

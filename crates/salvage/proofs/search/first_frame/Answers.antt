@@ -1,6 +1,5 @@
 -- The frame where the front ends, or the next one.
-use Rattle.std.proofs.Common.{ℕ, ◌+◌, Option, Some, None, sym, subst, arith}
-use Rattle.std.specs.Prelude.{IfSome}
+use Rattle.std.proofs.Common.{ℕ, ◌+◌, Option, Some, None, sym, subst, arith, IfSome}
 use Rattle.std.proofs.lemmas.Result.{IfOk-weaker}
 use Rattle.outside.proofs.PassedLaws.{err_at}
 use Rattle.sync_survey.specs.declared.places.PlacedFrame.{PlacedFrame}

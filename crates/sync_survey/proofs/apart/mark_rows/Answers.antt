@@ -1,6 +1,5 @@
 -- A frame more is marked; after the last one that may be lost the others stay.
-use Rattle.std.proofs.Common.{◌<◌, ◌≤◌, ◌+◌, ◌-◌, length, sym, ◌∙◌, ap, arith}
-use Rattle.std.specs.Prelude.{min, ◌^◌}
+use Rattle.std.proofs.Common.{◌<◌, ◌≤◌, ◌+◌, ◌-◌, length, sym, ◌∙◌, ap, arith, min, ◌^◌}
 use Rattle.sync_survey.specs.Row.{Row}
 use Rattle.sync_survey.specs.MainData.{own_area}
 use Rattle.sync_survey.proofs.ApartRows.{marked-none, marked-next, marked-last, marked-all}

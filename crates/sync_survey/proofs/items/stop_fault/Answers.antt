@@ -1,6 +1,5 @@
 -- Bytes don't end the file.
-use Rattle.std.proofs.Common.{◌∙◌, ap}
-use Rattle.std.specs.Prelude.{unwrap_or}
+use Rattle.std.proofs.Common.{◌∙◌, ap, unwrap_or}
 use Rattle.sync_survey.specs.declared.survey_fault.SurveyFault.TheVariants.{LostSync}
 use Rattle.sync_survey.specs.Walk.{fault_at}
 use Rattle.sync_survey.proofs.WalkLaws.{stop_is}

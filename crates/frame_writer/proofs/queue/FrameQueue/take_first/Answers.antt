@@ -1,6 +1,5 @@
 -- The front of the first frame that waits, and after it the first bytes of the areas.
-use Rattle.std.specs.Prelude.{option_copied}
-use Rattle.std.proofs.Common.{rules, ◌≡◌, ◌<◌, ◌≤◌, ℕ, List, ◌∷◌, ◌++◌, length, take, drop, sym, subst, ap, ◌∙◌, arith}
+use Rattle.std.proofs.Common.{rules, ◌≡◌, ◌<◌, ◌≤◌, ℕ, List, ◌∷◌, ◌++◌, length, take, drop, sym, subst, ap, ◌∙◌, arith, option_copied}
 use Rattle.circular_buffer.specs.Buffer.{Buffer}
 use Rattle.side_info.specs.FrameFields.{FrameFields}
 use Rattle.std.proofs.lemmas.Grind.{common_steps}

@@ -1,8 +1,7 @@
 -- One block more is copied, if it is chosen.
-use Rattle.std.proofs.Common.{rules, ◌≡◌, ℕ, ◌+◌, ◌≤◌, length, List, ◌∷◌, [], ◌++◌, drop, refl, sym, ◌∙◌, ap, subst, arith}
+use Rattle.std.proofs.Common.{rules, ◌≡◌, ℕ, ◌+◌, ◌≤◌, length, List, ◌∷◌, [], ◌++◌, drop, refl, sym, ◌∙◌, ap, subst, arith, slice_index_or}
 use Rattle.std.proofs.lemmas.Result.{err_from_is_err_and}
 use Rattle.std.proofs.lemmas.List.{drop_all}
-use Rattle.std.specs.Prelude.{slice_index_or}
 use Rattle.outside.proofs.PassedLaws.{err_at}
 use Rattle.tag_blocks.specs.declared.block.Kind.TheVariants.{Id3v2}
 use Rattle.sync_survey.specs.declared.places.Piece.{Piece}

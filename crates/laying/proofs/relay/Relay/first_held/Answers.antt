@@ -1,6 +1,5 @@
 -- One frame more is before those whose areas were counted.
-use Rattle.std.proofs.Common.{◌+◌, ◌-◌, ◌≡◌, List, length, get_or, sym, ◌∙◌, ap, arith}
-use Rattle.std.specs.Prelude.{slice_get, Some}
+use Rattle.std.proofs.Common.{◌+◌, ◌-◌, ◌≡◌, List, length, get_or, sym, ◌∙◌, ap, arith, slice_get, Some}
 use Rattle.std.proofs.lemmas.Option.{slice_get-get_or}
 use Rattle.sync_survey.specs.Row.{Row}
 use Rattle.sync_survey.specs.MainData.{own_area, place}

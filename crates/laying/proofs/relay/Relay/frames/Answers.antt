@@ -1,6 +1,5 @@
 -- One place of the plan after another.
-use Rattle.std.proofs.Common.{rules, ◌≡◌, get_or, ℕ, ◌+◌, ◌<◌, ◌≤◌, cond, List, [], ◌∷◌, ◌++◌, length, map, drop, refl, sym, ◌∙◌, ap, subst, arith, append_assoc}
-use Rattle.std.specs.Prelude.{slice_range, slice_get, Some}
+use Rattle.std.proofs.Common.{rules, ◌≡◌, get_or, ℕ, ◌+◌, ◌<◌, ◌≤◌, cond, List, [], ◌∷◌, ◌++◌, length, map, drop, refl, sym, ◌∙◌, ap, subst, arith, append_assoc, slice_range, slice_get, Some}
 use Rattle.std.proofs.lemmas.List.{drop_all}
 use Rattle.std.proofs.lemmas.Result.{err_from_is_err_and}
 use Rattle.frame_header.specs.Tables.{window_of}

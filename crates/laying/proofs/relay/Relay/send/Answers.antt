@@ -1,6 +1,5 @@
 -- The bytes wait, and then all that waits is written.
-use Rattle.std.proofs.Common.{rules, ◌≡◌, ℕ, List, ◌++◌, ap, sym, ◌∙◌, append-nil}
-use Rattle.std.specs.Prelude.{[]}
+use Rattle.std.proofs.Common.{rules, ◌≡◌, ℕ, List, ◌++◌, ap, sym, ◌∙◌, append-nil, []}
 use Rattle.outside.specs.Files.{Files, appended}
 use Rattle.outside.specs.Passed.{PassedOn}
 use Rattle.outside.proofs.PassedLaws.{passed_there, passed_then_all, passed_then_prefix}

@@ -1,6 +1,6 @@
 -- One frame more, and what is before it, goes on.
 use Rattle.std.proofs.Common.{rules, ◌≡◌, ◌+◌, ◌<◌, ◌≤◌, ◌++◌, ◌∷◌, List, ℕ, Option, length, get_or, drop, refl, sym, ◌∙◌, ap, ap₂, subst, arith}
-use Rattle.std.proofs.lemmas.List.{drop_all}
+use Rattle.std.proofs.lemmas.List.{drop_all, drop_more}
 use Rattle.std.proofs.lemmas.Option.{slice_get_read}
 use Rattle.std.proofs.lemmas.Result.{err_from_is_err_and, on_ok_weaker}
 use Rattle.frame_header.specs.Tables.{class_of}
@@ -15,7 +15,6 @@ use Rattle.requests.specs.declared.shift.Steps.{Steps}
 use Rattle.moved_gains.specs.Course.{steps_in, steps_over}
 use Rattle.moved_gains.specs.Moving.{row_end, AreRowsOf, moved_row_bytes, copied, written_from}
 use Rattle.moved_gains.proofs.CourseLaws.{frame_steps}
-use Rattle.moved_gains.proofs.Rows.{next_row}
 use Rattle.moved_gains.proofs.WrittenLaws.{left_at, left_behind}
 use Rattle.moved_gains.proofs.moving.GainPass.move_frames.Given as given
 use Rattle.moved_gains.proofs.moving.GainPass.move_frames.Goals as goal
@@ -23,7 +22,7 @@ use Rattle.moved_gains.proofs.moving.GainPass.move_frames.Goals.{After-from, Aft
 
 -- the frame at i, and those after it
 here : (rows : List Row) (i : ℕ) (row : Row) → i < length rows → row ≡ get_or rows i row → drop i rows ≡ row ∷ drop (i + 1) rows
-here rows i row lt is = next_row rows i row lt ∙ ap (λ r. r ∷ drop (i + 1) rows) (sym is)
+here rows i row lt is = drop_more rows i row lt ∙ ap (λ r. r ∷ drop (i + 1) rows) (sym is)
 
 laid : (at size : ℕ) (rows : List Row) (i : ℕ) (row : Row) → drop i rows ≡ row ∷ drop (i + 1) rows → AreLaid at (drop i rows) size → AreLaid at (row ∷ drop (i + 1) rows) size
 laid at size rows i row is before = subst (λ l. AreLaid at l size) is before

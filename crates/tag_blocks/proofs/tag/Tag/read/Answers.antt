@@ -12,10 +12,9 @@ pub read_block-requires-clause-long : goal.read_block-requires-clause-long
 read_block-requires-clause-long c = block-long c.args.block.now c.requires.block
 
 within_cases : (block : List ℕ) → AreOctets block → 64 ≤ length block → (r : Result TagFields TagFault) → MatchResult r (λ tag. tag_of block ≡ Ok tag) (λ fault. (fault ≡ Memory) ⊎ (tag_of block ≡ Err fault)) → IfErr r (IsPlaceIn block)
-within_cases block octets long (Ok tag) h = tt
-within_cases block octets long (Err Memory) h = tt
 within_cases block octets long (Err (BadTag place)) (inl e) = absurd cc
 within_cases block octets long (Err (BadTag place)) (inr e) = place-within block place octets long e
+within_cases block octets long _ h = tt
 
 pub returns-clause-within : goal.returns-clause-within
 returns-clause-within c = within_cases c.args.block.now (search rules) (block-long c.args.block.now c.requires.block) c.read_block.result c.read_block.ensures.tag
