@@ -1,4 +1,4 @@
--- A survey whose head is set apart is one by which frames can be laid.
+-- A head that could not be read; and a survey whose head is set apart is one by which frames can be laid.
 use Rattle.std.proofs.Common.{◌≡◌, ℕ, ◌+◌, Bool, true, false, cond, List, [], ◌∷◌, length, map, Option, Some, None, refl, ◌∙◌}
 use Rattle.std.proofs.lemmas.List.{length-map}
 use Rattle.std.proofs.lemmas.List.FromFn.{length-enumerate_from}
@@ -13,7 +13,32 @@ use Rattle.sync_survey.specs.Faults.{SurveyFields}
 use Rattle.sync_survey.specs.Survey.{AreWellPlaced}
 use Rattle.sync_survey.proofs.ApartLaws.{placed-apart}
 use Rattle.sync_survey.proofs.EmptiedLaws.{placed-emptied}
+use Rattle.outside.specs.Seen.{Seen}
+use Rattle.commands.specs.declared.fault.EditFault.{EditFault}
+use Rattle.commands.specs.declared.fault.EditFault.TheVariants.{Input}
+use Rattle.commands.specs.declared.fault.Refusal.{Refusal}
+use Rattle.commands.specs.Left.{why_of, IsOfInput}
+use Rattle.commands.specs.One.{Making, IsInputFault}
+use Rattle.commands.proofs.WhyLaws.{each_why}
 use Rattle.cut_edits.specs.Exact.{apart}
+use Rattle.cut_edits.specs.Heads.{IsHeadFault, IsOfHead}
+
+-- a head that could not be read is a fault of the only input, whatever is made of it
+pub head_is_input : (make : Making) (name : List ℕ) (old new : Seen) (fault : EditFault) → IsHeadFault name old new fault → IsInputFault make name old new fault
+head_is_input make name old new fault h = each_why (why_of fault) h (record {
+  rejected = λ r. absurd r;
+  missing = λ m. absurd m;
+  unread = λ u. u;
+  shorter = λ l. l;
+  unwritten = λ k w. w;
+  unsent = λ w. w;
+  no_memory = λ n. absurd n;
+})
+
+-- its numbers are in range
+pub head_numbers : (refuses : Refusal → Bool) (fault : EditFault) → IsOfHead fault → IsOfInput refuses fault
+head_numbers refuses (Input place fault) is = is
+head_numbers refuses _ is = absurd is
 
 marks_whole : (file : List ℕ) (rows : List Row) (n : ℕ) (more : List Row) → AreWholeRows file more → AreWholeRows file (map (λ (p : ℕ × Row). apart_row rows p.0 p.1) (enumerate_from n more))
 marks_whole file rows n [] are = tt

@@ -85,6 +85,7 @@ span-there from to head s span e =
 abbrev pub span_chosen : Option Info → Span → Chosen
 span_chosen head span = record { from = span.first; to = span.last; quality = quality_of head; extension = [] }
 
+-- the extension of a head has 36 bytes
 pub head_long : (file : List ℕ) (head : Option Head) → IfSome (fields_of_head file head) (λ (i : Info). length i.extension ≡ 36)
 head_long file None = tt
 head_long file (Some head) = head-extension file (Some head)

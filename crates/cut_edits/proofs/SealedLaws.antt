@@ -41,16 +41,23 @@ module _ (s : SurveyFields) (well : IsPlaced s) (from : ℕ) (inside : from < le
   class_is : (first : Row) → slice_get s.frames from ≡ Some first → class_of first.header ≡ s.class
   class_is first found = (well from first found).class_is
 
-  -- it can be sealed
-  pub info-room : text_place s.class + 156 ≤ length old
-  info-room =
+  -- whatever fields it has, if all of them are there, it can be sealed
+  room-with : (fields : HeaderFields → List Frame → Info) (bytes : List ℕ) → ((h : HeaderFields) (frames : List Frame) → AreWhole (fields h frames))
+      → ((first : Row) (frames : List Frame) → slice_get s.frames from ≡ Some first → map slot_in frames ≡ map (λ (p : Placed). p.slot) placed → bytes ≡ info_frame first.header (fields first.header frames))
+      → text_place s.class + 156 ≤ length bytes
+  room-with fields bytes whole are =
       let found = first-there s.frames from inside in
       let h = found.0.header in
       let frames = map (λ (p : Placed). lead_in_before p h) placed in
-      let info = info_for s.class frames quality extension in
-      subst (λ (c : ClassFields). text_place c + 156 ≤ length old) (class_is found.0 found.1)
-      (subst (λ (l : List ℕ). text_place (class_of h) + 156 ≤ length l) (sym (is found.0 frames found.1 (slots_of h placed)))
-      (frames-sealed h info (for-whole s.class frames quality extension long)).room)
+      subst (λ (c : ClassFields). text_place c + 156 ≤ length bytes) (class_is found.0 found.1)
+      (subst (λ (l : List ℕ). text_place (class_of h) + 156 ≤ length l) (sym (are found.0 frames found.1 (slots_of h placed)))
+      (frames-sealed h (fields h frames) (whole h frames)).room)
+
+  whole-for : (frames : List Frame) → AreWhole (info_for s.class frames quality extension)
+  whole-for frames = for-whole s.class frames quality extension long
+
+  pub info-room : text_place s.class + 156 ≤ length old
+  info-room = room-with (λ h frames. info_for s.class frames quality extension) old (λ h. whole-for) is
 
   module _ (new : List ℕ) (seals : new ≡ sealed s.class old) where
     -- and then it is the Info frame of the sealed fields
@@ -60,17 +67,12 @@ module _ (s : SurveyFields) (well : IsPlaced s) (from : ℕ) (inside : from < le
         seals
         ∙ ap (λ (c : ClassFields). sealed c old) (sym (class_is first found))
         ∙ ap (sealed (class_of first.header)) (is first frames found slots)
-        ∙ (frames-sealed first.header (info_for s.class frames quality extension) (for-whole s.class frames quality extension long)).is
+        ∙ (frames-sealed first.header (info_for s.class frames quality extension) (whole-for frames)).is
 
     pub sealed-room : text_place s.class + 156 ≤ length new
     sealed-room =
-        let found = first-there s.frames from inside in
-        let h = found.0.header in
-        let frames = map (λ (p : Placed). lead_in_before p h) placed in
-        let info = info_for s.class frames quality extension in
-        subst (λ (c : ClassFields). text_place c + 156 ≤ length new) (class_is found.0 found.1)
-        (subst (λ (l : List ℕ). text_place (class_of h) + 156 ≤ length l) (sym (sealed-is found.0 frames found.1 (slots_of h placed)))
-        (frames-sealed h (sealed_info h info) (sealed-whole h info (for-whole s.class frames quality extension long))).room)
+        room-with (λ h frames. sealed_info h (info_for s.class frames quality extension)) new
+        (λ h frames. sealed-whole h (info_for s.class frames quality extension) (whole-for frames)) sealed-is
 
 -- the extension that is read of a sealed Info frame is that of the sealed fields
 pub sealed-read : (c : ClassFields) (first : HeaderFields) (info : Info) (bytes : List ℕ) → AreWhole info → class_of first ≡ c → bytes ≡ info_frame first (sealed_info first info)

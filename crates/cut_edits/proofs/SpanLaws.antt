@@ -41,7 +41,8 @@ unfolding led_items
 led_open [] are = tt
 led_open (need ∷ needs) are = ((λ slot has. slot_among slot has), frames_open (need ∷ needs) are)
 
-for_length : (items : List Item) (placed : List Placed) → AreFor items placed → length placed ≡ length items
+-- a list that is placed for items is as long as they
+pub for_length : (items : List Item) (placed : List Placed) → AreFor items placed → length placed ≡ length items
 unfolding AreFor
 for_length [] [] are = refl
 for_length [] (p ∷ placed) are = absurd are

@@ -3,4 +3,5 @@ pub mod Chosen
 pub mod Layable
 pub mod Choices
 pub mod Exact
+pub mod Heads
 pub mod ExactLaws

@@ -2,7 +2,6 @@
 ghost use Rattle.std.specs.Prelude.{◌≡◌, ◌*◌, ◌≤◌, length, option_copied, Ok, Err, MatchResult, IfOk, IfErr};
 ghost use Rattle.exact_span.specs.Places.{IsExactPlace};
 ghost use Rattle.exact_span.specs.PlayedPositions.{samples_in};
-ghost use Rattle.exact_span.specs.Spans.{IsSpan};
 ghost use Rattle.sync_survey.specs.Faults.{tells};
 ghost use Rattle.commands.specs.Left.{IsRefusal};
 ghost use Rattle.commands.specs.One.{most_frames};

@@ -17,7 +17,7 @@ use Rattle.cut_edits.proofs.LaidPass.{work_layable, work_makes}
 use Rattle.sync_survey.specs.Survey.{IsLaidOut}
 use Rattle.sync_survey.proofs.EmptiedLaws.{apart-laid}
 use Rattle.laying.specs.Surveys.{HasSurvey}
-use Rattle.cut_edits.proofs.HeadLaws.{apart-length}
+use Rattle.cut_edits.proofs.HeadLaws.{head_is_input, head_numbers, apart-length}
 use Rattle.cut_edits.proofs.PieceLaws.{apart_had, exact-refused, exact-makes, span_apart}
 use Rattle.cut_edits.proofs.exact_edit.ExactEditEdit.prepare.Given as given
 use Rattle.cut_edits.proofs.exact_edit.ExactEditEdit.prepare.Goals as goal
@@ -46,7 +46,12 @@ returns-in_err-head-clause-refused g c =
     let by = make_in edit in
     let new = g.D.Folder.seen c.read_head.new.folder in
     err_with _ _ c.from_residual-in_err-head.ensures.1 (input_is_early by (streams_in edit) exact_refuses edit.input.now _ _ _
-    (subst (λ old. IsInputFault by edit.input.now old new c.in_err-head.field-0.0) (ap₂ seen c.survey_at.ensures.reads.files c.in_ok-survey.ensures.reads.done) (c.in_err-head.ensures.refused by)))
+    (subst (λ old. IsInputFault by edit.input.now old new c.in_err-head.field-0.0) (ap₂ seen c.survey_at.ensures.reads.files c.in_ok-survey.ensures.reads.done) (head_is_input by edit.input.now (g.D.Folder.seen c.survey_at.new.folder) new c.in_err-head.field-0.0 c.in_err-head.ensures.refused)))
+
+pub returns-in_err-head-clause-numbers : goal.returns-in_err-head-clause-numbers
+returns-in_err-head-clause-numbers g c =
+    let edit = c.args.self.now in
+    err_with _ _ c.from_residual-in_err-head.ensures.1 (input_numbers (make_in edit) (streams_in edit) exact_refuses edit.input.now _ (head_numbers exact_refuses _ c.in_err-head.ensures.numbers))
 
 pub returns-in_err-span-clause-refused : goal.returns-in_err-span-clause-refused
 returns-in_err-span-clause-refused g c =
