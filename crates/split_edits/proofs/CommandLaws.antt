@@ -24,7 +24,8 @@ use Rattle.sync_survey.proofs.SurveyedFiles.{survey_of-sound}
 use Rattle.requests.specs.Names.{piece_names}
 use Rattle.split_edits.specs.Cutting.{Cutting, with_first, laid_from, laid_at, pieces_from, made_of, made_at, made_by, made_where, unless_equal, made_result, streams_of, streams_at, streams_by, streams_where, split_command, IsProper}
 use Rattle.split_edits.specs.declared.piece.Piece.{Piece}
-use Rattle.split_edits.specs.Steps.{Says, IsPlacesFault, IsHeadFault, IsOfHead, ArePieces, laid_of, outputs_of, names_of, pieces_of, with_outputs, with_part, IsWrittenPart, IsUnfinishedPart, IsPiecesFault, IsOfPieces, StopsShort, IsOfPlaces}
+use Rattle.cut_edits.specs.Heads.{IsHeadFault, IsOfHead}
+use Rattle.split_edits.specs.Steps.{Says, IsPlacesFault, ArePieces, laid_of, outputs_of, names_of, pieces_of, with_outputs, with_part, IsWrittenPart, IsUnfinishedPart, IsPiecesFault, IsOfPieces, StopsShort, IsOfPlaces}
 use Rattle.requests.proofs.NamesLaws.{names-length}
 use Rattle.commands.proofs.NamedLaws.{first_at, missed_name, unread_name, lost_name}
 use Rattle.outside.specs.Counts.{HappenedTo, EndedAt}

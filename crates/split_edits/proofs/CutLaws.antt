@@ -19,6 +19,7 @@ use Rattle.sync_survey.specs.Faults.{SurveyFields, HoldsStream}
 use Rattle.sync_survey.specs.Survey.{survey_of}
 use Rattle.commands.specs.declared.fault.EditFault.{EditFault}
 use Rattle.commands.specs.declared.fault.EditFault.TheVariants.{Input, Refused}
+use Rattle.commands.specs.declared.fault.Refusal.{Refusal}
 use Rattle.commands.specs.declared.fault.Refusal.TheVariants.{Range, Span as NoSpan, Sheet, SheetTooLarge}
 use Rattle.commands.specs.Left.{IsLate, IsNotBefore, IsRefusal}
 use Rattle.commands.specs.One.{most_frames}
@@ -57,19 +58,21 @@ as-all : (P : EditFault → Type 0) (r : Result (List Place) EditFault) → IfEr
 as-all P (Ok places) is = tt
 as-all P (Err fault) is = is
 
+-- nothing is refused where the test holds
+unless-test : (P : EditFault → Type 0) (refusal : Refusal) → P (Refused refusal) → (test : Bool) → IfSome (cond test None (Some refusal)) (λ r. P (Refused r))
+unless-test P refusal is true = tt
+unless-test P refusal is false = is
+
 -- ---- at positions
 
 module _ (P : EditFault → Type 0) (range : (from to frames : ℕ) → P (Refused (Range from to frames))) where
-  outside-all : (b : Bool) (from to frames : ℕ) → IfSome (cond b None (Some (Range from to frames))) (λ refusal. P (Refused refusal))
-  outside-all true from to frames = tt
-  outside-all false from to frames = range from to frames
-
   frames-all : (from to : Place) (file : List ℕ) (s : SurveyFields) → IfErr (frames_between from to file s) P
   unfolding laid_with cut_choice
   frames-all from to file s =
       let a = frame_at s.class (length s.frames) from in
       let b = frame_at s.class (length s.frames) to in
-      then_all P (cut_choice from to file s) (laid_as (first_planning own_choice) s) (unless_all P (outside_fault a b (length s.frames)) _ (outside-all (nat_lt a b && nat_le b (length s.frames)) a b (length s.frames))) (λ chosen. tt)
+      let n = length s.frames in
+      then_all P (cut_choice from to file s) (laid_as (first_planning own_choice) s) (unless_all P (outside_fault a b n) _ (unless-test P (Range a b n) (range a b n) (nat_lt a b && nat_le b n))) (λ chosen. tt)
 
 frames-hold : (from to : Place) (file : List ℕ) (s : SurveyFields) (laid : Laid) → survey_of file most_frames ≡ Ok s → frames_between from to file s ≡ Ok laid → HoldsStream (file_laid laid file s) (stream_laid laid file s)
 unfolding laid_with cut_choice chosen_file chosen_stream
@@ -120,10 +123,6 @@ module _ (from to : Place) (file : List ℕ) (s known : SurveyFields) (same : kn
 -- ---- at places of samples
 
 module _ (P : EditFault → Type 0) (span : (a b samples : ℕ) → P (Refused (NoSpan a b samples))) where
-  samples-all : (test : Bool) (a b samples : ℕ) → IfSome (cond test None (Some (NoSpan a b samples))) (λ refusal. P (Refused refusal))
-  samples-all true a b samples = tt
-  samples-all false a b samples = span a b samples
-
   exact-all : (from to : ExactPlace) (file : List ℕ) (s : SurveyFields) → IfErr (exact_laid from to file s) P
   unfolding exact_laid span_in
   exact-all from to file s =
@@ -131,7 +130,7 @@ module _ (P : EditFault → Type 0) (span : (a b samples : ℕ) → P (Refused (
       let samples = length_of_played (played_of head s.class (length s.frames)) in
       let a = sample_at s.class samples from in
       let b = sample_at s.class samples to in
-      then_all P (span_in from to head s) (λ span. Ok (piece_of head span file (apart s))) (unless_all P (samples_fault a b samples) _ (samples-all (nat_lt a b && nat_le b samples) a b samples)) (λ span. tt)
+      then_all P (span_in from to head s) (λ span. Ok (piece_of head span file (apart s))) (unless_all P (samples_fault a b samples) _ (unless-test P (NoSpan a b samples) (span a b samples) (nat_lt a b && nat_le b samples))) (λ span. tt)
 
 exact-hold : (from to : ExactPlace) (file : List ℕ) (s : SurveyFields) (laid : Laid) → survey_of file most_frames ≡ Ok s → exact_laid from to file s ≡ Ok laid → HoldsStream (file_laid laid file (apart s)) (stream_laid laid file (apart s))
 unfolding exact_laid

@@ -63,15 +63,6 @@ IsOfPlaces cut _ = ⊥
 
 -- ---- what is known of the input
 
--- its head could not be read
-abbrev pub IsHeadFault : List ℕ → Seen → Seen → EditFault → Type 0
-IsHeadFault input old new fault = by_why (record never { unread = ReadsNothing 0 input old new fault; shorter = LosesInput 0 input old new fault }) (why_of fault)
-
--- the fault is one of this input from outside
-abbrev pub IsOfHead : EditFault → Type 0
-IsOfHead (Input place fault) = (place ≡ 0) × (fault ≢ NoRoom) × HasRightNumbers fault
-IsOfHead _ = ⊥
-
 -- It is known of a file with this survey: the survey by which pieces are laid, which the file has, and what is read of the head.
 pub record IsSource {P : Type 0} (cut : Cutting P) (head : List ℕ → SurveyFields → Option Info) (source : Source) (file : List ℕ) (s : SurveyFields) : Type 0 where
   pub survey : tells source.survey ≡ cut.survey s

@@ -1,5 +1,5 @@
 //! What the commands that split a file differ in.
-ghost use Rattle.std.specs.Prelude.{◌≡◌, ◌⊎◌, ◌≤◌, List, ℕ, Option, length, option_copied, option_to_list, Ok, Err, IfOk, IfErr, OnOk, MatchResult};
+ghost use Rattle.std.specs.Prelude.{◌≡◌, ◌⊎◌, ◌≤◌, List, ℕ, Option, length, option_copied, option_to_list, Ok, Err, IfOk, IfErr, MatchResult};
 ghost use Rattle.outside.specs.Files.{IsThere};
 ghost use Rattle.outside.specs.Seen.{OnFile, OnlyRead};
 ghost use Rattle.info_header.specs.declared.fields.Info.{Info as InfoFields};
@@ -8,8 +8,9 @@ ghost use Rattle.sync_survey.specs.Survey.{survey_of, IsLaidOut};
 ghost use Rattle.laying.specs.Laid.{laid_in, IsWritable};
 ghost use Rattle.commands.specs.Left.{IsRefusal};
 ghost use Rattle.commands.specs.One.{most_frames};
+ghost use Rattle.cut_edits.specs.Heads.{IsHeadFault, IsOfHead};
 ghost use Rattle.split_edits.specs.Cutting.{Cutting, ArePlaces};
-ghost use Rattle.split_edits.specs.Steps.{Says, IsPlacesFault, IsOfPlaces, IsHeadFault, IsOfHead, IsSource};
+ghost use Rattle.split_edits.specs.Steps.{Says, IsPlacesFault, IsOfPlaces, IsSource};
 
 use crate::source::Source;
 use commands::EditFault;

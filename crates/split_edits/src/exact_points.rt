@@ -1,25 +1,18 @@
 //! Files that are cut at places of samples.
-ghost use Rattle.std.specs.Prelude.{◌≡◌, map, Ok, IfOk, IfErr};
-ghost use Rattle.outside.specs.Files.{IsThere};
-ghost use Rattle.outside.specs.Seen.{OnFile, OnlyRead};
+ghost use Rattle.std.specs.Prelude.{◌≡◌, map, IfOk};
 ghost use Rattle.exact_span.specs.declared.exact_place.ExactPlace.TheVariants.{Place as Position};
 ghost use Rattle.exact_span.specs.Places.{IsExactPlace};
 ghost use Rattle.laying.specs.KeptFields.{fields_of_head};
-ghost use Rattle.sync_survey.specs.Faults.{tells};
-ghost use Rattle.sync_survey.specs.Survey.{survey_of, IsLaidOut};
-ghost use Rattle.commands.specs.One.{most_frames};
 ghost use Rattle.split_edits.specs.Split.{exact_cutting_of, AreExactPoints};
-ghost use Rattle.split_edits.specs.Steps.{IsHeadFault, IsOfHead};
 
 use crate::cut::Cut;
 use crate::sheet::sheet_places;
 use crate::source::Source;
 use commands::EditFault;
 use cue_sheet::Place;
-use cut_edits::{find_span, select_piece, set_apart};
+use cut_edits::{find_span, read_head, select_piece, set_apart};
 use exact_span::ExactPlace;
-use info_header::Info;
-use laying::{Selected, head_fields};
+use laying::Selected;
 use outside::Folder;
 use std::alloc::{AllocError, Global};
 use sync_survey::Survey;
@@ -42,33 +35,6 @@ fn exact_places(alloc: Global, positions: &[Place]) -> Result<Vec<ExactPlace>, A
         places.push(ExactPlace::Place(*position))?;
     }
     Ok(places)
-}
-
-/// The fields of the head of the input, if it has one. The files stay.
-///
-/// # Errors
-/// `Input(0, ..)` with `Read` and `Shrunk` where the frame of the head could not be read.
-fn read_head<D: Folder>(
-    folder: &mut D,
-    input: &str,
-    survey: &Survey,
-) -> Result<Option<Info>, EditFault>
-    requires there { IsThere (D.seen folder.old).files input.now }
-    requires laid { IsLaidOut (tells survey.now) }
-    requires surveyed { OnFile (D.seen folder.old) input.now
-        (λ bytes. survey_of bytes most_frames ≡ Ok (tells survey.now)) }
-    ensures head { IfOk result (λ head. OnFile (D.seen folder.old) input.now
-        (λ bytes. head ≡ fields_of_head bytes (tells survey.now).head)) }
-    ensures refused { IfErr result (IsHeadFault input.now
-        (D.seen folder.old)
-        (D.seen folder.new)) }
-    ensures numbers { IfErr result IsOfHead }
-    ensures reads { OnlyRead result (D.seen folder.old) (D.seen folder.new) }
-{
-    match head_fields(folder, input, survey) {
-        Ok(head) => Ok(head),
-        Err(fault) => Err(EditFault::of_pass(0, 0, fault)),
-    }
 }
 
 impl<'a> Cut for ExactPoints<'a> {
