@@ -74,11 +74,6 @@ unfolding is_range
 range-none None later first rest = rest
 range-none (Some refusal) later first rest = first
 
-range-stuck : (at : ℕ) (o : Option Stuck) → is_range (stuck_fault at o) ≡ is_some o
-unfolding is_range
-range-stuck at None = refl
-range-stuck at (Some stuck) = refl
-
 -- a later refusal counts where the first isn't there, and each of these is one for the range
 range-either : (at : ℕ) (o : Option Stuck) (later : Option Refusal) → is_range (or_else (stuck_fault at o) later) ≡ (is_some o || is_range later)
 unfolding is_range

@@ -1,5 +1,5 @@
 -- The list command: a line for each thing of a file, in order of the offsets, and a summary.
-use Rattle.std.specs.Prelude.{◌≡◌, ℕ, ◌*◌, ◌/◌, ◌%◌, Bool, if◌then◌else◌, List, [], ◌∷◌, ◌++◌, length, flat_map, codes, decimal, Option, Result}
+use Rattle.std.specs.Prelude.{◌≡◌, ℕ, ◌*◌, ◌/◌, ◌%◌, Bool, if◌then◌else◌, List, [], ◌∷◌, ◌++◌, length, flat_map, codes, decimal}
 use Rattle.frame_header.specs.declared.version.Version.{Version}
 use Rattle.frame_header.specs.declared.version.Version.TheVariants.{One, Two, TwoFive}
 use Rattle.frame_header.specs.Fields.{ClassFields}
@@ -8,15 +8,13 @@ use Rattle.side_info.specs.Side.{payload_bits}
 use Rattle.tag_blocks.specs.declared.block.Kind.{Kind}
 use Rattle.tag_blocks.specs.declared.block.Kind.TheVariants.{Id3v2, Id3v1, Ape}
 use Rattle.sync_survey.specs.Row.{Row}
-use Rattle.sync_survey.specs.declared.survey_fault.SurveyFault.{SurveyFault}
 use Rattle.sync_survey.specs.Faults.{SurveyFields}
-use Rattle.commands.specs.declared.fault.EditFault.{EditFault}
 use Rattle.list_edits.specs.declared.things.Thing.{Thing}
 use Rattle.list_edits.specs.declared.things.Thing.TheVariants.{Block, Junk, FirstHead, Frame}
-use Rattle.commands.specs.Command.{Made, Command}
+use Rattle.commands.specs.Command.{Command}
 use Rattle.list_edits.specs.Decimals.{two_digits}
 use Rattle.list_edits.specs.Things.{things_of, in_order}
-use Rattle.list_edits.specs.TextCommand.{text_by, text_where, text_command}
+use Rattle.list_edits.specs.TextCommand.{text_command}
 
 -- ---- the line of each thing
 
@@ -92,12 +90,6 @@ lines_of ts = flat_map line_of ts
 -- the lines of all things of a file in order of their offsets, and the summary
 unfoldable pub listing : SurveyFields → List ℕ
 listing s = lines_of (in_order (things_of s)) ++ summary s.class (length s.frames)
-
-abbrev pub listed_by : Result SurveyFields SurveyFault → Result Made EditFault
-listed_by = text_by listing
-
-abbrev pub listed_where : Option (List ℕ) → Result Made EditFault
-listed_where = text_where (λ file. listing)
 
 -- the text is the listing of the input
 abbrev pub list_command : List ℕ → Command

@@ -1,11 +1,9 @@
 -- The least and the greatest of gains: of two lists together, and that they are two of the gains.
-use Rattle.std.proofs.Common.{◌≡◌, ℕ, zero, suc, ◌+◌, ◌<◌, ◌≤◌, min, max, cond, true, false, List, [], ◌∷◌, ◌++◌, length, get_or, drop, fold, Contains, Option, Some, None, inl, inr, refl, sym, ◌∙◌, ap, ap₂, subst, arith}
-use Rattle.std.specs.Prelude.{◌==◌, slice_index_or, slice_get, IfSome, IfNone}
+use Rattle.std.proofs.Common.{◌≡◌, ℕ, zero, suc, ◌+◌, ◌<◌, ◌≤◌, min, max, List, [], ◌∷◌, ◌++◌, length, get_or, drop, fold, Contains, Option, Some, None, inl, inr, refl, sym, ◌∙◌, ap, ap₂, subst, arith}
+use Rattle.std.specs.Prelude.{slice_index_or, slice_get, IfSome, IfNone}
 use Rattle.std.proofs.lemmas.Bool.{cases_lt}
 use Rattle.std.proofs.lemmas.List.{append-nil, drop_all, drop_more}
 use Rattle.std.proofs.lemmas.List.Sums.{fold-append}
-use Rattle.frame_header.specs.Fields.{ClassFields}
-use Rattle.frame_header.specs.Tables.{class_of}
 use Rattle.sync_survey.specs.Row.{Row}
 use Rattle.sync_survey.specs.Faults.{SurveyFields}
 use Rattle.sync_survey.specs.Survey.{IsLaidOut}
@@ -173,12 +171,6 @@ pub extremes-behind : (channel : ℕ) (rows : List Row) (i : ℕ) → length row
 extremes-behind channel rows i end = ap (extremes_of channel) (drop_all i rows end) ∙ ap extremes (moving-nil channel) ∙ extremes-nil
 
 -- ---- the channels of frames
-
--- a frame has one channel or two
-pub few_channels : (channel : ℕ) (class : ClassFields) (row : Row) → class_of row.header ≡ class → channel < class.channels → channel < 2
-few_channels channel class row same below =
-    let most : (class_of row.header).channels ≤ 2 = elim (row.header.mode == 3) as (λ b. cond b 1 2 ≤ 2) [ true ↦ omega arith | false ↦ omega arith ] in
-    omega (arith, below, most, ap (λ (c : ClassFields). c.channels) same)
 
 -- those of a survey are of its class
 pub has_channel : (channel : ℕ) (s : SurveyFields) → IsLaidOut s → channel < s.class.channels → HasChannel channel s.frames

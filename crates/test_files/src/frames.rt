@@ -49,11 +49,6 @@ pub const PADDED: Frame = Frame {
     ..G
 };
 
-/// One channel, with 17 bytes of side information. The granules have 8 and 16 bits and the gains 100 and
-/// 200; scfsi is 1010, and every other bit but main_data_begin is 1.
-pub const MONO: Frame =
-    frame! { header: [0xff, 0xfb, 0x90, 0xc0], side: b"\0\x7e\x80\x23\xfe\xc9\xff\xff\xff\xf8\x08\x7f\xf2\x3f\xff\xff\xff", ..G };
-
 /// Four times 762 bits, which fill the area of 381 bytes, and one more; all gains are 100.
 pub const OVERFULL: Frame =
     frame! { side: b"\0\0\x02\xfa\0\x32\0\0\0\0\x5f\x40\x06\x40\0\0\0\x0b\xe8\0\xc8\0\0\0\x01\x7d\x80\x19", ..G };
@@ -83,16 +78,6 @@ pub const PROTECTED_G: Frame = frame! { header: PROTECTED, word: Some(0x11a2), .
 
 /// The same with the gains 95, 96, 250, 85.
 pub const PROTECTED_G_LOWER: Frame = frame! { header: PROTECTED, word: Some(0x9476), ..G_LOWER };
-
-/// MPEG-2, 22,050 Hz, 64 kbit/s, padded, two channels, with 17 bytes of side information. The channels
-/// have 8 and 16 bits and the gains 100 and 200; every other bit but main_data_begin is 1.
-pub const LOWER: Frame = Frame {
-    header: [0xff, 0xf3, 0x82, 0x00],
-    word: None,
-    side: b"\0\xc0\x23\xfe\xc9\xff\xff\xff\xff\x80\x87\xff\x23\xff\xff\xff\xff",
-    area: &AREA,
-    length: 209,
-};
 
 /// The frames end to end.
 pub fn file_of(alloc: Global, frames: &[Frame]) -> Result<Vec<u8>, AllocError> {
