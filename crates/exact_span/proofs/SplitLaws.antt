@@ -4,7 +4,7 @@ use Rattle.std.specs.List.{range_with_len}
 use Rattle.exact_span.specs.Laws.{samples_between, pieces_samples, last_point, Ascend}
 
 -- numbers from a on, and as many more
-ranges : (a m n : ℕ) → range_with_len a m ++ range_with_len (a + m) n ≡ range_with_len a (m + n)
+pub ranges : (a m n : ℕ) → range_with_len a m ++ range_with_len (a + m) n ≡ range_with_len a (m + n)
 ranges a zero n = let many : n ≡ 0 + n = omega arith in ap (λ k. range_with_len k n) (add-zero a) ∙ ap (range_with_len a) many
 ranges a (suc m) n =
     let from : a + suc m ≡ a + 1 + m = omega arith in

@@ -9,3 +9,4 @@ pub use Rattle.frame_header.specs.Tables
 pub use Rattle.info_header.specs.Info
 pub use Rattle.info_header.specs.InfoFrame
 pub use Rattle.cue_sheet.specs.Digits
+pub mod Overlaps

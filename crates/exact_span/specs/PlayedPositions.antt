@@ -1,7 +1,7 @@
 -- The positions of a file that are played. A file of n frames after its head has n times 1,152
 -- positions (576 in MPEG-2 and MPEG-2.5), each a sample that a decoder gives for each channel.
 -- Position x is in frame x / 1152 (or 576), and in granule x / 576.
-use Rattle.std.specs.Prelude.{ℕ, ◌+◌, ◌-◌, ◌*◌, min, nat_lt, if◌then◌else◌, Option, Some, None}
+use Rattle.std.specs.Prelude.{ℕ, ◌+◌, ◌-◌, ◌*◌, ◌≤◌, min, nat_lt, if◌then◌else◌, Option, Some, None, option_map}
 use Rattle.frame_header.specs.Fields.{ClassFields}
 use Rattle.frame_header.specs.Tables.{samples_of}
 use Rattle.info_header.specs.declared.fields.Info.{Info}
@@ -25,18 +25,45 @@ end_by samples frames counts =
     if nat_lt counts.frames frames then frames * samples
     else min (frames * samples) (counts.frames * samples + decoder_delay - counts.padding)
 
-abbrev pub played_by : ℕ → ℕ → Option Counts → Played
-played_by samples frames None = record { start = 0; end = frames * samples }
-played_by samples frames (Some counts) = record {
+-- those that a head counts: after its delay and the decoder's, up to its padding
+abbrev pub counted_by : ℕ → ℕ → Counts → Played
+counted_by samples frames counts = record {
   start = counts.delay + decoder_delay;
   end = end_by samples frames counts;
 }
 
--- the played positions of a file with this head and so many frames: all, or where the head counts,
--- those after its delay and the decoder's, up to its padding
+abbrev pub played_by : ℕ → ℕ → Option Counts → Played
+played_by samples frames None = record { start = 0; end = frames * samples }
+played_by samples frames (Some counts) = counted_by samples frames counts
+
+-- the played positions of a file with this head and so many frames: those that the head counts, or all
+-- where it counts none
 unfoldable pub played_of : Option Info → ClassFields → ℕ → Played
 played_of info class frames = played_by (samples_in class) frames (counts_of info)
 
 -- how many these are
 abbrev pub length_of_played : Played → ℕ
 length_of_played played = played.end - played.start
+
+-- those that the head counts, if it does
+unfoldable pub counted_of : Option Info → ClassFields → ℕ → Option Played
+counted_of info class frames = option_map (counted_by (samples_in class) frames) (counts_of info)
+
+-- how many positions of so many frames are after the last played one
+abbrev pub rest_of : ClassFields → ℕ → Played → ℕ
+rest_of class frames played = frames * samples_in class - played.end
+
+-- the greatest delay that 12 bits say, and the decoder's
+abbrev pub latest_start : ℕ
+latest_start = 4624
+
+-- the greatest padding that they say, less the decoder's delay
+abbrev pub longest_rest : ℕ
+longest_rest = 3566
+
+-- positions that a head counts for so many frames: they begin after the decoder's delay, and neither
+-- before them nor after them are more than 12 bits say
+pub record AreCounted (class : ClassFields) (frames : ℕ) (played : Played) : Type 0 where
+  pub late : decoder_delay ≤ played.start
+  pub start : played.start ≤ latest_start
+  pub rest : rest_of class frames played ≤ longest_rest

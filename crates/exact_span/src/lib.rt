@@ -10,6 +10,7 @@ mod crc;
 mod exact_place;
 mod extensions;
 mod laws;
+mod overlap;
 mod played;
 mod sealing;
 mod span;
@@ -22,6 +23,7 @@ pub use laws::{
     extensions_say_their_numbers, pieces_are_the_whole, samples_keep_their_places,
     sealed_frames_are_info_frames, spans_are_warm, spans_fit, words_go_on,
 };
+pub use overlap::{Overlap, shared};
 pub use played::Played;
 pub use sealing::seal;
 pub use span::Span;

@@ -1,6 +1,6 @@
 //! The positions of a file that are played.
-ghost use Rattle.std.specs.Prelude.{◌≡◌, ◌<◌, ◌≤◌, option_copied};
-ghost use Rattle.exact_span.specs.PlayedPositions.{end_by, played_of, length_of_played};
+ghost use Rattle.std.specs.Prelude.{◌≡◌, ◌<◌, ◌≤◌, option_copied, IfSome};
+ghost use Rattle.exact_span.specs.PlayedPositions.{end_by, played_of, counted_of, length_of_played, rest_of, AreCounted};
 
 use crate::extensions::{Counts, counts_of};
 use frame_header::Class;
@@ -32,7 +32,7 @@ fn end_of(samples: u32, frames: u32, counts: Counts) -> u64
     all.min(end)
 }
 
-#[tactic(auto, unfolding(crate::specs::PlayedPositions::played_of))]
+#[tactic(auto, unfolding(crate::specs::PlayedPositions::played_of, crate::specs::PlayedPositions::counted_of))]
 impl Played {
     /// The played positions of a file with this head and so many frames after it, as players reckon
     /// them. Without a head that counts they are all positions. A head counts where it has a number
@@ -43,17 +43,26 @@ impl Played {
     pub fn of(info: Option<&Info>, class: Class, frames: u32) -> Played
         ensures { result ≡ played_of (option_copied info.entry) class frames }
     {
-        let samples = class.samples();
-        match counts_of(info) {
-            Some(counts) => Played {
-                start: u64::from(counts.delay + DECODER_DELAY),
-                end: end_of(samples, frames, counts),
-            },
+        match Played::counted(info, class, frames) {
+            Some(played) => played,
             None => Played {
                 start: 0,
-                end: u64::from(frames) * u64::from(samples),
+                end: u64::from(frames) * u64::from(class.samples()),
             },
         }
+    }
+
+    /// The same where the head counts, else `None`. They begin at 529 to 4,624, and at most 3,566
+    /// positions are after them.
+    pub fn counted(info: Option<&Info>, class: Class, frames: u32) -> Option<Played>
+        ensures played { result ≡ counted_of (option_copied info.entry) class frames }
+        ensures counted { IfSome result (AreCounted class frames) }
+    {
+        let counts = counts_of(info)?;
+        Some(Played {
+            start: u64::from(counts.delay + DECODER_DELAY),
+            end: end_of(class.samples(), frames, counts),
+        })
     }
 
     /// How many samples are played: 0 where `end` isn't after `start`.
@@ -61,5 +70,13 @@ impl Played {
         ensures { result ≡ length_of_played self.now }
     {
         self.end.saturating_sub(self.start)
+    }
+
+    /// How many positions of so many frames are after the last played one: none where they end after the
+    /// frames.
+    pub fn rest(&self, class: Class, frames: u32) -> u64
+        ensures { result ≡ rest_of class frames self.now }
+    {
+        (u64::from(frames) * u64::from(class.samples())).saturating_sub(self.end)
     }
 }

@@ -2,3 +2,4 @@
 pub mod Join
 pub mod Inputs
 pub mod Laying
+pub mod Seamless

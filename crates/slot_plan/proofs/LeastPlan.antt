@@ -29,7 +29,7 @@ use Rattle.slot_plan.proofs.OnePlan.{AreOrdered, AreInOrder, AllInOrder, all_in_
 max-is : (m n : ℕ) → max m n ≡ m + (n - m)
 max-is m n = omega arith
 
-fit-has : (window end before free : ℕ) (frames : List Frame) → end ≤ before → free ≡ (before - end) - ((before - end) - window) → AllFit window free frames → has_layout window end before frames ≡ true
+pub fit-has : (window end before free : ℕ) (frames : List Frame) → end ≤ before → free ≡ (before - end) - ((before - end) - window) → AllFit window free frames → has_layout window end before frames ≡ true
 unfolding AllFit has_layout
 fit-has window end before free [] ends is fit = refl
 fit-has window end before free (frame ∷ frames) ends is fit =
@@ -40,7 +40,7 @@ fit-has window end before free (frame ∷ frames) ends is fit =
     ap₂ (λ (a b : Bool). a && b) (le-leb (start + frame.bytes) (before + frame.area) here)
     (fit-has window (start + frame.bytes) (before + frame.area) (free_behind window free frame.bytes frame.area) frames here (omega arith) fit.1)
 
-has-fit : (window end before free : ℕ) (frames : List Frame) → end ≤ before → free ≡ (before - end) - ((before - end) - window) → has_layout window end before frames ≡ true → AllFit window free frames
+pub has-fit : (window end before free : ℕ) (frames : List Frame) → end ≤ before → free ≡ (before - end) - ((before - end) - window) → has_layout window end before frames ≡ true → AllFit window free frames
 unfolding AllFit has_layout
 has-fit window end before free [] ends is has = tt
 has-fit window end before free (frame ∷ frames) ends is has =
@@ -102,12 +102,12 @@ FindsOf item items choices test (Some (slot ∷ slots)) = IsFirstOf item items c
 FindsOf item items choices test (Some []) = ⊥
 FindsOf item items choices test None = (s : SlotFields) (others : List SlotFields) → Contains choices s → AreOf items others → test (s ∷ others) ≡ true → ⊥
 
-area-later : (c : ClassFields) (p : Bool) (slot : SlotFields) (slots : List SlotFields) (other : SlotFields) → Ascend (areas_with c p (slot ∷ slots)) → Contains slots other → area_of c slot p < area_of c other p
+pub area-later : (c : ClassFields) (p : Bool) (slot : SlotFields) (slots : List SlotFields) (other : SlotFields) → Ascend (areas_with c p (slot ∷ slots)) → Contains slots other → area_of c slot p < area_of c other p
 area-later c p slot slots other ascend is =
     let has = Contains-area c p slots other is in
     omega (arith, ascend 0 (suc has.0) (area_of c other p) (omega arith) (omega (arith, has.1)), has.2)
 
-ascend-behind : (n : ℕ) (ns : List ℕ) → Ascend (n ∷ ns) → Ascend ns
+pub ascend-behind : (n : ℕ) (ns : List ℕ) → Ascend (n ∷ ns) → Ascend ns
 ascend-behind n ns ascend = λ i j d before lt. ascend (suc i) (suc j) d (omega (arith, before)) (omega (arith, lt))
 
 module _ (item : Item) (items : List Item) (test : List SlotFields → Bool) where

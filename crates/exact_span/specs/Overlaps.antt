@@ -1,0 +1,40 @@
+-- The frames that two files of one stream share, where the samples of the second come right after those
+-- of the first.
+use Rattle.std.specs.Prelude.{ℕ, ◌+◌, ◌-◌, ◌/◌, ◌%◌, ◌<◌, ◌≤◌, ◌==◌, ◌&&◌, nat_le, min, if◌then◌else◌, Option, Some, None}
+use Rattle.frame_header.specs.declared.version.Version.{Version}
+use Rattle.frame_header.specs.declared.version.Version.TheVariants.{One, Two, TwoFive}
+use Rattle.frame_header.specs.Fields.{ClassFields}
+use Rattle.exact_span.specs.PlayedPositions.{samples_in}
+use Rattle.exact_span.specs.declared.overlap.Overlap.{Overlap}
+
+-- Position `start` of the second file is where the played positions of the first end, `rest` positions
+-- before its last frame's end. So the frames in the first `start + rest` positions of the second are
+-- shared, if these are whole frames that it has. Of them those are alike that aren't before the frame
+-- in which position `start` is, and the last in any case.
+unfoldable pub shared_of : ClassFields → ℕ → ℕ → ℕ → Option Overlap
+shared_of class rest start frames =
+    let samples = samples_in class in
+    let shared = (start + rest) / samples in
+    if (start + rest) % samples == 0 && nat_le shared frames
+    then Some (record { frames = shared; first_alike = min (start / samples) (shared - 1) })
+    else None
+
+-- at least one frame is shared, and at least one of these is to be alike
+abbrev pub IsOverlap : Overlap → Type 0
+IsOverlap overlap = overlap.first_alike < overlap.frames
+
+-- the most frames that files of a version share whose positions are counted
+abbrev pub most_shared : Version → ℕ
+most_shared One = 7
+most_shared Two = 14
+most_shared TwoFive = 14
+
+-- the most of them that are to be alike
+abbrev pub most_alike : Version → ℕ
+most_alike One = 4
+most_alike Two = 7
+most_alike TwoFive = 7
+
+pub record IsShort (class : ClassFields) (overlap : Overlap) : Type 0 where
+  pub frames : overlap.frames ≤ most_shared class.version
+  pub alike : overlap.frames ≤ overlap.first_alike + most_alike class.version

@@ -1,0 +1,185 @@
+-- What is known of an input, and of what a run leaves.
+use Rattle.std.proofs.Common.{◌≡◌, ℕ, ◌+◌, ◌-◌, ◌<◌, ◌≤◌, List, [], ◌∷◌, ◌++◌, length, drop, Option, Some, None, sym, ap, ap₂, ◌∙◌, subst, append-nil, arith}
+use Rattle.std.specs.Prelude.{option_map, slice_index_or, IfSome}
+use Rattle.frame_header.specs.declared.version.Version.{Version}
+use Rattle.frame_header.specs.declared.version.Version.TheVariants.{One, Two, TwoFive}
+use Rattle.exact_span.specs.declared.overlap.Overlap.{Overlap}
+use Rattle.exact_span.specs.Overlaps.{IsOverlap, IsShort, most_alike}
+use Rattle.std.proofs.lemmas.List.{map-append, length-map, length-append}
+use Rattle.std.proofs.lemmas.List.FromFn.{length-map-range_with_len}
+use Rattle.frame_header.specs.Fields.{SlotFields, ClassFields}
+use Rattle.frame_header.specs.Tables.{window_of}
+use Rattle.exact_span.specs.PlayedPositions.{rest_of}
+use Rattle.slot_plan.specs.declared.needs.Need.{Need}
+use Rattle.slot_plan.specs.Parts.{AreOfClass, own_area}
+use Rattle.slot_plan.specs.Reserve.{free_behind}
+use Rattle.slot_plan.specs.Behind.{FitsBehind, FitBehindWindow, FitBehindFree, IsLeft, in_slot, first_in}
+use Rattle.slot_plan.proofs.PartLaws.{class-drop}
+use Rattle.slot_plan.proofs.BehindLaws.{more-behind, fits-drop, fits-cons, left-cons, left-on}
+use Rattle.seam_plan.specs.declared.input.Input.{Input}
+use Rattle.seam_plan.specs.Frames.{Frame, Brought, needs_of}
+use Rattle.seam_plan.specs.declared.run.FramePlace.{FramePlace}
+use Rattle.seam_plan.specs.declared.run.Run.{Run}
+use Rattle.seam_plan.specs.declared.run.Joint.{Joint as CodeJoint}
+use Rattle.seam_plan.specs.Seams.{Joint, left_out, joint_of}
+use Rattle.seam_plan.specs.Decisions.{CanBeJoined, IsBrought, IsRun, IsJoint, Joins, last_seven, place_of, places_from, moved_first, FitIn, CanFollow}
+use Rattle.seam_plan.proofs.SeamLaws.{joint-adds, length-joint}
+
+pub fits-window : (class : ClassFields) (input : Input) → CanBeJoined class input → FitsBehind (window_of class.version) (window_of class.version) input.needs.now
+fits-window class input can = more-behind (window_of class.version) 0 (window_of class.version) input.needs.now (omega arith) can.fits
+
+-- all frames of an input but so many at its front
+pub drop-window : (class : ClassFields) (input : Input) (k : ℕ) → CanBeJoined class input → FitBehindWindow (drop k input.needs.now)
+drop-window class input k can = record {
+  class = class;
+  same = class-drop class input.needs.now k can.same;
+  fits = fits-drop (window_of class.version) 0 k input.needs.now can.fits;
+}
+
+pub all-window : (class : ClassFields) (input : Input) → CanBeJoined class input → FitBehindWindow input.needs.now
+all-window class input can = record { class = class; same = can.same; fits = fits-window class input can }
+
+pub all-free : (class : ClassFields) (input : Input) → CanBeJoined class input → FitBehindFree (window_of class.version) input.needs.now
+all-free class input can = record { class = class; same = can.same; within = omega arith; fits = fits-window class input can }
+
+-- ---- a run with more frames
+
+module _ (class : ClassFields) (number : ℕ) (frames : List Frame) (places : List FramePlace) (before brought : Brought) (input : Input) (old new : Run) (result : CodeJoint)
+    (is : IsRun class frames places before old) (brings : IsBrought input brought) (decided : IsJoint (joint_of class frames before brought) result) where
+  abbrev joint : Joint
+  joint = joint_of class frames before brought
+
+  same-out : left_out result.seam ≡ left_out joint.seam
+  same-out = ap left_out decided.seam
+
+  more-needs : needs_of frames ++ moved_first result.slot (drop (left_out result.seam) input.needs.now) ≡ needs_of (frames ++ joint.frames)
+  more-needs =
+      ap (λ n. needs_of frames ++ moved_first result.slot (drop n input.needs.now)) same-out
+      ∙ ap (λ l. needs_of frames ++ moved_first result.slot (drop (left_out joint.seam) l)) brings.needs
+      ∙ ap (λ l. needs_of frames ++ l) (sym (joint-adds class frames before brought result decided))
+      ∙ sym (map-append (λ (f : Frame). f.need) frames joint.frames)
+
+  abbrev more_places : List FramePlace
+  more_places = places ++ places_from number (left_out joint.seam) (length joint.frames)
+
+  many : length input.needs.now - left_out result.seam ≡ length joint.frames
+  many =
+      ap (λ n. length input.needs.now - n) same-out
+      ∙ ap (λ n. n - left_out joint.seam) (ap length brings.needs ∙ length-map brought.frames (λ (f : Frame). f.need))
+      ∙ sym (length-joint class frames before brought result decided)
+
+  same-places : places ++ places_from number (left_out result.seam) (length input.needs.now - left_out result.seam) ≡ more_places
+  same-places = ap₂ (λ a n. places ++ places_from number a n) same-out many
+
+  same-length : length more_places ≡ length (frames ++ joint.frames)
+  same-length =
+      length-append places (places_from number (left_out joint.seam) (length joint.frames))
+      ∙ ap₂ (λ m n. m + n) is.same (length-map-range_with_len (place_of number) (left_out joint.seam) (length joint.frames))
+      ∙ sym (length-append frames joint.frames)
+
+  pub run-joins : new.class ≡ old.class
+      → IsLeft (window_of old.class.version) (window_of old.class.version) (needs_of frames ++ moved_first result.slot (drop (left_out result.seam) input.needs.now)) new.left
+      → new.last.items ≡ last_seven (places ++ places_from number (left_out result.seam) (length input.needs.now - left_out result.seam))
+      → new.rest ≡ option_map (λ p. rest_of old.class (length input.needs.now) p) input.played
+      → Joins class number frames places before brought result new
+  run-joins same left last rest = record {
+    joint = decided;
+    goes_on = record {
+      of_class = same ∙ is.of_class;
+      left = subst (λ (c : ClassFields). IsLeft (window_of c.version) (window_of c.version) (needs_of (frames ++ joint.frames)) new.left) is.of_class
+          (subst (λ l. IsLeft (window_of old.class.version) (window_of old.class.version) l new.left) more-needs left);
+      last = last ∙ ap last_seven same-places;
+      same = same-length;
+      rest = rest ∙ ap (λ c. option_map (λ p. rest_of c (length input.needs.now) p) input.played) is.of_class
+          ∙ ap₂ (λ n o. option_map (λ p. rest_of class n p) o) (ap length brings.needs ∙ length-map brought.frames (λ (f : Frame). f.need)) brings.played;
+    };
+  }
+
+-- what is left of a run that begins with an input
+pub run-begins : (class : ClassFields) (input : Input) (first : Brought) (run : Run) → IsBrought input first → run.class ≡ class
+    → IsLeft (window_of class.version) (window_of class.version) input.needs.now run.left
+    → run.last.items ≡ last_seven (places_from 0 0 (length input.needs.now))
+    → run.rest ≡ option_map (λ p. rest_of class (length input.needs.now) p) input.played
+    → IsRun class first.frames (places_from 0 0 (length first.frames)) first run
+run-begins class input first run brings same left last rest =
+    let many : length input.needs.now ≡ length first.frames = ap length brings.needs ∙ length-map first.frames (λ (f : Frame). f.need) in record {
+      of_class = same;
+      left = subst (λ l. IsLeft (window_of class.version) (window_of class.version) l run.left) brings.needs left;
+      last = last ∙ ap (λ n. last_seven (places_from 0 0 n)) many;
+      same = length-map-range_with_len (place_of 0) 0 (length first.frames);
+      rest = rest ∙ ap₂ (λ n o. option_map (λ p. rest_of class n p) o) many brings.played;
+    }
+
+-- ---- frames that are added
+
+in-window : (class : ClassFields) (left : ℕ) (needs : List Need) (slot : SlotFields) → FitIn class left needs (Some slot) → FitsBehind (window_of class.version) left (first_in slot needs)
+in-window class left [] slot fit = absurd fit
+in-window class left (x ∷ xs) slot fit = fit
+
+first-moved : (needs : List Need) (slot : SlotFields) (first : Need) → 0 < length needs → first ≡ slice_index_or needs 0 first → first_in slot needs ≡ in_slot slot first ∷ drop 1 needs
+unfolding first_in
+first-moved [] slot first some at = absurd (omega (arith, some))
+first-moved (x ∷ xs) slot first some at = ap (λ (n : Need). in_slot slot n ∷ xs) (sym at)
+
+pub some-in : (class : ClassFields) (left : ℕ) (needs : List Need) (slot : SlotFields) → FitIn class left needs (Some slot) → 0 < length needs
+some-in class left [] slot fit = absurd fit
+some-in class left (x ∷ xs) slot fit = omega arith
+
+-- the first of some frames in this slot, and the others, which fit behind what is left
+module _ (class : ClassFields) (left : ℕ) (needs : List Need) (slot : SlotFields) (first moved : Need) (area : ℕ) (within : left ≤ window_of class.version)
+    (fit : FitIn class left needs (Some slot)) (at : first ≡ slice_index_or needs 0 first) (is : moved ≡ in_slot slot first) (has : area ≡ own_area moved) where
+  moved-first : first_in slot needs ≡ moved ∷ drop 1 needs
+  moved-first = first-moved needs slot first (some-in class left needs slot fit) at ∙ ap (λ (n : Need). n ∷ drop 1 needs) (sym is)
+
+  both-fit : (moved.bytes ≤ left + own_area moved) × FitsBehind (window_of class.version) (free_behind (window_of class.version) left moved.bytes (own_area moved)) (drop 1 needs)
+  both-fit = fits-cons (window_of class.version) left moved (drop 1 needs) within (subst (FitsBehind (window_of class.version) left) moved-first (in-window class left needs slot fit))
+
+  pub moved-room : moved.bytes ≤ left + area
+  moved-room = omega (arith, both-fit.0, has)
+
+  module _ (free : ℕ) (frees : free ≡ free_behind (window_of class.version) left moved.bytes area) (most : free ≤ window_of class.version) (same : AreOfClass class needs) where
+    same-free : free ≡ free_behind (window_of class.version) left moved.bytes (own_area moved)
+    same-free = frees ∙ ap (free_behind (window_of class.version) left moved.bytes) has
+
+    pub others-free : FitBehindFree free (drop 1 needs)
+    others-free = record {
+      class = class;
+      same = class-drop class needs 1 same;
+      within = most;
+      fits = subst (λ n. FitsBehind (window_of class.version) n (drop 1 needs)) (sym same-free) both-fit.1;
+    }
+
+    pub add-left : (new : ℕ) → IsLeft (window_of class.version) free (drop 1 needs) new → (frames : List Need) → IsLeft (window_of class.version) (window_of class.version) frames left
+        → IsLeft (window_of class.version) (window_of class.version) (frames ++ moved_first (Some slot) needs) new
+    add-left new leaves frames before =
+        let window : ℕ = window_of class.version in
+        let more : IsLeft window left (moved ∷ drop 1 needs) new = left-cons window left new moved (drop 1 needs) within both-fit.0 (subst (λ n. IsLeft window n (drop 1 needs) new) same-free leaves) in
+        subst (λ l. IsLeft window window (frames ++ l) new) (sym moved-first)
+        ((left-on window window left new frames (moved ∷ drop 1 needs) (omega arith) before).1 more)
+
+-- none are added
+pub add-none : (class : ClassFields) (left : ℕ) (needs frames : List Need) → FitIn class left needs None → IsLeft (window_of class.version) (window_of class.version) frames left
+    → IsLeft (window_of class.version) (window_of class.version) (frames ++ moved_first None needs) left
+add-none class left [] frames fit before = subst (λ l. IsLeft (window_of class.version) (window_of class.version) l left) (sym (append-nil frames)) before
+add-none class left (x ∷ xs) frames fit before = absurd fit
+
+-- ---- frames of a slice
+
+pub drop-fits : (k : ℕ) (needs : List Need) → FitBehindWindow needs → FitBehindWindow (drop k needs)
+drop-fits k needs fit = record {
+  class = fit.class;
+  same = class-drop fit.class needs k fit.same;
+  fits = fits-drop (window_of fit.class.version) (window_of fit.class.version) k needs fit.fits;
+}
+
+-- ---- the frames that are shared
+
+pub can-follow : (class : ClassFields) (input : Input) (shared : Option Overlap) → IfSome shared IsOverlap → IfSome shared (λ o. o.frames ≤ length input.needs.now)
+    → IfSome shared (IsShort class) → IfSome shared (CanFollow input)
+can-follow class input None overlap within short = tt
+can-follow class input (Some o) overlap within short = record { some = overlap; within = within; few = few class.version short.alike }
+  where
+    few : (version : Version) → o.frames ≤ o.first_alike + most_alike version → o.frames ≤ o.first_alike + 7
+    few One most = omega (arith, most)
+    few Two most = omega (arith, most)
+    few TwoFive most = omega (arith, most)

@@ -1,0 +1,30 @@
+-- The slot in which the first frame joins, as `joins` answers it.
+use Rattle.std.proofs.Common.{◌≡◌, length, subst, rules}
+use Rattle.frame_header.specs.Fields.{IsClass}
+use Rattle.slot_plan.specs.Parts.{AreOfClass}
+use Rattle.slot_plan.specs.Behind.{IsJoin}
+use Rattle.frame_header.specs.Tables.{window_of}
+use Rattle.seam_plan.proofs.JoinLaws.{joining-empty, joins-some, joins-none, join-fit}
+use Rattle.seam_plan.proofs.run.Run.joining.Goals as goal
+
+pub returns-then-is_empty-clause-joining : goal.returns-then-is_empty-clause-joining
+returns-then-is_empty-clause-joining c = λ class frames rest places before is needs.
+    let none : length c.args.needs.now ≡ 0 = search rules in
+    joining-empty (window_of class.version) c.args.seam frames rest c.args.needs.now needs none
+
+pub returns-in_default-clause-joining : goal.returns-in_default-clause-joining
+returns-in_default-clause-joining c = λ class frames rest places before is needs.
+    let same = subst (λ k. AreOfClass k c.args.needs.now) is.of_class c.requires.same in
+    joins-none class c.args.seam frames c.args.self.now.left c.args.needs.now same (subst IsClass is.of_class c.requires.within.known) is.left rest needs
+    (subst (IsJoin (window_of class.version) c.args.self.now.left c.args.needs.now) c.in_default.is (c.joins.ensures class same))
+
+pub returns-clause-joining : goal.returns-clause-joining
+returns-clause-joining c = λ class frames rest places before is needs.
+    let same = subst (λ k. AreOfClass k c.args.needs.now) is.of_class c.requires.same in
+    joins-some class c.args.seam frames c.args.self.now.left c.args.needs.now same (subst IsClass is.of_class c.requires.within.known) is.left rest c.in-Some.slot needs
+    (subst (IsJoin (window_of class.version) c.args.self.now.left c.args.needs.now) c.in-Some.is (c.joins.ensures class same))
+
+pub returns-clause-fit : goal.returns-clause-fit
+returns-clause-fit c =
+    join-fit c.args.self.now.class c.args.self.now.left c.args.needs.now c.in-Some.slot
+    (subst (IsJoin (window_of c.args.self.now.class.version) c.args.self.now.left c.args.needs.now) c.in-Some.is (c.joins.ensures c.args.self.now.class c.requires.same))

@@ -1,0 +1,22 @@
+-- What inputs bring to a join without seams.
+use Rattle.std.specs.Prelude.{ℕ, Bool, List, map, Option}
+use Rattle.slot_plan.specs.declared.needs.Need.{Need}
+use Rattle.exact_span.specs.declared.played.Played.{Played}
+
+-- A frame: what it needs, and its sound: the numbers by which it is compared with others, which tell
+-- its entry in the stream, but for the gains.
+pub record Frame : Type 0 where
+  pub need : Need
+  pub sound : List ℕ
+
+abbrev pub needs_of : List Frame → List Need
+needs_of frames = map (λ f. f.need) frames
+
+-- an input
+pub record Brought : Type 0 where
+  -- all its frames; there is one
+  pub frames : List Frame
+  -- all bytes of the side information of the first are 0
+  pub blank : Bool
+  -- its played positions, where its head counts
+  pub played : Option Played

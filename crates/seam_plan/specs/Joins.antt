@@ -1,0 +1,76 @@
+-- Frames in their own slots that join others, and the lead-in in front of an input.
+use Rattle.std.specs.Prelude.{ℕ, ◌&&◌, not, nat_le, Bool, false, List, [], ◌∷◌, ◌++◌, map, drop, find, bytes_eq, Option, Some, None, option_map}
+use Rattle.frame_header.specs.Fields.{SlotFields, HeaderFields, ClassFields}
+use Rattle.frame_header.specs.HeaderBits.{header_bits}
+use Rattle.frame_header.specs.Tables.{class_of, area_of}
+use Rattle.frame_header.specs.Slots.{all_slots}
+use Rattle.slot_plan.specs.declared.needs.Need.{Need}
+use Rattle.slot_plan.specs.Layouts.{has_layout}
+use Rattle.slot_plan.specs.Parts.{own_area, own_frame}
+use Rattle.slot_plan.specs.Behind.{in_slot}
+use Rattle.seam_plan.specs.Frames.{Frame, Brought, needs_of}
+
+-- frames, each in its own slot, have a layout after so many bytes of areas that hold nothing
+-- (`FitsBehind` of `slot_plan` as a value)
+abbrev pub fits_behind : ℕ → ℕ → List Need → Bool
+fits_behind window free needs = has_layout window 0 free (map own_frame needs)
+
+-- ---- the lead-in in front of an input
+
+-- the least slot of a lead-in, which has no check word, behind whose area they fit
+abbrev pub lead_in_slot : ℕ → ClassFields → List Need → Option SlotFields
+lead_in_slot window class needs = find (λ slot. fits_behind window (area_of class slot false) needs) all_slots
+
+-- the header of their lead-in: that of the first of them in this slot, without a check word
+unfoldable pub lead_in_header : ℕ → List Need → Option HeaderFields
+lead_in_header window [] = None
+lead_in_header window (first ∷ needs) =
+    option_map (λ slot. record first.header { protected = false; slot = slot })
+    (lead_in_slot window (class_of first.header) (first ∷ needs))
+
+-- the same 32 bits
+abbrev pub same_header : HeaderFields → HeaderFields → Bool
+same_header g h = bytes_eq (header_bits g) (header_bits h)
+
+abbrev pub is_header : HeaderFields → Option HeaderFields → Bool
+is_header h None = false
+is_header h (Some other) = same_header h other
+
+-- the first frame has the header of the lead-in of all frames after it, of which there is one
+abbrev pub leads_others : ℕ → List Need → Bool
+leads_others window [] = false
+leads_others window (first ∷ needs) = is_header first.header (lead_in_header window needs)
+
+-- The input has a lead-in in front, whichever program wrote it: all bytes of the side information of
+-- its first frame are 0, and it has the header of the lead-in of the frames after it.
+unfoldable pub has_lead_in : ℕ → Brought → Bool
+has_lead_in window input = input.blank && leads_others window (needs_of input.frames)
+
+-- The frames after it want it: without main data before them they don't fit.
+abbrev pub is_wanted : ℕ → Brought → Bool
+is_wanted window input = not (fits_behind window 0 (needs_of (drop 1 input.frames)))
+
+-- ---- frames that join a run
+
+-- the frame in this slot has no smaller area than in its own
+abbrev pub is_no_less : Need → SlotFields → Bool
+is_no_less need slot = nat_le (own_area need) (own_area (in_slot slot need))
+
+-- The slot in which the first of some frames joins a run of frames, so that the run, this frame and
+-- then the others fit behind a whole window: the least that is no less than its own.
+abbrev pub join_slot : ℕ → List Need → Need → List Need → Option SlotFields
+join_slot window run first needs =
+    find
+    (λ slot. is_no_less first slot && fits_behind window window (run ++ in_slot slot first ∷ needs))
+    all_slots
+
+-- a frame in another slot
+abbrev pub moved_to : SlotFields → Frame → Frame
+moved_to slot f = record f { need = in_slot slot f.need }
+
+-- The frames as they join a run, the first in its slot, if they can. No frames always can.
+unfoldable pub joining : ℕ → List Frame → List Frame → Option (List Frame)
+joining window run [] = Some []
+joining window run (first ∷ frames) =
+    option_map (λ slot. moved_to slot first ∷ frames)
+    (join_slot window (needs_of run) first.need (needs_of frames))

@@ -1,0 +1,10 @@
+-- What the contracts of this crate cite.
+pub mod Frames
+pub mod Joins
+pub mod Seams
+pub mod Decisions
+pub use Rattle.slot_plan.specs.Behind
+pub use Rattle.slot_plan.specs.Layouts
+pub use Rattle.slot_plan.specs.Parts
+pub use Rattle.exact_span.specs.Overlaps
+pub use Rattle.exact_span.specs.PlayedPositions

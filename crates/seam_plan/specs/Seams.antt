@@ -1,0 +1,129 @@
+-- Which frames at the front of each input are left out where inputs are joined without seams, and the
+-- run of all others, which is written as one part.
+use Rattle.std.specs.Prelude.{ℕ, ◌-◌, ◌&&◌, not, nat_le, if◌then◌else◌, Bool, true, false, List, [], ◌∷◌, ◌++◌, length, drop, flat_map, slice_range, bytes_eq, Option, None, option_map, option_and_then, unwrap_or}
+use Rattle.std.specs.Option.{option_or}
+use Rattle.frame_header.specs.Fields.{ClassFields}
+use Rattle.frame_header.specs.Tables.{window_of}
+use Rattle.exact_span.specs.PlayedPositions.{rest_of}
+use Rattle.exact_span.specs.Overlaps.{shared_of}
+use Rattle.exact_span.specs.declared.overlap.Overlap.{Overlap}
+use Rattle.exact_span.specs.declared.played.Played.{Played}
+use Rattle.seam_plan.specs.declared.seam.Seam.{Seam}
+use Rattle.seam_plan.specs.declared.seam.Seam.TheVariants.{Follows, LeadIn, Whole}
+use Rattle.seam_plan.specs.Frames.{Frame, Brought, needs_of}
+use Rattle.seam_plan.specs.Joins.{fits_behind, has_lead_in, is_wanted, joining}
+
+-- what becomes of an input: its seam, and the frames that it adds to the run, the first of them in
+-- the slot in which it joined
+pub record Joint : Type 0 where
+  pub seam : Seam
+  pub frames : List Frame
+
+abbrev pub joint_with : Seam → List Frame → Joint
+joint_with seam frames = record { seam = seam; frames = frames }
+
+-- how many frames are left out at its front
+abbrev pub left_out : Seam → ℕ
+left_out (Follows frames) = frames
+left_out LeadIn = 1
+left_out Whole = 0
+
+-- ---- an input that follows the one before it
+
+-- frames that are alike, one by one
+unfoldable pub are_alike : List Frame → List Frame → Bool
+are_alike [] [] = true
+are_alike (f ∷ frames) (g ∷ others) = bytes_eq f.sound g.sound && are_alike frames others
+are_alike _ _ = false
+
+-- the last frames of a run are alike these
+abbrev pub ends_alike : List Frame → List Frame → Bool
+ends_alike run frames =
+    nat_le (length frames) (length run) && are_alike (drop (length run - length frames) run) frames
+
+-- the frames that an input shares with the one before it, where the heads of both count
+abbrev pub overlap_of : ClassFields → Brought → Brought → Option Overlap
+overlap_of class before input =
+    option_and_then
+    (λ (p : Played).
+    option_and_then
+    (λ (q : Played). shared_of class (rest_of class (length before.frames) p) q.start (length input.frames))
+    input.played)
+    before.played
+
+-- of the frames that it shares, those that are to be alike
+abbrev pub compared : Overlap → Brought → List Frame
+compared overlap input = slice_range input.frames overlap.first_alike overlap.frames
+
+-- these are alike the last frames of the run, and the frames after them can join it
+abbrev pub follow_by : ClassFields → List Frame → Brought → Overlap → Option Joint
+follow_by class run input overlap =
+    if ends_alike run (compared overlap input)
+    then option_map (joint_with (Follows overlap.frames))
+    (joining (window_of class.version) run (drop overlap.frames input.frames))
+    else None
+
+unfoldable pub following : ClassFields → List Frame → Brought → Brought → Option Joint
+following class run before input =
+    option_and_then (follow_by class run input) (overlap_of class before input)
+
+-- ---- an input whose lead-in is left out
+
+-- it has a lead-in in front, which is wanted, and its other frames can join the run
+unfoldable pub without_lead_in : ClassFields → List Frame → Brought → Option Joint
+without_lead_in class run input =
+    if has_lead_in (window_of class.version) input && is_wanted (window_of class.version) input
+    then option_map (joint_with LeadIn)
+    (joining (window_of class.version) run (drop 1 input.frames))
+    else None
+
+-- ---- all inputs
+
+-- all its frames, in their own slots
+abbrev pub whole : Brought → Joint
+whole input = joint_with Whole input.frames
+
+-- what becomes of an input after a run that ends with what the input before it added: it follows that
+-- one, or else its lead-in is left out, or else it is whole
+abbrev pub joint_of : ClassFields → List Frame → Brought → Brought → Joint
+joint_of class run before input =
+    unwrap_or (option_or (following class run before input) (without_lead_in class run input))
+    (whole input)
+
+-- what becomes of inputs, one after the other
+unfoldable pub joints_from : ClassFields → List Frame → Brought → List Brought → List Joint
+joints_from class run before [] = []
+joints_from class run before (input ∷ inputs) =
+    let joint = joint_of class run before input in
+    joint ∷ joints_from class (run ++ joint.frames) input inputs
+
+-- what becomes of the inputs after the first, which begins the run with all its frames
+abbrev pub joints_of : ClassFields → Brought → List Brought → List Joint
+joints_of class first inputs = joints_from class first.frames first inputs
+
+abbrev pub run_with : Brought → List Joint → List Frame
+run_with first joints = first.frames ++ flat_map (λ (j : Joint). j.frames) joints
+
+-- The lead-in of the first input leaves the run at last if the run without it wants one: then it gets
+-- one again, with the area that all of them want.
+unfoldable pub front_left_out : ClassFields → Brought → List Frame → ℕ
+front_left_out class first run =
+    let window = window_of class.version in
+    if has_lead_in window first && not (fits_behind window 0 (needs_of (drop 1 run))) then 1 else 0
+
+-- what becomes of all inputs: how many frames are left out at the front of the first, and of each
+-- later one its seam and its frames
+pub record Joined : Type 0 where
+  pub front : ℕ
+  pub joints : List Joint
+
+unfoldable pub joined_of : ClassFields → Brought → List Brought → Joined
+joined_of class first inputs =
+    let joints = joints_of class first inputs in record {
+      front = front_left_out class first (run_with first joints);
+      joints = joints;
+    }
+
+-- the run: the frames that are written
+abbrev pub run_of : Brought → Joined → List Frame
+run_of first joined = drop joined.front (run_with first joined.joints)

@@ -1,0 +1,22 @@
+//! What inputs bring to a join without seams.
+ghost use Rattle.std.specs.Prelude.{◌≡◌, ◌≤◌, length, drop};
+
+use exact_span::Played;
+use slot_plan::Need;
+
+/// What each frame of an input needs, of which there is one, whether all bytes of the side information of
+/// its first frame are 0, and its played positions where its head counts.
+#[derive(Clone, Copy)]
+pub struct Input<'a> {
+    pub needs: &'a [Need],
+    pub blank: bool,
+    pub played: Option<Played>,
+}
+
+/// What all frames need but so many at the front.
+pub(crate) fn behind(needs: &[Need], count: usize) -> &[Need]
+    requires { count ≤ length needs.now }
+    ensures { result.now ≡ drop count needs.now }
+{
+    &needs[count..]
+}

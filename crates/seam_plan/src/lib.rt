@@ -1,0 +1,13 @@
+//! Which frames are left out where files are joined without seams. An input that follows the one before
+//! it shares frames with it, and a lead-in is of no use where main data are before its frames.
+#![tactic(auto)]
+
+mod input;
+mod lead_ins;
+mod run;
+mod seam;
+
+pub use input::Input;
+pub use lead_ins::front_left_out;
+pub use run::{FramePlace, Joint, Run};
+pub use seam::Seam;

@@ -1,0 +1,279 @@
+//! The frames that are written so far, and what becomes of the next input.
+ghost use Rattle.std.specs.Prelude.{◌≡◌, ◌<◌, ◌≤◌, ◌-◌, ◌++◌, List, [], ◌∷◌, length, drop, IfSome, option_map};
+ghost use Rattle.frame_header.specs.Fields.{ClassFields};
+ghost use Rattle.frame_header.specs.Tables.{window_of};
+ghost use Rattle.exact_span.specs.PlayedPositions.{rest_of as rest_of_lem, longest_rest};
+ghost use Rattle.slot_plan.specs.Parts.{AreOfClass};
+ghost use Rattle.slot_plan.specs.Behind.{FitsBehind, IsLeft, in_slot as in_slot_lem};
+ghost use Rattle.seam_plan.specs.Frames.{Frame, Brought, needs_of};
+ghost use Rattle.seam_plan.specs.Joins.{joining as joining_lem};
+ghost use Rattle.seam_plan.specs.Seams.{joint_of, overlap_of, following as following_lem, without_lead_in as without_lead_in_lem};
+ghost use Rattle.seam_plan.specs.Decisions.{CanBeJoined, IsBrought, IsRun, IsWithin, IsJoint, AreJoint, IsJoining, FitIn, FitsAs, IsSound, CanFollow, Joins, alike_overlap, last_of, last_seven, moved_first, places_from};
+
+use crate::input::{Input, behind};
+use crate::lead_ins::{fit_alone, has_lead_in};
+use crate::seam::Seam;
+use arrayvec::ArrayVec;
+use exact_span::{Overlap, shared};
+use frame_header::{Class, Slot};
+use slot_plan::{Need, free_behind, joins, leaves};
+
+/// A frame of an input: the numbers of both, counted from 0.
+#[derive(Clone, Copy, Debug, Default, PartialEq, Eq)]
+pub struct FramePlace {
+    pub input: u32,
+    pub frame: u32,
+}
+
+/// What becomes of an input after the first: how many frames are left out at its front, and the slot in
+/// which the first of the others joins the run, if there is one.
+#[derive(Clone, Copy, Debug, PartialEq, Eq)]
+pub struct Joint {
+    pub seam: Seam,
+    pub slot: Option<Slot>,
+}
+
+/// The frames that are written so far: how many bytes they leave behind a whole window, which are the last,
+/// and how many positions of the last input are after its last played one, where its head counts.
+#[derive(Clone, Debug, Drop)]
+pub struct Run {
+    class: Class,
+    left: u32,
+    last: ArrayVec<FramePlace, 7>,
+    rest: Option<u64>,
+}
+
+/// How many positions of the input are after its last played one, where its head counts.
+fn rest_of(class: Class, input: &Input<'_>) -> Option<u64>
+    requires { CanBeJoined class input.now }
+    ensures most { IfSome result (λ rest. rest ≤ longest_rest) }
+    ensures rest { result ≡ option_map (λ p. rest_of_lem class (length input.now.needs.now) p)
+        input.now.played }
+{
+    let played = input.played?;
+    Some(played.rest(class, input.needs.len() as u32))
+}
+
+/// A frame that is the first of others in another slot.
+fn in_slot(need: &Need, slot: Slot) -> Need
+    ensures { result ≡ in_slot_lem slot need.now }
+{
+    let mut moved = *need;
+    moved.header.slot = slot;
+    moved
+}
+
+/// Adds a place to the last seven, of which the first goes where there are seven.
+fn slide(last: &mut ArrayVec<FramePlace, 7>, place: FramePlace)
+    ensures few { length last.old.items ≤ 7 }
+    ensures room { length last.old.items < 7 → last.new.items ≡ last.old.items ++ place ∷ [] }
+    ensures full { length last.old.items ≡ 7 → last.new.items ≡ drop 1 last.old.items ++ place ∷ [] }
+{
+    if last.is_full() {
+        last.remove(0);
+    }
+    last.push(place);
+}
+
+impl Run {
+    /// The run that begins with all frames of the first input. It takes no memory.
+    pub fn begin(class: Class, input: &Input<'_>) -> Run
+        requires { CanBeJoined class input.now }
+        ensures run { (first : Brought) → IsBrought input.now first
+            → IsRun class first.frames (places_from 0 0 (length first.frames)) first result }
+        ensures sound { IsSound result }
+    {
+        let window = class.window();
+        let mut run = Run {
+            class,
+            left: leaves(input.needs, window),
+            last: ArrayVec::new(),
+            rest: rest_of(class, input),
+        };
+        run.note(0, 0, input.needs.len() as u32);
+        run
+    }
+
+    /// The frames that the next input shares with the one before it, where the heads of both count.
+    pub fn overlap(&self, input: &Input<'_>) -> Option<Overlap>
+        requires input { CanBeJoined self.now.class input.now }
+        requires sound { IsSound self.now }
+        ensures overlap { (class : ClassFields) (frames : List Frame) (places : List FramePlace)
+            (before brought : Brought) → IsRun class frames places before self.now
+            → IsBrought input.now brought → result ≡ overlap_of class before brought }
+        ensures can { IfSome result (CanFollow input.now) }
+    {
+        let rest = self.rest?;
+        let played = input.played?;
+        shared(self.class, rest, played.start, input.needs.len() as u32)
+    }
+
+    /// The last frames of the run, so many. `None` exactly where it has fewer.
+    pub fn last(&self, count: usize) -> Option<&[FramePlace]>
+        ensures { (class : ClassFields) (frames : List Frame) (places : List FramePlace)
+            (before : Brought) → IsRun class frames places before self.now → count ≤ 7
+            → option_map (λ s. s.now) result ≡ last_of places count }
+    {
+        let last = self.last.as_slice();
+        if count > last.len() {
+            return None;
+        }
+        Some(&last[last.len() - count..])
+    }
+
+    /// The run has these frames of an input behind its own, the first of them in this slot, if there is one.
+    fn add(&mut self, needs: &[Need], slot: Option<Slot>)
+        requires within { IsWithin self.old }
+        requires same { AreOfClass self.old.class needs.now }
+        requires fit { FitIn self.old.class self.old.left needs.now slot }
+        ensures class { self.new.class ≡ self.old.class }
+        ensures last { self.new.last ≡ self.old.last }
+        ensures rest { self.new.rest ≡ self.old.rest }
+        ensures within { IsWithin self.new }
+        ensures left { (frames : List Need) → IsLeft (window_of self.old.class.version)
+            (window_of self.old.class.version) frames self.old.left
+            → IsLeft (window_of self.old.class.version) (window_of self.old.class.version)
+            (frames ++ moved_first slot needs.now) self.new.left }
+    {
+        let Some(slot) = slot else {
+            return;
+        };
+        let first = in_slot(&needs[0], slot);
+        let window = self.class.window();
+        let free = free_behind(window, self.left, first.bytes, first.header.area());
+        self.left = leaves(behind(needs, 1), free);
+    }
+
+    /// The run has the frames of an input from one to before another behind its own.
+    fn note(&mut self, input: u32, from: u32, to: u32)
+        requires { from ≤ to }
+        ensures class { self.new.class ≡ self.old.class }
+        ensures left { self.new.left ≡ self.old.left }
+        ensures rest { self.new.rest ≡ self.old.rest }
+        ensures last { (places : List FramePlace) → self.old.last.items ≡ last_seven places
+            → self.new.last.items ≡ last_seven (places ++ places_from input from (to - from)) }
+    {
+        let first = from.max(to.saturating_sub(7));
+        for frame in first..to {
+            slide(&mut self.last, FramePlace { input, frame });
+        }
+    }
+
+    /// How the frames of an input that are left with this seam join the run: the slot of the first, if there is
+    /// one. `None` where they can't.
+    fn joining(&self, seam: Seam, needs: &[Need]) -> Option<Joint>
+        requires within { IsWithin self.now }
+        requires same { AreOfClass self.now.class needs.now }
+        requires fits { FitsBehind (window_of self.now.class.version)
+            (window_of self.now.class.version) needs.now }
+        ensures joining { (class : ClassFields) (frames rest : List Frame) (places : List FramePlace)
+            (before : Brought) → IsRun class frames places before self.now → needs.now ≡ needs_of rest
+            → IsJoining seam (joining_lem (window_of class.version) frames rest) result }
+        ensures fit { IfSome result (λ j. FitIn self.now.class self.now.left needs.now j.slot) }
+        ensures seam { IfSome result (λ j. j.seam ≡ seam) }
+    {
+        if needs.is_empty() {
+            return Some(Joint { seam, slot: None });
+        }
+        let Some(slot) = joins(self.left, needs) else {
+            return None;
+        };
+        Some(Joint {
+            seam,
+            slot: Some(slot),
+        })
+    }
+
+    /// The next input follows the one before it, if the frames that have to be alike are.
+    fn following(&self, input: &Input<'_>, alike: Option<Overlap>) -> Option<Joint>
+        requires input { CanBeJoined self.now.class input.now }
+        requires within { IsWithin self.now }
+        requires alike { IfSome alike (λ o. o.frames ≤ length input.now.needs.now) }
+        ensures joint { (class : ClassFields) (frames : List Frame) (places : List FramePlace)
+            (before brought : Brought) → IsRun class frames places before self.now
+            → IsBrought input.now brought → alike ≡ alike_overlap class frames before brought
+            → AreJoint (following_lem class frames before brought) result }
+        ensures fits { IfSome result (FitsAs self.now.class self.now.left input.now) }
+    {
+        let Some(overlap) = alike else {
+            return None;
+        };
+        let needs = behind(input.needs, overlap.frames as usize);
+        self.joining(Seam::Follows(overlap.frames), needs)
+    }
+
+    /// The lead-in of the next input is left out, if it has one that is wanted.
+    fn without_lead_in(&self, input: &Input<'_>) -> Option<Joint>
+        requires input { CanBeJoined self.now.class input.now }
+        requires within { IsWithin self.now }
+        ensures joint { (class : ClassFields) (frames : List Frame) (places : List FramePlace)
+            (before brought : Brought) → IsRun class frames places before self.now
+            → IsBrought input.now brought
+            → AreJoint (without_lead_in_lem class frames brought) result }
+        ensures fits { IfSome result (FitsAs self.now.class self.now.left input.now) }
+    {
+        let others = behind(input.needs, 1);
+        if !has_lead_in(input) {
+            return None;
+        }
+        if fit_alone(others) {
+            return None;
+        }
+        self.joining(Seam::LeadIn, others)
+    }
+
+    /// What becomes of the next input.
+    fn decide(&self, input: &Input<'_>, alike: Option<Overlap>) -> Joint
+        requires input { CanBeJoined self.now.class input.now }
+        requires within { IsWithin self.now }
+        requires alike { IfSome alike (λ o. o.frames ≤ length input.now.needs.now) }
+        ensures joint { (class : ClassFields) (frames : List Frame) (places : List FramePlace)
+            (before brought : Brought) → IsRun class frames places before self.now
+            → IsBrought input.now brought → alike ≡ alike_overlap class frames before brought
+            → IsJoint (joint_of class frames before brought) result }
+        ensures fits { FitsAs self.now.class self.now.left input.now result }
+    {
+        if let Some(joint) = self.following(input, alike) {
+            return joint;
+        }
+        if let Some(joint) = self.without_lead_in(input) {
+            return joint;
+        }
+        let first = &input.needs[0].header;
+        Joint {
+            seam: Seam::Whole,
+            slot: Some(first.slot),
+        }
+    }
+
+    /// What becomes of the next input, which has the number `number`, after which the run has its frames
+    /// but for those that are left out. `alike` is what `overlap` answers, if the frames that have to be
+    /// alike are, one by one, the last of the run. The first of these holds that can:
+    ///
+    /// - the input follows the one before it: these frames are alike, and those after the shared ones can
+    ///   join the run;
+    /// - its lead-in is left out: it has one in front, which the frames after it want, and these can join
+    ///   the run;
+    /// - it is whole.
+    ///
+    /// Frames can join where all fit behind a whole window with the first of them in its own slot or in a
+    /// greater one; they join in the least such slot. It takes no memory.
+    pub fn join(&mut self, number: u32, input: &Input<'_>, alike: Option<Overlap>) -> Joint
+        requires input { CanBeJoined self.old.class input.now }
+        requires sound { IsSound self.old }
+        requires alike { IfSome alike (λ o. o.frames ≤ length input.now.needs.now) }
+        ensures joint { (class : ClassFields) (frames : List Frame) (places : List FramePlace)
+            (before brought : Brought) → IsRun class frames places before self.old
+            → IsBrought input.now brought → alike ≡ alike_overlap class frames before brought
+            → Joins class number frames places before brought result self.new }
+        ensures sound { IsSound self.new }
+        ensures class { self.new.class ≡ self.old.class }
+    {
+        let joint = self.decide(input, alike);
+        let left_out = joint.seam.left_out();
+        self.add(behind(input.needs, left_out as usize), joint.slot);
+        self.note(number, left_out, input.needs.len() as u32);
+        self.rest = rest_of(self.class, input);
+        joint
+    }
+}
