@@ -23,9 +23,10 @@ install: all
 	install -d "$(MAN)"
 	gzip -9nc docs/mp3edit.1 >"$(MAN)/mp3edit.1.gz"
 	install -D -m 644 scripts/completion/mp3edit "$(COMPLETIONS)/mp3edit"
-	install -d "$(DOC)/docs/figures"
+	install -d "$(DOC)/docs/figures" "$(DOC)/docs/measurements"
 	install -m 644 README.md CHANGELOG.md SECURITY.md CONTRIBUTING.md LICENSE "$(DOC)"
 	install -m 644 docs/*.md "$(DOC)/docs"
+	install -m 644 docs/measurements/*.md "$(DOC)/docs/measurements"
 	for page in crates/*/README.md; do install -D -m 644 "$$page" "$(DOC)/$$page" || exit; done
 	install -m 644 docs/figures/*.svg "$(DOC)/docs/figures"
 
