@@ -1,11 +1,18 @@
--- Before a row in which each free byte spares one, the first area with which the main data fit is the best.
-use Rattle.std.proofs.Common.{◌≡◌, ℕ, ◌+◌, ◌-◌, ◌<◌, ◌≤◌, inl, inr, List, [], ◌∷◌, ◌++◌, map, length, length-append, get_or, take, drop, replicate, set, sym, ap, ap₂, ◌∙◌, subst, append_assoc, arith}
-use Rattle.std.proofs.lemmas.List.{take_all, drop_more, take_more, set_at, length-take-le, map-append, get_or-append_right, get_or-drop, get_or_append_left, get_or-append-add, get_or-map, length-map, length-replicate, get_or-replicate}
-use Rattle.std.proofs.lemmas.Bool.{cases_lt}
+-- Before a row in which each free byte spares one, the
+-- first area with which the main data fit is the best.
+use Rattle.std.proofs.Common.{ap, append_assoc, ap₂, arith, drop, get_or, inl, inr, length}
+use Rattle.std.proofs.Common.{length-append, List, map, replicate, set, subst, sym, take, ℕ, []}
+use Rattle.std.proofs.{Common.{◌++◌, ◌+◌, ◌-◌, ◌<◌, ◌∙◌, ◌∷◌, ◌≡◌, ◌≤◌}, lemmas.Bool.cases_lt}
+use Rattle.std.proofs.lemmas.List.{drop_more, get_or-append-add, get_or-append_right, get_or-drop}
+use Rattle.std.proofs.lemmas.List.{get_or-map, get_or-replicate, get_or_append_left, length-map}
+use Rattle.std.proofs.lemmas.List.{length-replicate, length-take-le, map-append, set_at, take_all}
+use Rattle.std.proofs.lemmas.List.{take_more}
+use Rattle.best_plan.specs.Rows.{AppendsFirst, AppendsRow, HasRoom, IsChoice, IsEndAt, IsEven}
+use Rattle.best_plan.specs.Rows.{IsFirst}
 use Rattle.slot_plan.specs.Reserve.{free_behind}
-use Rattle.best_plan.specs.Rows.{IsChoice, AppendsRow, IsEven, HasRoom, IsFirst, IsEndAt, AppendsFirst}
 
 -- ---- the places, from the last area to the first
+-- the places for the free bytes so far, each the first with which the main data fit
 pub record IsFirstTo (window bytes : ℕ) (areas : List ℕ) (to : ℕ) (old new : List ℕ) : Type 0 where
   pub cells : List ℕ
   pub appended : new ≡ old ++ cells
@@ -13,7 +20,8 @@ pub record IsFirstTo (window bytes : ℕ) (areas : List ℕ) (to : ℕ) (old new
   pub each : (free : ℕ) → free < length cells → IsFirst bytes areas free (get_or cells free 0)
 
 -- the ends rise
-pub end-rises : (window bytes : ℕ) (areas : List ℕ) (to now next : ℕ) → 0 < to → IsEndAt window bytes areas to now → IsEndAt window bytes areas (to - 1) next → now ≤ next
+pub end-rises : (window bytes : ℕ) (areas : List ℕ) (to now next : ℕ) → 0 < to
+    → IsEndAt window bytes areas to now → IsEndAt window bytes areas (to - 1) next → now ≤ next
 end-rises window bytes areas to now next some first second =
     elim (cases_lt next now) as (λ _. now ≤ next) [
       | inl less ↦
@@ -23,28 +31,41 @@ end-rises window bytes areas to now next some first second =
       | inr from ↦ from
     ]
 
-pub first-more : (window bytes : ℕ) (areas : List ℕ) (to end : ℕ) (old new next : List ℕ) → 0 < to → to ≤ length areas → IsEndAt window bytes areas (to - 1) end
-    → next ≡ take (length old + end) new ++ replicate (length old + end - length new) (to - 1) → IsFirstTo window bytes areas to old new → IsFirstTo window bytes areas (to - 1) old next
+-- one area more, back to front, fills the places up to where it no longer fits
+pub first-more : (window bytes : ℕ) (areas : List ℕ) (to end : ℕ) (old new next : List ℕ) → 0 < to
+    → to ≤ length areas → IsEndAt window bytes areas (to - 1) end
+    → next ≡ take (length old + end) new ++ replicate (length old + end - length new) (to - 1)
+    → IsFirstTo window bytes areas to old new → IsFirstTo window bytes areas (to - 1) old next
 first-more window bytes areas to end old new next some within is gives so_far =
-    let count : length new ≡ length old + length so_far.cells = ap length so_far.appended ∙ length-append old so_far.cells in
-    let rises : length so_far.cells ≤ end = end-rises window bytes areas to (length so_far.cells) end some so_far.ends is in
+    let count : length new ≡ length old + length so_far.cells =
+    ap length so_far.appended ∙ length-append old so_far.cells in
+    let rises : length so_far.cells ≤ end =
+    end-rises window bytes areas to (length so_far.cells) end some so_far.ends is in
     let many : ℕ = end - length so_far.cells in
     let more : List ℕ = replicate many (to - 1) in
-    let kept : take (length old + end) new ≡ new = take_all (length old + end) new (omega (arith, count, rises)) in
+    let kept : take (length old + end) new ≡ new =
+    take_all (length old + end) new (omega (arith, count, rises)) in
     let left : length old + end - length new ≡ many = omega (arith, count) in
-    let long : length (so_far.cells ++ more) ≡ end = omega (arith, length-append so_far.cells more, length-replicate many (to - 1), rises) in
+    let long : length (so_far.cells ++ more) ≡ end =
+    omega (arith, length-append so_far.cells more, length-replicate many (to - 1), rises) in
     record {
       cells = so_far.cells ++ more;
-      appended = gives ∙ ap₂ (λ (l : List ℕ) n. l ++ replicate n (to - 1)) (kept ∙ so_far.appended) left ∙ append_assoc old so_far.cells more;
+      appended =
+          gives ∙ ap₂ (λ (l : List ℕ) n. l ++ replicate n (to - 1)) (kept ∙ so_far.appended) left
+          ∙ append_assoc old so_far.cells more;
       ends = subst (IsEndAt window bytes areas (to - 1)) (sym long) is;
       each = λ free less.
-          elim (cases_lt free (length so_far.cells)) as (λ _. IsFirst bytes areas free (get_or (so_far.cells ++ more) free 0)) [
-            | inl before ↦ subst (IsFirst bytes areas free) (sym (get_or_append_left so_far.cells more 0 free before)) (so_far.each free before)
+          elim (cases_lt free (length so_far.cells))
+          as (λ _. IsFirst bytes areas free (get_or (so_far.cells ++ more) free 0)) [
+            | inl before ↦ subst (IsFirst bytes areas free)
+                (sym (get_or_append_left so_far.cells more 0 free before)) (so_far.each free before)
             | inr from ↦
                 let behind : ℕ = free - length so_far.cells in
                 let here : free ≡ length so_far.cells + behind = omega (arith, from) in
                 let at : get_or (so_far.cells ++ more) free 0 ≡ to - 1 =
-                ap (λ n. get_or (so_far.cells ++ more) n 0) here ∙ get_or-append-add so_far.cells more behind 0 ∙ get_or-replicate many behind (to - 1) 0 (omega (arith, less, long, here, rises)) in
+                ap (λ n. get_or (so_far.cells ++ more) n 0) here
+                ∙ get_or-append-add so_far.cells more behind 0 ∙ get_or-replicate many behind
+                (to - 1) 0 (omega (arith, less, long, here, rises)) in
                 subst (IsFirst bytes areas free) (sym at) (record {
                   within = omega (arith, some, within);
                   fits = so_far.ends.large free from (omega (arith, less, long, is.within));
@@ -53,7 +74,9 @@ first-more window bytes areas to end old new next some within is gives so_far =
           ];
     }
 
-pub first-all : (window bytes : ℕ) (areas : List ℕ) (to : ℕ) (old new : List ℕ) → to ≡ 0 → IsFirstTo window bytes areas to old new → AppendsFirst window bytes areas old new
+-- after the last of them all places are filled
+pub first-all : (window bytes : ℕ) (areas : List ℕ) (to : ℕ) (old new : List ℕ) → to ≡ 0
+    → IsFirstTo window bytes areas to old new → AppendsFirst window bytes areas old new
 first-all window bytes areas to old new all so_far =
     let many : length so_far.cells ≡ window + 1 =
     elim (cases_lt window (length so_far.cells)) as (λ _. length so_far.cells ≡ window + 1) [
@@ -70,33 +93,44 @@ first-all window bytes areas to old new all so_far =
 -- ---- the row of the first areas
 
 -- the first area leaves no more than the window
-even-left : (window bytes : ℕ) (areas : List ℕ) (free place : ℕ) → HasRoom window bytes areas → free ≤ window → IsFirst bytes areas free place → (free + get_or areas place 0) - bytes ≤ window
+even-left : (window bytes : ℕ) (areas : List ℕ) (free place : ℕ) → HasRoom window bytes areas → free
+    ≤ window → IsFirst bytes areas free place → (free + get_or areas place 0) - bytes ≤ window
 even-left window bytes areas free place room within is =
     elim (cases_lt 0 place) as (λ _. (free + get_or areas place 0) - bytes ≤ window) [
-      | inl some ↦ omega (arith, room.near place some is.within, is.small (place - 1) (omega (arith, some)))
+      | inl some ↦
+          omega (arith, room.near place some is.within, is.small (place - 1) (omega (arith, some)))
       | inr none ↦
           let at : place ≡ 0 = omega (arith, none) in
           omega (arith, room.least, ap (λ n. get_or areas n 0) at, within)
     ]
 
-even-choice : (window bytes : ℕ) (areas later : List ℕ) (free place : ℕ) → length later ≡ window + 1 → IsEven later → HasRoom window bytes areas → free ≤ window → IsFirst bytes areas free place
+even-choice : (window bytes : ℕ) (areas later : List ℕ) (free place : ℕ) → length later ≡ window + 1
+    → IsEven later → HasRoom window bytes areas → free ≤ window → IsFirst bytes areas free place
     → IsChoice window free bytes areas later (get_or later free 0 + bytes) place
 even-choice window bytes areas later free place width even room within is =
     let area : ℕ = get_or areas place 0 in
     let left : ℕ = free_behind window free bytes area in
-    let here : left ≡ (free + area) - bytes = omega (arith, even-left window bytes areas free place room within is) in
+    let here : left ≡ (free + area) - bytes =
+    omega (arith, even-left window bytes areas free place room within is) in
     let now = even free (omega (arith, width, within)) in
     let then = even left (omega (arith, width)) in
     record {
-      least = λ k less fits. omega (arith, now, even (free_behind window free bytes (get_or areas k 0)) (omega (arith, width)), fits);
+      least = λ k less fits. omega (
+        arith,
+        now,
+        even (free_behind window free bytes (get_or areas k 0)) (omega (arith, width)),
+        fits,
+      );
       within = λ _. is.within;
       fits = λ _. is.fits;
       found = λ _. omega (arith, now, then, here, is.fits);
       first = λ k before _ fits. absurd (omega (arith, is.small k before, fits));
     }
 
-pub even-row : (window bytes : ℕ) (areas later sums old new : List ℕ) → length later ≡ window + 1 → IsEven later → HasRoom window bytes areas → sums ≡ map (λ n. n + bytes) later → AppendsFirst window bytes areas old new
-    → AppendsRow window bytes areas later sums old new
+-- before a row in which each free byte spares one, these places and sums are the row
+pub even-row : (window bytes : ℕ) (areas later sums old new : List ℕ) → length later ≡ window + 1
+    → IsEven later → HasRoom window bytes areas → sums ≡ map (λ n. n + bytes) later
+    → AppendsFirst window bytes areas old new → AppendsRow window bytes areas later sums old new
 even-row window bytes areas later sums old new width even room is first = record {
   cells = first.cells;
   appended = first.appended;
@@ -104,33 +138,48 @@ even-row window bytes areas later sums old new width even room is first = record
     width = ap length is ∙ length-map later (λ n. n + bytes) ∙ width;
     many = first.many;
     each = λ free within.
-        let sum : get_or sums free 0 ≡ get_or later free 0 + bytes = ap (λ l. get_or l free 0) is ∙ get_or-map (λ n. n + bytes) later free 0 0 (omega (arith, width, within)) in
-        subst (λ n. IsChoice window free bytes areas later n (get_or first.cells free 0)) (sym sum) (even-choice window bytes areas later free (get_or first.cells free 0) width even room within (first.each free within));
+        let sum : get_or sums free 0 ≡ get_or later free 0 + bytes = ap (λ l. get_or l free 0) is
+        ∙ get_or-map (λ n. n + bytes) later free 0 0 (omega (arith, width, within)) in
+        subst (λ n. IsChoice window free bytes areas later n (get_or first.cells free 0)) (sym sum)
+        (even-choice window bytes areas later free
+        (get_or first.cells free 0) width even room within (first.each free within));
   };
 }
 
-pub even-again : (later sums : List ℕ) (bytes : ℕ) → IsEven later → sums ≡ map (λ n. n + bytes) later → IsEven sums
+-- and that row is again one in which each free byte spares one
+pub even-again : (later sums : List ℕ) (bytes : ℕ) → IsEven later
+    → sums ≡ map (λ n. n + bytes) later → IsEven sums
 even-again later sums bytes even is free less =
     let many : length sums ≡ length later = ap length is ∙ length-map later (λ n. n + bytes) in
-    let sum : (k : ℕ) → k < length sums → get_or sums k 0 ≡ get_or later k 0 + bytes = λ k within. ap (λ l. get_or l k 0) is ∙ get_or-map (λ n. n + bytes) later k 0 0 (omega (arith, many, within)) in
+    let sum : (k : ℕ) → k < length sums → get_or sums k 0 ≡ get_or later k 0 + bytes =
+    λ k within. ap (λ l. get_or l k 0) is
+    ∙ get_or-map (λ n. n + bytes) later k 0 0 (omega (arith, many, within)) in
     omega (arith, sum free less, sum 0 (omega (arith, less)), even free (omega (arith, many, less)))
 
 -- ---- as many bytes added to each sum
 
 -- the sum that is next hasn't changed
-pub added-here : (bytes : ℕ) (xs ys : List ℕ) (i d : ℕ) → i < length xs → ys ≡ map (λ n. n + bytes) (take i xs) ++ drop i xs → get_or ys i d ≡ get_or xs i d
+pub added-here : (bytes : ℕ) (xs ys : List ℕ) (i d : ℕ) → i < length xs
+    → ys ≡ map (λ n. n + bytes) (take i xs) ++ drop i xs → get_or ys i d ≡ get_or xs i d
 added-here bytes xs ys i d less is =
-    let size : length (map (λ n. n + bytes) (take i xs)) ≡ i = length-map (take i xs) (λ n. n + bytes) ∙ length-take-le i xs (omega (arith, less)) in
-    ap (λ l. get_or l i d) is ∙ get_or-append_right (map (λ n. n + bytes) (take i xs)) (drop i xs) i i d size (omega arith) ∙ get_or-drop i xs (i - i) d ∙ ap (λ n. get_or xs n d) (omega arith)
+    let size : length (map (λ n. n + bytes) (take i xs)) ≡ i =
+    length-map (take i xs) (λ n. n + bytes) ∙ length-take-le i xs (omega (arith, less)) in
+    ap (λ l. get_or l i d) is
+    ∙ get_or-append_right (map (λ n. n + bytes) (take i xs)) (drop i xs) i i d size (omega arith)
+    ∙ get_or-drop i xs (i - i) d ∙ ap (λ n. get_or xs n d) (omega arith)
 
-pub added-more : (bytes : ℕ) (xs ys : List ℕ) (i d sum : ℕ) → i < length xs → ys ≡ map (λ n. n + bytes) (take i xs) ++ drop i xs → sum ≡ get_or ys i d + bytes
+-- to add the main data to the sum at i is to have added them to one more
+pub added-more : (bytes : ℕ) (xs ys : List ℕ) (i d sum : ℕ) → i < length xs
+    → ys ≡ map (λ n. n + bytes) (take i xs) ++ drop i xs → sum ≡ get_or ys i d + bytes
     → set ys i sum ≡ map (λ n. n + bytes) (take (i + 1) xs) ++ drop (i + 1) xs
 added-more bytes xs ys i d sum less is at =
     let f : ℕ → ℕ = λ n. n + bytes in
     let x : ℕ = get_or xs i d in
-    let size : length (map f (take i xs)) ≡ i = length-map (take i xs) f ∙ length-take-le i xs (omega (arith, less)) in
+    let size : length (map f (take i xs)) ≡ i =
+    length-map (take i xs) f ∙ length-take-le i xs (omega (arith, less)) in
     ap₂ (λ (l : List ℕ) (n : ℕ). set l i n) is (at ∙ ap f (added-here bytes xs ys i d less is))
     ∙ ap (λ t. set (map f (take i xs) ++ t) i (f x)) (drop_more xs i d less)
     ∙ set_at (map f (take i xs)) x (drop (i + 1) xs) (f x) i size
     ∙ sym (append_assoc (map f (take i xs)) (f x ∷ []) (drop (i + 1) xs))
-    ∙ ap (λ t. t ++ drop (i + 1) xs) (sym (map-append f (take i xs) (x ∷ [])) ∙ ap (map f) (sym (take_more xs i d less)))
+    ∙ ap (λ t. t ++ drop (i + 1) xs)
+    (sym (map-append f (take i xs) (x ∷ [])) ∙ ap (map f) (sym (take_more xs i d less)))

@@ -1,52 +1,65 @@
 -- Where a part has a plan it has a best plan.
-use Rattle.std.proofs.Common.{◌≡◌, ℕ, true, false, List, [], ◌∷◌, map, Option, Some, None, refl, ap, ap₂, subst, inl, inr, ◌⊎◌}
-use Rattle.frame_header.specs.Fields.{SlotFields, HeaderFields}
-use Rattle.frame_header.specs.Tables.{class_of}
-use Rattle.slot_plan.specs.declared.needs.Need.{Need}
-use Rattle.slot_plan.specs.declared.needs.Placed.{Placed}
-use Rattle.slot_plan.specs.Layouts.{IsFeasible}
-use Rattle.slot_plan.specs.Lists.{CanBeLaid}
-use Rattle.slot_plan.specs.Parts.{open_of, item_of, lead_in_of, items_of, whole_of, IsLeadIn, AreLeadIns}
-use Rattle.slot_plan.specs.Plans.{areas_in, IsPlanFor}
-use Rattle.best_plan.specs.Best.{items_behind}
-use Rattle.best_plan.specs.BestOf.{or_behind, best_of, best_plan_of}
+use Rattle.std.proofs.Common.{ap, ap₂, false, inl, inr, List, map, None, Option, refl, Some, subst}
+use Rattle.std.proofs.Common.{true, ℕ, [], ◌∷◌, ◌≡◌, ◌⊎◌}
+use Rattle.best_plan.proofs.{BestOfLaws.none-laid, ShortestLaw.{same-frames, whole-one, widened}}
+use Rattle.best_plan.specs.{Best.items_behind, BestOf.{best_of, best_plan_of, or_behind}}
 use Rattle.best_plan.specs.Laws.{BestExists}
-use Rattle.best_plan.proofs.ShortestLaw.{widened, same-frames, whole-one}
-use Rattle.best_plan.proofs.BestOfLaws.{none-laid}
+use Rattle.frame_header.specs.{Fields.{HeaderFields, SlotFields}, Tables.class_of}
+use Rattle.slot_plan.specs.{Layouts.IsFeasible, Lists.CanBeLaid}
+use Rattle.slot_plan.specs.Parts.{AreLeadIns, IsLeadIn, item_of, items_of, lead_in_of, open_of}
+use Rattle.slot_plan.specs.{Parts.whole_of, Plans.{areas_in, IsPlanFor}, declared.needs.Need.Need}
+use Rattle.slot_plan.specs.declared.needs.Placed.{Placed}
 
 module _ (window : ℕ) (choices : HeaderFields → List SlotFields) (needs : List Need) where
   abbrev Best : Type 0
   Best = (best : List Placed) × (best_plan_of window choices needs ≡ Some best)
 
   abbrev CanBe : Type 0
-  CanBe = CanBeLaid window (map open_of (items_behind false choices needs)) ⊎ CanBeLaid window (map open_of (items_behind true choices needs))
+  CanBe = CanBeLaid window (map open_of (items_behind false choices needs))
+      ⊎ CanBeLaid window (map open_of (items_behind true choices needs))
 
-  none : CanBe → best_of window (items_behind false choices needs) ≡ None → best_of window (items_behind true choices needs) ≡ None → ⊥
+  none : CanBe → best_of window (items_behind false choices needs) ≡ None
+      → best_of window (items_behind true choices needs) ≡ None → ⊥
   none (inl can) without behind = none-laid window (items_behind false choices needs) without can
   none (inr can) without behind = none-laid window (items_behind true choices needs) behind can
 
-  found : CanBe → (a b : Option (List Placed)) → best_of window (items_behind false choices needs) ≡ a → best_of window (items_behind true choices needs) ≡ b → Best
-  found can (Some best) b without behind = (best, ap (λ o. or_behind o (best_of window (items_behind true choices needs))) without)
+  found : CanBe → (a b : Option (List Placed)) → best_of window (items_behind false choices needs)
+      ≡ a → best_of window (items_behind true choices needs) ≡ b → Best
+  found can (Some best) b without behind =
+      (best, ap (λ o. or_behind o (best_of window (items_behind true choices needs))) without)
   found can None (Some best) without behind = (best, ap₂ or_behind without behind)
   found can None None without behind = absurd (none can without behind)
 
-by-lead : (window : ℕ) (choices : HeaderFields → List SlotFields) (needs : List Need) (lead_in : Option SlotFields) (placed : List Placed) → IsLeadIn window choices needs lead_in → IsPlanFor window (items_of choices needs lead_in) placed
-    → CanBe window choices needs
+by-lead : (window : ℕ) (choices : HeaderFields → List SlotFields) (needs : List Need)
+    (lead_in : Option SlotFields) (placed : List Placed) → IsLeadIn window choices needs lead_in
+    → IsPlanFor window (items_of choices needs lead_in) placed → CanBe window choices needs
 unfolding IsLeadIn items_of items_behind CanBeLaid
-by-lead window choices needs None placed alone plan = inl (areas_in (map (item_of choices) needs) placed, plan.least.chosen, plan.least.feasible)
+by-lead window choices needs None placed alone plan =
+    inl (areas_in (map (item_of choices) needs) placed, plan.least.chosen, plan.least.feasible)
 by-lead window choices [] (Some slot) placed alone plan = absurd alone
 by-lead window choices (first ∷ needs) (Some slot) placed alone plan =
-    let areas : List ℕ = areas_in (lead_in_of (class_of first.header) (slot ∷ []) ∷ map (item_of choices) (first ∷ needs)) placed in
-    inr (areas, widened choices first needs slot areas alone.2 plan.least.chosen, subst (IsFeasible window 0) (same-frames choices first needs slot areas) plan.least.feasible)
+    let areas : List ℕ = areas_in (lead_in_of (class_of first.header) (slot ∷ [])
+    ∷ map (item_of choices) (first ∷ needs)) placed in
+    inr (
+      areas,
+      widened choices first needs slot areas alone.2 plan.least.chosen,
+      subst (IsFeasible window 0) (same-frames choices first needs slot areas) plan.least.feasible,
+    )
 
-by-leads : (window : ℕ) (choices : HeaderFields → List SlotFields) (needs : List Need) (lead_ins : List (Option SlotFields)) (placed : List Placed) → AreLeadIns window choices (needs ∷ []) lead_ins
+by-leads : (window : ℕ) (choices : HeaderFields → List SlotFields) (needs : List Need)
+    (lead_ins : List (Option SlotFields)) (placed : List Placed)
+    → AreLeadIns window choices (needs ∷ []) lead_ins
     → IsPlanFor window (whole_of choices (needs ∷ []) lead_ins) placed → CanBe window choices needs
 unfolding AreLeadIns
 by-leads window choices needs [] placed alone plan = absurd alone
 by-leads window choices needs (lead_in ∷ other ∷ lead_ins) placed alone plan = absurd alone.1
 by-leads window choices needs (lead_in ∷ []) placed alone plan =
-    by-lead window choices needs lead_in placed alone.0 (subst (λ l. IsPlanFor window l placed) (whole-one choices needs lead_in) plan)
+    by-lead window choices needs lead_in placed
+    alone.0 (subst (λ l. IsPlanFor window l placed) (whole-one choices needs lead_in) plan)
 
+-- where a part has a plan it has a best plan
 pub best-exists : BestExists
 best-exists = λ window choices needs placed plan.
-    found window choices needs (by-leads window choices needs plan.lead_ins placed plan.alone plan.whole) (best_of window (items_behind false choices needs)) (best_of window (items_behind true choices needs)) refl refl
+    found window choices needs
+    (by-leads window choices needs plan.lead_ins placed plan.alone plan.whole) (best_of window
+    (items_behind false choices needs)) (best_of window (items_behind true choices needs)) refl refl

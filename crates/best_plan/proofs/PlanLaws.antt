@@ -1,63 +1,78 @@
 -- With a lead-in and without one.
-use Rattle.std.proofs.Common.{◌≡◌, ℕ, ◌<◌, ◌≤◌, true, false, List, [], ◌∷◌, ◌++◌, map, length, get_or, All, Contains, refl, sym, ap, ◌∙◌, subst, arith}
-use Rattle.std.proofs.lemmas.List.{get_or_default, get_or-map, length-map}
-use Rattle.frame_header.specs.Fields.{SlotFields, ClassFields, HeaderFields}
-use Rattle.frame_header.specs.Tables.{class_of, area_of}
-use Rattle.frame_header.specs.Slots.{all_slots, areas_of, largest_slot}
+use Rattle.std.proofs.Common.{All, ap, arith, Contains, false, get_or, length, List, map, refl}
+use Rattle.std.proofs.Common.{subst, sym, true, ℕ, [], ◌++◌, ◌<◌, ◌∙◌, ◌∷◌, ◌≡◌, ◌≤◌}
+use Rattle.std.proofs.lemmas.List.{get_or-map, get_or_default, length-map}
+use Rattle.best_plan.proofs.SumLaws.{fits-laid, laid-fits, table-bound, table-own, table-sums}
+use Rattle.best_plan.proofs.WalkLaws.{best-walked, IsWalked, table-width, walked-best, walked-more}
+use Rattle.best_plan.specs.{Best.{IsBestFor, IsBestPlan, items_behind}, Rows.{IsChoice, nothing}}
+use Rattle.best_plan.specs.Table.{IsLeadInBy, IsTable, Walks}
 use Rattle.frame_header.proofs.SlotLaws.{Contains-all_slots}
-use Rattle.slot_plan.specs.declared.needs.Need.{Need}
+use Rattle.frame_header.specs.Fields.{ClassFields, HeaderFields, SlotFields}
+use Rattle.frame_header.specs.Slots.{all_slots, areas_of, largest_slot}
+use Rattle.frame_header.specs.Tables.{area_of, class_of}
+use Rattle.slot_plan.proofs.{AreaLaws.{Ascend, Contains-area, lead-ascend}, PartLaws.frames-by}
+use Rattle.slot_plan.{proofs.ReserveLaws.AllFit, specs.Layouts.IsFeasible}
+use Rattle.slot_plan.specs.Lists.{CanBeLaid, frames_of}
+use Rattle.slot_plan.specs.Parts.{areas_with, Item, item_of, lead_in_of, own_area, own_frame}
+use Rattle.slot_plan.specs.{Reserve.{free_behind, opens_in, own_area_of}, declared.needs.Need.Need}
 use Rattle.slot_plan.specs.declared.needs.Placed.{Placed}
-use Rattle.slot_plan.specs.Layouts.{IsFeasible}
-use Rattle.slot_plan.specs.Lists.{frames_of, CanBeLaid}
-use Rattle.slot_plan.specs.Parts.{Item, item_of, lead_in_of, own_area, own_frame, areas_with}
-use Rattle.slot_plan.specs.Reserve.{free_behind, opens_in, own_area_of}
-use Rattle.slot_plan.proofs.ReserveLaws.{AllFit}
-use Rattle.slot_plan.proofs.AreaLaws.{Ascend, Contains-area, lead-ascend}
-use Rattle.slot_plan.proofs.PartLaws.{frames-by}
-use Rattle.best_plan.specs.Best.{IsBestFor, items_behind, IsBestPlan}
-use Rattle.best_plan.specs.Rows.{nothing, IsChoice}
-use Rattle.best_plan.specs.Table.{IsTable, Walks, IsLeadInBy}
-use Rattle.best_plan.proofs.SumLaws.{fits-laid, laid-fits, table-sums, table-bound, table-own}
-use Rattle.best_plan.proofs.WalkLaws.{IsWalked, table-width, walked-more, best-walked, walked-best}
 
 -- after a whole window the frames can keep their slots
-pub whole-sum : (window : ℕ) (choices : HeaderFields → List SlotFields) (needs : List Need) (sums places : List ℕ) → length needs ≤ 200000 → IsFeasible window window (map own_frame needs) → IsTable window choices needs sums places
-    → get_or sums window 0 ≤ 288200000
+pub whole-sum : (window : ℕ) (choices : HeaderFields → List SlotFields) (needs : List Need)
+    (sums places : List ℕ) → length needs ≤ 200000 → IsFeasible window window (map own_frame needs)
+    → IsTable window choices needs sums places → get_or sums window 0 ≤ 288200000
 whole-sum window choices needs sums places few feasible table =
     let own = table-own window choices needs sums places table in
-    let fit = subst (AllFit window window) (sym (frames-by choices own_area_of needs)) (fits-laid window window (map own_frame needs) feasible) in
-    let least = (table-sums window choices needs sums places table window (omega arith)).least (map own_area needs) own fit in
+    let fit = subst (AllFit window window) (sym (frames-by choices own_area_of needs))
+    (fits-laid window window (map own_frame needs) feasible) in
+    let least = (table-sums window choices needs sums places table window (omega arith)).least
+    (map own_area needs) own fit in
     let bound = table-bound window choices needs sums places (map own_area needs) table own in
     omega (arith, least, bound, few)
 
 -- so some lead-in does
-pub lead-some : (window : ℕ) (class : ClassFields) (sums : List ℕ) (cost place : ℕ) → window ≤ area_of class largest_slot false → All (λ n. n ≤ 1441) (areas_with class false all_slots) → get_or sums window 0 ≤ 288200000
+pub lead-some : (window : ℕ) (class : ClassFields) (sums : List ℕ) (cost place : ℕ)
+    → window ≤ area_of class largest_slot false
+    → All (λ n. n ≤ 1441) (areas_with class false all_slots) → get_or sums window 0 ≤ 288200000
     → IsChoice window 0 0 (areas_with class false all_slots) sums cost place → cost < nothing
 lead-some window class sums cost place spanned most some is =
-    let has = Contains-area class false all_slots largest_slot (Contains-all_slots largest_slot (omega arith, omega arith)) in
+    let has = Contains-area class false all_slots largest_slot
+    (Contains-all_slots largest_slot (omega arith, omega arith)) in
     let areas : List ℕ = areas_with class false all_slots in
     let area : ℕ = get_or areas has.0 0 in
-    let at : area ≡ area_of class largest_slot false = get_or_default areas has.0 0 (area_of class largest_slot false) has.1 ∙ has.2 in
+    let at : area ≡ area_of class largest_slot false =
+    get_or_default areas has.0 0 (area_of class largest_slot false) has.1 ∙ has.2 in
     let full : free_behind window 0 0 area ≡ window = omega (arith, at, spanned) in
     let low = is.least has.0 has.1 (omega arith) in
     omega (arith, low, ap (λ n. get_or sums n 0) full, most has.0 0 has.1, some)
 
 -- where the table has a sum for no free bytes, the frames can be laid without a lead-in
-pub can-sum : (window : ℕ) (choices : HeaderFields → List SlotFields) (needs : List Need) (sums places : List ℕ) → IsTable window choices needs sums places → get_or sums 0 0 < nothing → CanBeLaid window (opens_in choices needs)
+pub can-sum : (window : ℕ) (choices : HeaderFields → List SlotFields) (needs : List Need)
+    (sums places : List ℕ) → IsTable window choices needs sums places → get_or sums 0 0 < nothing
+    → CanBeLaid window (opens_in choices needs)
 unfolding CanBeLaid
 can-sum window choices needs sums places table some =
-    let found = (table-sums window choices needs sums places table 0 (omega arith)).some some in
-    (found.0, found.1, laid-fits window 0 (frames_of (opens_in choices needs) found.0) (omega arith) found.2)
+    let found = (table-sums window choices needs sums places table 0 (omega arith)).some some in (
+      found.0,
+      found.1,
+      laid-fits window 0 (frames_of (opens_in choices needs) found.0) (omega arith) found.2,
+    )
 
 -- and if it has none, they can't
-pub cannot-sum : (window : ℕ) (choices : HeaderFields → List SlotFields) (needs : List Need) (sums places : List ℕ) → length needs ≤ 200000 → IsTable window choices needs sums places → nothing ≤ get_or sums 0 0 → CanBeLaid window (opens_in choices needs) → ⊥
+pub cannot-sum : (window : ℕ) (choices : HeaderFields → List SlotFields) (needs : List Need)
+    (sums places : List ℕ) → length needs ≤ 200000 → IsTable window choices needs sums places
+    → nothing ≤ get_or sums 0 0 → CanBeLaid window (opens_in choices needs) → ⊥
 unfolding CanBeLaid
 cannot-sum window choices needs sums places few table none can =
-    let least = (table-sums window choices needs sums places table 0 (omega arith)).least can.0 can.1 (fits-laid window 0 (frames_of (opens_in choices needs) can.0) can.2) in
+    let least = (table-sums window choices needs sums places table 0 (omega arith)).least can.0
+    can.1 (fits-laid window 0 (frames_of (opens_in choices needs) can.0) can.2) in
     omega (arith, least, none, table-bound window choices needs sums places can.0 table can.1, few)
 
-pub plan-without : (window : ℕ) (choices : HeaderFields → List SlotFields) (needs : List Need) (sums places : List ℕ) (old new placed : List Placed) → IsTable window choices needs sums places → get_or sums 0 0 < nothing
-    → old ≡ [] → Walks window choices 0 needs old new → placed ≡ new → IsBestPlan window choices needs placed
+-- if the table has a sum for no free bytes, the walk from there is the best plan
+pub plan-without : (window : ℕ) (choices : HeaderFields → List SlotFields) (needs : List Need)
+    (sums places : List ℕ) (old new placed : List Placed) → IsTable window choices needs sums places
+    → get_or sums 0 0 < nothing → old ≡ [] → Walks window choices 0 needs old new → placed ≡ new
+    → IsBestPlan window choices needs placed
 unfolding items_behind
 plan-without window choices needs sums places old new placed table some none walk is =
     let all : walk.more ≡ placed = sym (is ∙ walk.appended ∙ ap (λ l. l ++ walk.more) none) in
@@ -70,44 +85,82 @@ plan-without window choices needs sums places old new placed table some none wal
 not-false : true ≡ false → ⊥
 not-false e = absurd cc
 
-lead-whole : (window : ℕ) (choices : HeaderFields → List SlotFields) (needs : List Need) (d : Need) (class : ClassFields) (sums places : List ℕ) (lead : Placed) (more : List Placed) (free : ℕ) → 0 < length needs → class ≡ class_of (get_or needs 0 d).header
-    → IsTable window choices needs sums places → IsLeadInBy window class sums lead → free ≡ free_behind window 0 0 (area_of class lead.slot false) → IsBestFor window free (map (item_of choices) needs) more
+lead-whole : (window : ℕ) (choices : HeaderFields → List SlotFields) (needs : List Need) (d : Need)
+    (class : ClassFields) (sums places : List ℕ) (lead : Placed) (more : List Placed) (free : ℕ)
+    → 0 < length needs → class ≡ class_of (get_or needs 0 d).header
+    → IsTable window choices needs sums places → IsLeadInBy window class sums lead
+    → free ≡ free_behind window 0 0 (area_of class lead.slot false)
+    → IsBestFor window free (map (item_of choices) needs) more
     → IsBestFor window 0 (items_behind true choices needs) (lead ∷ more)
 unfolding items_behind
-lead-whole window choices [] d class sums places lead more free some is table by gives best = absurd (omega (arith, some))
-lead-whole window choices (first ∷ needs) d class sums places lead more free some is table by gives best =
+lead-whole window choices [] d class sums places lead more free some is table by gives best =
+    absurd (omega (arith, some))
+lead-whole window choices
+    (first ∷ needs) d class sums places lead more free some is table by gives best =
     let items : List Item = map (item_of choices) (first ∷ needs) in
-    let rest = subst (λ n. IsWalked window n items more) gives (walked-best window free items more (omega (arith, gives)) best) in
+    let rest = subst (λ n. IsWalked window n items more) gives
+    (walked-best window free items more (omega (arith, gives)) best) in
     let whole : IsBestFor window 0 (lead_in_of class all_slots ∷ items) (lead ∷ more) =
     best-walked window 0 (lead_in_of class all_slots ∷ items) (lead ∷ more) (omega arith)
-    (walked-more window 0 (lead_in_of class all_slots) items lead more sums by.cost by.place by.ascending by.choice by.some
-    (table-sums window choices (first ∷ needs) sums places table) by.area by.chosen by.lead_in by.begin rest) in
+    (walked-more window 0 (lead_in_of class all_slots) items lead more sums
+    by.cost by.place by.ascending by.choice by.some
+    (table-sums window choices (first ∷ needs) sums places table)
+    by.area by.chosen by.lead_in by.begin rest) in
     subst (λ k. IsBestFor window 0 (lead_in_of k all_slots ∷ items) (lead ∷ more)) is whole
 
-pub plan-behind : (window : ℕ) (choices : HeaderFields → List SlotFields) (needs : List Need) (d : Need) (class : ClassFields) (sums places : List ℕ) (lead : Placed) (free : ℕ) (old new placed : List Placed) → 0 < length needs → length needs ≤ 200000
-    → class ≡ class_of (get_or needs 0 d).header → IsTable window choices needs sums places → nothing ≤ get_or sums 0 0 → IsLeadInBy window class sums lead → free ≡ free_behind window 0 0 (area_of class lead.slot false)
-    → old ≡ lead ∷ [] → Walks window choices free needs old new → placed ≡ new → IsBestPlan window choices needs placed
-plan-behind window choices needs d class sums places lead free old new placed some few is table none by gives first walk result =
-    let all : lead ∷ walk.more ≡ placed = sym (result ∙ walk.appended ∙ ap (λ l. l ++ walk.more) first) in
+-- if it has none, the walk after the best lead-in is the best plan
+pub plan-behind : (window : ℕ) (choices : HeaderFields → List SlotFields) (needs : List Need)
+    (d : Need) (class : ClassFields) (sums places : List ℕ) (lead : Placed) (free : ℕ)
+    (old new placed : List Placed) → 0 < length needs → length needs ≤ 200000
+    → class ≡ class_of (get_or needs 0 d).header → IsTable window choices needs sums places
+    → nothing ≤ get_or sums 0 0 → IsLeadInBy window class sums lead
+    → free ≡ free_behind window 0 0 (area_of class lead.slot false) → old ≡ lead ∷ []
+    → Walks window choices free needs old new → placed ≡ new
+    → IsBestPlan window choices needs placed
+plan-behind window choices needs d class sums places lead free old new placed some few is table none
+    by gives first walk result =
+    let all : lead ∷ walk.more ≡ placed =
+    sym (result ∙ walk.appended ∙ ap (λ l. l ++ walk.more) first) in
     record {
       lead_in = true;
-      without = ((λ e. absurd (not-false e)), (λ can. absurd (cannot-sum window choices needs sums places few table none can)));
-      whole = subst (IsBestFor window 0 (items_behind true choices needs)) all (lead-whole window choices needs d class sums places lead walk.more free some is table by gives walk.best);
+      without = (
+        (λ e. absurd (not-false e)),
+        (λ can. absurd (cannot-sum window choices needs sums places few table none can)),
+      );
+      whole = subst (IsBestFor window 0 (items_behind true choices needs)) all (lead-whole window
+          choices needs d class sums places lead walk.more free some is table by gives walk.best);
     }
 
 -- ---- what the call over all slots is on, and what it gives
-pub lead-ready : (window room : ℕ) (class : ClassFields) (sums areas : List ℕ) (slots : List SlotFields) (cost place : ℕ) → room ≡ window → areas ≡ areas_with class false slots → slots ≡ all_slots → room ≤ area_of class largest_slot false
-    → All (λ n. n ≤ 1441) areas → get_or sums window 0 ≤ 288200000 → IsChoice room 0 0 areas sums cost place → IsChoice window 0 0 (areas_with class false all_slots) sums cost place × (cost < nothing)
+-- some lead-in has a sum by the table, and the cheapest in the list is the cheapest of all slots
+pub lead-ready : (window room : ℕ) (class : ClassFields) (sums areas : List ℕ)
+    (slots : List SlotFields) (cost place : ℕ) → room ≡ window
+    → areas ≡ areas_with class false slots → slots ≡ all_slots
+    → room ≤ area_of class largest_slot false → All (λ n. n ≤ 1441) areas
+    → get_or sums window 0 ≤ 288200000 → IsChoice room 0 0 areas sums cost place
+    → IsChoice window 0 0 (areas_with class false all_slots) sums cost place × (cost < nothing)
 lead-ready window room class sums areas slots cost place same are all spanned most some is =
     let every : areas ≡ areas_with class false all_slots = are ∙ ap (areas_with class false) all in
-    let choice = subst (λ n. IsChoice n 0 0 (areas_with class false all_slots) sums cost place) same (subst (λ l. IsChoice room 0 0 l sums cost place) every is) in
-    (choice, lead-some window class sums cost place (omega (arith, spanned, same)) (subst (All (λ n. n ≤ 1441)) every most) some choice)
+    let choice = subst (λ n. IsChoice n 0 0 (areas_with class false all_slots) sums cost place) same
+    (subst (λ l. IsChoice room 0 0 l sums cost place) every is) in (
+      choice,
+      lead-some window class sums cost place (omega (arith, spanned, same))
+          (subst (All (λ n. n ≤ 1441)) every most) some choice,
+    )
 
-pub lead-within : (class : ClassFields) (sums : List ℕ) (window cost place : ℕ) → IsChoice window 0 0 (areas_with class false all_slots) sums cost place → cost < nothing → place < length all_slots
-lead-within class sums window cost place is some = omega (arith, is.within some, length-map all_slots (λ s. area_of class s false))
+-- its place is that of a slot
+pub lead-within : (class : ClassFields) (sums : List ℕ) (window cost place : ℕ)
+    → IsChoice window 0 0 (areas_with class false all_slots) sums cost place → cost < nothing
+    → place < length all_slots
+lead-within class sums window cost place is some =
+    omega (arith, is.within some, length-map all_slots (λ s. area_of class s false))
 
-pub lead-by : (window : ℕ) (class : ClassFields) (sums : List ℕ) (cost place : ℕ) (slots : List SlotFields) (slot : SlotFields) (lead : Placed) → IsChoice window 0 0 (areas_with class false all_slots) sums cost place → cost < nothing
-    → slots ≡ all_slots → slot ≡ get_or slots place slot → Ascend (areas_of class false) → lead.slot ≡ slot → lead.lead_in ≡ true → lead.begin ≡ 0 → IsLeadInBy window class sums lead
+-- so the slot there is the best lead-in by the table
+pub lead-by : (window : ℕ) (class : ClassFields) (sums : List ℕ) (cost place : ℕ)
+    (slots : List SlotFields) (slot : SlotFields) (lead : Placed)
+    → IsChoice window 0 0 (areas_with class false all_slots) sums cost place → cost < nothing
+    → slots ≡ all_slots → slot ≡ get_or slots place slot → Ascend (areas_of class false)
+    → lead.slot ≡ slot → lead.lead_in ≡ true → lead.begin ≡ 0 → IsLeadInBy window class sums lead
 lead-by window class sums cost place slots slot lead choice some all at ascend is first begin =
     let within = lead-within class sums window cost place choice some in
     let here : slot ≡ get_or all_slots place slot = at ∙ ap (λ l. get_or l place slot) all in
@@ -116,12 +169,17 @@ lead-by window class sums cost place slots slot lead choice some all at ascend i
       place = place;
       choice = choice;
       some = some;
-      area = ap (λ s. area_of class s false) (is ∙ here) ∙ sym (get_or-map (λ s. area_of class s false) all_slots place slot 0 within);
+      area = ap (λ s. area_of class s false) (is ∙ here)
+          ∙ sym (get_or-map (λ s. area_of class s false) all_slots place slot 0 within);
       chosen = subst (Contains all_slots) (sym is) (place, within, sym here);
       ascending = lead-ascend class all_slots refl ascend;
       lead_in = first;
       begin = begin;
     }
 
-pub first-sum : (window : ℕ) (choices : HeaderFields → List SlotFields) (needs : List Need) (sums places : List ℕ) (value : ℕ) → IsTable window choices needs sums places → value ≡ get_or sums 0 value → get_or sums 0 0 ≡ value
-first-sum window choices needs sums places value table is = get_or_default sums 0 0 value (omega (arith, table-width window choices needs sums places table)) ∙ sym is
+-- the first sum of the table is that for no free bytes
+pub first-sum : (window : ℕ) (choices : HeaderFields → List SlotFields) (needs : List Need)
+    (sums places : List ℕ) (value : ℕ) → IsTable window choices needs sums places
+    → value ≡ get_or sums 0 value → get_or sums 0 0 ≡ value
+first-sum window choices needs sums places value table is = get_or_default sums 0 0 value
+    (omega (arith, table-width window choices needs sums places table)) ∙ sym is

@@ -1,86 +1,126 @@
 -- The plan's list is one of those with as many lead-ins.
-use Rattle.std.proofs.Common.{◌≡◌, ℕ, zero, suc, ◌≤◌, true, false, Bool, List, [], ◌∷◌, map, sum, Contains, Option, Some, None, refl, sym, subst, arith, ◌↔◌}
+use Rattle.std.proofs.Common.{arith, Bool, Contains, false, List, map, None, Option, refl, Some}
+use Rattle.std.proofs.Common.{subst, suc, sum, sym, true, zero, ℕ, [], ◌↔◌, ◌∷◌, ◌≡◌, ◌≤◌}
 use Rattle.std.proofs.lemmas.List.{append-nil}
-use Rattle.frame_header.specs.Fields.{SlotFields, ClassFields, HeaderFields}
-use Rattle.frame_header.specs.Tables.{class_of, area_of}
-use Rattle.frame_header.specs.Slots.{all_slots}
-use Rattle.slot_plan.specs.declared.needs.Need.{Need}
-use Rattle.slot_plan.specs.declared.needs.Placed.{Placed}
-use Rattle.slot_plan.specs.Lists.{AreChosen, frames_of, CanBeLaid}
-use Rattle.slot_plan.specs.Layouts.{IsFeasible}
-use Rattle.slot_plan.specs.Parts.{Item, open_of, item_of, lead_in_of, items_of, whole_of, areas_with, IsLeadIn, AreLeadIns}
-use Rattle.slot_plan.specs.Plans.{areas_in, IsPlanFor}
-use Rattle.slot_plan.proofs.AreaLaws.{Contains-area}
-use Rattle.best_plan.specs.Best.{IsBestFor, items_behind}
-use Rattle.best_plan.specs.Laws.{BestIsShortest}
+use Rattle.best_plan.specs.{Best.{IsBestFor, items_behind}, Laws.BestIsShortest}
+use Rattle.frame_header.specs.{Fields.{ClassFields, HeaderFields, SlotFields}, Slots.all_slots}
+use Rattle.frame_header.specs.Tables.{area_of, class_of}
+use Rattle.slot_plan.{proofs.AreaLaws.Contains-area, specs.Layouts.IsFeasible}
+use Rattle.slot_plan.specs.Lists.{AreChosen, CanBeLaid, frames_of}
+use Rattle.slot_plan.specs.Parts.{areas_with, AreLeadIns, IsLeadIn, Item, item_of, items_of}
+use Rattle.slot_plan.specs.{Parts.{lead_in_of, open_of, whole_of}, Plans.{areas_in, IsPlanFor}}
+use Rattle.slot_plan.specs.declared.needs.{Need.Need, Placed.Placed}
 
 true-false : true ≡ false → ⊥
 true-false e = absurd cc
 
 -- without a lead-in the choices are the same
-without-lead : (window : ℕ) (choices : HeaderFields → List SlotFields) (needs : List Need) (placed best : List Placed) → IsPlanFor window (map (item_of choices) needs) placed → IsBestFor window 0 (map (item_of choices) needs) best
-    → sum (areas_in (map (item_of choices) needs) best) ≤ sum (areas_in (map (item_of choices) needs) placed)
-without-lead window choices needs placed best plan is = is.best.shortest (areas_in (map (item_of choices) needs) placed) plan.least.chosen plan.least.feasible
+without-lead : (window : ℕ) (choices : HeaderFields → List SlotFields) (needs : List Need)
+    (placed best : List Placed) → IsPlanFor window (map (item_of choices) needs) placed
+    → IsBestFor window 0 (map (item_of choices) needs) best
+    → sum (areas_in (map (item_of choices) needs) best)
+    ≤ sum (areas_in (map (item_of choices) needs) placed)
+without-lead window choices needs placed best plan is = is.best.shortest
+    (areas_in (map (item_of choices) needs) placed) plan.least.chosen plan.least.feasible
 
 -- a lead-in of one slot is one of all
 pub contains-one : (m n : ℕ) → Contains (m ∷ []) n → m ≡ n
 contains-one m n (zero, within, at) = at
 contains-one m n (suc i, within, at) = absurd (omega (arith, within))
 
-pub widened : (choices : HeaderFields → List SlotFields) (first : Need) (needs : List Need) (slot : SlotFields) (areas : List ℕ) → Contains all_slots slot
-    → AreChosen (map open_of (lead_in_of (class_of first.header) (slot ∷ []) ∷ map (item_of choices) (first ∷ needs))) areas → AreChosen (map open_of (lead_in_of (class_of first.header) all_slots ∷ map (item_of choices) (first ∷ needs))) areas
+-- areas with a lead-in of one slot are areas with a lead-in of any slot
+pub widened : (choices : HeaderFields → List SlotFields) (first : Need) (needs : List Need)
+    (slot : SlotFields) (areas : List ℕ) → Contains all_slots slot → AreChosen (map open_of
+    (lead_in_of (class_of first.header) (slot ∷ []) ∷ map (item_of choices) (first ∷ needs))) areas
+    → AreChosen (map open_of
+    (lead_in_of (class_of first.header) all_slots ∷ map (item_of choices) (first ∷ needs))) areas
 unfolding AreChosen
 widened choices first needs slot [] has chosen = absurd chosen
 widened choices first needs slot (area ∷ areas) has chosen =
-    let class : ClassFields = class_of first.header in
-    (subst (Contains (areas_with class false all_slots)) (contains-one (area_of class slot false) area chosen.0) (Contains-area class false all_slots slot has), chosen.1)
+    let class : ClassFields = class_of first.header in (
+      subst (Contains (areas_with class false all_slots)) (contains-one (area_of class slot false)
+          area chosen.0) (Contains-area class false all_slots slot has),
+      chosen.1,
+    )
 
-pub same-frames : (choices : HeaderFields → List SlotFields) (first : Need) (needs : List Need) (slot : SlotFields) (areas : List ℕ)
-    → frames_of (map open_of (lead_in_of (class_of first.header) (slot ∷ []) ∷ map (item_of choices) (first ∷ needs))) areas ≡ frames_of (map open_of (lead_in_of (class_of first.header) all_slots ∷ map (item_of choices) (first ∷ needs))) areas
+-- and the frames are the same
+pub same-frames : (choices : HeaderFields → List SlotFields) (first : Need) (needs : List Need)
+    (slot : SlotFields) (areas : List ℕ)
+    → frames_of (map open_of (lead_in_of (class_of first.header) (slot ∷ [])
+    ∷ map (item_of choices) (first ∷ needs))) areas ≡ frames_of (map open_of
+    (lead_in_of (class_of first.header) all_slots ∷ map (item_of choices) (first ∷ needs))) areas
 unfolding frames_of
 same-frames choices first needs slot [] = refl
 same-frames choices first needs slot (area ∷ areas) = refl
 
-with-lead : (window : ℕ) (choices : HeaderFields → List SlotFields) (first : Need) (needs : List Need) (slot : SlotFields) (placed best : List Placed) → Contains all_slots slot
-    → IsPlanFor window (lead_in_of (class_of first.header) (slot ∷ []) ∷ map (item_of choices) (first ∷ needs)) placed → IsBestFor window 0 (lead_in_of (class_of first.header) all_slots ∷ map (item_of choices) (first ∷ needs)) best
-    → sum (areas_in (lead_in_of (class_of first.header) all_slots ∷ map (item_of choices) (first ∷ needs)) best) ≤ sum (areas_in (lead_in_of (class_of first.header) (slot ∷ []) ∷ map (item_of choices) (first ∷ needs)) placed)
+with-lead : (window : ℕ) (choices : HeaderFields → List SlotFields) (first : Need)
+    (needs : List Need) (slot : SlotFields) (placed best : List Placed) → Contains all_slots slot
+    → IsPlanFor window (lead_in_of (class_of first.header) (slot ∷ [])
+    ∷ map (item_of choices) (first ∷ needs)) placed → IsBestFor window 0
+    (lead_in_of (class_of first.header) all_slots ∷ map (item_of choices) (first ∷ needs)) best
+    → sum (areas_in (lead_in_of (class_of first.header) all_slots
+    ∷ map (item_of choices) (first ∷ needs)) best) ≤ sum (areas_in
+    (lead_in_of (class_of first.header) (slot ∷ []) ∷ map (item_of choices) (first ∷ needs)) placed)
 with-lead window choices first needs slot placed best has plan is =
-    let areas : List ℕ = areas_in (lead_in_of (class_of first.header) (slot ∷ []) ∷ map (item_of choices) (first ∷ needs)) placed in
-    is.best.shortest areas (widened choices first needs slot areas has plan.least.chosen) (subst (IsFeasible window 0) (same-frames choices first needs slot areas) plan.least.feasible)
+    let areas : List ℕ = areas_in (lead_in_of (class_of first.header) (slot ∷ [])
+    ∷ map (item_of choices) (first ∷ needs)) placed in
+    is.best.shortest areas (widened choices first needs slot areas has plan.least.chosen)
+    (subst (IsFeasible window 0) (same-frames choices first needs slot areas) plan.least.feasible)
 
--- one part
-pub whole-one : (choices : HeaderFields → List SlotFields) (needs : List Need) (lead_in : Option SlotFields) → whole_of choices (needs ∷ []) (lead_in ∷ []) ≡ items_of choices needs lead_in
+-- the frames of one part are its lead-in, if any, and its own
+pub whole-one : (choices : HeaderFields → List SlotFields) (needs : List Need)
+    (lead_in : Option SlotFields)
+    → whole_of choices (needs ∷ []) (lead_in ∷ []) ≡ items_of choices needs lead_in
 unfolding whole_of
 whole-one choices needs lead_in = append-nil (items_of choices needs lead_in)
 
-abbrev Holds : (HeaderFields → List SlotFields) → List Need → List Placed → List Placed → Bool → List (Option SlotFields) → List Item → Type 0
+abbrev Holds : (HeaderFields → List SlotFields) → List Need → List Placed → List Placed → Bool
+    → List (Option SlotFields) → List Item → Type 0
 Holds choices needs placed best lead_in lead_ins items =
-    ((lead_in ≡ false) ↔ (lead_ins ≡ None ∷ [])) × (sum (areas_in (items_behind lead_in choices needs) best) ≤ sum (areas_in items placed))
+    ((lead_in ≡ false) ↔ (lead_ins ≡ None ∷ []))
+    × (sum (areas_in (items_behind lead_in choices needs) best) ≤ sum (areas_in items placed))
 
 some-one : (slot : SlotFields) → Some slot ∷ [] ≡ None ∷ [] → ⊥
 some-one slot e = absurd cc
 
-by-lead : (window : ℕ) (choices : HeaderFields → List SlotFields) (needs : List Need) (placed best : List Placed) (lead_in : Bool) (other : Option SlotFields) → (lead_in ≡ false) ↔ CanBeLaid window (map open_of (map (item_of choices) needs))
-    → IsBestFor window 0 (items_behind lead_in choices needs) best → IsLeadIn window choices needs other → IsPlanFor window (items_of choices needs other) placed → Holds choices needs placed best lead_in (other ∷ []) (items_of choices needs other)
+by-lead : (window : ℕ) (choices : HeaderFields → List SlotFields) (needs : List Need)
+    (placed best : List Placed) (lead_in : Bool) (other : Option SlotFields)
+    → (lead_in ≡ false) ↔ CanBeLaid window (map open_of (map (item_of choices) needs))
+    → IsBestFor window 0 (items_behind lead_in choices needs) best
+    → IsLeadIn window choices needs other → IsPlanFor window (items_of choices needs other) placed
+    → Holds choices needs placed best lead_in (other ∷ []) (items_of choices needs other)
 unfolding IsLeadIn items_of items_behind
-by-lead window choices needs placed best false None without is alone plan = (((λ _. refl), (λ _. refl)), without-lead window choices needs placed best plan is)
-by-lead window choices needs placed best true None without is alone plan = absurd (true-false (without.1 alone))
+by-lead window choices needs placed best false None without is alone plan =
+    (((λ _. refl), (λ _. refl)), without-lead window choices needs placed best plan is)
+by-lead window choices needs placed best true None without is alone plan =
+    absurd (true-false (without.1 alone))
 by-lead window choices [] placed best lead_in (Some slot) without is alone plan = absurd alone
-by-lead window choices (first ∷ needs) placed best false (Some slot) without is alone plan = absurd (alone.0 (without.0 refl))
-by-lead window choices (first ∷ needs) placed best true (Some slot) without is alone plan =
-    (((λ e. absurd (true-false e)), (λ e. absurd (some-one slot e))), with-lead window choices first needs slot placed best alone.2 plan is)
+by-lead window choices (first ∷ needs) placed best false (Some slot) without is alone plan =
+    absurd (alone.0 (without.0 refl))
+by-lead window choices (first ∷ needs) placed best true (Some slot) without is alone plan = (
+  ((λ e. absurd (true-false e)), (λ e. absurd (some-one slot e))),
+  with-lead window choices first needs slot placed best alone.2 plan is,
+)
 
-by-leads : (window : ℕ) (choices : HeaderFields → List SlotFields) (needs : List Need) (placed best : List Placed) (lead_in : Bool) (lead_ins : List (Option SlotFields)) → (lead_in ≡ false) ↔ CanBeLaid window (map open_of (map (item_of choices) needs))
-    → IsBestFor window 0 (items_behind lead_in choices needs) best → AreLeadIns window choices (needs ∷ []) lead_ins → IsPlanFor window (whole_of choices (needs ∷ []) lead_ins) placed
+by-leads : (window : ℕ) (choices : HeaderFields → List SlotFields) (needs : List Need)
+    (placed best : List Placed) (lead_in : Bool) (lead_ins : List (Option SlotFields))
+    → (lead_in ≡ false) ↔ CanBeLaid window (map open_of (map (item_of choices) needs))
+    → IsBestFor window 0 (items_behind lead_in choices needs) best
+    → AreLeadIns window choices (needs ∷ []) lead_ins
+    → IsPlanFor window (whole_of choices (needs ∷ []) lead_ins) placed
     → Holds choices needs placed best lead_in lead_ins (whole_of choices (needs ∷ []) lead_ins)
 unfolding AreLeadIns
 by-leads window choices needs placed best lead_in [] without is alone plan = absurd alone
-by-leads window choices needs placed best lead_in (other ∷ another ∷ lead_ins) without is alone plan = absurd alone.1
+by-leads window choices needs placed best lead_in
+    (other ∷ another ∷ lead_ins) without is alone plan = absurd alone.1
 by-leads window choices needs placed best lead_in (other ∷ []) without is alone plan =
     let one = whole-one choices needs other in
     subst (Holds choices needs placed best lead_in (other ∷ [])) (sym one)
-    (by-lead window choices needs placed best lead_in other without is alone.0 (subst (λ l. IsPlanFor window l placed) one plan))
+    (by-lead window choices needs placed best lead_in other without is
+    alone.0 (subst (λ l. IsPlanFor window l placed) one plan))
 
+-- the best plan has the least sum of areas of all lists with as many lead-ins that have a layout
 pub best-shortest : BestIsShortest
 best-shortest window choices needs placed best plan is =
-    by-leads window choices needs placed best is.lead_in plan.lead_ins is.without is.whole plan.alone plan.whole
+    by-leads window choices needs placed best
+    is.lead_in plan.lead_ins is.without is.whole plan.alone plan.whole

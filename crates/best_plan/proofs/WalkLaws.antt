@@ -1,127 +1,183 @@
 -- The table is filled from the last frame back, and walked from the first.
-use Rattle.std.proofs.Common.{◌≡◌, ℕ, ◌+◌, ◌-◌, ◌<◌, ◌≤◌, false, List, [], ◌∷◌, ◌++◌, map, length, length-append, get_or, take, drop, All, Contains, append_assoc, refl, sym, ap, ap₂, ◌∙◌, subst, arith}
-use Rattle.std.proofs.lemmas.List.{drop_all, append-nil, get_or-append-add, get_or_default}
-use Rattle.frame_header.specs.Fields.{SlotFields, HeaderFields}
-use Rattle.slot_plan.specs.declared.needs.Need.{Need}
-use Rattle.slot_plan.specs.declared.needs.Placed.{Placed}
-use Rattle.slot_plan.specs.Layouts.{Frame}
+use Rattle.std.proofs.Common.{All, ap, append_assoc, ap₂, arith, Contains, drop, false, get_or}
+use Rattle.std.proofs.Common.{length, length-append, List, map, refl, subst, sym, take, ℕ, [], ◌++◌}
+use Rattle.std.proofs.Common.{◌+◌, ◌-◌, ◌<◌, ◌∙◌, ◌∷◌, ◌≡◌, ◌≤◌}
+use Rattle.std.proofs.lemmas.List.{append-nil, drop_all, get_or-append-add, get_or_default}
+use Rattle.best_plan.proofs.SumLaws.{first-more, first-none, first-shortest, IsFirst, IsLeastSum}
+use Rattle.best_plan.{proofs.SumLaws.{shortest-first, table-sums}, specs.Best.IsBestFor}
+use Rattle.best_plan.specs.Rows.{AppendsRow, IsChoice, nothing, sum_with}
+use Rattle.best_plan.specs.Table.{areas_for, CanWalk, IsEnd, IsTable, Walks}
+use Rattle.frame_header.specs.Fields.{HeaderFields, SlotFields}
+use Rattle.slot_plan.proofs.{AreaLaws.Ascend, PartLaws.next_need}
+use Rattle.slot_plan.{proofs.ReserveLaws.{begins-frees, frees_of}, specs.Layouts.Frame}
 use Rattle.slot_plan.specs.Lists.{frames_of}
-use Rattle.slot_plan.specs.Parts.{Item, area_in, open_of, item_of, own_area, areas_with}
-use Rattle.slot_plan.specs.Plans.{AreFor, areas_in}
-use Rattle.slot_plan.specs.Reserve.{free_behind}
-use Rattle.slot_plan.proofs.ReserveLaws.{frees_of, begins-frees}
-use Rattle.slot_plan.proofs.AreaLaws.{Ascend}
-use Rattle.slot_plan.proofs.PartLaws.{next_need}
-use Rattle.best_plan.specs.Best.{IsBestFor}
-use Rattle.best_plan.specs.Rows.{nothing, sum_with, IsChoice, AppendsRow}
-use Rattle.best_plan.specs.Table.{areas_for, IsEnd, IsTable, CanWalk, Walks}
-use Rattle.best_plan.proofs.SumLaws.{IsLeastSum, IsFirst, table-sums, first-none, first-more, first-shortest, shortest-first}
+use Rattle.slot_plan.specs.Parts.{area_in, areas_with, Item, item_of, open_of, own_area}
+use Rattle.slot_plan.specs.{Plans.{areas_in, AreFor}, Reserve.free_behind, declared.needs.Need.Need}
+use Rattle.slot_plan.specs.declared.needs.Placed.{Placed}
 
 -- ---- filling
 
-pub table-none : (window : ℕ) (choices : HeaderFields → List SlotFields) (needs : List Need) (sums places : List ℕ) → IsEnd window sums [] → places ≡ [] → IsTable window choices (drop (length needs) needs) sums places
+-- behind the last frame the table is that of no frames
+pub table-none : (window : ℕ) (choices : HeaderFields → List SlotFields) (needs : List Need)
+    (sums places : List ℕ) → IsEnd window sums [] → places ≡ []
+    → IsTable window choices (drop (length needs) needs) sums places
 unfolding IsTable
 table-none window choices needs sums places end none =
-    subst (λ l. IsTable window choices l sums places) (sym (drop_all (length needs) needs (omega arith))) (record { width = end.width; zeros = end.zeros; none = none })
+    subst (λ l. IsTable window choices l sums places)
+    (sym (drop_all (length needs) needs (omega arith)))
+    (record { width = end.width; zeros = end.zeros; none = none })
 
-pub table-more : (window : ℕ) (choices : HeaderFields → List SlotFields) (needs : List Need) (i : ℕ) (need : Need) (later sums old new : List ℕ) → i < length needs → need ≡ get_or needs i need
-    → AppendsRow window need.bytes (areas_for choices need) later sums old new → All (λ n. n ≤ 1441) (areas_for choices need) → Contains (areas_for choices need) (own_area need)
-    → IsTable window choices (drop (i + 1) needs) later old → IsTable window choices (drop i needs) sums new
+-- one row more is the table from one frame earlier on
+pub table-more : (window : ℕ) (choices : HeaderFields → List SlotFields) (needs : List Need) (i : ℕ)
+    (need : Need) (later sums old new : List ℕ) → i < length needs → need ≡ get_or needs i need
+    → AppendsRow window need.bytes (areas_for choices need) later sums old new
+    → All (λ n. n ≤ 1441) (areas_for choices need)
+    → Contains (areas_for choices need) (own_area need)
+    → IsTable window choices (drop (i + 1) needs) later old
+    → IsTable window choices (drop i needs) sums new
 unfolding IsTable
 table-more window choices needs i need later sums old new within is row most own behind =
     subst (λ l. IsTable window choices l sums new) (sym (next_need needs i need within is))
-    (record { later = later; before = old; cells = row.cells; behind = behind; appended = row.appended; row = row.is; most = most; own = own })
+    (record {
+      later = later;
+      before = old;
+      cells = row.cells;
+      behind = behind;
+      appended = row.appended;
+      row = row.is;
+      most = most;
+      own = own;
+    })
 
-pub table-width : (window : ℕ) (choices : HeaderFields → List SlotFields) (needs : List Need) (sums places : List ℕ) → IsTable window choices needs sums places → length sums ≡ window + 1
+-- a table has a sum for each number of free bytes up to a window
+pub table-width : (window : ℕ) (choices : HeaderFields → List SlotFields) (needs : List Need)
+    (sums places : List ℕ) → IsTable window choices needs sums places → length sums ≡ window + 1
 unfolding IsTable
 table-width window choices [] sums places table = table.width
 table-width window choices (need ∷ needs) sums places table = table.row.width
 
 -- ---- placing
 
+-- the places have the first list of the least sum, and the free bytes as main_data_begin
 pub record IsWalked (window free : ℕ) (items : List Item) (placed : List Placed) : Type 0 where
   pub slots : AreFor items placed
   pub list : IsFirst window free (map open_of items) (areas_in items placed)
-  pub begins : map (λ p. p.begin) placed ≡ frees_of window free (frames_of (map open_of items) (areas_in items placed))
+  pub begins : map (λ p. p.begin) placed
+      ≡ frees_of window free (frames_of (map open_of items) (areas_in items placed))
 
+-- no frames have no places
 pub walked-none : (window free : ℕ) → IsWalked window free [] []
 unfolding AreFor areas_in frames_of frees_of
 walked-none window free = record { slots = tt; list = first-none window free; begins = refl }
 
--- one frame more before the others
-pub walked-more : (window free : ℕ) (item : Item) (items : List Item) (p : Placed) (placed : List Placed) (later : List ℕ) (cost place : ℕ) → Ascend (areas_with item.class item.protected item.choices)
-    → IsChoice window free item.bytes (areas_with item.class item.protected item.choices) later cost place → cost < nothing → ((left : ℕ) → left ≤ window → IsLeastSum window left (map open_of items) (get_or later left 0))
-    → area_in item p.slot ≡ get_or (areas_with item.class item.protected item.choices) place 0 → Contains item.choices p.slot → p.lead_in ≡ item.lead_in → p.begin ≡ free
-    → IsWalked window (free_behind window free item.bytes (area_in item p.slot)) items placed → IsWalked window free (item ∷ items) (p ∷ placed)
+-- a frame with the first best area, in front of others that were walked, was walked
+pub walked-more : (window free : ℕ) (item : Item) (items : List Item) (p : Placed)
+    (placed : List Placed) (later : List ℕ) (cost place : ℕ)
+    → Ascend (areas_with item.class item.protected item.choices) → IsChoice window free item.bytes
+    (areas_with item.class item.protected item.choices) later cost place → cost < nothing →
+    ((left : ℕ) → left ≤ window → IsLeastSum window left (map open_of items) (get_or later left 0))
+    → area_in item p.slot ≡ get_or (areas_with item.class item.protected item.choices) place 0
+    → Contains item.choices p.slot → p.lead_in ≡ item.lead_in → p.begin ≡ free
+    → IsWalked window (free_behind window free item.bytes (area_in item p.slot)) items placed
+    → IsWalked window free (item ∷ items) (p ∷ placed)
 unfolding AreFor areas_in frames_of frees_of
-walked-more window free item items p placed later cost place ascend choice some behind area chosen lead begin rest = record {
-  slots = (lead, chosen, rest.slots);
-  list = first-more window free (open_of item) (map open_of items) later cost place (area_in item p.slot) (areas_in items placed) ascend choice some behind (sym area) rest.list;
-  begins = ap₂ (λ n (l : List ℕ). n ∷ l) begin rest.begins;
-}
+walked-more window free item items p placed later cost place ascend choice some behind area chosen
+    lead begin rest = record {
+      slots = (lead, chosen, rest.slots);
+      list = first-more window free (open_of item) (map open_of items) later cost place
+          (area_in item p.slot) (areas_in items placed) ascend choice some behind
+          (sym area) rest.list;
+      begins = ap₂ (λ n (l : List ℕ). n ∷ l) begin rest.begins;
+    }
 
-pub best-walked : (window free : ℕ) (items : List Item) (placed : List Placed) → free ≤ window → IsWalked window free items placed → IsBestFor window free items placed
+-- what was walked is best for the frames
+pub best-walked : (window free : ℕ) (items : List Item) (placed : List Placed) → free ≤ window
+    → IsWalked window free items placed → IsBestFor window free items placed
 best-walked window free items placed within is =
     let frames : List Frame = frames_of (map open_of items) (areas_in items placed) in
     record {
       slots = is.slots;
       best = shortest-first window free (map open_of items) (areas_in items placed) within is.list;
-      begins = is.begins ∙ begins-frees window 0 free free frames (omega arith) (omega (arith, within)) is.list.fit;
+      begins = is.begins ∙ begins-frees window 0 free free frames (omega arith)
+          (omega (arith, within)) is.list.fit;
     }
 
-pub walked-best : (window free : ℕ) (items : List Item) (placed : List Placed) → free ≤ window → IsBestFor window free items placed → IsWalked window free items placed
+-- and what is best for them was walked
+pub walked-best : (window free : ℕ) (items : List Item) (placed : List Placed) → free ≤ window
+    → IsBestFor window free items placed → IsWalked window free items placed
 walked-best window free items placed within is =
     let frames : List Frame = frames_of (map open_of items) (areas_in items placed) in
-    let list = first-shortest window free (map open_of items) (areas_in items placed) within is.best in
+    let list =
+    first-shortest window free (map open_of items) (areas_in items placed) within is.best in
     record {
       slots = is.slots;
       list = list;
-      begins = is.begins ∙ sym (begins-frees window 0 free free frames (omega arith) (omega (arith, within)) list.fit);
+      begins = is.begins ∙ sym (begins-frees window 0 free free frames (omega arith)
+          (omega (arith, within)) list.fit);
     }
 
 -- ---- the row of the first frame
 
-pub record IsOpen (window : ℕ) (choices : HeaderFields → List SlotFields) (free : ℕ) (need : Need) (rest : List Need) (places : List ℕ) : Type 0 where
+-- the table has a choice for the first frame, and is one for the others behind it
+pub record IsOpen (window : ℕ) (choices : HeaderFields → List SlotFields) (free : ℕ) (need : Need)
+    (rest : List Need) (places : List ℕ) : Type 0 where
   pub later : List ℕ
   pub cost : ℕ
   pub long : window + 1 ≤ length places
   pub some : cost < nothing
-  pub choice : IsChoice window free need.bytes (areas_for choices need) later cost (get_or places (length places - (window + 1) + free) 0)
+  pub choice : IsChoice window free need.bytes (areas_for choices need) later cost
+      (get_or places (length places - (window + 1) + free) 0)
   pub behind : IsTable window choices rest later (take (length places - (window + 1)) places)
 
 take-front : (xs ys : List ℕ) → take (length xs) (xs ++ ys) ≡ xs
 take-front [] ys = refl
 take-front (x ∷ xs) ys = ap (λ l. x ∷ l) (take-front xs ys)
 
-opened : (window : ℕ) (choices : HeaderFields → List SlotFields) (free : ℕ) (need : Need) (rest : List Need) (sums places : List ℕ) → free ≤ window → get_or sums free 0 < nothing → IsTable window choices (need ∷ rest) sums places
-    → IsOpen window choices free need rest places
+opened : (window : ℕ) (choices : HeaderFields → List SlotFields) (free : ℕ) (need : Need)
+    (rest : List Need) (sums places : List ℕ) → free ≤ window → get_or sums free 0 < nothing
+    → IsTable window choices (need ∷ rest) sums places → IsOpen window choices free need rest places
 unfolding IsTable
 opened window choices free need rest sums places within some table =
     let count = ap length table.appended ∙ length-append table.before table.cells in
-    let from : length places - (window + 1) ≡ length table.before = omega (arith, count, table.row.many) in
+    let from : length places - (window + 1) ≡ length table.before =
+    omega (arith, count, table.row.many) in
     let place : get_or places (length places - (window + 1) + free) 0 ≡ get_or table.cells free 0 =
-    ap (λ n. get_or places (n + free) 0) from ∙ ap (λ l. get_or l (length table.before + free) 0) table.appended ∙ get_or-append-add table.before table.cells free 0 in
+    ap (λ n. get_or places (n + free) 0) from
+    ∙ ap (λ l. get_or l (length table.before + free) 0) table.appended
+    ∙ get_or-append-add table.before table.cells free 0 in
     let before : take (length places - (window + 1)) places ≡ table.before =
-    ap (λ n. take n places) from ∙ ap (take (length table.before)) table.appended ∙ take-front table.before table.cells in
+    ap (λ n. take n places) from ∙ ap (take (length table.before)) table.appended
+    ∙ take-front table.before table.cells in
     record {
       later = table.later;
       cost = get_or sums free 0;
       long = omega (arith, count, table.row.many);
       some = some;
-      choice = subst (IsChoice window free need.bytes (areas_for choices need) table.later (get_or sums free 0)) (sym place) (table.row.each free within);
+      choice = subst (IsChoice window free need.bytes (areas_for choices need)
+          table.later (get_or sums free 0)) (sym place) (table.row.each free within);
       behind = subst (IsTable window choices rest table.later) (sym before) table.behind;
     }
 
-pub walk-open : {window : ℕ} {choices : HeaderFields → List SlotFields} {free : ℕ} {places : List ℕ} (needs : List Need) (i : ℕ) (need : Need) → free ≤ window → i < length needs → need ≡ get_or needs i need
-    → CanWalk window choices free (drop i needs) places → IsOpen window choices free need (drop (i + 1) needs) places
+-- at each frame from which the walk can go on the table has a choice
+pub walk-open : {window : ℕ} {choices : HeaderFields → List SlotFields} {free : ℕ} {places : List ℕ}
+    (needs : List Need) (i : ℕ) (need : Need) → free ≤ window → i < length needs
+    → need ≡ get_or needs i need → CanWalk window choices free (drop i needs) places
+    → IsOpen window choices free need (drop (i + 1) needs) places
 walk-open {window} {choices} {free} {places} needs i need within lt is can =
-    opened window choices free need (drop (i + 1) needs) can.sums places within can.some (subst (λ l. IsTable window choices l can.sums places) (next_need needs i need lt is) can.table)
+    opened window choices free need (drop (i + 1) needs) can.sums places within can.some
+    (subst (λ l. IsTable window choices l can.sums places) (next_need needs i need lt is) can.table)
 
-pub walk-next : (window : ℕ) (choices : HeaderFields → List SlotFields) (free after area : ℕ) (need : Need) (rest : List Need) (places left : List ℕ) (front : IsOpen window choices free need rest places)
-    → area ≡ get_or (areas_for choices need) (get_or places (length places - (window + 1) + free) 0) 0 → after ≡ free_behind window free need.bytes area → left ≡ take (length places - (window + 1)) places
-    → CanWalk window choices after rest left
+-- and from what that choice leaves it can go on
+pub walk-next : (window : ℕ) (choices : HeaderFields → List SlotFields) (free after area : ℕ)
+    (need : Need) (rest : List Need) (places left : List ℕ)
+    (front : IsOpen window choices free need rest places) → area
+    ≡ get_or (areas_for choices need) (get_or places (length places - (window + 1) + free) 0) 0
+    → after ≡ free_behind window free need.bytes area
+    → left ≡ take (length places - (window + 1)) places → CanWalk window choices after rest left
 walk-next window choices free after area need rest places left front is gives taken =
-    let found : front.cost ≡ sum_with window free need.bytes front.later area = subst (λ n. front.cost ≡ sum_with window free need.bytes front.later n) (sym is) (front.choice.found front.some) in
+    let found : front.cost ≡ sum_with window free need.bytes front.later area =
+    subst (λ n. front.cost ≡ sum_with window free need.bytes front.later n) (sym is)
+    (front.choice.found front.some) in
     record {
       sums = front.later;
       table = subst (IsTable window choices rest front.later) (sym taken) front.behind;
@@ -129,45 +185,79 @@ walk-next window choices free after area need rest places left front is gives ta
     }
 
 -- ---- the frames placed so far: whatever is best from there on is best from the first on
-pub record GoesOn (window : ℕ) (choices : HeaderFields → List SlotFields) (free after : ℕ) (needs left : List Need) (old new : List Placed) : Type 0 where
+-- what is best from one frame on, behind those placed so far, is best from the first on
+pub record GoesOn (window : ℕ) (choices : HeaderFields → List SlotFields) (free after : ℕ)
+    (needs left : List Need) (old new : List Placed) : Type 0 where
   pub more : List Placed
   pub appended : new ≡ old ++ more
-  pub goes : (placed : List Placed) → IsWalked window after (map (item_of choices) left) placed → IsWalked window free (map (item_of choices) needs) (more ++ placed)
+  pub goes : (placed : List Placed) → IsWalked window after (map (item_of choices) left) placed
+      → IsWalked window free (map (item_of choices) needs) (more ++ placed)
 
-pub goes-begun : (window : ℕ) (choices : HeaderFields → List SlotFields) (free : ℕ) (needs : List Need) (old : List Placed) → GoesOn window choices free free needs needs old old
-goes-begun window choices free needs old = record { more = []; appended = sym (append-nil old); goes = λ placed is. is }
+-- before the first frame nothing was placed
+pub goes-begun : (window : ℕ) (choices : HeaderFields → List SlotFields) (free : ℕ)
+    (needs : List Need) (old : List Placed) → GoesOn window choices free free needs needs old old
+goes-begun window choices free needs old =
+    record { more = []; appended = sym (append-nil old); goes = λ placed is. is }
 
-pub goes-more : (window : ℕ) (choices : HeaderFields → List SlotFields) (free now after : ℕ) (needs : List Need) (i : ℕ) (need : Need) (p : Placed) (places : List ℕ) (old new : List Placed) → i < length needs → need ≡ get_or needs i need
-    → IsOpen window choices now need (drop (i + 1) needs) places → Ascend (areas_for choices need) → area_in (item_of choices need) p.slot ≡ get_or (areas_for choices need) (get_or places (length places - (window + 1) + now) 0) 0
-    → Contains (choices need.header) p.slot → p.lead_in ≡ false → p.begin ≡ now → after ≡ free_behind window now need.bytes (area_in (item_of choices need) p.slot)
-    → GoesOn window choices free now needs (drop i needs) old new → GoesOn window choices free after needs (drop (i + 1) needs) old (new ++ p ∷ [])
-goes-more window choices free now after needs i need p places old new within is front ascend at chosen lead begin gives so_far = record {
-  more = so_far.more ++ p ∷ [];
-  appended = ap (λ l. l ++ p ∷ []) so_far.appended ∙ append_assoc old so_far.more (p ∷ []);
-  goes = λ placed rest.
-      let items : List Item = map (item_of choices) (drop (i + 1) needs) in
-      let here = walked-more window now (item_of choices need) items p placed front.later front.cost (get_or places (length places - (window + 1) + now) 0) ascend front.choice front.some
-      (table-sums window choices (drop (i + 1) needs) front.later (take (length places - (window + 1)) places) front.behind) at chosen lead begin
-      (subst (λ n. IsWalked window n items placed) gives rest) in
-      subst (IsWalked window free (map (item_of choices) needs)) (sym (append_assoc so_far.more (p ∷ []) placed))
-      (so_far.goes (p ∷ placed) (subst (λ l. IsWalked window now (map (item_of choices) l) (p ∷ placed)) (sym (next_need needs i need within is)) here));
-}
+-- to place the frame at i by the table goes on
+pub goes-more : (window : ℕ) (choices : HeaderFields → List SlotFields) (free now after : ℕ)
+    (needs : List Need) (i : ℕ) (need : Need) (p : Placed) (places : List ℕ) (old new : List Placed)
+    → i < length needs → need ≡ get_or needs i need
+    → IsOpen window choices now need (drop (i + 1) needs) places → Ascend (areas_for choices need)
+    → area_in (item_of choices need) p.slot
+    ≡ get_or (areas_for choices need) (get_or places (length places - (window + 1) + now) 0) 0
+    → Contains (choices need.header) p.slot → p.lead_in ≡ false → p.begin ≡ now
+    → after ≡ free_behind window now need.bytes (area_in (item_of choices need) p.slot)
+    → GoesOn window choices free now needs (drop i needs) old new
+    → GoesOn window choices free after needs (drop (i + 1) needs) old (new ++ p ∷ [])
+goes-more window choices free now after needs i need p places old new within is front ascend at
+    chosen lead begin gives so_far = record {
+      more = so_far.more ++ p ∷ [];
+      appended = ap (λ l. l ++ p ∷ []) so_far.appended ∙ append_assoc old so_far.more (p ∷ []);
+      goes = λ placed rest.
+          let items : List Item = map (item_of choices) (drop (i + 1) needs) in
+          let here =
+          walked-more window now (item_of choices need) items p placed front.later front.cost
+          (get_or places (length places - (window + 1) + now) 0) ascend front.choice front.some
+          (table-sums window choices (drop (i + 1) needs)
+          front.later (take (length places - (window + 1)) places) front.behind) at chosen lead
+          begin
+          (subst (λ n. IsWalked window n items placed) gives rest) in
+          subst (IsWalked window free (map (item_of choices) needs))
+          (sym (append_assoc so_far.more (p ∷ []) placed))
+          (so_far.goes (p ∷ placed) (subst (λ l. IsWalked window now (map (item_of choices) l)
+          (p ∷ placed)) (sym (next_need needs i need within is)) here));
+    }
 
-pub goes-all : (window : ℕ) (choices : HeaderFields → List SlotFields) (free after : ℕ) (needs : List Need) (i : ℕ) (old new : List Placed) → free ≤ window → length needs ≤ i → GoesOn window choices free after needs (drop i needs) old new
+-- after the last frame the places are those of the walk
+pub goes-all : (window : ℕ) (choices : HeaderFields → List SlotFields) (free after : ℕ)
+    (needs : List Need) (i : ℕ) (old new : List Placed) → free ≤ window → length needs ≤ i
+    → GoesOn window choices free after needs (drop i needs) old new
     → Walks window choices free needs old new
 goes-all window choices free after needs i old new within all so_far =
-    let none = subst (λ l. IsWalked window after (map (item_of choices) l) []) (sym (drop_all i needs all)) (walked-none window after) in
+    let none = subst (λ l. IsWalked window after (map (item_of choices) l) [])
+    (sym (drop_all i needs all)) (walked-none window after) in
     record {
       more = so_far.more;
       appended = so_far.appended;
-      best = best-walked window free (map (item_of choices) needs) so_far.more within (subst (IsWalked window free (map (item_of choices) needs)) (append-nil so_far.more) (so_far.goes [] none));
+      best = best-walked window free (map (item_of choices) needs) so_far.more within
+          (subst (IsWalked window free (map (item_of choices) needs)) (append-nil so_far.more)
+          (so_far.goes [] none));
     }
 
 -- ---- the place that is read, and the area there
-module _ {window : ℕ} {choices : HeaderFields → List SlotFields} {free : ℕ} {need : Need} {rest : List Need} {places : List ℕ} (front : IsOpen window choices free need rest places) (within : free ≤ window) (count value : ℕ)
-    (all : count ≡ length places) (is : value ≡ get_or places (count - (window + 1) + free) value) where
+module _ {window : ℕ} {choices : HeaderFields → List SlotFields} {free : ℕ} {need : Need}
+    {rest : List Need} {places : List ℕ} (front : IsOpen window choices free need rest places)
+    (within : free ≤ window) (count value : ℕ)
+    (all : count ≡ length places)
+    (is : value ≡ get_or places (count - (window + 1) + free) value) where
+  -- it is the place that the table has for the free bytes
   pub place-is : get_or places (length places - (window + 1) + free) 0 ≡ value
-  place-is = get_or_default places (length places - (window + 1) + free) 0 value (omega (arith, front.long, within)) ∙ ap (λ n. get_or places (n - (window + 1) + free) value) (sym all) ∙ sym is
+  place-is = get_or_default places (length places - (window + 1) + free) 0 value
+      (omega (arith, front.long, within))
+      ∙ ap (λ n. get_or places (n - (window + 1) + free) value) (sym all) ∙ sym is
 
-  pub area-is : (area : ℕ) → area ≡ get_or (areas_for choices need) value 0 → area ≡ get_or (areas_for choices need) (get_or places (length places - (window + 1) + free) 0) 0
+  -- the area is the one there
+  pub area-is : (area : ℕ) → area ≡ get_or (areas_for choices need) value 0 → area
+      ≡ get_or (areas_for choices need) (get_or places (length places - (window + 1) + free) 0) 0
   area-is area gives = gives ∙ ap (λ n. get_or (areas_for choices need) n 0) (sym place-is)

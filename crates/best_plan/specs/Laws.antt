@@ -1,29 +1,30 @@
 -- What holds of the best plan, whatever the code.
-use Rattle.std.specs.Prelude.{◌≡◌, ℕ, ◌≤◌, ◌↔◌, false, List, [], ◌∷◌, sum, Some, None}
-use Rattle.frame_header.specs.Fields.{SlotFields, HeaderFields}
-use Rattle.slot_plan.specs.declared.needs.Need.{Need}
-use Rattle.slot_plan.specs.declared.needs.Placed.{Placed}
-use Rattle.slot_plan.specs.Parts.{whole_of}
-use Rattle.slot_plan.specs.Plans.{areas_in, IsPlan}
-use Rattle.slot_plan.specs.Laws.{ChooseInOrder}
-use Rattle.best_plan.specs.Best.{items_behind, IsBestPlan}
-use Rattle.best_plan.specs.BestOf.{best_plan_of}
+use Rattle.std.specs.Prelude.{false, List, None, Some, sum, ℕ, [], ◌↔◌, ◌∷◌, ◌≡◌, ◌≤◌}
+use Rattle.best_plan.specs.{Best.{IsBestPlan, items_behind}, BestOf.best_plan_of}
+use Rattle.frame_header.specs.Fields.{HeaderFields, SlotFields}
+use Rattle.slot_plan.specs.{Laws.ChooseInOrder, Parts.whole_of, Plans.{areas_in, IsPlan}}
+use Rattle.slot_plan.specs.declared.needs.{Need.Need, Placed.Placed}
 
 -- The best plan of a part has a lead-in exactly if its plan has one, and no more bytes of areas.
 abbrev pub BestIsShortest : Type 0
 BestIsShortest =
-    (window : ℕ) (choices : HeaderFields → List SlotFields) (needs : List Need) (placed best : List Placed) (plan : IsPlan window choices (needs ∷ []) placed) (is : IsBestPlan window choices needs best)
+    (window : ℕ) (choices : HeaderFields → List SlotFields) (needs : List Need)
+    (placed best : List Placed) (plan : IsPlan window choices (needs ∷ []) placed)
+    (is : IsBestPlan window choices needs best)
     → ((is.lead_in ≡ false) ↔ (plan.lead_ins ≡ None ∷ []))
-    × (sum (areas_in (items_behind is.lead_in choices needs) best) ≤ sum (areas_in (whole_of choices (needs ∷ []) plan.lead_ins) placed))
+    × (sum (areas_in (items_behind is.lead_in choices needs) best)
+    ≤ sum (areas_in (whole_of choices (needs ∷ []) plan.lead_ins) placed))
 
 -- If a part has a plan, it has a best plan.
 abbrev pub BestExists : Type 0
 BestExists =
-    (window : ℕ) (choices : HeaderFields → List SlotFields) (needs : List Need) (placed : List Placed) → IsPlan window choices (needs ∷ []) placed
+    (window : ℕ) (choices : HeaderFields → List SlotFields) (needs : List Need)
+    (placed : List Placed) → IsPlan window choices (needs ∷ []) placed
     → (best : List Placed) × (best_plan_of window choices needs ≡ Some best)
 
 -- The best plan of a part whose frames choose among ascending areas is that of the function.
 abbrev pub BestPlanIsThePlan : Type 0
 BestPlanIsThePlan =
-    (window : ℕ) (choices : HeaderFields → List SlotFields) (needs : List Need) (placed : List Placed) → ChooseInOrder choices (needs ∷ [])
+    (window : ℕ) (choices : HeaderFields → List SlotFields) (needs : List Need)
+    (placed : List Placed) → ChooseInOrder choices (needs ∷ [])
     → IsBestPlan window choices needs placed ↔ (best_plan_of window choices needs ≡ Some placed)

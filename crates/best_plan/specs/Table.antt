@@ -1,21 +1,19 @@
 -- The rows of all frames, and what is placed by them.
-use Rattle.std.specs.Prelude.{◌≡◌, ℕ, ◌+◌, ◌<◌, ◌≤◌, true, false, List, [], ◌∷◌, ◌++◌, map, length, slice_index, All, AllPairs, Contains}
-use Rattle.frame_header.specs.Fields.{SlotFields, ClassFields, HeaderFields}
-use Rattle.frame_header.specs.Tables.{area_of}
-use Rattle.frame_header.specs.Slots.{all_slots}
-use Rattle.slot_plan.specs.declared.needs.Need.{Need}
-use Rattle.slot_plan.specs.declared.needs.Placed.{Placed}
-use Rattle.slot_plan.specs.Parts.{area_in, open_of, item_of, own_area, areas_with}
-use Rattle.best_plan.specs.Best.{IsBestFor}
-use Rattle.best_plan.specs.Rows.{nothing, IsChoice, IsRow}
-use Rattle.frame_header.specs.Limits.{most_frame_length}
+use Rattle.std.specs.Prelude.{All, AllPairs, Contains, false, length, List, map, slice_index, true}
+use Rattle.std.specs.Prelude.{ℕ, [], ◌++◌, ◌+◌, ◌<◌, ◌∷◌, ◌≡◌, ◌≤◌}
+use Rattle.best_plan.specs.{Best.IsBestFor, Rows.{IsChoice, IsRow, nothing}}
+use Rattle.frame_header.specs.Fields.{ClassFields, HeaderFields, SlotFields}
+use Rattle.frame_header.specs.{Limits.most_frame_length, Slots.all_slots, Tables.area_of}
+use Rattle.slot_plan.specs.Parts.{area_in, areas_with, item_of, open_of, own_area}
+use Rattle.slot_plan.specs.declared.needs.{Need.Need, Placed.Placed}
 
 -- the areas among which a frame chooses
 abbrev pub areas_for : (HeaderFields → List SlotFields) → Need → List ℕ
 areas_for choices need = (open_of (item_of choices need)).areas
 
 -- these are the areas among which a frame chooses
-pub record AreAreasOf (choices : HeaderFields → List SlotFields) (need : Need) (items : List ℕ) : Type 0 where
+pub record AreAreasOf (choices : HeaderFields → List SlotFields) (need : Need)
+    (items : List ℕ) : Type 0 where
   pub areas : items ≡ areas_for choices need
   pub most : All (λ n. n ≤ most_frame_length) items
   -- that of its own slot is one of them
@@ -23,7 +21,8 @@ pub record AreAreasOf (choices : HeaderFields → List SlotFields) (need : Need)
   pub ascending : AllPairs (λ m n. m < n) (areas_for choices need)
 
 -- a frame in the slot at this place of its choices, which ascend
-pub record IsFrameAt (choices : HeaderFields → List SlotFields) (need : Need) (place free : ℕ) (p : Placed) : Type 0 where
+pub record IsFrameAt (choices : HeaderFields → List SlotFields) (need : Need) (place free : ℕ)
+    (p : Placed) : Type 0 where
   pub frame : p.lead_in ≡ false
   pub begin : p.begin ≡ free
   pub chosen : Contains (choices need.header) p.slot
@@ -31,7 +30,8 @@ pub record IsFrameAt (choices : HeaderFields → List SlotFields) (need : Need) 
   pub ascending : AllPairs (λ m n. m < n) (areas_for choices need)
 
 -- the row of a frame, which comes before the rows of the frames after it
-pub record IsRowBefore (window : ℕ) (choices : HeaderFields → List SlotFields) (need : Need) (IsBehind : List ℕ → List ℕ → Type 0) (sums places : List ℕ) : Type 0 where
+pub record IsRowBefore (window : ℕ) (choices : HeaderFields → List SlotFields) (need : Need)
+    (IsBehind : List ℕ → List ℕ → Type 0) (sums places : List ℕ) : Type 0 where
   pub later : List ℕ
   pub before : List ℕ
   pub cells : List ℕ
@@ -50,16 +50,19 @@ pub record IsEnd (window : ℕ) (sums places : List ℕ) : Type 0 where
 -- the least sums before the first frame, and the places of all frames, the last frame's first
 unfoldable pub IsTable : ℕ → (HeaderFields → List SlotFields) → List Need → List ℕ → List ℕ → Type 0
 IsTable window choices [] sums places = IsEnd window sums places
-IsTable window choices (need ∷ needs) sums places = IsRowBefore window choices need (IsTable window choices needs) sums places
+IsTable window choices (need ∷ needs) sums places =
+    IsRowBefore window choices need (IsTable window choices needs) sums places
 
 -- some list fits after so many free bytes, by the table
-pub record CanWalk (window : ℕ) (choices : HeaderFields → List SlotFields) (free : ℕ) (needs : List Need) (places : List ℕ) : Type 0 where
+pub record CanWalk (window : ℕ) (choices : HeaderFields → List SlotFields) (free : ℕ)
+    (needs : List Need) (places : List ℕ) : Type 0 where
   pub sums : List ℕ
   pub table : IsTable window choices needs sums places
   pub some : slice_index sums free < nothing
 
 -- the frames were placed after what was placed before
-pub record Walks (window : ℕ) (choices : HeaderFields → List SlotFields) (free : ℕ) (needs : List Need) (old new : List Placed) : Type 0 where
+pub record Walks (window : ℕ) (choices : HeaderFields → List SlotFields) (free : ℕ)
+    (needs : List Need) (old new : List Placed) : Type 0 where
   pub more : List Placed
   pub appended : new ≡ old ++ more
   pub best : IsBestFor window free (map (item_of choices) needs) more

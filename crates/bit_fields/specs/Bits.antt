@@ -1,6 +1,6 @@
 -- The bits of bytes, the most significant first, and the number that bits spell.
-use Rattle.std.specs.Prelude.{ℕ, zero, suc, ◌+◌, ◌*◌, ◌^◌, ◌<◌, List, [], ◌∷◌, ◌++◌, length}
 use Rattle.std.specs.Int.{bit_at}
+use Rattle.std.specs.Prelude.{length, List, suc, zero, ℕ, [], ◌*◌, ◌++◌, ◌+◌, ◌<◌, ◌^◌, ◌∷◌}
 
 -- a number in so many bits
 unfoldable pub bits_of : ℕ → ℕ → List ℕ
@@ -12,14 +12,16 @@ unfoldable pub number : List ℕ → ℕ
 number [] = 0
 number (bit ∷ rest) = bit * 2 ^ length rest + number rest
 
--- the bits of bytes, eight for each
+-- the bits of bytes, eight for each, the most significant first, as the syntax tables of ISO/IEC
+-- 11172-3, 2.4.1 read them
 unfoldable pub bits : List ℕ → List ℕ
 bits [] = []
 bits (byte ∷ rest) = bits_of 8 byte ++ bits rest
 
 -- the bytes that bits spell, eight bits for each
 unfoldable pub bytes : List ℕ → List ℕ
-bytes (a ∷ b ∷ c ∷ d ∷ e ∷ f ∷ g ∷ h ∷ rest) = number (a ∷ b ∷ c ∷ d ∷ e ∷ f ∷ g ∷ h ∷ []) ∷ bytes rest
+bytes (a ∷ b ∷ c ∷ d ∷ e ∷ f ∷ g ∷ h ∷ rest) =
+    number (a ∷ b ∷ c ∷ d ∷ e ∷ f ∷ g ∷ h ∷ []) ∷ bytes rest
 bytes rest = []
 
 -- each is below a limit

@@ -1,5 +1,6 @@
 -- A place among the bits of bytes.
-use Rattle.std.specs.Prelude.{◌≡◌, ℕ, ◌+◌, ◌^◌, ◌<◌, ◌≤◌, ◌↔◌, List, length, take, drop, Option, IsNone, IsSome, IfNone, IfSome}
+use Rattle.std.specs.Prelude.{drop, IfNone, IfSome, IsNone, IsSome, length, List, Option, take, ℕ}
+use Rattle.std.specs.Prelude.{◌+◌, ◌<◌, ◌^◌, ◌↔◌, ◌≡◌, ◌≤◌}
 use Rattle.bit_fields.specs.Bits.{number}
 
 -- how many bits were taken, and the bits that are left

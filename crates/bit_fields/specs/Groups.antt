@@ -1,5 +1,7 @@
--- A format as a list of widths: successive groups of so many bits each, as the tables of a standard give them.
-use Rattle.std.specs.Prelude.{◌≡◌, ℕ, ◌+◌, ◌*◌, ◌/◌, ◌^◌, ◌<◌, ◌≤◌, List, [], ◌∷◌, ◌++◌, length, take, drop}
+-- A format as a list of widths: successive groups of so
+-- many bits each, as the tables of a standard give them.
+use Rattle.std.specs.Prelude.{drop, length, List, take, ℕ, [], ◌*◌, ◌++◌, ◌+◌, ◌/◌, ◌<◌, ◌^◌, ◌∷◌}
+use Rattle.std.specs.Prelude.{◌≡◌, ◌≤◌}
 use Rattle.bit_fields.specs.Bits.{bits, bits_of, number}
 
 -- the number of the group of so many bits that begins at a bit

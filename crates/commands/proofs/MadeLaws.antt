@@ -1,37 +1,47 @@
 -- What a command that makes one file makes, from its answer.
-use Rattle.std.proofs.Common.{◌≡◌, ℕ, ◌<◌, List, [], ◌∷◌, length, Option, Some, None, Result, Ok, Err, refl, sym, ◌∙◌, ap, ap₂, arith}
-use Rattle.std.proofs.lemmas.List.{length-map}
-use Rattle.outside.specs.Files.{Contents}
-use Rattle.sync_survey.specs.Walk.{head_of}
-use Rattle.sync_survey.specs.MainData.{row_of, rows_of}
-use Rattle.sync_survey.specs.Faults.{SurveyFields}
-use Rattle.sync_survey.specs.Survey.{survey_of}
-use Rattle.sync_survey.proofs.FaultsLaws.{marked-length}
-use Rattle.sync_survey.proofs.SurveyParts.{frames_from, surveyed-parts, some_frames}
-use Rattle.sync_survey.proofs.SurveyedFiles.{survey_of-parts}
+use Rattle.std.proofs.Common.{ap, ap₂, arith, Err, length, List, None, Ok, Option, refl, Result}
+use Rattle.std.proofs.{Common.{Some, sym, ℕ, [], ◌<◌, ◌∙◌, ◌∷◌, ◌≡◌}, lemmas.List.length-map}
+use Rattle.commands.{proofs.InputLaws.{made-survey, made_parts}, specs.Command.Made}
+use Rattle.commands.specs.One.{clash_in, made_of, made_result, made_where, Making, most_frames}
+use Rattle.commands.specs.One.{one_command, Task, unless_clash}
 use Rattle.commands.specs.declared.fault.EditFault.{EditFault}
-use Rattle.commands.specs.Command.{Made}
-use Rattle.commands.specs.One.{most_frames, Making, made_where, Task, clash_in, unless_clash, made_result, made_of, one_command}
-use Rattle.commands.proofs.InputLaws.{made-survey, made_parts}
+use Rattle.outside.specs.Files.{Contents}
+use Rattle.sync_survey.proofs.FaultsLaws.{marked-length}
+use Rattle.sync_survey.proofs.SurveyParts.{frames_from, some_frames, surveyed-parts}
+use Rattle.sync_survey.{proofs.SurveyedFiles.survey_of-parts, specs.Faults.SurveyFields}
+use Rattle.sync_survey.specs.{MainData.{row_of, rows_of}, Survey.survey_of, Walk.head_of}
 
 -- ---- one output
 
-one_parts : (output : List ℕ) (clash : Option ℕ) (r : Result (List ℕ) EditFault) (made : Made) → made_of output (unless_clash clash r) ≡ Ok made → (clash ≡ None) × (bytes : List ℕ) × (r ≡ Ok bytes)
+one_parts : (output : List ℕ) (clash : Option ℕ) (r : Result (List ℕ) EditFault) (made : Made)
+    → made_of output (unless_clash clash r) ≡ Ok made
+    → (clash ≡ None) × (bytes : List ℕ) × (r ≡ Ok bytes)
 one_parts output (Some place) r made e = absurd cc
 one_parts output None (Ok bytes) made e = (refl, bytes, refl)
 one_parts output None (Err fault) made e = absurd cc
 
-pub makes-parts : (task : Task) (output : List ℕ) (files : Contents) (made : Made) → (one_command task output).makes files ≡ Ok made → (clash_in task output ≡ None) × (bytes : List ℕ) × (task.makes files ≡ Ok bytes)
+-- a command that isn't refused has no clash, and makes some bytes
+pub makes-parts : (task : Task) (output : List ℕ) (files : Contents) (made : Made)
+    → (one_command task output).makes files ≡ Ok made
+    → (clash_in task output ≡ None) × (bytes : List ℕ) × (task.makes files ≡ Ok bytes)
 unfolding made_result
-makes-parts task output files made e = one_parts output (clash_in task output) (task.makes files) made e
+makes-parts task output files made e =
+    one_parts output (clash_in task output) (task.makes files) made e
 
-pub parts-make : (task : Task) (output : List ℕ) (files : Contents) (bytes : List ℕ) → clash_in task output ≡ None → task.makes files ≡ Ok bytes → (made : Made) × ((one_command task output).makes files ≡ Ok made)
+-- and one without a clash that makes some bytes isn't refused
+pub parts-make : (task : Task) (output : List ℕ) (files : Contents) (bytes : List ℕ)
+    → clash_in task output ≡ None → task.makes files ≡ Ok bytes
+    → (made : Made) × ((one_command task output).makes files ≡ Ok made)
 unfolding made_result
-parts-make task output files bytes free is =
-    (record { outputs = record { name = output; bytes = bytes } ∷ []; text = [] }, ap₂ (λ (o : Option ℕ) (r : Result (List ℕ) EditFault). made_of output (unless_clash o r)) free is)
+parts-make task output files bytes free is = (
+  record { outputs = record { name = output; bytes = bytes } ∷ []; text = [] },
+  ap₂ (λ (o : Option ℕ) (r : Result (List ℕ) EditFault). made_of output (unless_clash o r)) free
+      is,
+)
 
 -- ---- of one input
 
+-- the file, its survey, and the bytes that are made of them
 pub record IsMadeOf (make : Making) (files : Contents) (name : List ℕ) : Type 0 where
   pub file : List ℕ
   pub survey : SurveyFields
@@ -40,24 +50,43 @@ pub record IsMadeOf (make : Making) (files : Contents) (name : List ℕ) : Type 
   pub bytes : List ℕ
   pub made : make file survey ≡ Ok bytes
 
-file-parts : (make : Making) (files : Contents) (name bytes : List ℕ) (o : Option (List ℕ)) → files name ≡ o → made_where make o ≡ Ok bytes → IsMadeOf make files name
+file-parts : (make : Making) (files : Contents) (name bytes : List ℕ) (o : Option (List ℕ))
+    → files name ≡ o → made_where make o ≡ Ok bytes → IsMadeOf make files name
 file-parts make files name bytes None there e = absurd cc
 file-parts make files name bytes (Some file) there e =
     let parts = made_parts make file bytes e in
-    record { file = file; survey = parts.0; there = there; surveyed = parts.1; bytes = bytes; made = parts.2 }
+    record {
+      file = file;
+      survey = parts.0;
+      there = there;
+      surveyed = parts.1;
+      bytes = bytes;
+      made =
+          parts.2;
+    }
 
-pub made-of : (make : Making) (files : Contents) (name bytes : List ℕ) → made_where make (files name) ≡ Ok bytes → IsMadeOf make files name
+-- bytes that are made of a name's file are made by its survey
+pub made-of : (make : Making) (files : Contents) (name bytes : List ℕ)
+    → made_where make (files name) ≡ Ok bytes → IsMadeOf make files name
 made-of make files name bytes e = file-parts make files name bytes (files name) refl e
 
-pub of-made : (make : Making) (files : Contents) (name file : List ℕ) (s : SurveyFields) → files name ≡ Some file → survey_of file most_frames ≡ Ok s → made_where make (files name) ≡ make file s
-of-made make files name file s there surveyed = ap (made_where make) there ∙ made-survey make file s surveyed
+-- of a surveyed file under the name are made the bytes that are made by its survey
+pub of-made : (make : Making) (files : Contents) (name file : List ℕ) (s : SurveyFields)
+    → files name ≡ Some file → survey_of file most_frames ≡ Ok s
+    → made_where make (files name) ≡ make file s
+of-made make files name file s there surveyed =
+    ap (made_where make) there ∙ made-survey make file s surveyed
 
 -- ---- a surveyed file has a frame
 
-pub some-frames : (file : List ℕ) (allowed : ℕ) (s : SurveyFields) → survey_of file allowed ≡ Ok s → 0 < length s.frames
+-- a surveyed file has a frame
+pub some-frames : (file : List ℕ) (allowed : ℕ) (s : SurveyFields) → survey_of file allowed ≡ Ok s
+    → 0 < length s.frames
 some-frames file allowed s e =
     let parts = surveyed-parts file allowed s (survey_of-parts file allowed s e).1 in
     let frames = frames_from file parts.0 in
     let head = head_of file parts.0.first in
-    let size : length s.frames ≡ length (rows_of file frames) = ap (λ (t : SurveyFields). length t.frames) (sym parts.2) ∙ marked-length head (rows_of file frames) in
+    let size : length s.frames ≡ length (rows_of file frames) =
+    ap (λ (t : SurveyFields). length t.frames) (sym parts.2)
+    ∙ marked-length head (rows_of file frames) in
     omega (arith, size, length-map frames (row_of file), some_frames file frames _ parts.1.end)

@@ -1,23 +1,26 @@
 -- A command with a text leaves of the files what it leaves without.
-use Rattle.std.proofs.Common.{◌≡◌, ℕ, List, Result, Ok, Err, refl, sym, ◌∙◌, ap, subst, inl, inr, ◌⊎◌, IfErr}
-use Rattle.outside.specs.Files.{Contents, Files, Told, Untold, IfTold}
-use Rattle.outside.specs.Seen.{Seen}
-use Rattle.commands.specs.declared.fault.EditFault.{EditFault}
-use Rattle.commands.specs.Command.{Made, Command, Gives, written, MakesStreams, HoldsStreams}
-use Rattle.commands.specs.Left.{why_of, IsDone, IsWrittenTo, IsUnfinished, IsNotBefore, TakesMemory, Leaves}
+use Rattle.std.proofs.Common.{ap, Err, IfErr, inl, inr, List, Ok, refl, Result, subst, sym, ℕ, ◌∙◌}
+use Rattle.std.proofs.Common.{◌≡◌, ◌⊎◌}
 use Rattle.commands.proofs.WhyLaws.{each_why}
-use Rattle.commands.specs.Said.{IsText}
-use Rattle.commands.specs.Telling.{with_text, telling}
+use Rattle.commands.specs.Command.{Command, Gives, HoldsStreams, Made, MakesStreams, written}
+use Rattle.commands.specs.Left.{IsDone, IsNotBefore, IsUnfinished, IsWrittenTo, Leaves, TakesMemory}
+use Rattle.commands.specs.{Left.why_of, Said.IsText, Telling.{telling, with_text}}
+use Rattle.commands.specs.declared.fault.EditFault.{EditFault}
+use Rattle.outside.specs.{Files.{Contents, Files, IfTold, Told, Untold}, Seen.Seen}
 
-pub text-parts : (text : List ℕ) (r : Result Made EditFault) (made : Made) → with_text text r ≡ Ok made → (m : Made) × (r ≡ Ok m)
+-- what is made with a text is made without it too
+pub text-parts : (text : List ℕ) (r : Result Made EditFault) (made : Made)
+    → with_text text r ≡ Ok made → (m : Made) × (r ≡ Ok m)
 text-parts text (Ok m) made e = (m, refl)
 text-parts text (Err fault) made e = absurd cc
 
-takes_text : (text : List ℕ) (r : Result Made EditFault) → TakesMemory r → TakesMemory (with_text text r)
+takes_text : (text : List ℕ) (r : Result Made EditFault) → TakesMemory r
+    → TakesMemory (with_text text r)
 takes_text text (Ok made) takes = tt
 takes_text text (Err fault) takes = takes
 
-all_text : (P : EditFault → Type 0) (text : List ℕ) (r : Result Made EditFault) → IfErr r P → IfErr (with_text text r) P
+all_text : (P : EditFault → Type 0) (text : List ℕ) (r : Result Made EditFault) → IfErr r P
+    → IfErr (with_text text r) P
 all_text P text (Ok made) is = tt
 all_text P text (Err fault) is = is
 
@@ -25,66 +28,113 @@ module _ (text : Contents → List ℕ) (command : Command) where
   abbrev told : Command
   told = telling text command
 
-  pub telling-gives : (files : Files) (fault : EditFault) → Gives command files (Err fault) → Gives told files (Err fault)
+  -- a fault of the command is one with the text
+  pub telling-gives : (files : Files) (fault : EditFault) → Gives command files (Err fault)
+      → Gives told files (Err fault)
   telling-gives (Untold touched) fault is = tt
   telling-gives (Told f) fault is = ap (with_text (text f)) is
 
-  takes_memory : (files : Files) → IfTold files (λ f. TakesMemory (command.makes f)) → IfTold files (λ f. TakesMemory (told.makes f))
+  takes_memory : (files : Files) → IfTold files (λ f. TakesMemory (command.makes f))
+      → IfTold files (λ f. TakesMemory (told.makes f))
   takes_memory (Untold touched) takes = tt
   takes_memory (Told f) takes = takes_text (text f) (command.makes f) takes
 
-  all-told : (files : Files) (P : EditFault → Type 0) → IfTold files (λ f. IfErr (command.makes f) P) → IfTold files (λ f. IfErr (told.makes f) P)
+  all-told : (files : Files) (P : EditFault → Type 0)
+      → IfTold files (λ f. IfErr (command.makes f) P) → IfTold files (λ f. IfErr (told.makes f) P)
   all-told (Untold touched) P is = tt
   all-told (Told f) P is = all_text P (text f) (command.makes f) is
 
+  -- what it does is done with the text
   pub telling-done : (old new : Seen) → IsDone command old new → IsDone told old new
-  telling-done old new done = record { made = at old.files done.made; touches = done.touches; counts = done.counts }
+  telling-done old new done =
+      record { made = at old.files done.made; touches = done.touches; counts = done.counts }
     where
-      at : (files : Files) → IfTold files (λ f. (made : Made) × (command.makes f ≡ Ok made) × (new.files ≡ Told (written made.outputs f)))
-          → IfTold files (λ f. (made : Made) × (told.makes f ≡ Ok made) × (new.files ≡ Told (written made.outputs f)))
+      at : (files : Files) → IfTold files (λ f. (made : Made) × (command.makes f ≡ Ok made)
+          × (new.files ≡ Told (written made.outputs f))) → IfTold files (λ f. (made : Made)
+          × (told.makes f ≡ Ok made) × (new.files ≡ Told (written made.outputs f)))
       at (Untold touched) made = tt
       at (Told f) made = (record made.0 { text = text f }, ap (with_text (text f)) made.1, made.2)
 
-  written-to : (k : ℕ) (old new : Files) → IsWrittenTo command k old new → IsWrittenTo told k old new
+  written-to : (k : ℕ) (old new : Files) → IsWrittenTo command k old new
+      → IsWrittenTo told k old new
   written-to k (Untold touched) new h = record { made = tt; touches = h.touches }
-  written-to k (Told f) new h = record { made = (record h.made.0 { text = text f }, ap (with_text (text f)) h.made.1, h.made.2, h.made.3, h.made.4); touches = h.touches }
+  written-to k (Told f) new h = record {
+    made = (
+      record h.made.0 { text = text f },
+      ap (with_text (text f)) h.made.1,
+      h.made.2,
+      h.made.3,
+      h.made.4,
+    );
+    touches = h.touches;
+  }
 
-  unfinished-to : (k : ℕ) (old new : Files) → IsUnfinished command k old new → IsUnfinished told k old new
+  unfinished-to : (k : ℕ) (old new : Files) → IsUnfinished command k old new
+      → IsUnfinished told k old new
   unfinished-to k (Untold touched) new h = record { made = tt; touches = h.touches }
-  unfinished-to k (Told f) new h = record { made = (record h.made.0 { text = text f }, ap (with_text (text f)) h.made.1, h.made.2, h.made.3, h.made.4, h.made.5); touches = h.touches }
+  unfinished-to k (Told f) new h = record {
+    made = (
+      record h.made.0 { text = text f },
+      ap (with_text (text f)) h.made.1,
+      h.made.2,
+      h.made.3,
+      h.made.4,
+      h.made.5,
+    );
+    touches = h.touches;
+  }
 
   module _ (old new : Seen) (fault : EditFault) where
-    unread-to : (new.files ≡ old.files) ⊎ ((k : ℕ) × IsWrittenTo command k old.files new.files) → (new.files ≡ old.files) ⊎ ((k : ℕ) × IsWrittenTo told k old.files new.files)
+    unread-to : (new.files ≡ old.files) ⊎ ((k : ℕ) × IsWrittenTo command k old.files new.files)
+        → (new.files ≡ old.files) ⊎ ((k : ℕ) × IsWrittenTo told k old.files new.files)
     unread-to (inl same) = inl same
     unread-to (inr h) = inr (h.0, written-to h.0 old.files new.files h.1)
 
+    -- what the command leaves it leaves with a text too
     pub telling-left : Leaves command old new fault → Leaves told old new fault
     telling-left h = each_why (why_of fault) h (record {
       rejected = λ r. record { defined = telling-gives old.files fault r.defined; stays = r.stays };
-      missing = λ m. record { defined = telling-gives old.files fault m.defined; rose = m.rose; files = m.files };
-      unread = λ u. record { names = u.names; before = all-told old.files (IsNotBefore fault) u.before; rose = u.rose; files = unread-to u.files };
+      missing = λ m. record {
+        defined = telling-gives old.files fault m.defined;
+        rose = m.rose;
+        files = m.files;
+      };
+      unread = λ u. record {
+        names = u.names;
+        before = all-told old.files (IsNotBefore fault) u.before;
+        rose = u.rose;
+        files = unread-to u.files;
+      };
       shorter = λ l. record { ended = l.ended; touches = l.touches };
-      unwritten = λ k w. record { rose = w.rose; files = unfinished-to k old.files new.files w.files };
+      unwritten =
+          λ k w. record { rose = w.rose; files = unfinished-to k old.files new.files w.files };
       unsent = λ d. telling-done old new d;
-      no_memory = λ n. record { names = n.names; takes = takes_memory old.files n.takes; stays = n.stays };
+      no_memory =
+          λ n. record { names = n.names; takes = takes_memory old.files n.takes; stays = n.stays };
     })
 
+  -- what it holds it holds with the text
   pub telling-streams : (files : Files) → HoldsStreams command files → HoldsStreams told files
   telling-streams (Untold touched) holds = tt
   telling-streams (Told f) holds = λ made is. at (command.makes f) refl made is
     where
-      by_text : (m made : Made) → command.makes f ≡ Ok m → (record m { text = text f }) ≡ made → MakesStreams told f made
-      by_text m made is same = subst (MakesStreams told f) same (let held = holds m is in record { sources = held.sources; streams = held.streams })
+      by_text : (m made : Made) → command.makes f ≡ Ok m → (record m { text = text f }) ≡ made
+          → MakesStreams told f made
+      by_text m made is same = subst (MakesStreams told f) same
+          (let held = holds m is in record { sources = held.sources; streams = held.streams })
 
-      at : (r : Result Made EditFault) → command.makes f ≡ r → (made : Made) → with_text (text f) r ≡ Ok made → MakesStreams told f made
+      at : (r : Result Made EditFault) → command.makes f ≡ r → (made : Made)
+          → with_text (text f) r ≡ Ok made → MakesStreams told f made
       at (Ok m) is made e = by_text m made is cc
       at (Err fault) is made e = absurd cc
 
   -- the text of told files, of which it makes something
-  pub telling-text : (files : Files) (all : List ℕ) → IsText told files all → (f : Contents) × (files ≡ Told f) × (all ≡ text f)
+  pub telling-text : (files : Files) (all : List ℕ) → IsText told files all
+      → (f : Contents) × (files ≡ Told f) × (all ≡ text f)
   telling-text files all (inl always) = absurd cc
   telling-text files all (inr t) = (t.0, t.2, sym t.4 ∙ at (command.makes t.0) t.3)
     where
       at : (r : Result Made EditFault) → with_text (text t.0) r ≡ Ok t.1 → t.1.text ≡ text t.0
-      at (Ok m) e = let same : (record m { text = text t.0 }) ≡ t.1 = cc in sym (ap (λ (x : Made). x.text) same)
+      at (Ok m) e = let same : (record m { text = text t.0 }) ≡ t.1 = cc in
+          sym (ap (λ (x : Made). x.text) same)
       at (Err fault) e = absurd cc

@@ -1,18 +1,15 @@
 -- What the steps before the output answer and leave.
-use Rattle.std.specs.Prelude.{◌≡◌, ◌≤◌, ℕ, List, length, Result, Ok, IfOk, IfErr, OnOk}
+use Rattle.std.specs.Prelude.{IfErr, IfOk, length, List, Ok, OnOk, Result, ℕ, ◌≡◌, ◌≤◌}
 use Rattle.bit_fields.specs.Bits.{AreBytes}
-use Rattle.outside.specs.Files.{IsThere}
-use Rattle.outside.specs.Seen.{Seen, OnFile, OnlyRead}
-use Rattle.sync_survey.specs.declared.surveys.Survey.{Survey}
-use Rattle.sync_survey.specs.Faults.{tells}
-use Rattle.sync_survey.specs.Survey.{survey_of, IsLaidOut}
+use Rattle.commands.specs.{Left.IsOfSurvey, One.IsFileFault, Sheet.{IsOfSheet, IsSheetFault}}
 use Rattle.commands.specs.declared.fault.EditFault.{EditFault}
-use Rattle.commands.specs.Left.{IsOfSurvey}
-use Rattle.commands.specs.One.{IsFileFault}
-use Rattle.commands.specs.Sheet.{IsSheetFault, IsOfSheet}
+use Rattle.outside.specs.{Files.IsThere, Seen.{OnFile, OnlyRead, Seen}}
+use Rattle.sync_survey.specs.{Faults.tells, Survey.{IsLaidOut, survey_of}}
+use Rattle.sync_survey.specs.declared.surveys.Survey.{Survey}
 
 -- An input, counted from 0, was surveyed, of which so many frames are allowed, or it is at fault.
-pub record InputSurvey (place allowed : ℕ) (name : List ℕ) (old new : Seen) (result : Result Survey EditFault) : Type 0 where
+pub record InputSurvey (place allowed : ℕ) (name : List ℕ) (old new : Seen)
+    (result : Result Survey EditFault) : Type 0 where
   pub there : OnOk result (IsThere old.files name)
   pub surveyed : IfOk result
       (λ s. OnFile old name (λ bytes. survey_of bytes allowed ≡ Ok (tells s)))
@@ -25,7 +22,8 @@ pub record InputSurvey (place allowed : ℕ) (name : List ℕ) (old new : Seen) 
   pub reads : OnlyRead result old new
 
 -- A sheet was looked for or read: it is there, or it is at fault.
-pub record SheetAnswer {T : Type 0} (name : List ℕ) (old new : Seen) (result : Result T EditFault) : Type 0 where
+pub record SheetAnswer {T : Type 0} (name : List ℕ) (old new : Seen)
+    (result : Result T EditFault) : Type 0 where
   pub there : OnOk result (IsThere old.files name)
   pub refused : IfErr result (IsSheetFault name old new)
   pub numbers : IfErr result IsOfSheet

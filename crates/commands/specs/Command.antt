@@ -1,11 +1,11 @@
--- What a command is as seen from outside: of the files that are there it makes files and a text, or it is refused.
-use Rattle.std.specs.Prelude.{◌≡◌, ℕ, ◌+◌, ◌<◌, Bool, List, [], ◌∷◌, ◌++◌, length, take, drop, if◌then◌else◌, bytes_eq, Option, Some, None, Result, Ok}
+-- What a command is as seen from outside: of the files that
+-- are there it makes files and a text, or it is refused.
 use Rattle.std.specs.List.{list_any}
-use Rattle.outside.specs.Files.{Contents, Files, with_file, IfTold}
-use Rattle.sync_survey.specs.MainData.{StreamFrame}
-use Rattle.commands.specs.declared.fault.EditFault.{EditFault}
-use Rattle.commands.specs.declared.fault.Refusal.{Refusal}
-use Rattle.sync_survey.specs.Faults.{IsWellFormed, HoldsStream}
+use Rattle.std.specs.Prelude.{Bool, bytes_eq, drop, if◌then◌else◌, length, List, None, Ok, Option}
+use Rattle.std.specs.Prelude.{Result, Some, take, ℕ, [], ◌++◌, ◌+◌, ◌<◌, ◌∷◌, ◌≡◌}
+use Rattle.commands.specs.declared.fault.{EditFault.EditFault, Refusal.Refusal}
+use Rattle.outside.specs.Files.{Contents, Files, IfTold, with_file}
+use Rattle.sync_survey.specs.{Faults.{HoldsStream, IsWellFormed}, MainData.StreamFrame}
 
 -- a file that a command writes
 pub record Output : Type 0 where
@@ -17,6 +17,8 @@ pub record Made : Type 0 where
   pub outputs : List Output
   pub text : List ℕ
 
+-- what a command is for the outside: the names of its files, what it makes of the files or why it
+-- refuses them, the streams that its outputs have to hold, and which refusals it can give
 pub record Command : Type 0 where
   -- the names of the files that it reads, and of those that it may write
   pub inputs : List (List ℕ)

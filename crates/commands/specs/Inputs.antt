@@ -1,5 +1,5 @@
 -- The names of what a command that makes one file reads.
-use Rattle.std.specs.Prelude.{ℕ, List, ◌∷◌, option_copied, option_to_list}
+use Rattle.std.specs.Prelude.{List, option_copied, option_to_list, ℕ, ◌∷◌}
 use Rattle.commands.specs.declared.inputs.Inputs.{Inputs}
 
 -- the source, and then the sheet, if there is one

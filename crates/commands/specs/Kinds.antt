@@ -1,9 +1,11 @@
 -- The fault of a command's input, by the kind of the survey's fault.
-pub use Rattle.sync_survey.specs.Kinds.{InputKind, IsAbsent, IsUnread, IsShorter, IsTooMuch, IsRefused, kind_of, end_of, HasRightNumbers, IsFromOutside, ByKind, by_kind}
+pub use Rattle.sync_survey.specs.Kinds.{by_kind, ByKind, end_of, HasRightNumbers, InputKind}
+pub use Rattle.sync_survey.specs.Kinds.{IsAbsent, IsFromOutside, IsRefused, IsShorter, IsTooMuch}
+pub use Rattle.sync_survey.specs.Kinds.{IsUnread, kind_of}
 use Rattle.std.specs.Prelude.{ℕ}
-use Rattle.sync_survey.specs.declared.survey_fault.SurveyFault.{SurveyFault}
 use Rattle.commands.specs.declared.fault.EditFault.{EditFault}
 use Rattle.commands.specs.declared.fault.EditFault.TheVariants.{Input, Memory as NoMemory}
+use Rattle.sync_survey.specs.declared.survey_fault.SurveyFault.{SurveyFault}
 
 -- the fault of an input of a command, counted from 0; want of memory is a fault of its own
 abbrev pub of_survey : ℕ → SurveyFault → EditFault

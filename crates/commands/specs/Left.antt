@@ -1,19 +1,23 @@
 -- What a command leaves of the files, by its answer, and the cause of each refusal.
-use Rattle.std.specs.Prelude.{◌≡◌, ◌≢◌, ◌⊎◌, ℕ, ◌+◌, ◌<◌, ◌≤◌, ◌==◌, List, length, take, drop, slice_index_or, Bool, true, false, Option, Some, None, [], Result, Ok, Err, IfErr}
-use Rattle.outside.specs.Files.{Files, Told, IfTold, is_told, OnlyTouches}
-use Rattle.outside.specs.Counts.{HappenedTo, EndedAt, NothingFailed}
-use Rattle.outside.specs.Seen.{Seen}
-use Rattle.sync_survey.specs.declared.survey_fault.SurveyFault.{SurveyFault}
-use Rattle.sync_survey.specs.declared.survey_fault.SurveyFault.TheVariants.{Absent, TooLong, Memory as NoRoom}
-use Rattle.commands.specs.Kinds.{kind_of, by_kind, end_of, HasRightNumbers, IsFromOutside}
+use Rattle.std.specs.Prelude.{Bool, drop, Err, false, IfErr, length, List, None, Ok, Option, Result}
+use Rattle.std.specs.Prelude.{slice_index_or, Some, take, true, ℕ, [], ◌+◌, ◌<◌, ◌==◌, ◌≡◌, ◌≢◌}
+use Rattle.std.specs.Prelude.{◌≤◌, ◌⊎◌}
+use Rattle.commands.specs.Command.{clash_of, Command, Gives, LacksBytes, Made, written, written_to}
+use Rattle.commands.specs.Kinds.{by_kind, end_of, HasRightNumbers, IsFromOutside, kind_of}
 use Rattle.commands.specs.declared.fault.EditFault.{EditFault}
-use Rattle.commands.specs.declared.fault.Refusal.{Refusal}
+use Rattle.commands.specs.declared.fault.EditFault.TheVariants.{EqualNames, Input, Memory, Refused}
+use Rattle.commands.specs.declared.fault.{EditFault.TheVariants.{Sent, Write}, Refusal.Refusal}
 use Rattle.commands.specs.declared.fault.Refusal.TheVariants.{Differ}
-use Rattle.commands.specs.declared.fault.EditFault.TheVariants.{EqualNames, Input, Refused, Write, Sent, Memory}
-use Rattle.commands.specs.Command.{Made, Command, clash_of, written, LacksBytes, written_to, Gives}
+use Rattle.outside.specs.Counts.{EndedAt, HappenedTo, NothingFailed}
+use Rattle.outside.specs.{Files.{Files, IfTold, is_told, OnlyTouches, Told}, Seen.Seen}
+use Rattle.sync_survey.specs.declared.survey_fault.SurveyFault.{SurveyFault}
+use Rattle.sync_survey.specs.declared.survey_fault.SurveyFault.TheVariants.{Absent}
+use Rattle.sync_survey.specs.declared.survey_fault.SurveyFault.TheVariants.{Memory as NoRoom}
+use Rattle.sync_survey.specs.declared.survey_fault.SurveyFault.TheVariants.{TooLong}
 
 -- ---- what a refusal comes from
 
+-- why a command isn't done
 pub data Why : Type 0 where
   -- the names or the files are refused
   Rejected : Why
@@ -40,6 +44,7 @@ pub record ByWhy {ℓ} (A : Type ℓ) : Type ℓ where
   pub unsent : A
   pub no_memory : A
 
+-- what there is for this cause
 abbrev pub by_why {ℓ} : {A : Type ℓ} → ByWhy A → Why → A
 by_why w Rejected = w.rejected
 by_why w Missing = w.missing
@@ -61,6 +66,7 @@ never = record {
   no_memory = ⊥;
 }
 
+-- the cause of a fault
 abbrev pub why_of : EditFault → Why
 why_of (Input place fault) =
     by_kind (record {
@@ -146,7 +152,8 @@ IsNotBefore fault answer = Unit {0}
 pub record IsUnread (command : Command) (old new : Seen) (fault : EditFault) : Type 0 where
   pub names : clash_of command ≡ None
   pub before : IfTold old.files (λ f. IfErr (command.makes f) (IsNotBefore fault))
-  pub rose : HappenedTo (input_of command.inputs fault) old.counts.read_faults new.counts.read_faults
+  pub rose : HappenedTo
+      (input_of command.inputs fault) old.counts.read_faults new.counts.read_faults
   pub files : (new.files ≡ old.files) ⊎ ((k : ℕ) × IsWrittenTo command k old.files new.files)
 
 -- only a folder that tells nothing can have such a file
@@ -156,7 +163,8 @@ pub record IsShorter (command : Command) (old new : Seen) (fault : EditFault) : 
 
 -- a call failed that creates this output or writes to it
 pub record IsUnwritten (command : Command) (k : ℕ) (old new : Seen) : Type 0 where
-  pub rose : HappenedTo (slice_index_or command.outputs k []) old.counts.write_faults new.counts.write_faults
+  pub rose : HappenedTo
+      (slice_index_or command.outputs k []) old.counts.write_faults new.counts.write_faults
   pub files : IsUnfinished command k old.files new.files
 
 -- equal names, an absent first input and one that is too long are found before any memory is taken
@@ -170,6 +178,7 @@ is_before_memory _ = false
 abbrev pub IsLate : EditFault → Type 0
 IsLate fault = is_before_memory fault ≡ false
 
+-- memory was taken before the command gave this
 abbrev pub TakesMemory : Result Made EditFault → Type 0
 TakesMemory (Ok made) = Unit {0}
 TakesMemory (Err fault) = is_before_memory fault ≡ false
@@ -204,6 +213,9 @@ Leaves command old new fault = by_why (left_by command old new fault) (why_of fa
 abbrev pub IsOfPlace : ℕ → ℕ → SurveyFault → Type 0
 IsOfPlace sources place fault = (place ≡ 0) ⊎ (place < sources) ⊎ IsFromOutside fault
 
+-- The numbers of a fault, over every folder: that of an input or an output is one that the command
+-- has, a refusal is one that it can give, a file that is too long is longer than one may be, one
+-- that became shorter ended before its first length, and a sheet has no fault of a stream.
 abbrev pub HasNumbers : Command → EditFault → Type 0
 HasNumbers command (EqualNames place) = clash_of command ≡ Some place
 HasNumbers command (Input place fault) =

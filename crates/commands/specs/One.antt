@@ -1,26 +1,29 @@
 -- A command that makes one file.
 pub use Rattle.sync_survey.specs.Limits.{most_frames}
-use Rattle.std.specs.Prelude.{◌≡◌, ◌≢◌, ◌⊎◌, ℕ, ◌<◌, ◌≤◌, Bool, true, false, take, List, [], ◌∷◌, length, slice_get, unwrap_or, Option, Some, None, Result, Ok, Err, IfErr}
+use Rattle.std.specs.Prelude.{Bool, Err, false, IfErr, length, List, None, Ok, Option, Result}
+use Rattle.std.specs.Prelude.{slice_get, Some, take, true, unwrap_or, ℕ, [], ◌<◌, ◌∷◌, ◌≡◌, ◌≢◌}
+use Rattle.std.specs.Prelude.{◌≤◌, ◌⊎◌}
 use Rattle.bit_fields.specs.Bits.{AreBytes}
-use Rattle.outside.specs.Files.{Contents, Files, Told, Untold, is_told, with_file, with_touch, Holds, IsThere, IsMissing, IfTold}
-use Rattle.outside.specs.Counts.{HappenedTo, EndedAt, NothingFailed}
-use Rattle.outside.specs.Seen.{Seen}
-use Rattle.sync_survey.specs.declared.survey_fault.SurveyFault.{SurveyFault}
-use Rattle.sync_survey.specs.declared.survey_fault.SurveyFault.TheVariants.{Absent, Read, Shrunk, Memory as NoRoom}
-use Rattle.sync_survey.specs.MainData.{StreamFrame}
-use Rattle.sync_survey.specs.Faults.{SurveyFields, longest_file, HoldsStream}
-use Rattle.sync_survey.specs.Survey.{survey_of}
-use Rattle.commands.specs.declared.fault.EditFault.{EditFault}
-use Rattle.commands.specs.declared.fault.EditFault.TheVariants.{EqualNames, Input, Refused, Memory}
+use Rattle.commands.specs.{Command.{AreSound, clash_from, Command, Made}, Kinds.HasRightNumbers}
+use Rattle.commands.specs.Left.{by_why, EndsEarly, input_of, IsLate, IsNotBefore, IsOfPlace, never}
+use Rattle.commands.specs.{Left.why_of, declared.fault.EditFault.EditFault}
+use Rattle.commands.specs.declared.fault.EditFault.TheVariants.{EqualNames, Input, Memory, Refused}
 use Rattle.commands.specs.declared.fault.Refusal.{Refusal}
-use Rattle.commands.specs.Kinds.{HasRightNumbers}
-use Rattle.commands.specs.Command.{Made, Command, clash_from, AreSound}
-use Rattle.commands.specs.Left.{by_why, never, why_of, input_of, EndsEarly, IsLate, IsNotBefore, IsOfPlace}
+use Rattle.outside.specs.Counts.{EndedAt, HappenedTo, NothingFailed}
+use Rattle.outside.specs.Files.{Contents, Files, Holds, IfTold, is_told, IsMissing, IsThere, Told}
+use Rattle.outside.specs.{Files.{Untold, with_file, with_touch}, Seen.Seen}
+use Rattle.sync_survey.specs.Faults.{HoldsStream, longest_file, SurveyFields}
+use Rattle.sync_survey.specs.{MainData.StreamFrame, Survey.survey_of}
+use Rattle.sync_survey.specs.declared.survey_fault.SurveyFault.{SurveyFault}
+use Rattle.sync_survey.specs.declared.survey_fault.SurveyFault.TheVariants.{Absent}
+use Rattle.sync_survey.specs.declared.survey_fault.SurveyFault.TheVariants.{Memory as NoRoom, Read}
+use Rattle.sync_survey.specs.declared.survey_fault.SurveyFault.TheVariants.{Shrunk}
 
 -- what it makes of a file with this survey, or why it refuses it
 abbrev pub Making : Type 0
 Making = List ℕ → SurveyFields → Result (List ℕ) EditFault
 
+-- what a file with this survey becomes, or the fault of the survey
 abbrev pub made_by : Making → List ℕ → Result SurveyFields SurveyFault → Result (List ℕ) EditFault
 made_by make file (Err fault) = Err (Input 0 fault)
 made_by make file (Ok s) = make file s
@@ -29,6 +32,7 @@ made_by make file (Ok s) = make file s
 unfoldable pub made_file : Making → List ℕ → Result (List ℕ) EditFault
 made_file make file = made_by make file (survey_of file most_frames)
 
+-- what the file becomes, if it is there
 abbrev pub made_where : Making → Option (List ℕ) → Result (List ℕ) EditFault
 made_where make None = Err (Input 0 Absent)
 made_where make (Some file) = made_file make file
@@ -62,6 +66,7 @@ file_task make stream refuses input = record {
 abbrev pub clash_in : Task → List ℕ → Option ℕ
 clash_in task output = clash_from (output ∷ []) 0 task.inputs
 
+-- the name of the first input
 abbrev pub first_input : List (List ℕ) → List ℕ
 first_input inputs = unwrap_or (slice_get inputs 0) []
 
@@ -76,6 +81,7 @@ pub record IsProper (task : Task) : Type 0 where
   pub streams : (f : Contents) (bytes new : List ℕ) → f task.source ≡ Some bytes → AreBytes bytes
       → task.makes f ≡ Ok new → AreSound f task.sources × HoldsStream new (task.stream f)
 
+-- the answer, unless an input has the output's name
 abbrev pub unless_clash : Option ℕ → Result (List ℕ) EditFault → Result (List ℕ) EditFault
 unless_clash (Some place) answer = Err (EqualNames place)
 unless_clash None answer = answer
@@ -84,6 +90,7 @@ unless_clash None answer = answer
 unfoldable pub made_result : Task → List ℕ → Contents → Result (List ℕ) EditFault
 made_result task output files = unless_clash (clash_in task output) (task.makes files)
 
+-- what is made where one file holds these bytes
 abbrev pub made_of : List ℕ → Result (List ℕ) EditFault → Result Made EditFault
 made_of output (Ok bytes) =
     Ok (record { outputs = record { name = output; bytes = bytes } ∷ []; text = [] })
@@ -109,13 +116,15 @@ holding (Told f) name bytes = Told (with_file f name bytes)
 holding (Untold touched) name bytes = Untold (with_touch touched name true)
 
 -- the file is there, and its survey is refused if so many frames are allowed
-pub record RefusesFile (allowed : ℕ) (name : List ℕ) (old new : Seen) (fault : SurveyFault) : Type 0 where
+pub record RefusesFile (allowed : ℕ) (name : List ℕ) (old new : Seen)
+    (fault : SurveyFault) : Type 0 where
   pub there : IsThere old.files name
   pub bytes : (bytes : List ℕ) → Holds old.files name bytes → survey_of bytes allowed ≡ Err fault
   pub stays : new ≡ old
 
 -- the input is there, and its bytes are refused
-pub record RefusesInput (make : Making) (name : List ℕ) (old new : Seen) (fault : EditFault) : Type 0 where
+pub record RefusesInput (make : Making) (name : List ℕ) (old new : Seen)
+    (fault : EditFault) : Type 0 where
   pub there : IsThere old.files name
   pub bytes : (bytes : List ℕ) → Holds old.files name bytes → made_file make bytes ≡ Err fault
   pub stays : new ≡ old
@@ -127,17 +136,20 @@ pub record MissesAt (place : ℕ) (name : List ℕ) (old new : Seen) (fault : Ed
   pub rose : HappenedTo name old.counts.misses new.counts.misses
   pub files : new.files ≡ old.files
 
+-- the only input isn't there
 abbrev pub MissesInput : List ℕ → Seen → Seen → EditFault → Type 0
 MissesInput name old new fault = MissesAt 0 name old new fault
 
 -- an input could not be read
-pub record ReadsNothing (place : ℕ) (name : List ℕ) (old new : Seen) (fault : EditFault) : Type 0 where
+pub record ReadsNothing (place : ℕ) (name : List ℕ) (old new : Seen)
+    (fault : EditFault) : Type 0 where
   pub is : fault ≡ Input place Read
   pub rose : HappenedTo name old.counts.read_faults new.counts.read_faults
   pub files : new.files ≡ old.files
 
 -- an input became shorter; only a folder that tells nothing can have such a file
-pub record LosesInput (place : ℕ) (name : List ℕ) (old new : Seen) (fault : EditFault) : Type 0 where
+pub record LosesInput (place : ℕ) (name : List ℕ) (old new : Seen)
+    (fault : EditFault) : Type 0 where
   pub first : ℕ
   pub second : ℕ
   pub is : fault ≡ Input place (Shrunk first second)
@@ -183,6 +195,7 @@ IsInputFault make name old new fault = by_why
 abbrev pub Refuses : Task → Files → EditFault → Type 0
 Refuses task files fault = IfTold files (λ f. task.makes f ≡ Err fault)
 
+-- the files are refused with this fault, and all is as it was
 pub record RefusesFiles (task : Task) (old new : Seen) (fault : EditFault) : Type 0 where
   pub defined : Refuses task old.files fault
   pub stays : new ≡ old
@@ -256,11 +269,14 @@ IsLeftShort made input output old new =
     (bytes : List ℕ) → Holds old input bytes → HoldsLess output (made bytes) old new
 
 -- the input that the fault is of could not be read again; the output is made by the first input
-pub record StopsReading (made : List ℕ → List ℕ) (inputs : List (List ℕ)) (output : List ℕ) (old new : Seen) (fault : EditFault) : Type 0 where
+pub record StopsReading (made : List ℕ → List ℕ) (inputs : List (List ℕ)) (output : List ℕ)
+    (old new : Seen) (fault : EditFault) : Type 0 where
   pub rose : HappenedTo (input_of inputs fault) old.counts.read_faults new.counts.read_faults
   pub files : IsBegun made (first_input inputs) output old.files new.files
 
-pub record StopsWriting (made : List ℕ → List ℕ) (input output : List ℕ) (old new : Seen) : Type 0 where
+-- a call failed that writes the output, which wasn't created or lacks bytes
+pub record StopsWriting (made : List ℕ → List ℕ) (input output : List ℕ)
+    (old new : Seen) : Type 0 where
   pub rose : HappenedTo output old.counts.write_faults new.counts.write_faults
   pub files : IsLeftShort made input output old.files new.files
 

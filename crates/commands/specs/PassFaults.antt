@@ -1,10 +1,10 @@
 -- The fault of a pass over an input, as one of a command.
 use Rattle.std.specs.Prelude.{ℕ}
-use Rattle.sync_survey.specs.declared.survey_fault.SurveyFault.TheVariants.{Read as Unread, Shrunk as Shorter}
 use Rattle.commands.specs.declared.fault.EditFault.{EditFault}
 use Rattle.commands.specs.declared.fault.EditFault.TheVariants.{Input, Write as Unwritten}
-use Rattle.outside.specs.declared.pass.PassFault.{PassFault}
-use Rattle.outside.specs.declared.pass.PassFault.TheVariants.{Read, Shrunk, Write}
+use Rattle.outside.specs.declared.pass.PassFault.{PassFault, TheVariants.{Read, Shrunk, Write}}
+use Rattle.sync_survey.specs.declared.survey_fault.SurveyFault.TheVariants.{Read as Unread}
+use Rattle.sync_survey.specs.declared.survey_fault.SurveyFault.TheVariants.{Shrunk as Shorter}
 
 -- that of a pass over this input that writes this output, both counted from 0
 abbrev pub of_pass : ℕ → ℕ → PassFault → EditFault

@@ -1,9 +1,9 @@
 -- The first of several refusals, and what is made where there is none.
-use Rattle.std.specs.Prelude.{List, [], ◌∷◌, Option, Some, None, Result, Ok, Err}
-use Rattle.commands.specs.declared.fault.EditFault.{EditFault}
-use Rattle.commands.specs.declared.fault.EditFault.TheVariants.{Refused}
+use Rattle.std.specs.Prelude.{Err, List, None, Ok, Option, Result, Some, [], ◌∷◌}
+use Rattle.commands.specs.declared.fault.EditFault.{EditFault, TheVariants.Refused}
 use Rattle.commands.specs.declared.fault.Refusal.{Refusal}
 
+-- the first of two refusals
 abbrev pub or_else : Option Refusal → Option Refusal → Option Refusal
 or_else (Some refusal) later = Some refusal
 or_else None later = later
@@ -13,6 +13,7 @@ unfoldable pub first_refusal : {A : Type 0} → (A → Option Refusal) → List 
 first_refusal refuse [] = None
 first_refusal refuse (a ∷ list) = or_else (refuse a) (first_refusal refuse list)
 
+-- this, unless there is a refusal
 abbrev pub unless : {A : Type 0} → Option Refusal → A → Result A EditFault
 unless (Some refusal) a = Err (Refused refusal)
 unless None a = Ok a

@@ -1,11 +1,9 @@
 -- What a command sends to standard output.
-use Rattle.std.specs.Prelude.{◌≡◌, ◌⊎◌, ℕ, ◌≤◌, List, length, take, Option, Some, None, Result, Ok, Err}
-use Rattle.outside.specs.Files.{Contents, Files, sent_more, Told}
-use Rattle.outside.specs.Counts.{Rose}
-use Rattle.outside.specs.Seen.{Heard}
-use Rattle.commands.specs.declared.fault.EditFault.{EditFault}
+use Rattle.std.specs.Prelude.{Err, length, List, None, Ok, Option, Result, Some, take, ℕ, ◌≡◌, ◌≤◌}
+use Rattle.std.specs.Prelude.{◌⊎◌}
+use Rattle.commands.specs.{Command.{Command, Made}, declared.fault.EditFault.EditFault}
 use Rattle.commands.specs.declared.fault.EditFault.TheVariants.{Sent as NotSent}
-use Rattle.commands.specs.Command.{Made, Command}
+use Rattle.outside.specs.{Counts.Rose, Files.{Contents, Files, sent_more, Told}, Seen.Heard}
 
 -- the text that the command makes of these files; over
 -- files that aren't told, one that it makes of all
@@ -33,6 +31,7 @@ Says command files old new None = SaysAll command files old new
 Says command files old new (Some NotSent) = SaysPrefix command files old new
 Says command files old new (Some _) = new ≡ old
 
+-- the fault of an answer, if it is one
 abbrev pub fault_of : {T : Type 0} → Result T EditFault → Option EditFault
 fault_of (Ok x) = None
 fault_of (Err fault) = Some fault

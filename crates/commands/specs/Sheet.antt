@@ -1,15 +1,13 @@
 -- A sheet, the second input of a command: its bytes, and why they aren't read.
-use Rattle.std.specs.Prelude.{◌≡◌, ◌≢◌, ℕ, nat_lt, if◌then◌else◌, Bool, true, false, List, length, Option, Some, None, Result, Ok, Err}
-use Rattle.outside.specs.Files.{Holds, IsThere}
-use Rattle.outside.specs.Seen.{Seen}
-use Rattle.sync_survey.specs.declared.survey_fault.SurveyFault.TheVariants.{Absent, Memory as NoRoom}
-use Rattle.commands.specs.declared.fault.EditFault.{EditFault}
-use Rattle.commands.specs.declared.fault.EditFault.TheVariants.{Input, Refused, Memory}
-use Rattle.commands.specs.declared.fault.Refusal.{Refusal}
-use Rattle.commands.specs.declared.fault.Refusal.TheVariants.{SheetTooLarge}
-use Rattle.commands.specs.Kinds.{HasRightNumbers, IsFromOutside}
-use Rattle.commands.specs.Left.{by_why, never, why_of}
-use Rattle.commands.specs.One.{MissesAt, ReadsNothing, LosesInput}
+use Rattle.std.specs.Prelude.{Bool, Err, false, if◌then◌else◌, length, List, nat_lt, None, Ok}
+use Rattle.std.specs.Prelude.{Option, Result, Some, true, ℕ, ◌≡◌, ◌≢◌}
+use Rattle.commands.specs.{Kinds.{HasRightNumbers, IsFromOutside}, Left.{by_why, never, why_of}}
+use Rattle.commands.specs.One.{LosesInput, MissesAt, ReadsNothing}
+use Rattle.commands.specs.declared.fault.EditFault.{EditFault, TheVariants.{Input, Memory, Refused}}
+use Rattle.commands.specs.declared.fault.Refusal.{Refusal, TheVariants.SheetTooLarge}
+use Rattle.outside.specs.{Files.{Holds, IsThere}, Seen.Seen}
+use Rattle.sync_survey.specs.declared.survey_fault.SurveyFault.TheVariants.{Absent}
+use Rattle.sync_survey.specs.declared.survey_fault.SurveyFault.TheVariants.{Memory as NoRoom}
 
 -- the greatest length of a sheet in bytes
 abbrev pub longest_sheet : ℕ
@@ -33,6 +31,7 @@ pub record RefusesSheet {T : Type 0} (says : List ℕ → Result T EditFault)
   pub bytes : (bytes : List ℕ) → Holds old.files name bytes → says bytes ≡ Err fault
   pub stays : new ≡ old
 
+-- the sheet, which is input 1, isn't there
 abbrev pub MissesSheet : List ℕ → Seen → Seen → EditFault → Type 0
 MissesSheet name old new fault = MissesAt 1 name old new fault
 

@@ -1,8 +1,7 @@
 -- A command that makes files, and a text that tells of them.
-use Rattle.std.specs.Prelude.{ℕ, List, None, Result, Ok, Err}
+use Rattle.std.specs.Prelude.{Err, List, None, Ok, Result, ℕ}
+use Rattle.commands.specs.{Command.{Command, Made}, declared.fault.EditFault.EditFault}
 use Rattle.outside.specs.Files.{Contents}
-use Rattle.commands.specs.declared.fault.EditFault.{EditFault}
-use Rattle.commands.specs.Command.{Made, Command}
 
 -- with this text, if it isn't refused
 abbrev pub with_text : List ℕ → Result Made EditFault → Result Made EditFault

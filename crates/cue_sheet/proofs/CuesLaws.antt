@@ -1,20 +1,18 @@
 -- The lines of a sheet one by one.
-use Rattle.std.proofs.Common.{◌≡◌, ℕ, ◌+◌, ◌<◌, ◌||◌, Bool, true, false, cond, List, [], ◌∷◌, ◌++◌, length, map, Option, Some, None, Ok, Err, refl, sym, ap, subst, ◌∙◌, arith, length-append, append_assoc, append-nil, reverse, find}
-use Rattle.std.specs.Option.{option_or}
-use Rattle.std.specs.List.{All, list_any, last_or}
-use Rattle.std.proofs.lemmas.List.{reverse-append, map-append}
-use Rattle.std.proofs.lemmas.List.Elements.{All-map, All-from_get_or, filter_map-append}
-use Rattle.std.proofs.lemmas.List.Folds.{list_any-append}
-use Rattle.std.proofs.lemmas.List.Sums.{sum_by_push}
-use Rattle.cue_sheet.specs.declared.entry.Entry.{Entry}
-use Rattle.cue_sheet.specs.declared.cue_fault.CueFault.{CueFault}
-use Rattle.cue_sheet.specs.declared.cue_fault.CueFault.TheVariants.{NoTracks}
-use Rattle.cue_sheet.specs.declared.place.Place.{Place}
-use Rattle.cue_sheet.specs.declared.seen.Seen.{Seen}
-use Rattle.cue_sheet.specs.Cues.{is_file, is_track, is_start, start_time, is_start_there, times_of, IsSeen, fault_of, first_fault, IsRising, AreStarts, place_at, places_of, some_starts, unless, cue_in, entry_in, entries_from}
-use Rattle.cue_sheet.specs.Places.{IsPlace}
-use Rattle.cue_sheet.proofs.RisingLaws.{rises}
-use Rattle.cue_sheet.proofs.LinesLaws.{no_lines}
+use Rattle.std.proofs.Common.{ap, append-nil, append_assoc, arith, Bool, cond, Err, false, find}
+use Rattle.std.proofs.Common.{length, length-append, List, map, None, Ok, Option, refl, reverse}
+use Rattle.std.proofs.Common.{Some, subst, sym, true, ℕ, [], ◌++◌, ◌+◌, ◌<◌, ◌||◌, ◌∙◌, ◌∷◌, ◌≡◌}
+use Rattle.std.proofs.lemmas.List.{map-append, reverse-append}
+use Rattle.std.proofs.lemmas.List.Elements.{All-from_get_or, All-map, filter_map-append}
+use Rattle.std.proofs.lemmas.List.{Folds.list_any-append, Sums.sum_by_push}
+use Rattle.std.specs.{List.{All, last_or, list_any}, Option.option_or}
+use Rattle.cue_sheet.proofs.{LinesLaws.no_lines, RisingLaws.rises}
+use Rattle.cue_sheet.specs.Cues.{AreStarts, cue_in, entries_from, entry_in, fault_of, first_fault}
+use Rattle.cue_sheet.specs.Cues.{is_file, is_start, is_start_there, is_track, IsRising, IsSeen}
+use Rattle.cue_sheet.specs.Cues.{place_at, places_of, some_starts, start_time, times_of, unless}
+use Rattle.cue_sheet.specs.{Places.IsPlace, declared.cue_fault.CueFault.CueFault}
+use Rattle.cue_sheet.specs.declared.{cue_fault.CueFault.TheVariants.NoTracks, entry.Entry.Entry}
+use Rattle.cue_sheet.specs.declared.{place.Place.Place, seen.Seen.Seen}
 
 -- ---- what the lines say together with one more
 
@@ -28,7 +26,8 @@ or_false : (a : Bool) → (a || false) ≡ a
 or_false true = refl
 or_false false = refl
 
-there_is : (b : Bool) (e : Entry) (o : Option Entry) → cond b (is_start e) (is_start_there o) ≡ is_start_there (cond b (Some e) o)
+there_is : (b : Bool) (e : Entry) (o : Option Entry)
+    → cond b (is_start e) (is_start_there o) ≡ is_start_there (cond b (Some e) o)
 there_is true e o = refl
 there_is false e o = refl
 
@@ -36,22 +35,39 @@ last_of_both : (o : Option ℕ) (xs ys : List ℕ) → last_or o (xs ++ ys) ≡ 
 last_of_both o [] ys = refl
 last_of_both o (x ∷ xs) ys = last_of_both (Some x) xs ys
 
-pub seen_more : (before : List Entry) (e : Entry) (s t : Seen) → IsSeen before s → t.lines ≡ s.lines + 1 → t.file ≡ (is_file e || s.file) → t.tracks ≡ s.tracks + cond (is_track e) 1 0
-    → t.started ≡ cond (is_track e || is_start e) (is_start e) s.started → t.last ≡ last_or s.last (times_of (e ∷ [])) → IsSeen (before ++ (e ∷ [])) t
+-- what is seen of lines and one line more, by what that line says
+pub seen_more : (before : List Entry) (e : Entry) (s t : Seen) → IsSeen before s → t.lines
+    ≡ s.lines + 1 → t.file ≡ (is_file e || s.file) → t.tracks ≡ s.tracks + cond (is_track e) 1 0
+    → t.started ≡ cond (is_track e || is_start e) (is_start e) s.started
+    → t.last ≡ last_or s.last (times_of (e ∷ [])) → IsSeen (before ++ (e ∷ [])) t
 seen_more before e s t is lines file tracks started last = record {
   lines = lines ∙ ap (λ n. n + 1) is.lines ∙ sym (length-append before (e ∷ []));
-  file = file ∙ ap (λ b. is_file e || b) is.file ∙ or_swapped (is_file e) (list_any is_file before) ∙ ap (λ b. list_any is_file before || b) (sym (or_false (is_file e))) ∙ sym (list_any-append is_file before (e ∷ []));
-  tracks = tracks ∙ ap (λ n. n + cond (is_track e) 1 0) is.tracks ∙ sym (sum_by_push (λ x. cond (is_track x) 1 0) before e);
-  started = started ∙ ap (cond (is_track e || is_start e) (is_start e)) is.started ∙ there_is (is_track e || is_start e) e (find (λ entry. is_track entry || is_start entry) (reverse before))
-      ∙ ap (λ es. is_start_there (find (λ entry. is_track entry || is_start entry) es)) (sym (reverse-append before (e ∷ [])));
-  last = last ∙ ap (λ o. last_or o (times_of (e ∷ []))) is.last ∙ sym (last_of_both None (times_of before) (times_of (e ∷ []))) ∙ ap (last_or None) (sym (filter_map-append start_time before (e ∷ [])));
+  file = file ∙ ap (λ b. is_file e || b) is.file ∙ or_swapped (is_file e) (list_any is_file before)
+      ∙ ap (λ b. list_any is_file before || b) (sym (or_false (is_file e)))
+      ∙ sym (list_any-append is_file before (e ∷ []));
+  tracks = tracks ∙ ap (λ n. n + cond (is_track e) 1 0) is.tracks
+      ∙ sym (sum_by_push (λ x. cond (is_track x) 1 0) before e);
+  started = started ∙ ap (cond (is_track e || is_start e) (is_start e)) is.started
+      ∙ there_is (is_track e || is_start e) e
+      (find (λ entry. is_track entry || is_start entry) (reverse before))
+      ∙ ap (λ es. is_start_there (find (λ entry. is_track entry || is_start entry) es))
+      (sym (reverse-append before (e ∷ [])));
+  last = last ∙ ap (λ o. last_or o (times_of (e ∷ []))) is.last
+      ∙ sym (last_of_both None (times_of before) (times_of (e ∷ [])))
+      ∙ ap (last_or None) (sym (filter_map-append start_time before (e ∷ [])));
 }
 
 -- the same, of a line that is this one
-pub seen_with : (before : List Entry) (entry e : Entry) (s t : Seen) → entry ≡ e → IsSeen before s → t.lines ≡ s.lines + 1 → t.file ≡ (is_file e || s.file) → t.tracks ≡ s.tracks + cond (is_track e) 1 0
-    → t.started ≡ cond (is_track e || is_start e) (is_start e) s.started → t.last ≡ last_or s.last (times_of (e ∷ [])) → IsSeen (before ++ (entry ∷ [])) t
-seen_with before entry e s t same is lines file tracks started last = subst (λ x. IsSeen (before ++ (x ∷ [])) t) (sym same) (seen_more before e s t is lines file tracks started last)
+pub seen_with : (before : List Entry) (entry e : Entry) (s t : Seen) → entry ≡ e → IsSeen before s
+    → t.lines ≡ s.lines + 1 → t.file ≡ (is_file e || s.file)
+    → t.tracks ≡ s.tracks + cond (is_track e) 1 0
+    → t.started ≡ cond (is_track e || is_start e) (is_start e) s.started
+    → t.last ≡ last_or s.last (times_of (e ∷ [])) → IsSeen (before ++ (entry ∷ [])) t
+seen_with before entry e s t same is lines file tracks started last =
+    subst (λ x. IsSeen (before ++ (x ∷ [])) t) (sym same)
+    (seen_more before e s t is lines file tracks started last)
 
+-- a number is itself and nothing more
 pub no_more : (n : ℕ) → n ≡ n + 0
 no_more n = omega arith
 
@@ -66,26 +82,42 @@ pub record HaveRead (text : List ℕ) (at : ℕ) (now : Seen) (places : List Pla
   pub starts : places ≡ places_of before
   pub rising : IsRising (times_of before)
 
-pub first_of : (before more : List Entry) (e : Entry) → first_fault before (e ∷ more) ≡ option_or (fault_of before e) (first_fault (before ++ (e ∷ [])) more)
+-- the first fault is that of this line or, if it has none, the first of those after it
+pub first_of : (before more : List Entry) (e : Entry) → first_fault before (e ∷ more)
+    ≡ option_or (fault_of before e) (first_fault (before ++ (e ∷ [])) more)
 unfolding first_fault
 first_of before more e = refl
 
-pub refused : (text : List ℕ) (at : ℕ) (now : Seen) (places : List Place) (e : Entry) (more : List Entry) (fault : CueFault) → HaveRead text at now places → entries_from text at ≡ e ∷ more
-    → ((before : List Entry) → IsSeen before now → Some fault ≡ fault_of before e) → cue_in (entries_from text 0) ≡ Err fault
+-- if the next line has a fault, it is the sheet's
+pub refused : (text : List ℕ) (at : ℕ) (now : Seen) (places : List Place) (e : Entry)
+    (more : List Entry) (fault : CueFault) → HaveRead text at now places → entries_from text at
+    ≡ e ∷ more → ((before : List Entry) → IsSeen before now → Some fault ≡ fault_of before e)
+    → cue_in (entries_from text 0) ≡ Err fault
 refused text at now places e more fault read line found =
     ap (λ o. unless o (some_starts (places_of (entries_from text 0))))
-    (read.first ∙ ap (first_fault read.before) line ∙ first_of read.before more e ∙ ap (λ o. option_or o (first_fault (read.before ++ (e ∷ [])) more)) (sym (found read.before read.seen)))
+    (read.first ∙ ap (first_fault read.before) line ∙ first_of read.before more e ∙ ap (λ o.
+    option_or o (first_fault (read.before ++ (e ∷ [])) more)) (sym (found read.before read.seen)))
 
-pub goes_on : (text : List ℕ) (at next : ℕ) (now then : Seen) (places : List Place) (e : Entry) → HaveRead text at now places → entries_from text at ≡ e ∷ entries_from text next
-    → ((before : List Entry) → IsSeen before now → None ≡ fault_of before e) → ((before : List Entry) → IsSeen before now → IsSeen (before ++ (e ∷ [])) then)
+-- if it has none, the lines with it were read, and its start is one more
+pub goes_on : (text : List ℕ) (at next : ℕ) (now then : Seen) (places : List Place) (e : Entry)
+    → HaveRead text at now places → entries_from text at ≡ e ∷ entries_from text next
+    → ((before : List Entry) → IsSeen before now → None ≡ fault_of before e)
+    → ((before : List Entry) → IsSeen before now → IsSeen (before ++ (e ∷ [])) then)
     → HaveRead text next then (places ++ places_of (e ∷ []))
 goes_on text at next now then places e read line found behind = record {
   before = read.before ++ (e ∷ []);
-  lines = read.lines ∙ ap (λ es. read.before ++ es) line ∙ sym (append_assoc read.before (e ∷ []) (entries_from text next));
-  first = read.first ∙ ap (first_fault read.before) line ∙ first_of read.before (entries_from text next) e ∙ ap (λ o. option_or o (first_fault (read.before ++ (e ∷ [])) (entries_from text next))) (sym (found read.before read.seen));
+  lines = read.lines ∙ ap (λ es. read.before ++ es) line
+      ∙ sym (append_assoc read.before (e ∷ []) (entries_from text next));
+  first = read.first ∙ ap (first_fault read.before) line
+      ∙ first_of read.before (entries_from text next) e
+      ∙ ap (λ o. option_or o (first_fault (read.before ++ (e ∷ [])) (entries_from text next)))
+      (sym (found read.before read.seen));
   seen = behind read.before read.seen;
-  starts = ap (λ p. p ++ places_of (e ∷ [])) read.starts ∙ sym (ap (map place_at) (filter_map-append start_time read.before (e ∷ [])) ∙ map-append place_at (times_of read.before) (times_of (e ∷ [])));
-  rising = subst IsRising (sym (filter_map-append start_time read.before (e ∷ []))) (rises read.before e read.rising (found read.before read.seen));
+  starts = ap (λ p. p ++ places_of (e ∷ [])) read.starts
+      ∙ sym (ap (map place_at) (filter_map-append start_time read.before (e ∷ []))
+      ∙ map-append place_at (times_of read.before) (times_of (e ∷ [])));
+  rising = subst IsRising (sym (filter_map-append start_time read.before (e ∷ [])))
+      (rises read.before e read.rising (found read.before read.seen));
 }
 
 none_left : (text : List ℕ) (at : ℕ) → length text < at → entries_from text at ≡ []
@@ -95,26 +127,35 @@ no_fault : (before : List Entry) → first_fault before [] ≡ None
 unfolding first_fault
 no_fault before = refl
 
-pub ends : (text : List ℕ) (at : ℕ) (now : Seen) (places : List Place) → HaveRead text at now places → length text < at → cue_in (entries_from text 0) ≡ some_starts places
+-- after the last line the sheet's starts are those that were read
+pub ends : (text : List ℕ) (at : ℕ) (now : Seen) (places : List Place) → HaveRead text at now places
+    → length text < at → cue_in (entries_from text 0) ≡ some_starts places
 ends text at now places read end =
     let none = none_left text at end in
-    ap (λ o. unless o (some_starts (places_of (entries_from text 0)))) (read.first ∙ ap (first_fault read.before) none ∙ no_fault read.before)
-    ∙ ap (λ es. some_starts (places_of es)) (read.lines ∙ ap (λ es. read.before ++ es) none ∙ append-nil read.before)
+    ap (λ o. unless o (some_starts (places_of (entries_from text 0))))
+    (read.first ∙ ap (first_fault read.before) none ∙ no_fault read.before)
+    ∙ ap (λ es. some_starts (places_of es))
+    (read.lines ∙ ap (λ es. read.before ++ es) none ∙ append-nil read.before)
     ∙ ap some_starts (sym read.starts)
 
+-- with a start the sheet has these
 pub some_are : (places : List Place) → 0 < length places → some_starts places ≡ Ok places
 some_are [] some = absurd (omega (arith, some))
 some_are (place ∷ more) some = refl
 
+-- without one it has no tracks
 pub none_are : (places : List Place) → length places ≡ 0 → some_starts places ≡ Err NoTracks
 none_are [] none = refl
 none_are (place ∷ more) none = absurd (omega (arith, none))
 
 -- the starts so far
-pub are_starts : (text : List ℕ) (at : ℕ) (now : Seen) (places : List Place) → HaveRead text at now places → AreStarts places
+pub are_starts : (text : List ℕ) (at : ℕ) (now : Seen) (places : List Place)
+    → HaveRead text at now places → AreStarts places
 are_starts text at now places read = record {
   times = times_of read.before;
   all = read.starts;
   rising = read.rising;
-  sound = subst (All IsPlace) (sym read.starts) (All-map IsPlace place_at (times_of read.before) (All-from_get_or (λ time. IsPlace (place_at time)) (times_of read.before) 0 (λ i within. (omega arith, omega arith))));
+  sound = subst (All IsPlace) (sym read.starts) (All-map IsPlace place_at (times_of read.before)
+      (All-from_get_or (λ time. IsPlace (place_at time)) (times_of read.before) 0
+      (λ i within. (omega arith, omega arith))));
 }

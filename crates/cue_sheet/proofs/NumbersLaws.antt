@@ -1,13 +1,13 @@
 -- Numbers of a few digits, read from the left.
-use Rattle.std.proofs.Common.{◌≡◌, ℕ, ◌<◌, ◌≤◌, Bool, true, false, cond, List, length, get_or, take, ◌&&◌, Option, Some, None, leb, refl, arith}
-use Rattle.std.specs.Int.{IsInRange}
-use Rattle.std.specs.Str.{all_ascii_digits}
-use Rattle.std.specs.Str.Parse.{AllDigits, digits_value}
-use Rattle.std.proofs.lemmas.Bool.{le-leb, lt-leb}
-use Rattle.std.proofs.lemmas.Str.Parse.{IsNumeralModel, numerals_by_value, tells_all_ascii_digits, digit_at, digits_value_short}
-use Rattle.std.proofs.lemmas.List.{length-take-le}
+use Rattle.std.proofs.Common.{arith, Bool, cond, false, get_or, leb, length, List, None, Option}
+use Rattle.std.proofs.Common.{refl, Some, take, true, ℕ, ◌&&◌, ◌<◌, ◌≡◌, ◌≤◌}
+use Rattle.std.proofs.lemmas.{Bool.{le-leb, lt-leb}, List.length-take-le}
+use Rattle.std.proofs.lemmas.Str.Parse.{digit_at, digits_value_short, IsNumeralModel}
+use Rattle.std.proofs.lemmas.Str.Parse.{numerals_by_value, tells_all_ascii_digits}
+use Rattle.std.specs.{Int.IsInRange, Str.{all_ascii_digits, Parse.{AllDigits, digits_value}}}
 use Rattle.cue_sheet.specs.Digits.{number_in}
 
+-- decimal digits are read from the left as a numeral
 pub digits_model : IsNumeralModel (λ ds. all_ascii_digits ds ≡ true) (digits_value 10)
 digits_model = numerals_by_value _ tells_all_ascii_digits
 
@@ -27,8 +27,9 @@ no_last true true false x = refl
 no_last true false c x = refl
 no_last false b c x = refl
 
--- the digits are read
-pub number_of_digits : (least most greatest : ℕ) (digits : List ℕ) → least ≤ length digits → length digits ≤ most → AllDigits 10 digits → digits_value 10 digits ≤ greatest
+-- as many digits as may be, of a number that isn't too great, are read as it
+pub number_of_digits : (least most greatest : ℕ) (digits : List ℕ) → least ≤ length digits
+    → length digits ≤ most → AllDigits 10 digits → digits_value 10 digits ≤ greatest
     → number_in least most greatest digits ≡ Some (digits_value 10 digits)
 unfolding number_in
 number_of_digits least most greatest digits enough few all small =
@@ -38,33 +39,46 @@ number_of_digits least most greatest digits enough few all small =
     let top : leb (digits_value 10 digits) greatest ≡ true = le-leb _ _ small in
     rw (low, high, each, top) refl
 
--- and what isn't read
-pub number_of_few : (least most greatest : ℕ) (digits : List ℕ) → length digits < least → number_in least most greatest digits ≡ None
+-- fewer digits than may be are no number
+pub number_of_few : (least most greatest : ℕ) (digits : List ℕ) → length digits < least
+    → number_in least most greatest digits ≡ None
 unfolding number_in
 number_of_few least most greatest digits few =
     let low : leb least (length digits) ≡ false = lt-leb _ _ few in
     rw low refl
 
-pub number_of_many : (least most greatest : ℕ) (digits : List ℕ) → most < length digits → number_in least most greatest digits ≡ None
+-- more digits than may be are no number
+pub number_of_many : (least most greatest : ℕ) (digits : List ℕ) → most < length digits
+    → number_in least most greatest digits ≡ None
 unfolding number_in
 number_of_many least most greatest digits many =
     let high : leb (length digits) most ≡ false = lt-leb _ _ many in
-    rw high (no_second (leb least (length digits)) (all_ascii_digits digits) (leb (digits_value 10 digits) greatest) (Some (digits_value 10 digits)))
+    rw high (no_second (leb least (length digits)) (all_ascii_digits digits)
+    (leb (digits_value 10 digits) greatest) (Some (digits_value 10 digits)))
 
-pub number_of_others : (least most greatest : ℕ) (digits : List ℕ) (i : ℕ) → i < length digits → (IsInRange 48 57 (get_or digits i 0) → ⊥) → number_in least most greatest digits ≡ None
+-- nor are bytes with one that is no digit
+pub number_of_others : (least most greatest : ℕ) (digits : List ℕ) (i : ℕ) → i < length digits
+    → (IsInRange 48 57 (get_or digits i 0) → ⊥) → number_in least most greatest digits ≡ None
 unfolding number_in
 number_of_others least most greatest digits i lt other =
-    elim (all_ascii_digits digits) as (λ b. all_ascii_digits digits ≡ b → number_in least most greatest digits ≡ None) [
+    elim (all_ascii_digits digits) as (λ b. all_ascii_digits digits ≡ b
+    → number_in least most greatest digits ≡ None) [
       | true ↦ λ each. absurd (other (digit_at digits i (digits_model.to digits each) lt))
-      | false ↦ λ each. rw each (no_third (leb least (length digits)) (leb (length digits) most) (leb (digits_value 10 digits) greatest) (Some (digits_value 10 digits)))
+      | false ↦ λ each. rw each (no_third (leb least (length digits)) (leb (length digits) most)
+          (leb (digits_value 10 digits) greatest) (Some (digits_value 10 digits)))
     ] refl
 
-pub number_of_great : (least most greatest : ℕ) (digits : List ℕ) → greatest < digits_value 10 digits → number_in least most greatest digits ≡ None
+-- nor are digits of a number that is too great
+pub number_of_great : (least most greatest : ℕ) (digits : List ℕ)
+    → greatest < digits_value 10 digits → number_in least most greatest digits ≡ None
 unfolding number_in
 number_of_great least most greatest digits great =
     let top : leb (digits_value 10 digits) greatest ≡ false = lt-leb _ _ great in
-    rw top (no_last (leb least (length digits)) (leb (length digits) most) (all_ascii_digits digits) (Some (digits_value 10 digits)))
+    rw top (no_last (leb least (length digits)) (leb (length digits) most) (all_ascii_digits digits)
+    (Some (digits_value 10 digits)))
 
 -- nine digits are below a thousand million, so that a tenth fits
-pub value_of_few : (digits : List ℕ) (i : ℕ) → i < length digits → length digits ≤ 10 → AllDigits 10 (take i digits) → digits_value 10 (take i digits) < 1000000000
-value_of_few digits i lt few all = digits_value_short digits_model (take i digits) 9 (digits_model.from (take i digits) all) (omega (arith, length-take-le i digits (omega arith)))
+pub value_of_few : (digits : List ℕ) (i : ℕ) → i < length digits → length digits ≤ 10
+    → AllDigits 10 (take i digits) → digits_value 10 (take i digits) < 1000000000
+value_of_few digits i lt few all = digits_value_short digits_model (take i digits) 9
+    (digits_model.from (take i digits) all) (omega (arith, length-take-le i digits (omega arith)))

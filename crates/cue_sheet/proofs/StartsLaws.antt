@@ -1,17 +1,18 @@
 -- A cue sheet has at most 99 starts, since it has at most 99 tracks and each track has one at most.
-use Rattle.std.proofs.Common.{◌≡◌, ℕ, ◌+◌, ◌||◌, Bool, true, false, cond, List, [], ◌∷◌, ◌++◌, length, Option, Some, None, Ok, refl, sym, ◌∙◌, ap, subst, not, arith, length-append, append_assoc, append-nil, ◌<◌, ◌≤◌, nat_le}
+use Rattle.std.proofs.Common.{ap, append-nil, append_assoc, arith, Bool, cond, false, length}
+use Rattle.std.proofs.Common.{length-append, List, nat_le, None, not, Ok, Option, refl, Some, subst}
+use Rattle.std.proofs.Common.{sym, true, ℕ, [], ◌++◌, ◌+◌, ◌<◌, ◌||◌, ◌∙◌, ◌∷◌, ◌≡◌, ◌≤◌}
+use Rattle.std.proofs.lemmas.{Bool.{leb-false, leb-true, or_parts}, List.length-map}
+use Rattle.std.{proofs.lemmas.List.Elements.filter_map-append, specs.List.{count_by, last_or}}
 use Rattle.std.specs.Option.{option_or}
-use Rattle.std.specs.List.{count_by, last_or}
-use Rattle.std.proofs.lemmas.Bool.{leb-true, leb-false, or_parts}
-use Rattle.std.proofs.lemmas.List.{length-map}
-use Rattle.std.proofs.lemmas.List.Elements.{filter_map-append}
-use Rattle.cue_sheet.specs.declared.entry.Entry.{Entry}
-use Rattle.cue_sheet.specs.declared.entry.Entry.TheVariants.{Passed, File, Track, Index, Start, Broken}
-use Rattle.cue_sheet.specs.declared.cue_fault.CueFault.{CueFault}
-use Rattle.cue_sheet.specs.declared.place.Place.{Place}
+use Rattle.cue_sheet.proofs.CuesLaws.{first_of, seen_more}
+use Rattle.cue_sheet.specs.Cues.{cue_in, fault_of, first_fault, has_track, is_file, is_start}
+use Rattle.cue_sheet.specs.Cues.{is_started, is_track, IsSeen, line_fault, place_at, places_of}
+use Rattle.cue_sheet.specs.Cues.{some_starts, start_time, times_of, unless}
+use Rattle.cue_sheet.specs.declared.{cue_fault.CueFault.CueFault, entry.Entry.Entry}
+use Rattle.cue_sheet.specs.declared.entry.Entry.TheVariants.{Broken, File, Index, Passed, Start}
+use Rattle.cue_sheet.specs.declared.{entry.Entry.TheVariants.Track, place.Place.Place}
 use Rattle.cue_sheet.specs.declared.seen.Seen.{Seen}
-use Rattle.cue_sheet.specs.Cues.{is_file, is_track, is_start, start_time, has_track, is_started, times_of, IsSeen, line_fault, fault_of, first_fault, place_at, places_of, some_starts, unless, cue_in}
-use Rattle.cue_sheet.proofs.CuesLaws.{seen_more, first_of}
 
 -- what the lines so far and one more say together
 behind : Seen → Entry → Seen
@@ -23,7 +24,8 @@ behind s e = record {
   last = last_or s.last (times_of (e ∷ []));
 }
 
-seen_behind : (before : List Entry) (e : Entry) (s : Seen) → IsSeen before s → IsSeen (before ++ (e ∷ [])) (behind s e)
+seen_behind : (before : List Entry) (e : Entry) (s : Seen) → IsSeen before s
+    → IsSeen (before ++ (e ∷ [])) (behind s e)
 unfolding behind
 seen_behind before e s is = seen_more before e s (record {
   lines = s.lines + 1;
@@ -46,7 +48,8 @@ if_fault : (b : Bool) (line : ℕ) → line_fault b line ≡ None → b ≡ fals
 if_fault true line e = absurd cc
 if_fault false line e = refl
 
-unless_fault : (b : Bool) (fault : CueFault) (later : Option CueFault) → cond b (Some fault) later ≡ None → b ≡ false
+unless_fault : (b : Bool) (fault : CueFault) (later : Option CueFault)
+    → cond b (Some fault) later ≡ None → b ≡ false
 unless_fault true fault later e = absurd cc
 unless_fault false fault later e = refl
 
@@ -58,35 +61,72 @@ has_one n e = at (nat_le 1 n) refl e
     at false is e = absurd cc
 
 -- a line more without a fault
-few_more : (before : List Entry) (e : Entry) (s : Seen) → IsSeen before s → IsFew (length (times_of before)) s → fault_of before e ≡ None → IsFew (length (times_of before) + length (times_of (e ∷ []))) (behind s e)
+few_more : (before : List Entry) (e : Entry) (s : Seen) → IsSeen before s
+    → IsFew (length (times_of before)) s → fault_of before e ≡ None
+    → IsFew (length (times_of before) + length (times_of (e ∷ []))) (behind s e)
 unfolding behind fault_of
-few_more before Passed s is few none = record { most = omega (arith, few.most); few = omega (arith, few.few); open_track = λ e some. omega (arith, few.open_track e (omega (arith, some))) }
-few_more before File s is few none = record { most = omega (arith, few.most); few = omega (arith, few.few); open_track = λ e some. omega (arith, few.open_track e (omega (arith, some))) }
-few_more before Index s is few none = record { most = omega (arith, few.most); few = omega (arith, few.few); open_track = λ e some. omega (arith, few.open_track e (omega (arith, some))) }
+few_more before Passed s is few none = record {
+  most = omega (arith, few.most);
+  few = omega (arith, few.few);
+  open_track =
+      λ e some. omega (arith, few.open_track e (omega (arith, some)));
+}
+few_more before File s is few none = record {
+  most = omega (arith, few.most);
+  few = omega (arith, few.few);
+  open_track =
+      λ e some. omega (arith, few.open_track e (omega (arith, some)));
+}
+few_more before Index s is few none = record {
+  most = omega (arith, few.most);
+  few = omega (arith, few.few);
+  open_track =
+      λ e some. omega (arith, few.open_track e (omega (arith, some)));
+}
 few_more before Broken s is few none = absurd cc
 few_more before Track s is few none =
-    let less = leb-false 99 (count_by is_track before) (if_fault (nat_le 99 (count_by is_track before)) (length before + 1) none) in
-    record { most = omega (arith, less, is.tracks); few = omega (arith, few.few); open_track = λ e some. omega (arith, few.few) }
+    let less = leb-false 99 (count_by is_track before)
+    (if_fault (nat_le 99 (count_by is_track before)) (length before + 1) none) in
+    record {
+      most = omega (arith, less, is.tracks);
+      few = omega (arith, few.few);
+      open_track =
+          λ e some. omega (arith, few.few);
+    }
 few_more before (Start time) s is few none =
-    let parts = or_parts (not (has_track before)) (is_started before) (unless_fault (not (has_track before) || is_started before) _ _ none) in
+    let parts = or_parts (not (has_track before)) (is_started before)
+    (unless_fault (not (has_track before) || is_started before) _ _ none) in
     let some = has_one (count_by is_track before) parts.0 in
     let less = few.open_track (is.started ∙ parts.1) (omega (arith, some, is.tracks)) in
-    record { most = omega (arith, few.most); few = omega (arith, less); open_track = λ e there. absurd cc }
+    record {
+      most = omega (arith, few.most);
+      few = omega (arith, less);
+      open_track = λ e there. absurd cc;
+    }
 
 or_none : (o later : Option CueFault) → option_or o later ≡ None → (o ≡ None) × (later ≡ None)
 or_none (Some fault) later e = absurd cc
 or_none None later e = (refl, e)
 
-few_starts : (before more : List Entry) (s : Seen) → IsSeen before s → IsFew (length (times_of before)) s → first_fault before more ≡ None → length (times_of (before ++ more)) ≤ 99
-few_starts before [] s is few none = omega (arith, few.most, few.few, ap (λ es. length (times_of es)) (append-nil before))
+few_starts : (before more : List Entry) (s : Seen) → IsSeen before s
+    → IsFew (length (times_of before)) s → first_fault before more ≡ None
+    → length (times_of (before ++ more)) ≤ 99
+few_starts before [] s is few none =
+    omega (arith, few.most, few.few, ap (λ es. length (times_of es)) (append-nil before))
 few_starts before (e ∷ more) s is few none =
-    let parts = or_none (fault_of before e) (first_fault (before ++ (e ∷ [])) more) (sym (first_of before more e) ∙ none) in
-    let size : length (times_of before) + length (times_of (e ∷ [])) ≡ length (times_of (before ++ (e ∷ []))) =
-    sym (ap length (filter_map-append start_time before (e ∷ [])) ∙ length-append (times_of before) (times_of (e ∷ []))) in
-    let rest = few_starts (before ++ (e ∷ [])) more (behind s e) (seen_behind before e s is) (subst (λ n. IsFew n (behind s e)) size (few_more before e s is few parts.0)) parts.1 in
+    let parts = or_none (fault_of before e) (first_fault (before ++ (e ∷ [])) more)
+    (sym (first_of before more e) ∙ none) in
+    let size : length (times_of before) + length (times_of (e ∷ []))
+    ≡ length (times_of (before ++ (e ∷ []))) =
+    sym (ap length (filter_map-append start_time before (e ∷ []))
+    ∙ length-append (times_of before) (times_of (e ∷ []))) in
+    let rest = few_starts (before ++ (e ∷ [])) more (behind s e) (seen_behind before e s is)
+    (subst (λ n. IsFew n (behind s e)) size (few_more before e s is few parts.0)) parts.1 in
     subst (λ es. length (times_of es) ≤ 99) (append_assoc before (e ∷ []) more) rest
 
-starts_parts : (o : Option CueFault) (places starts : List Place) → unless o (some_starts places) ≡ Ok starts → (o ≡ None) × (places ≡ starts) × (1 ≤ length starts)
+starts_parts : (o : Option CueFault) (places starts : List Place)
+    → unless o (some_starts places) ≡ Ok starts
+    → (o ≡ None) × (places ≡ starts) × (1 ≤ length starts)
 starts_parts (Some fault) places starts e = absurd cc
 starts_parts None [] starts e = absurd cc
 starts_parts None (place ∷ more) starts e =
@@ -94,9 +134,12 @@ starts_parts None (place ∷ more) starts e =
     (refl, same, omega (arith, ap length same))
 
 -- the starts that these lines say
-pub starts-few : (entries : List Entry) (starts : List Place) → cue_in entries ≡ Ok starts → (1 ≤ length starts) × (length starts ≤ 99)
+pub starts-few : (entries : List Entry) (starts : List Place) → cue_in entries ≡ Ok starts
+    → (1 ≤ length starts) × (length starts ≤ 99)
 starts-few entries starts e =
     let parts = starts_parts (first_fault [] entries) (places_of entries) starts e in
-    let seen : IsSeen [] (record { lines = 0; file = false; tracks = 0; started = false; last = None }) = record { lines = refl; file = refl; tracks = refl; started = refl; last = refl } in
+    let seen : IsSeen []
+    (record { lines = 0; file = false; tracks = 0; started = false; last = None }) =
+    record { lines = refl; file = refl; tracks = refl; started = refl; last = refl } in
     let few = few_starts [] entries _ seen at_front parts.0 in
     (parts.2, omega (arith, few, length-map (times_of entries) place_at, ap length parts.1))

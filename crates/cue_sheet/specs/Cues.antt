@@ -1,24 +1,26 @@
--- Cue sheets: the first fault of their lines, and the starts of their tracks.
-use Rattle.std.specs.Prelude.{◌≡◌, ℕ, ◌+◌, ◌<◌, not, ◌||◌, nat_le, nat_lt, if◌then◌else◌, Bool, true, false, List, [], ◌∷◌, ◌++◌, length, map, reverse, find, Option, Some, None, Result, Ok, Err}
-use Rattle.std.specs.List.{All, AllPairs, list_any, count_by, filter_map, last_or}
+-- The starts of the tracks in a cue sheet, and the first fault of its lines. Cue sheets have no
+-- standard, and what is read of them is this project's rule.
+use Rattle.std.specs.List.{All, AllPairs, count_by, filter_map, last_or, list_any}
 use Rattle.std.specs.Option.{option_or}
+use Rattle.std.specs.Prelude.{Bool, Err, false, find, if◌then◌else◌, length, List, map, nat_le}
+use Rattle.std.specs.Prelude.{nat_lt, None, not, Ok, Option, Result, reverse, Some, true, ℕ, []}
+use Rattle.std.specs.Prelude.{◌++◌, ◌+◌, ◌<◌, ◌||◌, ◌∷◌, ◌≡◌}
+use Rattle.cue_sheet.specs.{Entries.entry_of, Lines.{lines_from, lines_of, words_of}}
+use Rattle.cue_sheet.specs.{Places.IsPlace, declared.cue_fault.CueFault.CueFault}
+use Rattle.cue_sheet.specs.declared.cue_fault.CueFault.TheVariants.{Line, NoTracks, NotRising}
 use Rattle.cue_sheet.specs.declared.entry.Entry.{Entry}
-use Rattle.cue_sheet.specs.declared.entry.Entry.TheVariants.{Passed, File, Track, Index, Start, Broken}
-use Rattle.cue_sheet.specs.declared.cue_fault.CueFault.{CueFault}
-use Rattle.cue_sheet.specs.declared.cue_fault.CueFault.TheVariants.{Line, NotRising, NoTracks}
-use Rattle.cue_sheet.specs.declared.place.Place.{Place}
-use Rattle.cue_sheet.specs.declared.place.Place.TheVariants.{Time}
-use Rattle.cue_sheet.specs.declared.seen.Seen.{Seen}
-use Rattle.cue_sheet.specs.Places.{IsPlace}
-use Rattle.cue_sheet.specs.Lines.{words_of, lines_of, lines_from}
-use Rattle.cue_sheet.specs.Entries.{entry_of}
+use Rattle.cue_sheet.specs.declared.entry.Entry.TheVariants.{Broken, File, Index, Passed, Start}
+use Rattle.cue_sheet.specs.declared.{entry.Entry.TheVariants.Track, place.Place.Place}
+use Rattle.cue_sheet.specs.declared.{place.Place.TheVariants.Time, seen.Seen.Seen}
 
 -- ---- lines
 
+-- the line is a FILE line
 abbrev pub is_file : Entry → Bool
 is_file File = true
 is_file _ = false
 
+-- the line is a TRACK line
 abbrev pub is_track : Entry → Bool
 is_track Track = true
 is_track _ = false
@@ -28,6 +30,7 @@ abbrev pub start_time : Entry → Option ℕ
 start_time (Start time) = Some time
 start_time _ = None
 
+-- the line is a start
 abbrev pub is_start : Entry → Bool
 is_start (Start time) = true
 is_start _ = false
@@ -36,21 +39,25 @@ is_start _ = false
 abbrev pub entry_in : List ℕ → Entry
 entry_in line = entry_of (words_of line)
 
+-- what each line of a sheet says
 abbrev pub entries_of : List ℕ → List Entry
 entries_of bytes = map entry_in (lines_of bytes)
 
 -- ---- what is before a line
 
+-- there is a TRACK line among these
 abbrev pub has_track : List Entry → Bool
 has_track before = nat_le 1 (count_by is_track before)
 
+-- there is a line, and it is a start
 abbrev pub is_start_there : Option Entry → Bool
 is_start_there None = false
 is_start_there (Some entry) = is_start entry
 
 -- the track has a start: among the TRACK lines and the starts so far, the last line is a start
 abbrev pub is_started : List Entry → Bool
-is_started before = is_start_there (find (λ entry. is_track entry || is_start entry) (reverse before))
+is_started before =
+    is_start_there (find (λ entry. is_track entry || is_start entry) (reverse before))
 
 -- the times of the starts
 abbrev pub times_of : List Entry → List ℕ
@@ -71,11 +78,13 @@ pub record IsSeen (before : List Entry) (seen : Seen) : Type 0 where
 
 -- ---- faults
 
+-- the fault of a line with this number, if it has one
 abbrev pub line_fault : Bool → ℕ → Option CueFault
 line_fault is line = if is then Some (Line line) else None
 
--- The fault of a line with this number after others. FILE is there at most once, TRACK at most 99 times; INDEX is after a TRACK line, and
--- its number 1 at most once in a track; a start is later than the one before it.
+-- The fault of a line with this number after others. FILE is there at most
+-- once, TRACK at most 99 times; INDEX is after a TRACK line, and its number
+-- 1 at most once in a track; a start is later than the one before it.
 abbrev pub fault_in : ℕ → List Entry → Entry → Option CueFault
 fault_in line before Passed = None
 fault_in line before File = line_fault (list_any is_file before) line
@@ -94,7 +103,8 @@ fault_of before entry = fault_in (length before + 1) before entry
 -- the first fault of lines after others
 unfoldable pub first_fault : List Entry → List Entry → Option CueFault
 first_fault before [] = None
-first_fault before (entry ∷ more) = option_or (fault_of before entry) (first_fault (before ++ (entry ∷ [])) more)
+first_fault before (entry ∷ more) =
+    option_or (fault_of before entry) (first_fault (before ++ (entry ∷ [])) more)
 
 -- ---- the cue
 
@@ -102,17 +112,21 @@ first_fault before (entry ∷ more) = option_or (fault_of before entry) (first_f
 abbrev pub place_at : ℕ → Place
 place_at time = Time time 75
 
+-- the starts as positions
 abbrev pub places_of : List Entry → List Place
 places_of entries = map place_at (times_of entries)
 
+-- a sheet has to have a start
 abbrev pub some_starts : List Place → Result (List Place) CueFault
 some_starts [] = Err NoTracks
 some_starts (place ∷ more) = Ok (place ∷ more)
 
+-- the answer, unless there is a fault
 abbrev pub unless : Option CueFault → Result (List Place) CueFault → Result (List Place) CueFault
 unless None answer = answer
 unless (Some fault) answer = Err fault
 
+-- the starts that lines say, or the first fault
 abbrev pub cue_in : List Entry → Result (List Place) CueFault
 cue_in entries = unless (first_fault [] entries) (some_starts (places_of entries))
 

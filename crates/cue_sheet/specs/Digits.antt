@@ -1,6 +1,6 @@
--- Numbers as decimal digits, and steps of gain.
-use Rattle.std.specs.Prelude.{ℕ, ◌&&◌, ◌==◌, nat_le, if◌then◌else◌, List, [], ◌∷◌, length, Option, Some, None, option_map, ℤ, pos, neg_ℤ}
-use Rattle.std.specs.Str.{all_ascii_digits}
+-- Numbers as decimal digits, and steps of gain, 1.5 dB each.
+use Rattle.std.specs.Prelude.{if◌then◌else◌, length, List, nat_le, neg_ℤ, None, Option, option_map}
+use Rattle.std.specs.{Prelude.{pos, Some, ℕ, ℤ, [], ◌&&◌, ◌==◌, ◌∷◌}, Str.all_ascii_digits}
 use Rattle.std.specs.Str.Parse.{digits_value}
 
 -- the number that `least` to `most` digits spell, up to `greatest`

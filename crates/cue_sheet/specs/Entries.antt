@@ -1,10 +1,11 @@
 -- What a line of a cue sheet says by its words, whatever lines are before it.
-use Rattle.std.specs.Prelude.{ℕ, ◌+◌, ◌*◌, ◌==◌, ◌&&◌, nat_le, if◌then◌else◌, Bool, false, List, [], ◌∷◌, Option, Some, None, option_map, option_and_then, codes}
-use Rattle.std.specs.List.{before_first, after_first}
+use Rattle.std.specs.List.{after_first, before_first}
+use Rattle.std.specs.Prelude.{Bool, codes, false, if◌then◌else◌, List, nat_le, None, Option}
+use Rattle.std.specs.Prelude.{option_and_then, option_map, Some, ℕ, [], ◌&&◌, ◌*◌, ◌+◌, ◌==◌, ◌∷◌}
 use Rattle.std.specs.Str.{str_eq_ignore_ascii_case}
-use Rattle.cue_sheet.specs.declared.entry.Entry.{Entry}
-use Rattle.cue_sheet.specs.declared.entry.Entry.TheVariants.{Passed, File, Track, Index, Start, Broken}
-use Rattle.cue_sheet.specs.Digits.{number_in}
+use Rattle.cue_sheet.specs.{Digits.number_in, declared.entry.Entry.Entry}
+use Rattle.cue_sheet.specs.declared.entry.Entry.TheVariants.{Broken, File, Index, Passed, Start}
+use Rattle.cue_sheet.specs.declared.entry.Entry.TheVariants.{Track}
 
 -- keywords are compared without ASCII case
 unfoldable pub is_word : List ℕ → List ℕ → Bool
@@ -19,6 +20,7 @@ of_two says (first ∷ second ∷ third ∷ more) = Broken
 
 -- ---- TRACK
 
+-- there is a number, and it isn't 0
 abbrev pub is_from_one : Option ℕ → Bool
 is_from_one None = false
 is_from_one (Some number) = nat_le 1 number
@@ -27,11 +29,14 @@ is_from_one (Some number) = nat_le 1 number
 abbrev pub is_track_number : List ℕ → Bool
 is_track_number digits = is_from_one (number_in 1 2 99 digits)
 
+-- a TRACK line has a number and the word AUDIO
 abbrev pub track_of : List ℕ → List ℕ → Entry
-track_of number kind = if is_track_number number && is_word kind (codes "AUDIO") then Track else Broken
+track_of number kind =
+    if is_track_number number && is_word kind (codes "AUDIO") then Track else Broken
 
 -- ---- INDEX
 
+-- the byte is a colon
 abbrev pub is_colon : ℕ → Bool
 is_colon byte = byte == 58
 
@@ -51,9 +56,12 @@ seconds_in word = number_in 2 2 59 (before_first is_colon (after_first is_colon 
 abbrev pub frames_in : List ℕ → Option ℕ
 frames_in word = number_in 2 2 74 (after_first is_colon (after_first is_colon word))
 
+-- a time in frames of a disc: minutes, seconds and frames
 unfoldable pub sheet_time : List ℕ → Option ℕ
-sheet_time word = option_and_then (λ m. option_and_then (λ s. option_map (disc_frames m s) (frames_in word)) (seconds_in word)) (minutes_in word)
+sheet_time word = option_and_then (λ m. option_and_then (λ s. option_map (disc_frames m s)
+    (frames_in word)) (seconds_in word)) (minutes_in word)
 
+-- an INDEX line, a start if its number is 1
 abbrev pub index_with : Option ℕ → Option ℕ → Entry
 index_with None time = Broken
 index_with (Some number) None = Broken

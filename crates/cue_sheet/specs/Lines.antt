@@ -1,9 +1,10 @@
 -- The lines of a cue sheet, and the words of a line.
-use Rattle.std.specs.Prelude.{◌≡◌, ℕ, ◌==◌, nat_le, map, ◌||◌, not, if◌then◌else◌, Bool, List, [], ◌∷◌, length, take, drop, filter, bytes_eq}
 use Rattle.std.specs.List.{slice_split}
+use Rattle.std.specs.Prelude.{Bool, bytes_eq, drop, filter, if◌then◌else◌, length, List, map}
+use Rattle.std.specs.Prelude.{nat_le, not, take, ℕ, [], ◌==◌, ◌||◌, ◌∷◌, ◌≡◌}
 use Rattle.std.specs.Str.Lines.{strip_carriage_return}
 
--- a byte order mark at the beginning is skipped
+-- a byte order mark at the beginning is skipped: the bytes ef, bb and bf
 abbrev pub without_mark : List ℕ → List ℕ
 without_mark bytes = if bytes_eq (take 3 bytes) (239 ∷ 187 ∷ 191 ∷ []) then drop 3 bytes else bytes
 
@@ -19,7 +20,8 @@ words_of line = filter (λ word. not (length word == 0)) (slice_split is_blank l
 abbrev pub HasNotTwo : List (List ℕ) → Type 0
 HasNotTwo words = length words ≡ 2 → ⊥
 
--- Lines end with 0a or at the end of the text, each without one carriage return at its end. After the last 0a there is one more line.
+-- Lines end with 0a or at the end of the text, each without one
+-- carriage return at its end. After the last 0a there is one more line.
 abbrev pub lines_in : List ℕ → List (List ℕ)
 lines_in text = map strip_carriage_return (slice_split (λ b. b == 10) text)
 

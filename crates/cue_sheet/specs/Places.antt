@@ -1,14 +1,16 @@
--- Positions in a stream: the words that say them, as those of mp3splt, and the frames that they are before.
-use Rattle.std.specs.Prelude.{ℕ, ◌+◌, ◌*◌, ◌/◌, ◌≤◌, ◌==◌, if◌then◌else◌, Bool, List, [], ◌∷◌, length, drop, Option, Some, option_map, option_and_then, codes, bytes_eq, ⊤}
-use Rattle.std.specs.List.{before_first, after_first, position_or_len}
-use Rattle.frame_header.specs.Fields.{ClassFields}
-use Rattle.frame_header.specs.Tables.{frequency_of, samples_of}
-use Rattle.cue_sheet.specs.declared.place.Place.{Place}
-use Rattle.cue_sheet.specs.declared.place.Place.TheVariants.{Frame, Time, End}
-use Rattle.cue_sheet.specs.Digits.{number_in}
+-- Positions in a stream: the words that say them, as those of mp3splt, and the frames that they are
+-- before, by samples and frequency (ISO/IEC 11172-3 and 13818-3, 2.4.2.1 and 2.4.2.3).
+use Rattle.std.specs.List.{after_first, before_first, position_or_len}
+use Rattle.std.specs.Prelude.{Bool, bytes_eq, codes, drop, if◌then◌else◌, length, List, Option}
+use Rattle.std.specs.Prelude.{option_and_then, option_map, Some, ℕ, [], ⊤, ◌*◌, ◌+◌, ◌/◌, ◌==◌, ◌∷◌}
+use Rattle.std.specs.Prelude.{◌≤◌}
+use Rattle.cue_sheet.specs.{Digits.number_in, declared.place.Place.Place}
+use Rattle.cue_sheet.specs.declared.place.Place.TheVariants.{End, Frame, Time}
+use Rattle.frame_header.specs.{Fields.ClassFields, Tables.{frequency_of, samples_of}}
 
 -- ---- words
 
+-- the byte is a dot
 abbrev pub is_dot : ℕ → Bool
 is_dot byte = byte == 46
 
@@ -29,13 +31,15 @@ time_in minutes seconds hundredths = Time ((60 * minutes + seconds) * 100 + hund
 abbrev pub seconds_in : List ℕ → Option ℕ
 seconds_in rest = number_in 1 2 59 (before_first is_dot rest)
 
+-- the hundredths that are after the seconds
 abbrev pub hundredths_in : List ℕ → Option ℕ
 hundredths_in rest = hundredths_of (drop (position_or_len is_dot rest) rest)
 
 -- the time of minutes and what is after the first dot
 unfoldable pub time_of : List ℕ → List ℕ → Option Place
 time_of minutes rest =
-    option_and_then (λ m. option_and_then (λ s. option_map (time_in m s) (hundredths_in rest)) (seconds_in rest)) (number_in 1 4 9999 minutes)
+    option_and_then (λ m. option_and_then (λ s. option_map (time_in m s) (hundredths_in rest))
+    (seconds_in rest)) (number_in 1 4 9999 minutes)
 
 -- the position that a word says: `EOF`, a number without a dot, or a time with one
 unfoldable pub place_of : List ℕ → Option Place
@@ -55,5 +59,6 @@ IsPlace End = ⊤
 -- the frame that a position is before: for a time, how many whole frames take no longer
 unfoldable pub frame_at : ClassFields → ℕ → Place → ℕ
 frame_at class frames (Frame number) = number
-frame_at class frames (Time time parts) = (time * frequency_of class) / (parts * samples_of class.version)
+frame_at class frames (Time time parts) =
+    (time * frequency_of class) / (parts * samples_of class.version)
 frame_at class frames End = frames

@@ -1,51 +1,39 @@
--- Frames that a command chooses from a surveyed file: they have a plan, and the file of them holds the stream that the command says.
-use Rattle.std.proofs.Common.{◌≡◌, ℕ, ◌+◌, ◌&&◌, Bool, true, false, cond, List, [], ◌∷◌, ◌++◌, length, map, drop, take, Option, Some, None, Result, Ok, Err, refl, sym, ◌∙◌, ap, subst, inl, inr, arith, rules, append-nil, length-append}
-use Rattle.std.specs.Prelude.{◌↔◌, ◌⊎◌, ◌<◌, ◌≤◌, nat_lt, nat_le, IfErr, Contains, replicate}
+-- Frames that a command chooses from a surveyed file: they have a
+-- plan, and the file of them holds the stream that the command says.
+use Rattle.std.proofs.Common.{ap, append-nil, arith, Bool, cond, drop, Err, false, inl, inr, length}
+use Rattle.std.proofs.Common.{length-append, List, map, None, Ok, Option, refl, Result, rules, Some}
+use Rattle.std.proofs.Common.{subst, sym, take, true, ℕ, [], ◌&&◌, ◌++◌, ◌+◌, ◌∙◌, ◌∷◌, ◌≡◌}
 use Rattle.std.proofs.lemmas.List.{length-take}
-use Rattle.frame_header.specs.Fields.{SlotFields, HeaderFields, ClassFields, IsSlot}
-use Rattle.frame_header.specs.Tables.{class_of, length_of, window_of}
-use Rattle.cue_sheet.specs.declared.place.Place.{Place}
-use Rattle.cue_sheet.specs.Places.{frame_at}
-use Rattle.info_header.specs.Info.{info_in, flags_in, field_place}
-use Rattle.slot_plan.specs.declared.needs.Need.{Need}
-use Rattle.slot_plan.specs.declared.needs.Placed.{Placed}
-use Rattle.slot_plan.specs.Parts.{parts_of, window_in}
-use Rattle.slot_plan.specs.Plans.{IsPlan}
-use Rattle.slot_plan.specs.Laws.{ChooseInOrder}
-use Rattle.slot_plan.proofs.AreaLaws.{only_one}
-use Rattle.laying.specs.Needs.{Asked, need_of, asked_of}
-use Rattle.laying.specs.NeedsFit.{IsPlaced, AreFit, own_choice}
-use Rattle.laying.proofs.NeedsFitLaws.{AreKnown, part-known}
-use Rattle.laying.proofs.PartsLaws.{one-part-fits, parts-plan}
-use Rattle.laying.specs.Surveys.{HasSurvey}
-use Rattle.laying.specs.Relaid.{AreSlots}
-use Rattle.laying.specs.Fits.{IsFitting}
-use Rattle.laying.specs.Laid.{Laid, file_laid, stream_laid}
-use Rattle.laying.specs.Written.{head_info}
-use Rattle.laying.proofs.PlacesLaws.{plan-length}
-use Rattle.laying.proofs.ChosenFrames.{survey-had}
-use Rattle.laying.proofs.FitLaws.{AreHeaders, parts-fitting, asked-plans}
-use Rattle.laying.proofs.LaidLaws.{laid-holds}
-use Rattle.laying.proofs.PlannedFrames.{slot_among}
-use Rattle.sync_survey.specs.Row.{Row}
-use Rattle.sync_survey.specs.declared.places.Head.{Head}
-use Rattle.sync_survey.specs.declared.survey_fault.SurveyFault.{SurveyFault}
-use Rattle.sync_survey.specs.Faults.{SurveyFields, HoldsStream}
-use Rattle.sync_survey.specs.Survey.{survey_of}
-use Rattle.commands.specs.declared.fault.EditFault.{EditFault}
-use Rattle.commands.specs.declared.fault.Refusal.{Refusal}
-use Rattle.commands.specs.declared.fault.Refusal.TheVariants.{Range}
-use Rattle.cut_edits.specs.Chosen.{Chosen, laid_of, outside_fault, choices_by, AreUsual, chosen_rows, needs_of, first_plan, chosen_file, chosen_stream, Choosing, Planning, first_planning, laid_as, laid_with, laying_with, stream_if, stream_by, stream_with, laying_task, chosen_with, cut_choice, all_choice, laid_by}
-use Rattle.commands.specs.One.{most_frames, IsMaking, IsProper}
-use Rattle.commands.specs.Left.{IsLate}
-use Rattle.commands.proofs.InputLaws.{IsProperMaking, file_makes, file_proper}
-use Rattle.commands.specs.Refusing.{then_made}
-use Rattle.commands.proofs.RefusingLaws.{unless_ok, unless_late, then_ok, then_late}
+use Rattle.std.specs.Prelude.{Contains, IfErr, nat_le, nat_lt, replicate, ◌<◌, ◌↔◌, ◌≤◌, ◌⊎◌}
 use Rattle.bit_fields.specs.Bits.{AreBytes}
-use Rattle.outside.specs.Files.{Files, Holds, IsThere}
-use Rattle.cut_edits.specs.declared.choice.Choice.{Choice}
-use Rattle.cut_edits.specs.declared.choice.Choice.TheVariants.{Between, All as AllFrames}
+use Rattle.commands.proofs.InputLaws.{file_makes, file_proper, IsProperMaking}
+use Rattle.commands.proofs.RefusingLaws.{then_late, then_ok, unless_late, unless_ok}
+use Rattle.commands.specs.{Left.IsLate, One.{IsMaking, IsProper, most_frames}, Refusing.then_made}
+use Rattle.commands.specs.declared.fault.{EditFault.EditFault, Refusal.{Refusal, TheVariants.Range}}
+use Rattle.cue_sheet.specs.{Places.frame_at, declared.place.Place.Place}
 use Rattle.cut_edits.specs.Choices.{choosing_by, refused_by, task_of}
+use Rattle.cut_edits.specs.Chosen.{all_choice, AreUsual, choices_by, Choosing, Chosen, chosen_file}
+use Rattle.cut_edits.specs.Chosen.{chosen_rows, chosen_stream, chosen_with, cut_choice, first_plan}
+use Rattle.cut_edits.specs.Chosen.{first_planning, laid_as, laid_by, laid_of, laid_with}
+use Rattle.cut_edits.specs.Chosen.{laying_task, laying_with, needs_of, outside_fault, Planning}
+use Rattle.cut_edits.specs.Chosen.{stream_by, stream_if, stream_with}
+use Rattle.cut_edits.specs.declared.choice.Choice.{Choice, TheVariants.{All as AllFrames, Between}}
+use Rattle.frame_header.specs.Fields.{ClassFields, HeaderFields, IsSlot, SlotFields}
+use Rattle.frame_header.specs.Tables.{class_of, length_of, window_of}
+use Rattle.info_header.specs.Info.{field_place, flags_in, info_in}
+use Rattle.laying.proofs.{ChosenFrames.survey-had, FitLaws.{AreHeaders, asked-plans, parts-fitting}}
+use Rattle.laying.proofs.{LaidLaws.laid-holds, NeedsFitLaws.{AreKnown, part-known}}
+use Rattle.laying.proofs.{PartsLaws.{one-part-fits, parts-plan}, PlacesLaws.plan-length}
+use Rattle.laying.{proofs.PlannedFrames.slot_among, specs.Fits.IsFitting}
+use Rattle.laying.specs.{Laid.{file_laid, Laid, stream_laid}, Needs.{Asked, asked_of, need_of}}
+use Rattle.laying.specs.{NeedsFit.{AreFit, IsPlaced, own_choice}, Relaid.AreSlots}
+use Rattle.laying.specs.{Surveys.HasSurvey, Written.head_info}
+use Rattle.outside.specs.Files.{Files, Holds, IsThere}
+use Rattle.slot_plan.{proofs.AreaLaws.only_one, specs.Laws.ChooseInOrder}
+use Rattle.slot_plan.specs.{Parts.{parts_of, window_in}, Plans.IsPlan, declared.needs.Need.Need}
+use Rattle.slot_plan.specs.declared.needs.Placed.{Placed}
+use Rattle.sync_survey.specs.{Faults.{HoldsStream, SurveyFields}, Row.Row, Survey.survey_of}
+use Rattle.sync_survey.specs.declared.{places.Head.Head, survey_fault.SurveyFault.SurveyFault}
 
 -- ---- the choice
 
@@ -55,81 +43,116 @@ pub record IsRight (chosen : Chosen) (s : SurveyFields) : Type 0 where
   pub within : chosen.to ≤ length s.frames
   pub extension : length chosen.extension ≡ 36
 
+-- the usual choices are of the 28 slots
 pub usual_slots : (choices : HeaderFields → List SlotFields) → AreUsual choices → AreSlots choices
-usual_slots choices (inl own) h slot is has = subst IsSlot (only_one h.slot slot (subst (λ (f : HeaderFields → List SlotFields). Contains (f h) slot) own has)) is.slot
-usual_slots choices (inr any) h slot is has = slot_among slot (subst (λ (f : HeaderFields → List SlotFields). Contains (f h) slot) any has)
+usual_slots choices (inl own) h slot is has = subst IsSlot (only_one h.slot slot
+    (subst (λ (f : HeaderFields → List SlotFields). Contains (f h) slot) own has)) is.slot
+usual_slots choices (inr any) h slot is has =
+    slot_among slot (subst (λ (f : HeaderFields → List SlotFields). Contains (f h) slot) any has)
 
-usual_order : (choices : HeaderFields → List SlotFields) → AreUsual choices → (c : ClassFields) (asked : Asked) → AreFit c asked → ChooseInOrder choices (parts_of asked.needs asked.places)
-usual_order choices (inl own) c asked fit = subst (λ (f : HeaderFields → List SlotFields). ChooseInOrder f (parts_of asked.needs asked.places)) (sym own) fit.kept
-usual_order choices (inr any) c asked fit = subst (λ (f : HeaderFields → List SlotFields). ChooseInOrder f (parts_of asked.needs asked.places)) (sym any) fit.least
+usual_order : (choices : HeaderFields → List SlotFields) → AreUsual choices → (c : ClassFields)
+    (asked : Asked) → AreFit c asked → ChooseInOrder choices (parts_of asked.needs asked.places)
+usual_order choices (inl own) c asked fit = subst (λ (f : HeaderFields → List SlotFields).
+    ChooseInOrder f (parts_of asked.needs asked.places)) (sym own) fit.kept
+usual_order choices (inr any) c asked fit = subst (λ (f : HeaderFields → List SlotFields).
+    ChooseInOrder f (parts_of asked.needs asked.places)) (sym any) fit.least
 
+-- both policies are usual choices
 pub by_usual : (least : Bool) → AreUsual (choices_by least)
 by_usual true = inr refl
 by_usual false = inl refl
 
+-- rows with headers of the standard need such headers
 pub headers-known : (rows : List Row) → AreKnown rows → AreHeaders (map need_of rows)
 headers-known [] known = tt
 headers-known (r ∷ rows) known = (known.0, headers-known rows known.1)
 
 -- frames that a command chooses from a survey
-module _ (chosen : Chosen) (s : SurveyFields) (placed : IsPlaced s) (some : chosen.from < chosen.to) (within : chosen.to ≤ length s.frames) where
+module _ (chosen : Chosen) (s : SurveyFields) (placed : IsPlaced s) (some : chosen.from < chosen.to)
+    (within : chosen.to ≤ length s.frames) where
   abbrev part_rows : List Row
   part_rows = chosen_rows chosen s
 
   abbrev asked : Asked
   asked = asked_of (part_rows ∷ [])
 
+  -- they can be planned
   pub rows-fit : AreFit s.class asked
   rows-fit = one-part-fits s chosen.from chosen.to placed some within
 
   module _ (choices : HeaderFields → List SlotFields) (usual : AreUsual choices) where
-    one_plan : (ps : List Placed) → IsPlan (window_of s.class.version) choices (map need_of part_rows ∷ []) ps ↔ (ps ≡ first_plan choices s.class (needs_of chosen s))
-    one_plan ps = parts-plan s.class choices (part_rows ∷ []) ps rows-fit (usual_order choices usual s.class asked rows-fit)
+    one_plan : (ps : List Placed)
+        → IsPlan (window_of s.class.version) choices (map need_of part_rows ∷ []) ps
+        ↔ (ps ≡ first_plan choices s.class (needs_of chosen s))
+    one_plan ps = parts-plan s.class choices (part_rows ∷ []) ps rows-fit
+        (usual_order choices usual s.class asked rows-fit)
 
-    pub the-plan : IsPlan (window_of s.class.version) choices (map need_of part_rows ∷ []) (first_plan choices s.class (needs_of chosen s))
+    -- the first of all lists with a layout is their plan
+    pub the-plan : IsPlan (window_of s.class.version) choices (map need_of part_rows ∷ [])
+        (first_plan choices s.class (needs_of chosen s))
     the-plan = (one_plan (first_plan choices s.class (needs_of chosen s))).1 refl
 
     -- what the planner answers where it is given these frames alone
-    pub plan_is : (ps : List Placed) → IsPlan (window_in asked.needs) choices (parts_of asked.needs asked.places) ps → ps ≡ first_plan choices s.class (needs_of chosen s)
-    plan_is ps answer = (one_plan ps).0 (asked-plans s.class choices (part_rows ∷ []) ps rows-fit answer)
+    pub plan_is : (ps : List Placed)
+        → IsPlan (window_in asked.needs) choices (parts_of asked.needs asked.places) ps
+        → ps ≡ first_plan choices s.class (needs_of chosen s)
+    plan_is ps answer =
+        (one_plan ps).0 (asked-plans s.class choices (part_rows ∷ []) ps rows-fit answer)
 
     -- and it can be laid
-    pub plan-fitting : IsFitting (window_of s.class.version) (needs_of chosen s) (first_plan choices s.class (needs_of chosen s))
+    pub plan-fitting : IsFitting (window_of s.class.version) (needs_of chosen s)
+        (first_plan choices s.class (needs_of chosen s))
     plan-fitting =
-        subst (λ (needs : List Need). IsFitting (window_of s.class.version) needs (first_plan choices s.class (needs_of chosen s))) (append-nil (needs_of chosen s))
-        (parts-fitting (window_of s.class.version) choices (usual_slots choices usual) (needs_of chosen s ∷ []) (first_plan choices s.class (needs_of chosen s)) (headers-known part_rows (part-known s chosen.from chosen.to placed), tt) the-plan)
+        subst (λ (needs : List Need). IsFitting (window_of s.class.version) needs
+        (first_plan choices s.class (needs_of chosen s))) (append-nil (needs_of chosen s))
+        (parts-fitting (window_of s.class.version) choices (usual_slots choices usual)
+        (needs_of chosen s ∷ []) (first_plan choices s.class (needs_of chosen s))
+        (headers-known part_rows (part-known s chosen.from chosen.to placed), tt) the-plan)
 
-    -- with at most one lead-in
-    pub plan-few : length (first_plan choices s.class (needs_of chosen s)) ≤ length (needs_of chosen s) + 1
-    plan-few = omega (arith, plan-length (window_of s.class.version) choices (needs_of chosen s ∷ []), length-append (needs_of chosen s) [])
+    -- their plan has at most one lead-in
+    pub plan-few : length (first_plan choices s.class (needs_of chosen s))
+        ≤ length (needs_of chosen s) + 1
+    plan-few = omega (
+      arith,
+      plan-length (window_of s.class.version) choices (needs_of chosen s ∷ []),
+      length-append (needs_of chosen s) [],
+    )
 
 -- in their own slots
-module _ (chosen : Chosen) (file : List ℕ) (s : SurveyFields) (is : HasSurvey file s) (some : chosen.from < chosen.to) (within : chosen.to ≤ length s.frames) where
-  pub chosen-holds : length chosen.extension ≡ 36 → HoldsStream (chosen_file chosen file s) (chosen_stream chosen file s)
+module _ (chosen : Chosen) (file : List ℕ) (s : SurveyFields) (is : HasSurvey file s)
+    (some : chosen.from < chosen.to) (within : chosen.to ≤ length s.frames) where
+  -- the file of them holds their stream
+  pub chosen-holds : length chosen.extension ≡ 36
+      → HoldsStream (chosen_file chosen file s) (chosen_stream chosen file s)
   unfolding chosen_file chosen_stream
-  chosen-holds extension = laid-holds (laid_of chosen s) file s is some within (plan-fitting chosen s is.placed some within own_choice (inl refl)) extension
+  chosen-holds extension = laid-holds (laid_of chosen s) file s is some within
+      (plan-fitting chosen s is.placed some within own_choice (inl refl)) extension
 
 -- ---- a command that lays chosen frames in the slots of a plan
 
 -- a planner whose refusals come once memory was taken, and by whose plans frames can be laid
 pub record IsPlanning (plan : Planning) : Type 0 where
   pub late : (class : ClassFields) (needs : List Need) → IfErr (plan class needs) IsLate
-  pub fitting : (chosen : Chosen) (s : SurveyFields) → IsPlaced s → chosen.from < chosen.to → chosen.to ≤ length s.frames → (placed : List Placed) → plan s.class (needs_of chosen s) ≡ Ok placed
-      → IsFitting (window_of s.class.version) (needs_of chosen s) placed
+  pub fitting : (chosen : Chosen) (s : SurveyFields) → IsPlaced s → chosen.from < chosen.to
+      → chosen.to ≤ length s.frames → (placed : List Placed) → plan s.class (needs_of chosen s)
+      ≡ Ok placed → IsFitting (window_of s.class.version) (needs_of chosen s) placed
 
--- that of the first lists of slots
-pub first_is_planning : (choices : HeaderFields → List SlotFields) → AreUsual choices → IsPlanning (first_planning choices)
+-- the first of all lists of slots is a planning
+pub first_is_planning : (choices : HeaderFields → List SlotFields) → AreUsual choices
+    → IsPlanning (first_planning choices)
 first_is_planning choices usual = record {
   late = λ class needs. tt;
   fitting = λ chosen s well some within placed planned.
       let same : first_plan choices s.class (needs_of chosen s) ≡ placed = cc in
-      subst (IsFitting (window_of s.class.version) (needs_of chosen s)) same (plan-fitting chosen s well some within choices usual);
+      subst (IsFitting (window_of s.class.version) (needs_of chosen s)) same
+      (plan-fitting chosen s well some within choices usual);
 }
 
 -- what it chooses comes once memory was taken, and is right
 pub record IsChoosing (choose : Choosing) : Type 0 where
   pub late : (file : List ℕ) (s : SurveyFields) → IfErr (choose file s) IsLate
-  pub right : (file : List ℕ) (s : SurveyFields) (chosen : Chosen) → choose file s ≡ Ok chosen → IsRight chosen s
+  pub right : (file : List ℕ) (s : SurveyFields) (chosen : Chosen) → choose file s ≡ Ok chosen
+      → IsRight chosen s
 
 module _ (choose : Choosing) (plan : Planning) where
   -- what is made, by its steps
@@ -141,12 +164,16 @@ module _ (choose : Choosing) (plan : Planning) where
     pub laid : laid_with choose plan file s ≡ Ok (laid_by chosen placed)
     pub is : file_laid (laid_by chosen placed) file s ≡ made
 
-  pub laid-parts : (file : List ℕ) (s : SurveyFields) (made : List ℕ) → laying_with choose plan file s ≡ Ok made → IsLaidBy file s made
+  -- what was laid has a choice, a plan of it, and the file by that plan
+  pub laid-parts : (file : List ℕ) (s : SurveyFields) (made : List ℕ)
+      → laying_with choose plan file s ≡ Ok made → IsLaidBy file s made
   unfolding laid_with
   laid-parts file s made e =
-      let whole = then_ok (laid_with choose plan file s) (λ laid. Ok (file_laid laid file s)) made e in
+      let whole =
+      then_ok (laid_with choose plan file s) (λ laid. Ok (file_laid laid file s)) made e in
       let chose = then_ok (choose file s) (laid_as plan s) whole.0 whole.1 in
-      let planned = then_ok (plan s.class (needs_of chose.0 s)) (λ placed. Ok (laid_by chose.0 placed)) whole.0 chose.2 in
+      let planned = then_ok (plan s.class (needs_of chose.0 s))
+      (λ placed. Ok (laid_by chose.0 placed)) whole.0 chose.2 in
       let same : laid_by chose.0 planned.0 ≡ whole.0 = cc in
       let bytes : file_laid whole.0 file s ≡ made = cc in
       record {
@@ -159,33 +186,49 @@ module _ (choose : Choosing) (plan : Planning) where
       }
 
   -- the frames that were chosen have their plan
-  laid-is : (file : List ℕ) (s : SurveyFields) (chosen : Chosen) (r : Result (List Placed) EditFault) → choose file s ≡ Ok chosen → plan s.class (needs_of chosen s) ≡ r
+  laid-is : (file : List ℕ) (s : SurveyFields) (chosen : Chosen)
+      (r : Result (List Placed) EditFault) → choose file s ≡ Ok chosen
+      → plan s.class (needs_of chosen s) ≡ r
       → laid_with choose plan file s ≡ then_made r (λ placed. Ok (laid_by chosen placed))
   unfolding laid_with
-  laid-is file s chosen r chose planned = ap (λ r. then_made r (laid_as plan s)) chose ∙ ap (λ r. then_made r (λ placed. Ok (laid_by chosen placed))) planned
+  laid-is file s chosen r chose planned = ap (λ r. then_made r (laid_as plan s)) chose
+      ∙ ap (λ r. then_made r (λ placed. Ok (laid_by chosen placed))) planned
 
-  pub laying-is : (file : List ℕ) (s : SurveyFields) (chosen : Chosen) (r : Result (List Placed) EditFault) → choose file s ≡ Ok chosen → plan s.class (needs_of chosen s) ≡ r
-      → laying_with choose plan file s ≡ then_made (then_made r (λ placed. Ok (laid_by chosen placed))) (λ laid. Ok (file_laid laid file s))
-  laying-is file s chosen r chose planned = ap (λ r. then_made r (λ laid. Ok (file_laid laid file s))) (laid-is file s chosen r chose planned)
+  -- a choice and its plan lay the file
+  pub laying-is : (file : List ℕ) (s : SurveyFields) (chosen : Chosen)
+      (r : Result (List Placed) EditFault) → choose file s ≡ Ok chosen
+      → plan s.class (needs_of chosen s) ≡ r → laying_with choose plan file s ≡ then_made
+      (then_made r (λ placed. Ok (laid_by chosen placed))) (λ laid. Ok (file_laid laid file s))
+  laying-is file s chosen r chose planned = ap (λ r. then_made r
+      (λ laid. Ok (file_laid laid file s))) (laid-is file s chosen r chose planned)
 
   -- why nothing is made: nothing is chosen, or there is no plan
-  pub laid-fault : (file : List ℕ) (s : SurveyFields) (fault : EditFault) → laying_with choose plan file s ≡ Err fault
-      → (choose file s ≡ Err fault) ⊎ ((chosen : Chosen) × (choose file s ≡ Ok chosen) × (plan s.class (needs_of chosen s) ≡ Err fault))
+  pub laid-fault : (file : List ℕ) (s : SurveyFields) (fault : EditFault)
+      → laying_with choose plan file s ≡ Err fault
+      → (choose file s ≡ Err fault) ⊎ ((chosen : Chosen) × (choose file s ≡ Ok chosen)
+      × (plan s.class (needs_of chosen s) ≡ Err fault))
   unfolding laid_with
   laid-fault file s fault e = at (choose file s) refl e
     where
-      unplanned : (chosen : Chosen) (r : Result (List Placed) EditFault) → then_made (then_made r (λ placed. Ok (laid_by chosen placed))) (λ laid. Ok (file_laid laid file s)) ≡ Err fault → r ≡ Err fault
+      unplanned : (chosen : Chosen) (r : Result (List Placed) EditFault)
+          → then_made (then_made r (λ placed. Ok (laid_by chosen placed)))
+          (λ laid. Ok (file_laid laid file s)) ≡ Err fault → r ≡ Err fault
       unplanned chosen (Ok placed) e = absurd cc
       unplanned chosen (Err other) e = cc
 
-      at : (r : Result Chosen EditFault) → choose file s ≡ r → then_made (then_made r (laid_as plan s)) (λ laid. Ok (file_laid laid file s)) ≡ Err fault
-          → (choose file s ≡ Err fault) ⊎ ((chosen : Chosen) × (choose file s ≡ Ok chosen) × (plan s.class (needs_of chosen s) ≡ Err fault))
+      at : (r : Result Chosen EditFault) → choose file s ≡ r
+          → then_made (then_made r (laid_as plan s)) (λ laid. Ok (file_laid laid file s))
+          ≡ Err fault → (choose file s ≡ Err fault) ⊎ ((chosen : Chosen)
+          × (choose file s ≡ Ok chosen) × (plan s.class (needs_of chosen s) ≡ Err fault))
       at (Err other) is e = let same : other ≡ fault = cc in inl (is ∙ ap Err same)
       at (Ok chosen) is e = inr (chosen, is, unplanned chosen (plan s.class (needs_of chosen s)) e)
 
-  pub refused-laid : (file : List ℕ) (s : SurveyFields) (fault : EditFault) → choose file s ≡ Err fault → laying_with choose plan file s ≡ Err fault
+  -- a choice that is refused refuses the file
+  pub refused-laid : (file : List ℕ) (s : SurveyFields) (fault : EditFault)
+      → choose file s ≡ Err fault → laying_with choose plan file s ≡ Err fault
   unfolding laid_with
-  refused-laid file s fault e = ap (λ r. then_made (then_made r (laid_as plan s)) (λ laid. Ok (file_laid laid file s))) e
+  refused-laid file s fault e =
+      ap (λ r. then_made (then_made r (laid_as plan s)) (λ laid. Ok (file_laid laid file s))) e
 
   module _ (is_choosing : IsChoosing choose) (is_planning : IsPlanning plan) where
     laying_late : (file : List ℕ) (s : SurveyFields) → IfErr (laying_with choose plan file s) IsLate
@@ -193,60 +236,89 @@ module _ (choose : Choosing) (plan : Planning) where
     laying_late file s =
         then_late (laid_with choose plan file s) (λ laid. Ok (file_laid laid file s))
         (then_late (choose file s) (laid_as plan s) (is_choosing.late file s) (λ chosen.
-        then_late (plan s.class (needs_of chosen s)) (λ placed. Ok (laid_by chosen placed)) (is_planning.late s.class (needs_of chosen s)) (λ placed. tt)))
+        then_late (plan s.class (needs_of chosen s)) (λ placed. Ok (laid_by chosen placed))
+        (is_planning.late s.class (needs_of chosen s)) (λ placed. tt)))
         (λ laid. tt)
 
-    made_stream : (file : List ℕ) (s : SurveyFields) (made : List ℕ) → survey_of file most_frames ≡ Ok s → IsLaidBy file s made → HoldsStream made (stream_if file s (laid_with choose plan file s))
+    made_stream : (file : List ℕ) (s : SurveyFields) (made : List ℕ)
+        → survey_of file most_frames ≡ Ok s → IsLaidBy file s made
+        → HoldsStream made (stream_if file s (laid_with choose plan file s))
     made_stream file s made is by =
         let laid = laid_by by.chosen by.placed in
         let right = is_choosing.right file s by.chosen by.chose in
         let had = survey-had file most_frames s is in
-        let fitting = is_planning.fitting by.chosen s had.placed right.some right.within by.placed by.planned in
+        let fitting =
+        is_planning.fitting by.chosen s had.placed right.some right.within by.placed by.planned in
         subst (λ (r : Result Laid EditFault). HoldsStream made (stream_if file s r)) (sym by.laid)
-        (subst (λ (n : List ℕ). HoldsStream n (stream_laid laid file s)) by.is (laid-holds laid file s had right.some right.within fitting right.extension))
+        (subst (λ (n : List ℕ). HoldsStream n (stream_laid laid file s))
+        by.is (laid-holds laid file s had right.some right.within fitting right.extension))
 
     laying_proper : IsProperMaking (laying_with choose plan) (stream_with choose plan)
     laying_proper = record {
       late = laying_late;
       streams = λ file s new all is made.
-          subst (λ (r : Result SurveyFields SurveyFault). HoldsStream new (stream_by choose plan file r)) (sym is) (made_stream file s new is (laid-parts file s new made));
+          subst (λ (r : Result SurveyFields SurveyFault). HoldsStream new (stream_by choose plan
+          file r)) (sym is) (made_stream file s new is (laid-parts file s new made));
     }
 
-    pub task_proper : (refuses : Refusal → Bool) (input : List ℕ) → IsProper (laying_task choose plan refuses input)
-    task_proper refuses input = file_proper (laying_with choose plan) (stream_with choose plan) laying_proper refuses input
+    -- the command is proper
+    pub task_proper : (refuses : Refusal → Bool) (input : List ℕ)
+        → IsProper (laying_task choose plan refuses input)
+    task_proper refuses input =
+        file_proper (laying_with choose plan) (stream_with choose plan) laying_proper refuses input
 
-  pub task_makes : (refuses : Refusal → Bool) (input : List ℕ) (s : SurveyFields) (chosen : Chosen) (laid : Laid) (files : Files) → IsThere files input → ((bytes : List ℕ) → Holds files input bytes → survey_of bytes most_frames ≡ Ok s) → ((bytes : List ℕ) → Holds files input bytes → AreBytes bytes)
-      → ((bytes : List ℕ) → Holds files input bytes → choose bytes s ≡ Ok chosen) → laid_as plan s chosen ≡ Ok laid → IsMaking (laying_task choose plan refuses input) (λ file. file_laid laid file s) files
+  -- what was laid of the input is what the command makes
+  pub task_makes : (refuses : Refusal → Bool) (input : List ℕ) (s : SurveyFields) (chosen : Chosen)
+      (laid : Laid) (files : Files) → IsThere files input
+      → ((bytes : List ℕ) → Holds files input bytes → survey_of bytes most_frames ≡ Ok s)
+      → ((bytes : List ℕ) → Holds files input bytes → AreBytes bytes)
+      → ((bytes : List ℕ) → Holds files input bytes → choose bytes s ≡ Ok chosen)
+      → laid_as plan s chosen ≡ Ok laid
+      → IsMaking (laying_task choose plan refuses input) (λ file. file_laid laid file s) files
   unfolding laid_with
   task_makes refuses input s chosen laid files there surveyed octets chose planned =
-      file_makes (laying_with choose plan) (stream_with choose plan) refuses input files (λ file. file_laid laid file s) s there surveyed octets
-      (λ bytes holds. ap (λ r. then_made (then_made r (laid_as plan s)) (λ laid. Ok (file_laid laid bytes s))) (chose bytes holds) ∙ ap (λ r. then_made r (λ laid. Ok (file_laid laid bytes s))) planned)
+      file_makes (laying_with choose plan) (stream_with choose plan) refuses input files
+      (λ file. file_laid laid file s) s there surveyed octets
+      (λ bytes holds.
+      ap (λ r. then_made (then_made r (laid_as plan s)) (λ laid. Ok (file_laid laid bytes s)))
+      (chose bytes holds) ∙ ap (λ r. then_made r (λ laid. Ok (file_laid laid bytes s))) planned)
 
 -- ---- cut and pack
 
 abbrev no_fault : Option Refusal
 no_fault = None
 
-pub outside-none : (from to frames : ℕ) (b : Bool) → (nat_lt from to && nat_le to frames) ≡ b → cond b None (Some (Range from to frames)) ≡ no_fault → (from < to) × (to ≤ frames)
+-- a range that isn't refused has frames, and is within the file
+pub outside-none : (from to frames : ℕ) (b : Bool) → (nat_lt from to && nat_le to frames) ≡ b
+    → cond b None (Some (Range from to frames)) ≡ no_fault → (from < to) × (to ≤ frames)
 outside-none from to frames true is e = search rules
 outside-none from to frames false is e = absurd cc
 
 -- the chosen frames are there
-pub chosen-within : (quality : Option ℕ) (extension : List ℕ) (from to : ℕ) (frames : ℕ) (chosen : Chosen) → chosen_with quality extension from to frames ≡ Ok chosen → (from < to) × (to ≤ frames)
-chosen-within quality extension from to frames chosen e = outside-none from to frames (nat_lt from to && nat_le to frames) refl (unless_ok (outside_fault from to frames) _ chosen e).0
+pub chosen-within : (quality : Option ℕ) (extension : List ℕ) (from to : ℕ) (frames : ℕ)
+    (chosen : Chosen) → chosen_with quality extension from to frames ≡ Ok chosen
+    → (from < to) × (to ≤ frames)
+chosen-within quality extension from to frames chosen e =
+    outside-none from to frames (nat_lt from to && nat_le to frames) refl
+    (unless_ok (outside_fault from to frames) _ chosen e).0
 
-pub with_right : (quality : Option ℕ) (extension : List ℕ) (from to : ℕ) (s : SurveyFields) (chosen : Chosen) → length extension ≡ 36
+-- frames that are chosen so are frames of the survey, with an extension of 36 bytes
+pub with_right : (quality : Option ℕ) (extension : List ℕ) (from to : ℕ) (s : SurveyFields)
+    (chosen : Chosen) → length extension ≡ 36
     → chosen_with quality extension from to (length s.frames) ≡ Ok chosen → IsRight chosen s
 with_right quality extension from to s chosen size e =
     let ok = unless_ok (outside_fault from to (length s.frames)) _ chosen e in
     let there = chosen-within quality extension from to (length s.frames) chosen e in
-    subst (λ (c : Chosen). IsRight c s) ok.1 (record { some = there.0; within = there.1; extension = size })
+    subst (λ (c : Chosen). IsRight c s)
+    ok.1 (record { some = there.0; within = there.1; extension = size })
 
+-- so are those that cut chooses
 pub cut_choosing : (from to : Place) → IsChoosing (cut_choice from to)
 unfolding cut_choice
 cut_choosing from to = record {
   late = λ file s. unless_late _ _;
-  right = λ file s chosen e. with_right None (replicate 36 0) (frame_at s.class (length s.frames) from) (frame_at s.class (length s.frames) to) s chosen refl e;
+  right = λ file s chosen e. with_right None (replicate 36 0) (frame_at s.class (length s.frames)
+      from) (frame_at s.class (length s.frames) to) s chosen refl e;
 }
 
 info-extension : (bytes : List ℕ) → length (info_in bytes).extension ≡ 36
@@ -255,22 +327,30 @@ info-extension bytes =
     let rest = drop (field_place (flags_in bytes) 4) bytes in
     omega (arith, length-take 36 (rest ++ replicate 36 0), length-append rest (replicate 36 0))
 
-pub head-extension : (file : List ℕ) (head : Option Head) → length (head_info file head).extension ≡ 36
+-- the extension of a head has 36 bytes
+pub head-extension : (file : List ℕ) (head : Option Head)
+    → length (head_info file head).extension ≡ 36
 unfolding head_info
 head-extension file None = info-extension []
-head-extension file (Some head) = info-extension (drop head.text_at (take (length_of (class_of head.header) head.header.slot) (drop head.offset file)))
+head-extension file (Some head) = info-extension (drop head.text_at
+    (take (length_of (class_of head.header) head.header.slot) (drop head.offset file)))
 
-pub all_right : (file : List ℕ) (s : SurveyFields) (chosen : Chosen) → all_choice file s ≡ Ok chosen → IsRight chosen s
+-- all frames are frames of the survey, with an extension of 36 bytes
+pub all_right : (file : List ℕ) (s : SurveyFields) (chosen : Chosen) → all_choice file s ≡ Ok chosen
+    → IsRight chosen s
 unfolding all_choice
-all_right file s chosen e = with_right (head_info file s.head).quality (head_info file s.head).extension 0 (length s.frames) s chosen (head-extension file s.head) e
+all_right file s chosen e = with_right (head_info file s.head).quality
+    (head_info file s.head).extension 0 (length s.frames) s chosen (head-extension file s.head) e
 
 -- all frames are chosen
-pub all-whole : (file : List ℕ) (s : SurveyFields) (chosen : Chosen) → all_choice file s ≡ Ok chosen → (chosen.from ≡ 0) × (chosen.to ≡ length s.frames)
+pub all-whole : (file : List ℕ) (s : SurveyFields) (chosen : Chosen) → all_choice file s ≡ Ok chosen
+    → (chosen.from ≡ 0) × (chosen.to ≡ length s.frames)
 unfolding all_choice
 all-whole file s chosen e =
     let same = (unless_ok (outside_fault 0 (length s.frames) (length s.frames)) _ chosen e).1 in
     (sym (ap (λ (c : Chosen). c.from) same), sym (ap (λ (c : Chosen). c.to) same))
 
+-- so they are a choice
 pub all_choosing : IsChoosing all_choice
 unfolding all_choice
 all_choosing = record { late = λ file s. unless_late _ _; right = all_right }
@@ -281,5 +361,9 @@ choosing_is : (choice : Choice) → IsChoosing (choosing_by choice)
 choosing_is (Between from to) = cut_choosing from.now to.now
 choosing_is AllFrames = all_choosing
 
-pub edit_proper : (choice : Choice) (least : Bool) (input : List ℕ) → IsProper (task_of choice least input)
-edit_proper choice least input = task_proper (choosing_by choice) (first_planning (choices_by least)) (choosing_is choice) (first_is_planning (choices_by least) (by_usual least)) (refused_by choice) input
+-- a command that lays chosen frames is proper
+pub edit_proper : (choice : Choice) (least : Bool) (input : List ℕ)
+    → IsProper (task_of choice least input)
+edit_proper choice least input =
+    task_proper (choosing_by choice) (first_planning (choices_by least)) (choosing_is choice)
+    (first_is_planning (choices_by least) (by_usual least)) (refused_by choice) input

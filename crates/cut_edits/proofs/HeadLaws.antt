@@ -1,30 +1,24 @@
--- A head that could not be read; and a survey whose head is set apart is one by which frames can be laid.
-use Rattle.std.proofs.Common.{◌≡◌, ℕ, ◌+◌, Bool, true, false, cond, List, [], ◌∷◌, length, map, Option, Some, None, refl, ◌∙◌}
-use Rattle.std.proofs.lemmas.List.{length-map}
-use Rattle.std.proofs.lemmas.List.FromFn.{length-enumerate_from}
-use Rattle.std.specs.List.{enumerate_from}
-use Rattle.side_info.specs.Side.{no_side}
-use Rattle.laying.specs.Surveys.{IsWholeRow, AreWholeRows, HasSurvey}
+-- A head that could not be read; and a survey whose
+-- head is set apart is one by which frames can be laid.
+use Rattle.std.proofs.Common.{Bool, cond, false, length, List, map, None, Option, refl, Some, true}
+use Rattle.std.proofs.{Common.{ℕ, [], ◌+◌, ◌∙◌, ◌∷◌, ◌≡◌}, lemmas.List.length-map}
+use Rattle.std.{proofs.lemmas.List.FromFn.length-enumerate_from, specs.List.enumerate_from}
+use Rattle.commands.{proofs.WhyLaws.each_why, specs.Left.{IsOfInput, why_of}}
+use Rattle.commands.specs.{One.{IsInputFault, Making}, declared.fault.EditFault.EditFault}
+use Rattle.commands.specs.declared.fault.{EditFault.TheVariants.Input, Refusal.Refusal}
+use Rattle.cut_edits.specs.{Exact.apart, Heads.{IsHeadFault, IsOfHead}}
 use Rattle.laying.proofs.ChosenFrames.{side_paired}
-use Rattle.sync_survey.specs.declared.places.Head.{Head}
-use Rattle.sync_survey.specs.Row.{Row}
-use Rattle.sync_survey.specs.HeadApart.{apart_row, apart_rows, set_apart, emptied_row}
-use Rattle.sync_survey.specs.Faults.{SurveyFields}
-use Rattle.sync_survey.specs.Survey.{AreWellPlaced}
-use Rattle.sync_survey.proofs.ApartLaws.{placed-apart}
-use Rattle.sync_survey.proofs.EmptiedLaws.{placed-emptied}
+use Rattle.laying.specs.Surveys.{AreWholeRows, HasSurvey, IsWholeRow}
 use Rattle.outside.specs.Seen.{Seen}
-use Rattle.commands.specs.declared.fault.EditFault.{EditFault}
-use Rattle.commands.specs.declared.fault.EditFault.TheVariants.{Input}
-use Rattle.commands.specs.declared.fault.Refusal.{Refusal}
-use Rattle.commands.specs.Left.{why_of, IsOfInput}
-use Rattle.commands.specs.One.{Making, IsInputFault}
-use Rattle.commands.proofs.WhyLaws.{each_why}
-use Rattle.cut_edits.specs.Exact.{apart}
-use Rattle.cut_edits.specs.Heads.{IsHeadFault, IsOfHead}
+use Rattle.side_info.specs.Side.{no_side}
+use Rattle.sync_survey.proofs.{ApartLaws.placed-apart, EmptiedLaws.placed-emptied}
+use Rattle.sync_survey.specs.Faults.{SurveyFields}
+use Rattle.sync_survey.specs.{HeadApart.{apart_row, apart_rows, emptied_row, set_apart}, Row.Row}
+use Rattle.sync_survey.specs.{Survey.AreWellPlaced, declared.places.Head.Head}
 
 -- a head that could not be read is a fault of the only input, whatever is made of it
-pub head_is_input : (make : Making) (name : List ℕ) (old new : Seen) (fault : EditFault) → IsHeadFault name old new fault → IsInputFault make name old new fault
+pub head_is_input : (make : Making) (name : List ℕ) (old new : Seen) (fault : EditFault)
+    → IsHeadFault name old new fault → IsInputFault make name old new fault
 head_is_input make name old new fault h = each_why (why_of fault) h (record {
   rejected = λ r. absurd r;
   missing = λ m. absurd m;
@@ -36,42 +30,53 @@ head_is_input make name old new fault h = each_why (why_of fault) h (record {
 })
 
 -- its numbers are in range
-pub head_numbers : (refuses : Refusal → Bool) (fault : EditFault) → IsOfHead fault → IsOfInput refuses fault
+pub head_numbers : (refuses : Refusal → Bool) (fault : EditFault) → IsOfHead fault
+    → IsOfInput refuses fault
 head_numbers refuses (Input place fault) is = is
 head_numbers refuses _ is = absurd is
 
-marks_whole : (file : List ℕ) (rows : List Row) (n : ℕ) (more : List Row) → AreWholeRows file more → AreWholeRows file (map (λ (p : ℕ × Row). apart_row rows p.0 p.1) (enumerate_from n more))
+marks_whole : (file : List ℕ) (rows : List Row) (n : ℕ) (more : List Row) → AreWholeRows file more
+    → AreWholeRows file (map (λ (p : ℕ × Row). apart_row rows p.0 p.1) (enumerate_from n more))
 marks_whole file rows n [] are = tt
-marks_whole file rows n (r ∷ more) are = (record { frame = are.0.frame; pairs = are.0.pairs }, marks_whole file rows (n + 1) more are.1)
+marks_whole file rows n (r ∷ more) are =
+    (record { frame = are.0.frame; pairs = are.0.pairs }, marks_whole file rows (n + 1) more are.1)
 
-apart_whole : (file : List ℕ) (head : Option Head) (rows : List Row) → AreWholeRows file rows → AreWholeRows file (set_apart head rows)
+apart_whole : (file : List ℕ) (head : Option Head) (rows : List Row) → AreWholeRows file rows
+    → AreWholeRows file (set_apart head rows)
 unfolding apart_rows
 apart_whole file None rows are = are
 apart_whole file (Some head) rows are = marks_whole file rows 0 rows are
 
-row_whole : (file : List ℕ) (r : Row) (lost : Bool) → IsWholeRow file r → IsWholeRow file (cond lost (record r { side = no_side; lost = false }) r)
+row_whole : (file : List ℕ) (r : Row) (lost : Bool) → IsWholeRow file r
+    → IsWholeRow file (cond lost (record r { side = no_side; lost = false }) r)
 row_whole file r true is = record { frame = is.frame; pairs = side_paired true r.side is.pairs }
 row_whole file r false is = is
 
-emptied_whole : (file : List ℕ) (rows : List Row) → AreWholeRows file rows → AreWholeRows file (map emptied_row rows)
+emptied_whole : (file : List ℕ) (rows : List Row) → AreWholeRows file rows
+    → AreWholeRows file (map emptied_row rows)
 emptied_whole file [] are = tt
 emptied_whole file (r ∷ rows) are = (row_whole file r r.lost are.0, emptied_whole file rows are.1)
 
 set_length : (head : Option Head) (rows : List Row) → length (set_apart head rows) ≡ length rows
 unfolding apart_rows
 set_length None rows = refl
-set_length (Some head) rows = length-map (enumerate_from 0 rows) (λ (p : ℕ × Row). apart_row rows p.0 p.1) ∙ length-enumerate_from 0 rows
+set_length (Some head) rows =
+    length-map (enumerate_from 0 rows) (λ (p : ℕ × Row). apart_row rows p.0 p.1)
+    ∙ length-enumerate_from 0 rows
 
 -- it has as many frames
 pub apart-length : (s : SurveyFields) → length (apart s).frames ≡ length s.frames
 apart-length s = length-map (set_apart s.head s.frames) emptied_row ∙ set_length s.head s.frames
 
 -- their main data are where they may be
-pub apart-placed : (s : SurveyFields) → AreWellPlaced s.head s.class s.frames → AreWellPlaced s.head s.class (apart s).frames
-apart-placed s placed = placed-emptied s.head s.class (set_apart s.head s.frames) (placed-apart s.head s.class s.frames placed)
+pub apart-placed : (s : SurveyFields) → AreWellPlaced s.head s.class s.frames
+    → AreWellPlaced s.head s.class (apart s).frames
+apart-placed s placed = placed-emptied s.head s.class (set_apart s.head s.frames)
+    (placed-apart s.head s.class s.frames placed)
 
 -- its frames are whole, and if their main data are where they may be, so is all of it
-pub apart-had : (file : List ℕ) (s : SurveyFields) → HasSurvey file s → AreWellPlaced s.head s.class (apart s).frames → HasSurvey file (apart s)
+pub apart-had : (file : List ℕ) (s : SurveyFields) → HasSurvey file s
+    → AreWellPlaced s.head s.class (apart s).frames → HasSurvey file (apart s)
 apart-had file s is placed = record {
   long = is.long;
   head = is.head;

@@ -1,73 +1,77 @@
 -- By the Info frame of an exact piece exactly the samples of its span are played.
-use Rattle.std.proofs.Common.{◌≡◌, ℕ, ◌+◌, ◌-◌, ◌&&◌, Bool, true, false, cond, List, length, take, drop, Option, Some, None, refl, sym, ap, subst, arith}
-use Rattle.std.specs.Prelude.{nat_lt, nat_le, IfSome, slice_get}
-use Rattle.std.proofs.lemmas.Bool.{leb-true, and_parts}
-use Rattle.std.proofs.lemmas.List.{length-map, length-take-le, length-drop}
-use Rattle.info_header.specs.declared.fields.Info.{Info}
-use Rattle.info_header.specs.Info.{flags_in, is_flagged, field_place, field_in, info_in}
-use Rattle.exact_span.specs.declared.span.Span.{Span}
-use Rattle.exact_span.specs.Places.{sample_at}
-use Rattle.exact_span.specs.PlayedPositions.{played_of, length_of_played}
-use Rattle.exact_span.specs.Spans.{span_of, AreLeads, delay_of, padding_of}
-use Rattle.exact_span.specs.Laws.{AreWhole, IsHeadOf, KeepsPlaces}
-use Rattle.exact_span.proofs.SpanLaws.{span-in_range}
-use Rattle.exact_span.proofs.ExtensionLaws.{extension-says}
-use Rattle.exact_span.proofs.SealLaws.{frames-sealed}
-use Rattle.exact_span.proofs.PlayedLaws.{places-kept}
-use Rattle.slot_plan.specs.declared.needs.Placed.{Placed}
-use Rattle.laying.specs.KeptFields.{fields_of_head}
-use Rattle.laying.specs.Laid.{Laid, frames_laid, info_laid}
-use Rattle.laying.specs.Surveys.{HasSurvey}
-use Rattle.laying.specs.Written.{slot_in, head_info}
-use Rattle.laying.proofs.LaidLaws.{first-there, laid-slots}
-use Rattle.sync_survey.specs.Row.{Row}
-use Rattle.sync_survey.specs.declared.places.Head.{Head}
-use Rattle.sync_survey.specs.Faults.{SurveyFields}
+use Rattle.std.proofs.Common.{ap, arith, Bool, cond, drop, false, length, List, None, Option, refl}
+use Rattle.std.proofs.Common.{Some, subst, sym, take, true, ℕ, ◌&&◌, ◌+◌, ◌-◌, ◌≡◌}
+use Rattle.std.proofs.lemmas.Bool.{and_parts, leb-true}
+use Rattle.std.proofs.lemmas.List.{length-drop, length-map, length-take-le}
+use Rattle.std.specs.Prelude.{IfSome, nat_le, nat_lt, slice_get}
 use Rattle.commands.proofs.RefusingLaws.{unless_ok}
-use Rattle.cut_edits.specs.Exact.{samples_fault, span_in, IsSpanIn, apart, leads_in, laid_span, sealed_from, piece_of}
-use Rattle.cut_edits.specs.ExactLaws.{PiecesPlayTheirSamples}
-use Rattle.cut_edits.proofs.ChosenLaws.{head-extension}
-use Rattle.cut_edits.proofs.HeadLaws.{apart-had, apart-placed}
-use Rattle.cut_edits.proofs.SealedLaws.{for-whole}
-use Rattle.cut_edits.proofs.SpanLaws.{with-fitting, with-many, with-leads}
-use Rattle.cut_edits.proofs.PieceLaws.{samples_there, span_chosen, head_long, span_apart, span-there, plain-long}
+use Rattle.cut_edits.proofs.{ChosenLaws.head-extension, HeadLaws.{apart-had, apart-placed}}
+use Rattle.cut_edits.proofs.PieceLaws.{head_long, plain-long, samples_there, span-there, span_apart}
+use Rattle.cut_edits.proofs.{PieceLaws.span_chosen, SealedLaws.for-whole}
+use Rattle.cut_edits.proofs.SpanLaws.{with-fitting, with-leads, with-many}
+use Rattle.cut_edits.specs.Exact.{apart, IsSpanIn, laid_span, leads_in, piece_of, samples_fault}
+use Rattle.cut_edits.specs.{Exact.{sealed_from, span_in}, ExactLaws.PiecesPlayTheirSamples}
+use Rattle.exact_span.proofs.{ExtensionLaws.extension-says, PlayedLaws.places-kept}
+use Rattle.exact_span.proofs.{SealLaws.frames-sealed, SpanLaws.span-in_range}
+use Rattle.exact_span.specs.{Laws.{AreWhole, IsHeadOf, KeepsPlaces}, Places.sample_at}
+use Rattle.exact_span.specs.PlayedPositions.{length_of_played, played_of}
+use Rattle.exact_span.specs.Spans.{AreLeads, delay_of, padding_of, span_of}
+use Rattle.exact_span.specs.declared.span.Span.{Span}
+use Rattle.info_header.specs.Info.{field_in, field_place, flags_in, info_in, is_flagged}
+use Rattle.info_header.specs.declared.fields.Info.{Info}
+use Rattle.laying.{proofs.LaidLaws.{first-there, laid-slots}, specs.KeptFields.fields_of_head}
+use Rattle.laying.specs.{Laid.{frames_laid, info_laid, Laid}, Surveys.HasSurvey}
+use Rattle.laying.specs.Written.{head_info, slot_in}
+use Rattle.slot_plan.specs.declared.needs.Placed.{Placed}
+use Rattle.sync_survey.specs.{Faults.SurveyFields, Row.Row, declared.places.Head.Head}
 
 -- ---- the fields of a head are those that a struct can have
 
-table_by : (place : ℕ) (bytes : List ℕ) (flagged : Bool) (test : Bool) → (flagged && nat_le (place + 100) (length bytes)) ≡ test → IfSome (cond test (Some (take 100 (drop place bytes))) None) (λ (t : List ℕ). length t ≡ 100)
+table_by : (place : ℕ) (bytes : List ℕ) (flagged : Bool) (test : Bool)
+    → (flagged && nat_le (place + 100) (length bytes)) ≡ test
+    → IfSome (cond test (Some (take 100 (drop place bytes))) None) (λ (t : List ℕ). length t ≡ 100)
 table_by place bytes flagged false is = tt
 table_by place bytes flagged true is =
-    let far = leb-true (place + 100) (length bytes) (and_parts flagged (nat_le (place + 100) (length bytes)) is).1 in
+    let far = leb-true (place + 100) (length bytes)
+    (and_parts flagged (nat_le (place + 100) (length bytes)) is).1 in
     length-take-le 100 (drop place bytes) (omega (arith, far, length-drop place bytes))
 
 table-many : (bytes : List ℕ) → IfSome (info_in bytes).table (λ (t : List ℕ). length t ≡ 100)
 unfolding info_in field_in
-table-many bytes = table_by (field_place (flags_in bytes) 2) bytes (is_flagged (flags_in bytes) 2) (is_flagged (flags_in bytes) 2 && nat_le (field_place (flags_in bytes) 2 + 100) (length bytes)) refl
+table-many bytes = table_by (field_place (flags_in bytes) 2) bytes (is_flagged (flags_in bytes) 2)
+    (is_flagged (flags_in bytes) 2 && nat_le (field_place (flags_in bytes) 2 + 100) (length bytes))
+    refl
 
-table-of : (file : List ℕ) (head : Head) → IfSome (head_info file (Some head)).table (λ (t : List ℕ). length t ≡ 100)
+table-of : (file : List ℕ) (head : Head)
+    → IfSome (head_info file (Some head)).table (λ (t : List ℕ). length t ≡ 100)
 unfolding head_info
 table-of file head = table-many _
 
 head_whole : (file : List ℕ) (head : Option Head) → IfSome (fields_of_head file head) AreWhole
 head_whole file None = tt
-head_whole file (Some head) = record { table = table-of file head; extension = head-extension file (Some head) }
+head_whole file (Some head) =
+    record { table = table-of file head; extension = head-extension file (Some head) }
 
 -- ---- the head of a piece
 
-module _ (head : Option Info) (whole : IfSome head AreWhole) (long : IfSome head (λ (i : Info). length i.extension ≡ 36)) (span : Span) (file : List ℕ) (s : SurveyFields) (is : HasSurvey file s) (there : IsSpanIn s span) where
+module _ (head : Option Info) (whole : IfSome head AreWhole)
+    (long : IfSome head (λ (i : Info). length i.extension ≡ 36)) (span : Span) (file : List ℕ)
+    (s : SurveyFields) (is : HasSurvey file s) (there : IsSpanIn s span) where
   abbrev plain : Laid
   plain = laid_span head span s
 
   abbrev leads : ℕ
   leads = leads_in span plain.placed
 
+  -- its lead-ins are those that the span has to have
   pub leads-are : AreLeads span leads
   leads-are = with-leads (span_chosen head span) s is.placed there.some there.within span refl refl
 
   count : length (frames_laid plain file s) ≡ leads + (span.last - span.first)
   count =
       let chosen = span_chosen head span in
-      let slots = laid-slots plain file s is there.some there.within (with-fitting chosen s is.placed there.some there.within span.led) in
+      let slots = laid-slots plain file s is
+      there.some there.within (with-fitting chosen s is.placed there.some there.within span.led) in
       omega (
         arith,
         length-map (frames_laid plain file s) slot_in,
@@ -76,45 +80,63 @@ module _ (head : Option Info) (whole : IfSome head AreWhole) (long : IfSome head
         with-many chosen s is.placed there.some there.within span.led,
       )
 
-  says : (o : Option Row) → slice_get s.frames span.first ≡ o → IsHeadOf s.class leads span (info_laid (sealed_from o plain file s) file s)
-  says None found = let some = (first-there s.frames span.first (omega (arith, there.some, there.within))).1 in absurd cc
+  says : (o : Option Row) → slice_get s.frames span.first ≡ o
+      → IsHeadOf s.class leads span (info_laid (sealed_from o plain file s) file s)
+  says None found = let some =
+      (first-there s.frames span.first (omega (arith, there.some, there.within))).1 in absurd cc
   says (Some first) found =
       let in_range = span-in_range s.class span leads there.is leads-are in
       let fields = info_laid plain file s in
-      let sealed = frames-sealed first.header fields (for-whole s.class (frames_laid plain file s) plain.quality plain.extension (plain-long head long span file s is there)) in
-      let said = extension-says head (delay_of s.class leads span) (padding_of span) whole (omega (arith, in_range.delay_most)) (omega (arith, in_range.padding_most)) in
-      record { frames = ap Some count; numbers = sealed.says (delay_of s.class leads span) (padding_of span) said }
+      let sealed = frames-sealed first.header fields (for-whole s.class (frames_laid plain file s)
+      plain.quality plain.extension (plain-long head long span file s is there)) in
+      let said = extension-says head (delay_of s.class leads span) (padding_of span) whole
+      (omega (arith, in_range.delay_most)) (omega (arith, in_range.padding_most)) in
+      record {
+        frames = ap Some count;
+        numbers = sealed.says (delay_of s.class leads span) (padding_of span) said;
+      }
 
+  -- the fields of its Info frame say the span
   pub piece-head : IsHeadOf s.class leads span (info_laid (piece_of head span file s) file s)
   unfolding piece_of
   piece-head = says (slice_get s.frames span.first) refl
 
 -- sealing changes no slot
-sealed_placed : (head : Option Info) (span : Span) (file : List ℕ) (s : SurveyFields) (o : Option Row) → (sealed_from o (laid_span head span s) file s).placed ≡ (laid_span head span s).placed
+sealed_placed : (head : Option Info) (span : Span) (file : List ℕ) (s : SurveyFields)
+    (o : Option Row)
+    → (sealed_from o (laid_span head span s) file s).placed ≡ (laid_span head span s).placed
 sealed_placed head span file s None = refl
 sealed_placed head span file s (Some first) = refl
 
-piece_placed : (head : Option Info) (span : Span) (file : List ℕ) (s : SurveyFields) → (piece_of head span file s).placed ≡ (laid_span head span s).placed
+piece_placed : (head : Option Info) (span : Span) (file : List ℕ) (s : SurveyFields)
+    → (piece_of head span file s).placed ≡ (laid_span head span s).placed
 unfolding piece_of
 piece_placed head span file s = sealed_placed head span file s (slice_get s.frames span.first)
 
 -- nor the frames
-sealed_from_same : (head : Option Info) (span : Span) (file : List ℕ) (s : SurveyFields) (o : Option Row) → (sealed_from o (laid_span head span s) file s).from ≡ span.first
+sealed_from_same : (head : Option Info) (span : Span) (file : List ℕ) (s : SurveyFields)
+    (o : Option Row) → (sealed_from o (laid_span head span s) file s).from ≡ span.first
 sealed_from_same head span file s None = refl
 sealed_from_same head span file s (Some first) = refl
 
-sealed_to_same : (head : Option Info) (span : Span) (file : List ℕ) (s : SurveyFields) (o : Option Row) → (sealed_from o (laid_span head span s) file s).to ≡ span.last
+sealed_to_same : (head : Option Info) (span : Span) (file : List ℕ) (s : SurveyFields)
+    (o : Option Row) → (sealed_from o (laid_span head span s) file s).to ≡ span.last
 sealed_to_same head span file s None = refl
 sealed_to_same head span file s (Some first) = refl
 
-pub piece-from : (head : Option Info) (span : Span) (file : List ℕ) (s : SurveyFields) → (piece_of head span file s).from ≡ span.first
+-- a piece has the frames from the first of its span
+pub piece-from : (head : Option Info) (span : Span) (file : List ℕ) (s : SurveyFields)
+    → (piece_of head span file s).from ≡ span.first
 unfolding piece_of
 piece-from head span file s = sealed_from_same head span file s (slice_get s.frames span.first)
 
-pub piece-to : (head : Option Info) (span : Span) (file : List ℕ) (s : SurveyFields) → (piece_of head span file s).to ≡ span.last
+-- up to the last
+pub piece-to : (head : Option Info) (span : Span) (file : List ℕ) (s : SurveyFields)
+    → (piece_of head span file s).to ≡ span.last
 unfolding piece_of
 piece-to head span file s = sealed_to_same head span file s (slice_get s.frames span.first)
 
+-- exactly the samples of its span are played of a piece
 pub pieces-play : PiecesPlayTheirSamples
 unfolding span_in
 pieces-play file s from to span is e =
@@ -125,21 +147,27 @@ pieces-play file s from to span is e =
     let b = sample_at s.class samples to in
     let piece = piece_of head span file (apart s) in
     let fields = info_laid piece file (apart s) in
-    let ok = unless_ok (samples_fault a b samples) (span_of s.class (played.start + a) (played.start + b)) span e in
+    let ok = unless_ok (samples_fault a b samples)
+    (span_of s.class (played.start + a) (played.start + b)) span e in
     let inside = samples_there a b samples (nat_lt a b && nat_le b samples) refl ok.0 in
     let had = apart-had file s is (apart-placed s is.placed) in
     let there = span_apart s span (span-there from to head s span e) in
     let placed = piece_placed head span file (apart s) in
     let leads : AreLeads span (leads_in span piece.placed) =
-    subst (λ (p : List Placed). AreLeads span (leads_in span p)) (sym placed) (leads-are head (head_whole file s.head) (head_long file s.head) span file (apart s) had there) in
+    subst (λ (p : List Placed). AreLeads span (leads_in span p)) (sym placed) (leads-are head
+    (head_whole file s.head) (head_long file s.head) span file (apart s) had there) in
     let of : IsHeadOf s.class (leads_in span piece.placed) span fields =
-    subst (λ (p : List Placed). IsHeadOf s.class (leads_in span p) span fields) (sym placed) (piece-head head (head_whole file s.head) (head_long file s.head) span file (apart s) had there) in
+    subst (λ (p : List Placed). IsHeadOf s.class (leads_in span p) span fields) (sym placed)
+    (piece-head head (head_whole file s.head) (head_long file s.head) span file (apart s) had there)
+    in
     let many = leads_in span piece.placed in
     record {
       leads = leads;
       head = of;
-      places = subst (λ (p : Span). KeepsPlaces s.class many p.first a b (played_of (Some fields) s.class (many + (p.last - p.first))) played) ok.1
-          (places-kept head fields s.class (length s.frames) a b many (record { some = inside.0; most = inside.1 })
+      places = subst (λ (p : Span). KeepsPlaces s.class many p.first a b
+          (played_of (Some fields) s.class (many + (p.last - p.first))) played) ok.1
+          (places-kept head fields s.class (length s.frames) a b many
+          (record { some = inside.0; most = inside.1 })
           (subst (λ (p : Span). AreLeads p many) (sym ok.1) leads)
           (subst (λ (p : Span). IsHeadOf s.class many p fields) (sym ok.1) of));
     }

@@ -1,29 +1,24 @@
--- The frames of a span in the slots of their plan: at most one lead-in is before them, and one where the span has to have it.
-use Rattle.std.proofs.Common.{◌≡◌, ℕ, ◌+◌, ◌-◌, Bool, true, false, IsTrue, List, [], ◌∷◌, length, map, drop, refl, subst, arith, append-nil}
-use Rattle.std.specs.Prelude.{◌↔◌, ◌<◌, ◌≤◌, All}
-use Rattle.std.proofs.lemmas.List.{length-map, length-take, length-drop}
+-- The frames of a span in the slots of their plan: at most one
+-- lead-in is before them, and one where the span has to have it.
+use Rattle.std.proofs.Common.{append-nil, arith, Bool, drop, false, IsTrue, length, List, map, refl}
+use Rattle.std.proofs.Common.{subst, true, ℕ, [], ◌+◌, ◌-◌, ◌∷◌, ◌≡◌}
+use Rattle.std.proofs.lemmas.List.{length-drop, length-map, length-take}
+use Rattle.std.specs.Prelude.{All, ◌<◌, ◌↔◌, ◌≤◌}
+use Rattle.cut_edits.proofs.ChosenLaws.{by_usual, headers-known, plan-few, plan-fitting, rows-fit}
+use Rattle.cut_edits.{proofs.ChosenLaws.usual_slots, specs.Chosen.{Chosen, chosen_rows, needs_of}}
+use Rattle.cut_edits.specs.Exact.{leads_in, plan_with}
+use Rattle.exact_span.specs.{Spans.AreLeads, declared.span.Span.Span}
 use Rattle.frame_header.specs.Tables.{window_of}
-use Rattle.slot_plan.specs.declared.needs.Need.{Need}
-use Rattle.slot_plan.specs.declared.needs.Placed.{Placed}
-use Rattle.slot_plan.specs.Parts.{Item, parts_of, window_in, item_of, led_items, AreOfClass, ArePartsFeasible, CanBePlanned}
-use Rattle.slot_plan.specs.Plans.{AreFor, IsLedPlan}
-use Rattle.slot_plan.specs.LeastPlan.{led_plan}
-use Rattle.slot_plan.specs.Laws.{ChooseInOrder}
-use Rattle.slot_plan.proofs.LeastPlan.{led-plan-is}
-use Rattle.laying.specs.Needs.{Asked, need_of, asked_of, needs_of as all_needs, places_from}
-use Rattle.laying.specs.NeedsFit.{IsPlaced, own_choice}
-use Rattle.laying.proofs.NeedsFitLaws.{part-known}
-use Rattle.laying.proofs.PartsLaws.{parts_are}
+use Rattle.laying.proofs.FitLaws.{AreHeaders, AreOpen, Asks, asks-each, items-fit, open-in_slots}
+use Rattle.laying.proofs.{NeedsFitLaws.part-known, PartsLaws.parts_are, PlannedFrames.slot_among}
 use Rattle.laying.specs.Fits.{FitsFrom, IsFitting, reach_behind}
-use Rattle.laying.specs.Relaid.{left_behind}
-use Rattle.laying.proofs.FitLaws.{Asks, AreOpen, AreHeaders, asks-each, items-fit, open-in_slots}
-use Rattle.laying.proofs.PlannedFrames.{slot_among}
+use Rattle.laying.specs.Needs.{Asked, asked_of, need_of, needs_of as all_needs, places_from}
+use Rattle.laying.specs.{NeedsFit.{IsPlaced, own_choice}, Relaid.left_behind}
+use Rattle.slot_plan.{proofs.LeastPlan.led-plan-is, specs.{Laws.ChooseInOrder, LeastPlan.led_plan}}
+use Rattle.slot_plan.specs.Parts.{AreOfClass, ArePartsFeasible, CanBePlanned, Item, item_of}
+use Rattle.slot_plan.specs.{Parts.{led_items, parts_of, window_in}, Plans.{AreFor, IsLedPlan}}
+use Rattle.slot_plan.specs.declared.needs.{Need.Need, Placed.Placed}
 use Rattle.sync_survey.specs.Faults.{SurveyFields}
-use Rattle.exact_span.specs.declared.span.Span.{Span}
-use Rattle.exact_span.specs.Spans.{AreLeads}
-use Rattle.cut_edits.specs.Chosen.{Chosen, chosen_rows, needs_of}
-use Rattle.cut_edits.specs.Exact.{plan_with, leads_in}
-use Rattle.cut_edits.proofs.ChosenLaws.{rows-fit, plan-fitting, plan-few, usual_slots, headers-known, by_usual}
 
 -- ---- the items of a led plan
 
@@ -34,7 +29,10 @@ led_asks (need ∷ needs) = ((refl, refl, refl), asks-each own_choice (need ∷ 
 
 frames_open : (needs : List Need) → AreHeaders needs → AreOpen (map (item_of own_choice) needs)
 frames_open [] are = tt
-frames_open (need ∷ needs) are = ((λ slot has. usual_slots own_choice (by_usual false) need.header slot are.0 has), frames_open needs are.1)
+frames_open (need ∷ needs) are = (
+  (λ slot has. usual_slots own_choice (by_usual false) need.header slot are.0 has),
+  frames_open needs are.1,
+)
 
 led_open : (needs : List Need) → AreHeaders needs → AreOpen (led_items own_choice needs)
 unfolding led_items
@@ -42,42 +40,49 @@ led_open [] are = tt
 led_open (need ∷ needs) are = ((λ slot has. slot_among slot has), frames_open (need ∷ needs) are)
 
 -- a list that is placed for items is as long as they
-pub for_length : (items : List Item) (placed : List Placed) → AreFor items placed → length placed ≡ length items
+pub for_length : (items : List Item) (placed : List Placed) → AreFor items placed
+    → length placed ≡ length items
 unfolding AreFor
 for_length [] [] are = refl
 for_length [] (p ∷ placed) are = absurd are
 for_length (item ∷ items) [] are = absurd are
 for_length (item ∷ items) (p ∷ placed) are = omega (arith, for_length items placed are.2)
 
-led_length : (needs : List Need) → 0 < length needs → length (led_items own_choice needs) ≡ length needs + 1
+led_length : (needs : List Need) → 0 < length needs
+    → length (led_items own_choice needs) ≡ length needs + 1
 unfolding led_items
 led_length [] some = absurd (omega (arith, some))
 led_length (need ∷ needs) some = omega (arith, length-map needs (item_of own_choice))
 
 -- ---- as many places as frames
 
-left_many : (lead_in : Bool) (need : Need) (needs : List Need) → length needs ≤ length (left_behind lead_in need needs)
+left_many : (lead_in : Bool) (need : Need) (needs : List Need)
+    → length needs ≤ length (left_behind lead_in need needs)
 left_many true need needs = omega arith
 left_many false need needs = omega arith
 
-fits_many : (window reach : ℕ) (needs : List Need) (placed : List Placed) → FitsFrom window reach needs placed → length needs ≤ length placed
+fits_many : (window reach : ℕ) (needs : List Need) (placed : List Placed)
+    → FitsFrom window reach needs placed → length needs ≤ length placed
 unfolding FitsFrom
 fits_many window reach [] [] fits = omega arith
 fits_many window reach [] (p ∷ placed) fits = absurd fits
 fits_many window reach (need ∷ needs) [] fits = absurd fits
 fits_many window reach (need ∷ needs) (p ∷ placed) fits =
-    let rest = fits_many window (reach_behind window p need) (left_behind p.lead_in need needs) placed fits.2 in
+    let rest = fits_many window (reach_behind window p need)
+    (left_behind p.lead_in need needs) placed fits.2 in
     omega (arith, rest, left_many p.lead_in need needs)
 
 -- ---- the plan of chosen frames
 
-module _ (chosen : Chosen) (s : SurveyFields) (placed : IsPlaced s) (some : chosen.from < chosen.to) (within : chosen.to ≤ length s.frames) where
+module _ (chosen : Chosen) (s : SurveyFields) (placed : IsPlaced s) (some : chosen.from < chosen.to)
+    (within : chosen.to ≤ length s.frames) where
   abbrev needs : List Need
   needs = needs_of chosen s
 
   abbrev asked : Asked
   asked = asked_of (chosen_rows chosen s ∷ [])
 
+  -- there are as many needs as frames
   pub needs-length : length needs ≡ chosen.to - chosen.from
   needs-length =
       omega (
@@ -93,65 +98,88 @@ module _ (chosen : Chosen) (s : SurveyFields) (placed : IsPlaced s) (some : chos
   parts_is = parts_are [] 0 (chosen_rows chosen s ∷ []) refl
 
   -- what the planner answers of them is the led plan
-  pub led-is : (ps : List Placed) → IsLedPlan (window_of s.class.version) own_choice needs ps ↔ (ps ≡ led_plan (window_of s.class.version) own_choice needs)
+  pub led-is : (ps : List Placed) → IsLedPlan (window_of s.class.version) own_choice needs ps
+      ↔ (ps ≡ led_plan (window_of s.class.version) own_choice needs)
   led-is ps =
       let fit = rows-fit chosen s placed some within in
       led-plan-is s.class own_choice needs ps
       (subst (All (AreOfClass s.class)) parts_is fit.each 0 [] (omega arith))
       (subst (ChooseInOrder own_choice) parts_is fit.kept)
-      (subst (λ (n : ℕ). ArePartsFeasible n (needs ∷ [])) fit.window (subst (ArePartsFeasible (window_in asked.needs)) parts_is fit.planned.feasible))
+      (subst (λ (n : ℕ). ArePartsFeasible n (needs ∷ []))
+      fit.window (subst (ArePartsFeasible (window_in asked.needs)) parts_is fit.planned.feasible))
 
   flat : asked.needs ≡ needs
   unfolding all_needs
   flat = append-nil needs
 
-  pub led-answer : (ps : List Placed) → IsLedPlan (window_in asked.needs) own_choice asked.needs ps → ps ≡ led_plan (window_of s.class.version) own_choice needs
+  -- the plan with a lead-in is the value of the definition
+  pub led-answer : (ps : List Placed) → IsLedPlan (window_in asked.needs) own_choice asked.needs ps
+      → ps ≡ led_plan (window_of s.class.version) own_choice needs
   led-answer ps plan =
       let fit = rows-fit chosen s placed some within in
       (led-is ps).0
       (subst (λ (l : List Need). IsLedPlan (window_of s.class.version) own_choice l ps) flat
       (subst (λ (n : ℕ). IsLedPlan n own_choice asked.needs ps) fit.window plan))
 
+  -- the frames can be planned
   pub led-can : CanBePlanned asked.needs (0 ∷ [])
   unfolding places_from
   led-can = (rows-fit chosen s placed some within).planned
 
-  the_led : IsLedPlan (window_of s.class.version) own_choice needs (led_plan (window_of s.class.version) own_choice needs)
+  the_led : IsLedPlan (window_of s.class.version) own_choice needs
+      (led_plan (window_of s.class.version) own_choice needs)
   the_led = (led-is (led_plan (window_of s.class.version) own_choice needs)).1 refl
 
   known : AreHeaders needs
   known = headers-known (chosen_rows chosen s) (part-known s chosen.from chosen.to placed)
 
-  pub with-fitting : (led : Bool) → IsFitting (window_of s.class.version) needs (plan_with led s.class needs)
+  -- by either plan the frames can be laid
+  pub with-fitting : (led : Bool)
+      → IsFitting (window_of s.class.version) needs (plan_with led s.class needs)
   with-fitting false = plan-fitting chosen s placed some within own_choice (by_usual false)
   with-fitting true =
       let plan = led_plan (window_of s.class.version) own_choice needs in
       record {
-        fits = items-fit (window_of s.class.version) (led_items own_choice needs) needs plan (led_asks needs) the_led.slots the_led.least.feasible the_led.begins;
-        slots = open-in_slots (led_items own_choice needs) plan (led_open needs known) the_led.slots;
+        fits = items-fit (window_of s.class.version) (led_items own_choice needs) needs plan
+            (led_asks needs) the_led.slots the_led.least.feasible the_led.begins;
+        slots =
+            open-in_slots (led_items own_choice needs) plan (led_open needs known) the_led.slots;
       }
 
-  led_many : length (led_plan (window_of s.class.version) own_choice needs) ≡ chosen.to - chosen.from + 1
+  led_many : length (led_plan (window_of s.class.version) own_choice needs)
+      ≡ chosen.to - chosen.from + 1
   led_many =
       omega (
         arith,
-        for_length (led_items own_choice needs) (led_plan (window_of s.class.version) own_choice needs) the_led.slots,
+        for_length (led_items own_choice needs)
+            (led_plan (window_of s.class.version) own_choice needs) the_led.slots,
         led_length needs (omega (arith, needs-length, some)),
         needs-length,
       )
 
+  -- it has at most one place more than frames
   pub with-few : (led : Bool) → length (plan_with led s.class needs) ≤ chosen.to - chosen.from + 1
-  with-few false = omega (arith, plan-few chosen s placed some within own_choice (by_usual false), needs-length)
+  with-few false =
+      omega (arith, plan-few chosen s placed some within own_choice (by_usual false), needs-length)
   with-few true = omega (arith, led_many)
 
+  -- and no fewer
   pub with-many : (led : Bool) → chosen.to - chosen.from ≤ length (plan_with led s.class needs)
-  with-many led = omega (arith, fits_many (window_of s.class.version) 0 needs (plan_with led s.class needs) (with-fitting led).fits, needs-length)
+  with-many led = omega (
+    arith,
+    fits_many (window_of s.class.version) 0 needs (plan_with led s.class needs)
+        (with-fitting led).fits,
+    needs-length,
+  )
 
-  with_led : (led : Bool) → IsTrue led → length (plan_with led s.class needs) - (chosen.to - chosen.from) ≡ 1
+  with_led : (led : Bool) → IsTrue led
+      → length (plan_with led s.class needs) - (chosen.to - chosen.from) ≡ 1
   with_led false is = absurd cc
   with_led true is = omega (arith, led_many)
 
-  pub with-leads : (span : Span) → chosen.from ≡ span.first → chosen.to ≡ span.last → AreLeads span (leads_in span (plan_with span.led s.class needs))
+  -- it has a lead-in where the span has to have one
+  pub with-leads : (span : Span) → chosen.from ≡ span.first → chosen.to ≡ span.last
+      → AreLeads span (leads_in span (plan_with span.led s.class needs))
   with-leads span from to = record {
     one = omega (arith, with-few span.led, from, to);
     led = λ is. omega (arith, with_led span.led is, from, to);

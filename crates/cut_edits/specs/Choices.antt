@@ -1,16 +1,17 @@
--- Both commands as one: what they choose.
-use Rattle.std.specs.Prelude.{ℕ, Bool, List}
+-- A cut and a packing with the least slots as one command: what they choose.
+use Rattle.std.specs.Prelude.{Bool, List, ℕ}
+use Rattle.commands.specs.{One.Task, declared.fault.Refusal.Refusal}
 use Rattle.cue_sheet.specs.Places.{IsPlace}
-use Rattle.commands.specs.declared.fault.Refusal.{Refusal}
-use Rattle.commands.specs.One.{Task}
-use Rattle.cut_edits.specs.declared.choice.Choice.{Choice}
-use Rattle.cut_edits.specs.declared.choice.Choice.TheVariants.{Between, All}
-use Rattle.cut_edits.specs.Chosen.{Choosing, first_planning, laying_task, cut_choice, all_choice, choices_by, cut_refuses, pack_refuses}
+use Rattle.cut_edits.specs.Chosen.{all_choice, choices_by, Choosing, cut_choice, cut_refuses}
+use Rattle.cut_edits.specs.Chosen.{first_planning, laying_task, pack_refuses}
+use Rattle.cut_edits.specs.declared.choice.Choice.{Choice, TheVariants.{All, Between}}
 
+-- what a cut, or a packing, chooses
 abbrev pub choosing_by : Choice → Choosing
 choosing_by (Between from to) = cut_choice from.now to.now
 choosing_by All = all_choice
 
+-- which refusals it may give
 abbrev pub refused_by : Choice → Refusal → Bool
 refused_by (Between from to) = cut_refuses
 refused_by All = pack_refuses

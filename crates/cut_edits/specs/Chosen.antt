@@ -1,30 +1,20 @@
 -- A file of frames chosen from another, laid anew in slots: what is cut out, and what is packed.
-use Rattle.std.specs.Prelude.{◌≡◌, ◌⊎◌, ◌<◌, ◌≤◌, ℕ, nat_lt, nat_le, ◌&&◌, if◌then◌else◌, Bool, true, false, List, [], ◌∷◌, length, map, slice_range, replicate, Option, Some, None, Result, Ok, Err}
-use Rattle.frame_header.specs.Fields.{SlotFields, HeaderFields, ClassFields}
-use Rattle.frame_header.specs.Tables.{window_of}
-use Rattle.cue_sheet.specs.declared.place.Place.{Place}
-use Rattle.cue_sheet.specs.Places.{frame_at}
-use Rattle.slot_plan.specs.declared.needs.Need.{Need}
-use Rattle.slot_plan.specs.declared.needs.Placed.{Placed}
-use Rattle.slot_plan.specs.LeastPlan.{least_plan}
-use Rattle.laying.specs.Needs.{need_of}
-use Rattle.laying.specs.NeedsFit.{own_choice, any_choice}
-use Rattle.laying.specs.declared.selected.Selected.{Selected}
-use Rattle.laying.specs.Laid.{Laid, part_laid, file_laid, stream_laid, laid_in, IsWritable}
-use Rattle.laying.specs.Relaid.{Part}
-use Rattle.laying.specs.Written.{head_info}
-use Rattle.sync_survey.specs.Row.{Row}
-use Rattle.sync_survey.specs.declared.survey_fault.SurveyFault.{SurveyFault}
-use Rattle.sync_survey.specs.MainData.{StreamFrame}
-use Rattle.sync_survey.specs.Faults.{SurveyFields}
-use Rattle.sync_survey.specs.Survey.{survey_of, IsLaidOut}
+use Rattle.std.specs.Prelude.{Bool, Err, false, if◌then◌else◌, length, List, map, nat_le, nat_lt}
+use Rattle.std.specs.Prelude.{None, Ok, Option, replicate, Result, slice_range, Some, true, ℕ, []}
+use Rattle.std.specs.Prelude.{◌&&◌, ◌<◌, ◌∷◌, ◌≡◌, ◌≤◌, ◌⊎◌}
+use Rattle.commands.specs.{Command.Command, One.{file_task, Making, most_frames, one_command, Task}}
+use Rattle.commands.specs.{Refusing.{then_made, unless}, declared.fault.EditFault.EditFault}
+use Rattle.commands.specs.declared.fault.Refusal.{Refusal, TheVariants.Range}
+use Rattle.cue_sheet.specs.{Places.frame_at, declared.place.Place.Place}
 use Rattle.cut_edits.specs.declared.chosen.Chosen.{Chosen as CodeChosen}
-use Rattle.commands.specs.declared.fault.EditFault.{EditFault}
-use Rattle.commands.specs.declared.fault.Refusal.{Refusal}
-use Rattle.commands.specs.declared.fault.Refusal.TheVariants.{Range}
-use Rattle.commands.specs.Refusing.{unless, then_made}
-use Rattle.commands.specs.Command.{Command}
-use Rattle.commands.specs.One.{Making, most_frames, Task, file_task, one_command}
+use Rattle.frame_header.specs.{Fields.{ClassFields, HeaderFields, SlotFields}, Tables.window_of}
+use Rattle.laying.specs.Laid.{file_laid, IsWritable, Laid, laid_in, part_laid, stream_laid}
+use Rattle.laying.specs.{Needs.need_of, NeedsFit.{any_choice, own_choice}, Relaid.Part}
+use Rattle.laying.specs.{Written.head_info, declared.selected.Selected.Selected}
+use Rattle.slot_plan.specs.{LeastPlan.least_plan, declared.needs.{Need.Need, Placed.Placed}}
+use Rattle.sync_survey.specs.{Faults.SurveyFields, MainData.StreamFrame, Row.Row}
+use Rattle.sync_survey.specs.Survey.{IsLaidOut, survey_of}
+use Rattle.sync_survey.specs.declared.survey_fault.SurveyFault.{SurveyFault}
 
 -- ---- what is chosen
 
@@ -91,7 +81,8 @@ laid_by chosen placed = record {
 }
 
 -- these were made ready: the chosen frames in the slots of their plan, which can be written
-pub record IsSelected (choices : HeaderFields → List SlotFields) (chosen : Chosen) (s : SurveyFields) (selected : Selected) : Type 0 where
+pub record IsSelected (choices : HeaderFields → List SlotFields) (chosen : Chosen)
+    (s : SurveyFields) (selected : Selected) : Type 0 where
   pub laid : laid_in selected ≡ laid_by chosen (first_plan choices s.class (needs_of chosen s))
   pub writable : IsWritable s selected
 
@@ -99,9 +90,13 @@ pub record IsSelected (choices : HeaderFields → List SlotFields) (chosen : Cho
 abbrev pub laid_of : Chosen → SurveyFields → Laid
 laid_of chosen s = laid_by chosen (plan_of chosen s)
 
+-- the chosen frames as a part of their file
 abbrev pub part_of : Chosen → List ℕ → SurveyFields → Part
 part_of chosen file s = part_laid (laid_of chosen s) file s
 
+-- the file of the chosen frames in their own slots: the ID3v2 blocks before the first frame or the
+-- head; an Info frame by the header of the first chosen frame; the lead-in and the frames, with all
+-- main data laid into their slots; all other blocks in their order
 unfoldable pub chosen_file : Chosen → List ℕ → SurveyFields → List ℕ
 chosen_file chosen file s = file_laid (laid_of chosen s) file s
 
@@ -137,10 +132,12 @@ abbrev pub laying_with : Choosing → Planning → Making
 laying_with choose plan file s =
     then_made (laid_with choose plan file s) (λ laid. Ok (file_laid laid file s))
 
+-- the stream of what is laid; empty where nothing is
 abbrev pub stream_if : List ℕ → SurveyFields → Result Laid EditFault → List StreamFrame
 stream_if file s (Err fault) = []
 stream_if file s (Ok laid) = stream_laid laid file s
 
+-- that of a file with this survey; empty where it has a fault
 abbrev pub stream_by : Choosing → Planning → List ℕ → Result SurveyFields SurveyFault
     → List StreamFrame
 stream_by choose plan file (Err fault) = []
@@ -165,6 +162,8 @@ chosen_with quality extension from to frames =
       extension = extension;
     })
 
+-- the frames from one position to another; the Info frame has no quality, and its extension is all
+-- 0
 unfoldable pub cut_choice : Place → Place → Choosing
 cut_choice from to file s =
     chosen_with None (replicate 36 0)
@@ -177,11 +176,12 @@ all_choice file s =
     chosen_with (head_info file s.head).quality (head_info file s.head).extension
     0 (length s.frames) (length s.frames)
 
--- a cut may refuse its positions, and a packing nothing
+-- a cut may refuse its positions
 abbrev pub cut_refuses : Refusal → Bool
 cut_refuses (Range from to frames) = true
 cut_refuses _ = false
 
+-- a packing with the least slots refuses nothing
 abbrev pub pack_refuses : Refusal → Bool
 pack_refuses refusal = false
 
@@ -190,12 +190,14 @@ abbrev pub choices_by : Bool → HeaderFields → List SlotFields
 choices_by true = any_choice
 choices_by false = own_choice
 
+-- the input's frames between two positions are the output
 abbrev pub cut_command : Place → Place → Bool → List ℕ → List ℕ → Command
 cut_command from to least input output =
     one_command
     (laying_task (cut_choice from to) (first_planning (choices_by least)) cut_refuses input)
     output
 
+-- all frames of the input, in the least slots, are the output
 abbrev pub pack_command : List ℕ → List ℕ → Command
 pack_command input output =
     one_command (laying_task all_choice (first_planning any_choice) pack_refuses input) output

@@ -1,42 +1,32 @@
--- Exact pieces: the frames that a decoder needs for some samples of a file, laid anew after an Info frame by which players play exactly these.
-use Rattle.std.specs.Prelude.{ℕ, ◌+◌, ◌-◌, ◌<◌, ◌≤◌, ◌&&◌, nat_lt, nat_le, if◌then◌else◌, Bool, true, false, List, [], length, map, slice_get, slice_range, Option, Some, None, option_and_then, Result, Ok, Err}
-use Rattle.frame_header.specs.Fields.{ClassFields}
-use Rattle.frame_header.specs.Tables.{window_of}
-use Rattle.info_header.specs.declared.fields.Info.{Info}
-use Rattle.exact_span.specs.declared.exact_place.ExactPlace.{ExactPlace}
-use Rattle.exact_span.specs.declared.played.Played.{Played}
-use Rattle.exact_span.specs.declared.span.Span.{Span}
-use Rattle.exact_span.specs.Places.{sample_at}
-use Rattle.exact_span.specs.PlayedPositions.{played_of, length_of_played}
-use Rattle.exact_span.specs.Spans.{span_of, delay_of, padding_of, IsSpan}
-use Rattle.exact_span.specs.Extensions.{extension_of}
-use Rattle.exact_span.specs.TagWord.{sealed_info}
-use Rattle.slot_plan.specs.declared.needs.Need.{Need}
-use Rattle.slot_plan.specs.declared.needs.Placed.{Placed}
-use Rattle.slot_plan.specs.LeastPlan.{led_plan}
-use Rattle.laying.specs.Needs.{need_of}
-use Rattle.laying.specs.NeedsFit.{own_choice}
-use Rattle.laying.specs.Laid.{Laid, file_laid, stream_laid, info_laid}
-use Rattle.laying.specs.KeptFields.{fields_of_head}
-use Rattle.sync_survey.specs.Row.{Row}
-use Rattle.sync_survey.specs.declared.survey_fault.SurveyFault.{SurveyFault}
-use Rattle.sync_survey.specs.MainData.{StreamFrame}
-use Rattle.sync_survey.specs.HeadApart.{head_apart, emptied}
-use Rattle.sync_survey.specs.Faults.{SurveyFields}
-use Rattle.sync_survey.specs.Survey.{survey_of}
-use Rattle.commands.specs.declared.fault.EditFault.{EditFault}
-use Rattle.commands.specs.declared.fault.Refusal.{Refusal}
-use Rattle.commands.specs.declared.fault.Refusal.TheVariants.{Span as NoSpan}
-use Rattle.commands.specs.Refusing.{unless, then_made}
-use Rattle.commands.specs.Command.{Command}
-use Rattle.commands.specs.One.{Making, most_frames, Task, file_task, one_command}
+-- Exact pieces: the frames that a decoder needs for some samples of a
+-- file, laid anew after an Info frame by which players play exactly these.
+use Rattle.std.specs.Prelude.{Bool, Err, false, if◌then◌else◌, length, List, map, nat_le, nat_lt}
+use Rattle.std.specs.Prelude.{None, Ok, Option, option_and_then, Result, slice_get, slice_range}
+use Rattle.std.specs.Prelude.{Some, true, ℕ, [], ◌&&◌, ◌+◌, ◌-◌, ◌<◌, ◌≤◌}
+use Rattle.commands.specs.{Command.Command, One.{file_task, Making, most_frames, one_command, Task}}
+use Rattle.commands.specs.{Refusing.{then_made, unless}, declared.fault.EditFault.EditFault}
+use Rattle.commands.specs.declared.fault.Refusal.{Refusal, TheVariants.Span as NoSpan}
 use Rattle.cut_edits.specs.Chosen.{first_plan}
+use Rattle.exact_span.specs.{Extensions.extension_of, Places.sample_at}
+use Rattle.exact_span.specs.PlayedPositions.{length_of_played, played_of}
+use Rattle.exact_span.specs.{Spans.{delay_of, IsSpan, padding_of, span_of}, TagWord.sealed_info}
+use Rattle.exact_span.specs.declared.{exact_place.ExactPlace.ExactPlace, played.Played.Played}
+use Rattle.exact_span.specs.declared.span.Span.{Span}
+use Rattle.frame_header.specs.{Fields.ClassFields, Tables.window_of}
+use Rattle.info_header.specs.declared.fields.Info.{Info}
+use Rattle.laying.specs.{KeptFields.fields_of_head, Laid.{file_laid, info_laid, Laid, stream_laid}}
+use Rattle.laying.specs.{Needs.need_of, NeedsFit.own_choice}
+use Rattle.slot_plan.specs.{LeastPlan.led_plan, declared.needs.{Need.Need, Placed.Placed}}
+use Rattle.sync_survey.specs.{Faults.SurveyFields, HeadApart.{emptied, head_apart}}
+use Rattle.sync_survey.specs.{MainData.StreamFrame, Row.Row, Survey.survey_of}
+use Rattle.sync_survey.specs.declared.survey_fault.SurveyFault.{SurveyFault}
 
 -- ---- which samples
 
 -- there is no sample from the first number on and before the second, or not all of them are played
 abbrev pub samples_fault : ℕ → ℕ → ℕ → Option Refusal
-samples_fault a b samples = if nat_lt a b && nat_le b samples then None else Some (NoSpan a b samples)
+samples_fault a b samples =
+    if nat_lt a b && nat_le b samples then None else Some (NoSpan a b samples)
 
 -- the span of the samples from one place to another, where these positions are played
 abbrev pub span_between : ClassFields → Played → ExactPlace → ExactPlace → Result Span EditFault
@@ -47,7 +37,8 @@ span_between class played from to =
     unless (samples_fault a b samples) (span_of class (played.start + a) (played.start + b))
 
 -- that of a file with this head and this survey
-unfoldable pub span_in : ExactPlace → ExactPlace → Option Info → SurveyFields → Result Span EditFault
+unfoldable pub span_in : ExactPlace → ExactPlace → Option Info → SurveyFields
+    → Result Span EditFault
 span_in from to head s = span_between s.class (played_of head s.class (length s.frames)) from to
 
 -- its frames are there
@@ -58,7 +49,8 @@ pub record IsSpanIn (s : SurveyFields) (span : Span) : Type 0 where
 
 -- ---- the stream whose head is set apart
 
--- The head's area isn't main data here, since players leave the head out: a frame whose main data begin in it is lost too, if every frame before
+-- The head's area isn't main data here, since players leave the head out:
+-- a frame whose main data begin in it is lost too, if every frame before
 -- it is silent or lost. Lost frames are as they are written, empty ones.
 abbrev pub apart : SurveyFields → SurveyFields
 apart s = emptied (head_apart s)
@@ -69,10 +61,11 @@ apart s = emptied (head_apart s)
 abbrev pub needs_in : Span → SurveyFields → List Need
 needs_in span s = map need_of (slice_range s.frames span.first span.last)
 
--- In their own slots: of all lists the first for which there is a layout. A lead-in is before them where the span has to have one, and else only
--- where there is no layout without.
+-- In their own slots: of all lists the first for which there is a layout. A lead-in is before
+-- them where the span has to have one, and else only where there is no layout without.
 abbrev pub plan_with : Bool → ClassFields → List Need → List Placed
-plan_with led class needs = if led then led_plan (window_of class.version) own_choice needs else first_plan own_choice class needs
+plan_with led class needs = if led then led_plan (window_of class.version) own_choice needs
+    else first_plan own_choice class needs
 
 -- how many lead-ins are among these slots
 abbrev pub leads_in : Span → List Placed → ℕ
@@ -84,19 +77,29 @@ quality_of head = option_and_then (λ (info : Info). info.quality) head
 
 -- the extension for the Info frame: that of the head with the delay and the padding of the span
 abbrev pub numbered : Option Info → ClassFields → Span → List Placed → List ℕ
-numbered head class span placed = extension_of head (delay_of class (leads_in span placed) span) (padding_of span)
+numbered head class span placed =
+    extension_of head (delay_of class (leads_in span placed) span) (padding_of span)
 
 -- the frames of a span in their slots, and the fields for their Info frame
 abbrev pub laid_span : Option Info → Span → SurveyFields → Laid
 laid_span head span s =
     let placed = plan_with span.led s.class (needs_in span s) in
-    record { from = span.first; to = span.last; placed = placed; quality = quality_of head; extension = numbered head s.class span placed }
+    record {
+      from = span.first;
+      to = span.last;
+      placed = placed;
+      quality = quality_of head;
+      extension =
+          numbered head s.class span placed;
+    }
 
 -- the same with music length and tag CRC in the extension, by the header of the first chosen frame
 abbrev pub sealed_from : Option Row → Laid → List ℕ → SurveyFields → Laid
 sealed_from None laid file s = laid
-sealed_from (Some first) laid file s = record laid { extension = (sealed_info first.header (info_laid laid file s)).extension }
+sealed_from (Some first) laid file s =
+    record laid { extension = (sealed_info first.header (info_laid laid file s)).extension }
 
+-- the same of what is laid of a file
 abbrev pub sealed_laid : Laid → List ℕ → SurveyFields → Laid
 sealed_laid laid file s = sealed_from (slice_get s.frames laid.from) laid file s
 
@@ -114,17 +117,22 @@ exact_laid from to file s =
 
 -- the file of it
 abbrev pub exact_making : ExactPlace → ExactPlace → Making
-exact_making from to file s = then_made (exact_laid from to file s) (λ laid. Ok (file_laid laid file (apart s)))
+exact_making from to file s =
+    then_made (exact_laid from to file s) (λ laid. Ok (file_laid laid file (apart s)))
 
--- its stream: at most one lead-in, and the frames of the span as they are in the stream whose head is set apart
+-- its stream: at most one lead-in, and the frames of the
+-- span as they are in the stream whose head is set apart
 abbrev pub stream_if : List ℕ → SurveyFields → Result Laid EditFault → List StreamFrame
 stream_if file s (Err fault) = []
 stream_if file s (Ok laid) = stream_laid laid file (apart s)
 
-abbrev pub stream_by : ExactPlace → ExactPlace → List ℕ → Result SurveyFields SurveyFault → List StreamFrame
+-- that of a file with this survey; empty where it has a fault
+abbrev pub stream_by : ExactPlace → ExactPlace → List ℕ → Result SurveyFields SurveyFault
+    → List StreamFrame
 stream_by from to file (Err fault) = []
 stream_by from to file (Ok s) = stream_if file s (exact_laid from to file s)
 
+-- that of a file; empty where it is refused
 abbrev pub exact_stream : ExactPlace → ExactPlace → List ℕ → List StreamFrame
 exact_stream from to file = stream_by from to file (survey_of file most_frames)
 
@@ -133,8 +141,11 @@ abbrev pub exact_refuses : Refusal → Bool
 exact_refuses (NoSpan a b samples) = true
 exact_refuses _ = false
 
+-- what is made is the piece
 abbrev pub exact_task : ExactPlace → ExactPlace → List ℕ → Task
-exact_task from to input = file_task (exact_making from to) (exact_stream from to) exact_refuses input
+exact_task from to input =
+    file_task (exact_making from to) (exact_stream from to) exact_refuses input
 
+-- the piece of the input between two places is the output
 abbrev pub exact_command : ExactPlace → ExactPlace → List ℕ → List ℕ → Command
 exact_command from to input output = one_command (exact_task from to input) output

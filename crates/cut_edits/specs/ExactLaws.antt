@@ -1,25 +1,23 @@
 -- What holds of exact pieces, whatever the code.
-use Rattle.std.specs.Prelude.{◌≡◌, ℕ, ◌+◌, ◌-◌, List, length, Option, Some, Ok}
+use Rattle.std.specs.Prelude.{length, List, Ok, Option, Some, ℕ, ◌+◌, ◌-◌, ◌≡◌}
+use Rattle.cut_edits.specs.Exact.{apart, leads_in, piece_of, span_in}
+use Rattle.exact_span.specs.{Laws.{IsHeadOf, KeepsPlaces}, Places.sample_at}
+use Rattle.exact_span.specs.{PlayedPositions.{length_of_played, played_of}, Spans.AreLeads}
+use Rattle.exact_span.specs.declared.{exact_place.ExactPlace.ExactPlace, span.Span.Span}
 use Rattle.info_header.specs.declared.fields.Info.{Info}
-use Rattle.exact_span.specs.declared.exact_place.ExactPlace.{ExactPlace}
-use Rattle.exact_span.specs.declared.span.Span.{Span}
-use Rattle.exact_span.specs.Places.{sample_at}
-use Rattle.exact_span.specs.PlayedPositions.{played_of, length_of_played}
-use Rattle.exact_span.specs.Spans.{AreLeads}
-use Rattle.exact_span.specs.Laws.{IsHeadOf, KeepsPlaces}
-use Rattle.laying.specs.KeptFields.{fields_of_head}
-use Rattle.laying.specs.Laid.{info_laid}
-use Rattle.laying.specs.Surveys.{HasSurvey}
+use Rattle.laying.specs.{KeptFields.fields_of_head, Laid.info_laid, Surveys.HasSurvey}
 use Rattle.sync_survey.specs.Faults.{SurveyFields}
-use Rattle.cut_edits.specs.Exact.{apart, span_in, leads_in, piece_of}
 
--- With so many lead-ins the frames of the span, after a head with these fields, play as many samples as there are from a to before b in the
--- file with this head: the head says how many frames they are, and the delay and the padding of the span; and sample k of them is at the offset in
--- its frame at which sample a + k of the file is in the same frame.
-pub record PlaysItsSamples (input : Option Info) (s : SurveyFields) (a b : ℕ) (span : Span) (many : ℕ) (fields : Info) : Type 0 where
+-- With so many lead-ins the frames of the span, after a head with these fields, play as
+-- many samples as there are from a to before b in the file with this head: the head says
+-- how many frames they are, and the delay and the padding of the span; and sample k of them
+-- is at the offset in its frame at which sample a + k of the file is in the same frame.
+pub record PlaysItsSamples (input : Option Info) (s : SurveyFields) (a b : ℕ) (span : Span)
+    (many : ℕ) (fields : Info) : Type 0 where
   pub leads : AreLeads span many
   pub head : IsHeadOf s.class many span fields
-  pub places : KeepsPlaces s.class many span.first a b (played_of (Some fields) s.class (many + (span.last - span.first))) (played_of input s.class (length s.frames))
+  pub places : KeepsPlaces s.class many span.first a b (played_of (Some fields)
+      s.class (many + (span.last - span.first))) (played_of input s.class (length s.frames))
 
 -- so it is with the Info frame of every exact piece
 abbrev pub PiecesPlayTheirSamples : Type 0
@@ -29,4 +27,5 @@ PiecesPlayTheirSamples =
     let samples = length_of_played (played_of head s.class (length s.frames)) in
     let piece = piece_of head span file (apart s) in
     HasSurvey file s → span_in from to head s ≡ Ok span
-    → PlaysItsSamples head s (sample_at s.class samples from) (sample_at s.class samples to) span (leads_in span piece.placed) (info_laid piece file (apart s))
+    → PlaysItsSamples head s (sample_at s.class samples from) (sample_at s.class samples to) span
+    (leads_in span piece.placed) (info_laid piece file (apart s))

@@ -1,12 +1,10 @@
 -- The head of an input that can't be read.
-use Rattle.std.specs.Prelude.{◌≡◌, ◌≢◌, List, ℕ}
+use Rattle.std.specs.Prelude.{List, ℕ, ◌≡◌, ◌≢◌}
+use Rattle.commands.specs.{Kinds.HasRightNumbers, Left.{by_why, never, why_of}}
+use Rattle.commands.specs.{One.{LosesInput, ReadsNothing}, declared.fault.EditFault.EditFault}
+use Rattle.commands.specs.declared.fault.EditFault.TheVariants.{Input}
 use Rattle.outside.specs.Seen.{Seen}
 use Rattle.sync_survey.specs.declared.survey_fault.SurveyFault.TheVariants.{Memory as NoRoom}
-use Rattle.commands.specs.declared.fault.EditFault.{EditFault}
-use Rattle.commands.specs.declared.fault.EditFault.TheVariants.{Input}
-use Rattle.commands.specs.Kinds.{HasRightNumbers}
-use Rattle.commands.specs.Left.{by_why, never, why_of}
-use Rattle.commands.specs.One.{ReadsNothing, LosesInput}
 
 -- the head of this input could not be read
 abbrev pub IsHeadFault : List ℕ → Seen → Seen → EditFault → Type 0

@@ -1,14 +1,10 @@
 -- What is made ready for the pass that lays chosen frames again, and the file that is written.
-use Rattle.std.specs.Prelude.{◌≡◌, ℕ, List, []}
-use Rattle.outside.specs.Files.{Files, Holds, IsThere}
-use Rattle.outside.specs.Feed.{IsFedFrom}
-use Rattle.laying.specs.declared.selected.Selected.{Selected}
-use Rattle.laying.specs.Surveys.{HasSurvey}
-use Rattle.laying.specs.Laid.{laid_in, file_laid, IsWritable}
-use Rattle.sync_survey.specs.declared.surveys.Survey.{Survey}
-use Rattle.sync_survey.specs.Faults.{tells}
-use Rattle.sync_survey.specs.Survey.{IsLaidOut}
+use Rattle.std.specs.Prelude.{List, ℕ, [], ◌≡◌}
 use Rattle.cut_edits.specs.declared.work.Work.{Work}
+use Rattle.laying.specs.{Laid.{file_laid, IsWritable, laid_in}, Surveys.HasSurvey}
+use Rattle.laying.specs.declared.selected.Selected.{Selected}
+use Rattle.outside.specs.{Feed.IsFedFrom, Files.{Files, Holds, IsThere}}
+use Rattle.sync_survey.specs.{Faults.tells, Survey.IsLaidOut, declared.surveys.Survey.Survey}
 
 -- The work is that of this survey and these chosen frames with their plan; nothing is held of any
 -- file, and nothing waits.

@@ -1,23 +1,23 @@
--- The side information that was drawn: each field is within its bits, and the main data fit into the room that there is for them.
-use Rattle.std.proofs.Common.{◌≡◌, ℕ, ◌+◌, ◌*◌, ◌%◌, ◌<◌, ◌≤◌, List, [], ◌∷◌, map, refl, arith, lit<}
-use Rattle.std.proofs.lemmas.Nat.{mod_below}
-use Rattle.frame_header.specs.declared.version.Version.TheVariants.{One}
-use Rattle.frame_header.specs.Tables.{class_of}
-use Rattle.side_info.specs.declared.side.Side.{Side}
-use Rattle.side_info.specs.Granule.{GranuleFits}
-use Rattle.side_info.specs.Side.{SideFits, payload_bits}
-use Rattle.side_info.proofs.SideLaws.{SideFits-from_parts}
+-- The side information that was drawn: each field is within its
+-- bits, and the main data fit into the room that there is for them.
+use Rattle.std.proofs.Common.{arith, List, lit<, map, refl, ℕ, [], ◌%◌, ◌*◌, ◌+◌, ◌<◌, ◌∷◌, ◌≡◌}
+use Rattle.std.proofs.{Common.◌≤◌, lemmas.Nat.mod_below}
+use Rattle.drill.specs.Draws.{draws, state_behind}
+use Rattle.drill.specs.Drill.{drawn_side, drill_header, granule_with, room_of, side_with}
+use Rattle.frame_header.specs.{Tables.class_of, declared.version.Version.TheVariants.One}
 use Rattle.laying.specs.LaidFiles.{HasPairs}
-use Rattle.drill.specs.Draws.{drawn, state_behind, draws}
-use Rattle.drill.specs.Drill.{drill_header, room_of, granule_with, side_with, drawn_side}
+use Rattle.side_info.{proofs.SideLaws.SideFits-from_parts, specs.Granule.GranuleFits}
+use Rattle.side_info.specs.{Side.{payload_bits, SideFits}, declared.side.Side.Side}
 
+-- four draws and four more are eight
 pub behind-twice : (state : ℕ) → state_behind 4 (state_behind 4 state) ≡ state_behind 8 state
 unfolding state_behind
 behind-twice state = refl
 
 -- ---- with any draws
 
-granule-fits : (bit_count gain : ℕ) → bit_count < 4096 → gain < 256 → GranuleFits One (granule_with bit_count gain)
+granule-fits : (bit_count gain : ℕ) → bit_count < 4096 → gain < 256
+    → GranuleFits One (granule_with bit_count gain)
 granule-fits bit_count gain few low = record {
   part2_3_length = few;
   big_values = lit< tt;
@@ -38,42 +38,59 @@ length-most begin draw = omega (arith, mod_below draw (2 * room_of begin + 1) (o
 
 -- the side information with these draws
 abbrev side_by : ℕ → List ℕ → List ℕ → Side
-side_by begin ds es = side_with begin (map (λ draw. draw % (2 * room_of begin + 1)) ds) (map (λ draw. 100 + draw % 100) es)
+side_by begin ds es = side_with begin (map (λ draw. draw % (2 * room_of begin + 1)) ds)
+    (map (λ draw. 100 + draw % 100) es)
 
-by-fits : (begin a b c d e f g h : ℕ) → begin ≤ 511 → SideFits (class_of drill_header) (side_by begin (a ∷ b ∷ c ∷ d ∷ []) (e ∷ f ∷ g ∷ h ∷ []))
+by-fits : (begin a b c d e f g h : ℕ) → begin ≤ 511
+    → SideFits (class_of drill_header) (side_by begin (a ∷ b ∷ c ∷ d ∷ []) (e ∷ f ∷ g ∷ h ∷ []))
 by-fits begin a b c d e f g h few =
-    SideFits-from_parts (class_of drill_header) (side_by begin (a ∷ b ∷ c ∷ d ∷ []) (e ∷ f ∷ g ∷ h ∷ []))
+    SideFits-from_parts (class_of drill_header)
+    (side_by begin (a ∷ b ∷ c ∷ d ∷ []) (e ∷ f ∷ g ∷ h ∷ []))
     (record { scfsi = refl; granules = refl; first = refl; second = refl })
-    (omega (arith, few), lit< tt, lit< tt, lit< tt)
-    (granule-fits _ _ (length-few begin a few) (gain-few e), granule-fits _ _ (length-few begin b few) (gain-few f))
-    (granule-fits _ _ (length-few begin c few) (gain-few g), granule-fits _ _ (length-few begin d few) (gain-few h))
+    (omega (arith, few), lit< tt, lit< tt, lit< tt) (
+      granule-fits _ _ (length-few begin a few) (gain-few e),
+      granule-fits _ _ (length-few begin b few) (gain-few f),
+    ) (
+      granule-fits _ _ (length-few begin c few) (gain-few g),
+      granule-fits _ _ (length-few begin d few) (gain-few h),
+    )
 
-by-room : (begin a b c d e f g h : ℕ) → payload_bits (side_by begin (a ∷ b ∷ c ∷ d ∷ []) (e ∷ f ∷ g ∷ h ∷ [])) ≤ 8 * room_of begin
+by-room : (begin a b c d e f g h : ℕ)
+    → payload_bits (side_by begin (a ∷ b ∷ c ∷ d ∷ []) (e ∷ f ∷ g ∷ h ∷ [])) ≤ 8 * room_of begin
 unfolding payload_bits
-by-room begin a b c d e f g h = omega (arith, length-most begin a, length-most begin b, length-most begin c, length-most begin d)
+by-room begin a b c d e f g h = omega
+    (arith, length-most begin a, length-most begin b, length-most begin c, length-most begin d)
 
-by-pairs : (begin a b c d e f g h : ℕ) → HasPairs (side_by begin (a ∷ b ∷ c ∷ d ∷ []) (e ∷ f ∷ g ∷ h ∷ []))
-by-pairs begin a b c d e f g h = record { scfsi = refl; granules = refl; first = refl; second = refl }
+by-pairs : (begin a b c d e f g h : ℕ)
+    → HasPairs (side_by begin (a ∷ b ∷ c ∷ d ∷ []) (e ∷ f ∷ g ∷ h ∷ []))
+by-pairs begin a b c d e f g h =
+    record { scfsi = refl; granules = refl; first = refl; second = refl }
 
 -- ---- with those of the generator
 
+-- the drawn side information has pairs of granules and channels
 pub drawn_side-pairs : (begin state : ℕ) → HasPairs (drawn_side begin state)
 unfolding drawn_side draws
 drawn_side-pairs begin state = by-pairs begin _ _ _ _ _ _ _ _
 
-pub drawn_side-fits : (begin state : ℕ) → begin ≤ 511 → SideFits (class_of drill_header) (drawn_side begin state)
+-- its fields are within their bits
+pub drawn_side-fits : (begin state : ℕ) → begin ≤ 511
+    → SideFits (class_of drill_header) (drawn_side begin state)
 unfolding drawn_side draws
 drawn_side-fits begin state few = by-fits begin _ _ _ _ _ _ _ _ few
 
+-- its main data fit into the room
 pub drawn_side-room : (begin state : ℕ) → payload_bits (drawn_side begin state) ≤ 8 * room_of begin
 unfolding drawn_side draws
 drawn_side-room begin state = by-room begin _ _ _ _ _ _ _ _
 
+-- its main_data_begin is the one that was given
 pub drawn_side-begin : (begin state : ℕ) → (drawn_side begin state).main_data_begin ≡ begin
 unfolding drawn_side
 drawn_side-begin begin state = refl
 
--- the code's draws, in two arrays of four
-pub side-drawn : (begin state : ℕ) (ls gs : List ℕ) → ls ≡ draws 4 state → gs ≡ draws 4 (state_behind 4 state) → side_by begin ls gs ≡ drawn_side begin state
+-- the code's draws, in two arrays of four, make the drawn side information
+pub side-drawn : (begin state : ℕ) (ls gs : List ℕ) → ls ≡ draws 4 state
+    → gs ≡ draws 4 (state_behind 4 state) → side_by begin ls gs ≡ drawn_side begin state
 unfolding drawn_side
 side-drawn begin state ls gs is are = λ i. side_by begin (is i) (are i)

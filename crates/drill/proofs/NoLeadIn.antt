@@ -1,24 +1,21 @@
 -- The frames of a stream have a layout without a lead-in: that in which they were drawn.
-use Rattle.std.proofs.Common.{◌≡◌, ℕ, zero, suc, ◌+◌, false, List, [], ◌∷◌, length, map, Option, Some, None, refl, sym, ◌∙◌, ap, subst, arith, append-nil, Contains}
+use Rattle.std.proofs.Common.{ap, append-nil, arith, Contains, false, length, List, map, None}
+use Rattle.std.proofs.Common.{Option, refl, Some, subst, suc, sym, zero, ℕ, [], ◌+◌, ◌∙◌, ◌∷◌, ◌≡◌}
+use Rattle.std.proofs.{Math.Path.transport, lemmas.List.Elements.{All-cons, All-nil}}
 use Rattle.std.specs.List.{All}
-use Rattle.std.proofs.Math.Path.{transport}
-use Rattle.std.proofs.lemmas.List.Elements.{All-nil, All-cons}
-use Rattle.frame_header.specs.Fields.{HeaderFields, SlotFields}
-use Rattle.frame_header.specs.Tables.{class_of}
-use Rattle.side_info.specs.Side.{payload_bytes}
-use Rattle.laying.specs.LaidFiles.{frame_length, rows_from}
-use Rattle.slot_plan.specs.declared.needs.Need.{Need}
-use Rattle.slot_plan.specs.declared.needs.Placed.{Placed}
-use Rattle.slot_plan.specs.Layouts.{IsLayout, IsFeasible}
-use Rattle.slot_plan.specs.Lists.{Open, AreChosen, frames_of, CanBeLaid}
-use Rattle.slot_plan.specs.Parts.{Item, areas_for, open_of, item_of, items_of, IsLeadIn, AreLeadIns, whole_of}
-use Rattle.slot_plan.specs.Plans.{AreFor, IsPlan}
-use Rattle.slot_plan.proofs.AreaLaws.{Contains-area}
-use Rattle.laying.specs.Needs.{need_of}
-use Rattle.drill.specs.Drill.{drill_header, drawn_side, drawn_bits, area_start, data_start, data_begin, before_frame, frame_at, drill_frames}
+use Rattle.drill.proofs.DrillLaws.{bytes-is, ended-next, first-begin, from_on}
+use Rattle.drill.proofs.MakingLaws.{area-is, before-ended, length-payload, payload-within}
+use Rattle.drill.specs.Drill.{area_start, before_frame, data_begin, data_start, drawn_bits}
+use Rattle.drill.specs.Drill.{drawn_side, drill_frames, drill_header, frame_at}
 use Rattle.drill.specs.StreamLaws.{drill_needs, StreamsNeedNoLeadIn}
-use Rattle.drill.proofs.MakingLaws.{area-is, length-payload, payload-within, before-ended}
-use Rattle.drill.proofs.DrillLaws.{from_on, bytes-is, ended-next, first-begin}
+use Rattle.frame_header.specs.{Fields.{HeaderFields, SlotFields}, Tables.class_of}
+use Rattle.laying.specs.{LaidFiles.{frame_length, rows_from}, Needs.need_of}
+use Rattle.side_info.specs.Side.{payload_bytes}
+use Rattle.slot_plan.{proofs.AreaLaws.Contains-area, specs.Layouts.{IsFeasible, IsLayout}}
+use Rattle.slot_plan.specs.Lists.{AreChosen, CanBeLaid, frames_of, Open}
+use Rattle.slot_plan.specs.Parts.{areas_for, AreLeadIns, IsLeadIn, Item, item_of, items_of, open_of}
+use Rattle.slot_plan.specs.{Parts.whole_of, Plans.{AreFor, IsPlan}, declared.needs.Need.Need}
+use Rattle.slot_plan.specs.declared.needs.Placed.{Placed}
 
 -- the needs of the frames from one on, wherever they are
 abbrev needs_on : ℕ → ℕ → ℕ → ℕ → List Need
@@ -35,24 +32,30 @@ areas_on zero = []
 areas_on (suc count) = 381 ∷ areas_on count
 
 -- the bytes that a frame needs are those of its main data
-need-bytes : (seed i : ℕ) → payload_bytes (drawn_side (data_begin i (before_frame seed i)) (before_frame seed i).state) ≡ length (frame_at seed i).payload
+need-bytes : (seed i : ℕ)
+    → payload_bytes (drawn_side (data_begin i (before_frame seed i)) (before_frame seed i).state)
+    ≡ length (frame_at seed i).payload
 need-bytes seed i =
     let b = before_frame seed i in
     bytes-is (data_begin i b) b.state ∙ sym (length-payload (drawn_bits (data_begin i b) b.state) _)
 
-module _ (choices : HeaderFields → List SlotFields) (own : Contains (choices drill_header) drill_header.slot) where
+module _ (choices : HeaderFields → List SlotFields)
+    (own : Contains (choices drill_header) drill_header.slot) where
   abbrev opens : List Need → List Open
   opens needs = map open_of (map (item_of choices) needs)
 
   own-area : Contains (areas_for choices drill_header) 381
-  own-area = subst (Contains (areas_for choices drill_header)) area-is (Contains-area (class_of drill_header) false (choices drill_header) drill_header.slot own)
+  own-area = subst (Contains (areas_for choices drill_header)) area-is
+      (Contains-area (class_of drill_header) false (choices drill_header) drill_header.slot own)
 
   chosen : (seed at i count : ℕ) → AreChosen (opens (needs_on seed at i count)) (areas_on count)
   unfolding AreChosen
   chosen seed at i zero = tt
-  chosen seed at i (suc count) = (own-area, chosen seed (at + frame_length (frame_at seed i)) (i + 1) count)
+  chosen seed at i (suc count) =
+      (own-area, chosen seed (at + frame_length (frame_at seed i)) (i + 1) count)
 
-  layout : (seed at i count : ℕ) → IsLayout 511 (before_frame seed i).ended (area_start i) (frames_of (opens (needs_on seed at i count)) (areas_on count)) (starts_on seed i count)
+  layout : (seed at i count : ℕ) → IsLayout 511 (before_frame seed i).ended (area_start i)
+      (frames_of (opens (needs_on seed at i count)) (areas_on count)) (starts_on seed i count)
   unfolding IsLayout frames_of
   layout seed at i zero = tt
   layout seed at i (suc count) =
@@ -61,23 +64,37 @@ module _ (choices : HeaderFields → List SlotFields) (own : Contains (choices d
       let bytes = need-bytes seed i in
       let one : suc i ≡ i + 1 = omega arith in
       let later = at + frame_length (frame_at seed i) in
-      let next : (before_frame seed (suc i)).ended ≡ data_start i b + payload_bytes (drawn_side (data_begin i b) b.state) = omega (arith, ended-next seed i, bytes) in
+      let next : (before_frame seed (suc i)).ended
+      ≡ data_start i b + payload_bytes (drawn_side (data_begin i b) b.state) =
+      omega (arith, ended-next seed i, bytes) in
       let place : area_start (suc i) ≡ area_start i + 381 = omega arith in (
         omega arith,
         omega arith,
         omega (arith, ended),
         omega (arith, ended, bytes, payload-within (data_begin i b) b.state),
-        transport (λ j. IsLayout 511 (next j) (place j) (frames_of (opens (needs_on seed later (one j) count)) (areas_on count)) (starts_on seed (one j) count)) (layout seed later (suc i) count),
+        transport (λ j. IsLayout 511 (next j) (place j)
+            (frames_of (opens (needs_on seed later (one j) count)) (areas_on count))
+            (starts_on seed (one j) count)) (layout seed later (suc i) count),
       )
 
   -- the layout is one of all lists of areas
-  can-be : (seed count : ℕ) → CanBeLaid 511 (map open_of (items_of choices (drill_needs seed count) None))
+  can-be : (seed count : ℕ)
+      → CanBeLaid 511 (map open_of (items_of choices (drill_needs seed count) None))
   unfolding CanBeLaid IsFeasible items_of drill_frames
-  can-be seed count =
-      (areas_on count, chosen seed 0 0 count, (starts_on seed 0 count, subst (λ n. IsLayout 511 n 0 (frames_of (opens (needs_on seed 0 0 count)) (areas_on count)) (starts_on seed 0 count)) (first-begin seed) (layout seed 0 0 count)))
+  can-be seed count = (
+    areas_on count,
+    chosen seed 0 0 count,
+    (
+      starts_on seed 0 count,
+      subst (λ n. IsLayout 511 n 0 (frames_of (opens (needs_on seed 0 0 count)) (areas_on
+          count)) (starts_on seed 0 count)) (first-begin seed) (layout seed 0 0 count),
+    ),
+  )
 
   -- so there is no lead-in
-  none-alone : (part : List Need) (lead_ins : List (Option SlotFields)) → CanBeLaid 511 (map open_of (items_of choices part None)) → AreLeadIns 511 choices (part ∷ []) lead_ins → lead_ins ≡ None ∷ []
+  none-alone : (part : List Need) (lead_ins : List (Option SlotFields))
+      → CanBeLaid 511 (map open_of (items_of choices part None))
+      → AreLeadIns 511 choices (part ∷ []) lead_ins → lead_ins ≡ None ∷ []
   unfolding AreLeadIns IsLeadIn
   none-alone part [] laid are = absurd are
   none-alone part (None ∷ []) laid are = refl
@@ -85,22 +102,31 @@ module _ (choices : HeaderFields → List SlotFields) (own : Contains (choices d
   none-alone [] (Some slot ∷ lead_ins) laid are = absurd are.0
   none-alone (first ∷ part) (Some slot ∷ lead_ins) laid are = absurd (are.0.0 laid)
 
-  none-placed : (needs : List Need) (placed : List Placed) → AreFor (map (item_of choices) needs) placed → All (λ p. p.lead_in ≡ false) placed
+  none-placed : (needs : List Need) (placed : List Placed)
+      → AreFor (map (item_of choices) needs) placed → All (λ p. p.lead_in ≡ false) placed
   unfolding AreFor
   none-placed [] [] are = All-nil (λ p. p.lead_in ≡ false)
-  none-placed (need ∷ needs) (p ∷ placed) are = All-cons (λ q. q.lead_in ≡ false) p placed are.0 (none-placed needs placed are.2)
+  none-placed (need ∷ needs) (p ∷ placed) are =
+      All-cons (λ q. q.lead_in ≡ false) p placed are.0 (none-placed needs placed are.2)
   none-placed _ _ are = absurd are
 
-  items-alone : (part : List Need) → whole_of choices (part ∷ []) (None ∷ []) ≡ map (item_of choices) part
+  items-alone : (part : List Need)
+      → whole_of choices (part ∷ []) (None ∷ []) ≡ map (item_of choices) part
   unfolding whole_of items_of
   items-alone part = append-nil (map (item_of choices) part)
 
-  pub no-lead_in : (seed count : ℕ) (placed : List Placed) → IsPlan 511 choices (drill_needs seed count ∷ []) placed → All (λ p. p.lead_in ≡ false) placed
+  -- no place of its plan is a lead-in
+  pub no-lead_in : (seed count : ℕ) (placed : List Placed)
+      → IsPlan 511 choices (drill_needs seed count ∷ []) placed
+      → All (λ p. p.lead_in ≡ false) placed
   no-lead_in seed count placed plan =
       let part = drill_needs seed count in
       let alone = none-alone part plan.lead_ins (can-be seed count) plan.alone in
-      let items : whole_of choices (part ∷ []) plan.lead_ins ≡ map (item_of choices) part = ap (whole_of choices (part ∷ [])) alone ∙ items-alone part in
+      let items : whole_of choices (part ∷ []) plan.lead_ins ≡ map (item_of choices) part =
+      ap (whole_of choices (part ∷ [])) alone ∙ items-alone part in
       none-placed part placed (subst (λ (is : List Item). AreFor is placed) items plan.whole.slots)
 
+-- a drawn stream needs no lead-in
 pub streams-need_no_lead_in : StreamsNeedNoLeadIn
-streams-need_no_lead_in seed count choices placed own plan = no-lead_in choices own seed count placed plan
+streams-need_no_lead_in seed count choices placed own plan =
+    no-lead_in choices own seed count placed plan

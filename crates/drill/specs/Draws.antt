@@ -1,11 +1,12 @@
 -- Numbers that look as if drawn by chance, from a linear congruential generator modulo 2 ^ 31.
-use Rattle.std.specs.Prelude.{ℕ, zero, suc, ◌+◌, ◌*◌, ◌/◌, ◌%◌, List, [], ◌∷◌}
+use Rattle.std.specs.Prelude.{List, suc, zero, ℕ, [], ◌%◌, ◌*◌, ◌+◌, ◌/◌, ◌∷◌}
 
 -- the state after one draw
 abbrev pub next_state : ℕ → ℕ
 next_state state = (state * 1103515245 + 12345) % 2147483648
 
--- the number that was drawn when this state was reached: its bits except the lowest 16, from 0 to 32,767
+-- the number that was drawn when this state was reached:
+-- its bits except the lowest 16, from 0 to 32,767
 abbrev pub drawn : ℕ → ℕ
 drawn state = state / 65536
 

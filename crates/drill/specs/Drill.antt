@@ -1,17 +1,16 @@
--- A stream that is made from a number: frames whose main data are drawn from it and use the bit reservoir (main_data_begin, ISO/IEC
--- 11172-3, 2.4.2.7). All are of MPEG-1, 128 kbit/s at 44,100 Hz in two channels, so 417 bytes long with an own area of 381.
-use Rattle.std.specs.Prelude.{ℕ, zero, suc, ◌+◌, ◌-◌, ◌*◌, ◌/◌, ◌%◌, max, false, List, [], ◌∷◌, ◌++◌, length, take, map, slice_index}
+-- A stream that is made from a number: frames whose main data are drawn from it and use the bit
+-- reservoir (main_data_begin, ISO/IEC 11172-3, 2.4.2.7). The same number and count of frames give
+-- the same bytes. All are of MPEG-1, 128 kbit/s at 44,100 Hz in two channels, so 417 bytes long
+-- with an own area of 381.
 use Rattle.std.specs.List.{range_with_len}
+use Rattle.std.specs.Prelude.{false, length, List, map, max, slice_index, suc, take, zero, ℕ, []}
+use Rattle.std.specs.Prelude.{◌%◌, ◌*◌, ◌++◌, ◌+◌, ◌-◌, ◌/◌, ◌∷◌}
 use Rattle.bit_fields.specs.Bits.{bits, bytes}
-use Rattle.frame_header.specs.declared.version.Version.TheVariants.{One}
-use Rattle.frame_header.specs.Fields.{HeaderFields}
-use Rattle.side_info.specs.declared.granule.Granule.{Granule}
-use Rattle.side_info.specs.declared.side.Side.{Side}
-use Rattle.side_info.specs.Granule.{no_granule}
-use Rattle.side_info.specs.Side.{no_side, payload_bits}
-use Rattle.frame_writer.specs.Laid.{zeros}
-use Rattle.frame_writer.specs.Frames.{Frame, frame_bytes}
-use Rattle.drill.specs.Draws.{state_behind, draws}
+use Rattle.drill.specs.Draws.{draws, state_behind}
+use Rattle.frame_header.specs.{Fields.HeaderFields, declared.version.Version.TheVariants.One}
+use Rattle.frame_writer.specs.{Frames.{Frame, frame_bytes}, Laid.zeros}
+use Rattle.side_info.specs.{Granule.no_granule, Side.{no_side, payload_bits}}
+use Rattle.side_info.specs.declared.{granule.Granule.Granule, side.Side.Side}
 
 -- ---- one frame
 
@@ -30,11 +29,13 @@ drill_header = record {
   emphasis = 0;
 }
 
--- how many bytes there are for the main data of a frame: those of its own area, and those before it that its main_data_begin counts
+-- how many bytes there are for the main data of a frame: those of
+-- its own area, and those before it that its main_data_begin counts
 abbrev pub room_of : ℕ → ℕ
 room_of begin = 381 + begin
 
--- the part2_3_length of each granule and channel, at most twice the bytes of room: together they are at most as many bits as the room has
+-- the part2_3_length of each granule and channel, at most twice the
+-- bytes of room: together they are at most as many bits as the room has
 abbrev pub drawn_lengths : ℕ → ℕ → List ℕ
 drawn_lengths begin state = map (λ draw. draw % (2 * room_of begin + 1)) (draws 4 state)
 
@@ -42,19 +43,25 @@ drawn_lengths begin state = map (λ draw. draw % (2 * room_of begin + 1)) (draws
 abbrev pub drawn_gains : ℕ → List ℕ
 drawn_gains state = map (λ draw. 100 + draw % 100) (draws 4 (state_behind 4 state))
 
+-- a granule with this length and this gain, all other fields 0
 abbrev pub granule_with : ℕ → ℕ → Granule
 granule_with bit_count gain = record no_granule { part2_3_length = bit_count; global_gain = gain }
 
--- granule i of these, counted through the channels of the first and then through those of the second
+-- granule i of these, counted through the channels
+-- of the first and then through those of the second
 abbrev pub nth_drawn : List ℕ → List ℕ → ℕ → Granule
 nth_drawn lengths gains i = granule_with (slice_index lengths i) (slice_index gains i)
 
+-- the granules with these lengths and gains
 abbrev pub granules_with : List ℕ → List ℕ → List (List Granule)
 granules_with lengths gains =
-    (nth_drawn lengths gains 0 ∷ nth_drawn lengths gains 1 ∷ []) ∷ (nth_drawn lengths gains 2 ∷ nth_drawn lengths gains 3 ∷ []) ∷ []
+    (nth_drawn lengths gains 0 ∷ nth_drawn lengths gains 1 ∷ [])
+    ∷ (nth_drawn lengths gains 2 ∷ nth_drawn lengths gains 3 ∷ []) ∷ []
 
+-- side information with this main_data_begin and these granules, all other fields 0
 abbrev pub side_with : ℕ → List ℕ → List ℕ → Side
-side_with begin lengths gains = record no_side { main_data_begin = begin; granules = granules_with lengths gains }
+side_with begin lengths gains =
+    record no_side { main_data_begin = begin; granules = granules_with lengths gains }
 
 -- four draws are the lengths, four more the gains; all other fields except main_data_begin are 0
 unfoldable pub drawn_side : ℕ → ℕ → Side
@@ -68,7 +75,8 @@ drawn_bytes count state = map (λ draw. draw % 64) (draws count state)
 abbrev pub first_bits : ℕ → List ℕ → List ℕ
 first_bits count octets = bytes (take count (bits octets) ++ zeros (8 * length octets - count))
 
--- the main data, in as few bytes as hold so many bits: a draw for each byte, the unused low bits of the last one 0
+-- the main data, in as few bytes as hold so many bits: a
+-- draw for each byte, the unused low bits of the last one 0
 unfoldable pub drawn_payload : ℕ → ℕ → List ℕ
 drawn_payload bit_count state = first_bits bit_count (drawn_bytes ((bit_count + 7) / 8) state)
 
@@ -89,7 +97,8 @@ draws_of begin state = 8 + (drawn_bits begin state + 7) / 8
 
 -- ---- all frames
 
--- what is known before a frame: the state of the draws, and the place among the bytes of all areas at which the main data before it end
+-- what is known before a frame: the state of the draws, and the place
+-- among the bytes of all areas at which the main data before it end
 pub record Before : Type 0 where
   pub state : ℕ
   pub ended : ℕ
@@ -106,9 +115,11 @@ data_start i b = max b.ended (area_start i - 511)
 abbrev pub data_begin : ℕ → Before → ℕ
 data_begin i b = area_start i - data_start i b
 
+-- frame i, by what is known before it
 abbrev pub frame_behind : ℕ → Before → Frame
 frame_behind i b = drawn_frame (data_begin i b) b.state
 
+-- what is known before the next frame
 abbrev pub before_next : ℕ → Before → Before
 before_next i b = record {
   state = state_behind (draws_of (data_begin i b) b.state) b.state;
@@ -128,6 +139,7 @@ frame_at seed i = frame_behind i (before_frame seed i)
 unfoldable pub drill_frames : ℕ → ℕ → List Frame
 drill_frames seed count = map (frame_at seed) (range_with_len 0 count)
 
--- their bytes: the main data of each where its main_data_begin says, and zeros in the areas everywhere else
+-- their bytes: the main data of each where its main_data_begin
+-- says, and zeros in the areas everywhere else
 unfoldable pub drill_stream : ℕ → ℕ → List ℕ
 drill_stream seed count = frame_bytes (drill_frames seed count)

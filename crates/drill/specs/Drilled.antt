@@ -1,23 +1,21 @@
--- The drill command: a stream is made from a seed and packed, and a line says how long both are. No file of any folder is read or written.
-use Rattle.std.specs.Prelude.{ℕ, List, [], ◌∷◌, length, filter, Some, Result, Ok, Err, false}
+-- The drill command: a stream is made from a seed and packed, and a line
+-- says how long both are. No file of any folder is read or written.
+use Rattle.std.specs.Prelude.{Err, false, filter, length, List, Ok, Result, Some, ℕ, [], ◌∷◌}
+use Rattle.commands.specs.{Command.Command, One.made_file, declared.fault.EditFault.EditFault}
+use Rattle.commands.specs.declared.fault.EditFault.TheVariants.{Memory, Sent as NotSent}
+use Rattle.cut_edits.specs.Chosen.{all_choice, first_planning, laying_with}
+use Rattle.drill.specs.{Drill.{drill_header, drill_stream}, StreamLaws.drill_needs}
+use Rattle.drill.specs.{Summary.summary_text, declared.summary.Summary.Summary}
 use Rattle.frame_header.specs.Tables.{window_of}
-use Rattle.slot_plan.specs.declared.needs.Placed.{Placed}
-use Rattle.slot_plan.specs.LeastPlan.{least_plan}
 use Rattle.laying.specs.NeedsFit.{any_choice}
-use Rattle.commands.specs.declared.fault.EditFault.{EditFault}
-use Rattle.commands.specs.declared.fault.EditFault.TheVariants.{Sent as NotSent, Memory}
-use Rattle.commands.specs.Command.{Command}
-use Rattle.commands.specs.One.{made_file}
-use Rattle.cut_edits.specs.Chosen.{first_planning, laying_with, all_choice}
-use Rattle.drill.specs.declared.summary.Summary.{Summary}
-use Rattle.drill.specs.Drill.{drill_header, drill_stream}
-use Rattle.drill.specs.StreamLaws.{drill_needs}
-use Rattle.drill.specs.Summary.{summary_text}
+use Rattle.slot_plan.specs.{LeastPlan.least_plan, declared.needs.Placed.Placed}
 
 -- what the packing with the least slots makes of the stream
 abbrev pub packing_of : ℕ → ℕ → Result (List ℕ) EditFault
-packing_of seed count = made_file (laying_with all_choice (first_planning any_choice)) (drill_stream seed count)
+packing_of seed count =
+    made_file (laying_with all_choice (first_planning any_choice)) (drill_stream seed count)
 
+-- the file that was made; empty where there is none
 abbrev pub file_in : Result (List ℕ) EditFault → List ℕ
 file_in (Ok file) = file
 file_in (Err fault) = []
@@ -26,9 +24,11 @@ file_in (Err fault) = []
 unfoldable pub packed_file : ℕ → ℕ → List ℕ
 packed_file seed count = file_in (packing_of seed count)
 
--- the slots of its frames: of all lists the first, in the order of areas, for which there is a layout
+-- the slots of its frames: of all lists the first,
+-- in the order of areas, for which there is a layout
 abbrev pub packed_plan : ℕ → ℕ → List Placed
-packed_plan seed count = least_plan (window_of drill_header.version) any_choice (drill_needs seed count ∷ [])
+packed_plan seed count =
+    least_plan (window_of drill_header.version) any_choice (drill_needs seed count ∷ [])
 
 -- the lead-ins of a plan
 abbrev pub lead_ins_in : List Placed → ℕ
@@ -43,6 +43,7 @@ drill_summary seed count = record {
   lead_ins = lead_ins_in (packed_plan seed count);
 }
 
+-- the line of a seed and a count
 unfoldable pub drill_text : ℕ → ℕ → List ℕ
 drill_text seed count = summary_text (drill_summary seed count)
 

@@ -1,11 +1,11 @@
 -- Frames of a stream on their way to a file.
-use Rattle.std.specs.Prelude.{◌≡◌, ℕ, List, []}
-use Rattle.frame_header.specs.Tables.{class_of}
-use Rattle.outside.specs.Files.{Files, appended}
-use Rattle.frame_writer.specs.Frames.{Frame, IsNextSettled, reach_of}
-use Rattle.frame_writer.specs.Writing.{Writing, writing, IsWriterOf}
+use Rattle.std.specs.Prelude.{List, ℕ, [], ◌≡◌}
+use Rattle.drill.specs.Drill.{before_frame, data_begin, drawn_frame, drill_header}
 use Rattle.drill.specs.declared.making.Making.{Making}
-use Rattle.drill.specs.Drill.{drill_header, data_begin, before_frame, drawn_frame}
+use Rattle.frame_header.specs.Tables.{class_of}
+use Rattle.frame_writer.specs.Frames.{Frame, IsNextSettled, reach_of}
+use Rattle.frame_writer.specs.Writing.{IsWriterOf, Writing, writing}
+use Rattle.outside.specs.Files.{appended, Files}
 
 -- what waits for the file
 abbrev pub writing_in : Making → Writing
@@ -27,7 +27,8 @@ pub record IsBefore (seed i : ℕ) (m : Making) : Type 0 where
   pub reach : reach_of m.writer ≡ data_begin i (before_frame seed i)
 
 -- The bytes of these frames were appended to the file, except those that wait.
-pub record HasMade (name : List ℕ) (w : Writing) (frames : List Frame) (before after : Files) : Type 0 where
+pub record HasMade (name : List ℕ) (w : Writing) (frames : List Frame)
+    (before after : Files) : Type 0 where
   pub passed : List ℕ
   pub files : after ≡ appended before name passed
   pub writer : IsWriterOf [] passed w frames

@@ -1,17 +1,14 @@
--- What a survey tells of such a stream.
-use Rattle.std.specs.Prelude.{◌≡◌, ℕ, ◌*◌, ◌<◌, ◌≤◌, false, None, List, [], ◌∷◌, length, map, Contains, All, Ok}
-use Rattle.frame_header.specs.Fields.{HeaderFields, SlotFields}
-use Rattle.frame_header.specs.Tables.{class_of, window_of}
-use Rattle.sync_survey.specs.Faults.{SurveyFields, HoldsStream}
-use Rattle.sync_survey.specs.Survey.{survey_of}
-use Rattle.laying.specs.LaidFiles.{entry_of, rows_from}
-use Rattle.slot_plan.specs.declared.needs.Need.{Need}
-use Rattle.slot_plan.specs.declared.needs.Placed.{Placed}
-use Rattle.slot_plan.specs.Plans.{IsPlan}
-use Rattle.laying.specs.Needs.{need_of}
-use Rattle.drill.specs.Drill.{drill_header, frame_at, drill_frames, drill_stream}
+-- What a survey tells of a stream that is made from a number.
+use Rattle.std.specs.Prelude.{All, Contains, false, length, List, map, None, Ok, ℕ, [], ◌*◌, ◌<◌}
+use Rattle.std.specs.Prelude.{◌∷◌, ◌≡◌, ◌≤◌}
+use Rattle.drill.specs.Drill.{drill_frames, drill_header, drill_stream, frame_at}
+use Rattle.frame_header.specs.{Fields.{HeaderFields, SlotFields}, Tables.{class_of, window_of}}
+use Rattle.laying.specs.{LaidFiles.{entry_of, rows_from}, Needs.need_of}
+use Rattle.slot_plan.specs.{Plans.IsPlan, declared.needs.{Need.Need, Placed.Placed}}
+use Rattle.sync_survey.specs.{Faults.{HoldsStream, SurveyFields}, Survey.survey_of}
 
--- there is no head, no block and no junk, and the frames follow one after the other from the first byte on; none is lost
+-- there is no head, no block and no junk, and the frames follow
+-- one after the other from the first byte on; none is lost
 abbrev pub drill_fields : ℕ → ℕ → SurveyFields
 drill_fields seed count = record {
   frames = rows_from 0 (drill_frames seed count);
@@ -23,14 +20,18 @@ drill_fields seed count = record {
   length = length (drill_stream seed count);
 }
 
--- Whatever the number, a stream of one frame or more is well-formed, and holds the frames and the main data that were drawn.
+-- Whatever the number, a stream of one frame or more is well-formed,
+-- and holds the frames and the main data that were drawn.
 abbrev pub StreamsHold : Type 0
-StreamsHold = (seed count : ℕ) → 0 < count → HoldsStream (drill_stream seed count) (map entry_of (drill_frames seed count))
+StreamsHold = (seed count : ℕ) → 0 < count
+    → HoldsStream (drill_stream seed count) (map entry_of (drill_frames seed count))
 
--- A survey that allows as many frames finds them where they were put. A stream of 20,000 frames isn't too long.
+-- A survey that allows as many frames finds them where
+-- they were put. A stream of 20,000 frames isn't too long.
 abbrev pub StreamsAreSurveyed : Type 0
 StreamsAreSurveyed =
-    (seed count allowed : ℕ) → 0 < count → count ≤ 20000 → count ≤ allowed → survey_of (drill_stream seed count) allowed ≡ Ok (drill_fields seed count)
+    (seed count allowed : ℕ) → 0 < count → count ≤ 20000 → count ≤ allowed
+    → survey_of (drill_stream seed count) allowed ≡ Ok (drill_fields seed count)
 
 -- each frame of it has 417 bytes
 abbrev pub StreamsAreLong : Type 0
@@ -44,9 +45,11 @@ FirstBeginsInItsArea = (seed : ℕ) → (frame_at seed 0).kept.side.main_data_be
 abbrev pub drill_needs : ℕ → ℕ → List Need
 drill_needs seed count = map need_of (rows_from 0 (drill_frames seed count))
 
--- If each frame may keep its own slot, the frames have a layout without a lead-in, so no plan of them has one: neither if each keeps its
--- slot nor if each may have any.
+-- If each frame may keep its own slot, the frames have a layout without a lead-in, so
+-- no plan of them has one: neither if each keeps its slot nor if each may have any.
 abbrev pub StreamsNeedNoLeadIn : Type 0
 StreamsNeedNoLeadIn =
-    (seed count : ℕ) (choices : HeaderFields → List SlotFields) (placed : List Placed) → Contains (choices drill_header) drill_header.slot
-    → IsPlan (window_of drill_header.version) choices (drill_needs seed count ∷ []) placed → All (λ p. p.lead_in ≡ false) placed
+    (seed count : ℕ) (choices : HeaderFields → List SlotFields) (placed : List Placed)
+    → Contains (choices drill_header) drill_header.slot
+    → IsPlan (window_of drill_header.version) choices (drill_needs seed count ∷ []) placed
+    → All (λ p. p.lead_in ≡ false) placed

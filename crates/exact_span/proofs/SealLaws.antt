@@ -1,21 +1,22 @@
 -- Laws of an Info frame with music length and tag CRC.
-use Rattle.std.proofs.Common.{◌≡◌, ℕ, ◌+◌, ◌-◌, ◌≤◌, Bool, true, false, List, ◌++◌, length, take, drop, replicate, Option, Some, None, refl, sym, ap, ap₂, ◌∙◌, append_assoc, arith}
-use Rattle.std.specs.Prelude.{IfSome}
-use Rattle.std.proofs.Math.Seq.{take-append-add, drop-append-add}
-use Rattle.std.proofs.lemmas.List.{take-append-le, drop-append-le, take_at, drop_at, length-append, length-drop, length-take-le, length-replicate, take-take}
+use Rattle.std.proofs.Common.{ap, append_assoc, ap₂, arith, Bool, drop, false, length, List, None}
+use Rattle.std.proofs.Common.{Option, refl, replicate, Some, sym, take, true, ℕ, ◌++◌, ◌+◌, ◌-◌}
+use Rattle.std.proofs.{Common.{◌∙◌, ◌≡◌, ◌≤◌}, Math.Seq.{drop-append-add, take-append-add}}
+use Rattle.std.proofs.lemmas.List.{drop-append-le, drop_at, length-append, length-drop}
+use Rattle.std.proofs.lemmas.List.{length-replicate, length-take-le, take-append-le, take-take}
+use Rattle.std.{proofs.lemmas.List.take_at, specs.Prelude.IfSome}
+use Rattle.bit_fields.{proofs.BitsLaws.length-bytes, specs.Bits.bytes}
 use Rattle.byteorder.specs.Endian.{big_bytes}
-use Rattle.bit_fields.specs.Bits.{bytes}
-use Rattle.bit_fields.proofs.BitsLaws.{length-bytes}
-use Rattle.frame_header.specs.Fields.{ClassFields, HeaderFields}
-use Rattle.frame_header.specs.Tables.{class_of, area_of, side_size_of}
-use Rattle.frame_header.specs.HeaderBits.{header_bits}
+use Rattle.exact_span.{proofs.ExtensionLaws.says-front, specs.Laws.{AreWhole, IsSealed}}
+use Rattle.exact_span.specs.TagWord.{arc_of, bytes_place, crc_place, music_place, sealed_info}
+use Rattle.exact_span.specs.TagWord.{tag_crc_of, text_place, with_crc_field, with_length_field}
+use Rattle.exact_span.specs.TagWord.{with_music_length, with_tag_crc}
 use Rattle.frame_header.proofs.HeaderLaws.{length-header_bits}
+use Rattle.frame_header.specs.{Fields.{ClassFields, HeaderFields}, HeaderBits.header_bits}
+use Rattle.frame_header.specs.Tables.{area_of, class_of, side_size_of}
+use Rattle.info_header.specs.Info.{info_bytes, number_or_zero, table_or_zeros, text_of}
+use Rattle.info_header.specs.InfoFrame.{info_frame, info_header_of, info_slot_of}
 use Rattle.info_header.specs.declared.fields.Info.{Info}
-use Rattle.info_header.specs.Info.{text_of, number_or_zero, table_or_zeros, info_bytes}
-use Rattle.info_header.specs.InfoFrame.{info_slot_of, info_header_of, info_frame}
-use Rattle.exact_span.specs.TagWord.{arc_of, text_place, bytes_place, music_place, crc_place, with_music_length, with_tag_crc, with_length_field, with_crc_field, tag_crc_of, sealed_info}
-use Rattle.exact_span.proofs.ExtensionLaws.{says-front}
-use Rattle.exact_span.specs.Laws.{AreWhole, IsSealed}
 
 -- ---- parts of a list
 
@@ -30,7 +31,8 @@ drop-behind xs ys k n is = ap (λ i. drop i (xs ++ ys)) is ∙ drop-append-add x
 
 -- header and side information
 front_of : HeaderFields → List ℕ
-front_of first = bytes (header_bits (info_header_of first)) ++ replicate (side_size_of (class_of first)) 0
+front_of first =
+    bytes (header_bits (info_header_of first)) ++ replicate (side_size_of (class_of first)) 0
 
 -- text, flags and number of frames
 head_of : Info → List ℕ
@@ -49,9 +51,11 @@ rest_of first = replicate (area_of (class_of first) (info_slot_of (class_of firs
 
 -- the frame with these parts and an extension
 framed : HeaderFields → Info → List ℕ → List ℕ
-framed first info extension = (front_of first ++ head_of info) ++ (number_of info ++ (tail_of info ++ (extension ++ rest_of first)))
+framed first info extension = (front_of first ++ head_of info)
+    ++ (number_of info ++ (tail_of info ++ (extension ++ rest_of first)))
 
-frame-parts : (first : HeaderFields) (info : Info) (extension : List ℕ) → info_frame first (record info { extension = extension }) ≡ framed first info extension
+frame-parts : (first : HeaderFields) (info : Info) (extension : List ℕ)
+    → info_frame first (record info { extension = extension }) ≡ framed first info extension
 unfolding info_frame info_bytes framed front_of head_of number_of tail_of rest_of
 frame-parts first info extension = simp append_assoc
 
@@ -62,7 +66,8 @@ front-length first =
     omega (
       arith,
       length-append header (replicate (side_size_of (class_of first)) 0),
-      length-bytes 4 (header_bits (info_header_of first)) (length-header_bits (info_header_of first)),
+      length-bytes 4 (header_bits (info_header_of first))
+          (length-header_bits (info_header_of first)),
       length-replicate {A = ℕ} (side_size_of (class_of first)) 0,
     )
 
@@ -73,24 +78,34 @@ text-length false = refl
 head-length : (info : Info) → length (head_of info) ≡ 12
 unfolding head_of
 head-length info =
-    omega (arith, length-append (text_of info.vbr) (big_bytes 4 15 ++ big_bytes 4 (number_or_zero info.frames)), text-length info.vbr)
+    omega (
+      arith,
+      length-append (text_of info.vbr) (big_bytes 4 15 ++ big_bytes 4 (number_or_zero info.frames)),
+      text-length info.vbr,
+    )
 
 number-length : (info : Info) → length (number_of info) ≡ 4
 unfolding number_of
 number-length info = refl
 
-table-length : (table : Option (List ℕ)) → IfSome table (λ table. length table ≡ 100) → length (table_or_zeros table) ≡ 100
+table-length : (table : Option (List ℕ)) → IfSome table (λ table. length table ≡ 100)
+    → length (table_or_zeros table) ≡ 100
 table-length None long = length-replicate {A = ℕ} 100 0
 table-length (Some table) long = long
 
 tail-length : (info : Info) → AreWhole info → length (tail_of info) ≡ 104
 unfolding tail_of
 tail-length info whole =
-    omega (arith, length-append (table_or_zeros info.table) (big_bytes 4 (number_or_zero info.quality)), table-length info.table whole.table)
+    omega (
+      arith,
+      length-append (table_or_zeros info.table) (big_bytes 4 (number_or_zero info.quality)),
+      table-length info.table whole.table,
+    )
 
 -- ---- the music length
 
-put-length : (c : ClassFields) (front number tail extension rest : List ℕ) → length front ≡ bytes_place c → length number ≡ 4 → length tail ≡ 104 → length extension ≡ 36 →
+put-length : (c : ClassFields) (front number tail extension rest : List ℕ)
+    → length front ≡ bytes_place c → length number ≡ 4 → length tail ≡ 104 → length extension ≡ 36 →
     with_music_length c (front ++ (number ++ (tail ++ (extension ++ rest))))
     ≡ front ++ (number ++ (tail ++ ((take 28 extension ++ (number ++ drop 32 extension)) ++ rest)))
 unfolding with_music_length
@@ -101,19 +116,23 @@ put-length c front number tail extension rest at four middle long =
     ∙ ap (λ (xs : List ℕ). front ++ xs) (take-behind number _ 132 136 (omega (arith, four))
     ∙ ap (λ (xs : List ℕ). number ++ xs) (take-behind tail _ 28 132 (omega (arith, middle))
     ∙ ap (λ (xs : List ℕ). tail ++ xs) (take-append-le 28 extension rest (omega (arith, long))))) in
-    let own : take 4 (drop (bytes_place c) whole) ≡ number = ap (take 4) (drop_at front _ (bytes_place c) at) ∙ take_at number _ 4 four in
+    let own : take 4 (drop (bytes_place c) whole) ≡ number =
+    ap (take 4) (drop_at front _ (bytes_place c) at) ∙ take_at number _ 4 four in
     let behind : drop (music_place c + 4) whole ≡ drop 32 extension ++ rest =
     drop-behind front _ 140 (music_place c + 4) (omega (arith, at))
     ∙ drop-behind number _ 136 140 (omega (arith, four))
     ∙ drop-behind tail _ 32 136 (omega (arith, middle))
     ∙ drop-append-le 32 extension rest (omega (arith, long)) in
-    ap₂ (λ (xs ys : List ℕ). xs ++ ys) before (ap₂ (λ (xs ys : List ℕ). xs ++ ys) own behind) ∙ simp append_assoc
+    ap₂ (λ (xs ys : List ℕ). xs ++ ys) before (ap₂ (λ (xs ys : List ℕ). xs ++ ys) own behind)
+    ∙ simp append_assoc
 
 -- ---- the tag CRC
 
-put-crc : (c : ClassFields) (front number tail extension rest : List ℕ) → length front ≡ bytes_place c → length number ≡ 4 → length tail ≡ 104 → length extension ≡ 36 →
+put-crc : (c : ClassFields) (front number tail extension rest : List ℕ)
+    → length front ≡ bytes_place c → length number ≡ 4 → length tail ≡ 104 → length extension ≡ 36 →
     let whole = front ++ (number ++ (tail ++ (extension ++ rest))) in
-    with_tag_crc c whole ≡ front ++ (number ++ (tail ++ ((take 34 extension ++ big_bytes 2 (arc_of 0 (take (crc_place c) whole))) ++ rest)))
+    with_tag_crc c whole ≡ front ++ (number
+    ++ (tail ++ ((take 34 extension ++ big_bytes 2 (arc_of 0 (take (crc_place c) whole))) ++ rest)))
 unfolding with_tag_crc
 put-crc c front number tail extension rest at four middle long =
     let whole = front ++ (number ++ (tail ++ (extension ++ rest))) in
@@ -132,40 +151,51 @@ put-crc c front number tail extension rest at four middle long =
 
 -- ---- both
 
-front-place : (first : HeaderFields) (info : Info) → length (front_of first ++ head_of info) ≡ bytes_place (class_of first)
-front-place first info = omega (arith, length-append (front_of first) (head_of info), front-length first, head-length info)
+front-place : (first : HeaderFields) (info : Info)
+    → length (front_of first ++ head_of info) ≡ bytes_place (class_of first)
+front-place first info = omega
+    (arith, length-append (front_of first) (head_of info), front-length first, head-length info)
 
 field-length : (info : Info) → AreWhole info → length (with_length_field info).extension ≡ 36
 field-length info whole =
     let long = whole.extension in
     omega (
       arith,
-      length-append (take 28 info.extension) (big_bytes 4 (number_or_zero info.bytes) ++ drop 32 info.extension),
+      length-append (take 28 info.extension)
+          (big_bytes 4 (number_or_zero info.bytes) ++ drop 32 info.extension),
       length-take-le 28 info.extension (omega (arith, long)),
       length-append (big_bytes 4 (number_or_zero info.bytes)) (drop 32 info.extension),
       length-drop 32 info.extension,
     )
 
-music-put : (first : HeaderFields) (info : Info) → AreWhole info → with_music_length (class_of first) (info_frame first info) ≡ info_frame first (with_length_field info)
+music-put : (first : HeaderFields) (info : Info) → AreWhole info
+    → with_music_length (class_of first) (info_frame first info)
+    ≡ info_frame first (with_length_field info)
 unfolding framed number_of
 music-put first info whole =
     ap (with_music_length (class_of first)) (frame-parts first info info.extension)
-    ∙ put-length (class_of first) (front_of first ++ head_of info) (number_of info) (tail_of info) info.extension (rest_of first)
+    ∙ put-length (class_of first) (front_of first ++ head_of info) (number_of info)
+    (tail_of info) info.extension (rest_of first)
     (front-place first info) (number-length info) (tail-length info whole) whole.extension
     ∙ sym (frame-parts first info (with_length_field info).extension)
 
-crc-put : (first : HeaderFields) (info : Info) → AreWhole info → with_tag_crc (class_of first) (info_frame first info) ≡ info_frame first (with_crc_field first info)
+crc-put : (first : HeaderFields) (info : Info) → AreWhole info
+    → with_tag_crc (class_of first) (info_frame first info)
+    ≡ info_frame first (with_crc_field first info)
 unfolding framed
 crc-put first info whole =
     let is = frame-parts first info info.extension in
-    let word = λ (frame : List ℕ). big_bytes 2 (arc_of 0 (take (crc_place (class_of first)) frame)) in
+    let word =
+    λ (frame : List ℕ). big_bytes 2 (arc_of 0 (take (crc_place (class_of first)) frame)) in
     ap (with_tag_crc (class_of first)) is
-    ∙ put-crc (class_of first) (front_of first ++ head_of info) (number_of info) (tail_of info) info.extension (rest_of first)
+    ∙ put-crc (class_of first) (front_of first ++ head_of info) (number_of info)
+    (tail_of info) info.extension (rest_of first)
     (front-place first info) (number-length info) (tail-length info whole) whole.extension
     ∙ ap (λ (frame : List ℕ). framed first info (take 34 info.extension ++ word frame)) (sym is)
     ∙ sym (frame-parts first info (with_crc_field first info).extension)
 
-frame-room : (first : HeaderFields) (info : Info) → AreWhole info → text_place (class_of first) + 156 ≤ length (info_frame first info)
+frame-room : (first : HeaderFields) (info : Info) → AreWhole info
+    → text_place (class_of first) + 156 ≤ length (info_frame first info)
 unfolding framed
 frame-room first info whole =
     let front = front_of first ++ head_of info in
@@ -184,27 +214,36 @@ frame-room first info whole =
     )
 
 -- both fields are after the first 28 bytes of the extension
-field-front : (first : HeaderFields) (info : Info) → AreWhole info → take 28 (sealed_info first info).extension ≡ take 28 info.extension
+field-front : (first : HeaderFields) (info : Info) → AreWhole info
+    → take 28 (sealed_info first info).extension ≡ take 28 info.extension
 field-front first info whole =
     let long = whole.extension in
     let extension = (with_length_field info).extension in
-    let many : length (take 34 extension) ≡ 34 = length-take-le 34 extension (omega (arith, field-length info whole)) in
-    let few : length (take 28 info.extension) ≡ 28 = length-take-le 28 info.extension (omega (arith, long)) in
-    take-append-le 28 (take 34 extension) (big_bytes 2 (tag_crc_of first (with_length_field info))) (omega (arith, many))
+    let many : length (take 34 extension) ≡ 34 =
+    length-take-le 34 extension (omega (arith, field-length info whole)) in
+    let few : length (take 28 info.extension) ≡ 28 =
+    length-take-le 28 info.extension (omega (arith, long)) in
+    take-append-le 28 (take 34 extension) (big_bytes 2 (tag_crc_of first (with_length_field info)))
+    (omega (arith, many))
     ∙ take-take 28 34 extension (omega arith)
-    ∙ take-append-le 28 (take 28 info.extension) (big_bytes 4 (number_or_zero info.bytes) ++ drop 32 info.extension) (omega (arith, few))
+    ∙ take-append-le 28 (take 28 info.extension)
+    (big_bytes 4 (number_or_zero info.bytes) ++ drop 32 info.extension) (omega (arith, few))
     ∙ take-take 28 28 info.extension (omega arith)
 
+-- a sealed Info frame is that of fields with another music length and tag CRC alone
 pub frames-sealed : (first : HeaderFields) (info : Info) → AreWhole info → IsSealed first info
 frames-sealed first info whole = record {
   room = frame-room first info whole;
   is = ap (with_tag_crc (class_of first)) (music-put first info whole)
-      ∙ crc-put first (with_length_field info) (record { table = whole.table; extension = field-length info whole });
-  says = λ d p. says-front (sealed_info first info).extension info.extension d p (field-front first info whole);
+      ∙ crc-put first (with_length_field info)
+      (record { table = whole.table; extension = field-length info whole });
+  says = λ d p. says-front (sealed_info first info).extension info.extension d p
+      (field-front first info whole);
 }
 
 -- the fields of a sealed frame are those that a struct can have
-pub sealed-whole : (first : HeaderFields) (info : Info) → AreWhole info → AreWhole (sealed_info first info)
+pub sealed-whole : (first : HeaderFields) (info : Info) → AreWhole info
+    → AreWhole (sealed_info first info)
 sealed-whole first info whole =
     let extension = (with_length_field info).extension in
     record {
@@ -217,13 +256,16 @@ sealed-whole first info whole =
     }
 
 -- where the extension is in an Info frame
-pub extension-there : (first : HeaderFields) (info : Info) → AreWhole info → take 36 (drop (text_place (class_of first) + 120) (info_frame first info)) ≡ info.extension
+pub extension-there : (first : HeaderFields) (info : Info) → AreWhole info
+    → take 36 (drop (text_place (class_of first) + 120) (info_frame first info)) ≡ info.extension
 unfolding framed
 extension-there first info whole =
     let front = front_of first ++ head_of info in
-    ap (λ (l : List ℕ). take 36 (drop (text_place (class_of first) + 120) l)) (frame-parts first info info.extension)
+    ap (λ (l : List ℕ). take 36 (drop (text_place (class_of first) + 120) l))
+    (frame-parts first info info.extension)
     ∙ ap (λ (l : List ℕ). take 36 l)
-    (drop-behind front _ 108 (text_place (class_of first) + 120) (omega (arith, front-place first info))
+    (drop-behind front _ 108 (text_place (class_of first) + 120)
+    (omega (arith, front-place first info))
     ∙ drop-behind (number_of info) _ 104 108 (omega (arith, number-length info))
     ∙ drop_at (tail_of info) _ 104 (tail-length info whole))
     ∙ take_at info.extension (rest_of first) 36 whole.extension

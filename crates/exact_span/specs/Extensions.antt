@@ -1,10 +1,12 @@
--- The 36 bytes after the fields of an Info head, as LAME writes them: the encoder's name and
--- version, further fields of the encoder, and in the bytes 21 to 23 two numbers of 12 bits, the
--- encoder delay and the padding: how many samples the encoder put before the first sample of its
--- input and after the last.
-use Rattle.std.specs.Prelude.{ℕ, ◌+◌, ◌*◌, ◌/◌, ◌%◌, ◌&&◌, ◌||◌, nat_le, if◌then◌else◌, Bool, List, [], ◌∷◌, ◌++◌, take, drop, replicate, slice_index, Option, Some, None, codes, bytes_eq}
-use Rattle.info_header.specs.declared.fields.Info.{Info}
+-- The 36 bytes after the fields of an Info head, as LAME writes them and no standard has them: the
+-- encoder's name and version, further fields of the encoder, and in the bytes 21 to 23 two numbers
+-- of 12 bits, the encoder delay and the padding: how many samples the encoder put before the first
+-- sample of its input and after the last.
+use Rattle.std.specs.Prelude.{Bool, bytes_eq, codes, drop, if◌then◌else◌, List, nat_le, None}
+use Rattle.std.specs.Prelude.{Option, replicate, slice_index, Some, take, ℕ, [], ◌%◌, ◌&&◌, ◌*◌}
+use Rattle.std.specs.Prelude.{◌++◌, ◌+◌, ◌/◌, ◌||◌, ◌∷◌}
 use Rattle.exact_span.specs.declared.extensions.Counts.{Counts}
+use Rattle.info_header.specs.declared.fields.Info.{Info}
 
 -- ---- what is read
 
@@ -22,6 +24,7 @@ delay_in extension = 16 * slice_index extension 21 + slice_index extension 22 / 
 abbrev pub padding_in : List ℕ → ℕ
 padding_in extension = 256 * (slice_index extension 22 % 16) + slice_index extension 23
 
+-- what a head with this number of frames counts
 abbrev pub counts_with : Info → Option ℕ → Option Counts
 counts_with info None = None
 counts_with info (Some frames) =

@@ -1,16 +1,14 @@
--- What holds of the definitions, whatever the code.
-use Rattle.std.specs.Prelude.{◌≡◌, ℕ, ◌+◌, ◌-◌, ◌*◌, ◌/◌, ◌%◌, ◌<◌, ◌≤◌, IsTrue, List, [], ◌∷◌, ◌++◌, length, Option, Some, IfSome, ⊤}
+-- Laws of spans, extensions and tag words, whatever the code.
 use Rattle.std.specs.List.{range_with_len}
-use Rattle.frame_header.specs.Fields.{ClassFields, HeaderFields}
-use Rattle.frame_header.specs.Tables.{class_of, granules_of}
-use Rattle.info_header.specs.declared.fields.Info.{Info}
-use Rattle.info_header.specs.InfoFrame.{info_frame}
-use Rattle.exact_span.specs.declared.played.Played.{Played}
-use Rattle.exact_span.specs.declared.span.Span.{Span}
-use Rattle.exact_span.specs.Extensions.{has_encoder, delay_in, padding_in, extension_of}
-use Rattle.exact_span.specs.PlayedPositions.{samples_in, decoder_delay, played_of, length_of_played}
-use Rattle.exact_span.specs.Spans.{warm_up, span_of, AreLeads, delay_of, padding_of}
-use Rattle.exact_span.specs.TagWord.{arc_of, text_place, sealed, sealed_info}
+use Rattle.std.specs.Prelude.{IfSome, IsTrue, length, List, Option, Some, ℕ, [], ⊤, ◌%◌, ◌*◌, ◌++◌}
+use Rattle.std.specs.Prelude.{◌+◌, ◌-◌, ◌/◌, ◌<◌, ◌∷◌, ◌≡◌, ◌≤◌}
+use Rattle.exact_span.specs.Extensions.{delay_in, extension_of, has_encoder, padding_in}
+use Rattle.exact_span.specs.PlayedPositions.{decoder_delay, length_of_played, played_of, samples_in}
+use Rattle.exact_span.specs.Spans.{AreLeads, delay_of, padding_of, span_of, warm_up}
+use Rattle.exact_span.specs.TagWord.{arc_of, sealed, sealed_info, text_place}
+use Rattle.exact_span.specs.declared.{played.Played.Played, span.Span.Span}
+use Rattle.frame_header.specs.{Fields.{ClassFields, HeaderFields}, Tables.{class_of, granules_of}}
+use Rattle.info_header.specs.{InfoFrame.info_frame, declared.fields.Info.Info}
 
 -- ---- words of 16 bits
 
@@ -47,6 +45,7 @@ pub record IsSealed (first : HeaderFields) (info : Info) : Type 0 where
   pub says : (d p : ℕ) → SaysNumbers d p info.extension
       → SaysNumbers d p (sealed_info first info).extension
 
+-- so each Info frame can be sealed
 abbrev pub SealedFrames : Type 0
 SealedFrames = (first : HeaderFields) (info : Info) → AreWhole info → IsSealed first info
 
@@ -74,6 +73,7 @@ pub record SpanFits (class : ClassFields) (frames leads : ℕ) (span : Span) : T
   pub padding_least : 529 ≤ padding_of span
   pub padding_most : padding_of span ≤ 1680
 
+-- the span of any played samples fits
 abbrev pub SpansFit : Type 0
 SpansFit =
     (head : Option Info) (class : ClassFields) (frames a b leads : ℕ) →
@@ -127,6 +127,7 @@ pub record IsWarm (class : ClassFields) (p q : ℕ) (span : Span) : Type 0 where
       → (span.first ≤ frame_of_granule class k) × (frame_of_granule class k < span.last)
   pub whole : 0 < span.first → span.first * samples_in class + warm_up ≤ p
 
+-- each granule on which wanted positions depend is in their span
 abbrev pub SpansAreWarm : Type 0
 SpansAreWarm = (class : ClassFields) (p q : ℕ) → IsWarm class p q (span_of class p q)
 

@@ -4,9 +4,9 @@ pub mod PlayedPositions
 pub mod Spans
 pub mod TagWord
 pub mod Laws
+pub use Rattle.cue_sheet.specs.Digits
 pub use Rattle.frame_header.specs.Fields
 pub use Rattle.frame_header.specs.Tables
 pub use Rattle.info_header.specs.Info
 pub use Rattle.info_header.specs.InfoFrame
-pub use Rattle.cue_sheet.specs.Digits
 pub mod Overlaps

@@ -1,16 +1,15 @@
--- The frames that two files of one stream share, where the samples of the second come right after those
--- of the first.
-use Rattle.std.specs.Prelude.{ℕ, ◌+◌, ◌-◌, ◌/◌, ◌%◌, ◌<◌, ◌≤◌, ◌==◌, ◌&&◌, nat_le, min, if◌then◌else◌, Option, Some, None}
-use Rattle.frame_header.specs.declared.version.Version.{Version}
+-- The frames that two files of one stream share, where the
+-- samples of the second come right after those of the first.
+use Rattle.std.specs.Prelude.{if◌then◌else◌, min, nat_le, None, Option, Some, ℕ, ◌%◌, ◌&&◌, ◌+◌}
+use Rattle.std.specs.Prelude.{◌-◌, ◌/◌, ◌<◌, ◌==◌, ◌≤◌}
+use Rattle.exact_span.specs.{PlayedPositions.samples_in, declared.overlap.Overlap.Overlap}
+use Rattle.frame_header.specs.{Fields.ClassFields, declared.version.Version.Version}
 use Rattle.frame_header.specs.declared.version.Version.TheVariants.{One, Two, TwoFive}
-use Rattle.frame_header.specs.Fields.{ClassFields}
-use Rattle.exact_span.specs.PlayedPositions.{samples_in}
-use Rattle.exact_span.specs.declared.overlap.Overlap.{Overlap}
 
--- Position `start` of the second file is where the played positions of the first end, `rest` positions
--- before its last frame's end. So the frames in the first `start + rest` positions of the second are
--- shared, if these are whole frames that it has. Of them those are alike that aren't before the frame
--- in which position `start` is, and the last in any case.
+-- Position `start` of the second file is where the played positions of the first end, `rest`
+-- positions before its last frame's end. So the frames in the first `start + rest` positions
+-- of the second are shared, if these are whole frames that it has. Of them those are alike
+-- that aren't before the frame in which position `start` is, and the last in any case.
 unfoldable pub shared_of : ClassFields → ℕ → ℕ → ℕ → Option Overlap
 shared_of class rest start frames =
     let samples = samples_in class in
@@ -35,6 +34,7 @@ most_alike One = 4
 most_alike Two = 7
 most_alike TwoFive = 7
 
+-- no more frames are shared, and no more are to be alike, than that
 pub record IsShort (class : ClassFields) (overlap : Overlap) : Type 0 where
   pub frames : overlap.frames ≤ most_shared class.version
   pub alike : overlap.frames ≤ overlap.first_alike + most_alike class.version

@@ -1,17 +1,16 @@
 -- Places of samples, and the words that say them: the positions of mp3splt, samples as sox has them
 -- (digits and `s`), times with thousandths of a second, and times before the end as mp3splt has
 -- them (`EOF-`).
-use Rattle.std.specs.Prelude.{ℕ, ◌+◌, ◌-◌, ◌*◌, ◌/◌, ◌==◌, if◌then◌else◌, List, [], ◌∷◌, length, take, drop, slice_index, Option, Some, None, option_map, option_and_then, codes, bytes_eq, ⊤}
-use Rattle.std.specs.List.{before_first, after_first, position_or_len}
-use Rattle.std.specs.Option.{option_or}
-use Rattle.frame_header.specs.Fields.{ClassFields}
-use Rattle.frame_header.specs.Tables.{frequency_of, samples_of}
-use Rattle.cue_sheet.specs.declared.place.Place.{Place as Position}
-use Rattle.cue_sheet.specs.declared.place.Place.TheVariants.{Frame, Time, End}
-use Rattle.cue_sheet.specs.Places.{is_dot, place_of, IsPlace}
-use Rattle.cue_sheet.specs.Digits.{number_in}
+use Rattle.std.specs.{List.{after_first, before_first, position_or_len}, Option.option_or}
+use Rattle.std.specs.Prelude.{bytes_eq, codes, drop, if◌then◌else◌, length, List, None, Option}
+use Rattle.std.specs.Prelude.{option_and_then, option_map, slice_index, Some, take, ℕ, [], ⊤, ◌*◌}
+use Rattle.std.specs.Prelude.{◌+◌, ◌-◌, ◌/◌, ◌==◌, ◌∷◌}
+use Rattle.cue_sheet.specs.{Digits.number_in, Places.{is_dot, IsPlace, place_of}}
+use Rattle.cue_sheet.specs.declared.place.Place.{Place as Position, TheVariants.{End, Frame, Time}}
 use Rattle.exact_span.specs.declared.exact_place.ExactPlace.{ExactPlace}
-use Rattle.exact_span.specs.declared.exact_place.ExactPlace.TheVariants.{Place, Sample, Millis, Back}
+use Rattle.exact_span.specs.declared.exact_place.ExactPlace.TheVariants.{Back, Millis, Place}
+use Rattle.exact_span.specs.declared.exact_place.ExactPlace.TheVariants.{Sample}
+use Rattle.frame_header.specs.{Fields.ClassFields, Tables.{frequency_of, samples_of}}
 
 -- ---- minutes and seconds, with a dot between them
 
@@ -23,6 +22,7 @@ minutes_in word = number_in 1 4 9999 (before_first is_dot word)
 abbrev pub seconds_in : List ℕ → Option ℕ
 seconds_in word = number_in 1 2 59 (before_first is_dot (after_first is_dot word))
 
+-- minutes and seconds, in seconds
 abbrev pub whole_seconds : ℕ → ℕ → ℕ
 whole_seconds minutes seconds = 60 * minutes + seconds
 
@@ -37,6 +37,7 @@ behind_seconds word = let rest = after_first is_dot word in drop (position_or_le
 
 -- ---- thousandths of a second
 
+-- seconds and thousandths, in thousandths
 abbrev pub in_millis : ℕ → ℕ → ℕ
 in_millis seconds thousandths = seconds * 1000 + thousandths
 
@@ -45,6 +46,7 @@ abbrev pub thousandths_of : List ℕ → Option ℕ
 thousandths_of [] = None
 thousandths_of (dot ∷ digits) = number_in 3 3 999 digits
 
+-- hundredths as thousandths
 abbrev pub tenfold : ℕ → ℕ
 tenfold hundredths = 10 * hundredths
 

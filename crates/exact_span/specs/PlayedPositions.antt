@@ -1,19 +1,20 @@
 -- The positions of a file that are played. A file of n frames after its head has n times 1,152
--- positions (576 in MPEG-2 and MPEG-2.5), each a sample that a decoder gives for each channel.
--- Position x is in frame x / 1152 (or 576), and in granule x / 576.
-use Rattle.std.specs.Prelude.{ℕ, ◌+◌, ◌-◌, ◌*◌, ◌≤◌, min, nat_lt, if◌then◌else◌, Option, Some, None, option_map}
-use Rattle.frame_header.specs.Fields.{ClassFields}
-use Rattle.frame_header.specs.Tables.{samples_of}
-use Rattle.info_header.specs.declared.fields.Info.{Info}
-use Rattle.exact_span.specs.declared.extensions.Counts.{Counts}
+-- positions (576 in MPEG-2 and MPEG-2.5; ISO/IEC 11172-3 and 13818-3, 2.4.2.1), each a sample that
+-- a decoder gives for each channel. Position x is in frame x / 1152 (or 576), and in granule x /
+-- 576.
+use Rattle.std.specs.Prelude.{if◌then◌else◌, min, nat_lt, None, Option, option_map, Some, ℕ, ◌*◌}
+use Rattle.std.specs.Prelude.{◌+◌, ◌-◌, ◌≤◌}
+use Rattle.exact_span.specs.{Extensions.counts_of, declared.extensions.Counts.Counts}
 use Rattle.exact_span.specs.declared.played.Played.{Played}
-use Rattle.exact_span.specs.Extensions.{counts_of}
+use Rattle.frame_header.specs.{Fields.ClassFields, Tables.samples_of}
+use Rattle.info_header.specs.declared.fields.Info.{Info}
 
 -- how many samples a frame has in each channel
 abbrev pub samples_in : ClassFields → ℕ
 samples_in class = samples_of class.version
 
--- by how many samples a decoder is late, as players reckon it
+-- by how many samples a decoder is late, as players reckon it; no document says so, DECISIONS has
+-- what was found
 abbrev pub decoder_delay : ℕ
 decoder_delay = 529
 
@@ -32,12 +33,13 @@ counted_by samples frames counts = record {
   end = end_by samples frames counts;
 }
 
+-- those that a head counts, or all
 abbrev pub played_by : ℕ → ℕ → Option Counts → Played
 played_by samples frames None = record { start = 0; end = frames * samples }
 played_by samples frames (Some counts) = counted_by samples frames counts
 
--- the played positions of a file with this head and so many frames: those that the head counts, or all
--- where it counts none
+-- the played positions of a file with this head and so many
+-- frames: those that the head counts, or all where it counts none
 unfoldable pub played_of : Option Info → ClassFields → ℕ → Played
 played_of info class frames = played_by (samples_in class) frames (counts_of info)
 
@@ -61,8 +63,8 @@ latest_start = 4624
 abbrev pub longest_rest : ℕ
 longest_rest = 3566
 
--- positions that a head counts for so many frames: they begin after the decoder's delay, and neither
--- before them nor after them are more than 12 bits say
+-- positions that a head counts for so many frames: they begin after the decoder's
+-- delay, and neither before them nor after them are more than 12 bits say
 pub record AreCounted (class : ClassFields) (frames : ℕ) (played : Played) : Type 0 where
   pub late : decoder_delay ≤ played.start
   pub start : played.start ≤ latest_start

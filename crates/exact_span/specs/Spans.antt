@@ -1,13 +1,12 @@
 -- The frames that a decoder needs for some positions, and the delay and the padding by which a
 -- player plays exactly these.
-use Rattle.std.specs.Prelude.{◌≡◌, ℕ, ◌+◌, ◌-◌, ◌*◌, ◌/◌, ◌<◌, nat_lt, IsTrue, ◌≤◌}
+use Rattle.std.specs.Prelude.{IsTrue, nat_lt, ℕ, ◌*◌, ◌+◌, ◌-◌, ◌/◌, ◌<◌, ◌≡◌, ◌≤◌}
+use Rattle.exact_span.specs.{PlayedPositions.{decoder_delay, samples_in}, declared.span.Span.Span}
 use Rattle.frame_header.specs.Fields.{ClassFields}
-use Rattle.exact_span.specs.PlayedPositions.{samples_in, decoder_delay}
-use Rattle.exact_span.specs.declared.span.Span.{Span}
 
 -- How many positions before the first wanted one a decoder has to begin: it adds to each granule
 -- the second half of the one before (576), and its filterbank looks 15 steps of 32 samples back
--- (480).
+-- (480); both are in ISO/IEC 11172-3, 2.4.3.
 abbrev pub warm_up : ℕ
 warm_up = 1056
 

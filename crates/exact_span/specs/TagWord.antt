@@ -1,18 +1,17 @@
 -- The last fields of the extension: music length and tag CRC. The tag CRC is the CRC of 16 bits
 -- with the polynomial x^16 + x^15 + x^2 + 1, the least significant bit first, from 0 on, not
 -- inverted: CRC-16/ARC. It is over the bytes of the Info frame before its own.
-use Rattle.std.specs.Prelude.{ℕ, zero, suc, ◌+◌, ◌/◌, ◌%◌, ◌==◌, if◌then◌else◌, List, ◌++◌, take, drop, fold, bit_xor}
+use Rattle.std.specs.Prelude.{bit_xor, drop, fold, if◌then◌else◌, List, suc, take, zero, ℕ, ◌%◌}
+use Rattle.std.specs.Prelude.{◌++◌, ◌+◌, ◌/◌, ◌==◌}
 use Rattle.byteorder.specs.Endian.{big_bytes}
-use Rattle.frame_header.specs.Fields.{ClassFields, HeaderFields}
-use Rattle.frame_header.specs.Tables.{class_of, side_size_of}
-use Rattle.info_header.specs.declared.fields.Info.{Info}
-use Rattle.info_header.specs.Info.{number_or_zero}
-use Rattle.info_header.specs.InfoFrame.{info_frame}
+use Rattle.frame_header.specs.{Fields.{ClassFields, HeaderFields}, Tables.{class_of, side_size_of}}
+use Rattle.info_header.specs.{Info.number_or_zero, InfoFrame.info_frame, declared.fields.Info.Info}
 
 -- one bit further on: shifted to the right, with the divisor where the bit that went out was 1
 unfoldable pub arc_bit : ℕ → ℕ
 arc_bit word = if word % 2 == 1 then bit_xor (word / 2) 0xa001 else word / 2
 
+-- so many bits further on
 unfoldable pub arc_bits : ℕ → ℕ → ℕ
 arc_bits zero word = word
 arc_bits (suc bits) word = arc_bit (arc_bits bits word)
@@ -72,6 +71,7 @@ with_length_field info = record info {
 abbrev pub tag_crc_of : HeaderFields → Info → ℕ
 tag_crc_of first info = arc_of 0 (take (crc_place (class_of first)) (info_frame first info))
 
+-- the fields with the tag CRC
 abbrev pub with_crc_field : HeaderFields → Info → Info
 with_crc_field first info = record info {
   extension = take 34 info.extension ++ big_bytes 2 (tag_crc_of first info);

@@ -1,12 +1,13 @@
 -- The opposite steps.
-use Rattle.std.proofs.Common.{◌≡◌, ℕ, zero, suc, ◌*◌, ◌-◌, ◌/◌, cond, nat_le, nat_lt, List, [], ◌∷◌, map, Option, Some, None, option_map, refl, sym, ap, ap₂, subst, ◌∙◌, ℤ, pos, negsuc, neg_ℤ, ◌+ℤ◌, ◌*ℤ◌, int_div, reverse, find}
-use Rattle.std.proofs.Math.IntN.{neg_ℤ-neg_ℤ, neg_ℤ-+ℤ, negsuc-*ℤ-pos}
-use Rattle.std.proofs.Math.Nat.{zero-div, zero-mul}
-use Rattle.frame_header.specs.Fields.{ClassFields}
-use Rattle.fade_plan.specs.Sheets.{EnvelopePoint}
-use Rattle.fade_plan.specs.Curves.{CurvePoint, curve_point, frame_of, not_rising, unless_at, curve_of, last_up_to, first_behind, steps_between, steps_by, steps_at}
-use Rattle.fade_plan.specs.Laws.{opposite, AreOpposite}
+use Rattle.std.proofs.Common.{ap, ap₂, cond, find, int_div, List, map, nat_le, nat_lt, neg_ℤ}
+use Rattle.std.proofs.Common.{negsuc, None, Option, option_map, pos, refl, reverse, Some, subst}
+use Rattle.std.proofs.Common.{suc, sym, zero, ℕ, ℤ, ◌*ℤ◌, ◌+ℤ◌, [], ◌*◌, ◌-◌, ◌/◌, ◌∙◌, ◌∷◌, ◌≡◌}
+use Rattle.std.proofs.Math.{IntN.{neg_ℤ-+ℤ, neg_ℤ-neg_ℤ, negsuc-*ℤ-pos}, Nat.{zero-div, zero-mul}}
 use Rattle.fade_plan.proofs.CurveLaws.{find_mapped, reverse_mapped}
+use Rattle.fade_plan.specs.Curves.{curve_of, curve_point, CurvePoint, first_behind, frame_of}
+use Rattle.fade_plan.specs.Curves.{last_up_to, not_rising, steps_at, steps_between, steps_by}
+use Rattle.fade_plan.specs.{Curves.unless_at, Laws.{AreOpposite, opposite}, Sheets.EnvelopePoint}
+use Rattle.frame_header.specs.Fields.{ClassFields}
 
 abbrev opposed : CurvePoint → CurvePoint
 opposed point = record point { steps = neg_ℤ point.steps }
@@ -27,45 +28,61 @@ negated_product (pos a) n = at a
     at (suc a) = negsuc-*ℤ-pos a n
 negated_product (negsuc a) n = sym (ap neg_ℤ (negsuc-*ℤ-pos a n) ∙ neg_ℤ-neg_ℤ (pos (suc a * n)))
 
-between_opposed : (p q : CurvePoint) (frame : ℕ) → steps_between (opposed p) (opposed q) frame ≡ neg_ℤ (steps_between p q frame)
+between_opposed : (p q : CurvePoint) (frame : ℕ)
+    → steps_between (opposed p) (opposed q) frame ≡ neg_ℤ (steps_between p q frame)
 between_opposed p q frame =
     ap (λ n. int_div n (pos (q.frame - p.frame)))
-    (ap₂ (λ a b. a +ℤ b) (negated_product p.steps (q.frame - frame)) (negated_product q.steps (frame - p.frame))
+    (ap₂ (λ a b. a +ℤ b) (negated_product p.steps (q.frame - frame))
+    (negated_product q.steps (frame - p.frame))
     ∙ sym (neg_ℤ-+ℤ (p.steps *ℤ pos (q.frame - frame)) (q.steps *ℤ pos (frame - p.frame))))
-    ∙ negated_quotient ((p.steps *ℤ pos (q.frame - frame)) +ℤ (q.steps *ℤ pos (frame - p.frame))) (q.frame - p.frame)
+    ∙ negated_quotient ((p.steps *ℤ pos (q.frame - frame)) +ℤ (q.steps *ℤ pos (frame - p.frame)))
+    (q.frame - p.frame)
 
-by_opposed : (p q : Option CurvePoint) (frame : ℕ) → steps_by (option_map opposed p) (option_map opposed q) frame ≡ neg_ℤ (steps_by p q frame)
+by_opposed : (p q : Option CurvePoint) (frame : ℕ)
+    → steps_by (option_map opposed p) (option_map opposed q) frame ≡ neg_ℤ (steps_by p q frame)
 by_opposed None None frame = refl
 by_opposed None (Some q) frame = refl
 by_opposed (Some p) None frame = refl
 by_opposed (Some p) (Some q) frame = between_opposed p q frame
 
-at_opposed : (points : List CurvePoint) (frame : ℕ) → steps_at (map opposed points) frame ≡ neg_ℤ (steps_at points frame)
+at_opposed : (points : List CurvePoint) (frame : ℕ)
+    → steps_at (map opposed points) frame ≡ neg_ℤ (steps_at points frame)
 unfolding steps_at
 at_opposed points frame =
     ap₂ (λ a b. steps_by a b frame)
-    (ap (find (λ p. nat_le p.frame frame)) (reverse_mapped opposed points) ∙ find_mapped (λ p. nat_le p.frame frame) opposed (reverse points))
+    (ap (find (λ p. nat_le p.frame frame)) (reverse_mapped opposed points)
+    ∙ find_mapped (λ p. nat_le p.frame frame) opposed (reverse points))
     (find_mapped (λ p. nat_lt frame p.frame) opposed points)
     ∙ by_opposed (last_up_to points frame) (first_behind points frame) frame
 
-rising_opposed : (class : ClassFields) (frames : ℕ) (points : List EnvelopePoint) → not_rising class frames (opposite points) ≡ not_rising class frames points
+rising_opposed : (class : ClassFields) (frames : ℕ) (points : List EnvelopePoint)
+    → not_rising class frames (opposite points) ≡ not_rising class frames points
 unfolding not_rising
 rising_opposed class frames [] = refl
 rising_opposed class frames (p ∷ []) = refl
 rising_opposed class frames (p ∷ q ∷ more) =
-    ap (λ o. cond (nat_lt (frame_of class frames p) (frame_of class frames q)) o (Some q.line)) (rising_opposed class frames (q ∷ more))
+    ap (λ o. cond (nat_lt (frame_of class frames p) (frame_of class frames q)) o (Some q.line))
+    (rising_opposed class frames (q ∷ more))
 
-placed_opposed : (class : ClassFields) (frames : ℕ) (points : List EnvelopePoint) → map (curve_point class frames) (opposite points) ≡ map opposed (map (curve_point class frames) points)
+placed_opposed : (class : ClassFields) (frames : ℕ) (points : List EnvelopePoint)
+    → map (curve_point class frames) (opposite points)
+    ≡ map opposed (map (curve_point class frames) points)
 placed_opposed class frames [] = refl
-placed_opposed class frames (p ∷ more) = ap (λ t. opposed (curve_point class frames p) ∷ t) (placed_opposed class frames more)
+placed_opposed class frames (p ∷ more) =
+    ap (λ t. opposed (curve_point class frames p) ∷ t) (placed_opposed class frames more)
 
-are_opposite : (o : Option ℕ) (points : List CurvePoint) → AreOpposite (unless_at o points) (unless_at o (map opposed points))
+are_opposite : (o : Option ℕ) (points : List CurvePoint)
+    → AreOpposite (unless_at o points) (unless_at o (map opposed points))
 are_opposite None points = at_opposed points
 are_opposite (Some line) points = refl
 
-pub opposite-curves : (class : ClassFields) (frames : ℕ) (points : List EnvelopePoint) → AreOpposite (curve_of class frames points) (curve_of class frames (opposite points))
+-- opposite points have the opposite curve, and the same fault
+pub opposite-curves : (class : ClassFields) (frames : ℕ) (points : List EnvelopePoint)
+    → AreOpposite (curve_of class frames points) (curve_of class frames (opposite points))
 unfolding curve_of
 opposite-curves class frames points =
-    subst (λ c. AreOpposite (unless_at (not_rising class frames points) (map (curve_point class frames) points)) c)
-    (ap₂ unless_at (sym (rising_opposed class frames points)) (sym (placed_opposed class frames points)))
+    subst (λ c. AreOpposite (unless_at (not_rising class frames points)
+    (map (curve_point class frames) points)) c)
+    (ap₂ unless_at (sym (rising_opposed class frames points))
+    (sym (placed_opposed class frames points)))
     (are_opposite (not_rising class frames points) (map (curve_point class frames) points))

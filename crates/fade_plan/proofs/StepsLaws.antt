@@ -1,11 +1,13 @@
 -- The steps between two points are no more than those of the points.
-use Rattle.std.proofs.Common.{◌≡◌, ℕ, zero, suc, true, false, cond, ltb, ◌-◌, ◌+◌, ◌*◌, ◌/◌, ◌<◌, ◌≤◌, w64, FitsSigned, to_z, of_z, ◌^◌, refl, sym, ap, ap₂, subst, ◌∙◌, arith, ℤ, pos, negsuc, neg_ℤ, ◌+ℤ◌, ◌*ℤ◌, int_div, unsigned_abs}
-use Rattle.std.proofs.lemmas.Int.{unsigned_abs-mul, to_z-of_z, to_z_pos, fits_signed_from_abs}
-use mir.Syntax.{w16}
-use Rattle.std.proofs.Math.IntN.{sub_ℕ}
+use Rattle.std.proofs.Common.{ap, ap₂, arith, cond, false, FitsSigned, int_div, ltb, neg_ℤ, negsuc}
+use Rattle.std.proofs.Common.{of_z, pos, refl, subst, suc, sym, to_z, true, unsigned_abs, w64, zero}
+use Rattle.std.proofs.Common.{ℕ, ℤ, ◌*ℤ◌, ◌+ℤ◌, ◌*◌, ◌+◌, ◌-◌, ◌/◌, ◌<◌, ◌^◌, ◌∙◌, ◌≡◌, ◌≤◌}
+use Rattle.std.proofs.Math.{IntN.sub_ℕ, Nat.{div-le_of_le-mul, mul-le-mul_right}}
 use Rattle.std.proofs.lemmas.Bool.{ltb-true}
-use Rattle.std.proofs.Math.Nat.{div-le_of_le-mul, mul-le-mul_right}
+use Rattle.std.proofs.lemmas.Int.{fits_signed_from_abs, to_z-of_z, to_z_pos, unsigned_abs-mul}
+use mir.Syntax.{w16}
 
+-- the opposite number is as large
 pub size_of_negated : (z : ℤ) → unsigned_abs (neg_ℤ z) ≡ unsigned_abs z
 size_of_negated (pos n) = at n
   where
@@ -20,7 +22,8 @@ size_of_quotient (negsuc n) d = size_of_negated (pos (suc n / d))
 
 size_of_difference : (a b : ℕ) → unsigned_abs (sub_ℕ a b) ≤ a + b
 size_of_difference a b =
-    elim (ltb a b) as (λ t. ltb a b ≡ t → unsigned_abs (cond t (negsuc (b - suc a)) (pos (a - b))) ≤ a + b) [
+    elim (ltb a b) as (λ t. ltb a b ≡ t
+    → unsigned_abs (cond t (negsuc (b - suc a)) (pos (a - b))) ≤ a + b) [
       | true ↦ λ is. omega (arith, ltb-true a b is)
       | false ↦ λ is. omega arith
     ] refl
@@ -32,31 +35,50 @@ size_of_sum (negsuc a) (pos b) = omega (arith, size_of_difference b (suc a))
 size_of_sum (negsuc a) (negsuc b) = omega arith
 
 size_of_product : (a : ℤ) (n : ℕ) → unsigned_abs a ≤ 255 → unsigned_abs (a *ℤ pos n) ≤ 255 * n
-size_of_product a n small = subst (λ m. m ≤ 255 * n) (sym (unsigned_abs-mul a (pos n))) (mul-le-mul_right n small)
+size_of_product a n small =
+    subst (λ m. m ≤ 255 * n) (sym (unsigned_abs-mul a (pos n))) (mul-le-mul_right n small)
 
--- so many frames on the one side and on the other
-pub size_of_weighted : (a b : ℤ) (left passed : ℕ) → unsigned_abs a ≤ 255 → unsigned_abs b ≤ 255 → unsigned_abs ((a *ℤ pos left) +ℤ (b *ℤ pos passed)) ≤ 255 * (passed + left)
+-- steps weighted by frames on both sides are at most 255 for each frame
+pub size_of_weighted : (a b : ℤ) (left passed : ℕ) → unsigned_abs a ≤ 255 → unsigned_abs b ≤ 255
+    → unsigned_abs ((a *ℤ pos left) +ℤ (b *ℤ pos passed)) ≤ 255 * (passed + left)
 size_of_weighted a b left passed small other =
-    omega (arith, size_of_sum (a *ℤ pos left) (b *ℤ pos passed), size_of_product a left small, size_of_product b passed other)
+    omega (
+      arith,
+      size_of_sum (a *ℤ pos left) (b *ℤ pos passed),
+      size_of_product a left small,
+      size_of_product b passed other,
+    )
 
-pub size_between : (n : ℤ) (d : ℕ) → unsigned_abs n ≤ 255 * d → unsigned_abs (int_div n (pos d)) ≤ 255
-size_between n d small = subst (λ m. m ≤ 255) (sym (size_of_quotient n d)) (div-le_of_le-mul d (omega (arith, small)))
+-- a number of at most 255 times the divisor has a quotient of at most 255
+pub size_between : (n : ℤ) (d : ℕ) → unsigned_abs n ≤ 255 * d
+    → unsigned_abs (int_div n (pos d)) ≤ 255
+size_between n d small =
+    subst (λ m. m ≤ 255) (sym (size_of_quotient n d)) (div-le_of_le-mul d (omega (arith, small)))
 
 -- ---- what the code computes
 
+-- the quotient is the same in 64 bits, and in 16
 pub evenly : (n : ℤ) (d : ℕ) → FitsSigned w64 n → d < 2 ^ 48 → unsigned_abs n ≤ 255 * d
-    → to_z w16 (of_z w16 (to_z w64 (of_z w64 (int_div (to_z w64 (of_z w64 n)) (to_z w64 d))))) ≡ int_div n (pos d)
+    → to_z w16 (of_z w16 (to_z w64 (of_z w64 (int_div (to_z w64 (of_z w64 n)) (to_z w64 d)))))
+    ≡ int_div n (pos d)
 evenly n d fits few small =
     let size : unsigned_abs (int_div n (pos d)) ≤ 255 = size_between n d small in
-    ap (λ q. to_z w16 (of_z w16 (to_z w64 (of_z w64 q)))) (ap₂ int_div (to_z-of_z w64 n fits) (to_z_pos w64 d (omega (arith, few))))
-    ∙ ap (λ q. to_z w16 (of_z w16 q)) (to_z-of_z w64 (int_div n (pos d)) (fits_signed_from_abs w64 (int_div n (pos d)) (omega (arith, size))))
-    ∙ to_z-of_z w16 (int_div n (pos d)) (fits_signed_from_abs w16 (int_div n (pos d)) (omega (arith, size)))
+    ap (λ q. to_z w16 (of_z w16 (to_z w64 (of_z w64 q))))
+    (ap₂ int_div (to_z-of_z w64 n fits) (to_z_pos w64 d (omega (arith, few))))
+    ∙ ap (λ q. to_z w16 (of_z w16 q)) (to_z-of_z w64 (int_div n (pos d))
+    (fits_signed_from_abs w64 (int_div n (pos d)) (omega (arith, size))))
+    ∙ to_z-of_z w16 (int_div n (pos d))
+    (fits_signed_from_abs w16 (int_div n (pos d)) (omega (arith, size)))
 
+-- steps from -255 to 255 fit in 16 bits
 pub small_fits : (z : ℤ) → unsigned_abs z ≤ 255 → to_z w16 (of_z w16 z) ≡ z
 small_fits z small = to_z-of_z w16 z (fits_signed_from_abs w16 z (omega (arith, small)))
 
-pub weighted_sum : (a b l p : ℤ) (left passed : ℕ) → unsigned_abs a ≤ 255 → unsigned_abs b ≤ 255 → l ≡ a *ℤ pos left → p ≡ b *ℤ pos passed → left + passed < 2 ^ 48
-    → to_z w64 (of_z w64 (to_z w64 (of_z w64 l) +ℤ to_z w64 (of_z w64 p))) ≡ (a *ℤ pos left) +ℤ (b *ℤ pos passed)
+-- the sum of two weighted steps is the same in 64 bits
+pub weighted_sum : (a b l p : ℤ) (left passed : ℕ) → unsigned_abs a ≤ 255 → unsigned_abs b ≤ 255
+    → l ≡ a *ℤ pos left → p ≡ b *ℤ pos passed → left + passed < 2 ^ 48
+    → to_z w64 (of_z w64 (to_z w64 (of_z w64 l) +ℤ to_z w64 (of_z w64 p)))
+    ≡ (a *ℤ pos left) +ℤ (b *ℤ pos passed)
 weighted_sum a b l p left passed small other is and few =
     let x = a *ℤ pos left in
     let y = b *ℤ pos passed in
@@ -65,5 +87,7 @@ weighted_sum a b l p left passed small other is and few =
     let whole : unsigned_abs (x +ℤ y) ≤ unsigned_abs x + unsigned_abs y = size_of_sum x y in
     ap₂ (λ m n. to_z w64 (of_z w64 (to_z w64 (of_z w64 m) +ℤ to_z w64 (of_z w64 n)))) is and
     ∙ ap₂ (λ m n. to_z w64 (of_z w64 (m +ℤ n)))
-    (to_z-of_z w64 x (fits_signed_from_abs w64 x (omega (arith, first, few)))) (to_z-of_z w64 y (fits_signed_from_abs w64 y (omega (arith, second, few))))
-    ∙ to_z-of_z w64 (x +ℤ y) (fits_signed_from_abs w64 (x +ℤ y) (omega (arith, first, second, whole, few)))
+    (to_z-of_z w64 x (fits_signed_from_abs w64 x (omega (arith, first, few))))
+    (to_z-of_z w64 y (fits_signed_from_abs w64 y (omega (arith, second, few))))
+    ∙ to_z-of_z w64 (x +ℤ y)
+    (fits_signed_from_abs w64 (x +ℤ y) (omega (arith, first, second, whole, few)))

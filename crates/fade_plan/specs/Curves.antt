@@ -1,8 +1,11 @@
--- The curve of an envelope over a stream: the steps of 1.5 dB by which the gains of each frame move.
-use Rattle.std.specs.Prelude.{ℕ, ◌-◌, nat_le, nat_lt, if◌then◌else◌, Bool, List, [], ◌∷◌, map, reverse, find, Option, Some, None, Result, Ok, Err, ℤ, pos, neg_ℤ, ◌+ℤ◌, ◌*ℤ◌, int_div}
-use Rattle.frame_header.specs.Fields.{ClassFields}
+-- The curve of an envelope over a stream: the steps
+-- of 1.5 dB by which the gains of each frame move.
+use Rattle.std.specs.Prelude.{Bool, Err, find, if◌then◌else◌, int_div, List, map, nat_le, nat_lt}
+use Rattle.std.specs.Prelude.{neg_ℤ, None, Ok, Option, pos, Result, reverse, Some, ℕ, ℤ, ◌*ℤ◌, ◌+ℤ◌}
+use Rattle.std.specs.Prelude.{[], ◌-◌, ◌∷◌}
 use Rattle.cue_sheet.specs.Places.{frame_at}
 use Rattle.fade_plan.specs.Sheets.{EnvelopePoint}
+use Rattle.frame_header.specs.Fields.{ClassFields}
 
 -- a point of gain at a frame
 pub record CurvePoint : Type 0 where
@@ -15,6 +18,7 @@ pub record CurvePoint : Type 0 where
 abbrev pub frame_of : ClassFields → ℕ → EnvelopePoint → ℕ
 frame_of class frames point = frame_at class frames point.place
 
+-- a point at the frame of its position
 abbrev pub curve_point : ClassFields → ℕ → EnvelopePoint → CurvePoint
 curve_point class frames point = record { frame = frame_of class frames point; steps = point.steps }
 
@@ -23,38 +27,46 @@ unfoldable pub not_rising : ClassFields → ℕ → List EnvelopePoint → Optio
 not_rising class frames [] = None
 not_rising class frames (point ∷ []) = None
 not_rising class frames (point ∷ next ∷ more) =
-    if nat_lt (frame_of class frames point) (frame_of class frames next) then not_rising class frames (next ∷ more)
+    if nat_lt (frame_of class frames point) (frame_of class frames next)
+    then not_rising class frames (next ∷ more)
     else Some next.line
 
+-- the points, unless a line doesn't rise
 abbrev pub unless_at : Option ℕ → List CurvePoint → Result (List CurvePoint) ℕ
 unless_at None points = Ok points
 unless_at (Some line) points = Err line
 
 -- the points at their frames, or the line that doesn't rise
 unfoldable pub curve_of : ClassFields → ℕ → List EnvelopePoint → Result (List CurvePoint) ℕ
-curve_of class frames points = unless_at (not_rising class frames points) (map (curve_point class frames) points)
+curve_of class frames points =
+    unless_at (not_rising class frames points) (map (curve_point class frames) points)
 
 -- ---- steps
 
--- the last point at or before a frame, and the first one after it
+-- the last point at or before a frame
 abbrev pub last_up_to : List CurvePoint → ℕ → Option CurvePoint
 last_up_to points frame = find (λ point. nat_le point.frame frame) (reverse points)
 
+-- the first point after a frame
 abbrev pub first_behind : List CurvePoint → ℕ → Option CurvePoint
 first_behind points frame = find (λ point. nat_lt frame point.frame) points
 
--- between two points the steps go evenly from those of the one to those of the other, rounded toward zero
+-- between two points the steps go evenly from those of
+-- the one to those of the other, rounded toward zero
 abbrev pub steps_between : CurvePoint → CurvePoint → ℕ → ℤ
 steps_between p q frame =
-    int_div ((p.steps *ℤ pos (q.frame - frame)) +ℤ (q.steps *ℤ pos (frame - p.frame))) (pos (q.frame - p.frame))
+    int_div ((p.steps *ℤ pos (q.frame - frame)) +ℤ (q.steps *ℤ pos (frame - p.frame)))
+    (pos (q.frame - p.frame))
 
--- before the first point the steps are those of the first, and from the last point's frame on those of the last
+-- before the first point the steps are those of the first,
+-- and from the last point's frame on those of the last
 abbrev pub steps_by : Option CurvePoint → Option CurvePoint → ℕ → ℤ
 steps_by None None frame = pos 0
 steps_by None (Some q) frame = q.steps
 steps_by (Some p) None frame = p.steps
 steps_by (Some p) (Some q) frame = steps_between p q frame
 
+-- the steps of a frame
 unfoldable pub steps_at : List CurvePoint → ℕ → ℤ
 steps_at points frame = steps_by (last_up_to points frame) (first_behind points frame) frame
 

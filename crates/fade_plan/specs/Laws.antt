@@ -1,11 +1,11 @@
 -- Laws of curves: how their steps go from point to point, how far they go, and that the opposite
 -- envelope gives the opposite steps.
-use Rattle.std.specs.Prelude.{◌≡◌, ◌<◌, ◌≤◌, ℕ, Bool, ◌&&◌, IsTrue, List, [], ◌∷◌, ◌++◌}
-use Rattle.std.specs.Prelude.{map, All, Result, Ok, Err, ℤ, pos, neg_ℤ, int_le}
 use Rattle.std.specs.List.{AllPairs}
-use Rattle.frame_header.specs.Fields.{ClassFields}
+use Rattle.std.specs.Prelude.{All, Bool, Err, int_le, IsTrue, List, map, neg_ℤ, Ok, pos, Result, ℕ}
+use Rattle.std.specs.Prelude.{ℤ, [], ◌&&◌, ◌++◌, ◌<◌, ◌∷◌, ◌≡◌, ◌≤◌}
+use Rattle.fade_plan.specs.Curves.{curve_of, CurvePoint, steps_at, steps_between}
 use Rattle.fade_plan.specs.Sheets.{EnvelopePoint}
-use Rattle.fade_plan.specs.Curves.{CurvePoint, curve_of, steps_between, steps_at}
+use Rattle.frame_header.specs.Fields.{ClassFields}
 
 -- ---- from point to point
 
@@ -13,16 +13,23 @@ use Rattle.fade_plan.specs.Curves.{CurvePoint, curve_of, steps_between, steps_at
 abbrev pub AreRising : List CurvePoint → Type 0
 AreRising points = AllPairs (λ p q. p.frame < q.frame) points
 
+-- the steps of a curve go evenly from each point to the next, and stay before the first and from
+-- the last on
 pub record CurvesGoEvenly : Type 0 where
   -- the points of a curve rise
-  pub rising : (class : ClassFields) (frames : ℕ) (points : List EnvelopePoint) (curve : List CurvePoint) → curve_of class frames points ≡ Ok curve → AreRising curve
+  pub rising : (class : ClassFields) (frames : ℕ) (points : List EnvelopePoint)
+      (curve : List CurvePoint) → curve_of class frames points ≡ Ok curve → AreRising curve
   -- before the first point its steps
-  pub before : (p : CurvePoint) (more : List CurvePoint) (frame : ℕ) → AreRising (p ∷ more) → frame < p.frame → steps_at (p ∷ more) frame ≡ p.steps
+  pub before : (p : CurvePoint) (more : List CurvePoint) (frame : ℕ) → AreRising (p ∷ more)
+      → frame < p.frame → steps_at (p ∷ more) frame ≡ p.steps
   -- between a point and the next, from the frame of the one on, evenly from the one to the other
-  pub between : (front back : List CurvePoint) (p q : CurvePoint) (frame : ℕ) → AreRising (front ++ (p ∷ q ∷ back)) → p.frame ≤ frame → frame < q.frame
+  pub between : (front back : List CurvePoint) (p q : CurvePoint) (frame : ℕ)
+      → AreRising (front ++ (p ∷ q ∷ back)) → p.frame ≤ frame → frame < q.frame
       → steps_at (front ++ (p ∷ q ∷ back)) frame ≡ steps_between p q frame
   -- from the last point's frame on its steps
-  pub behind : (front : List CurvePoint) (p : CurvePoint) (frame : ℕ) → AreRising (front ++ (p ∷ [])) → p.frame ≤ frame → steps_at (front ++ (p ∷ [])) frame ≡ p.steps
+  pub behind : (front : List CurvePoint) (p : CurvePoint) (frame : ℕ)
+      → AreRising (front ++ (p ∷ [])) → p.frame ≤ frame
+      → steps_at (front ++ (p ∷ [])) frame ≡ p.steps
 
 -- ---- how far
 
@@ -30,6 +37,7 @@ pub record CurvesGoEvenly : Type 0 where
 abbrev pub is_within : ℕ → ℕ → ℤ → Bool
 is_within down up steps = int_le (neg_ℤ (pos down)) steps && int_le steps (pos up)
 
+-- no frame has steps outside those of the points
 pub record CurvesStayWithin : Type 0 where
   -- where the steps of all points are, those of every frame are
   pub all : (down up : ℕ) (points : List CurvePoint)
@@ -44,6 +52,7 @@ pub record CurvesStayWithin : Type 0 where
 abbrev pub opposite_point : EnvelopePoint → EnvelopePoint
 opposite_point point = record point { steps = neg_ℤ point.steps }
 
+-- the envelope with the opposite steps
 abbrev pub opposite : List EnvelopePoint → List EnvelopePoint
 opposite points = map opposite_point points
 
@@ -52,8 +61,10 @@ abbrev pub AreOpposite : Result (List CurvePoint) ℕ → Result (List CurvePoin
 AreOpposite (Err line) (Err other) = line ≡ other
 AreOpposite (Err line) (Ok other) = ⊥
 AreOpposite (Ok points) (Err other) = ⊥
-AreOpposite (Ok points) (Ok others) = (frame : ℕ) → steps_at others frame ≡ neg_ℤ (steps_at points frame)
+AreOpposite (Ok points) (Ok others) =
+    (frame : ℕ) → steps_at others frame ≡ neg_ℤ (steps_at points frame)
 
+-- an envelope and the opposite one have opposite curves
 abbrev pub OppositeCurves : Type 0
 OppositeCurves = (class : ClassFields) (frames : ℕ) (points : List EnvelopePoint)
     → AreOpposite (curve_of class frames points) (curve_of class frames (opposite points))

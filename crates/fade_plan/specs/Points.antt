@@ -1,15 +1,15 @@
 -- The points of an envelope and of its curve, which the code keeps in one list.
-use Rattle.std.specs.Prelude.{ℕ, ◌<◌, ◌^◌, nat_lt, if◌then◌else◌, List, [], ◌∷◌, Option, Some, None}
-use Rattle.frame_header.specs.Fields.{ClassFields}
+use Rattle.std.specs.Prelude.{if◌then◌else◌, List, nat_lt, None, Option, Some, ℕ, [], ◌<◌, ◌^◌, ◌∷◌}
 use Rattle.cue_sheet.specs.Places.{frame_at}
+use Rattle.fade_plan.specs.{Curves.CurvePoint, Sheets.{EnvelopePoint, IsPoint}}
 use Rattle.fade_plan.specs.declared.point.Point.{Point}
-use Rattle.fade_plan.specs.Sheets.{EnvelopePoint, IsPoint}
-use Rattle.fade_plan.specs.Curves.{CurvePoint}
+use Rattle.frame_header.specs.Fields.{ClassFields}
 
--- what an envelope and a curve show of a point
+-- what an envelope shows of a point
 abbrev pub in_envelope : Point → EnvelopePoint
 in_envelope point = record { line = point.line; place = point.place; steps = point.steps }
 
+-- what a curve shows of a point
 abbrev pub in_curve : Point → CurvePoint
 in_curve point = record { frame = point.frame; steps = point.steps }
 
@@ -18,6 +18,7 @@ pub record IsKept (point : Point) : Type 0 where
   pub sound : IsPoint point.place point.steps
   pub frame : point.frame < 2 ^ 48
 
+-- the point at the frame of its position
 abbrev pub placed : ClassFields → ℕ → Point → Point
 placed class frames point = record point { frame = frame_at class frames point.place }
 
@@ -25,4 +26,5 @@ placed class frames point = record point { frame = frame_at class frames point.p
 unfoldable pub first_low : List Point → Option ℕ
 first_low [] = None
 first_low (point ∷ []) = None
-first_low (point ∷ next ∷ more) = if nat_lt point.frame next.frame then first_low (next ∷ more) else Some next.line
+first_low (point ∷ next ∷ more) =
+    if nat_lt point.frame next.frame then first_low (next ∷ more) else Some next.line

@@ -1,11 +1,11 @@
--- Sheets of a fade: what a line says, the first line at fault, and the points. Lines and words are cut as those of a cue sheet.
-use Rattle.std.specs.Prelude.{ℕ, ◌+◌, ◌≤◌, ◌==◌, nat_le, if◌then◌else◌, Bool, true, false, List, [], ◌∷◌, ◌++◌, length, map, count_by, Option, Some, None, Result, Ok, Err, ℤ, unsigned_abs}
-use Rattle.cue_sheet.specs.declared.place.Place.{Place}
-use Rattle.cue_sheet.specs.Digits.{steps_in}
-use Rattle.cue_sheet.specs.Lines.{words_of, lines_of, lines_from}
-use Rattle.cue_sheet.specs.Places.{place_of, IsPlace}
-use Rattle.fade_plan.specs.declared.entry.Entry.{Entry}
-use Rattle.fade_plan.specs.declared.entry.Entry.TheVariants.{Passed, At, Broken}
+-- Sheets of a fade: what a line says, the first line at fault, and
+-- the points. Lines and words are cut as those of a cue sheet.
+use Rattle.std.specs.Prelude.{Bool, count_by, Err, false, if◌then◌else◌, length, List, map, nat_le}
+use Rattle.std.specs.Prelude.{None, Ok, Option, Result, Some, true, unsigned_abs, ℕ, ℤ, [], ◌++◌}
+use Rattle.std.specs.Prelude.{◌+◌, ◌==◌, ◌∷◌, ◌≤◌}
+use Rattle.cue_sheet.specs.{Digits.steps_in, Lines.{lines_from, lines_of, words_of}}
+use Rattle.cue_sheet.specs.{Places.{IsPlace, place_of}, declared.place.Place.Place}
+use Rattle.fade_plan.specs.declared.entry.Entry.{Entry, TheVariants.{At, Broken, Passed}}
 use Rattle.fade_plan.specs.declared.envelope_fault.EnvelopeFault.{EnvelopeFault}
 use Rattle.fade_plan.specs.declared.envelope_fault.EnvelopeFault.TheVariants.{Line, NoPoints}
 
@@ -22,6 +22,7 @@ abbrev pub is_comment : List ℕ → Bool
 is_comment [] = false
 is_comment (first ∷ rest) = first == 35
 
+-- a point, if both words are legal
 abbrev pub point_with : Option Place → Option ℤ → Entry
 point_with None steps = Broken
 point_with (Some place) None = Broken
@@ -34,14 +35,17 @@ point_of (place ∷ []) = Broken
 point_of (place ∷ steps ∷ []) = point_with (place_of place) (steps_in steps)
 point_of (place ∷ steps ∷ third ∷ more) = Broken
 
--- what a line says by its words: a comment and a line without words are skipped, every other is a point
+-- what a line says by its words: a comment and a line
+-- without words are skipped, every other is a point
 unfoldable pub entry_of : List (List ℕ) → Entry
 entry_of [] = Passed
 entry_of (first ∷ rest) = if is_comment first then Passed else point_of (first ∷ rest)
 
+-- what a line says
 abbrev pub entry_in : List ℕ → Entry
 entry_in line = entry_of (words_of line)
 
+-- what each line of a sheet says
 abbrev pub entries_of : List ℕ → List Entry
 entries_of bytes = map entry_in (lines_of bytes)
 
@@ -51,12 +55,14 @@ entries_from text at = map entry_in (lines_from text at)
 
 -- ---- faults
 
+-- the line is a point
 abbrev pub is_point : Entry → Bool
 is_point Passed = false
 is_point (At place steps) = true
 is_point Broken = false
 
--- after so many points a line is at fault if it breaks its rule or is one point too many: a sheet has at most 1,000
+-- after so many points a line is at fault if it breaks its
+-- rule or is one point too many: a sheet has at most 1,000
 abbrev pub is_at_fault : ℕ → Entry → Bool
 is_at_fault points Passed = false
 is_at_fault points (At place steps) = nat_le 1000 points
@@ -82,14 +88,18 @@ unfoldable pub points_from : ℕ → List Entry → List EnvelopePoint
 points_from line [] = []
 points_from line (entry ∷ more) = point_at line entry ++ points_from (line + 1) more
 
+-- a sheet has to have a point
 abbrev pub some_points : List EnvelopePoint → Result (List EnvelopePoint) EnvelopeFault
 some_points [] = Err NoPoints
 some_points (point ∷ more) = Ok (point ∷ more)
 
-abbrev pub unless : Option ℕ → Result (List EnvelopePoint) EnvelopeFault → Result (List EnvelopePoint) EnvelopeFault
+-- the answer, unless a line is at fault
+abbrev pub unless : Option ℕ → Result (List EnvelopePoint) EnvelopeFault
+    → Result (List EnvelopePoint) EnvelopeFault
 unless None answer = answer
 unless (Some line) answer = Err (Line line)
 
+-- the points that lines say, or the first fault
 abbrev pub envelope_in : List Entry → Result (List EnvelopePoint) EnvelopeFault
 envelope_in entries = unless (first_fault [] entries) (some_points (points_from 1 entries))
 

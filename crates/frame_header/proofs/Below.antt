@@ -1,5 +1,5 @@
 -- What a test that all numbers below a bound pass says of each of them.
-use Rattle.std.proofs.Common.{◌≡◌, ℕ, zero, suc, ◌<◌, ◌≤◌, Bool, true, ◌&&◌, subst, inl, inr, arith}
+use Rattle.std.proofs.Common.{arith, Bool, inl, inr, subst, suc, true, zero, ℕ, ◌&&◌, ◌<◌, ◌≡◌, ◌≤◌}
 use Rattle.std.proofs.lemmas.Bool.{and_parts, cases_lt}
 
 abbrev pub all_below : ℕ → (ℕ → Bool) → Bool
@@ -9,8 +9,12 @@ all_below (suc n) p = p n && all_below n p
 same : (k n : ℕ) → k < suc n → n ≤ k → n ≡ k
 same k n lt at = omega arith
 
+-- what a test says of all numbers below a bound it says of each of them
 pub all_below-pass : (n : ℕ) (p : ℕ → Bool) (k : ℕ) → all_below n p ≡ true → k < n → p k ≡ true
 all_below-pass zero p k h lt = absurd (omega arith)
 all_below-pass (suc n) p k h lt =
     let parts = and_parts (p n) (all_below n p) h in
-    elim (cases_lt k n) as (λ _. p k ≡ true) [ inl below ↦ all_below-pass n p k parts.1 below | inr at ↦ subst (λ m. p m ≡ true) (same k n lt at) parts.0 ]
+    elim (cases_lt k n) as (λ _. p k ≡ true) [
+      | inl below ↦ all_below-pass n p k parts.1 below
+      | inr at ↦ subst (λ m. p m ≡ true) (same k n lt at) parts.0
+    ]

@@ -1,13 +1,11 @@
 -- When two classes are the same, and the header of a class among all bits.
-use Rattle.std.proofs.Common.{◌≡◌, ◌==◌, if◌then◌else◌, Bool, true, false, Result, Ok, Err, Some, None, refl, sym, ap, ◌∙◌}
+use Rattle.std.proofs.Common.{ap, Bool, Err, false, if◌then◌else◌, None, Ok, refl, Result, Some}
+use Rattle.std.proofs.{Common.{sym, true, ◌==◌, ◌∙◌, ◌≡◌}, lemmas.Bool.{and_parts, eqb-true}}
 use Rattle.std.specs.Prelude.{unwrap_or}
-use Rattle.std.proofs.lemmas.Bool.{eqb-true, and_parts}
-use Rattle.frame_header.specs.declared.version.Version.{Version}
+use Rattle.frame_header.specs.Fields.{ClassFields, HeaderFields, same_class, version_number}
+use Rattle.frame_header.specs.{Reading.header_of_class, Tables.class_of}
+use Rattle.frame_header.specs.declared.{header.NotHeader.NotHeader, version.Version.Version}
 use Rattle.frame_header.specs.declared.version.Version.TheVariants.{One, Two, TwoFive}
-use Rattle.frame_header.specs.declared.header.NotHeader.{NotHeader}
-use Rattle.frame_header.specs.Fields.{ClassFields, HeaderFields, version_number, same_class}
-use Rattle.frame_header.specs.Tables.{class_of}
-use Rattle.frame_header.specs.Reading.{header_of_class}
 
 version-same : (v w : Version) → version_number v ≡ version_number w → v ≡ w
 version-same One One e = refl
@@ -15,29 +13,39 @@ version-same Two Two e = refl
 version-same TwoFive TwoFive e = refl
 version-same _ _ e = absurd cc
 
-class-parts : (c d : ClassFields) → c.version ≡ d.version → c.frequency_index ≡ d.frequency_index → c.channels ≡ d.channels → c ≡ d
+class-parts : (c d : ClassFields) → c.version ≡ d.version → c.frequency_index ≡ d.frequency_index
+    → c.channels ≡ d.channels → c ≡ d
 class-parts c d version frequency channels =
-    ap (λ v. record { version = v; frequency_index = c.frequency_index; channels = c.channels }) version
+    ap (λ v. record { version = v; frequency_index = c.frequency_index; channels = c.channels })
+    version
     ∙ ap (λ n. record { version = d.version; frequency_index = n; channels = c.channels }) frequency
-    ∙ ap (λ n. record { version = d.version; frequency_index = d.frequency_index; channels = n }) channels
+    ∙ ap (λ n. record { version = d.version; frequency_index = d.frequency_index; channels = n })
+    channels
 
+-- two classes that are compared as the same are equal
 pub same_class-is : (c d : ClassFields) → same_class c d ≡ true → c ≡ d
 unfolding same_class
 same_class-is c d e =
     let all = and_parts _ (c.channels == d.channels) e in
     let front = and_parts _ (c.frequency_index == d.frequency_index) all.0 in
-    class-parts c d (version-same c.version d.version (eqb-true _ _ front.0)) (eqb-true _ _ front.1) (eqb-true _ _ all.1)
+    class-parts c d (version-same c.version d.version (eqb-true _ _ front.0)) (eqb-true _ _ front.1)
+    (eqb-true _ _ all.1)
 
 -- bits without a header of this version and frequency have none of the class
-pub none_of_class : (class : ClassFields) (read : Result HeaderFields NotHeader) → ((h : HeaderFields) → read ≡ Ok h → h.version ≡ class.version → h.frequency_index ≡ class.frequency_index → ⊥) → header_of_class class read ≡ None
+pub none_of_class : (class : ClassFields) (read : Result HeaderFields NotHeader)
+    → ((h : HeaderFields) → read ≡ Ok h → h.version ≡ class.version
+    → h.frequency_index ≡ class.frequency_index → ⊥) → header_of_class class read ≡ None
 none_of_class class (Err why) none = refl
 none_of_class class (Ok h) none = by_cases (same_class (class_of h) class) refl
   where
     by_cases : (b : Bool) → same_class (class_of h) class ≡ b → (if b then Some h else None) ≡ None
-    by_cases true same = let is = same_class-is (class_of h) class same in absurd (none h refl (ap (λ c. c.version) is) (ap (λ c. c.frequency_index) is))
+    by_cases true same = let is = same_class-is (class_of h) class same in
+        absurd (none h refl (ap (λ c. c.version) is) (ap (λ c. c.frequency_index) is))
     by_cases false same = refl
 
-some_by : (class : ClassFields) (k h : HeaderFields) (b : Bool) → same_class (class_of k) class ≡ b → (if b then Some k else None) ≡ Some h → (k ≡ h) × (class_of h ≡ class) × (same_class (class_of h) class ≡ true)
+some_by : (class : ClassFields) (k h : HeaderFields) (b : Bool) → same_class (class_of k) class ≡ b
+    → (if b then Some k else None) ≡ Some h
+    → (k ≡ h) × (class_of h ≡ class) × (same_class (class_of h) class ≡ true)
 some_by class k h true same is =
     let k_is : k ≡ h = ap (λ o. unwrap_or o k) is in
     let same_h = ap (λ (l : HeaderFields). same_class (class_of l) class) (sym k_is) ∙ same in
@@ -45,7 +53,9 @@ some_by class k h true same is =
 some_by class k h false same is = absurd cc
 
 -- the header of the class is the one that was read
-pub some_of_class : (class : ClassFields) (read : Result HeaderFields NotHeader) (h : HeaderFields) → header_of_class class read ≡ Some h → (read ≡ Ok h) × (class_of h ≡ class) × (same_class (class_of h) class ≡ true)
+pub some_of_class : (class : ClassFields) (read : Result HeaderFields NotHeader) (h : HeaderFields)
+    → header_of_class class read ≡ Some h
+    → (read ≡ Ok h) × (class_of h ≡ class) × (same_class (class_of h) class ≡ true)
 some_of_class class (Err why) h is = absurd cc
 some_of_class class (Ok k) h is =
     let found = some_by class k h (same_class (class_of k) class) refl is in

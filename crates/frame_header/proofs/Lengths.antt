@@ -1,18 +1,19 @@
 -- Bounds on the tables and on the lengths that follow from them.
-use Rattle.std.proofs.Common.{◌≡◌, ℕ, ◌+◌, ◌-◌, ◌*◌, ◌/◌, ◌<◌, ◌≤◌, Bool, true, false, cond, suc, List, [], map, length, get_or, leb, eqb, refl, sym, ap, ap₂, ◌∙◌, lit<, lit≤, arith}
-use Rattle.std.proofs.lemmas.Nat.{le-div}
-use Rattle.std.proofs.lemmas.Bool.{leb-true, eqb-true, true≢false, true_from_ne_false}
-use mir.Val.{bool_byte}
-use Rattle.std.proofs.lemmas.List.{get_or-map}
-use Rattle.std.proofs.lemmas.List.Folds.{list_all_at}
+use Rattle.std.proofs.Common.{ap, ap₂, arith, Bool, cond, eqb, false, get_or, leb, length, List}
+use Rattle.std.proofs.Common.{lit<, lit≤, map, refl, suc, sym, true, ℕ, [], ◌*◌, ◌+◌, ◌-◌, ◌/◌, ◌<◌}
+use Rattle.std.proofs.Common.{◌∙◌, ◌≡◌, ◌≤◌}
+use Rattle.std.proofs.lemmas.Bool.{eqb-true, leb-true, true_from_ne_false, true≢false}
+use Rattle.std.proofs.lemmas.{List.{get_or-map, Folds.list_all_at}, Nat.le-div}
 use Rattle.std.specs.List.{list_all}
-use Rattle.frame_header.specs.declared.version.Version.{Version}
+use Rattle.frame_header.specs.Fields.{ClassFields, IsClass, IsSlot, SlotFields}
+use Rattle.frame_header.specs.Tables.{frequencies, frequency_of, length_factor, length_of, rate_of}
+use Rattle.frame_header.specs.Tables.{rates, side_bytes_of, side_size_of, version_place}
+use Rattle.frame_header.specs.declared.{class.TheConstants.LENGTHS, version.Version.Version}
 use Rattle.frame_header.specs.declared.version.Version.TheVariants.{One, Two, TwoFive}
-use Rattle.frame_header.specs.Fields.{SlotFields, ClassFields, IsSlot, IsClass}
-use Rattle.frame_header.specs.Tables.{rates, frequencies, rate_of, frequency_of, side_bytes_of, side_size_of, length_factor, length_of, version_place}
-use Rattle.frame_header.specs.declared.class.TheConstants.{LENGTHS}
+use mir.Val.{bool_byte}
 
--- the lowest bit rate of a version in kbit/s, which is the first, and its highest frequency in Hz, which is the second
+-- the lowest bit rate of a version in kbit/s, which is the
+-- first, and its highest frequency in Hz, which is the second
 abbrev pub least_rate : Version → ℕ
 least_rate version = get_or (rates version) 0 0
 
@@ -20,18 +21,25 @@ abbrev pub highest_frequency : Version → ℕ
 highest_frequency version = get_or (frequencies version) 1 0
 
 -- what a test says of a whole table holds at each of its places
-all_pass : (p : ℕ → Bool) (xs : List ℕ) (i : ℕ) → list_all p xs ≡ true → i < length xs → p (get_or xs i 0) ≡ true
-all_pass p xs i all lt = true_from_ne_false (p (get_or xs i 0)) (λ fails. true≢false (sym all ∙ list_all_at p xs i 0 lt fails))
+all_pass : (p : ℕ → Bool) (xs : List ℕ) (i : ℕ) → list_all p xs ≡ true → i < length xs
+    → p (get_or xs i 0) ≡ true
+all_pass p xs i all lt = true_from_ne_false (p (get_or xs i 0))
+    (λ fails. true≢false (sym all ∙ list_all_at p xs i 0 lt fails))
 
 least : (version : Version) (i : ℕ) → i < 14 → least_rate version ≤ get_or (rates version) i 0
-least One i lt = leb-true 32 (get_or (rates One) i 0) (all_pass (λ r. leb 32 r) (rates One) i refl lt)
+least One i lt =
+    leb-true 32 (get_or (rates One) i 0) (all_pass (λ r. leb 32 r) (rates One) i refl lt)
 least Two i lt = leb-true 8 (get_or (rates Two) i 0) (all_pass (λ r. leb 8 r) (rates Two) i refl lt)
-least TwoFive i lt = leb-true 8 (get_or (rates TwoFive) i 0) (all_pass (λ r. leb 8 r) (rates TwoFive) i refl lt)
+least TwoFive i lt =
+    leb-true 8 (get_or (rates TwoFive) i 0) (all_pass (λ r. leb 8 r) (rates TwoFive) i refl lt)
 
 greatest : (version : Version) (i : ℕ) → i < 14 → get_or (rates version) i 0 ≤ 320
-greatest One i lt = leb-true (get_or (rates One) i 0) 320 (all_pass (λ r. leb r 320) (rates One) i refl lt)
-greatest Two i lt = leb-true (get_or (rates Two) i 0) 320 (all_pass (λ r. leb r 320) (rates Two) i refl lt)
-greatest TwoFive i lt = leb-true (get_or (rates TwoFive) i 0) 320 (all_pass (λ r. leb r 320) (rates TwoFive) i refl lt)
+greatest One i lt =
+    leb-true (get_or (rates One) i 0) 320 (all_pass (λ r. leb r 320) (rates One) i refl lt)
+greatest Two i lt =
+    leb-true (get_or (rates Two) i 0) 320 (all_pass (λ r. leb r 320) (rates Two) i refl lt)
+greatest TwoFive i lt =
+    leb-true (get_or (rates TwoFive) i 0) 320 (all_pass (λ r. leb r 320) (rates TwoFive) i refl lt)
 
 lowest : (version : Version) → 8 ≤ least_rate version
 lowest One = lit< tt
@@ -40,16 +48,29 @@ lowest _ = lit< tt
 -- the bit rates of all versions are between 8 and 320 kbit/s
 pub rate-least : (c : ClassFields) (s : SlotFields) → IsSlot s → 8 ≤ rate_of c s
 unfolding rate_of
-rate-least c s slot = omega (arith, lowest c.version, least c.version (s.rate_index - 1) (omega (arith, slot.0, slot.1)))
+rate-least c s slot = omega
+    (arith, lowest c.version, least c.version (s.rate_index - 1) (omega (arith, slot.0, slot.1)))
 
+-- no bit rate is above 320 kbit/s
 pub rate-most : (c : ClassFields) (s : SlotFields) → IsSlot s → rate_of c s ≤ 320
 unfolding rate_of
 rate-most c s slot = greatest c.version (s.rate_index - 1) (omega (arith, slot.0, slot.1))
 
-highest : (version : Version) (i : ℕ) → i < 3 → (get_or (frequencies version) i 0 ≤ highest_frequency version) × (8000 ≤ get_or (frequencies version) i 0)
-highest One i lt = (leb-true _ _ (all_pass (λ f. leb f 48000) (frequencies One) i refl lt), leb-true 8000 _ (all_pass (λ f. leb 8000 f) (frequencies One) i refl lt))
-highest Two i lt = (leb-true _ _ (all_pass (λ f. leb f 24000) (frequencies Two) i refl lt), leb-true 8000 _ (all_pass (λ f. leb 8000 f) (frequencies Two) i refl lt))
-highest TwoFive i lt = (leb-true _ _ (all_pass (λ f. leb f 12000) (frequencies TwoFive) i refl lt), leb-true 8000 _ (all_pass (λ f. leb 8000 f) (frequencies TwoFive) i refl lt))
+highest : (version : Version) (i : ℕ) → i < 3
+    → (get_or (frequencies version) i 0 ≤ highest_frequency version)
+    × (8000 ≤ get_or (frequencies version) i 0)
+highest One i lt = (
+  leb-true _ _ (all_pass (λ f. leb f 48000) (frequencies One) i refl lt),
+  leb-true 8000 _ (all_pass (λ f. leb 8000 f) (frequencies One) i refl lt),
+)
+highest Two i lt = (
+  leb-true _ _ (all_pass (λ f. leb f 24000) (frequencies Two) i refl lt),
+  leb-true 8000 _ (all_pass (λ f. leb 8000 f) (frequencies Two) i refl lt),
+)
+highest TwoFive i lt = (
+  leb-true _ _ (all_pass (λ f. leb f 12000) (frequencies TwoFive) i refl lt),
+  leb-true 8000 _ (all_pass (λ f. leb 8000 f) (frequencies TwoFive) i refl lt),
+)
 
 -- the shortest frame of a version
 abbrev pub least_length : Version → ℕ
@@ -57,12 +78,16 @@ least_length One = 96
 least_length Two = 24
 least_length TwoFive = 48
 
-shortest : (version : Version) (rate frequency : ℕ) → least_rate version ≤ rate → 0 < frequency → frequency ≤ highest_frequency version → least_length version ≤ (length_factor version * (1000 * rate)) / frequency
+shortest : (version : Version) (rate frequency : ℕ) → least_rate version ≤ rate → 0 < frequency
+    → frequency ≤ highest_frequency version
+    → least_length version ≤ (length_factor version * (1000 * rate)) / frequency
 shortest One rate frequency most some few = le-div 96 _ frequency some (omega arith)
 shortest Two rate frequency most some few = le-div 24 _ frequency some (omega arith)
 shortest TwoFive rate frequency most some few = le-div 48 _ frequency some (omega arith)
 
-pub length-least : (c : ClassFields) (s : SlotFields) → IsClass c → IsSlot s → least_length c.version ≤ length_of c s
+-- no frame is shorter than the least length of its version
+pub length-least : (c : ClassFields) (s : SlotFields) → IsClass c → IsSlot s
+    → least_length c.version ≤ length_of c s
 unfolding length_of rate_of frequency_of
 length-least c s class slot =
     let rate = least c.version (s.rate_index - 1) (omega (arith, slot.0, slot.1)) in
@@ -70,19 +95,26 @@ length-least c s class slot =
     let bound = shortest c.version _ _ rate (omega (arith, frequency.1)) frequency.0 in
     omega (arith, bound)
 
-room : (version : Version) (channels : ℕ) → 6 + side_bytes_of version channels < least_length version
-room One channels = elim (eqb channels 1) as (λ b. 6 + cond b 17 32 < 96) [ true ↦ lit< tt | false ↦ lit< tt ]
-room Two channels = elim (eqb channels 1) as (λ b. 6 + cond b 9 17 < 24) [ true ↦ lit< tt | false ↦ lit< tt ]
-room TwoFive channels = elim (eqb channels 1) as (λ b. 6 + cond b 9 17 < 48) [ true ↦ lit< tt | false ↦ lit< tt ]
+room : (version : Version) (channels : ℕ)
+    → 6 + side_bytes_of version channels < least_length version
+room One channels =
+    elim (eqb channels 1) as (λ b. 6 + cond b 17 32 < 96) [ true ↦ lit< tt | false ↦ lit< tt ]
+room Two channels =
+    elim (eqb channels 1) as (λ b. 6 + cond b 9 17 < 24) [ true ↦ lit< tt | false ↦ lit< tt ]
+room TwoFive channels =
+    elim (eqb channels 1) as (λ b. 6 + cond b 9 17 < 48) [ true ↦ lit< tt | false ↦ lit< tt ]
 
 -- header, check word and side information leave room for main data
-pub area_some : (c : ClassFields) (s : SlotFields) → IsClass c → IsSlot s → 6 + side_size_of c < length_of c s
+pub area_some : (c : ClassFields) (s : SlotFields) → IsClass c → IsSlot s
+    → 6 + side_size_of c < length_of c s
 unfolding side_size_of
 area_some c s class slot = omega (arith, length-least c s class slot, room c.version c.channels)
 
 -- ---- the table of lengths
 row_is : (version : Version) (frequency : ℕ) → frequency < 3
-    → get_or LENGTHS (3 * version_place version + frequency) [] ≡ map (λ rate. (length_factor version * (1000 * rate)) / get_or (frequencies version) frequency 0) (rates version)
+    → get_or LENGTHS (3 * version_place version + frequency) []
+    ≡ map (λ rate. (length_factor version * (1000 * rate))
+    / get_or (frequencies version) frequency 0) (rates version)
 row_is One (suc (suc (suc frequency))) h = absurd (omega arith)
 row_is Two (suc (suc (suc frequency))) h = absurd (omega arith)
 row_is TwoFive (suc (suc (suc frequency))) h = absurd (omega arith)
@@ -98,24 +130,36 @@ flag_byte false = refl
 
 -- an entry of the table, and the padding
 abbrev pub length_in_table : ClassFields → SlotFields → ℕ
-length_in_table c s = get_or (get_or LENGTHS (3 * version_place c.version + c.frequency_index) []) (s.rate_index - 1) 0 + bool_byte s.padding
+length_in_table c s = get_or (get_or LENGTHS (3 * version_place c.version + c.frequency_index) [])
+    (s.rate_index - 1) 0 + bool_byte s.padding
 
-pub length_in_table-is : (c : ClassFields) (s : SlotFields) → IsClass c → IsSlot s → length_in_table c s ≡ length_of c s
+-- the length in the table is that of the rule
+pub length_in_table-is : (c : ClassFields) (s : SlotFields) → IsClass c → IsSlot s
+    → length_in_table c s ≡ length_of c s
 unfolding length_of rate_of frequency_of
 length_in_table-is c s class slot =
-    let lengths : ℕ → ℕ = λ rate. (length_factor c.version * (1000 * rate)) / get_or (frequencies c.version) c.frequency_index 0 in
-    let within : s.rate_index - 1 < length (rates c.version) = omega (arith, slot.0, slot.1, length-rates c.version) in
-    ap₂ (λ row flag. get_or row (s.rate_index - 1) 0 + flag) (row_is c.version c.frequency_index (omega (arith, class.0))) (flag_byte s.padding)
-    ∙ ap (λ n. n + cond s.padding 1 0) (get_or-map lengths (rates c.version) (s.rate_index - 1) 0 0 within)
+    let lengths : ℕ → ℕ = λ rate. (length_factor c.version * (1000 * rate))
+    / get_or (frequencies c.version) c.frequency_index 0 in
+    let within : s.rate_index - 1 < length (rates c.version) =
+    omega (arith, slot.0, slot.1, length-rates c.version) in
+    ap₂ (λ row flag. get_or row (s.rate_index - 1) 0 + flag)
+    (row_is c.version c.frequency_index (omega (arith, class.0))) (flag_byte s.padding)
+    ∙ ap (λ n. n + cond s.padding 1 0)
+    (get_or-map lengths (rates c.version) (s.rate_index - 1) 0 0 within)
 
 -- no entry is above 1,440
 entries_most : (row i : ℕ) → row < 9 → i < 14 → get_or (get_or LENGTHS row []) i 0 ≤ 1440
 entries_most row i lt within =
-    let full : length (get_or LENGTHS row []) ≡ 14 = eqb-true _ _ (true_from_ne_false _ (λ fails. true≢false (list_all_at (λ (entries : List ℕ). eqb (length entries) 14) LENGTHS row [] lt fails))) in
-    let below : list_all (λ n. leb n 1440) (get_or LENGTHS row []) ≡ true = true_from_ne_false _ (λ fails. true≢false (list_all_at (λ (entries : List ℕ). list_all (λ n. leb n 1440) entries) LENGTHS row [] lt fails)) in
+    let full : length (get_or LENGTHS row []) ≡ 14 =
+    eqb-true _ _ (true_from_ne_false _ (λ fails. true≢false
+    (list_all_at (λ (entries : List ℕ). eqb (length entries) 14) LENGTHS row [] lt fails))) in
+    let below : list_all (λ n. leb n 1440) (get_or LENGTHS row []) ≡ true = true_from_ne_false _
+    (λ fails. true≢false (list_all_at (λ (entries : List ℕ). list_all (λ n. leb n 1440) entries)
+    LENGTHS row [] lt fails)) in
     leb-true _ 1440 (all_pass (λ n. leb n 1440) (get_or LENGTHS row []) i below (omega arith))
 
-row_below : (version : Version) (frequency : ℕ) → frequency < 3 → 3 * version_place version + frequency < 9
+row_below : (version : Version) (frequency : ℕ) → frequency < 3
+    → 3 * version_place version + frequency < 9
 row_below One frequency h = omega arith
 row_below _ frequency h = omega arith
 
@@ -126,5 +170,7 @@ bool_byte-most false = lit≤ tt
 -- no frame is longer than 1,441 bytes
 pub length-most : (c : ClassFields) (s : SlotFields) → IsClass c → IsSlot s → length_of c s ≤ 1441
 length-most c s class slot =
-    let entry = entries_most (3 * version_place c.version + c.frequency_index) (s.rate_index - 1) (row_below c.version c.frequency_index (omega (arith, class.0))) (omega (arith, slot.0, slot.1)) in
+    let entry = entries_most (3 * version_place c.version + c.frequency_index) (s.rate_index - 1)
+    (row_below c.version c.frequency_index (omega (arith, class.0))) (omega (arith, slot.0, slot.1))
+    in
     omega (arith, entry, bool_byte-most s.padding, length_in_table-is c s class slot)

@@ -1,7 +1,7 @@
 -- A header's fields as contracts see them, and back.
-use Rattle.frame_header.specs.declared.header.Header.TheInside.{Inside}
-use Rattle.frame_header.specs.Fields.{HeaderFields}
+use Rattle.frame_header.specs.{Fields.HeaderFields, declared.header.Header.TheInside.Inside}
 
+-- the fields of the code's header
 abbrev pub fields_of : Inside → HeaderFields
 fields_of h = record {
   version = h.version;
@@ -16,6 +16,7 @@ fields_of h = record {
   emphasis = h.emphasis;
 }
 
+-- the code's header with these fields
 abbrev pub inside_of : HeaderFields → Inside
 inside_of h = record {
   version = h.version;

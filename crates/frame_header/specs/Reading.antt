@@ -1,35 +1,40 @@
 -- The 32 bits of a header (ISO/IEC 11172-3 and 13818-3, 2.4.1.3 and 2.4.2.3).
-use Rattle.std.specs.Prelude.{ℕ, ◌==◌, ◌&&◌, not, if◌then◌else◌, Bool, List, Result, Ok, Err, Option, Some, None}
-use Rattle.bit_fields.specs.Bits.{bits}
-use Rattle.bit_fields.specs.Groups.{group}
-use Rattle.frame_header.specs.declared.version.Version.{Version}
-use Rattle.frame_header.specs.declared.version.Version.TheVariants.{One, Two, TwoFive}
-use Rattle.frame_header.specs.declared.header.NotHeader.{NotHeader}
-use Rattle.frame_header.specs.declared.header.NotHeader.TheVariants.{Free, No}
-use Rattle.frame_header.specs.Fields.{ClassFields, HeaderFields, same_class}
-use Rattle.frame_header.specs.Tables.{class_of}
+use Rattle.std.specs.Prelude.{Bool, Err, if◌then◌else◌, List, None, not, Ok, Option, Result, Some}
+use Rattle.std.specs.Prelude.{ℕ, ◌&&◌, ◌==◌}
+use Rattle.bit_fields.specs.{Bits.bits, Groups.group}
+use Rattle.frame_header.specs.{Fields.{ClassFields, HeaderFields, same_class}, Tables.class_of}
+use Rattle.frame_header.specs.declared.header.NotHeader.{NotHeader, TheVariants.{Free, No}}
+use Rattle.frame_header.specs.declared.version.Version.{Version, TheVariants.{One, Two, TwoFive}}
 
 -- groups of these 32 bits; first the twelfth bit and ID
 abbrev pub version_bits : List ℕ → ℕ
 version_bits h = group 11 2 h
 
+-- the bit that is 0 where a check word follows the header
 abbrev pub protection_bit : List ℕ → ℕ
 protection_bit h = group 15 1 h
 
+-- the bit rate index
 abbrev pub rate_bits : List ℕ → ℕ
 rate_bits h = group 16 4 h
 
+-- the sampling frequency index
 abbrev pub frequency_bits : List ℕ → ℕ
 frequency_bits h = group 20 2 h
 
--- the first 11 bits, the sync word that all versions share, are ones; the twelfth is 1, or it and ID are both 0; the layer, of two bits, is
--- III; and the bit rate isn't the forbidden one nor the frequency the reserved one
+-- the first 11 bits, the sync word that all versions share, are ones; the twelfth is 1, or it and
+-- ID are both 0; the layer, of two bits, is III; and the bit rate isn't the forbidden one nor the
+-- frequency the reserved one; all other bits are free
 unfoldable pub is_readable : List ℕ → Bool
-is_readable h = (group 0 11 h == 2047) && not (version_bits h == 1) && (group 13 2 h == 1) && not (rate_bits h == 15) && not (frequency_bits h == 3)
+is_readable h = (group 0 11 h == 2047) && not (version_bits h == 1) && (group 13 2 h == 1)
+    && not (rate_bits h == 15) && not (frequency_bits h == 3)
 
+-- MPEG-1 where ID is 1; else MPEG-2, its lower sampling frequencies, where the twelfth bit is 1,
+-- and where it is 0 MPEG-2.5, which no standard has, as LAME writes it and decoders read it
 abbrev pub version_of : List ℕ → Version
 version_of h = if version_bits h == 3 then One else (if version_bits h == 2 then Two else TwoFive)
 
+-- the fields in these 32 bits
 unfoldable pub header_fields : List ℕ → HeaderFields
 header_fields h = record {
   version = version_of h;
@@ -46,7 +51,8 @@ header_fields h = record {
 
 -- the header that 32 bits are, if they are readable and not free format
 unfoldable pub header_in : List ℕ → Result HeaderFields NotHeader
-header_in h = if is_readable h then (if rate_bits h == 0 then Err Free else Ok (header_fields h)) else Err No
+header_in h =
+    if is_readable h then (if rate_bits h == 0 then Err Free else Ok (header_fields h)) else Err No
 
 -- the header that four bytes are
 unfoldable pub header_at : List ℕ → Result HeaderFields NotHeader

@@ -1,19 +1,27 @@
 -- Laws of the queue.
-use Rattle.std.proofs.Common.{◌≡◌, ℕ, ◌+◌, ◌-◌, ◌≤◌, List, ◌++◌, length, take, drop, sym, ap, ap₂, ◌∙◌, arith, length-drop}
-use Rattle.std.proofs.lemmas.List.{drop-take, drop-drop, drop-append-le, length-take-le}
+use Rattle.std.proofs.Common.{ap, ap₂, arith, drop, length, length-drop, List, sym, take, ℕ, ◌++◌}
+use Rattle.std.proofs.Common.{◌+◌, ◌-◌, ◌∙◌, ◌≡◌, ◌≤◌}
 use Rattle.std.proofs.Math.Seq.{take-append-add, take-append_seam}
+use Rattle.std.proofs.lemmas.List.{drop-append-le, drop-drop, drop-take, length-take-le}
 
 -- bytes that are put after those that are held
-pub put-behind : (n h l : ℕ) (room rest part bytes held : List ℕ) → n + h ≤ length room → take h (drop n room) ≡ held → part ≡ bytes → length bytes ≡ l → take (n + h + l - n) (drop n (take (n + h) room ++ (part ++ rest))) ≡ held ++ bytes
+pub put-behind : (n h l : ℕ) (room rest part bytes held : List ℕ) → n + h ≤ length room
+    → take h (drop n room) ≡ held → part ≡ bytes → length bytes ≡ l
+    → take (n + h + l - n) (drop n (take (n + h) room ++ (part ++ rest))) ≡ held ++ bytes
 put-behind n h l room rest part bytes held within holds is long =
-    let size : length held ≡ h = sym (ap length holds) ∙ length-take-le h (drop n room) (omega (arith, within, length-drop n room)) in
+    let size : length held ≡ h = sym (ap length holds)
+    ∙ length-take-le h (drop n room) (omega (arith, within, length-drop n room)) in
     ap₂ (λ m (xs : List ℕ). take m xs) (omega (arith, size, long))
-    (drop-append-le n (take (n + h) room) (part ++ rest) (omega (arith, length-take-le (n + h) room within)) ∙ ap₂ (λ (xs ys : List ℕ). xs ++ (ys ++ rest)) (drop-take n h room ∙ holds) is)
+    (drop-append-le n (take (n + h) room) (part ++ rest) (omega (
+      arith,
+      length-take-le (n + h) room within,
+    )) ∙ ap₂ (λ (xs ys : List ℕ). xs ++ (ys ++ rest)) (drop-take n h room ∙ holds) is)
     ∙ take-append-add held (bytes ++ rest) (length bytes)
     ∙ ap (λ (xs : List ℕ). held ++ xs) (take-append_seam bytes rest)
 
 -- bytes of which the first are dropped
-pub dropped : (from to count : ℕ) (room held : List ℕ) → take (to - from) (drop from room) ≡ held → from + count ≤ to → take (to - (from + count)) (drop (from + count) room) ≡ drop count held
+pub dropped : (from to count : ℕ) (room held : List ℕ) → take (to - from) (drop from room) ≡ held
+    → from + count ≤ to → take (to - (from + count)) (drop (from + count) room) ≡ drop count held
 dropped from to count room held is within =
     let all : to - from ≡ count + (to - (from + count)) = omega (arith, within) in
     ap (take (to - (from + count))) (sym (drop-drop count from room))

@@ -1,30 +1,31 @@
 -- Laws of frames that wait.
-use Rattle.std.proofs.Common.{◌≡◌, ℕ, ◌⊎◌, inl, inr, ◌+◌, ◌*◌, ◌≤◌, ◌<◌, min, Bool, true, false, cond, eqb, List, [], ◌∷◌, ◌++◌, length, take, drop, refl, sym, subst, ap, ap₂, ◌∙◌, append_assoc, append-nil, arith, length-append, mul-suc, lit≤, slice_get, Some, unwrap_or, Result, Ok, Err, IsOk, OnOk, ◌↔◌}
-use Rattle.std.proofs.lemmas.List.{length-drop, take-append-le, drop-append-le, map-append}
-use Rattle.std.proofs.Math.Seq.{take-length}
-use Rattle.std.proofs.Math.Nat.{min-eq_left, min-eq_right}
+use Rattle.std.proofs.Common.{ap, append-nil, append_assoc, ap₂, arith, Bool, cond, drop, eqb, Err}
+use Rattle.std.proofs.Common.{false, inl, inr, IsOk, length, length-append, List, lit≤, min}
+use Rattle.std.proofs.Common.{mul-suc, Ok, OnOk, refl, Result, slice_get, Some, subst, sym, take}
+use Rattle.std.proofs.Common.{true, unwrap_or, ℕ, [], ◌*◌, ◌++◌, ◌+◌, ◌<◌, ◌↔◌, ◌∙◌, ◌∷◌, ◌≡◌, ◌≤◌}
+use Rattle.std.proofs.{Common.◌⊎◌, Math.{Nat.{min-eq_left, min-eq_right}, Seq.take-length}}
 use Rattle.std.proofs.lemmas.Bool.{cases_lt, false≢true}
-use Rattle.frame_header.specs.Fields.{ClassFields, SlotFields, IsClass, IsSlot, IsHeader}
-use Rattle.frame_header.specs.declared.version.Version.{Version}
-use Rattle.frame_header.specs.declared.version.Version.TheVariants.{One, Two, TwoFive}
-use Rattle.frame_header.specs.Tables.{class_of, area_of, overhead_of, side_size_of, side_bytes_of, window_of}
-use Rattle.frame_header.proofs.HeaderLaws.{IsClass-class_of}
-use Rattle.frame_header.proofs.Lengths.{least_length, length-least}
-use Rattle.frame_header.proofs.SlotLaws.{area-is, area-most}
-use Rattle.side_info.specs.Side.{SideFits}
-use Rattle.side_info.specs.Frame.{front_of}
+use Rattle.std.proofs.lemmas.List.{drop-append-le, length-drop, map-append, take-append-le}
 use Rattle.circular_buffer.specs.Buffer.{Buffer, buffer}
-use Rattle.side_info.specs.FrameFields.{FrameFields}
-use Rattle.frame_writer.specs.Laid.{Piece, Waiting, laid, AreLaid, BeginsWithin}
-use Rattle.frame_writer.specs.Frames.{area_in, areas_in, first_bytes, framed, Frame, piece_of, all_kept, pieces, frame_bytes, Held, held_bytes, AreOf, IsNextSettled, AreWritten}
+use Rattle.frame_header.proofs.{HeaderLaws.IsClass-class_of, Lengths.{least_length, length-least}}
+use Rattle.frame_header.proofs.SlotLaws.{area-is, area-most}
+use Rattle.frame_header.specs.Fields.{ClassFields, IsClass, IsHeader, IsSlot, SlotFields}
+use Rattle.frame_header.specs.Tables.{area_of, class_of, overhead_of, side_bytes_of, side_size_of}
+use Rattle.frame_header.specs.{Tables.window_of, declared.version.Version.Version}
+use Rattle.frame_header.specs.declared.version.Version.TheVariants.{One, Two, TwoFive}
 use Rattle.frame_writer.proofs.LaidLaws.{laid-later}
-use Rattle.frame_writer.specs.Writing.{IsNew}
-use Rattle.frame_writer.specs.Laws.{LaidSteps, HaveRoom, FewWait}
+use Rattle.frame_writer.specs.Frames.{all_kept, area_in, areas_in, AreOf, AreWritten, first_bytes}
+use Rattle.frame_writer.specs.Frames.{Frame, frame_bytes, framed, Held, held_bytes, IsNextSettled}
+use Rattle.frame_writer.specs.Frames.{piece_of, pieces}
+use Rattle.frame_writer.specs.Laid.{AreLaid, BeginsWithin, laid, Piece, Waiting}
+use Rattle.frame_writer.specs.{Laws.{FewWait, HaveRoom, LaidSteps}, Writing.IsNew}
+use Rattle.side_info.specs.{Frame.front_of, FrameFields.FrameFields, Side.SideFits}
 
 -- ---- areas cut off one after another
 
--- frames after others
-pub framed-more : (ks js : List FrameFields) (xs ys : List ℕ) → length xs ≡ areas_in ks → framed (ks ++ js) (xs ++ ys) ≡ framed ks xs ++ framed js ys
+-- frames and others are framed one after the other
+pub framed-more : (ks js : List FrameFields) (xs ys : List ℕ) → length xs ≡ areas_in ks
+    → framed (ks ++ js) (xs ++ ys) ≡ framed ks xs ++ framed js ys
 framed-more [] js [] ys long = refl
 framed-more [] js (x ∷ xs) ys long = absurd (omega (arith, long))
 framed-more (k ∷ ks) js xs ys long =
@@ -32,15 +33,19 @@ framed-more (k ∷ ks) js xs ys long =
     let front = front_of k.header k.side in
     let within : n ≤ length xs = omega (arith, long) in
     let rest : length (drop n xs) ≡ areas_in ks = omega (arith, length-drop n xs, long) in
-    ap₂ (λ (ps qs : List ℕ). front ++ (ps ++ framed (ks ++ js) qs)) (take-append-le n xs ys within) (drop-append-le n xs ys within)
+    ap₂ (λ (ps qs : List ℕ). front ++ (ps ++ framed (ks ++ js) qs)) (take-append-le n xs ys within)
+    (drop-append-le n xs ys within)
     ∙ ap (λ (qs : List ℕ). front ++ (take n xs ++ qs)) (framed-more ks js (drop n xs) ys rest)
-    ∙ ap (λ (qs : List ℕ). front ++ qs) (sym (append_assoc (take n xs) (framed ks (drop n xs)) (framed js ys)))
+    ∙ ap (λ (qs : List ℕ). front ++ qs)
+    (sym (append_assoc (take n xs) (framed ks (drop n xs)) (framed js ys)))
     ∙ sym (append_assoc front (take n xs ++ framed ks (drop n xs)) (framed js ys))
 
-areas_in-more : (xs : List FrameFields) (k : FrameFields) → areas_in (xs ++ k ∷ []) ≡ areas_in xs + area_in k
+areas_in-more : (xs : List FrameFields) (k : FrameFields)
+    → areas_in (xs ++ k ∷ []) ≡ areas_in xs + area_in k
 areas_in-more [] k = omega arith
 areas_in-more (x ∷ xs) k = omega (arith, areas_in-more xs k)
 
+-- what was taken, and then what waits, are the bytes of all frames that were given
 pub laid-steps : LaidSteps
 laid-steps taken held fs are =
     ap (λ (xs : List ℕ). xs ++ held_bytes held) are.bytes
@@ -48,51 +53,77 @@ laid-steps taken held fs are =
     ∙ ap₂ framed are.all are.laid.same
 
 -- no frame was given
-pub none-written : (c : ClassFields) → AreLaid [] (record { bytes = []; free = 0 }) [] → AreWritten [] (record { class = c; kept = []; waiting = record { bytes = []; free = 0 } }) []
-none-written c are = record { done = []; given = []; all = refl; long = refl; laid = are; bytes = refl }
+pub none-written : (c : ClassFields) → AreLaid [] (record { bytes = []; free = 0 }) []
+    → AreWritten [] (record { class = c; kept = []; waiting = record { bytes = []; free = 0 } }) []
+none-written c are =
+    record { done = []; given = []; all = refl; long = refl; laid = are; bytes = refl }
 
-pub none-new : (c : ClassFields) → AreLaid [] (record { bytes = []; free = 0 }) [] → IsNew c (record { class = c; kept = []; waiting = record { bytes = []; free = 0 } })
-none-new c are = record { class_is = refl; none = refl; free = refl; written = none-written c are; unsettled = λ next. omega (arith, next.some) }
+-- a queue in which nothing waits is new
+pub none-new : (c : ClassFields) → AreLaid [] (record { bytes = []; free = 0 }) []
+    → IsNew c (record { class = c; kept = []; waiting = record { bytes = []; free = 0 } })
+none-new c are = record {
+  class_is = refl;
+  none = refl;
+  free = refl;
+  written = none-written c are;
+  unsettled =
+      λ next. omega (arith, next.some);
+}
 
--- one frame more
-pub more-written : (taken : List ℕ) (c : ClassFields) (kept : List FrameFields) (waiting more : Waiting) (fs : List Frame) (f : Frame) →
-    ((given : List ℕ) (ps : List Piece) → AreLaid given waiting ps → AreLaid given more (ps ++ piece_of f ∷ [])) →
+-- a frame that is given is one more of those taken and waiting
+pub more-written : (taken : List ℕ) (c : ClassFields) (kept : List FrameFields)
+    (waiting more : Waiting) (fs : List Frame) (f : Frame) →
+    ((given : List ℕ) (ps : List Piece) → AreLaid given waiting ps
+    → AreLaid given more (ps ++ piece_of f ∷ [])) →
     AreWritten taken (record { class = c; kept = kept; waiting = waiting }) fs →
-    AreWritten taken (record { class = c; kept = kept ++ f.kept ∷ []; waiting = more }) (fs ++ f ∷ [])
+    AreWritten taken (record { class = c; kept = kept ++ f.kept ∷ []; waiting = more })
+    (fs ++ f ∷ [])
 more-written taken c kept waiting more fs f step are = record {
   done = are.done;
   given = are.given;
-  all = sym (append_assoc are.done kept (f.kept ∷ [])) ∙ ap (λ (ks : List FrameFields). ks ++ f.kept ∷ []) are.all ∙ sym (map-append (λ (g : Frame). g.kept) fs (f ∷ []));
+  all = sym (append_assoc are.done kept (f.kept ∷ []))
+      ∙ ap (λ (ks : List FrameFields). ks ++ f.kept ∷ []) are.all
+      ∙ sym (map-append (λ (g : Frame). g.kept) fs (f ∷ []));
   long = are.long;
-  laid = subst (AreLaid are.given more) (sym (map-append piece_of fs (f ∷ []))) (step are.given (pieces fs) are.laid);
+  laid = subst (AreLaid are.given more) (sym (map-append piece_of fs (f ∷ [])))
+      (step are.given (pieces fs) are.laid);
   bytes = are.bytes;
 }
 
--- the first frame taken
-pub first-written : (taken area_bytes : List ℕ) (c : ClassFields) (k : FrameFields) (ks : List FrameFields) (waiting less : Waiting) (fs : List Frame) →
+-- when the first frame is taken the bytes of all frames stay the same
+pub first-written : (taken area_bytes : List ℕ) (c : ClassFields) (k : FrameFields)
+    (ks : List FrameFields) (waiting less : Waiting) (fs : List Frame) →
     length area_bytes ≡ area_in k →
-    ((given : List ℕ) (ps : List Piece) → AreLaid given waiting ps → AreLaid (given ++ area_bytes) less ps) →
+    ((given : List ℕ) (ps : List Piece) → AreLaid given waiting ps
+    → AreLaid (given ++ area_bytes) less ps) →
     AreWritten taken (record { class = c; kept = k ∷ ks; waiting = waiting }) fs →
-    AreWritten (taken ++ (front_of k.header k.side ++ area_bytes)) (record { class = c; kept = ks; waiting = less }) fs
+    AreWritten (taken ++ (front_of k.header k.side ++ area_bytes))
+    (record { class = c; kept = ks; waiting = less }) fs
 first-written taken area_bytes c k ks waiting less fs long step are =
     let cut : front_of k.header k.side ++ area_bytes ≡ framed (k ∷ []) area_bytes =
     ap (λ (xs : List ℕ). front_of k.header k.side ++ xs)
-    (sym (append-nil area_bytes) ∙ ap (λ (xs : List ℕ). xs ++ []) (sym (take-length area_bytes) ∙ ap (λ n. take n area_bytes) long)) in
+    (sym (append-nil area_bytes) ∙ ap (λ (xs : List ℕ). xs ++ [])
+    (sym (take-length area_bytes) ∙ ap (λ n. take n area_bytes) long)) in
     record {
       done = are.done ++ k ∷ [];
       given = are.given ++ area_bytes;
       all = append_assoc are.done (k ∷ []) ks ∙ are.all;
-      long = omega (arith, length-append are.given area_bytes, are.long, long, areas_in-more are.done k);
+      long = omega
+          (arith, length-append are.given area_bytes, are.long, long, areas_in-more are.done k);
       laid = step are.given (pieces fs) are.laid;
-      bytes = ap₂ (λ (xs ys : List ℕ). xs ++ ys) are.bytes cut ∙ sym (framed-more are.done (k ∷ []) are.given area_bytes are.long);
+      bytes = ap₂ (λ (xs ys : List ℕ). xs ++ ys) are.bytes cut
+          ∙ sym (framed-more are.done (k ∷ []) are.given area_bytes are.long);
     }
 
 -- whatever frames follow, what was taken stays, where the first of them begins within what is free
-pub later-frames : (taken : List ℕ) (held : Held) (fs more : List Frame) → AreWritten taken held fs → BeginsWithin held.waiting.free (pieces more) → (rest : List ℕ) × (frame_bytes (fs ++ more) ≡ taken ++ rest)
+pub later-frames : (taken : List ℕ) (held : Held) (fs more : List Frame) → AreWritten taken held fs
+    → BeginsWithin held.waiting.free (pieces more)
+    → (rest : List ℕ) × (frame_bytes (fs ++ more) ≡ taken ++ rest)
 later-frames taken held fs more are within =
     let found = laid-later are.given held.waiting (pieces fs) (pieces more) are.laid within in
     let all : all_kept (fs ++ more) ≡ are.done ++ (held.kept ++ all_kept more) =
-    map-append (λ (f : Frame). f.kept) fs more ∙ ap (λ (ks : List FrameFields). ks ++ all_kept more) (sym are.all) ∙ append_assoc are.done held.kept (all_kept more) in (
+    map-append (λ (f : Frame). f.kept) fs more ∙ ap (λ (ks : List FrameFields). ks ++ all_kept more)
+    (sym are.all) ∙ append_assoc are.done held.kept (all_kept more) in (
       framed (held.kept ++ all_kept more) found.0,
       ap₂ framed all (ap laid (map-append piece_of fs more) ∙ found.1)
           ∙ framed-more are.done (held.kept ++ all_kept more) are.given found.0 are.long
@@ -101,20 +132,35 @@ later-frames taken held fs more are within =
 
 -- ---- frames in their queue
 
-pub AreOf-more : (c : ClassFields) (ks : List FrameFields) (k : FrameFields) → AreOf c ks → IsHeader k.header → class_of k.header ≡ c → SideFits c k.side → AreOf c (ks ++ k ∷ [])
+-- frames of a class and one more of it are of the class
+pub AreOf-more : (c : ClassFields) (ks : List FrameFields) (k : FrameFields) → AreOf c ks
+    → IsHeader k.header → class_of k.header ≡ c → SideFits c k.side → AreOf c (ks ++ k ∷ [])
 AreOf-more c [] k are is same fits = (is, same, fits, tt)
-AreOf-more c (j ∷ ks) k are is same fits = (are.0, are.1, are.2, AreOf-more c ks k are.3 is same fits)
+AreOf-more c (j ∷ ks) k are is same fits =
+    (are.0, are.1, are.2, AreOf-more c ks k are.3 is same fits)
 
-pub areas_in-pushed : (ks : List FrameFields) (k : FrameFields) (bytes more : List ℕ) → areas_in ks ≡ length bytes → length more ≡ length bytes + area_in k →
+-- areas that are as long as bytes are so with one more and its bytes
+pub areas_in-pushed : (ks : List FrameFields) (k : FrameFields) (bytes more : List ℕ)
+    → areas_in ks ≡ length bytes → length more ≡ length bytes + area_in k →
     areas_in (ks ++ k ∷ []) ≡ length more
 areas_in-pushed ks k bytes more same long = omega (arith, areas_in-more ks k, same, long)
 
-pub pushed-kept : {R : Type 0} (old new : Buffer FrameFields) (k : FrameFields) (r : Result R FrameFields) → old.capacity ≡ 256 → length old.items < 256 → (IsOk r ↔ (length old.items < old.capacity)) →
-    OnOk r (new ≡ buffer (old.items ++ k ∷ []) old.capacity) → (new.capacity ≡ 256) × (new.items ≡ old.items ++ k ∷ [])
-pushed-kept old new k (Ok x) many few when is = (ap (λ (b : Buffer FrameFields). b.capacity) is ∙ many, ap (λ (b : Buffer FrameFields). b.items) is)
-pushed-kept old new k (Err e) many few when is = absurd (false≢true (when.1 (omega (arith, many, few))))
+-- a frame that is added where there is room is the last of the queue
+pub pushed-kept : {R : Type 0} (old new : Buffer FrameFields) (k : FrameFields)
+    (r : Result R FrameFields) → old.capacity ≡ 256 → length old.items < 256
+    → (IsOk r ↔ (length old.items < old.capacity)) →
+    OnOk r (new ≡ buffer (old.items ++ k ∷ []) old.capacity)
+    → (new.capacity ≡ 256) × (new.items ≡ old.items ++ k ∷ [])
+pushed-kept old new k (Ok x) many few when is = (
+  ap (λ (b : Buffer FrameFields). b.capacity) is ∙ many,
+  ap (λ (b : Buffer FrameFields). b.items) is,
+)
+pushed-kept old new k (Err e) many few when is =
+    absurd (false≢true (when.1 (omega (arith, many, few))))
 
-pub first-kept : (ks : List FrameFields) (k : FrameFields) → 0 < length ks → slice_get ks 0 ≡ Some k → ks ≡ k ∷ drop 1 ks
+-- a queue with frames has a first one, and the others behind it
+pub first-kept : (ks : List FrameFields) (k : FrameFields) → 0 < length ks → slice_get ks 0 ≡ Some k
+    → ks ≡ k ∷ drop 1 ks
 first-kept [] k some is = absurd (omega (arith, some))
 first-kept (j ∷ ks) k some is = ap (λ (i : FrameFields). i ∷ ks) (ap (λ o. unwrap_or o j) is)
 
@@ -128,9 +174,11 @@ area-range k is =
       omega (arith, area-most (class_of k.header) k.header.slot k.header.protected class is.slot),
     )
 
--- the bytes of a first frame, and those of the frames after it
-pub first-framed : (k : FrameFields) (ks : List FrameFields) (bytes : List ℕ) → first_bytes k bytes ++ framed ks (drop (area_in k) bytes) ≡ framed (k ∷ ks) bytes
-first-framed k ks bytes = append_assoc (front_of k.header k.side) (take (area_in k) bytes) (framed ks (drop (area_in k) bytes))
+-- framed bytes are those of the first frame, and those of the frames after it
+pub first-framed : (k : FrameFields) (ks : List FrameFields) (bytes : List ℕ)
+    → first_bytes k bytes ++ framed ks (drop (area_in k) bytes) ≡ framed (k ∷ ks) bytes
+first-framed k ks bytes = append_assoc (front_of k.header k.side) (take (area_in k) bytes)
+    (framed ks (drop (area_in k) bytes))
 
 -- ---- how many can wait
 
@@ -141,27 +189,39 @@ least_of Two = 1
 least_of TwoFive = 1
 
 -- the shortest frames have such areas, also with a check word
-least_room : (version : Version) (channels : ℕ) → least_of version + 6 + side_bytes_of version channels ≤ least_length version
-least_room One channels = elim (eqb channels 1) as (λ b. 9 + cond b 17 32 ≤ 96) [ true ↦ lit≤ tt | false ↦ lit≤ tt ]
-least_room Two channels = elim (eqb channels 1) as (λ b. 7 + cond b 9 17 ≤ 24) [ true ↦ lit≤ tt | false ↦ lit≤ tt ]
-least_room TwoFive channels = elim (eqb channels 1) as (λ b. 7 + cond b 9 17 ≤ 48) [ true ↦ lit≤ tt | false ↦ lit≤ tt ]
+least_room : (version : Version) (channels : ℕ)
+    → least_of version + 6 + side_bytes_of version channels ≤ least_length version
+least_room One channels =
+    elim (eqb channels 1) as (λ b. 9 + cond b 17 32 ≤ 96) [ true ↦ lit≤ tt | false ↦ lit≤ tt ]
+least_room Two channels =
+    elim (eqb channels 1) as (λ b. 7 + cond b 9 17 ≤ 24) [ true ↦ lit≤ tt | false ↦ lit≤ tt ]
+least_room TwoFive channels =
+    elim (eqb channels 1) as (λ b. 7 + cond b 9 17 ≤ 48) [ true ↦ lit≤ tt | false ↦ lit≤ tt ]
 
-area-least : (c : ClassFields) (s : SlotFields) (protected : Bool) → IsClass c → IsSlot s → least_of c.version ≤ area_of c s protected
+area-least : (c : ClassFields) (s : SlotFields) (protected : Bool) → IsClass c → IsSlot s
+    → least_of c.version ≤ area_of c s protected
 unfolding area_of overhead_of side_size_of
-area-least c s true class is = omega (arith, length-least c s class is, least_room c.version c.channels)
-area-least c s false class is = omega (arith, length-least c s class is, least_room c.version c.channels)
+area-least c s true class is =
+    omega (arith, length-least c s class is, least_room c.version c.channels)
+area-least c s false class is =
+    omega (arith, length-least c s class is, least_room c.version c.channels)
 
-kept-least : (c : ClassFields) (k : FrameFields) → IsClass c → IsHeader k.header → class_of k.header ≡ c → least_of c.version ≤ area_in k
+kept-least : (c : ClassFields) (k : FrameFields) → IsClass c → IsHeader k.header
+    → class_of k.header ≡ c → least_of c.version ≤ area_in k
 kept-least c k class is same =
-    subst (λ d. least_of c.version ≤ area_of d k.header.slot k.header.protected) (sym same) (area-least c k.header.slot k.header.protected class is.slot)
+    subst (λ d. least_of c.version ≤ area_of d k.header.slot k.header.protected) (sym same)
+    (area-least c k.header.slot k.header.protected class is.slot)
 
-many : (c : ClassFields) (m : ℕ) (ks : List FrameFields) → IsClass c → AreOf c ks → m ≡ least_of c.version → m * length ks ≤ areas_in ks
+many : (c : ClassFields) (m : ℕ) (ks : List FrameFields) → IsClass c → AreOf c ks
+    → m ≡ least_of c.version → m * length ks ≤ areas_in ks
 many c m [] class are is = omega arith
 many c m (k ∷ ks) class are is =
-    omega (arith, mul-suc m (length ks), many c m ks class are.3 is, kept-least c k class are.0 are.1, is)
+    omega
+    (arith, mul-suc m (length ks), many c m ks class are.3 is, kept-least c k class are.0 are.1, is)
 
 -- if so few bytes of areas are after the first frame, so few frames are
-few_behind : (version : Version) (n bytes : ℕ) → least_of version * n ≤ bytes → bytes < window_of version → n + 1 < 256
+few_behind : (version : Version) (n bytes : ℕ) → least_of version * n ≤ bytes
+    → bytes < window_of version → n + 1 < 256
 few_behind One n bytes all behind = omega (arith, all, behind)
 few_behind Two n bytes all behind = omega (arith, all, behind)
 few_behind TwoFive n bytes all behind = omega (arith, all, behind)
@@ -172,25 +232,44 @@ window-most Two = lit≤ tt
 window-most TwoFive = lit≤ tt
 
 least_left : (m n : ℕ) → (n < m) ⊎ (m ≤ n) → min m n ≤ m
-least_left m n (inl less) = let le : n ≤ m = omega (arith, less) in let is : min m n ≡ n = min-eq_right le in omega (arith, is, le)
+least_left m n (inl less) = let le : n ≤ m = omega (arith, less) in
+    let is : min m n ≡ n = min-eq_right le in omega (arith, is, le)
 least_left m n (inr more) = let is : min m n ≡ m = min-eq_left more in omega (arith, is)
 
-have_room : (c : ClassFields) (kept : List FrameFields) (waiting : Waiting) → AreOf c kept → areas_in kept ≡ length waiting.bytes →
-    (IsNextSettled (record { class = c; kept = kept; waiting = waiting }) → ⊥) → HaveRoom (record { class = c; kept = kept; waiting = waiting })
+have_room : (c : ClassFields) (kept : List FrameFields) (waiting : Waiting) → AreOf c kept
+    → areas_in kept ≡ length waiting.bytes →
+    (IsNextSettled (record { class = c; kept = kept; waiting = waiting }) → ⊥)
+    → HaveRoom (record { class = c; kept = kept; waiting = waiting })
 have_room c [] waiting are same unsettled = record { few = lit≤ tt; room = omega (arith, same) }
 have_room c (k ∷ ks) waiting are same unsettled =
     let class : IsClass c = subst IsClass are.1 (IsClass-class_of k.header are.0) in
     let held : Held = record { class = c; kept = k ∷ ks; waiting = waiting } in
     let behind : areas_in ks < window_of c.version =
-    elim (cases_lt (areas_in ks) (window_of c.version)) as (λ _. areas_in ks < window_of c.version) [
+    elim (cases_lt (areas_in ks) (window_of c.version))
+    as (λ _. areas_in ks < window_of c.version) [
       | inl less ↦ less
-      | inr more ↦ absurd (unsettled (record { some = omega arith; behind = omega (arith, same, more, least_left (window_of c.version) waiting.free (cases_lt waiting.free (window_of c.version))) }))
+      | inr more ↦ absurd (unsettled (record {
+        some = omega arith;
+        behind = omega (
+          arith,
+          same,
+          more,
+          least_left (window_of c.version)
+              waiting.free (cases_lt waiting.free (window_of c.version)),
+        );
+      }))
     ] in
-    let first : area_in k ≤ 1428 = subst (λ d. area_of d k.header.slot k.header.protected ≤ 1428) (sym are.1) (area-most c k.header.slot k.header.protected class are.0.slot) in
+    let first : area_in k ≤ 1428 = subst (λ d. area_of d k.header.slot k.header.protected ≤ 1428)
+    (sym are.1) (area-most c k.header.slot k.header.protected class are.0.slot) in
     record {
-      few = omega (arith, few_behind c.version (length ks) (areas_in ks) (many c (least_of c.version) ks class are.3 refl) behind);
+      few = omega (
+        arith,
+        few_behind c.version (length ks) (areas_in ks)
+            (many c (least_of c.version) ks class are.3 refl) behind,
+      );
       room = omega (arith, same, first, behind, window-most c.version);
     }
 
+-- while later main data can reach the area of the first frame that waits, one more has room
 pub few-wait : FewWait
 few-wait held are same unsettled = have_room held.class held.kept held.waiting are same unsettled

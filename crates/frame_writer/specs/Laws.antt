@@ -1,12 +1,13 @@
 -- Laws of frames that are written.
-use Rattle.std.specs.Prelude.{◌≡◌, ℕ, ◌+◌, ◌<◌, ◌≤◌, List, ◌++◌, length}
-use Rattle.frame_writer.specs.Frames.{Frame, Held, AreOf, areas_in, held_bytes, frame_bytes, IsNextSettled, AreWritten}
+use Rattle.std.specs.Prelude.{length, List, ℕ, ◌++◌, ◌+◌, ◌<◌, ◌≡◌, ◌≤◌}
 use Rattle.frame_header.specs.Limits.{most_frame_length}
-use Rattle.frame_writer.specs.Laid.{most_waiting}
+use Rattle.frame_writer.specs.Frames.{areas_in, AreOf, AreWritten, Frame, frame_bytes, Held}
+use Rattle.frame_writer.specs.{Frames.{held_bytes, IsNextSettled}, Laid.most_waiting}
 
 -- what was taken, and then what waits, are the bytes of all frames that were given
 abbrev pub LaidSteps : Type 0
-LaidSteps = (taken : List ℕ) (held : Held) (fs : List Frame) → AreWritten taken held fs → taken ++ held_bytes held ≡ frame_bytes fs
+LaidSteps = (taken : List ℕ) (held : Held) (fs : List Frame) → AreWritten taken held fs
+    → taken ++ held_bytes held ≡ frame_bytes fs
 
 -- there is room for one frame more
 pub record HaveRoom (held : Held) : Type 0 where
@@ -16,4 +17,5 @@ pub record HaveRoom (held : Held) : Type 0 where
 -- if later main data can reach the area of the first frame that waits, there is room for one more
 abbrev pub FewWait : Type 0
 FewWait =
-    (held : Held) → AreOf held.class held.kept → areas_in held.kept ≡ length held.waiting.bytes → (IsNextSettled held → ⊥) → HaveRoom held
+    (held : Held) → AreOf held.class held.kept → areas_in held.kept ≡ length held.waiting.bytes
+    → (IsNextSettled held → ⊥) → HaveRoom held

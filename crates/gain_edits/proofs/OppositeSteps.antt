@@ -1,130 +1,157 @@
--- A file whose gains move by 0 steps, or by some and then by as many the other way: it gives its own bytes except the junk, and its own stream.
-use Rattle.std.proofs.Common.{◌≡◌, ℕ, ◌+◌, ◌-◌, ◌≤◌, Bool, true, false, cond, List, [], ◌∷◌, ◌++◌, length, take, drop, map, Option, Ok, refl, sym, ◌∙◌, ap, ap₂, subst, arith, inl, inr, length-drop, Some, None, ℤ, pos, neg_ℤ, ◌+ℤ◌, ◌==◌, append-nil}
-use Rattle.std.specs.Prelude.{◌⊎◌, IfSome}
-use Rattle.std.specs.List.{enumerate_from}
-use Rattle.std.proofs.lemmas.List.{take_all, take_at, drop_at, length-take-le}
+-- A file whose gains move by 0 steps, or by some and then by as many the
+-- other way: it gives its own bytes except the junk, and its own stream.
+use Rattle.std.proofs.Common.{ap, append-nil, ap₂, arith, Bool, cond, drop, false, inl, inr, length}
+use Rattle.std.proofs.Common.{length-drop, List, map, neg_ℤ, None, Ok, Option, pos, refl, Some}
+use Rattle.std.proofs.Common.{subst, sym, take, true, ℕ, ℤ, ◌+ℤ◌, [], ◌++◌, ◌+◌, ◌-◌, ◌==◌, ◌∙◌}
+use Rattle.std.proofs.{Common.{◌∷◌, ◌≡◌, ◌≤◌}, Math.IntN.+ℤ_invr}
+use Rattle.std.proofs.lemmas.List.{drop_at, length-take-le, take_all, take_at}
+use Rattle.std.specs.{List.enumerate_from, Prelude.{IfSome, ◌⊎◌}}
 use Rattle.bit_fields.specs.Bits.{AreBytes}
-use Rattle.side_info.specs.declared.side.Side.{Side}
-use Rattle.side_info.specs.Side.{no_side}
-use Rattle.side_info.specs.Frame.{frame_with}
-use Rattle.sync_survey.specs.declared.places.Head.{Head}
-use Rattle.sync_survey.specs.Row.{Row}
-use Rattle.sync_survey.specs.MainData.{StreamFrame, main_bytes, side_of, stream_frame, stream_frames}
-use Rattle.sync_survey.specs.Faults.{SurveyFields, surveyed, stream_of, stream_of_survey, HoldsStream, longest_file}
-use Rattle.sync_survey.proofs.SurveyParts.{surveyed-stream}
-use Rattle.moved_gains.specs.TagPlace.{IsTagBytes, with_tag}
-use Rattle.moved_gains.specs.TagLaws.{own_bytes}
-use Rattle.moved_gains.specs.Course.{even}
-use Rattle.requests.specs.declared.shift.Steps.{Steps}
-use Rattle.requests.specs.Shifts.{left_steps_of, right_steps_of, steps_of}
-use Rattle.moved_gains.specs.Gains.{moved_side}
-use Rattle.moved_gains.specs.Edited.{edited}
-use Rattle.moved_gains.specs.Change.{Change, changed}
-use Rattle.moved_gains.specs.Streams.{moved_survey, without_junk, moved_stream_frame, moved_row, junk_length}
-use Rattle.outside.specs.Pass.{bytes_between}
-use Rattle.outside.proofs.PassLaws.{between_split}
-use Rattle.moved_gains.specs.Moving.{row_length, row_end, moved_row_bytes}
-use Rattle.moved_gains.proofs.MovedGains.{GainsFit, IsNoStep, side_none}
-use Rattle.moved_gains.proofs.MovedFrame.{frame_none}
-use Rattle.moved_gains.proofs.MovingLaws.{written-edited, moved_to, moved_from}
-use Rattle.moved_gains.proofs.LostOffsets.{EndBy, end_rises}
-use Rattle.moved_gains.proofs.TagPlaces.{IsAmong, IsInFront, stands_somewhere, StandsSomewhere}
-use Rattle.moved_gains.proofs.MovedStream.{counts_shaped}
-use Rattle.moved_gains.proofs.FramesThere.{frame_of, IsFrameOf, AreFramesOf, row_shaped, frames_there}
-use Rattle.moved_gains.proofs.MovedAgain.{AreTogether, AllTogether, even_together, stood, AreMovedBy, moved_again}
-use Rattle.gain_edits.proofs.Proper.{made_of, even_stream, changed_survey, surveyed-changed, stream-changed, changed-ok}
-use Rattle.gain_edits.proofs.Refusals.{not_there}
-use Rattle.gain_edits.proofs.RangeAgain.{still, row_fits, even_opposite, range_back}
-use Rattle.moved_gains.proofs.WrittenTag.{parted_front, parted_among}
-use Rattle.std.proofs.Math.IntN.{+ℤ_invr}
-use Rattle.sync_survey.specs.Survey.{survey_of}
-use Rattle.sync_survey.proofs.FoldersLaws.{survey_of-short}
-use Rattle.commands.specs.declared.fault.Refusal.{Refusal}
-use Rattle.commands.specs.declared.fault.Refusal.TheVariants.{Mono, Joint}
-use Rattle.requests.specs.declared.shift.Channels.{Channels}
-use Rattle.requests.specs.declared.shift.Channels.TheVariants.{Left, Right}
-use Rattle.requests.specs.declared.shift.Shift.{Shift}
-use Rattle.commands.specs.Refusing.{or_else, unless}
-use Rattle.gain_edits.specs.Channels.{are_both, is_joint, joint_at, joint_fault, apart_fault, channel_fault}
-use Rattle.gain_edits.specs.GainRange.{range_fault}
-use Rattle.commands.specs.One.{most_frames}
-use Rattle.gain_edits.specs.Change.{changed_file}
-use Rattle.gain_edits.specs.Gain.{gain_change}
+use Rattle.commands.proofs.RefusingLaws.{first-cons, first-nil, none_both, none_first, unless_ok}
+use Rattle.commands.specs.{One.most_frames, Refusing.{or_else, unless}}
+use Rattle.commands.specs.declared.fault.Refusal.{Refusal, TheVariants.{Joint, Mono}}
+use Rattle.gain_edits.proofs.Proper.{changed-ok, changed_survey, even_stream, made_of}
+use Rattle.gain_edits.proofs.Proper.{stream-changed, surveyed-changed}
+use Rattle.gain_edits.proofs.RangeAgain.{even_opposite, range_back, row_fits, still}
+use Rattle.gain_edits.{proofs.Refusals.not_there, specs.Change.changed_file}
+use Rattle.gain_edits.specs.Channels.{apart_fault, are_both, channel_fault, is_joint, joint_at}
+use Rattle.gain_edits.specs.{Channels.joint_fault, Gain.gain_change, GainRange.range_fault}
 use Rattle.gain_edits.specs.GivenBack.{opposite, OppositeGivesBack}
-use Rattle.moved_gains.proofs.MovedSurvey.{surveyed-edited}
+use Rattle.moved_gains.proofs.FramesThere.{AreFramesOf, frame_of, frames_there, IsFrameOf}
+use Rattle.moved_gains.proofs.{FramesThere.row_shaped, LostOffsets.{end_rises, EndBy}}
+use Rattle.moved_gains.proofs.MovedAgain.{AllTogether, AreMovedBy, AreTogether, even_together}
+use Rattle.moved_gains.proofs.{MovedAgain.{moved_again, stood}, MovedFrame.frame_none}
+use Rattle.moved_gains.proofs.MovedGains.{GainsFit, IsNoStep, side_none}
+use Rattle.moved_gains.proofs.{MovedStream.counts_shaped, MovedSurvey.surveyed-edited}
+use Rattle.moved_gains.proofs.MovingLaws.{moved_from, moved_to, written-edited}
+use Rattle.moved_gains.proofs.TagPlaces.{IsAmong, IsInFront, stands_somewhere, StandsSomewhere}
+use Rattle.moved_gains.proofs.WrittenTag.{parted_among, parted_front}
+use Rattle.moved_gains.specs.{Change.{Change, changed}, Course.even, Edited.edited}
+use Rattle.moved_gains.specs.{Gains.moved_side, Moving.{moved_row_bytes, row_end, row_length}}
+use Rattle.moved_gains.specs.Streams.{junk_length, moved_row, moved_stream_frame, moved_survey}
+use Rattle.moved_gains.specs.{Streams.without_junk, TagLaws.own_bytes}
+use Rattle.moved_gains.specs.TagPlace.{IsTagBytes, with_tag}
+use Rattle.outside.{proofs.PassLaws.between_split, specs.Pass.bytes_between}
+use Rattle.requests.specs.Shifts.{left_steps_of, right_steps_of, steps_of}
+use Rattle.requests.specs.declared.shift.Channels.{Channels, TheVariants.{Left, Right}}
+use Rattle.requests.specs.declared.shift.{Shift.Shift, Steps.Steps}
+use Rattle.side_info.specs.{Frame.frame_with, Side.no_side, declared.side.Side.Side}
+use Rattle.sync_survey.proofs.{FoldersLaws.survey_of-short, SurveyParts.surveyed-stream}
 use Rattle.sync_survey.proofs.SurveyedFiles.{survey_of-parts}
-use Rattle.commands.proofs.RefusingLaws.{none_first, none_both, first-nil, first-cons, unless_ok}
+use Rattle.sync_survey.specs.Faults.{HoldsStream, longest_file, stream_of, stream_of_survey}
+use Rattle.sync_survey.specs.Faults.{surveyed, SurveyFields}
+use Rattle.sync_survey.specs.MainData.{main_bytes, side_of, stream_frame, stream_frames}
+use Rattle.sync_survey.specs.{MainData.StreamFrame, Row.Row, Survey.survey_of}
+use Rattle.sync_survey.specs.declared.places.Head.{Head}
 
 -- ---- the bytes
 
-join : (file : List ℕ) (at mid end : ℕ) → at ≤ mid → mid ≤ end → bytes_between file at mid ++ bytes_between file mid end ≡ bytes_between file at end
+join : (file : List ℕ) (at mid end : ℕ) → at ≤ mid → mid ≤ end
+    → bytes_between file at mid ++ bytes_between file mid end ≡ bytes_between file at end
 join file at mid end low high =
     let place : at + (mid - at) ≡ mid = omega (arith, low) in
-    ap (λ m. bytes_between file at mid ++ bytes_between file m end) (sym place) ∙ sym (between_split file at (mid - at) end (omega (arith, low, high)))
+    ap (λ m. bytes_between file at mid ++ bytes_between file m end) (sym place)
+    ∙ sym (between_split file at (mid - at) end (omega (arith, low, high)))
 
 -- a frame stays
-still_row : (steps : Steps) → IsNoStep steps → (file : List ℕ) (row : Row) → IsFrameOf file row → moved_row_bytes steps file row ≡ frame_of file row
+still_row : (steps : Steps) → IsNoStep steps → (file : List ℕ) (row : Row) → IsFrameOf file row
+    → moved_row_bytes steps file row ≡ frame_of file row
 still_row steps none file row here = by_lost row.lost
   where
-    by_lost : (lost : Bool) → cond lost (frame_of file row) (frame_with row.header (moved_side steps row.side) (frame_of file row)) ≡ frame_of file row
+    by_lost : (lost : Bool) → cond lost (frame_of file row)
+        (frame_with row.header (moved_side steps row.side) (frame_of file row)) ≡ frame_of file row
     by_lost true = refl
     by_lost false =
         ap (λ (s : Side). frame_with row.header (moved_side steps s) (frame_of file row)) here.side
         ∙ frame_none steps none row.header (frame_of file row) here.whole here.right
 
-still_to : (steps : Steps) → IsNoStep steps → (file : List ℕ) (at to : ℕ) (rows : List Row) → AreFramesOf file rows → EndBy at rows to → moved_to (even steps) file at to rows ≡ bytes_between file at to
+still_to : (steps : Steps) → IsNoStep steps → (file : List ℕ) (at to : ℕ) (rows : List Row)
+    → AreFramesOf file rows → EndBy at rows to
+    → moved_to (even steps) file at to rows ≡ bytes_between file at to
 still_to steps none file at to [] frames ends = refl
 still_to steps none file at to (row ∷ rows) frames ends =
     let up = end_rises (row_end row) rows to ends.2 in
     let size : row_end row - row.offset ≡ row_length row = omega arith in
-    let own : moved_row_bytes steps file row ≡ bytes_between file row.offset (row_end row) = still_row steps none file row frames.0 ∙ ap (λ n. take n (drop row.offset file)) (sym size) in
+    let own : moved_row_bytes steps file row ≡ bytes_between file row.offset (row_end row) =
+    still_row steps none file row frames.0 ∙ ap (λ n. take n (drop row.offset file)) (sym size) in
     ap (λ (l : List ℕ). bytes_between file at row.offset ++ l)
-    (ap₂ (λ (k l : List ℕ). k ++ l) own (still_to steps none file (row_end row) to rows frames.1 ends.2) ∙ join file row.offset (row_end row) to (omega (arith, ends.1)) up)
+    (ap₂ (λ (k l : List ℕ). k ++ l) own (still_to steps none file (row_end row) to rows
+    frames.1 ends.2) ∙ join file row.offset (row_end row) to (omega (arith, ends.1)) up)
     ∙ join file at row.offset to ends.0 (omega (arith, ends.1, up))
 
-pub edited_still : (steps : Steps) → IsNoStep steps → (file : List ℕ) (allowed : ℕ) (s : SurveyFields) → AreBytes file → surveyed file allowed ≡ Ok s → edited (even steps) file s ≡ without_junk s file
+-- by 0 steps the edited file is the file without its junk
+pub edited_still : (steps : Steps) → IsNoStep steps
+    → (file : List ℕ) (allowed : ℕ) (s : SurveyFields) → AreBytes file
+    → surveyed file allowed ≡ Ok s → edited (even steps) file s ≡ without_junk s file
 edited_still steps none file allowed s are is =
     let known = stands_somewhere (even steps) file allowed s is in
     sym (written-edited (even steps) file allowed s is)
     ∙ ap (λ (l : List ℕ). take s.junk file ++ l)
-    (still_to steps none file s.first (length file) s.frames (frames_there file allowed s are is) (subst (EndBy s.first s.frames) (sym known.size) known.ends)
-    ∙ take_all (length file - s.first) (drop s.first file) (omega (arith, length-drop s.first file)))
+    (still_to steps none file s.first (length file) s.frames (frames_there file allowed s are is)
+    (subst (EndBy s.first s.frames) (sym known.size) known.ends)
+    ∙ take_all (length file - s.first) (drop s.first file)
+    (omega (arith, length-drop s.first file)))
 
 -- the bytes of its own tag in their place give the edited file
-pub own_again : (steps : ℕ → Steps) (file : List ℕ) (allowed : ℕ) (s : SurveyFields) → surveyed file allowed ≡ Ok s → with_tag (own_bytes file s) (moved_survey steps s) (edited steps file s) ≡ edited steps file s
+pub own_again : (steps : ℕ → Steps) (file : List ℕ) (allowed : ℕ) (s : SurveyFields)
+    → surveyed file allowed ≡ Ok s
+    → with_tag (own_bytes file s) (moved_survey steps s) (edited steps file s) ≡ edited steps file s
 own_again steps file allowed s is = by_place (stands_somewhere steps file allowed s is).place
   where
-    by_place : IsInFront s ⊎ IsAmong s → with_tag (own_bytes file s) (moved_survey steps s) (edited steps file s) ≡ edited steps file s
-    by_place (inl at) = let parted = parted_front steps file allowed s is at in parted.tagged (own_bytes file s) ∙ sym parted.own
-    by_place (inr at) = let parted = parted_among steps file allowed s is at in parted.tagged (own_bytes file s) ∙ sym parted.own
+    by_place : IsInFront s ⊎ IsAmong s
+        → with_tag (own_bytes file s) (moved_survey steps s) (edited steps file s)
+        ≡ edited steps file s
+    by_place (inl at) = let parted = parted_front steps file allowed s is at in
+        parted.tagged (own_bytes file s) ∙ sym parted.own
+    by_place (inr at) = let parted = parted_among steps file allowed s is at in
+        parted.tagged (own_bytes file s) ∙ sym parted.own
 
 -- ---- the stream
 
 counts_fit : (lost : Bool) (s : Side) → GainsFit s → GainsFit (cond lost no_side s)
-counts_fit true s fits = record { first = omega arith; second = omega arith; third = omega arith; fourth = omega arith }
+counts_fit true s fits =
+    record { first = omega arith; second = omega arith; third = omega arith; fourth = omega arith }
 counts_fit false s fits = fits
 
-still_frame : (steps : Steps) → IsNoStep steps → (file main : List ℕ) (o : Option Head) (rows : List Row) (i : ℕ) (row : Row) → IsFrameOf file row → moved_stream_frame steps (stream_frame main o rows i row) ≡ stream_frame main o rows i row
+still_frame : (steps : Steps) → IsNoStep steps → (file main : List ℕ) (o : Option Head)
+    (rows : List Row) (i : ℕ) (row : Row) → IsFrameOf file row
+    → moved_stream_frame steps (stream_frame main o rows i row) ≡ stream_frame main o rows i row
 still_frame steps none file main o rows i row here =
     let shaped = counts_shaped row.lost row.side (row_shaped file row here) in
     let fits = counts_fit row.lost row.side (row_fits file row here) in
-    let side : moved_side steps (record (side_of row) { main_data_begin = 0 }) ≡ record (side_of row) { main_data_begin = 0 } =
-    side_none steps none (record (side_of row) { main_data_begin = 0 }) (record { scfsi = shaped.scfsi; granules = shaped.granules; first = shaped.first; second = shaped.second })
-    (record { first = fits.first; second = fits.second; third = fits.third; fourth = fits.fourth }) in
+    let side : moved_side steps (record (side_of row) { main_data_begin = 0 })
+    ≡ record (side_of row) { main_data_begin = 0 } =
+    side_none steps none (record (side_of row) { main_data_begin = 0 }) (record {
+      scfsi = shaped.scfsi;
+      granules = shaped.granules;
+      first = shaped.first;
+      second = shaped.second;
+    })
+    (record { first = fits.first; second = fits.second; third = fits.third; fourth = fits.fourth })
+    in
     λ j. record (stream_frame main o rows i row) { side = side j }
 
-still_frames : (steps : Steps) → IsNoStep steps → (file main : List ℕ) (o : Option Head) (rows : List Row) (n : ℕ) (more : List Row) → AreFramesOf file more
-    → map (moved_stream_frame steps) (map (λ (p : ℕ × Row). stream_frame main o rows p.0 p.1) (enumerate_from n more)) ≡ map (λ (p : ℕ × Row). stream_frame main o rows p.0 p.1) (enumerate_from n more)
+still_frames : (steps : Steps) → IsNoStep steps
+    → (file main : List ℕ) (o : Option Head) (rows : List Row) (n : ℕ) (more : List Row)
+    → AreFramesOf file more → map (moved_stream_frame steps)
+    (map (λ (p : ℕ × Row). stream_frame main o rows p.0 p.1) (enumerate_from n more))
+    ≡ map (λ (p : ℕ × Row). stream_frame main o rows p.0 p.1) (enumerate_from n more)
 still_frames steps none file main o rows n [] frames = refl
 still_frames steps none file main o rows n (row ∷ more) frames =
-    ap₂ (λ (f : StreamFrame) (fs : List StreamFrame). f ∷ fs) (still_frame steps none file main o rows n row frames.0) (still_frames steps none file main o rows (n + 1) more frames.1)
+    ap₂ (λ (f : StreamFrame) (fs : List StreamFrame). f ∷ fs) (still_frame steps none file main o
+    rows n row frames.0) (still_frames steps none file main o rows (n + 1) more frames.1)
 
-pub stream_still : (steps : Steps) → IsNoStep steps → (file : List ℕ) (allowed : ℕ) (s : SurveyFields) → AreBytes file → surveyed file allowed ≡ Ok s → map (moved_stream_frame steps) (stream_of_survey file s) ≡ stream_of_survey file s
+-- and its stream is that of the file
+pub stream_still : (steps : Steps) → IsNoStep steps → (file : List ℕ) (allowed : ℕ)
+    (s : SurveyFields) → AreBytes file → surveyed file allowed ≡ Ok s
+    → map (moved_stream_frame steps) (stream_of_survey file s) ≡ stream_of_survey file s
 unfolding stream_of_survey stream_frames
-stream_still steps none file allowed s are is = still_frames steps none file (main_bytes file s.head s.frames) s.head s.frames 0 s.frames (frames_there file allowed s are is)
+stream_still steps none file allowed s are is = still_frames steps none file (main_bytes file
+    s.head s.frames) s.head s.frames 0 s.frames (frames_there file allowed s are is)
 
 -- what a change by 0 steps makes holds the stream of the file, whatever tag the change writes
-pub still_holds : (steps : Steps) → IsNoStep steps → (o : Option (List ℕ)) → IfSome o IsTagBytes → (file : List ℕ) (allowed : ℕ) (s : SurveyFields) → AreBytes file → surveyed file allowed ≡ Ok s
+pub still_holds : (steps : Steps) → IsNoStep steps → (o : Option (List ℕ)) → IfSome o IsTagBytes →
+    (file : List ℕ) (allowed : ℕ) (s : SurveyFields) → AreBytes file → surveyed file allowed ≡ Ok s
     → HoldsStream (changed (record { steps = even steps; tag = o }) file s) (stream_of file)
 still_holds steps none o tags file allowed s are is =
     let change : Change = record { steps = even steps; tag = o } in
@@ -134,70 +161,96 @@ still_holds steps none o tags file allowed s are is =
     ∙ stream_still steps none file allowed s are is
     ∙ sym (surveyed-stream file allowed s is).stream_is in
     subst (HoldsStream (changed change file s)) same
-    (surveyed-stream (changed change file s) allowed (changed_survey change s) (surveyed-changed file allowed s are is change tags))
+    (surveyed-stream (changed change file s) allowed (changed_survey change s)
+    (surveyed-changed file allowed s are is change tags))
 
 -- ---- the steps
 
-left_back : (channels : Channels) (steps : ℤ) → left_steps_of channels steps +ℤ left_steps_of channels (neg_ℤ steps) ≡ pos 0
+left_back : (channels : Channels) (steps : ℤ)
+    → left_steps_of channels steps +ℤ left_steps_of channels (neg_ℤ steps) ≡ pos 0
 left_back Right steps = refl
 left_back _ steps = +ℤ_invr steps
 
-right_back : (channels : Channels) (steps : ℤ) → right_steps_of channels steps +ℤ right_steps_of channels (neg_ℤ steps) ≡ pos 0
+right_back : (channels : Channels) (steps : ℤ)
+    → right_steps_of channels steps +ℤ right_steps_of channels (neg_ℤ steps) ≡ pos 0
 right_back Left steps = refl
 right_back _ steps = +ℤ_invr steps
 
 -- both changes together are no step
 together : (shift : Shift) → AreTogether (steps_of shift) (steps_of (opposite shift)) still
-together shift = record { left = sym (left_back shift.channels shift.steps); right = sym (right_back shift.channels shift.steps) }
+together shift = record {
+  left = sym (left_back shift.channels shift.steps);
+  right = sym (right_back shift.channels shift.steps);
+}
 
 -- ---- the channels
 
-joint_back : (steps : ℕ → Steps) (gap : ℕ) (rows : List Row) → joint_fault rows ≡ None → joint_fault (map (moved_row steps gap) rows) ≡ None
+joint_back : (steps : ℕ → Steps) (gap : ℕ) (rows : List Row) → joint_fault rows ≡ None
+    → joint_fault (map (moved_row steps gap) rows) ≡ None
 joint_back steps gap [] none = first-nil joint_at
 joint_back steps gap (row ∷ rows) none =
-    let parts = none_first (joint_at row) (joint_fault rows) (sym (first-cons joint_at row rows) ∙ none) in
+    let parts =
+    none_first (joint_at row) (joint_fault rows) (sym (first-cons joint_at row rows) ∙ none) in
     first-cons joint_at (moved_row steps gap row) (map (moved_row steps gap) rows)
-    ∙ none_both (joint_at (moved_row steps gap row)) (joint_fault (map (moved_row steps gap) rows)) (ap (λ b. cond b (Some (Joint (row.offset - gap))) None) (not_there (is_joint row) (Joint row.offset) parts.0))
+    ∙ none_both (joint_at (moved_row steps gap row)) (joint_fault (map (moved_row steps gap) rows))
+    (ap (λ b. cond b (Some (Joint (row.offset - gap))) None)
+    (not_there (is_joint row) (Joint row.offset) parts.0))
     (joint_back steps gap rows parts.1)
 
-apart_back : (steps : ℕ → Steps) (s : SurveyFields) → apart_fault s ≡ None → apart_fault (moved_survey steps s) ≡ None
+apart_back : (steps : ℕ → Steps) (s : SurveyFields) → apart_fault s ≡ None
+    → apart_fault (moved_survey steps s) ≡ None
 unfolding moved_survey
 apart_back steps s none = by_channels (s.class.channels == 1) none
   where
-    by_channels : (b : Bool) → cond b (Some Mono) (joint_fault s.frames) ≡ None → cond b (Some Mono) (joint_fault (map (moved_row steps (junk_length s)) s.frames)) ≡ None
+    by_channels : (b : Bool) → cond b (Some Mono) (joint_fault s.frames) ≡ None
+        → cond b (Some Mono) (joint_fault (map (moved_row steps (junk_length s)) s.frames)) ≡ None
     by_channels true e = absurd cc
     by_channels false e = joint_back steps (junk_length s) s.frames e
 
 -- the modes and the class stay, so the opposite change may be made of one channel too
-channel_back : (shift : Shift) (s : SurveyFields) → channel_fault shift s ≡ None → channel_fault (opposite shift) (moved_survey (even (steps_of shift)) s) ≡ None
+channel_back : (shift : Shift) (s : SurveyFields) → channel_fault shift s ≡ None
+    → channel_fault (opposite shift) (moved_survey (even (steps_of shift)) s) ≡ None
 channel_back shift s none = by_choice (are_both shift.channels) none
   where
-    by_choice : (b : Bool) → cond b None (apart_fault s) ≡ None → cond b None (apart_fault (moved_survey (even (steps_of shift)) s)) ≡ None
+    by_choice : (b : Bool) → cond b None (apart_fault s) ≡ None
+        → cond b None (apart_fault (moved_survey (even (steps_of shift)) s)) ≡ None
     by_choice true e = refl
     by_choice false e = apart_back (even (steps_of shift)) s e
 
 -- ---- what a change without a note makes
 
-pub plain-parts : (shift : Shift) (file : List ℕ) (s : SurveyFields) (change : Change) → gain_change shift false file s ≡ Ok change
-    → (channel_fault shift s ≡ None) × (range_fault (even (steps_of shift)) s.frames ≡ None) × (record { steps = even (steps_of shift); tag = None } ≡ change)
+-- a gain without a note that isn't refused can move its channel, and no gain leaves its range
+pub plain-parts : (shift : Shift) (file : List ℕ) (s : SurveyFields) (change : Change)
+    → gain_change shift false file s ≡ Ok change
+    → (channel_fault shift s ≡ None) × (range_fault (even (steps_of shift)) s.frames ≡ None)
+    × (record { steps = even (steps_of shift); tag = None } ≡ change)
 unfolding gain_change
 plain-parts shift file s change e =
-    let parts = unless_ok (or_else (channel_fault shift s) (range_fault (even (steps_of shift)) s.frames)) _ change e in
-    let nones = none_first (channel_fault shift s) (range_fault (even (steps_of shift)) s.frames) parts.0 in
+    let parts = unless_ok (or_else (channel_fault shift s)
+    (range_fault (even (steps_of shift)) s.frames)) _ change e in
+    let nones =
+    none_first (channel_fault shift s) (range_fault (even (steps_of shift)) s.frames) parts.0 in
     (nones.0, nones.1, parts.1)
 
-plain-ok : (shift : Shift) (file : List ℕ) (s : SurveyFields) → channel_fault shift s ≡ None → range_fault (even (steps_of shift)) s.frames ≡ None → gain_change shift false file s ≡ Ok (record { steps = even (steps_of shift); tag = None })
+plain-ok : (shift : Shift) (file : List ℕ) (s : SurveyFields) → channel_fault shift s ≡ None
+    → range_fault (even (steps_of shift)) s.frames ≡ None
+    → gain_change shift false file s ≡ Ok (record { steps = even (steps_of shift); tag = None })
 unfolding gain_change
 plain-ok shift file s apart free =
-    ap (λ (o : Option Refusal). unless o (record { steps = even (steps_of shift); tag = None })) (none_both (channel_fault shift s) (range_fault (even (steps_of shift)) s.frames) apart free)
+    ap (λ (o : Option Refusal). unless o (record { steps = even (steps_of shift); tag = None }))
+    (none_both (channel_fault shift s) (range_fault (even (steps_of shift)) s.frames) apart free)
 
-pub plain-changed : (steps : ℕ → Steps) (file : List ℕ) (s : SurveyFields) → changed (record { steps = steps; tag = None }) file s ≡ edited steps file s
+-- without a new tag the changed file is the edited one
+pub plain-changed : (steps : ℕ → Steps) (file : List ℕ) (s : SurveyFields)
+    → changed (record { steps = steps; tag = None }) file s ≡ edited steps file s
 unfolding changed
 plain-changed steps file s = refl
 
 -- ---- the file back
 
-module _ (one two : ℕ → Steps) (file : List ℕ) (s : SurveyFields) (sum : AllTogether one two (even still) (λ x. x - junk_length s) s.frames) (are : AreBytes file) (short : survey_of file most_frames ≡ Ok s) where
+module _ (one two : ℕ → Steps) (file : List ℕ) (s : SurveyFields)
+    (sum : AllTogether one two (even still) (λ x. x - junk_length s) s.frames) (are : AreBytes file)
+    (short : survey_of file most_frames ≡ Ok s) where
   abbrev moved : List ℕ
   moved = edited one file s
 
@@ -226,9 +279,11 @@ module _ (one two : ℕ → Steps) (file : List ℕ) (s : SurveyFields) (sum : A
   there : StandsSomewhere two moved m
   there = stands_somewhere two moved most_frames m new_is
 
+  -- the frames of the file are whole in it
   pub frames : AreFramesOf file s.frames
   frames = frames_there file most_frames s are is
 
+  -- those of the moved file are these, moved
   pub new_frames : m.frames ≡ map (stood to one) s.frames
   unfolding moved_survey
   new_frames = refl
@@ -240,6 +295,7 @@ module _ (one two : ℕ → Steps) (file : List ℕ) (s : SurveyFields) (sum : A
   size : length moved ≡ length file - gap
   size = omega (arith, there.size, new_places.2, here.size)
 
+  -- the moved file has the survey of these
   pub new_survey : survey_of moved most_frames ≡ Ok m
   new_survey = survey_of-short moved most_frames (omega (arith, size, few)) ∙ new_is
 
@@ -268,11 +324,14 @@ module _ (one two : ℕ → Steps) (file : List ℕ) (s : SurveyFields) (sum : A
   rows_again =
       ap₂ (λ k (l : List Row). moved_to two moved k (length moved) l) new_places.1 new_frames
       ∙ ap (λ k. moved_to two moved s.junk k (map (stood to one) s.frames)) (sym to_end)
-      ∙ moved_again one two (even still) file moved to s.first (length file) s.junk s.frames [] sum frames (subst (EndBy s.first s.frames) (sym here.size) here.ends) (omega arith) by rows_stand
+      ∙ moved_again one two (even still) file moved to s.first (length file) s.junk s.frames [] sum
+      frames (subst (EndBy s.first s.frames) (sym here.size) here.ends) (omega arith) by rows_stand
 
   junk_again : take m.junk moved ≡ junk
-  junk_again = ap (λ k. take k moved) new_places.0 ∙ ap (take s.junk) stands ∙ take_at junk rows s.junk junk_long
+  junk_again = ap (λ k. take k moved) new_places.0 ∙ ap (take s.junk) stands
+      ∙ take_at junk rows s.junk junk_long
 
+  -- moved back it is the file without its junk
   pub bytes_again : edited two moved m ≡ without_junk s file
   bytes_again =
       sym (written-edited two moved most_frames m new_is)
@@ -280,27 +339,41 @@ module _ (one two : ℕ → Steps) (file : List ℕ) (s : SurveyFields) (sum : A
       ∙ written-edited (even still) file most_frames s is
       ∙ edited_still still (refl, refl) file most_frames s are is
 
-edited_back : (shift : Shift) (file : List ℕ) (s : SurveyFields) → AreBytes file → survey_of file most_frames ≡ Ok s → channel_fault shift s ≡ None → range_fault (even (steps_of shift)) s.frames ≡ None
-    → changed_file (gain_change (opposite shift) false) (edited (even (steps_of shift)) file s) ≡ Ok (without_junk s file)
+edited_back : (shift : Shift) (file : List ℕ) (s : SurveyFields) → AreBytes file
+    → survey_of file most_frames ≡ Ok s → channel_fault shift s ≡ None
+    → range_fault (even (steps_of shift)) s.frames ≡ None
+    → changed_file (gain_change (opposite shift) false) (edited (even (steps_of shift)) file s)
+    ≡ Ok (without_junk s file)
 edited_back shift file s are short apart free =
     let first : ℕ → Steps = even (steps_of shift) in
     let second : ℕ → Steps = even (steps_of (opposite shift)) in
     let nearer : ℕ → ℕ = λ x. x - junk_length s in
-    let both : AllTogether first second (even still) nearer s.frames = even_together (steps_of shift) (steps_of (opposite shift)) still (together shift) nearer s.frames in
+    let both : AllTogether first second (even still) nearer s.frames = even_together
+    (steps_of shift) (steps_of (opposite shift)) still (together shift) nearer s.frames in
     let moved = edited first file s in
     let m = moved_survey first s in
     let range : range_fault second m.frames ≡ None =
     ap (range_fault second) (new_frames first second file s both are short)
     ∙ range_back first second file nearer s.frames
-    (even_opposite (steps_of shift) (steps_of (opposite shift)) (record { wraps = refl; left = left_back shift.channels shift.steps; right = right_back shift.channels shift.steps }) nearer s.frames)
+    (even_opposite (steps_of shift) (steps_of (opposite shift)) (record {
+      wraps = refl;
+      left = left_back shift.channels shift.steps;
+      right = right_back shift.channels shift.steps;
+    }) nearer s.frames)
     (frames first second file s both are short) free in
-    changed-ok (gain_change (opposite shift) false) moved m (record { steps = second; tag = None }) (new_survey first second file s both are short) (plain-ok (opposite shift) moved m (channel_back shift s apart) range)
+    changed-ok (gain_change (opposite shift) false) moved m (record { steps = second; tag = None })
+    (new_survey first second file s both are short)
+    (plain-ok (opposite shift) moved m (channel_back shift s apart) range)
     ∙ ap Ok (plain-changed second moved m ∙ bytes_again first second file s both are short)
 
--- of what a change without a note made of a file, the opposite change makes the file again, except its junk
+-- of what a change without a note made of a file, the
+-- opposite change makes the file again, except its junk
 pub steps_back : OppositeGivesBack
 steps_back shift file new s are short e =
     let made = made_of (gain_change shift false) file new s short e in
     let parts = plain-parts shift file s made.change made.made in
-    let there : edited (even (steps_of shift)) file s ≡ new = sym (plain-changed (even (steps_of shift)) file s) ∙ ap (λ (c : Change). changed c file s) parts.2 ∙ made.bytes in
-    ap (changed_file (gain_change (opposite shift) false)) (sym there) ∙ edited_back shift file s are short parts.0 parts.1
+    let there : edited (even (steps_of shift)) file s ≡ new =
+    sym (plain-changed (even (steps_of shift)) file s)
+    ∙ ap (λ (c : Change). changed c file s) parts.2 ∙ made.bytes in
+    ap (changed_file (gain_change (opposite shift) false)) (sym there)
+    ∙ edited_back shift file s are short parts.0 parts.1

@@ -1,68 +1,72 @@
--- What a command makes of a file: it is well-formed, its stream is that of the file with each gain moved, and the one body has what it asks of the command.
-use Rattle.std.proofs.Common.{◌≡◌, ℕ, List, Option, Some, None, Result, Ok, refl, sym, ◌∙◌, subst, arith, ◌+◌, [], ◌∷◌, length, map, Err, ap, ◌==◌, true, false, cond, inl, inr}
+-- What a command makes of a file: it is well-formed, its stream is that of the
+-- file with each gain moved, and the one body has what it asks of the command.
+use Rattle.std.proofs.Common.{ap, arith, cond, Err, false, inl, inr, length, List, map, None, Ok}
+use Rattle.std.proofs.Common.{Option, refl, Result, Some, subst, sym, true, ℕ, [], ◌+◌, ◌==◌, ◌∙◌}
+use Rattle.std.{proofs.Common.{◌∷◌, ◌≡◌}, specs.{List.enumerate_from, Prelude.{IfErr, IfSome}}}
 use Rattle.bit_fields.specs.Bits.{AreBytes}
-use Rattle.tag_blocks.specs.Tags.{TagFields, IsTag, tag_bytes}
-use Rattle.moved_gains.specs.declared.tag_fault.FileTagFault.{FileTagFault}
-use Rattle.moved_gains.specs.TagPlace.{tag_block, IsTagBytes, retagged, tag_at}
+use Rattle.commands.proofs.InputLaws.{file_makes, file_proper, IsProperMaking}
+use Rattle.commands.{proofs.RefusingLaws.{then_ok, unless_ok}, specs.Left.IsLate}
+use Rattle.commands.specs.One.{IsMaking, IsProper, made_by, made_file, most_frames}
+use Rattle.commands.specs.{Refusing.{or_else, then_made}, declared.fault.EditFault.EditFault}
+use Rattle.gain_edits.proofs.Refusals.{change_late}
+use Rattle.gain_edits.specs.Change.{changed_file, changed_with, Changing, changing, stream_moved_by}
+use Rattle.gain_edits.specs.Changes.{changing_by, refused_by, steps_by, task_of}
+use Rattle.gain_edits.specs.Channels.{channel_fault}
+use Rattle.gain_edits.specs.{Gain.{gain_change, noted_change, tagged_change}, GainRange.range_fault}
+use Rattle.gain_edits.specs.Undo.{steps_by as steps_read, steps_when, undo_change, undo_in}
+use Rattle.gain_edits.specs.Undo.{undone_change}
+use Rattle.gain_edits.specs.UndoItem.{bytes_unless_empty, found_undo, next_undo, noted_undo}
+use Rattle.gain_edits.specs.UndoItem.{output_fault, size_fault, tag_read, tag_with, tag_without}
+use Rattle.gain_edits.specs.{UndoItem.{undo_fault, undo_steps}, declared.changes.Changes.Changes}
+use Rattle.gain_edits.specs.declared.changes.Changes.TheVariants.{Move, Undo as UndoAll}
+use Rattle.moved_gains.proofs.{MovedStream.stream-edited, MovedSurvey.surveyed-edited}
+use Rattle.moved_gains.proofs.{NewTag.own-tag, Retagged.{stream-retagged, surveyed-retagged}}
+use Rattle.moved_gains.{proofs.TagReadingLaws.file_tag-none, specs.Change.{Change, changed, retag}}
+use Rattle.moved_gains.specs.{Course.even, Edited.edited}
+use Rattle.moved_gains.specs.Streams.{IsStreamMoved, moved_stream_frame, moved_stream_of}
+use Rattle.moved_gains.specs.Streams.{moved_survey}
+use Rattle.moved_gains.specs.TagPlace.{IsTagBytes, retagged, tag_at, tag_block}
 use Rattle.moved_gains.specs.TagReading.{empty_tag, file_tag}
-use Rattle.moved_gains.proofs.NewTag.{own-tag}
-use Rattle.moved_gains.proofs.TagReadingLaws.{file_tag-none}
-use Rattle.sync_survey.specs.declared.places.Piece.{Piece}
-use Rattle.sync_survey.specs.Faults.{SurveyFields, surveyed, stream_of_survey, HoldsStream, stream_by, stream_of}
-use Rattle.std.specs.Prelude.{IfSome, IfErr}
-use Rattle.moved_gains.proofs.Retagged.{surveyed-retagged, stream-retagged}
-use Rattle.std.specs.List.{enumerate_from}
-use Rattle.sync_survey.specs.declared.places.Head.{Head}
-use Rattle.sync_survey.specs.Row.{Row}
-use Rattle.sync_survey.specs.MainData.{StreamFrame, main_bytes, stream_frame, stream_frames}
-use Rattle.sync_survey.specs.Survey.{survey_of}
-use Rattle.sync_survey.proofs.SurveyParts.{surveyed-allowed}
-use Rattle.commands.specs.declared.fault.EditFault.{EditFault}
-use Rattle.moved_gains.specs.Course.{even}
-use Rattle.requests.specs.declared.shift.Steps.{Steps}
-use Rattle.moved_gains.specs.Edited.{edited}
-use Rattle.commands.specs.One.{most_frames, made_by, made_file, IsMaking, IsProper}
-use Rattle.moved_gains.specs.Change.{Change, retag, changed}
-use Rattle.gain_edits.specs.Change.{Changing, changed_with, changing, changed_file, stream_moved_by}
-use Rattle.moved_gains.specs.Streams.{moved_stream_frame, moved_stream_of, moved_survey, IsStreamMoved}
-use Rattle.moved_gains.proofs.MovedSurvey.{surveyed-edited}
-use Rattle.moved_gains.proofs.MovedStream.{stream-edited}
-use Rattle.sync_survey.proofs.SurveyedFiles.{survey_of-parts}
-use Rattle.tag_blocks.specs.declared.undo.Undo.{Undo}
-use Rattle.tag_blocks.specs.UndoItems.{undo_from}
+use Rattle.moved_gains.specs.declared.tag_fault.FileTagFault.{FileTagFault}
+use Rattle.outside.specs.Files.{Files, Holds, IsThere}
+use Rattle.requests.specs.{Shifts.steps_of, declared.shift.{Shift.Shift, Steps.Steps}}
+use Rattle.sync_survey.proofs.{SurveyParts.surveyed-allowed, SurveyedFiles.survey_of-parts}
+use Rattle.sync_survey.specs.Faults.{HoldsStream, stream_by, stream_of, stream_of_survey, surveyed}
+use Rattle.sync_survey.specs.Faults.{SurveyFields}
+use Rattle.sync_survey.specs.MainData.{main_bytes, stream_frame, stream_frames, StreamFrame}
+use Rattle.sync_survey.specs.{Row.Row, Survey.survey_of, declared.places.{Head.Head, Piece.Piece}}
 use Rattle.tag_blocks.proofs.TagsLaws.{block_front-tag_bytes}
 use Rattle.tag_blocks.proofs.UndoItemsLaws.{IsTag-with_undo, IsTag-without_undo}
-use Rattle.requests.specs.declared.shift.Shift.{Shift}
-use Rattle.gain_edits.specs.GainRange.{range_fault}
-use Rattle.requests.specs.Shifts.{steps_of}
-use Rattle.commands.specs.Refusing.{or_else, then_made}
-use Rattle.gain_edits.specs.Channels.{channel_fault}
-use Rattle.gain_edits.specs.UndoItem.{tag_read, noted_undo, found_undo, undo_steps, next_undo, undo_fault, tag_with, tag_without, bytes_unless_empty, size_fault, output_fault}
-use Rattle.gain_edits.specs.Gain.{noted_change, tagged_change, gain_change}
-use Rattle.gain_edits.specs.Undo.{undone_change, undo_change, undo_in, steps_when, steps_by as steps_read}
-use Rattle.commands.specs.Left.{IsLate}
-use Rattle.commands.proofs.InputLaws.{IsProperMaking, file_makes, file_proper}
-use Rattle.commands.proofs.RefusingLaws.{unless_ok, then_ok}
-use Rattle.gain_edits.proofs.Refusals.{change_late}
-use Rattle.outside.specs.Files.{Files, Holds, IsThere}
-use Rattle.gain_edits.specs.declared.changes.Changes.{Changes}
-use Rattle.gain_edits.specs.declared.changes.Changes.TheVariants.{Move, Undo as UndoAll}
-use Rattle.gain_edits.specs.Changes.{changing_by, steps_by, refused_by, task_of}
+use Rattle.tag_blocks.specs.{Tags.{IsTag, tag_bytes, TagFields}, UndoItems.undo_from}
+use Rattle.tag_blocks.specs.declared.undo.Undo.{Undo}
 
 IsTag-empty : IsTag empty_tag
-IsTag-empty = record { items = refl; one = omega arith; others = omega arith; own = omega arith; header_bits = refl; footer_bits = refl; header_number = refl; footer_number = refl }
+IsTag-empty = record {
+  items = refl;
+  one = omega arith;
+  others = omega arith;
+  own = omega arith;
+  header_bits = refl;
+  footer_bits = refl;
+  header_number = refl;
+  footer_number = refl;
+}
 
 abbrev ok_tag : TagFields → Result TagFields FileTagFault
 ok_tag tag = Ok tag
 
+-- tags are the same where the answers are
 pub same_tag : (a b : TagFields) → ok_tag a ≡ ok_tag b → a ≡ b
 same_tag a b e = cc
 
-pub file_tag-is : (file : List ℕ) (allowed : ℕ) (s : SurveyFields) (tag : TagFields) → AreBytes file → surveyed file allowed ≡ Ok s → file_tag file s ≡ Ok tag → IsTag tag
+-- the tag that is read of a surveyed file is a tag
+pub file_tag-is : (file : List ℕ) (allowed : ℕ) (s : SurveyFields) (tag : TagFields) → AreBytes file
+    → surveyed file allowed ≡ Ok s → file_tag file s ≡ Ok tag → IsTag tag
 file_tag-is file allowed s tag all is e = at (tag_block s) refl
   where
     at : (o : Option Piece) → tag_block s ≡ o → IsTag tag
-    at None none = subst IsTag (same_tag empty_tag tag (sym (file_tag-none file s none) ∙ e)) IsTag-empty
+    at None none =
+        subst IsTag (same_tag empty_tag tag (sym (file_tag-none file s none) ∙ e)) IsTag-empty
     at (Some b) some = ((own-tag file allowed s is).tag tag b all some e).0
 
 -- ---- what is made of a file
@@ -73,17 +77,27 @@ pub record IsMadeBy (of : Changing) (file new : List ℕ) (s : SurveyFields) : T
   pub made : of file s ≡ Ok change
   pub bytes : changed change file s ≡ new
 
-pub made_cases : (of : Changing) (file new : List ℕ) (s : SurveyFields) (r : Result Change EditFault) → of file s ≡ r → changed_with file s r ≡ Ok new → IsMadeBy of file new s
+-- a file that was changed has a change, by which it was made
+pub made_cases : (of : Changing) (file new : List ℕ) (s : SurveyFields)
+    (r : Result Change EditFault) → of file s ≡ r → changed_with file s r ≡ Ok new
+    → IsMadeBy of file new s
 made_cases of file new s (Err fault) made e = absurd cc
 made_cases of file new s (Ok change) made e = record { change = change; made = made; bytes = cc }
 
-pub made_of : (of : Changing) (file new : List ℕ) (s : SurveyFields) → survey_of file most_frames ≡ Ok s → changed_file of file ≡ Ok new → IsMadeBy of file new s
+-- the same by its survey
+pub made_of : (of : Changing) (file new : List ℕ) (s : SurveyFields)
+    → survey_of file most_frames ≡ Ok s → changed_file of file ≡ Ok new → IsMadeBy of file new s
 unfolding made_file
-made_of of file new s is e = made_cases of file new s (of file s) refl (ap (made_by (changing of) file) (sym is) ∙ e)
+made_of of file new s is e =
+    made_cases of file new s (of file s) refl (ap (made_by (changing of) file) (sym is) ∙ e)
 
-pub changed-ok : (of : Changing) (file : List ℕ) (s : SurveyFields) (change : Change) → survey_of file most_frames ≡ Ok s → of file s ≡ Ok change → changed_file of file ≡ Ok (changed change file s)
+-- a change of a surveyed file makes the changed file
+pub changed-ok : (of : Changing) (file : List ℕ) (s : SurveyFields) (change : Change)
+    → survey_of file most_frames ≡ Ok s → of file s ≡ Ok change
+    → changed_file of file ≡ Ok (changed change file s)
 unfolding made_file
-changed-ok of file s change is made = ap (made_by (changing of) file) is ∙ ap (changed_with file s) made
+changed-ok of file s change is made =
+    ap (made_by (changing of) file) is ∙ ap (changed_with file s) made
 
 -- ---- the stream
 
@@ -95,167 +109,259 @@ survey_with (Some tag) s = retagged (length tag) s
 abbrev pub changed_survey : Change → SurveyFields → SurveyFields
 changed_survey change s = survey_with change.tag (moved_survey change.steps s)
 
-no_junk : (steps : ℕ → Steps) (s : SurveyFields) → (moved_survey steps s).junk ≡ (moved_survey steps s).first
+no_junk : (steps : ℕ → Steps) (s : SurveyFields)
+    → (moved_survey steps s).junk ≡ (moved_survey steps s).first
 unfolding moved_survey
 no_junk steps s = refl
 
-module _ (file : List ℕ) (allowed : ℕ) (s : SurveyFields) (all : AreBytes file) (is : surveyed file allowed ≡ Ok s) where
-  edited_is : (steps : ℕ → Steps) → surveyed (edited steps file s) allowed ≡ Ok (moved_survey steps s)
+module _ (file : List ℕ) (allowed : ℕ) (s : SurveyFields) (all : AreBytes file)
+    (is : surveyed file allowed ≡ Ok s) where
+  edited_is : (steps : ℕ → Steps)
+      → surveyed (edited steps file s) allowed ≡ Ok (moved_survey steps s)
   edited_is steps = surveyed-edited steps file allowed s all is
 
-  tagged_is : (steps : ℕ → Steps) (o : Option (List ℕ)) → IfSome o IsTagBytes → surveyed (retag o (moved_survey steps s) (edited steps file s)) allowed ≡ Ok (survey_with o (moved_survey steps s))
+  tagged_is : (steps : ℕ → Steps) (o : Option (List ℕ)) → IfSome o IsTagBytes
+      → surveyed (retag o (moved_survey steps s) (edited steps file s)) allowed
+      ≡ Ok (survey_with o (moved_survey steps s))
   tagged_is steps None tags = edited_is steps
-  tagged_is steps (Some tag) tags = surveyed-retagged (edited steps file s) tag allowed (moved_survey steps s) (edited_is steps) (no_junk steps s) tags
+  tagged_is steps (Some tag) tags = surveyed-retagged (edited steps file s) tag allowed
+      (moved_survey steps s) (edited_is steps) (no_junk steps s) tags
 
-  pub surveyed-changed : (change : Change) → IfSome change.tag IsTagBytes → surveyed (changed change file s) allowed ≡ Ok (changed_survey change s)
+  -- the changed file has the survey of the file, changed
+  pub surveyed-changed : (change : Change) → IfSome change.tag IsTagBytes
+      → surveyed (changed change file s) allowed ≡ Ok (changed_survey change s)
   unfolding changed
   surveyed-changed change tags = tagged_is change.steps change.tag tags
 
   stream_is : (steps : ℕ → Steps) (o : Option (List ℕ)) → IfSome o IsTagBytes
-      → stream_of_survey (retag o (moved_survey steps s) (edited steps file s)) (survey_with o (moved_survey steps s)) ≡ moved_stream_of steps file s
+      → stream_of_survey (retag o (moved_survey steps s) (edited steps file s))
+      (survey_with o (moved_survey steps s)) ≡ moved_stream_of steps file s
   stream_is steps None tags = stream-edited steps file allowed s all is
-  stream_is steps (Some tag) tags = stream-retagged (edited steps file s) tag allowed (moved_survey steps s) (edited_is steps) (no_junk steps s) tags ∙ stream-edited steps file allowed s all is
+  stream_is steps (Some tag) tags =
+      stream-retagged (edited steps file s) tag allowed (moved_survey steps s) (edited_is steps)
+      (no_junk steps s) tags ∙ stream-edited steps file allowed s all is
 
+  -- and its stream is that of the file with its gains moved
   pub stream-changed : (change : Change) → IfSome change.tag IsTagBytes
-      → stream_of_survey (changed change file s) (changed_survey change s) ≡ moved_stream_of change.steps file s
+      → stream_of_survey (changed change file s) (changed_survey change s)
+      ≡ moved_stream_of change.steps file s
   unfolding changed
   stream-changed change tags = stream_is change.steps change.tag tags
 
-  changed-moved : (change : Change) → IfSome change.tag IsTagBytes → IsStreamMoved change.steps file (changed change file s)
+  changed-moved : (change : Change) → IfSome change.tag IsTagBytes
+      → IsStreamMoved change.steps file (changed change file s)
   changed-moved change tags =
       let new = changed change file s in
       record {
         before = (s, surveyed-allowed file allowed (length file + 1) s (omega arith) is);
-        after = (changed_survey change s, surveyed-allowed new allowed (length new + 1) (changed_survey change s) (omega arith) (surveyed-changed change tags));
+        after = (
+          changed_survey change s,
+          surveyed-allowed new allowed (length new + 1) (changed_survey change s) (omega arith)
+              (surveyed-changed change tags),
+        );
         stream = stream-changed change tags;
       }
 
--- what a command makes of a file is well-formed as the file is, and its stream is that of the file with each gain moved
-pub changed-stream : (of : Changing) (file new : List ℕ) (s : SurveyFields) (c : IsMadeBy of file new s) → AreBytes file → survey_of file most_frames ≡ Ok s → IfSome c.change.tag IsTagBytes → IsStreamMoved c.change.steps file new
-changed-stream of file new s c all is tags = subst (IsStreamMoved c.change.steps file) c.bytes (changed-moved file most_frames s all (survey_of-parts file most_frames s is).1 c.change tags)
+-- what a command makes of a file is well-formed as the file
+-- is, and its stream is that of the file with each gain moved
+pub changed-stream : (of : Changing) (file new : List ℕ) (s : SurveyFields)
+    (c : IsMadeBy of file new s) → AreBytes file → survey_of file most_frames ≡ Ok s
+    → IfSome c.change.tag IsTagBytes → IsStreamMoved c.change.steps file new
+changed-stream of file new s c all is tags = subst (IsStreamMoved c.change.steps file) c.bytes
+    (changed-moved file most_frames s all (survey_of-parts file most_frames s is).1 c.change tags)
 
-pub stream_of-survey : (file : List ℕ) (s : SurveyFields) → surveyed file (length file + 1) ≡ Ok s → stream_of file ≡ stream_of_survey file s
+-- the stream of a file is that of its survey
+pub stream_of-survey : (file : List ℕ) (s : SurveyFields) → surveyed file (length file + 1) ≡ Ok s
+    → stream_of file ≡ stream_of_survey file s
 unfolding stream_of
 stream_of-survey file s is = ap (stream_by file) is
 
-each_even : (steps : Steps) (main : List ℕ) (o : Option Head) (rows : List Row) (more : List (ℕ × Row))
-    → map (λ (p : ℕ × Row). moved_stream_frame steps (stream_frame main o rows p.0 p.1)) more ≡ map (moved_stream_frame steps) (map (λ (p : ℕ × Row). stream_frame main o rows p.0 p.1) more)
+each_even : (steps : Steps) (main : List ℕ) (o : Option Head) (rows : List Row)
+    (more : List (ℕ × Row))
+    → map (λ (p : ℕ × Row). moved_stream_frame steps (stream_frame main o rows p.0 p.1)) more
+    ≡ map (moved_stream_frame steps) (map (λ (p : ℕ × Row). stream_frame main o rows p.0 p.1) more)
 each_even steps main o rows [] = refl
-each_even steps main o rows (p ∷ more) = ap (λ (l : List StreamFrame). moved_stream_frame steps (stream_frame main o rows p.0 p.1) ∷ l) (each_even steps main o rows more)
+each_even steps main o rows (p ∷ more) =
+    ap (λ (l : List StreamFrame). moved_stream_frame steps (stream_frame main o rows p.0 p.1) ∷ l)
+    (each_even steps main o rows more)
 
 -- where all frames have the same steps
-pub even_stream : (steps : Steps) (file : List ℕ) (s : SurveyFields) → moved_stream_of (even steps) file s ≡ map (moved_stream_frame steps) (stream_of_survey file s)
+pub even_stream : (steps : Steps) (file : List ℕ) (s : SurveyFields)
+    → moved_stream_of (even steps) file s ≡ map (moved_stream_frame steps) (stream_of_survey file s)
 unfolding moved_stream_of stream_of_survey stream_frames
-even_stream steps file s = each_even steps (main_bytes file s.head s.frames) s.head s.frames (enumerate_from 0 s.frames)
+even_stream steps file s =
+    each_even steps (main_bytes file s.head s.frames) s.head s.frames (enumerate_from 0 s.frames)
 
 -- as a stream that it holds
-pub holds_moved : (steps : ℕ → Steps) (file new : List ℕ) (h : IsStreamMoved steps file new) → HoldsStream new (moved_stream_of steps file h.before.0)
+pub holds_moved : (steps : ℕ → Steps) (file new : List ℕ) (h : IsStreamMoved steps file new)
+    → HoldsStream new (moved_stream_of steps file h.before.0)
 holds_moved steps file new h = record {
   well_formed = h.after;
   stream_is = stream_of-survey new h.after.0 h.after.1 ∙ h.stream;
 }
 
-pub moved_holds : (steps : Steps) (file new : List ℕ) → IsStreamMoved (even steps) file new → HoldsStream new (map (moved_stream_frame steps) (stream_of file))
+-- a file whose stream is moved holds the moved stream
+pub moved_holds : (steps : Steps) (file new : List ℕ) → IsStreamMoved (even steps) file new
+    → HoldsStream new (map (moved_stream_frame steps) (stream_of file))
 moved_holds steps file new h =
-    subst (HoldsStream new) (even_stream steps file h.before.0 ∙ ap (map (moved_stream_frame steps)) (sym (stream_of-survey file h.before.0 h.before.1))) (holds_moved (even steps) file new h)
+    subst (HoldsStream new) (even_stream steps file h.before.0 ∙ ap (map (moved_stream_frame steps))
+    (sym (stream_of-survey file h.before.0 h.before.1))) (holds_moved (even steps) file new h)
 
 -- ---- what is made
 
 -- the change was noted in this tag, whose undo item said this before
-pub record IsNoted (shift : Shift) (file : List ℕ) (s : SurveyFields) (change : Change) : Type 0 where
+pub record IsNoted (shift : Shift) (file : List ℕ) (s : SurveyFields)
+    (change : Change) : Type 0 where
   pub tag : TagFields
   pub undo : Undo
   pub read : tag_read (file_tag file s) ≡ Ok tag
   pub item : noted_undo (tag_at s) (undo_from 32 tag.items) ≡ Ok undo
-  pub free : or_else (channel_fault shift s) (or_else (undo_fault (next_undo shift undo)) (or_else (size_fault (tag_bytes (tag_with (next_undo shift undo) tag))) (or_else (output_fault s (tag_bytes (tag_with (next_undo shift undo) tag))) (range_fault (even (steps_of shift)) s.frames)))) ≡ None
-  pub is : record { steps = even (steps_of shift); tag = Some (tag_bytes (tag_with (next_undo shift undo) tag)) } ≡ change
+  pub free : or_else (channel_fault shift s) (or_else (undo_fault (next_undo shift undo))
+      (or_else (size_fault (tag_bytes (tag_with (next_undo shift undo) tag)))
+      (or_else (output_fault s (tag_bytes (tag_with (next_undo shift undo) tag)))
+      (range_fault (even (steps_of shift)) s.frames)))) ≡ None
+  pub is : record {
+    steps = even (steps_of shift);
+    tag = Some (tag_bytes (tag_with (next_undo shift undo) tag));
+  } ≡ change
 
-pub tagged-parts : (shift : Shift) (file : List ℕ) (s : SurveyFields) (change : Change) → tagged_change shift file s ≡ Ok change → IsNoted shift file s change
+-- a noted change that isn't refused has a tag, in which its undo is noted
+pub tagged-parts : (shift : Shift) (file : List ℕ) (s : SurveyFields) (change : Change)
+    → tagged_change shift file s ≡ Ok change → IsNoted shift file s change
 tagged-parts shift file s change e =
     let one = then_ok (tag_read (file_tag file s)) _ change e in
-    let two = then_ok (noted_undo (tag_at s) (undo_from 32 one.0.items)) (noted_change shift s one.0) change one.2 in
+    let two = then_ok (noted_undo (tag_at s) (undo_from 32 one.0.items))
+    (noted_change shift s one.0) change one.2 in
     let three = unless_ok _ _ change two.2 in
     record { tag = one.0; undo = two.0; read = one.1; item = two.1; free = three.0; is = three.1 }
 
+-- the tag, the undo in it, and the change by that undo, by which no gain leaves its range
 pub record IsUndone (file : List ℕ) (s : SurveyFields) (change : Change) : Type 0 where
   pub tag : TagFields
   pub undo : Undo
   pub read : tag_read (file_tag file s) ≡ Ok tag
   pub item : found_undo (tag_at s) (undo_from 32 tag.items) ≡ Ok undo
   pub free : range_fault (even (undo_steps undo)) s.frames ≡ None
-  pub is : record { steps = even (undo_steps undo); tag = Some (bytes_unless_empty (tag_without tag)) } ≡ change
+  pub is : record {
+    steps = even (undo_steps undo);
+    tag = Some (bytes_unless_empty (tag_without tag));
+  } ≡ change
 
-pub undone-parts : (file : List ℕ) (s : SurveyFields) (change : Change) → undo_change file s ≡ Ok change → IsUndone file s change
+-- an undo that isn't refused has these parts
+pub undone-parts : (file : List ℕ) (s : SurveyFields) (change : Change)
+    → undo_change file s ≡ Ok change → IsUndone file s change
 unfolding undo_change
 undone-parts file s change e =
     let one = then_ok (tag_read (file_tag file s)) _ change e in
-    let two = then_ok (found_undo (tag_at s) (undo_from 32 one.0.items)) (undone_change s one.0) change one.2 in
+    let two = then_ok (found_undo (tag_at s) (undo_from 32 one.0.items))
+    (undone_change s one.0) change one.2 in
     let three = unless_ok (range_fault (even (undo_steps two.0)) s.frames) _ change two.2 in
     record { tag = one.0; undo = two.0; read = one.1; item = two.1; free = three.0; is = three.1 }
 
 -- ---- the new tag
 
-pub read_ok : (r : Result TagFields FileTagFault) (tag : TagFields) → tag_read r ≡ Ok tag → r ≡ Ok tag
+-- a tag that isn't refused is the one that is read
+pub read_ok : (r : Result TagFields FileTagFault) (tag : TagFields) → tag_read r ≡ Ok tag
+    → r ≡ Ok tag
 read_ok (Ok found) tag e = cc
 read_ok (Err fault) tag e = absurd cc
 
 -- the tag of a file is a tag
-pub read-tag : (file : List ℕ) (s : SurveyFields) (tag : TagFields) → AreBytes file → survey_of file most_frames ≡ Ok s → tag_read (file_tag file s) ≡ Ok tag → IsTag tag
-read-tag file s tag all is e = file_tag-is file most_frames s tag all (survey_of-parts file most_frames s is).1 (read_ok (file_tag file s) tag e)
+pub read-tag : (file : List ℕ) (s : SurveyFields) (tag : TagFields) → AreBytes file
+    → survey_of file most_frames ≡ Ok s → tag_read (file_tag file s) ≡ Ok tag → IsTag tag
+read-tag file s tag all is e = file_tag-is file most_frames s tag all
+    (survey_of-parts file most_frames s is).1 (read_ok (file_tag file s) tag e)
 
+-- the bytes of a tag, or none where it has no items, may take a tag's place
 pub unless_empty-are : (tag : TagFields) → IsTag tag → IsTagBytes (bytes_unless_empty tag)
-unless_empty-are tag is = elim (length tag.items == 0) as (λ b. IsTagBytes (cond b [] (tag_bytes tag))) [ true ↦ inl refl | false ↦ inr (block_front-tag_bytes tag is) ]
+unless_empty-are tag is = elim (length tag.items == 0) as (λ b. IsTagBytes (cond b []
+    (tag_bytes tag))) [ true ↦ inl refl | false ↦ inr (block_front-tag_bytes tag is) ]
 
 -- the new tag of a change that is noted
-pub noted-tag : (shift : Shift) (file : List ℕ) (s : SurveyFields) (change : Change) → AreBytes file → survey_of file most_frames ≡ Ok s → tagged_change shift file s ≡ Ok change → IfSome change.tag IsTagBytes
+pub noted-tag : (shift : Shift) (file : List ℕ) (s : SurveyFields) (change : Change) → AreBytes file
+    → survey_of file most_frames ≡ Ok s → tagged_change shift file s ≡ Ok change
+    → IfSome change.tag IsTagBytes
 noted-tag shift file s change all is e =
     let parts = tagged-parts shift file s change e in
     let next = next_undo shift parts.undo in
-    subst (λ (c : Change). IfSome c.tag IsTagBytes) parts.is (inr (block_front-tag_bytes (tag_with next parts.tag) (IsTag-with_undo next parts.tag (read-tag file s parts.tag all is parts.read))))
+    subst (λ (c : Change). IfSome c.tag IsTagBytes)
+    parts.is (inr (block_front-tag_bytes (tag_with next parts.tag)
+    (IsTag-with_undo next parts.tag (read-tag file s parts.tag all is parts.read))))
 
 -- that of a change that is undone
-pub undone-tag : (file : List ℕ) (s : SurveyFields) (change : Change) → AreBytes file → survey_of file most_frames ≡ Ok s → undo_change file s ≡ Ok change → IfSome change.tag IsTagBytes
+pub undone-tag : (file : List ℕ) (s : SurveyFields) (change : Change) → AreBytes file
+    → survey_of file most_frames ≡ Ok s → undo_change file s ≡ Ok change
+    → IfSome change.tag IsTagBytes
 undone-tag file s change all is e =
     let parts = undone-parts file s change e in
-    subst (λ (c : Change). IfSome c.tag IsTagBytes) parts.is (unless_empty-are (tag_without parts.tag) (IsTag-without_undo parts.tag (read-tag file s parts.tag all is parts.read)))
+    subst (λ (c : Change). IfSome c.tag IsTagBytes)
+    parts.is (unless_empty-are (tag_without parts.tag)
+    (IsTag-without_undo parts.tag (read-tag file s parts.tag all is parts.read)))
 
 -- the steps are those of the command, and there is no new tag or the bytes of one
 abbrev IsChangeOf : Changes → List ℕ → Change → Type 0
-IsChangeOf changes file change = (change.steps ≡ even (steps_by changes file)) × IfSome change.tag IsTagBytes
+IsChangeOf changes file change =
+    (change.steps ≡ even (steps_by changes file)) × IfSome change.tag IsTagBytes
 
-change_is : (changes : Changes) (file : List ℕ) (s : SurveyFields) (change : Change) → AreBytes file → survey_of file most_frames ≡ Ok s → changing_by changes file s ≡ Ok change → IsChangeOf changes file change
+change_is : (changes : Changes) (file : List ℕ) (s : SurveyFields) (change : Change) → AreBytes file
+    → survey_of file most_frames ≡ Ok s → changing_by changes file s ≡ Ok change
+    → IsChangeOf changes file change
 unfolding gain_change
 change_is (Move shift true) file s change all is e =
     let parts = tagged-parts shift.now file s change e in
     (ap (λ (c : Change). c.steps) (sym parts.is), noted-tag shift.now file s change all is e)
 change_is (Move shift false) file s change all is e =
-    let parts = unless_ok (or_else (channel_fault shift.now s) (range_fault (even (steps_of shift.now)) s.frames)) _ change e in
+    let parts = unless_ok (or_else (channel_fault shift.now s)
+    (range_fault (even (steps_of shift.now)) s.frames)) _ change e in
     subst (IsChangeOf (Move shift false) file) parts.1 (refl, tt)
 change_is UndoAll file s change all is e =
     let parts = undone-parts file s change e in
-    let undo : undo_in file s ≡ Ok parts.undo = ap (λ (r : Result TagFields EditFault). then_made r (λ tag. found_undo (tag_at s) (undo_from 32 tag.items))) parts.read ∙ parts.item in
-    (ap (λ (c : Change). c.steps) (sym parts.is) ∙ ap even (sym (ap (steps_read file) is ∙ ap steps_when undo)), undone-tag file s change all is e)
+    let undo : undo_in file s ≡ Ok parts.undo = ap (λ (r : Result TagFields EditFault). then_made r
+    (λ tag. found_undo (tag_at s) (undo_from 32 tag.items))) parts.read ∙ parts.item in (
+      ap (λ (c : Change). c.steps) (sym parts.is)
+          ∙ ap even (sym (ap (steps_read file) is ∙ ap steps_when undo)),
+      undone-tag file s change all is e,
+    )
 
 -- ---- as commands
 
-pub changed_all : (P : EditFault → Type 0) (file : List ℕ) (s : SurveyFields) (r : Result Change EditFault) → IfErr r P → IfErr (changed_with file s r) P
+-- what holds of the errors of a change holds of those of the changed file
+pub changed_all : (P : EditFault → Type 0) (file : List ℕ) (s : SurveyFields)
+    (r : Result Change EditFault) → IfErr r P → IfErr (changed_with file s r) P
 changed_all P file s (Err fault) is = is
 changed_all P file s (Ok change) is = tt
 
-moved_stream : (changes : Changes) (file : List ℕ) (s : SurveyFields) (new : List ℕ) → AreBytes file → survey_of file most_frames ≡ Ok s → changing (changing_by changes) file s ≡ Ok new → HoldsStream new (stream_moved_by (steps_by changes) file)
+moved_stream : (changes : Changes) (file : List ℕ) (s : SurveyFields) (new : List ℕ) → AreBytes file
+    → survey_of file most_frames ≡ Ok s → changing (changing_by changes) file s ≡ Ok new
+    → HoldsStream new (stream_moved_by (steps_by changes) file)
 moved_stream changes file s new all is e =
     let c = made_cases (changing_by changes) file new s (changing_by changes file s) refl e in
     let parts = change_is changes file s c.change all is c.made in
     let moved = changed-stream (changing_by changes) file new s c all is parts.1 in
-    moved_holds (steps_by changes file) file new (subst (λ (t : ℕ → Steps). IsStreamMoved t file new) parts.0 moved)
+    moved_holds (steps_by changes file) file new
+    (subst (λ (t : ℕ → Steps). IsStreamMoved t file new) parts.0 moved)
 
-proper : (changes : Changes) → IsProperMaking (changing (changing_by changes)) (stream_moved_by (steps_by changes))
-proper changes = record { late = λ file s. changed_all IsLate file s (changing_by changes file s) (change_late changes file s); streams = moved_stream changes }
+proper : (changes : Changes)
+    → IsProperMaking (changing (changing_by changes)) (stream_moved_by (steps_by changes))
+proper changes = record {
+  late = λ file s. changed_all IsLate file s (changing_by changes file s)
+      (change_late changes file s);
+  streams = moved_stream changes;
+}
 
-pub edit_makes : (changes : Changes) (input : List ℕ) (s : SurveyFields) (change : Change) (files : Files) → IsThere files input → ((bytes : List ℕ) → Holds files input bytes → survey_of bytes most_frames ≡ Ok s) → ((bytes : List ℕ) → Holds files input bytes → AreBytes bytes)
-    → ((bytes : List ℕ) → Holds files input bytes → changing_by changes bytes s ≡ Ok change) → IsMaking (task_of changes input) (λ file. changed change file s) files
+-- a change of the input makes the changed file
+pub edit_makes : (changes : Changes) (input : List ℕ) (s : SurveyFields) (change : Change)
+    (files : Files) → IsThere files input
+    → ((bytes : List ℕ) → Holds files input bytes → survey_of bytes most_frames ≡ Ok s)
+    → ((bytes : List ℕ) → Holds files input bytes → AreBytes bytes)
+    → ((bytes : List ℕ) → Holds files input bytes → changing_by changes bytes s ≡ Ok change)
+    → IsMaking (task_of changes input) (λ file. changed change file s) files
 edit_makes changes input s change files there surveyed octets changed_by =
-    file_makes (changing (changing_by changes)) (stream_moved_by (steps_by changes)) (refused_by changes) input files _ s there surveyed octets (λ bytes holds. ap (changed_with bytes s) (changed_by bytes holds))
+    file_makes (changing (changing_by changes)) (stream_moved_by (steps_by changes))
+    (refused_by changes) input files _ s there surveyed octets
+    (λ bytes holds. ap (changed_with bytes s) (changed_by bytes holds))
 
+-- a command that changes gains is proper
 pub edit_proper : (changes : Changes) (input : List ℕ) → IsProper (task_of changes input)
-edit_proper changes input = file_proper (changing (changing_by changes)) (stream_moved_by (steps_by changes)) (proper changes) (refused_by changes) input
+edit_proper changes input = file_proper (changing (changing_by changes))
+    (stream_moved_by (steps_by changes)) (proper changes) (refused_by changes) input

@@ -1,144 +1,168 @@
 -- What a file is after noted changes of gains, one after the other; and that undo takes them back.
-use Rattle.std.proofs.Common.{◌≡◌, ℕ, ◌+◌, ◌≤◌, ltb, Bool, true, false, cond, List, [], ◌∷◌, length, Option, Some, None, Result, Ok, ℤ, pos, ◌+ℤ◌, refl, sym, ◌∙◌, ap, ◌-◌, ◌==◌, ◌||◌, ◌++◌, take, drop, map, subst, arith, inl, inr, take-append-drop}
-use Rattle.std.specs.Prelude.{unsigned_abs, ◌-ℤ◌}
-use Rattle.std.proofs.lemmas.Bool.{ltb-false, le-ltb, ne_eqb}
-use Rattle.std.proofs.Math.IntN.{+ℤ_assoc, +ℤ_comm, -ℤ-+ℤ_cancel}
-use Rattle.tag_blocks.specs.declared.undo.Undo.{Undo}
-use Rattle.tag_blocks.specs.declared.undo.UndoItem.{UndoItem}
-use Rattle.tag_blocks.specs.declared.undo.UndoItem.TheVariants.{Missing, Found}
-use Rattle.tag_blocks.specs.UndoText.{undo_of, FitsText}
-use Rattle.tag_blocks.specs.Items.{TagItem, is_undo, item_length}
-use Rattle.tag_blocks.specs.Tags.{TagFields, IsTag, tag_bytes}
-use Rattle.tag_blocks.specs.UndoItems.{undo_at, undo_from, without_undo}
-use Rattle.tag_blocks.proofs.TagsLaws.{tag_of-tag_bytes, block_front-tag_bytes}
-use Rattle.tag_blocks.proofs.UndoTextLaws.{undo_of-undo_text}
-use Rattle.tag_blocks.proofs.UndoItemsLaws.{undo_from-with_undo, without_undo-with_undo, IsTag-with_undo}
-use Rattle.moved_gains.specs.TagPlace.{tag_at, tag_block, tag_length, with_tag}
-use Rattle.moved_gains.specs.TagReading.{longest_tag, tag_of_block, file_tag, empty_tag}
-use Rattle.sync_survey.specs.Faults.{SurveyFields, longest_file, surveyed, stream_of, HoldsStream}
-use Rattle.commands.specs.declared.fault.EditFault.{EditFault}
-use Rattle.commands.specs.declared.fault.Refusal.{Refusal}
-use Rattle.commands.specs.declared.fault.Refusal.TheVariants.{UndoRange}
-use Rattle.moved_gains.specs.Course.{even}
-use Rattle.requests.specs.declared.shift.Shift.{Shift}
-use Rattle.gain_edits.specs.GainRange.{range_fault}
-use Rattle.requests.specs.Shifts.{steps_of}
-use Rattle.commands.specs.Refusing.{or_else, unless, then_made}
-use Rattle.gain_edits.specs.Channels.{channel_fault}
-use Rattle.gain_edits.specs.UndoItem.{tag_read, noted_undo, next_undo, number_fault, undo_fault, tag_with, tag_without, output_length, size_fault, output_fault, no_undo, found_undo, undo_steps, bytes_unless_empty}
-use Rattle.moved_gains.specs.Change.{Change, changed}
-use Rattle.gain_edits.specs.Gain.{noted_change, noted_in, gain_change}
-use Rattle.commands.proofs.RefusingLaws.{none_first, unless_ok, then_ok}
-use Rattle.gain_edits.proofs.Refusals.{not_there}
+use Rattle.std.proofs.Common.{ap, arith, Bool, cond, drop, false, inl, inr, length, List, ltb, map}
+use Rattle.std.proofs.Common.{None, Ok, Option, pos, refl, Result, Some, subst, sym, take}
+use Rattle.std.proofs.Common.{take-append-drop, true, ℕ, ℤ, ◌+ℤ◌, [], ◌++◌, ◌+◌, ◌-◌, ◌==◌, ◌||◌}
+use Rattle.std.proofs.{Common.{◌∙◌, ◌∷◌, ◌≡◌, ◌≤◌}, Math.IntN.{+ℤ_assoc, +ℤ_comm, -ℤ-+ℤ_cancel}}
+use Rattle.std.{proofs.lemmas.Bool.{le-ltb, ltb-false, ne_eqb}, specs.Prelude.{unsigned_abs, ◌-ℤ◌}}
 use Rattle.bit_fields.specs.Bits.{AreBytes}
-use Rattle.tag_blocks.specs.declared.block.Kind.TheVariants.{Ape}
-use Rattle.tag_blocks.specs.Blocks.{block_front}
-use Rattle.moved_gains.specs.TagLaws.{own_bytes}
-use Rattle.moved_gains.proofs.FoundTag.{surveyed-length}
-use Rattle.moved_gains.proofs.NewTag.{own-tag}
-use Rattle.sync_survey.specs.declared.places.Piece.{Piece}
-use Rattle.sync_survey.specs.Survey.{survey_of}
-use Rattle.sync_survey.proofs.FoldersLaws.{survey_of-short}
-use Rattle.requests.specs.declared.shift.Steps.{Steps}
-use Rattle.moved_gains.specs.Edited.{edited}
-use Rattle.moved_gains.proofs.TagReadingLaws.{file_tag-none}
-use Rattle.moved_gains.specs.Streams.{junk_length, moved_survey, without_junk}
-use Rattle.commands.specs.One.{most_frames}
-use Rattle.gain_edits.specs.Change.{changed_file}
-use Rattle.gain_edits.specs.Undo.{undone_change, undone_in, undo_change}
-use Rattle.gain_edits.specs.GivenBack.{gained_by_all, tidied, HasNoEmptyTag, IsGivenBack, UndoGivesBack}
-use Rattle.moved_gains.proofs.MovedGains.{sum_of}
-use Rattle.moved_gains.proofs.TagPlaces.{tag_none}
-use Rattle.moved_gains.proofs.WrittenTag.{length_moved}
-use Rattle.sync_survey.proofs.SurveyedFiles.{survey_of-parts}
-use Rattle.gain_edits.proofs.Proper.{made_of, changed-ok, file_tag-is, same_tag, unless_empty-are}
-use Rattle.moved_gains.proofs.FramesThere.{AreFramesOf, frames_there}
-use Rattle.moved_gains.proofs.MovedAgain.{even_together, AreTogether, stood}
-use Rattle.gain_edits.proofs.RangeAgain.{still, even_opposite, range_both, range_back}
-use Rattle.moved_gains.proofs.TaggedAgain.{new, new_survey, to, new_is, has_block, new_frames, new_long, clean_survey, changed_again}
+use Rattle.commands.{proofs.RefusingLaws.{none_first, then_ok, unless_ok}, specs.One.most_frames}
+use Rattle.commands.specs.Refusing.{or_else, then_made, unless}
+use Rattle.commands.specs.declared.fault.{EditFault.EditFault, Refusal.Refusal}
+use Rattle.commands.specs.declared.fault.Refusal.TheVariants.{UndoRange}
 use Rattle.gain_edits.proofs.OppositeSteps.{edited_still, own_again, still_holds}
+use Rattle.gain_edits.proofs.Proper.{changed-ok, file_tag-is, made_of, same_tag, unless_empty-are}
+use Rattle.gain_edits.proofs.RangeAgain.{even_opposite, range_back, range_both, still}
+use Rattle.gain_edits.{proofs.Refusals.not_there, specs.Change.changed_file}
+use Rattle.gain_edits.specs.{Channels.channel_fault, Gain.{gain_change, noted_change, noted_in}}
+use Rattle.gain_edits.specs.GainRange.{range_fault}
+use Rattle.gain_edits.specs.GivenBack.{gained_by_all, HasNoEmptyTag, IsGivenBack, tidied}
+use Rattle.gain_edits.specs.{GivenBack.UndoGivesBack, Undo.{undo_change, undone_change, undone_in}}
+use Rattle.gain_edits.specs.UndoItem.{bytes_unless_empty, found_undo, next_undo, no_undo}
+use Rattle.gain_edits.specs.UndoItem.{noted_undo, number_fault, output_fault, output_length}
+use Rattle.gain_edits.specs.UndoItem.{size_fault, tag_read, tag_with, tag_without, undo_fault}
+use Rattle.gain_edits.specs.UndoItem.{undo_steps}
+use Rattle.moved_gains.proofs.{FoundTag.surveyed-length, FramesThere.{AreFramesOf, frames_there}}
+use Rattle.moved_gains.proofs.{MovedAgain.{AreTogether, even_together, stood}, MovedGains.sum_of}
+use Rattle.moved_gains.proofs.{NewTag.own-tag, TagPlaces.tag_none, TagReadingLaws.file_tag-none}
+use Rattle.moved_gains.proofs.TaggedAgain.{changed_again, clean_survey, has_block, new, new_frames}
+use Rattle.moved_gains.proofs.TaggedAgain.{new_is, new_long, new_survey, to}
+use Rattle.moved_gains.{proofs.WrittenTag.length_moved, specs.Change.{Change, changed}}
+use Rattle.moved_gains.specs.{Course.even, Edited.edited}
+use Rattle.moved_gains.specs.{Streams.{junk_length, moved_survey, without_junk}, TagLaws.own_bytes}
+use Rattle.moved_gains.specs.TagPlace.{tag_at, tag_block, tag_length, with_tag}
+use Rattle.moved_gains.specs.TagReading.{empty_tag, file_tag, longest_tag, tag_of_block}
+use Rattle.requests.specs.{Shifts.steps_of, declared.shift.{Shift.Shift, Steps.Steps}}
+use Rattle.sync_survey.proofs.{FoldersLaws.survey_of-short, SurveyedFiles.survey_of-parts}
+use Rattle.sync_survey.specs.Faults.{HoldsStream, longest_file, stream_of, surveyed, SurveyFields}
+use Rattle.sync_survey.specs.{Survey.survey_of, declared.places.Piece.Piece}
+use Rattle.tag_blocks.proofs.TagsLaws.{block_front-tag_bytes, tag_of-tag_bytes}
+use Rattle.tag_blocks.proofs.UndoItemsLaws.{IsTag-with_undo, undo_from-with_undo}
+use Rattle.tag_blocks.proofs.{UndoItemsLaws.without_undo-with_undo, UndoTextLaws.undo_of-undo_text}
+use Rattle.tag_blocks.specs.{Blocks.block_front, Items.{is_undo, item_length, TagItem}}
+use Rattle.tag_blocks.specs.Tags.{IsTag, tag_bytes, TagFields}
+use Rattle.tag_blocks.specs.UndoItems.{undo_at, undo_from, without_undo}
+use Rattle.tag_blocks.specs.{UndoText.{FitsText, undo_of}, declared.block.Kind.TheVariants.Ape}
+use Rattle.tag_blocks.specs.declared.undo.{Undo.Undo, UndoItem.UndoItem}
+use Rattle.tag_blocks.specs.declared.undo.UndoItem.TheVariants.{Found, Missing}
 
 -- ---- the steps
 
 -- a further change by some steps, and as many less to be taken back
 pub sum_again : (sum step undo : ℤ) → (sum +ℤ step) +ℤ (undo -ℤ step) ≡ sum +ℤ undo
-sum_again sum step undo = +ℤ_assoc sum step (undo -ℤ step) ∙ ap (λ z. sum +ℤ z) (+ℤ_comm step (undo -ℤ step) ∙ -ℤ-+ℤ_cancel undo step)
+sum_again sum step undo = +ℤ_assoc sum step (undo -ℤ step)
+    ∙ ap (λ z. sum +ℤ z) (+ℤ_comm step (undo -ℤ step) ∙ -ℤ-+ℤ_cancel undo step)
 
+-- steps and as many the other way are 0
 pub sum_first : (step : ℤ) → step +ℤ (pos 0 -ℤ step) ≡ pos 0
 sum_first step = +ℤ_comm step (pos 0 -ℤ step) ∙ -ℤ-+ℤ_cancel (pos 0) step
 
 -- ---- the undo item
 
-missing_cases : (b : Bool) (place : ℕ) (o : Option Undo) (later : UndoItem) (item : TagItem) (items left : List TagItem) → cond b (undo_at place o) later ≡ Missing → (later ≡ Missing → left ≡ items) → cond b items (item ∷ left) ≡ item ∷ items
+missing_cases : (b : Bool) (place : ℕ) (o : Option Undo) (later : UndoItem) (item : TagItem)
+    (items left : List TagItem) → cond b (undo_at place o) later ≡ Missing
+    → (later ≡ Missing → left ≡ items) → cond b items (item ∷ left) ≡ item ∷ items
 missing_cases true place None later item items left e rest = absurd cc
 missing_cases true place (Some undo) later item items left e rest = absurd cc
-missing_cases false place o later item items left e rest = ap (λ (l : List TagItem). item ∷ l) (rest e)
+missing_cases false place o later item items left e rest =
+    ap (λ (l : List TagItem). item ∷ l) (rest e)
 
 -- items without an undo item stay
-without_none : (place : ℕ) (items : List TagItem) → undo_from place items ≡ Missing → without_undo items ≡ items
+without_none : (place : ℕ) (items : List TagItem) → undo_from place items ≡ Missing
+    → without_undo items ≡ items
 without_none place [] e = refl
 without_none place (item ∷ items) e =
-    missing_cases (is_undo item) place (undo_of item.value) (undo_from (place + item_length item) items) item items (without_undo items) e (λ none. without_none (place + item_length item) items none)
+    missing_cases (is_undo item) place (undo_of item.value)
+    (undo_from (place + item_length item) items) item items (without_undo items) e
+    (λ none. without_none (place + item_length item) items none)
 
+-- a tag without an undo item is itself when that is removed
 pub tag_without_none : (tag : TagFields) → undo_from 32 tag.items ≡ Missing → tag_without tag ≡ tag
-tag_without_none tag e = ap (λ (l : List TagItem). record tag { items = l }) (without_none 32 tag.items e)
+tag_without_none tag e =
+    ap (λ (l : List TagItem). record tag { items = l }) (without_none 32 tag.items e)
 
-pub tag_without_with : (undo : Undo) (tag : TagFields) → tag_without (tag_with undo tag) ≡ tag_without tag
-tag_without_with undo tag = ap (λ (l : List TagItem). record tag { items = l }) (without_undo-with_undo undo tag.items)
+-- an undo that was put in changes nothing of what is left without one
+pub tag_without_with : (undo : Undo) (tag : TagFields)
+    → tag_without (tag_with undo tag) ≡ tag_without tag
+tag_without_with undo tag =
+    ap (λ (l : List TagItem). record tag { items = l }) (without_undo-with_undo undo tag.items)
 
-pub found_with : (undo : Undo) (tag : TagFields) → FitsText undo → undo_from 32 (tag_with undo tag).items ≡ Found undo
+-- an undo that was put in is found
+pub found_with : (undo : Undo) (tag : TagFields) → FitsText undo
+    → undo_from 32 (tag_with undo tag).items ≡ Found undo
 found_with undo tag fits = undo_from-with_undo undo tag.items 32 (undo_of-undo_text undo fits)
 
 -- ---- the tag of a block
 
-pub block_read : (at : ℕ) (tag : TagFields) → IsTag tag → length (tag_bytes tag) ≤ longest_tag → tag_of_block at (tag_bytes tag) ≡ Ok tag
-block_read at tag are small = simp (le-ltb longest_tag (length (tag_bytes tag)) small, tag_of-tag_bytes tag are)
+-- a tag is read from the block of its bytes
+pub block_read : (at : ℕ) (tag : TagFields) → IsTag tag → length (tag_bytes tag) ≤ longest_tag
+    → tag_of_block at (tag_bytes tag) ≡ Ok tag
+block_read at tag are small =
+    simp (le-ltb longest_tag (length (tag_bytes tag)) small, tag_of-tag_bytes tag are)
 
 -- ---- what was accepted
 
 small_number : (number : ℤ) → number_fault number ≡ None → unsigned_abs number ≤ 999
-small_number number e = ltb-false 999 (unsigned_abs number) (not_there (ltb 999 (unsigned_abs number)) (UndoRange number) e)
+small_number number e = ltb-false 999 (unsigned_abs number)
+    (not_there (ltb 999 (unsigned_abs number)) (UndoRange number) e)
 
 fits_text : (undo : Undo) → undo_fault undo ≡ None → FitsText undo
-fits_text undo e = let both = none_first (number_fault undo.left) (number_fault undo.right) e in record { left = small_number undo.left both.0; right = small_number undo.right both.1 }
+fits_text undo e = let both = none_first (number_fault undo.left) (number_fault undo.right) e in
+    record { left = small_number undo.left both.0; right = small_number undo.right both.1 }
 
-pub record AreNoted (shift : Shift) (s : SurveyFields) (tag : TagFields) (undo : Undo) (change : Change) : Type 0 where
+-- the undo fits, the tag and the file aren't too long, and no gain leaves its range
+pub record AreNoted (shift : Shift) (s : SurveyFields) (tag : TagFields) (undo : Undo)
+    (change : Change) : Type 0 where
   pub fits : FitsText (next_undo shift undo)
   pub small : length (tag_bytes (tag_with (next_undo shift undo) tag)) ≤ longest_tag
   pub few : output_length s (tag_bytes (tag_with (next_undo shift undo) tag)) ≤ longest_file
   pub free : range_fault (even (steps_of shift)) s.frames ≡ None
-  pub is : record { steps = even (steps_of shift); tag = Some (tag_bytes (tag_with (next_undo shift undo) tag)) } ≡ change
+  pub is : record {
+    steps = even (steps_of shift);
+    tag = Some (tag_bytes (tag_with (next_undo shift undo) tag));
+  } ≡ change
 
-noted_parts : (shift : Shift) (s : SurveyFields) (tag : TagFields) (undo : Undo) (change : Change) → noted_change shift s tag undo ≡ Ok change → AreNoted shift s tag undo change
+noted_parts : (shift : Shift) (s : SurveyFields) (tag : TagFields) (undo : Undo) (change : Change)
+    → noted_change shift s tag undo ≡ Ok change → AreNoted shift s tag undo change
 noted_parts shift s tag undo change e =
     let next = next_undo shift undo in
     let bytes = tag_bytes (tag_with next tag) in
     let all = unless_ok _ _ change e in
-    let apart = none_first (channel_fault shift s) (or_else (undo_fault next) (or_else (size_fault bytes) (or_else (output_fault s bytes) (range_fault (even (steps_of shift)) s.frames)))) all.0 in
-    let number = none_first (undo_fault next) (or_else (size_fault bytes) (or_else (output_fault s bytes) (range_fault (even (steps_of shift)) s.frames))) apart.1 in
-    let size = none_first (size_fault bytes) (or_else (output_fault s bytes) (range_fault (even (steps_of shift)) s.frames)) number.1 in
-    let output = none_first (output_fault s bytes) (range_fault (even (steps_of shift)) s.frames) size.1 in
+    let apart =
+    none_first (channel_fault shift s) (or_else (undo_fault next) (or_else (size_fault bytes)
+    (or_else (output_fault s bytes) (range_fault (even (steps_of shift)) s.frames)))) all.0 in
+    let number = none_first (undo_fault next) (or_else (size_fault bytes)
+    (or_else (output_fault s bytes) (range_fault (even (steps_of shift)) s.frames))) apart.1 in
+    let size = none_first (size_fault bytes)
+    (or_else (output_fault s bytes) (range_fault (even (steps_of shift)) s.frames)) number.1 in
+    let output =
+    none_first (output_fault s bytes) (range_fault (even (steps_of shift)) s.frames) size.1 in
     record {
       fits = fits_text next number.0;
-      small = ltb-false longest_tag (length bytes) (not_there (ltb longest_tag (length bytes)) _ size.0);
-      few = ltb-false longest_file (output_length s bytes) (not_there (ltb longest_file (output_length s bytes)) _ output.0);
+      small = ltb-false longest_tag (length bytes)
+          (not_there (ltb longest_tag (length bytes)) _ size.0);
+      few = ltb-false longest_file (output_length s bytes)
+          (not_there (ltb longest_file (output_length s bytes)) _ output.0);
       free = output.1;
       is = all.1;
     }
 
 -- of a file whose tag is read and says this undo
-pub gain_noted : (shift : Shift) (file : List ℕ) (s : SurveyFields) (tag : TagFields) (undo : Undo) (change : Change) → tag_read (file_tag file s) ≡ Ok tag → noted_undo (tag_at s) (undo_from 32 tag.items) ≡ Ok undo
+pub gain_noted : (shift : Shift) (file : List ℕ) (s : SurveyFields) (tag : TagFields) (undo : Undo)
+    (change : Change) → tag_read (file_tag file s) ≡ Ok tag
+    → noted_undo (tag_at s) (undo_from 32 tag.items) ≡ Ok undo
     → gain_change shift true file s ≡ Ok change → AreNoted shift s tag undo change
 unfolding gain_change
 gain_noted shift file s tag undo change read item e =
     noted_parts shift s tag undo change
-    (sym (ap (λ (r : Result TagFields EditFault). then_made r (noted_in shift s)) read ∙ ap (λ (r : Result Undo EditFault). then_made r (noted_change shift s tag)) item) ∙ e)
+    (sym (ap (λ (r : Result TagFields EditFault). then_made r (noted_in shift s)) read
+    ∙ ap (λ (r : Result Undo EditFault). then_made r (noted_change shift s tag)) item) ∙ e)
 
 -- ---- what is known of it
 
--- It is the file with its gains moved by all steps together, and with a tag that is the file's except the undo item, which says the steps that
--- undo all of them.
-pub record IsGained (file : List ℕ) (s : SurveyFields) (tag : TagFields) (last : List ℕ) : Type 0 where
+-- It is the file with its gains moved by all steps together, and with a tag that
+-- is the file's except the undo item, which says the steps that undo all of them.
+pub record IsGained (file : List ℕ) (s : SurveyFields) (tag : TagFields)
+    (last : List ℕ) : Type 0 where
   pub steps : Steps
   pub noted : TagFields
   pub undo : Undo
@@ -146,51 +170,70 @@ pub record IsGained (file : List ℕ) (s : SurveyFields) (tag : TagFields) (last
   pub small : length (tag_bytes noted) ≤ longest_tag
   pub item : undo_from 32 noted.items ≡ Found undo
   pub others : tag_without noted ≡ tag_without tag
-  pub is : last ≡ with_tag (tag_bytes noted) (moved_survey (even steps) s) (edited (even steps) file s)
+  pub is : last
+      ≡ with_tag (tag_bytes noted) (moved_survey (even steps) s) (edited (even steps) file s)
   pub left : steps.left +ℤ undo.left ≡ pos 0
   pub right : steps.right +ℤ undo.right ≡ pos 0
   pub wraps : undo.wrap ≡ steps.wrap
   pub free : range_fault (even steps) s.frames ≡ None
   pub few : length last ≤ longest_file
 
-changed-with : (steps : Steps) (bytes file : List ℕ) (s : SurveyFields) → changed (record { steps = even steps; tag = Some bytes }) file s ≡ with_tag bytes (moved_survey (even steps) s) (edited (even steps) file s)
+changed-with : (steps : Steps) (bytes file : List ℕ) (s : SurveyFields)
+    → changed (record { steps = even steps; tag = Some bytes }) file s
+    ≡ with_tag bytes (moved_survey (even steps) s) (edited (even steps) file s)
 unfolding changed
 changed-with steps bytes file s = refl
 
-undo_made : (file : List ℕ) (s : SurveyFields) (tag : TagFields) (undo : Undo) → tag_read (file_tag file s) ≡ Ok tag → found_undo (tag_at s) (undo_from 32 tag.items) ≡ Ok undo → range_fault (even (undo_steps undo)) s.frames ≡ None
-    → undo_change file s ≡ Ok (record { steps = even (undo_steps undo); tag = Some (bytes_unless_empty (tag_without tag)) })
+undo_made : (file : List ℕ) (s : SurveyFields) (tag : TagFields) (undo : Undo)
+    → tag_read (file_tag file s) ≡ Ok tag → found_undo (tag_at s) (undo_from 32 tag.items) ≡ Ok undo
+    → range_fault (even (undo_steps undo)) s.frames ≡ None → undo_change file s ≡ Ok
+    (record { steps = even (undo_steps undo); tag = Some (bytes_unless_empty (tag_without tag)) })
 unfolding undo_change
 undo_made file s tag undo read item free =
     ap (λ (r : Result TagFields EditFault). then_made r (undone_in s)) read
     ∙ ap (λ (r : Result Undo EditFault). then_made r (undone_change s tag)) item
-    ∙ ap (λ (o : Option Refusal). unless o (record { steps = even (undo_steps undo); tag = Some (bytes_unless_empty (tag_without tag)) })) free
+    ∙ ap (λ (o : Option Refusal). unless o (record {
+      steps = even (undo_steps undo);
+      tag = Some (bytes_unless_empty (tag_without tag));
+    })) free
 
-module _ (file : List ℕ) (s : SurveyFields) (tag : TagFields) (are : AreBytes file) (is : surveyed file most_frames ≡ Ok s) where
+module _ (file : List ℕ) (s : SurveyFields) (tag : TagFields) (are : AreBytes file)
+    (is : surveyed file most_frames ≡ Ok s) where
   frames : AreFramesOf file s.frames
   frames = frames_there file most_frames s are is
 
   -- ---- its length
 
-  new_length : (steps : Steps) (block : List ℕ) → block_front block ≡ Some (record { kind = Ape; length = length block })
-      → length (with_tag block (moved_survey (even steps) s) (edited (even steps) file s)) ≡ s.length - junk_length s - tag_length s + length block
+  new_length : (steps : Steps) (block : List ℕ)
+      → block_front block ≡ Some (record { kind = Ape; length = length block })
+      → length (with_tag block (moved_survey (even steps) s) (edited (even steps) file s))
+      ≡ s.length - junk_length s - tag_length s + length block
   new_length steps block front =
-      surveyed-length (with_tag block (moved_survey (even steps) s) (edited (even steps) file s)) most_frames (new_survey (even steps) file most_frames s are is block front) (new_is (even steps) file most_frames s are is block front)
+      surveyed-length (with_tag block (moved_survey (even steps) s) (edited (even steps) file s))
+      most_frames (new_survey (even steps) file most_frames s are is block front)
+      (new_is (even steps) file most_frames s are is block front)
       ∙ new_long (even steps) file most_frames s are is block front
       ∙ ap (λ k. s.length - junk_length s - k + length block) (length_moved (even steps) s)
 
   -- ---- the first gain
 
-  module _ (short : survey_of file most_frames ≡ Ok s) (own : IsTag tag) (read : file_tag file s ≡ Ok tag) (none : undo_from 32 tag.items ≡ Missing) where
-    pub first_gain : (shift : Shift) (last : List ℕ) → changed_file (gain_change shift true) file ≡ Ok last → IsGained file s tag last
+  module _ (short : survey_of file most_frames ≡ Ok s) (own : IsTag tag)
+      (read : file_tag file s ≡ Ok tag) (none : undo_from 32 tag.items ≡ Missing) where
+    -- a file with one noted gain was gained
+    pub first_gain : (shift : Shift) (last : List ℕ)
+        → changed_file (gain_change shift true) file ≡ Ok last → IsGained file s tag last
     first_gain shift last e =
         let made = made_of (gain_change shift true) file last s short e in
-        let noted = gain_noted shift file s tag no_undo made.change (ap tag_read read) (ap (noted_undo (tag_at s)) none) made.made in
+        let noted = gain_noted shift file s tag no_undo made.change (ap tag_read read)
+        (ap (noted_undo (tag_at s)) none) made.made in
         let next = next_undo shift no_undo in
         let steps = steps_of shift in
         let new_tag = tag_with next tag in
         let new_own = IsTag-with_undo next tag own in
-        let there : last ≡ with_tag (tag_bytes new_tag) (moved_survey (even steps) s) (edited (even steps) file s) =
-        sym made.bytes ∙ ap (λ (c : Change). changed c file s) (sym noted.is) ∙ changed-with steps (tag_bytes new_tag) file s in
+        let there : last
+        ≡ with_tag (tag_bytes new_tag) (moved_survey (even steps) s) (edited (even steps) file s) =
+        sym made.bytes ∙ ap (λ (c : Change). changed c file s) (sym noted.is)
+        ∙ changed-with steps (tag_bytes new_tag) file s in
         record {
           steps = steps;
           noted = new_tag;
@@ -204,7 +247,12 @@ module _ (file : List ℕ) (s : SurveyFields) (tag : TagFields) (are : AreBytes 
           right = sum_first steps.right;
           wraps = refl;
           free = noted.free;
-          few = omega (arith, ap length there, new_length steps (tag_bytes new_tag) (block_front-tag_bytes new_tag new_own), noted.few);
+          few = omega (
+            arith,
+            ap length there,
+            new_length steps (tag_bytes new_tag) (block_front-tag_bytes new_tag new_own),
+            noted.few,
+          );
         }
 
   -- ---- a file that gains have changed
@@ -223,11 +271,13 @@ module _ (file : List ℕ) (s : SurveyFields) (tag : TagFields) (are : AreBytes 
     n = new_survey (even g.steps) file most_frames s are is block front
 
     here_survey : survey_of here most_frames ≡ Ok n
-    here_survey = survey_of-short here most_frames (omega (arith, g.few, ap length g.is)) ∙ new_is (even g.steps) file most_frames s are is block front
+    here_survey = survey_of-short here most_frames (omega (arith, g.few, ap length g.is))
+        ∙ new_is (even g.steps) file most_frames s are is block front
 
     here_read : tag_read (file_tag here n) ≡ Ok g.noted
     here_read =
-        ap tag_read ((has_block (even g.steps) file most_frames s are is block front).tag ∙ block_read (tag_at (moved_survey (even g.steps) s)) g.noted g.are g.small)
+        ap tag_read ((has_block (even g.steps) file most_frames s are is block front).tag
+        ∙ block_read (tag_at (moved_survey (even g.steps) s)) g.noted g.are g.small)
 
     abbrev by : ℕ → ℕ
     by = to (even g.steps) file most_frames s are is block front
@@ -235,21 +285,27 @@ module _ (file : List ℕ) (s : SurveyFields) (tag : TagFields) (are : AreBytes 
     here_frames : n.frames ≡ map (stood by (even g.steps)) s.frames
     here_frames = new_frames (even g.steps) file most_frames s are is block front
 
-    pub further_gain : (shift : Shift) (more : List ℕ) → changed_file (gain_change shift true) last ≡ Ok more → IsGained file s tag more
+    -- and so was one that is gained once more
+    pub further_gain : (shift : Shift) (more : List ℕ)
+        → changed_file (gain_change shift true) last ≡ Ok more → IsGained file s tag more
     further_gain shift more e =
-        let made = made_of (gain_change shift true) here more n here_survey (ap (changed_file (gain_change shift true)) (sym g.is) ∙ e) in
-        let noted = gain_noted shift here n g.noted g.undo made.change here_read (ap (noted_undo (tag_at n)) g.item) made.made in
+        let made = made_of (gain_change shift true) here more n here_survey
+        (ap (changed_file (gain_change shift true)) (sym g.is) ∙ e) in
+        let noted = gain_noted shift here n g.noted g.undo made.change here_read
+        (ap (noted_undo (tag_at n)) g.item) made.made in
         let next = next_undo shift g.undo in
         let step = steps_of shift in
         let steps = sum_of g.steps step in
         let together : AreTogether g.steps step steps = record { left = refl; right = refl } in
         let new_tag = tag_with next g.noted in
         let new_own = IsTag-with_undo next g.noted g.are in
-        let there : more ≡ with_tag (tag_bytes new_tag) (moved_survey (even steps) s) (edited (even steps) file s) =
+        let there : more
+        ≡ with_tag (tag_bytes new_tag) (moved_survey (even steps) s) (edited (even steps) file s) =
         sym made.bytes
         ∙ ap (λ (c : Change). changed c here n) (sym noted.is)
         ∙ changed-with step (tag_bytes new_tag) here n
-        ∙ changed_again (even g.steps) file most_frames s are is block front (even step) (even steps) (even_together g.steps step steps together by s.frames) (tag_bytes new_tag) in
+        ∙ changed_again (even g.steps) file most_frames s are is block front (even step)
+        (even steps) (even_together g.steps step steps together by s.frames) (tag_bytes new_tag) in
         record {
           steps = steps;
           noted = new_tag;
@@ -262,7 +318,8 @@ module _ (file : List ℕ) (s : SurveyFields) (tag : TagFields) (are : AreBytes 
           left = sum_again g.steps.left step.left g.undo.left ∙ g.left;
           right = sum_again g.steps.right step.right g.undo.right ∙ g.right;
           wraps = ap (λ (b : Bool). b || shift.wrap) g.wraps;
-          free = range_both g.steps step steps refl together file by s.frames frames g.free (sym (ap (range_fault (even step)) here_frames) ∙ noted.free);
+          free = range_both g.steps step steps refl together file by s.frames frames
+              g.free (sym (ap (range_fault (even step)) here_frames) ∙ noted.free);
           few =
               omega (
                 arith,
@@ -277,26 +334,38 @@ module _ (file : List ℕ) (s : SurveyFields) (tag : TagFields) (are : AreBytes 
         }
 
     -- undo gives the file with its gains moved by 0 steps, and with the other items of its tag
-    pub undone : changed_file undo_change last ≡ Ok (with_tag (bytes_unless_empty (tag_without tag)) (moved_survey (even still) s) (edited (even still) file s))
+    pub undone : changed_file undo_change last ≡ Ok (with_tag (bytes_unless_empty (tag_without tag))
+        (moved_survey (even still) s) (edited (even still) file s))
     undone =
         let back = undo_steps g.undo in
         let bytes = bytes_unless_empty (tag_without g.noted) in
-        let free : range_fault (even back) n.frames ≡ None = ap (range_fault (even back)) here_frames ∙ range_back (even g.steps) (even back) file by s.frames (even_opposite g.steps back (record { wraps = g.wraps; left = g.left; right = g.right }) by s.frames) frames g.free in
-        let made = undo_made here n g.noted g.undo here_read (ap (found_undo (tag_at n)) g.item) free in
-        let together : AreTogether g.steps back still = record { left = sym g.left; right = sym g.right } in
+        let free : range_fault (even back) n.frames ≡ None =
+        ap (range_fault (even back)) here_frames
+        ∙ range_back (even g.steps) (even back) file by s.frames (even_opposite g.steps back
+        (record { wraps = g.wraps; left = g.left; right = g.right }) by s.frames) frames g.free in
+        let made =
+        undo_made here n g.noted g.undo here_read (ap (found_undo (tag_at n)) g.item) free in
+        let together : AreTogether g.steps back still =
+        record { left = sym g.left; right = sym g.right } in
         ap (changed_file undo_change) g.is
-        ∙ changed-ok undo_change here n (record { steps = even back; tag = Some bytes }) here_survey made
+        ∙ changed-ok undo_change here n
+        (record { steps = even back; tag = Some bytes }) here_survey made
         ∙ ap Ok
         (changed-with back bytes here n
-        ∙ changed_again (even g.steps) file most_frames s are is block front (even back) (even still) (even_together g.steps back still together by s.frames) bytes
-        ∙ ap (λ (t : TagFields). with_tag (bytes_unless_empty t) (moved_survey (even still) s) (edited (even still) file s)) g.others)
+        ∙ changed_again (even g.steps) file most_frames s are is block front (even back)
+        (even still) (even_together g.steps back still together by s.frames) bytes
+        ∙ ap (λ (t : TagFields). with_tag (bytes_unless_empty t) (moved_survey (even still) s)
+        (edited (even still) file s)) g.others)
 
   -- ---- several gains
 
-  pub gained_then : (shifts : List Shift) (last more : List ℕ) → IsGained file s tag last → gained_by_all shifts last ≡ Ok more → IsGained file s tag more
+  -- after more noted gains the file is still one that was gained, by all of them
+  pub gained_then : (shifts : List Shift) (last more : List ℕ) → IsGained file s tag last
+      → gained_by_all shifts last ≡ Ok more → IsGained file s tag more
   gained_then [] last more g e = let same : last ≡ more = cc in subst (IsGained file s tag) same g
   gained_then (shift ∷ shifts) last more g e =
-      let parts = then_ok (changed_file (gain_change shift true) last) (gained_by_all shifts) more e in
+      let parts =
+      then_ok (changed_file (gain_change shift true) last) (gained_by_all shifts) more e in
       gained_then shifts parts.0 more (further_gain last g shift parts.0 parts.1) parts.2
 
   -- ---- what undo gives
@@ -307,42 +376,54 @@ module _ (file : List ℕ) (s : SurveyFields) (tag : TagFields) (are : AreBytes 
   edited_is : edited (even still) file s ≡ without_junk s file
   edited_is = edited_still still (refl, refl) file most_frames s are is
 
-  undone_tidied : with_tag bytes (moved_survey (even still) s) (edited (even still) file s) ≡ tidied tag s file
+  undone_tidied : with_tag bytes (moved_survey (even still) s) (edited (even still) file s)
+      ≡ tidied tag s file
   unfolding tidied
   undone_tidied = ap (with_tag bytes (moved_survey (even still) s)) edited_is
 
   -- the bytes of its tag, written again, are those that are in the file
-  own_cases : (read : file_tag file s ≡ Ok tag) (o : Option Piece) → tag_block s ≡ o → HasNoEmptyTag tag s → bytes ≡ own_bytes file s
+  own_cases : (read : file_tag file s ≡ Ok tag) (o : Option Piece) → tag_block s ≡ o
+      → HasNoEmptyTag tag s → bytes ≡ own_bytes file s
   own_cases read None none has =
-      let nothing : empty_tag ≡ tag = same_tag empty_tag tag (sym (file_tag-none file s none) ∙ read) in
+      let nothing : empty_tag ≡ tag =
+      same_tag empty_tag tag (sym (file_tag-none file s none) ∙ read) in
       let size : tag_length s ≡ 0 = (tag_none s none).1 in
       ap bytes_unless_empty (sym nothing) ∙ sym (ap (λ k. take k (drop (tag_at s) file)) size)
   own_cases read (Some b) some (inl none) = let both : None ≡ Some b = sym none ∙ some in absurd cc
   own_cases read (Some b) some (inr items) =
-      let full : (length tag.items == 0) ≡ false = ne_eqb (length tag.items) 0 (λ e. omega (arith, e, items)) in
-      ap (λ (c : Bool). cond c [] (tag_bytes tag)) full ∙ ((own-tag file most_frames s is).tag tag b are some read).1
+      let full : (length tag.items == 0) ≡ false =
+      ne_eqb (length tag.items) 0 (λ e. omega (arith, e, items)) in
+      ap (λ (c : Bool). cond c [] (tag_bytes tag)) full
+      ∙ ((own-tag file most_frames s is).tag tag b are some read).1
 
-  tidied_kept : file_tag file s ≡ Ok tag → HasNoEmptyTag tag s → tidied tag s file ≡ without_junk s file
+  tidied_kept : file_tag file s ≡ Ok tag → HasNoEmptyTag tag s
+      → tidied tag s file ≡ without_junk s file
   tidied_kept read has =
       sym undone_tidied
-      ∙ ap (λ (l : List ℕ). with_tag l (moved_survey (even still) s) (edited (even still) file s)) (own_cases read (tag_block s) refl has)
+      ∙ ap (λ (l : List ℕ). with_tag l (moved_survey (even still) s) (edited (even still) file s))
+      (own_cases read (tag_block s) refl has)
       ∙ own_again (even still) file most_frames s is
       ∙ edited_is
 
   tidied_stream : IsTag tag → HoldsStream (tidied tag s file) (stream_of file)
   tidied_stream own =
-      let made : changed (record { steps = even still; tag = Some bytes }) file s ≡ tidied tag s file = changed-with still bytes file s ∙ undone_tidied in
-      subst (λ (l : List ℕ). HoldsStream l (stream_of file)) made (still_holds still (refl, refl) (Some bytes) (unless_empty-are tag own) file most_frames s are is)
+      let made : changed (record { steps = even still; tag = Some bytes }) file s
+      ≡ tidied tag s file = changed-with still bytes file s ∙ undone_tidied in
+      subst (λ (l : List ℕ). HoldsStream l (stream_of file)) made (still_holds still (refl, refl)
+      (Some bytes) (unless_empty-are tag own) file most_frames s are is)
 
-  given_back : IsTag tag → file_tag file s ≡ Ok tag → undo_from 32 tag.items ≡ Missing → (last : List ℕ) → IsGained file s tag last → IsGivenBack file last s tag
+  given_back : IsTag tag → file_tag file s ≡ Ok tag → undo_from 32 tag.items ≡ Missing
+      → (last : List ℕ) → IsGained file s tag last → IsGivenBack file last s tag
   given_back own read none last g =
       let back : changed_file undo_change last ≡ Ok (tidied tag s file) =
       undone last g
-      ∙ ap Ok (ap (λ (t : TagFields). with_tag (bytes_unless_empty t) (moved_survey (even still) s) (edited (even still) file s)) (tag_without_none tag none) ∙ undone_tidied) in
+      ∙ ap Ok (ap (λ (t : TagFields). with_tag (bytes_unless_empty t) (moved_survey (even still) s)
+      (edited (even still) file s)) (tag_without_none tag none) ∙ undone_tidied) in
       record {
         back = back;
         kept = λ has. back ∙ ap Ok (tidied_kept read has);
-        same = λ has clean. back ∙ ap Ok (tidied_kept read has ∙ ap (λ n. take s.junk file ++ drop n file) (sym clean) ∙ take-append-drop s.junk file);
+        same = λ has clean. back ∙ ap Ok (tidied_kept read has
+            ∙ ap (λ n. take s.junk file ++ drop n file) (sym clean) ∙ take-append-drop s.junk file);
         stream = tidied_stream own;
       }
 
@@ -351,6 +432,8 @@ pub gains_undone : UndoGivesBack
 gains_undone shift shifts file last s tag are short read none e =
     let is = (survey_of-parts file most_frames s short).1 in
     let own = file_tag-is file most_frames s tag are is read in
-    let parts = then_ok (changed_file (gain_change shift true) file) (gained_by_all shifts) last e in
-    let g = gained_then file s tag are is shifts parts.0 last (first_gain file s tag are is short own read none shift parts.0 parts.1) parts.2 in
+    let parts =
+    then_ok (changed_file (gain_change shift true) file) (gained_by_all shifts) last e in
+    let g = gained_then file s tag are is shifts parts.0 last
+    (first_gain file s tag are is short own read none shift parts.0 parts.1) parts.2 in
     given_back file s tag are is own read none last g

@@ -1,37 +1,32 @@
 -- The steps that a file takes are exact. Which they are is told by the least and the greatest gain
 -- that move.
-use Rattle.std.specs.Prelude.{◌≡◌, ℕ, ◌≤◌, Bool, true, false, not, if◌then◌else◌, IsTrue}
-use Rattle.std.specs.Prelude.{List, [], ◌∷◌, length, All}
-use Rattle.std.specs.Prelude.{Option, Some, None, Result, Ok, Err, is_ok, ℤ}
-use Rattle.fade_plan.specs.Sheets.{EnvelopePoint, envelope_of}
-use Rattle.sync_survey.specs.Faults.{SurveyFields}
-use Rattle.sync_survey.specs.Survey.{survey_of}
-use Rattle.requests.specs.declared.shift.Channels.{Channels}
-use Rattle.requests.specs.declared.shift.Channels.TheVariants.{Both, Left, Right}
-use Rattle.requests.specs.declared.shift.Shift.{Shift}
-use Rattle.moved_gains.specs.declared.gain_extremes.Gains.{Gains}
-use Rattle.moved_gains.specs.GainExtremes.{extremes_of, extremes_of_both, takes, takes_back}
-use Rattle.commands.specs.declared.fault.EditFault.{EditFault}
-use Rattle.commands.specs.declared.fault.EditFault.TheVariants.{Refused}
-use Rattle.commands.specs.declared.fault.Refusal.{Refusal}
+use Rattle.std.specs.Prelude.{All, Bool, Err, false, if◌then◌else◌, is_ok, IsTrue, length, List}
+use Rattle.std.specs.Prelude.{None, not, Ok, Option, Result, Some, true, ℕ, ℤ, [], ◌∷◌, ◌≡◌, ◌≤◌}
+use Rattle.commands.specs.{One.most_frames, Sheet.longest_sheet, declared.fault.EditFault.EditFault}
+use Rattle.commands.specs.declared.fault.{EditFault.TheVariants.Refused, Refusal.Refusal}
 use Rattle.commands.specs.declared.fault.Refusal.TheVariants.{GainRange}
-use Rattle.commands.specs.One.{most_frames}
-use Rattle.commands.specs.Sheet.{longest_sheet}
-use Rattle.gain_edits.specs.Channels.{apart_fault}
-use Rattle.gain_edits.specs.Change.{changed_file}
+use Rattle.fade_plan.specs.Sheets.{envelope_of, EnvelopePoint}
+use Rattle.gain_edits.specs.{Change.changed_file, Channels.apart_fault, Fade.fade_change}
 use Rattle.gain_edits.specs.Gain.{gain_change}
-use Rattle.gain_edits.specs.Fade.{fade_change}
+use Rattle.moved_gains.specs.GainExtremes.{extremes_of, extremes_of_both, takes, takes_back}
+use Rattle.moved_gains.specs.declared.gain_extremes.Gains.{Gains}
+use Rattle.requests.specs.declared.shift.Channels.{Channels, TheVariants.{Both, Left, Right}}
+use Rattle.requests.specs.declared.shift.Shift.{Shift}
+use Rattle.sync_survey.specs.{Faults.SurveyFields, Survey.survey_of}
 
 -- ---- refusals since a gain would leave the range
 
+-- the refusal is that of a gain which would leave its range
 abbrev pub is_of_range : Refusal → Bool
 is_of_range (GainRange offset granule channel gain) = true
 is_of_range _ = false
 
+-- the fault is such a refusal
 abbrev pub is_range_fault : EditFault → Bool
 is_range_fault (Refused refusal) = is_of_range refusal
 is_range_fault _ = false
 
+-- the answer is such a fault
 abbrev pub leaves_range : {T : Type 0} → Result T EditFault → Bool
 leaves_range (Ok made) = false
 leaves_range (Err fault) = is_range_fault fault

@@ -1,15 +1,13 @@
 -- What a fade keeps of a file.
-use Rattle.std.specs.Prelude.{◌≡◌, ℕ, Bool, List, Option, Ok}
+use Rattle.std.specs.Prelude.{Bool, List, Ok, Option, ℕ, ◌≡◌}
 use Rattle.bit_fields.specs.Bits.{AreBytes}
-use Rattle.sync_survey.specs.Faults.{SurveyFields}
-use Rattle.sync_survey.specs.Survey.{survey_of}
-use Rattle.moved_gains.specs.Kept.{KeepsAll}
 use Rattle.commands.specs.One.{most_frames}
-use Rattle.gain_edits.specs.Change.{changed_file}
-use Rattle.gain_edits.specs.Fade.{fade_change}
+use Rattle.gain_edits.specs.{Change.changed_file, Fade.fade_change}
+use Rattle.moved_gains.specs.Kept.{KeepsAll}
+use Rattle.sync_survey.specs.{Faults.SurveyFields, Survey.survey_of}
 
--- What `fade` makes of a file that it accepts differs from it in gains, check words and junk that is
--- left out, and not in the tag.
+-- What `fade` makes of a file that it accepts differs from it in
+-- gains, check words and junk that is left out, and not in the tag.
 abbrev pub FadeKeepsAll : Type 0
 FadeKeepsAll =
     (sheet : Option (List ℕ)) (back : Bool) (file new : List ℕ) (s : SurveyFields) → AreBytes file

@@ -1,47 +1,49 @@
 -- The gain command: how it changes a file, and when it refuses it.
-use Rattle.std.specs.Prelude.{ℕ, if◌then◌else◌, Bool, true, false, List, Some, None, Result}
-use Rattle.tag_blocks.specs.declared.undo.Undo.{Undo}
-use Rattle.tag_blocks.specs.Tags.{TagFields, tag_bytes}
-use Rattle.tag_blocks.specs.UndoItems.{undo_from}
-use Rattle.moved_gains.specs.TagPlace.{tag_at}
-use Rattle.moved_gains.specs.TagReading.{file_tag}
-use Rattle.sync_survey.specs.Faults.{SurveyFields}
-use Rattle.commands.specs.declared.fault.EditFault.{EditFault}
-use Rattle.moved_gains.specs.Course.{even}
-use Rattle.requests.specs.declared.shift.Shift.{Shift}
-use Rattle.requests.specs.Shifts.{steps_of}
+use Rattle.std.specs.Prelude.{Bool, false, if◌then◌else◌, List, None, Result, Some, true, ℕ}
+use Rattle.commands.specs.{Command.Command, One.one_command, Refusing.{or_else, then_made, unless}}
+use Rattle.commands.specs.declared.fault.{EditFault.EditFault, Refusal.Refusal}
+use Rattle.commands.specs.declared.fault.Refusal.TheVariants.{BadTag, BadUndo, GainRange, Joint}
+use Rattle.commands.specs.declared.fault.Refusal.TheVariants.{Mono, OutputTooLong, TagTooLarge}
+use Rattle.commands.specs.declared.fault.Refusal.TheVariants.{UndoRange}
+use Rattle.gain_edits.specs.{Change.{change_task, Changing}, Channels.channel_fault}
 use Rattle.gain_edits.specs.GainRange.{range_fault}
-use Rattle.commands.specs.Refusing.{or_else, unless, then_made}
-use Rattle.gain_edits.specs.Channels.{channel_fault}
-use Rattle.gain_edits.specs.UndoItem.{tag_read, noted_undo, next_undo, undo_fault, tag_with, size_fault, output_fault}
-use Rattle.moved_gains.specs.Change.{Change}
-use Rattle.commands.specs.declared.fault.Refusal.{Refusal}
-use Rattle.commands.specs.declared.fault.Refusal.TheVariants.{GainRange, Mono, Joint, TagTooLarge, BadTag, BadUndo, UndoRange, OutputTooLong}
-use Rattle.commands.specs.One.{one_command}
-use Rattle.gain_edits.specs.Change.{Changing, change_task}
-use Rattle.commands.specs.Command.{Command}
+use Rattle.gain_edits.specs.UndoItem.{next_undo, noted_undo, output_fault, size_fault, tag_read}
+use Rattle.gain_edits.specs.UndoItem.{tag_with, undo_fault}
+use Rattle.moved_gains.specs.{Change.Change, Course.even, TagPlace.tag_at, TagReading.file_tag}
+use Rattle.requests.specs.{Shifts.steps_of, declared.shift.Shift.Shift}
+use Rattle.sync_survey.specs.Faults.{SurveyFields}
+use Rattle.tag_blocks.specs.{Tags.{tag_bytes, TagFields}, UndoItems.undo_from}
+use Rattle.tag_blocks.specs.declared.undo.Undo.{Undo}
 
--- Tags are neither read nor written. It is refused where one channel can't change alone, or else where a gain would leave the range.
+-- Tags are neither read nor written. It is refused where one channel
+-- can't change alone, or else where a gain would leave the range.
 abbrev pub plain_change : Shift → SurveyFields → Result Change EditFault
-plain_change shift s = unless (or_else (channel_fault shift s) (range_fault (even (steps_of shift)) s.frames)) (record { steps = even (steps_of shift); tag = None })
+plain_change shift s =
+    unless (or_else (channel_fault shift s) (range_fault (even (steps_of shift)) s.frames))
+    (record { steps = even (steps_of shift); tag = None })
 
--- The change is noted in this tag, whose undo item says this. It is refused where one channel can't change alone, or else where a number of the next
--- undo item is too large, or else the new tag, or else the file with it, or else where a gain would leave the range.
+-- The change is noted in this tag, whose undo item says this. It is refused where one
+-- channel can't change alone, or else where a number of the next undo item is too large, or
+-- else the new tag, or else the file with it, or else where a gain would leave the range.
 abbrev pub noted_change : Shift → SurveyFields → TagFields → Undo → Result Change EditFault
 noted_change shift s tag undo =
     let next = next_undo shift undo in
     let bytes = tag_bytes (tag_with next tag) in
-    unless (or_else (channel_fault shift s) (or_else (undo_fault next) (or_else (size_fault bytes) (or_else (output_fault s bytes) (range_fault (even (steps_of shift)) s.frames)))))
+    unless (or_else (channel_fault shift s) (or_else (undo_fault next) (or_else (size_fault bytes)
+    (or_else (output_fault s bytes) (range_fault (even (steps_of shift)) s.frames)))))
     (record { steps = even (steps_of shift); tag = Some bytes })
 
 -- the change is noted in this tag of the file, unless its undo item is at fault
 abbrev pub noted_in : Shift → SurveyFields → TagFields → Result Change EditFault
-noted_in shift s tag = then_made (noted_undo (tag_at s) (undo_from 32 tag.items)) (noted_change shift s tag)
+noted_in shift s tag =
+    then_made (noted_undo (tag_at s) (undo_from 32 tag.items)) (noted_change shift s tag)
 
--- the change is noted in the file's tag; it is refused where the tag is at fault, or else its undo item
+-- the change is noted in the file's tag; it is refused
+-- where the tag is at fault, or else its undo item
 abbrev pub tagged_change : Shift → List ℕ → SurveyFields → Result Change EditFault
 tagged_change shift file s = then_made (tag_read (file_tag file s)) (noted_in shift s)
 
+-- what a change of gains changes, with a note in the tag or without one
 unfoldable pub gain_change : Shift → Bool → Changing
 gain_change shift tags file s = if tags then tagged_change shift file s else plain_change shift s
 
@@ -59,4 +61,5 @@ gain_refuses tags _ = false
 
 -- the output is the input with its gains moved, and so is its stream
 abbrev pub gain_command : Shift → Bool → List ℕ → List ℕ → Command
-gain_command shift tags input output = one_command (change_task (gain_change shift tags) (λ file. steps_of shift) (gain_refuses tags) input) output
+gain_command shift tags input output = one_command (change_task (gain_change shift tags)
+    (λ file. steps_of shift) (gain_refuses tags) input) output

@@ -1,12 +1,10 @@
 -- The first gain of a file that would leave the range.
-use Rattle.std.specs.Prelude.{ℕ, List, Option, Some, None}
-use Rattle.sync_survey.specs.Row.{Row}
-use Rattle.commands.specs.declared.fault.Refusal.{Refusal}
+use Rattle.std.specs.Prelude.{List, None, Option, Some, ℕ}
+use Rattle.commands.specs.{Refusing.first_refusal, declared.fault.Refusal.Refusal}
 use Rattle.commands.specs.declared.fault.Refusal.TheVariants.{GainRange}
-use Rattle.commands.specs.Refusing.{first_refusal}
-use Rattle.moved_gains.specs.declared.gains.Stuck.{Stuck}
+use Rattle.moved_gains.specs.{Edited.stuck_of, declared.gains.Stuck.Stuck}
 use Rattle.requests.specs.declared.shift.Steps.{Steps}
-use Rattle.moved_gains.specs.Edited.{stuck_of}
+use Rattle.sync_survey.specs.Row.{Row}
 
 -- the gain that would leave the range, in the frame at this offset
 abbrev pub stuck_fault : ℕ → Option Stuck → Option Refusal

@@ -1,15 +1,11 @@
 -- What the commands that change gains keep of a file.
-use Rattle.std.specs.Prelude.{◌≡◌, ℕ, Bool, true, List, Ok}
+use Rattle.std.specs.Prelude.{Bool, List, Ok, true, ℕ, ◌≡◌}
 use Rattle.bit_fields.specs.Bits.{AreBytes}
-use Rattle.moved_gains.specs.TagPlace.{IsTagBytes}
-use Rattle.sync_survey.specs.Faults.{SurveyFields}
-use Rattle.sync_survey.specs.Survey.{survey_of}
-use Rattle.requests.specs.declared.shift.Shift.{Shift}
-use Rattle.moved_gains.specs.Kept.{KeepsAll}
 use Rattle.commands.specs.One.{most_frames}
-use Rattle.gain_edits.specs.Change.{changed_file}
-use Rattle.gain_edits.specs.Gain.{gain_change}
-use Rattle.gain_edits.specs.Undo.{undo_change}
+use Rattle.gain_edits.specs.{Change.changed_file, Gain.gain_change, Undo.undo_change}
+use Rattle.moved_gains.specs.{Kept.KeepsAll, TagPlace.IsTagBytes}
+use Rattle.requests.specs.declared.shift.Shift.{Shift}
+use Rattle.sync_survey.specs.{Faults.SurveyFields, Survey.survey_of}
 
 -- What `gain` makes of a file that it accepts differs from it in gains, check words, junk that is
 -- left out, and, if the change is noted, the tag.
@@ -19,8 +15,8 @@ GainKeepsAll =
     → survey_of file most_frames ≡ Ok s → changed_file (gain_change shift tags) file ≡ Ok new
     → KeepsAll (λ tag. (tags ≡ true) × IsTagBytes tag) file s new
 
--- what `gain -u` makes of a file that it accepts differs from it in gains, check words, junk that is
--- left out, and the tag
+-- what `gain -u` makes of a file that it accepts differs from
+-- it in gains, check words, junk that is left out, and the tag
 abbrev pub UndoKeepsAll : Type 0
 UndoKeepsAll =
     (file new : List ℕ) (s : SurveyFields) → AreBytes file → survey_of file most_frames ≡ Ok s

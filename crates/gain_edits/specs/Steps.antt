@@ -1,13 +1,11 @@
--- The steps of the fade command.
-use Rattle.std.specs.Prelude.{◌≡◌, ◌≢◌, ℕ, Bool, true, List, Some}
-use Rattle.outside.specs.Seen.{Seen}
-use Rattle.sync_survey.specs.declared.survey_fault.SurveyFault.TheVariants.{Memory as NoRoom}
-use Rattle.sync_survey.specs.Faults.{SurveyFields}
-use Rattle.commands.specs.declared.fault.EditFault.{EditFault}
-use Rattle.commands.specs.declared.fault.EditFault.TheVariants.{Input, Refused, Memory}
-use Rattle.commands.specs.Kinds.{HasRightNumbers, IsFromOutside}
-use Rattle.commands.specs.Sheet.{IsFaultOfSheet}
+-- The faults of the fade command once its input was surveyed.
+use Rattle.std.specs.Prelude.{Bool, List, Some, true, ℕ, ◌≡◌, ◌≢◌}
+use Rattle.commands.specs.{Kinds.{HasRightNumbers, IsFromOutside}, Sheet.IsFaultOfSheet}
+use Rattle.commands.specs.declared.fault.EditFault.{EditFault, TheVariants.{Input, Memory, Refused}}
 use Rattle.gain_edits.specs.Fade.{fade_of, fade_refuses}
+use Rattle.outside.specs.Seen.{Seen}
+use Rattle.sync_survey.specs.Faults.{SurveyFields}
+use Rattle.sync_survey.specs.declared.survey_fault.SurveyFault.TheVariants.{Memory as NoRoom}
 
 -- what a fault says of its cause that was met once the input was surveyed
 abbrev pub IsChangeFault : List ℕ → Bool → SurveyFields → Seen → Seen → EditFault → Type 0
@@ -16,7 +14,8 @@ IsChangeFault sheet back s old new fault =
 
 -- the fault is one of the sheet, a refusal of the command, or want of memory
 abbrev pub IsOfChange : EditFault → Type 0
-IsOfChange (Input place fault) = (place ≡ 1) × (fault ≢ NoRoom) × HasRightNumbers fault × IsFromOutside fault
+IsOfChange (Input place fault) =
+    (place ≡ 1) × (fault ≢ NoRoom) × HasRightNumbers fault × IsFromOutside fault
 IsOfChange (Refused refusal) = fade_refuses refusal ≡ true
 IsOfChange Memory = Unit {0}
 IsOfChange _ = ⊥

@@ -1,18 +1,16 @@
 -- What a fade the other way, with the same sheet, makes of a file that a fade has written.
-use Rattle.std.specs.Prelude.{◌≡◌, ◌≢◌, ℕ, Bool, not, List, Option, Some, Ok}
+use Rattle.std.specs.Prelude.{Bool, List, not, Ok, Option, Some, ℕ, ◌≡◌, ◌≢◌}
 use Rattle.bit_fields.specs.Bits.{AreBytes}
-use Rattle.outside.specs.Files.{Contents}
-use Rattle.sync_survey.specs.Faults.{SurveyFields, stream_of, HoldsStream}
-use Rattle.sync_survey.specs.Survey.{survey_of}
+use Rattle.commands.specs.{Command.{Made, written}, One.{made_of, most_frames}}
+use Rattle.gain_edits.specs.{Change.changed_file, Fade.{fade_change, fade_command}}
 use Rattle.moved_gains.specs.Streams.{without_junk}
-use Rattle.commands.specs.Command.{Made, written}
-use Rattle.commands.specs.One.{most_frames, made_of}
-use Rattle.gain_edits.specs.Change.{changed_file}
-use Rattle.gain_edits.specs.Fade.{fade_change, fade_command}
+use Rattle.outside.specs.Files.{Contents}
+use Rattle.sync_survey.specs.{Faults.{HoldsStream, stream_of, SurveyFields}, Survey.survey_of}
 
--- It is accepted and makes the file again, except the junk before its first frame; a file without junk comes back whole, byte for byte. The stream
--- of the file comes back in every case.
-pub record IsFadedBack (sheet : Option (List ℕ)) (back : Bool) (file faded : List ℕ) (s : SurveyFields) : Type 0 where
+-- It is accepted and makes the file again, except the junk before its first frame; a file
+-- without junk comes back whole, byte for byte. The stream of the file comes back in every case.
+pub record IsFadedBack (sheet : Option (List ℕ)) (back : Bool) (file faded : List ℕ)
+    (s : SurveyFields) : Type 0 where
   pub made : changed_file (fade_change sheet (not back)) faded ≡ Ok (without_junk s file)
   pub same : s.junk ≡ s.first → changed_file (fade_change sheet (not back)) faded ≡ Ok file
   pub stream : HoldsStream (without_junk s file) (stream_of file)
@@ -20,22 +18,28 @@ pub record IsFadedBack (sheet : Option (List ℕ)) (back : Bool) (file faded : L
 -- of any file that the fade accepts, with or without `--back`
 abbrev pub FadeGivesBack : Type 0
 FadeGivesBack =
-    (sheet : Option (List ℕ)) (back : Bool) (file faded : List ℕ) (s : SurveyFields) → AreBytes file → survey_of file most_frames ≡ Ok s
-    → changed_file (fade_change sheet back) file ≡ Ok faded → IsFadedBack sheet back file faded s
+    (sheet : Option (List ℕ)) (back : Bool) (file faded : List ℕ) (s : SurveyFields) → AreBytes file
+    → survey_of file most_frames ≡ Ok s → changed_file (fade_change sheet back) file ≡ Ok faded
+    → IsFadedBack sheet back file faded s
 
 -- ---- the command
 
 -- of what a first fade wrote the command makes the first one's input again, as above
-pub record IsTakenBack (sheet output last : List ℕ) (back : Bool) (files : Contents) (file : List ℕ) : Type 0 where
+pub record IsTakenBack (sheet output last : List ℕ) (back : Bool) (files : Contents)
+    (file : List ℕ) : Type 0 where
   pub survey : SurveyFields
   pub well_formed : survey_of file most_frames ≡ Ok survey
-  pub made : (fade_command sheet (not back) output last).makes files ≡ made_of last (Ok (without_junk survey file))
-  pub same : survey.junk ≡ survey.first → (fade_command sheet (not back) output last).makes files ≡ made_of last (Ok file)
+  pub made : (fade_command sheet (not back) output last).makes files
+      ≡ made_of last (Ok (without_junk survey file))
+  pub same : survey.junk ≡ survey.first
+      → (fade_command sheet (not back) output last).makes files ≡ made_of last (Ok file)
   pub stream : HoldsStream (without_junk survey file) (stream_of file)
 
--- Once `fade IN OUT SHEET` was done, `fade --back OUT LAST SHEET` is accepted, where LAST is neither OUT nor SHEET; and so where `--back` came first.
+-- Once `fade IN OUT SHEET` was done, `fade --back OUT LAST SHEET` is accepted,
+-- where LAST is neither OUT nor SHEET; and so where `--back` came first.
 abbrev pub FadeIsTakenBack : Type 0
 FadeIsTakenBack =
-    (sheet input output last : List ℕ) (back : Bool) (files : Contents) (file : List ℕ) (made : Made) → files input ≡ Some file → AreBytes file
+    (sheet input output last : List ℕ) (back : Bool) (files : Contents) (file : List ℕ)
+    (made : Made) → files input ≡ Some file → AreBytes file
     → (fade_command sheet back input output).makes files ≡ Ok made → last ≢ output → last ≢ sheet
     → IsTakenBack sheet output last back (written made.outputs files) file

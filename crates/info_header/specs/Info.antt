@@ -1,9 +1,12 @@
--- The fields of a head after its text. The layout is in no standard: encoders write the text, a word of flags, and then a number of frames,
--- a number of bytes, a seek table of 100 entries and a quality, each if its flag is set; and after these an extension, whose first 36 bytes
--- are kept. Numbers have 32 bits and are big-endian.
-use Rattle.std.specs.Prelude.{ℕ, zero, suc, ◌+◌, ◌*◌, ◌/◌, ◌==◌, ◌&&◌, min, nat_le, if◌then◌else◌, Bool, List, [], ◌∷◌, ◌++◌, length, take, drop, replicate, slice_index, Option, Some, None, codes, bytes_eq}
+-- The fields of a head after its text. The layout is in no standard: encoders write
+-- the text, a word of flags, and then a number of frames, a number of bytes, a seek
+-- table of 100 entries and a quality, each if its flag is set; and after these an
+-- extension, whose first 36 bytes are kept. Numbers have 32 bits and are big-endian.
 use Rattle.std.specs.Int.{bit_at}
-use Rattle.byteorder.specs.Endian.{big_number, big_bytes}
+use Rattle.std.specs.Prelude.{Bool, bytes_eq, codes, drop, if◌then◌else◌, length, List, min, nat_le}
+use Rattle.std.specs.Prelude.{None, Option, replicate, slice_index, Some, suc, take, zero, ℕ, []}
+use Rattle.std.specs.Prelude.{◌&&◌, ◌*◌, ◌++◌, ◌+◌, ◌/◌, ◌==◌, ◌∷◌}
+use Rattle.byteorder.specs.Endian.{big_bytes, big_number}
 use Rattle.info_header.specs.declared.fields.Info.{Info}
 
 -- ---- what is read
@@ -20,14 +23,15 @@ is_flagged flags field = bit_at flags field == 1
 abbrev pub field_size : ℕ → ℕ
 field_size field = slice_index (4 ∷ 4 ∷ 100 ∷ 4 ∷ []) field
 
--- Where a field begins: after the text, the flags, and those fields before it whose flags are set. The place after the last field is
--- that of field 4.
+-- Where a field begins: after the text, the flags, and those fields before
+-- it whose flags are set. The place after the last field is that of field 4.
 unfoldable pub field_place : ℕ → ℕ → ℕ
 field_place flags zero = 8
-field_place flags (suc field) = field_place flags field + (if is_flagged flags field then field_size field else 0)
+field_place flags (suc field) =
+    field_place flags field + (if is_flagged flags field then field_size field else 0)
 
--- The bytes of a field; none where its flag isn't set, or where it goes past the end. Where a field goes past the end, so do all that are
--- flagged after it.
+-- The bytes of a field; none where its flag isn't set, or where it goes past the
+-- end. Where a field goes past the end, so do all that are flagged after it.
 unfoldable pub field_in : ℕ → ℕ → List ℕ → Option (List ℕ)
 field_in flags field bytes =
     if is_flagged flags field && nat_le (field_place flags field + field_size field) (length bytes)
@@ -43,7 +47,8 @@ number_of (Some four) = Some (big_number 4 four)
 abbrev pub padded : ℕ → List ℕ → List ℕ
 padded n bytes = take n (bytes ++ replicate n 0)
 
--- the fields of the head whose bytes these are, from its text on; `Xing` says that the bit rate changes
+-- the fields of the head whose bytes these are, from
+-- its text on; `Xing` says that the bit rate changes
 unfoldable pub info_in : List ℕ → Info
 info_in bytes = let flags = flags_in bytes in record {
   vbr = bytes_eq (take 4 bytes) (codes "Xing");
@@ -56,6 +61,7 @@ info_in bytes = let flags = flags_in bytes in record {
 
 -- ---- what is written
 
+-- the text of a head, which says whether the bit rate changes
 abbrev pub text_of : Bool → List ℕ
 text_of vbr = if vbr then codes "Xing" else codes "Info"
 
@@ -64,16 +70,20 @@ abbrev pub number_or_zero : Option ℕ → ℕ
 number_or_zero None = 0
 number_or_zero (Some n) = n
 
+-- the table, 100 zeros where there is none
 abbrev pub table_or_zeros : Option (List ℕ) → List ℕ
 table_or_zeros None = replicate 100 0
 table_or_zeros (Some table) = table
 
--- the fields with all four flags: 156 bytes
+-- the bytes of a head: text, all four flags, the four fields and the extension, 156 bytes
 unfoldable pub info_bytes : Info → List ℕ
 info_bytes info =
-    text_of info.vbr ++ (big_bytes 4 15 ++ (big_bytes 4 (number_or_zero info.frames) ++ (big_bytes 4 (number_or_zero info.bytes)
-    ++ (table_or_zeros info.table ++ (big_bytes 4 (number_or_zero info.quality) ++ info.extension)))))
+    text_of info.vbr ++ (big_bytes 4 15
+    ++ (big_bytes 4 (number_or_zero info.frames) ++ (big_bytes 4 (number_or_zero info.bytes)
+    ++ (table_or_zeros info.table
+    ++ (big_bytes 4 (number_or_zero info.quality) ++ info.extension)))))
 
--- the entry of the table for a frame at an offset, of so many bytes in all: how many 256th parts are before it, rounded down, at most 255
+-- the entry of the table for a frame at an offset, of so many bytes in
+-- all: how many 256th parts are before it, rounded down, at most 255
 abbrev pub entry_of : ℕ → ℕ → ℕ
 entry_of offset bytes = min (256 * offset / bytes) 255

@@ -1,11 +1,9 @@
 -- The fields of the Info frame of a file, from the slots of the frames after it.
-use Rattle.std.specs.Prelude.{◌≡◌, ℕ, ◌+◌, ◌*◌, ◌/◌, ◌<◌, ◌==◌, not, Bool, true, List, [], ◌∷◌, length, take, sum_by, slice_index, replicate, Some, None}
 use Rattle.std.specs.List.{list_all}
-use Rattle.frame_header.specs.Fields.{SlotFields, ClassFields}
-use Rattle.frame_header.specs.Tables.{rate_of, length_of}
-use Rattle.info_header.specs.declared.fields.Info.{Info}
-use Rattle.info_header.specs.Info.{entry_of}
-use Rattle.info_header.specs.InfoFrame.{info_slot_of}
+use Rattle.std.specs.Prelude.{Bool, length, List, None, not, replicate, slice_index, Some, sum_by}
+use Rattle.std.specs.Prelude.{take, true, ℕ, [], ◌*◌, ◌+◌, ◌/◌, ◌<◌, ◌==◌, ◌∷◌, ◌≡◌}
+use Rattle.frame_header.specs.{Fields.{ClassFields, SlotFields}, Tables.{length_of, rate_of}}
+use Rattle.info_header.specs.{Info.entry_of, InfoFrame.info_slot_of, declared.fields.Info.Info}
 
 -- the length of the Info frame in bytes
 abbrev pub info_length : ClassFields → ℕ
@@ -23,18 +21,21 @@ module _ {X : Type 0} (c : ClassFields) (slot_of : X → SlotFields) where
   -- all frames have the bit rate of the first
   abbrev pub has_one_rate : List X → Bool
   has_one_rate [] = true
-  has_one_rate (first ∷ frames) = list_all (λ frame. rate_in frame == rate_in first) (first ∷ frames)
+  has_one_rate (first ∷ frames) =
+      list_all (λ frame. rate_in frame == rate_in first) (first ∷ frames)
 
-  -- The seek table of n frames with so many bytes before them, of so many bytes in all: entry i, from 0 to 99, is that of frame i * n /
-  -- 100, rounded down.
+  -- The seek table of n frames with so many bytes before them, of so many bytes
+  -- in all: entry i, from 0 to 99, is that of frame i * n / 100, rounded down.
   abbrev pub IsTableOver : List X → ℕ → ℕ → List ℕ → Type 0
-  IsTableOver frames before all table = (i : ℕ) → i < 100 → slice_index table i ≡ entry_of (before + bytes_of (take (i * length frames / 100) frames)) all
+  IsTableOver frames before all table = (i : ℕ) → i < 100 → slice_index table i
+      ≡ entry_of (before + bytes_of (take (i * length frames / 100) frames)) all
 
   -- the length of the file in bytes, from the Info frame's first to the last frame's last
   abbrev pub all_bytes : List X → ℕ
   all_bytes frames = info_length c + bytes_of frames
 
-  -- the fields of the Info frame before these frames, without a quality and an extension
+  -- the fields of the Info frame before these frames, without a quality and an extension; the text
+  -- is `Info` where all have one bit rate
   pub record IsInfoOver (frames : List X) (info : Info) : Type 0 where
     pub vbr : info.vbr ≡ not (has_one_rate frames)
     pub count : info.frames ≡ Some (length frames)

@@ -1,13 +1,14 @@
 -- Laws of the bytes that the library knows of a writer.
-use Rattle.std.proofs.Common.{◌≡◌, ℕ, List, [], ◌++◌, take, sym, ◌∙◌, ap, Option, Some, None}
-use Rattle.std.specs.Io.KnownBytes.{Appends, Keeps}
-use Rattle.std.proofs.lemmas.List.{append-nil}
+use Rattle.std.proofs.Common.{ap, List, None, Option, Some, sym, take, ℕ, [], ◌++◌, ◌∙◌, ◌≡◌}
+use Rattle.std.{proofs.lemmas.List.append-nil, specs.Io.KnownBytes.{Appends, Keeps}}
 
 -- to append none of the bytes is to keep those that are there
-pub none_appended : (old new : Option (List ℕ)) (n : ℕ) (bytes : List ℕ) → n ≡ 0 → Appends old new (take n bytes) → Keeps old new
+pub none_appended : (old new : Option (List ℕ)) (n : ℕ) (bytes : List ℕ) → n ≡ 0
+    → Appends old new (take n bytes) → Keeps old new
 none_appended None new n bytes zero grew = tt
 none_appended (Some xs) None n bytes zero grew = grew
-none_appended (Some xs) (Some ys) n bytes zero grew = grew ∙ ap (λ k. xs ++ take k bytes) zero ∙ append-nil xs
+none_appended (Some xs) (Some ys) n bytes zero grew =
+    grew ∙ ap (λ k. xs ++ take k bytes) zero ∙ append-nil xs
 
 -- to keep them is to append nothing
 pub kept_appends : (old new : Option (List ℕ)) → Keeps old new → Appends old new []

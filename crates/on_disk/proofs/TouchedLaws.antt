@@ -1,19 +1,21 @@
 -- A name that was added to those that may have been touched.
-use Rattle.std.proofs.Common.{◌≡◌, ℕ, List, refl, ◌∙◌, ap, inr, string_bytes, Bool, true, false, cond, ◌||◌, ◌&&◌, bytes_eq, IsTrue, Result, Ok, Err, OnOk, OnErr}
-use Rattle.std.proofs.lemmas.Map.Text.{btree_set_updates_text}
-use Rattle.std.specs.BTreeSet.{UpdatesBy}
-use Rattle.std.specs.Cmp.Lexicographic.{slice_cmp}
-use Rattle.std.specs.Ordering.{nat_cmp}
+use Rattle.std.proofs.Common.{ap, Bool, bytes_eq, cond, Err, false, inr, IsTrue, List, Ok, OnErr}
+use Rattle.std.proofs.Common.{OnOk, refl, Result, string_bytes, true, ℕ, ◌&&◌, ◌||◌, ◌∙◌, ◌≡◌}
+use Rattle.std.proofs.lemmas.{Map.Text.btree_set_updates_text, Slice.Eq.bytes_eq-Decides}
+use Rattle.std.specs.{BTreeSet.UpdatesBy, Cmp.Lexicographic.slice_cmp, Ordering.nat_cmp}
 use Rattle.std.specs.String.{string_cmp}
-use Rattle.on_disk.specs.Names.{touched_in}
-use Rattle.on_disk.specs.declared.touched.Touched.{Touched as TouchedNames}
-use Rattle.outside.specs.Files.{Touched, Untold, with_touch, emptied, tried, FailsToCreate}
+use Rattle.on_disk.specs.{Names.touched_in, declared.touched.Touched.Touched as TouchedNames}
 use Rattle.outside.proofs.FilesLaws.{same_touched}
-use Rattle.std.proofs.lemmas.Slice.Eq.{bytes_eq-Decides}
+use Rattle.outside.specs.Files.{emptied, FailsToCreate, Touched, tried, Untold, with_touch}
 
 module _ (old : TouchedNames) (name : List ℕ) where
-  pub touch_added : (new : TouchedNames) → UpdatesBy string_cmp (λ key. slice_cmp nat_cmp name (string_bytes key)) old.names new.names true → touched_in new ≡ with_touch (touched_in old) name true
-  touch_added new sets = same_touched _ _ (λ other. btree_set_updates_text name old.names new.names true sets other ∙ at (bytes_eq name other) (touched_in old other))
+  -- a name that was inserted is one more of the touched names
+  pub touch_added : (new : TouchedNames) → UpdatesBy string_cmp
+      (λ key. slice_cmp nat_cmp name (string_bytes key)) old.names new.names true
+      → touched_in new ≡ with_touch (touched_in old) name true
+  touch_added new sets =
+      same_touched _ _ (λ other. btree_set_updates_text name old.names new.names true sets other
+      ∙ at (bytes_eq name other) (touched_in old other))
     where
       at : (same was : Bool) → cond same true was ≡ (was || true && same)
       at true true = refl
@@ -22,8 +24,10 @@ module _ (old : TouchedNames) (name : List ℕ) where
       at false false = refl
 
 -- a name that was added may have been touched
-pub touch_there : (old new : Touched) (name : List ℕ) → new ≡ with_touch old name true → IsTrue (new name)
-touch_there old new name added = ap (λ touched. touched name) added ∙ at (old name) (bytes_eq name name) ((bytes_eq-Decides name name).1 refl)
+pub touch_there : (old new : Touched) (name : List ℕ) → new ≡ with_touch old name true
+    → IsTrue (new name)
+touch_there old new name added = ap (λ touched. touched name) added
+    ∙ at (old name) (bytes_eq name name) ((bytes_eq-Decides name name).1 refl)
   where
     at : (was same : Bool) → same ≡ true → (was || true && same) ≡ true
     at true same e = refl
@@ -31,12 +35,15 @@ touch_there old new name added = ap (λ touched. touched name) added ∙ at (old
 
 -- ---- a name that is touched, and whose file is then emptied or not
 
-module _ {T E : Type 0} (old mid new : Touched) (name : List ℕ) (added : mid ≡ with_touch old name true) (stays : new ≡ mid) where
+module _ {T E : Type 0} (old mid new : Touched) (name : List ℕ)
+    (added : mid ≡ with_touch old name true) (stays : new ≡ mid) where
+  -- where a call succeeded that may have emptied it, it counts as emptied
   pub touch_emptied : (r : Result T E) → OnOk r (Untold new ≡ emptied (Untold old) name)
   unfolding emptied
   touch_emptied (Ok x) = ap Untold (stays ∙ added)
   touch_emptied (Err fault) = tt
 
+  -- where one failed, it may have been touched
   pub touch_failed : (r : Result T E) → OnErr r (FailsToCreate name (Untold old) (Untold new))
   unfolding tried
   touch_failed (Ok x) = tt

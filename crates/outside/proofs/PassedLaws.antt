@@ -1,11 +1,11 @@
 -- Laws of what a buffer passed on to a file.
-use Rattle.std.proofs.Common.{◌≡◌, ℕ, ◌+◌, List, [], ◌++◌, length, take, drop, refl, sym, ◌∙◌, ap, subst, append_assoc, arith, length-append}
-use Rattle.std.specs.Prelude.{Result, Ok, Err, IsErrAnd, OnErr, IfErr}
-use Rattle.std.proofs.lemmas.List.{length-take, take-take, take-append-drop, take-append-le}
+use Rattle.std.proofs.Common.{ap, append_assoc, arith, drop, length, length-append, List, refl}
+use Rattle.std.proofs.Common.{subst, sym, take, ℕ, [], ◌++◌, ◌+◌, ◌∙◌, ◌≡◌}
 use Rattle.std.proofs.Math.Seq.{take-append-add}
-use Rattle.outside.specs.Files.{Files, appended, IsThere}
-use Rattle.outside.specs.Passed.{PassedOn, AppendedPrefix}
-use Rattle.outside.proofs.FilesLaws.{appended_nothing, appended_twice, appended_there}
+use Rattle.std.proofs.lemmas.List.{length-take, take-append-drop, take-append-le, take-take}
+use Rattle.std.specs.Prelude.{Err, IfErr, IsErrAnd, Ok, OnErr, Result}
+use Rattle.outside.proofs.FilesLaws.{appended_nothing, appended_there, appended_twice}
+use Rattle.outside.specs.{Files.{appended, Files, IsThere}, Passed.{AppendedPrefix, PassedOn}}
 
 -- a fact that holds on every error
 pub on_err : {T E P : Type 0} (r : Result T E) → P → OnErr r P
@@ -13,25 +13,32 @@ on_err (Ok x) p = tt
 on_err (Err e) p = p
 
 -- a fact of the error that is handed on
-pub err_at : {T E : Type 0} (r : Result T E) (P : E → Type 0) {e : E} → IsErrAnd r (λ y. y ≡ e) → P e → IfErr r P
+pub err_at : {T E : Type 0} (r : Result T E) (P : E → Type 0) {e : E} → IsErrAnd r (λ y. y ≡ e)
+    → P e → IfErr r P
 err_at (Ok x) P is p = absurd is
 err_at (Err y) P is p = subst P (sym is) p
 
--- a fact of every error by another of it
-pub err_by : {T E : Type 0} {P Q : E → Type 0} (r : Result T E) → ((e : E) → P e → Q e) → IfErr r P → IfErr r Q
+-- what follows from a fact of every error holds of every error
+pub err_by : {T E : Type 0} {P Q : E → Type 0} (r : Result T E) → ((e : E) → P e → Q e) → IfErr r P
+    → IfErr r Q
 err_by (Ok x) f p = tt
 err_by (Err e) f p = f e p
 
 -- nothing was passed on
-pub passed_nothing : (files : Files) (name bytes : List ℕ) → IsThere files name → PassedOn name bytes bytes files files
-passed_nothing files name bytes there = record { passed = []; split = refl; files = sym (appended_nothing files name there) }
+pub passed_nothing : (files : Files) (name bytes : List ℕ) → IsThere files name
+    → PassedOn name bytes bytes files files
+passed_nothing files name bytes there =
+    record { passed = []; split = refl; files = sym (appended_nothing files name there) }
 
 -- a prefix was passed on
-pub passed_front : (name bytes : List ℕ) (n : ℕ) (f g : Files) → g ≡ appended f name (take n bytes) → PassedOn name bytes (drop n bytes) f g
-passed_front name bytes n f g is = record { passed = take n bytes; split = sym (take-append-drop n bytes); files = is }
+pub passed_front : (name bytes : List ℕ) (n : ℕ) (f g : Files) → g ≡ appended f name (take n bytes)
+    → PassedOn name bytes (drop n bytes) f g
+passed_front name bytes n f g is =
+    record { passed = take n bytes; split = sym (take-append-drop n bytes); files = is }
 
 -- more waits after
-pub passed_with : {name before after : List ℕ} {f g : Files} (piece : List ℕ) → PassedOn name before after f g → PassedOn name (before ++ piece) (after ++ piece) f g
+pub passed_with : {name before after : List ℕ} {f g : Files} (piece : List ℕ)
+    → PassedOn name before after f g → PassedOn name (before ++ piece) (after ++ piece) f g
 passed_with {name} {before} {after} {f} {g} piece p = record {
   passed = p.passed;
   split = ap (λ (front : List ℕ). front ++ piece) p.split ∙ append_assoc p.passed after piece;
@@ -39,7 +46,8 @@ passed_with {name} {before} {after} {f} {g} piece p = record {
 }
 
 -- something was passed on, and then more
-pub passed_then : {name before mid after : List ℕ} {f g h : Files} → PassedOn name before mid f g → PassedOn name mid after g h → PassedOn name before after f h
+pub passed_then : {name before mid after : List ℕ} {f g h : Files} → PassedOn name before mid f g
+    → PassedOn name mid after g h → PassedOn name before after f h
 passed_then {name} {before} {mid} {after} {f} {g} {h} p q = record {
   passed = p.passed ++ q.passed;
   split =
@@ -52,12 +60,15 @@ passed_then {name} {before} {mid} {after} {f} {g} {h} p q = record {
       ∙ appended_twice f name p.passed q.passed;
 }
 
--- one piece after the other
-pub passed_more : {name before mid after : List ℕ} {f g h : Files} (piece : List ℕ) → PassedOn name before mid f g → PassedOn name (mid ++ piece) after g h → PassedOn name (before ++ piece) after f h
+-- two pieces that were passed on one after the other were passed on together
+pub passed_more : {name before mid after : List ℕ} {f g h : Files} (piece : List ℕ)
+    → PassedOn name before mid f g → PassedOn name (mid ++ piece) after g h
+    → PassedOn name (before ++ piece) after f h
 passed_more piece p q = passed_then (passed_with piece p) q
 
 -- what was passed on, and then a prefix of the rest, is a prefix of the whole
-pub passed_then_prefix : {name before mid : List ℕ} {f g h : Files} → PassedOn name before mid f g → AppendedPrefix name mid g h → AppendedPrefix name before f h
+pub passed_then_prefix : {name before mid : List ℕ} {f g h : Files} → PassedOn name before mid f g
+    → AppendedPrefix name mid g h → AppendedPrefix name before f h
 passed_then_prefix {name} {before} {mid} {f} {g} {h} p q = record {
   count = length p.passed + q.count;
   short = omega (arith, q.short, ap length p.split, length-append p.passed mid);
@@ -65,15 +76,19 @@ passed_then_prefix {name} {before} {mid} {f} {g} {h} p q = record {
       q.files
       ∙ ap (λ files. appended files name (take q.count mid)) p.files
       ∙ appended_twice f name p.passed (take q.count mid)
-      ∙ ap (appended f name) (sym (take-append-add p.passed mid q.count) ∙ ap (take (length p.passed + q.count)) (sym p.split));
+      ∙ ap (appended f name) (sym (take-append-add p.passed mid q.count)
+      ∙ ap (take (length p.passed + q.count)) (sym p.split));
 }
 
--- the same where a piece came between
-pub passed_more_prefix : {name before mid : List ℕ} {f g h : Files} (piece : List ℕ) → PassedOn name before mid f g → AppendedPrefix name (mid ++ piece) g h → AppendedPrefix name (before ++ piece) f h
+-- so it is if of the second only a prefix was
+pub passed_more_prefix : {name before mid : List ℕ} {f g h : Files} (piece : List ℕ)
+    → PassedOn name before mid f g → AppendedPrefix name (mid ++ piece) g h
+    → AppendedPrefix name (before ++ piece) f h
 passed_more_prefix piece p q = passed_then_prefix (passed_with piece p) q
 
 -- what was passed on, and then all the rest, is the whole
-pub passed_then_all : {name before mid : List ℕ} {f g h : Files} → PassedOn name before mid f g → h ≡ appended g name mid → h ≡ appended f name before
+pub passed_then_all : {name before mid : List ℕ} {f g h : Files} → PassedOn name before mid f g
+    → h ≡ appended g name mid → h ≡ appended f name before
 passed_then_all {name} {before} {mid} {f} {g} {h} p all =
     all
     ∙ ap (λ files. appended files name mid) p.files
@@ -81,39 +96,56 @@ passed_then_all {name} {before} {mid} {f} {g} {h} p all =
     ∙ ap (appended f name) (sym p.split)
 
 -- a prefix of a prefix is a prefix of the whole
-pub prefix_of_front : {name bytes : List ℕ} {f g : Files} (n : ℕ) → AppendedPrefix name (take n bytes) f g → AppendedPrefix name bytes f g
+pub prefix_of_front : {name bytes : List ℕ} {f g : Files} (n : ℕ)
+    → AppendedPrefix name (take n bytes) f g → AppendedPrefix name bytes f g
 prefix_of_front {name} {bytes} {f} {g} n p = record {
   count = p.count;
   short = omega (arith, p.short, length-take n bytes);
-  files = p.files ∙ ap (appended f name) (take-take p.count n bytes (omega (arith, p.short, length-take n bytes)));
+  files = p.files ∙ ap (appended f name)
+      (take-take p.count n bytes (omega (arith, p.short, length-take n bytes)));
 }
 
 -- what waits before a piece and the piece, by a prefix of the piece and what follows
-pub piece_in_two : (waits piece : List ℕ) (n : ℕ) → (waits ++ take n piece) ++ drop n piece ≡ waits ++ piece
-piece_in_two waits piece n = append_assoc waits (take n piece) (drop n piece) ∙ ap (λ (back : List ℕ). waits ++ back) (take-append-drop n piece)
+pub piece_in_two : (waits piece : List ℕ) (n : ℕ)
+    → (waits ++ take n piece) ++ drop n piece ≡ waits ++ piece
+piece_in_two waits piece n = append_assoc waits (take n piece) (drop n piece)
+    ∙ ap (λ (back : List ℕ). waits ++ back) (take-append-drop n piece)
 
 -- what waited and a prefix of the piece were appended
-pub passed_waiting : (name waits piece : List ℕ) (n : ℕ) (f g : Files) → g ≡ appended f name (waits ++ take n piece) → PassedOn name (waits ++ piece) (drop n piece) f g
-passed_waiting name waits piece n f g is = record { passed = waits ++ take n piece; split = sym (piece_in_two waits piece n); files = is }
+pub passed_waiting : (name waits piece : List ℕ) (n : ℕ) (f g : Files) → g
+    ≡ appended f name (waits ++ take n piece) → PassedOn name (waits ++ piece) (drop n piece) f g
+passed_waiting name waits piece n f g is =
+    record { passed = waits ++ take n piece; split = sym (piece_in_two waits piece n); files = is }
 
--- a prefix of what waited and a prefix of the piece
-pub prefix_waiting : (name waits piece : List ℕ) (n : ℕ) (f g : Files) → AppendedPrefix name (waits ++ take n piece) f g → AppendedPrefix name (waits ++ piece) f g
+-- a prefix of what waited and of a prefix of the piece is one of both
+pub prefix_waiting : (name waits piece : List ℕ) (n : ℕ) (f g : Files)
+    → AppendedPrefix name (waits ++ take n piece) f g → AppendedPrefix name (waits ++ piece) f g
 prefix_waiting name waits piece n f g p = record {
   count = p.count;
-  short = omega (arith, p.short, ap length (piece_in_two waits piece n), length-append (waits ++ take n piece) (drop n piece));
-  files = p.files ∙ ap (appended f name) (sym (take-append-le p.count (waits ++ take n piece) (drop n piece) (omega (arith, p.short))) ∙ ap (take p.count) (piece_in_two waits piece n));
+  short = omega (
+    arith,
+    p.short,
+    ap length (piece_in_two waits piece n),
+    length-append (waits ++ take n piece) (drop n piece),
+  );
+  files = p.files ∙ ap (appended f name) (sym (take-append-le p.count (waits ++ take n piece)
+      (drop n piece) (omega (arith, p.short))) ∙ ap (take p.count) (piece_in_two waits piece n));
 }
 
--- a prefix of what waited and of a piece, before another
-pub prefix_in_front : {name : List ℕ} (waits front rest : List ℕ) {f g : Files} → AppendedPrefix name (waits ++ front) f g → AppendedPrefix name (waits ++ (front ++ rest)) f g
+-- a prefix of what waited and of a piece is one with another piece behind it
+pub prefix_in_front : {name : List ℕ} (waits front rest : List ℕ) {f g : Files}
+    → AppendedPrefix name (waits ++ front) f g → AppendedPrefix name (waits ++ (front ++ rest)) f g
 prefix_in_front {name} waits front rest {f} {g} p =
     let whole = append_assoc waits front rest in
     record {
       count = p.count;
       short = omega (arith, p.short, ap length whole, length-append (waits ++ front) rest);
-      files = p.files ∙ ap (appended f name) (sym (take-append-le p.count (waits ++ front) rest (omega (arith, p.short))) ∙ ap (take p.count) whole);
+      files = p.files ∙ ap (appended f name) (sym (take-append-le p.count (waits ++ front) rest
+          (omega (arith, p.short))) ∙ ap (take p.count) whole);
     }
 
 -- the name is there afterwards, and no name goes
-pub passed_there : {name before after : List ℕ} {f g : Files} → PassedOn name before after f g → IsThere g name
-passed_there {name} {before} {after} {f} {g} p = subst (λ files. IsThere files name) (sym p.files) (appended_there f name p.passed)
+pub passed_there : {name before after : List ℕ} {f g : Files} → PassedOn name before after f g
+    → IsThere g name
+passed_there {name} {before} {after} {f} {g} p =
+    subst (λ files. IsThere files name) (sym p.files) (appended_there f name p.passed)

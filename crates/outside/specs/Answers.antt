@@ -1,15 +1,13 @@
 -- What a call of a folder or of a sink answers and leaves, by what is seen before and after it.
-use Rattle.std.specs.Prelude.{◌≡◌, ◌⊎◌, ◌-◌, ◌<◌, ◌≤◌, ℕ, ◌+◌, ◌++◌, List, [], length, take, drop, Result, IfOk, IfErr, OnOk, OnErr, IsErrOf}
-use Rattle.outside.specs.declared.folder.Failed.{Failed as FailedCall}
-use Rattle.outside.specs.declared.folder.FindFault.{FindFault}
+use Rattle.std.specs.Prelude.{drop, IfErr, IfOk, IsErrOf, length, List, OnErr, OnOk, Result, take}
+use Rattle.std.specs.Prelude.{ℕ, [], ◌++◌, ◌+◌, ◌-◌, ◌<◌, ◌≡◌, ◌≤◌, ◌⊎◌}
+use Rattle.outside.specs.Counts.{EndedAt, HappenedTo, HasCause, NothingFailed, OnlyReads}
+use Rattle.outside.specs.{Counts.OnlyWrites, Exact.HasReadCause, Feed.{buffer_size, Fed, IsFedFrom}}
+use Rattle.outside.specs.Files.{appended, AreOctets, emptied, FailsToCreate, IsMissing, IsThere}
+use Rattle.outside.specs.{Files.sent_more, Passed.{AppendedPrefix, PassedOn}}
+use Rattle.outside.specs.{Seen.{Heard, OnFile, Seen}, declared.exact.ReadFault.ReadFault}
+use Rattle.outside.specs.declared.folder.{Failed.Failed as FailedCall, FindFault.FindFault}
 use Rattle.outside.specs.declared.folder.FindFault.TheVariants.{Absent, Failed}
-use Rattle.outside.specs.Files.{emptied, appended, sent_more, FailsToCreate, IsThere, IsMissing, AreOctets}
-use Rattle.outside.specs.Counts.{HasCause, OnlyReads, OnlyWrites, NothingFailed, HappenedTo, EndedAt}
-use Rattle.outside.specs.declared.exact.ReadFault.{ReadFault}
-use Rattle.outside.specs.Feed.{Fed, IsFedFrom, buffer_size}
-use Rattle.outside.specs.Exact.{HasReadCause}
-use Rattle.outside.specs.Passed.{PassedOn, AppendedPrefix}
-use Rattle.outside.specs.Seen.{Seen, Heard, OnFile}
 
 -- A file was looked for: it is there, or missing, or the call failed.
 pub record FindAnswer (name : List ℕ) (old new : Seen) (result : Result ℕ FindFault) : Type 0 where
@@ -28,16 +26,19 @@ pub record FindAnswer (name : List ℕ) (old new : Seen) (result : Result ℕ Fi
   pub counts : OnlyReads old.counts new.counts
 
 -- Bytes of a file were read from an offset on, over the first of these, or the call failed.
-pub record ReadAnswer (name : List ℕ) (at : ℕ) (before after : List ℕ) (old new : Seen) (result : Result ℕ FailedCall) : Type 0 where
+pub record ReadAnswer (name : List ℕ) (at : ℕ) (before after : List ℕ) (old new : Seen)
+    (result : Result ℕ FailedCall) : Type 0 where
   -- the answer is how many were read
   pub bound : IfOk result (λ k. k ≤ length before)
   pub bytes : IfOk result (λ k. OnFile old name (λ bytes. take k after ≡ take k (drop at bytes)))
   pub rest : IfOk result (λ k. drop k after ≡ drop k before)
   -- none only where there is no room, or at the end of the file or past it
-  pub end : IfOk result (λ k. OnFile old name (λ bytes. k ≡ 0 → (length before ≡ 0) ⊎ (length bytes ≤ at)))
+  pub end : IfOk result
+      (λ k. OnFile old name (λ bytes. k ≡ 0 → (length before ≡ 0) ⊎ (length bytes ≤ at)))
   pub within : IfOk result (λ k. OnFile old name (λ bytes. k ≤ length bytes - at))
   -- an end that was met and a failure are counted, with its name
-  pub ended : IfOk result (λ k. k ≡ 0 → 0 < length before → EndedAt name at old.counts.ends new.counts.ends)
+  pub ended : IfOk result
+      (λ k. k ≡ 0 → 0 < length before → EndedAt name at old.counts.ends new.counts.ends)
   pub failed : OnErr result (HappenedTo name old.counts.read_faults new.counts.read_faults)
   pub files : new.files ≡ old.files
   -- and nothing else is
@@ -46,7 +47,8 @@ pub record ReadAnswer (name : List ℕ) (at : ℕ) (before after : List ℕ) (ol
   pub counts : OnlyReads old.counts new.counts
 
 -- A name was made to hold no bytes, or the call failed.
-pub record CreateAnswer (name : List ℕ) (old new : Seen) (result : Result (Unit {0}) FailedCall) : Type 0 where
+pub record CreateAnswer (name : List ℕ) (old new : Seen)
+    (result : Result (Unit {0}) FailedCall) : Type 0 where
   pub created : OnOk result (new.files ≡ emptied old.files name)
   pub kept : OnErr result (FailsToCreate name old.files new.files)
   pub failed : OnErr result (HappenedTo name old.counts.write_faults new.counts.write_faults)
@@ -54,7 +56,8 @@ pub record CreateAnswer (name : List ℕ) (old new : Seen) (result : Result (Uni
   pub counts : OnlyWrites old.counts new.counts
 
 -- A prefix of these bytes was appended to a file, or the call failed.
-pub record WriteAnswer (name bytes : List ℕ) (old new : Seen) (result : Result ℕ FailedCall) : Type 0 where
+pub record WriteAnswer (name bytes : List ℕ) (old new : Seen)
+    (result : Result ℕ FailedCall) : Type 0 where
   -- the answer is how many were: some, if there are any
   pub bound : IfOk result (λ k. k ≤ length bytes)
   pub some : IfOk result (λ k. 0 < length bytes → 0 < k)
@@ -65,7 +68,8 @@ pub record WriteAnswer (name bytes : List ℕ) (old new : Seen) (result : Result
   pub counts : OnlyWrites old.counts new.counts
 
 -- A prefix of these bytes was taken by a sink, or the call failed.
-pub record SendAnswer (bytes : List ℕ) (old new : Heard) (result : Result ℕ FailedCall) : Type 0 where
+pub record SendAnswer (bytes : List ℕ) (old new : Heard)
+    (result : Result ℕ FailedCall) : Type 0 where
   -- the answer is how many were: some, if there are any
   pub bound : IfOk result (λ k. k ≤ length bytes)
   pub some : IfOk result (λ k. 0 < length bytes → 0 < k)
@@ -73,8 +77,10 @@ pub record SendAnswer (bytes : List ℕ) (old new : Heard) (result : Result ℕ 
   pub kept : OnErr result (new.sent ≡ old.sent)
   pub cause : HasCause old.faults new.faults result
 
--- A feed gave so many bytes of a file from an offset on, or as many as there are after it, or a read failed.
-pub record FillAnswer (name : List ℕ) (at n : ℕ) (now : Fed) (old new : Seen) (result : Result ℕ FailedCall) : Type 0 where
+-- A feed gave so many bytes of a file from an offset on,
+-- or as many as there are after it, or a read failed.
+pub record FillAnswer (name : List ℕ) (at n : ℕ) (now : Fed) (old new : Seen)
+    (result : Result ℕ FailedCall) : Type 0 where
   pub bound : IfOk result (λ k. k ≤ n)
   pub given : IfOk result (λ k. length now.given ≡ k)
   pub bytes : IfOk result (λ k. OnFile old name (λ bytes. now.given ≡ take n (drop at bytes)))
@@ -87,27 +93,34 @@ pub record FillAnswer (name : List ℕ) (at n : ℕ) (now : Fed) (old new : Seen
   pub done : OnOk result (NothingFailed old.counts new.counts)
   pub counts : OnlyReads old.counts new.counts
 
--- A file was read from an offset on until there was no room or a read gave no byte, or a read failed.
-pub record ReadFull (name : List ℕ) (at : ℕ) (before after : List ℕ) (old new : Seen) (result : Result ℕ FailedCall) : Type 0 where
+-- A file was read from an offset on until there was
+-- no room or a read gave no byte, or a read failed.
+pub record ReadFull (name : List ℕ) (at : ℕ) (before after : List ℕ) (old new : Seen)
+    (result : Result ℕ FailedCall) : Type 0 where
   pub bound : IfOk result (λ k. k ≤ length before)
   pub bytes : IfOk result (λ k. OnFile old name (λ bytes. take k after ≡ take k (drop at bytes)))
   pub rest : IfOk result (λ k. drop k after ≡ drop k before)
   pub end : IfOk result (λ k. OnFile old name (λ bytes. k < length before → k ≡ length bytes - at))
-  pub ended : IfOk result (λ k. k < length before → EndedAt name (at + k) old.counts.ends new.counts.ends)
+  pub ended : IfOk result
+      (λ k. k < length before → EndedAt name (at + k) old.counts.ends new.counts.ends)
   pub failed : OnErr result (HappenedTo name old.counts.read_faults new.counts.read_faults)
   pub files : new.files ≡ old.files
   pub filled : IfOk result (λ k. k ≡ length before → new.counts ≡ old.counts)
   pub done : OnOk result (NothingFailed old.counts new.counts)
   pub counts : OnlyReads old.counts new.counts
 
--- Of a file of which the first bytes were there, more were read until there were enough or a read gave no byte, or a read failed.
-pub record ReadOn (name : List ℕ) (at have enough : ℕ) (before after : List ℕ) (old new : Seen) (result : Result ℕ FailedCall) : Type 0 where
+-- Of a file of which the first bytes were there, more were read
+-- until there were enough or a read gave no byte, or a read failed.
+pub record ReadOn (name : List ℕ) (at have enough : ℕ) (before after : List ℕ) (old new : Seen)
+    (result : Result ℕ FailedCall) : Type 0 where
   pub bound : IfOk result (λ k. k ≤ length before)
   pub more : IfOk result (λ k. have ≤ k)
-  pub bytes : IfOk result (λ k. OnFile old name (λ bytes. take have before ≡ take have (drop at bytes) → take k after ≡ take k (drop at bytes)))
+  pub bytes : IfOk result (λ k. OnFile old name (λ bytes.
+      take have before ≡ take have (drop at bytes) → take k after ≡ take k (drop at bytes)))
   pub rest : IfOk result (λ k. drop k after ≡ drop k before)
   pub end : IfOk result (λ k. OnFile old name (λ bytes. k < enough → length bytes - at ≤ k))
-  pub within : IfOk result (λ k. OnFile old name (λ bytes. have ≤ length bytes - at → k ≤ length bytes - at))
+  pub within : IfOk result
+      (λ k. OnFile old name (λ bytes. have ≤ length bytes - at → k ≤ length bytes - at))
   pub ended : IfOk result (λ k. k < enough → EndedAt name (at + k) old.counts.ends new.counts.ends)
   pub filled : IfOk result (λ k. enough ≤ k → new.counts ≡ old.counts)
   pub failed : OnErr result (HappenedTo name old.counts.read_faults new.counts.read_faults)
@@ -116,7 +129,8 @@ pub record ReadOn (name : List ℕ) (at have enough : ℕ) (before after : List 
   pub counts : OnlyReads old.counts new.counts
 
 -- Bytes of a file were read, from an offset on, over all of these, or a read failed or met the end.
-pub record ReadExact (name : List ℕ) (size at : ℕ) (before after : List ℕ) (old new : Seen) (result : Result (Unit {0}) ReadFault) : Type 0 where
+pub record ReadExact (name : List ℕ) (size at : ℕ) (before after : List ℕ) (old new : Seen)
+    (result : Result (Unit {0}) ReadFault) : Type 0 where
   pub bytes : OnOk result (OnFile old name (λ bytes. after ≡ take (length before) (drop at bytes)))
   pub done : OnOk result (new.counts ≡ old.counts)
   pub cause : IfErr result (HasReadCause name size old.files old.counts new.counts)
@@ -124,7 +138,8 @@ pub record ReadExact (name : List ℕ) (size at : ℕ) (before after : List ℕ)
   pub counts : OnlyReads old.counts new.counts
 
 -- A feed gave so many bytes of a file, or a read failed or met the end.
-pub record FillExact (name : List ℕ) (size at n : ℕ) (now : Fed) (old new : Seen) (result : Result (Unit {0}) ReadFault) : Type 0 where
+pub record FillExact (name : List ℕ) (size at n : ℕ) (now : Fed) (old new : Seen)
+    (result : Result (Unit {0}) ReadFault) : Type 0 where
   pub given : OnOk result (length now.given ≡ n)
   pub bytes : OnOk result (OnFile old name (λ bytes. now.given ≡ take n (drop at bytes)))
   pub done : OnOk result (new.counts ≡ old.counts)
@@ -134,7 +149,8 @@ pub record FillExact (name : List ℕ) (size at n : ℕ) (now : Fed) (old new : 
   pub counts : OnlyReads old.counts new.counts
 
 -- Bytes were added to what waits for a file, of which some was appended, or a write failed.
-pub record PushAnswer (name before bytes after : List ℕ) (old new : Seen) (result : Result (Unit {0}) FailedCall) : Type 0 where
+pub record PushAnswer (name before bytes after : List ℕ) (old new : Seen)
+    (result : Result (Unit {0}) FailedCall) : Type 0 where
   pub passed : OnOk result (PassedOn name (before ++ bytes) after old.files new.files)
   pub prefix : OnErr result (AppendedPrefix name (before ++ bytes) old.files new.files)
   pub none : OnErr result (after ≡ [])
@@ -144,7 +160,8 @@ pub record PushAnswer (name before bytes after : List ℕ) (old new : Seen) (res
   pub counts : OnlyWrites old.counts new.counts
 
 -- What waited for a file was appended, or a write failed.
-pub record FinishAnswer (name before after : List ℕ) (old new : Seen) (result : Result (Unit {0}) FailedCall) : Type 0 where
+pub record FinishAnswer (name before after : List ℕ) (old new : Seen)
+    (result : Result (Unit {0}) FailedCall) : Type 0 where
   pub appended : OnOk result (new.files ≡ appended old.files name before)
   pub prefix : OnErr result (AppendedPrefix name before old.files new.files)
   pub none : after ≡ []
@@ -153,7 +170,8 @@ pub record FinishAnswer (name before after : List ℕ) (old new : Seen) (result 
   pub counts : OnlyWrites old.counts new.counts
 
 -- Of these bytes as many times 65,536 as there are were appended to a file, or a write failed.
-pub record WholeAnswer (name bytes : List ℕ) (old new : Seen) (result : Result ℕ FailedCall) : Type 0 where
+pub record WholeAnswer (name bytes : List ℕ) (old new : Seen)
+    (result : Result ℕ FailedCall) : Type 0 where
   pub within : IfOk result (λ k. k ≤ length bytes)
   pub few : IfOk result (λ k. length bytes - k < buffer_size)
   pub written : IfOk result (λ k. new.files ≡ appended old.files name (take k bytes))
@@ -163,15 +181,19 @@ pub record WholeAnswer (name bytes : List ℕ) (old new : Seen) (result : Result
   pub counts : OnlyWrites old.counts new.counts
 
 -- All of these bytes were appended to a file, or a write failed.
-pub record WriteAllAnswer (name bytes : List ℕ) (old new : Seen) (result : Result (Unit {0}) FailedCall) : Type 0 where
+pub record WriteAllAnswer (name bytes : List ℕ) (old new : Seen)
+    (result : Result (Unit {0}) FailedCall) : Type 0 where
   pub written : OnOk result (new.files ≡ appended old.files name bytes)
-  pub front : OnErr result ((k : ℕ) × (k < length bytes) × (new.files ≡ appended old.files name (take k bytes)))
+  pub front : OnErr result
+      ((k : ℕ) × (k < length bytes) × (new.files ≡ appended old.files name (take k bytes)))
   pub failed : OnErr result (HappenedTo name old.counts.write_faults new.counts.write_faults)
   pub done : OnOk result (new.counts ≡ old.counts)
   pub counts : OnlyWrites old.counts new.counts
 
--- Bytes were added to what waits for a file, of which some was appended, or a write failed; what waits after that isn't said.
-pub record PassAnswer (name before bytes after : List ℕ) (old new : Seen) (result : Result (Unit {0}) FailedCall) : Type 0 where
+-- Bytes were added to what waits for a file, of which some was
+-- appended, or a write failed; what waits after that isn't said.
+pub record PassAnswer (name before bytes after : List ℕ) (old new : Seen)
+    (result : Result (Unit {0}) FailedCall) : Type 0 where
   pub passed : OnOk result (PassedOn name (before ++ bytes) after old.files new.files)
   pub prefix : OnErr result (AppendedPrefix name (before ++ bytes) old.files new.files)
   pub failed : OnErr result (HappenedTo name old.counts.write_faults new.counts.write_faults)

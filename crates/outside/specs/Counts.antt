@@ -1,5 +1,6 @@
--- How often a folder or a sink has failed, over which file it did last, and what a call does to these counts.
-use Rattle.std.specs.Prelude.{◌≡◌, ℕ, ◌+◌, ◌-◌, ◌^◌, ◌≤◌, min, List, [], take, Result, OnOk, OnErr}
+-- How often a folder or a sink has failed, over which
+-- file it did last, and what a call does to these counts.
+use Rattle.std.specs.Prelude.{List, min, OnErr, OnOk, Result, take, ℕ, [], ◌+◌, ◌-◌, ◌^◌, ◌≡◌, ◌≤◌}
 
 -- a count has grown, or is at the greatest value of a u64
 abbrev pub Rose : ℕ → ℕ → Type 0
@@ -24,7 +25,8 @@ pub record Ended : Type 0 where
 abbrev pub ended : Happened → ℕ → Ended
 ended last place = record { times = last.times; name = last.name; place = place }
 
--- what a folder counts
+-- what a folder counts: missing files, reads at an end, and faults of reading and of writing, each
+-- with the name of the file that it happened to last, and an end with its offset
 pub record Counts : Type 0 where
   -- missing files that `find` met
   pub misses : Happened
@@ -41,7 +43,8 @@ HappenedTo name before now = Rose before.times now.times × (now.name ≡ noted 
 
 -- a read of this file at this offset gave no byte, and was the last that did so
 abbrev pub EndedAt : List ℕ → ℕ → Ended → Ended → Type 0
-EndedAt name place before now = Rose before.times now.times × (now.name ≡ noted name) × (now.place ≡ place)
+EndedAt name place before now =
+    Rose before.times now.times × (now.name ≡ noted name) × (now.place ≡ place)
 
 -- no count has fallen
 pub record NoneFell (old new : Counts) : Type 0 where
@@ -70,7 +73,8 @@ pub record NothingFailed (old new : Counts) : Type 0 where
   pub read_faults : new.read_faults ≡ old.read_faults
   pub write_faults : new.write_faults ≡ old.write_faults
 
--- a sink's count never falls: it stays where the call succeeds, and the call fails only where it rose
+-- a sink's count never falls: it stays where the call
+-- succeeds, and the call fails only where it rose
 pub record HasCause {T E : Type 0} (before now : ℕ) (result : Result T E) : Type 0 where
   pub later : before ≤ now
   pub done : OnOk result (now ≡ before)
@@ -90,16 +94,23 @@ never = record { times = 0; name = [] }
 
 -- the counts before anything happened
 abbrev pub none_counted : Counts
-none_counted = record { misses = never; ends = ended never 0; read_faults = never; write_faults = never }
+none_counted =
+    record { misses = never; ends = ended never 0; read_faults = never; write_faults = never }
 
+-- one more missing file, and this was it
 abbrev pub with_miss : List ℕ → Counts → Counts
 with_miss name counts = record counts { misses = once_more name counts.misses }
 
+-- one more read that gave no byte, of this file at this offset
 abbrev pub with_end : List ℕ → ℕ → Counts → Counts
-with_end name place counts = record counts { ends = ended (record { times = one_more counts.ends.times; name = noted name }) place }
+with_end name place counts = record counts {
+  ends = ended (record { times = one_more counts.ends.times; name = noted name }) place;
+}
 
+-- one more fault of reading, of this file
 abbrev pub with_read_fault : List ℕ → Counts → Counts
 with_read_fault name counts = record counts { read_faults = once_more name counts.read_faults }
 
+-- one more fault of writing, of this file
 abbrev pub with_write_fault : List ℕ → Counts → Counts
 with_write_fault name counts = record counts { write_faults = once_more name counts.write_faults }

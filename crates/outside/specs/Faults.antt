@@ -1,10 +1,7 @@
 -- What an error of the library says of a file that wasn't found.
-use Rattle.std.specs.Prelude.{◌≡◌, ◌≢◌}
-use Rattle.std.specs.IoError.{error_kind}
-use Rattle.std.specs.declared.io.Error.{Error}
+use Rattle.std.specs.{IoError.error_kind, Prelude.{◌≡◌, ◌≢◌}, declared.io.Error.Error}
 use Rattle.std.specs.declared.io.ErrorKind.TheVariants.{NotFound}
-use Rattle.outside.specs.declared.folder.FindFault.{FindFault}
-use Rattle.outside.specs.declared.folder.FindFault.TheVariants.{Absent, Failed}
+use Rattle.outside.specs.declared.folder.FindFault.{FindFault, TheVariants.{Absent, Failed}}
 
 -- the name is absent where the kind is 'not found', and anything else is a failure
 pub record IsFaultOf (error : Error) (fault : FindFault) : Type 0 where

@@ -1,5 +1,5 @@
 -- What a feed of the bytes of a file shows.
-use Rattle.std.specs.Prelude.{◌≡◌, ℕ, ◌^◌, ◌≤◌, List, length, take, drop}
+use Rattle.std.specs.Prelude.{drop, length, List, take, ℕ, ◌^◌, ◌≡◌, ◌≤◌}
 use Rattle.outside.specs.Files.{Files, Holds}
 
 -- the size of a buffer in bytes
@@ -10,6 +10,7 @@ buffer_size = 65536
 abbrev pub most_given : ℕ
 most_given = 4096
 
+-- what a feed holds of a file, from where, and what it gave last
 pub record Fed : Type 0 where
   -- the offset in the file of the first byte that is held
   pub place : ℕ
@@ -19,7 +20,8 @@ pub record Fed : Type 0 where
 
 -- where the files are told, the bytes held are those of the name's file from `place` on
 pub record IsFedFrom (fed : Fed) (files : Files) (name : List ℕ) : Type 0 where
-  pub same : (bytes : List ℕ) → Holds files name bytes → take (length fed.held) (drop fed.place bytes) ≡ fed.held
+  pub same : (bytes : List ℕ) → Holds files name bytes
+      → take (length fed.held) (drop fed.place bytes) ≡ fed.held
 
 -- the buffer of a feed, and the bounds of what is held and given
 pub record IsWithin (room : List ℕ) (place held from to : ℕ) : Type 0 where

@@ -1,17 +1,20 @@
 -- What a folder tells of its files, and what a sink tells of its bytes.
-use Rattle.std.specs.Prelude.{◌≡◌, ◌≢◌, ◌⊎◌, ◌<◌, ℕ, slice_index_or, List, [], ◌∷◌, ◌++◌, Bool, true, false, ◌||◌, ◌&&◌, Option, Some, None, unwrap_or, option_map, IsSome, bytes_eq}
-use Rattle.std.specs.List.{All}
-use Rattle.std.specs.Map.{update}
+use Rattle.std.specs.{List.All, Map.update}
+use Rattle.std.specs.Prelude.{Bool, bytes_eq, false, IsSome, List, None, Option, option_map}
+use Rattle.std.specs.Prelude.{slice_index_or, Some, true, unwrap_or, ℕ, [], ◌&&◌, ◌++◌, ◌<◌, ◌||◌}
+use Rattle.std.specs.Prelude.{◌∷◌, ◌≡◌, ◌≢◌, ◌⊎◌}
 
 -- a content for each name that is there
 abbrev pub Contents : Type 0
 Contents = List ℕ → Option (List ℕ)
 
--- of each name, whether it may have been touched: a call was made to create it, or bytes were written to it
+-- of each name, whether it may have been touched: a call
+-- was made to create it, or bytes were written to it
 abbrev pub Touched : Type 0
 Touched = List ℕ → Bool
 
--- what a folder tells: of each name what it holds; or nothing of that, but which names may have been touched
+-- what a folder tells: of each name what it holds; or
+-- nothing of that, but which names may have been touched
 pub data Files : Type 0 where
   Told : Contents → Files
   Untold : Touched → Files
@@ -20,6 +23,7 @@ pub data Files : Type 0 where
 abbrev pub untold : Files
 untold = Untold (λ _. true)
 
+-- whether the files are told
 abbrev pub is_told : Files → Bool
 is_told (Told f) = true
 is_told (Untold touched) = false
@@ -33,6 +37,7 @@ IfTold (Untold touched) P = Unit {0}
 abbrev pub Sent : Type 0
 Sent = Option (List ℕ)
 
+-- the bytes of a sink that aren't told
 abbrev pub untold_bytes : Sent
 untold_bytes = None
 
@@ -44,6 +49,7 @@ with_file files name bytes = update bytes_eq files name (Some bytes)
 abbrev pub with_touch : Touched → List ℕ → Bool → Touched
 with_touch touched name is_so = λ other. touched other || is_so && bytes_eq name other
 
+-- whether there is a byte
 abbrev pub is_some_byte : List ℕ → Bool
 is_some_byte [] = false
 is_some_byte (byte ∷ bytes) = true
@@ -53,7 +59,8 @@ unfoldable pub emptied : Files → List ℕ → Files
 emptied (Told f) name = Told (with_file f name [])
 emptied (Untold touched) name = Untold (with_touch touched name true)
 
--- the name holds more bytes at its end, and every other name stays; without any bytes nothing is touched
+-- the name holds more bytes at its end, and every other
+-- name stays; without any bytes nothing is touched
 unfoldable pub appended : Files → List ℕ → List ℕ → Files
 appended (Told f) name more = Told (with_file f name (unwrap_or (f name) [] ++ more))
 appended (Untold touched) name more = Untold (with_touch touched name (is_some_byte more))
@@ -63,14 +70,18 @@ unfoldable pub tried : Files → List ℕ → Files
 tried (Told f) name = Told f
 tried (Untold touched) name = Untold (with_touch touched name true)
 
--- a call to create the name failed: told files stay, and where nothing is told of them, no other name was touched
+-- a call to create the name failed: told files stay, and
+-- where nothing is told of them, no other name was touched
 abbrev pub FailsToCreate : List ℕ → Files → Files → Type 0
 FailsToCreate name old new = (new ≡ old) ⊎ (new ≡ tried old name)
 
--- Every name but these stays: where the files are told, it holds what it held; where they aren't, it wasn't touched.
+-- Every name but these stays: where the files are told, it
+-- holds what it held; where they aren't, it wasn't touched.
 abbrev pub OnlyTouches : List (List ℕ) → Files → Files → Type 0
-OnlyTouches names (Told f) (Told g) = (other : List ℕ) → All (λ name. other ≢ name) names → g other ≡ f other
-OnlyTouches names (Untold old) (Untold new) = (other : List ℕ) → All (λ name. other ≢ name) names → new other ≡ old other
+OnlyTouches names (Told f) (Told g) =
+    (other : List ℕ) → All (λ name. other ≢ name) names → g other ≡ f other
+OnlyTouches names (Untold old) (Untold new) =
+    (other : List ℕ) → All (λ name. other ≢ name) names → new other ≡ old other
 OnlyTouches names _ _ = ⊥
 
 -- a sink that got more bytes

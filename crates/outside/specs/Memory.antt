@@ -1,18 +1,16 @@
 -- What a folder and a sink in memory show.
-use Rattle.std.specs.Prelude.{◌≡◌, ◌≢◌, ℕ, ◌+◌, List, [], length, Bool, ◌||◌, not, nat_lt, Option, None, Some, Result, Ok, Err, if◌then◌else◌, max, is_some, unwrap_or, bytes_eq, ◌==◌, ◌&&◌, ◌-◌, min, is_err, IfOk, OnOk, OnErr, IsErrOf}
 use Rattle.std.specs.Map.{update}
-use Rattle.outside.specs.declared.folder.FindFault.{FindFault}
-use Rattle.outside.specs.declared.folder.FindFault.TheVariants.{Absent, Failed}
-use Rattle.outside.specs.declared.memory.folder.Call.{Call}
-use Rattle.outside.specs.declared.memory.folder.Call.TheVariants.{Find, Read, Create, Write}
-use Rattle.outside.specs.declared.memory.folder.MemFolder.{MemFolder}
-use Rattle.outside.specs.declared.memory.sink.MemSink.{MemSink}
-use Rattle.outside.specs.Counts.{Counts, one_more, with_miss, with_end, with_read_fault, with_write_fault}
-use Rattle.outside.specs.Files.{Contents, Told}
-use Rattle.outside.specs.Plan.{Plan, is_next_to_fail}
+use Rattle.std.specs.Prelude.{Bool, bytes_eq, Err, IfOk, if◌then◌else◌, is_err, is_some, IsErrOf}
+use Rattle.std.specs.Prelude.{length, List, max, min, nat_lt, None, not, Ok, OnErr, OnOk, Option}
+use Rattle.std.specs.Prelude.{Result, Some, unwrap_or, ℕ, [], ◌&&◌, ◌+◌, ◌-◌, ◌==◌, ◌||◌, ◌≡◌, ◌≢◌}
+use Rattle.outside.specs.Counts.{Counts, one_more, with_end, with_miss, with_read_fault}
+use Rattle.outside.specs.{Counts.with_write_fault, Files.{Contents, Told}}
+use Rattle.outside.specs.{Plan.{is_next_to_fail, Plan}, Seen.{Heard, heard, Seen, seen}}
 use Rattle.outside.specs.Slots.{contents_in, rooms_in}
-use Rattle.outside.specs.Seen.{Seen, seen, Heard, heard}
-use Rattle.outside.specs.declared.folder.Failed.{Failed as FailedCall}
+use Rattle.outside.specs.declared.folder.{Failed.Failed as FailedCall, FindFault.FindFault}
+use Rattle.outside.specs.declared.folder.FindFault.TheVariants.{Absent, Failed}
+use Rattle.outside.specs.declared.memory.folder.Call.{Call, TheVariants.{Create, Find, Read, Write}}
+use Rattle.outside.specs.declared.memory.{folder.MemFolder.MemFolder, sink.MemSink.MemSink}
 
 -- the files of a folder
 abbrev pub contents_of : MemFolder → Contents
@@ -34,9 +32,11 @@ room_of folder name = unwrap_or (rooms_of folder name) 0
 abbrev pub with_room : (List ℕ → Option ℕ) → List ℕ → ℕ → List ℕ → Option ℕ
 with_room rooms name room = update bytes_eq rooms name (Some (max (unwrap_or (rooms name) 0) room))
 
+-- what the folder counted
 abbrev pub counts_of : MemFolder → Counts
 counts_of folder = folder.tally
 
+-- which calls of a kind are to fail
 abbrev pub plan_of : MemFolder → Call → Plan
 plan_of folder Find = folder.finds
 plan_of folder Read = folder.reads
@@ -70,7 +70,8 @@ pub record NotCalled (old new : MemFolder) : Type 0 where
 
 -- what `find` answers
 abbrev pub find_answer : MemFolder → List ℕ → Result ℕ FindFault
-find_answer folder name = if is_to_fail folder Find then Err Failed else length_or_absent (contents_of folder name)
+find_answer folder name =
+    if is_to_fail folder Find then Err Failed else length_or_absent (contents_of folder name)
   where
     length_or_absent : Option (List ℕ) → Result ℕ FindFault
     length_or_absent None = Err Absent
@@ -82,15 +83,18 @@ create_fails folder name = is_to_fail folder Create || not (is_some (rooms_of fo
 
 -- a `write` of these bytes to this name fails
 abbrev pub write_fails : MemFolder → List ℕ → List ℕ → Bool
-write_fails folder name bytes = is_to_fail folder Write || nat_lt (room_of folder name) (length (bytes_of folder name) + length bytes)
+write_fails folder name bytes = is_to_fail folder Write
+    || nat_lt (room_of folder name) (length (bytes_of folder name) + length bytes)
 
 -- the bytes of a sink
 abbrev pub bytes_sent : MemSink → List ℕ
 bytes_sent sink = sink.buffer.bytes
 
+-- how many bytes a sink has room for
 abbrev pub sink_room : MemSink → ℕ
 sink_room sink = sink.buffer.room
 
+-- how many writes to the sink failed
 abbrev pub sink_faults : MemSink → ℕ
 sink_faults sink = sink.faults
 
@@ -104,7 +108,8 @@ writes_to_fail sink = sink.writes.failing
 
 -- a `write` of these bytes to the sink fails
 abbrev pub send_fails : MemSink → List ℕ → Bool
-send_fails sink bytes = is_next_to_fail sink.writes || nat_lt (sink_room sink) (length (bytes_sent sink) + length bytes)
+send_fails sink bytes =
+    is_next_to_fail sink.writes || nat_lt (sink_room sink) (length (bytes_sent sink) + length bytes)
 
 -- what is seen of the folder
 abbrev pub seen_of : MemFolder → Seen
@@ -115,37 +120,44 @@ abbrev pub sink_heard : MemSink → Heard
 sink_heard sink = heard (Some (bytes_sent sink)) (sink_faults sink)
 
 -- A folder in memory finds what it has, or fails as it was told to; each is counted.
-pub record MemFinds (name : List ℕ) (was now : MemFolder) (result : Result ℕ FindFault) : Type 0 where
+pub record MemFinds (name : List ℕ) (was now : MemFolder)
+    (result : Result ℕ FindFault) : Type 0 where
   pub exact : result ≡ find_answer was name
   pub called : Called was now Find
   pub absent_counts : IsErrOf result Absent → counts_of now ≡ with_miss name (counts_of was)
   pub failed_counts : IsErrOf result Failed → counts_of now ≡ with_read_fault name (counts_of was)
 
 -- It gives all that there is and fits, or fails as it was told to; each is counted.
-pub record MemReads (name : List ℕ) (at : ℕ) (before after : List ℕ) (was now : MemFolder) (result : Result ℕ FailedCall) : Type 0 where
+pub record MemReads (name : List ℕ) (at : ℕ) (before after : List ℕ) (was now : MemFolder)
+    (result : Result ℕ FailedCall) : Type 0 where
   pub fails : is_err result ≡ is_to_fail was Read
   pub whole : IfOk result (λ k. k ≡ min (length before) (length (bytes_of was name) - at))
   pub called : Called was now Read
   pub kept : OnErr result (after ≡ before)
-  pub read_counts : IfOk result (λ k. counts_of now ≡ (if k == 0 && nat_lt 0 (length before) then with_end name at (counts_of was) else counts_of was))
+  pub read_counts : IfOk result (λ k. counts_of now ≡ (if k == 0 && nat_lt 0 (length before)
+      then with_end name at (counts_of was) else counts_of was))
   pub failed_counts : OnErr result (counts_of now ≡ with_read_fault name (counts_of was))
 
 -- It makes a name hold no bytes where it has room for it, or fails as it was told to.
-pub record MemCreates (name : List ℕ) (was now : MemFolder) (result : Result (Unit {0}) FailedCall) : Type 0 where
+pub record MemCreates (name : List ℕ) (was now : MemFolder)
+    (result : Result (Unit {0}) FailedCall) : Type 0 where
   pub stays : OnErr result (contents_of now ≡ contents_of was)
   pub fails : is_err result ≡ create_fails was name
   pub called : Called was now Create
   pub failed_counts : OnErr result (counts_of now ≡ with_write_fault name (counts_of was))
 
 -- It takes all bytes where it has room for them, or fails as it was told to.
-pub record MemWrites (name bytes : List ℕ) (was now : MemFolder) (result : Result ℕ FailedCall) : Type 0 where
+pub record MemWrites (name bytes : List ℕ) (was now : MemFolder)
+    (result : Result ℕ FailedCall) : Type 0 where
   pub fails : is_err result ≡ write_fails was name bytes
   pub whole : IfOk result (λ k. k ≡ length bytes)
   pub called : Called was now Write
   pub failed_counts : OnErr result (counts_of now ≡ with_write_fault name (counts_of was))
 
--- A sink in memory takes all bytes where it has room for them, or fails as it was told to; each is counted.
-pub record MemSends (bytes : List ℕ) (was now : MemSink) (result : Result ℕ FailedCall) : Type 0 where
+-- A sink in memory takes all bytes where it has room for
+-- them, or fails as it was told to; each is counted.
+pub record MemSends (bytes : List ℕ) (was now : MemSink)
+    (result : Result ℕ FailedCall) : Type 0 where
   pub fails : is_err result ≡ send_fails was bytes
   pub whole : IfOk result (λ k. k ≡ length bytes)
   pub room : sink_room now ≡ sink_room was

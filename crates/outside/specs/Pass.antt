@@ -1,22 +1,20 @@
 -- What a pass over an input makes of its output, and why it ends early.
-use Rattle.std.specs.Prelude.{◌≡◌, ◌≢◌, ℕ, ◌-◌, ◌^◌, ◌<◌, ◌≤◌, List, [], ◌++◌, length, take, drop, Result, IfErr, OnOk, OnErr}
-use Rattle.outside.specs.Files.{Files, appended, Holds, IsThere}
-use Rattle.outside.specs.Counts.{Counts, HappenedTo, OnlyWrites}
-use Rattle.outside.specs.Passed.{PassedOn, AppendedPrefix}
-use Rattle.outside.specs.Seen.{Seen}
-use Rattle.outside.specs.Feed.{Fed, IsFedFrom}
-use Rattle.outside.specs.Exact.{HasReadCause}
+use Rattle.std.specs.Prelude.{drop, IfErr, length, List, OnErr, OnOk, Result, take, ℕ, [], ◌++◌}
+use Rattle.std.specs.Prelude.{◌-◌, ◌<◌, ◌^◌, ◌≡◌, ◌≢◌, ◌≤◌}
+use Rattle.outside.specs.{Counts.{Counts, HappenedTo, OnlyWrites}, Exact.HasReadCause}
+use Rattle.outside.specs.{Feed.{Fed, IsFedFrom}, Files.{appended, Files, Holds, IsThere}}
+use Rattle.outside.specs.{Passed.{AppendedPrefix, PassedOn}, Seen.Seen}
 use Rattle.outside.specs.declared.exact.ReadFault.{ReadFault}
 use Rattle.outside.specs.declared.exact.ReadFault.TheVariants.{Failed, Shrunk as ShrunkRead}
-use Rattle.outside.specs.declared.pass.Pass.{Pass}
-use Rattle.outside.specs.declared.pass.PassFault.{PassFault}
+use Rattle.outside.specs.declared.pass.{Pass.Pass, PassFault.PassFault}
 use Rattle.outside.specs.declared.pass.PassFault.TheVariants.{Read, Shrunk, Write}
 
 -- the greatest length of an input in bytes
 abbrev pub longest_input : ℕ
 longest_input = 2 ^ 32
 
--- Two files of different names are there, the input has this length, and the bytes held of it are its own.
+-- Two files of different names are there, the input has
+-- this length, and the bytes held of it are its own.
 pub record IsReady (pass : Pass) (files : Files) (fed : Fed) : Type 0 where
   pub apart : pass.input.now ≢ pass.output.now
   pub source : IsThere files pass.input.now
@@ -37,22 +35,29 @@ bytes_at at n file = take n (drop at file)
 abbrev pub bytes_between : List ℕ → ℕ → ℕ → List ℕ
 bytes_between file from to = take (to - from) (drop from file)
 
--- Bytes for the output were added to what waited for it: where the input is told, what is made of its bytes.
-pub record Writes (pass : Pass) (made : List ℕ → List ℕ) (before after : List ℕ) (old new : Files) : Type 0 where
+-- Bytes for the output were added to what waited for it:
+-- where the input is told, what is made of its bytes.
+pub record Writes (pass : Pass) (made : List ℕ → List ℕ) (before after : List ℕ)
+    (old new : Files) : Type 0 where
   pub piece : List ℕ
   pub is : AreMade old pass.input.now made piece
   pub passed : PassedOn pass.output.now (before ++ piece) after old new
 
--- Only some bytes were appended to the output: where the input is told, a prefix of what waited and of what is made of its bytes, and after
--- a failed write not all of these.
-pub record AppendsPart (input output : List ℕ) (made : List ℕ → List ℕ) (before : List ℕ) (old new : Files) (fault : PassFault) : Type 0 where
+-- Only some bytes were appended to the output: where the input is told, a prefix of what
+-- waited and of what is made of its bytes, and after a failed write not all of these.
+pub record AppendsPart (input output : List ℕ) (made : List ℕ → List ℕ) (before : List ℕ)
+    (old new : Files) (fault : PassFault) : Type 0 where
   pub bytes : List ℕ
-  pub prefix : (file : List ℕ) → Holds old input file → bytes ≡ take (length bytes) (before ++ made file)
-  pub short : fault ≡ Write → (file : List ℕ) → Holds old input file → length bytes < length (before ++ made file)
+  pub prefix : (file : List ℕ) → Holds old input file
+      → bytes ≡ take (length bytes) (before ++ made file)
+  pub short : fault ≡ Write → (file : List ℕ) → Holds old input file
+      → length bytes < length (before ++ made file)
   pub files : new ≡ appended old output bytes
 
+-- the same of a pass, from its input to its output
 abbrev pub WritesPrefix : Pass → (List ℕ → List ℕ) → List ℕ → Files → Files → PassFault → Type 0
-WritesPrefix pass made before old new fault = AppendsPart pass.input.now pass.output.now made before old new fault
+WritesPrefix pass made before old new fault =
+    AppendsPart pass.input.now pass.output.now made before old new fault
 
 -- The output has more bytes at its end: where the input is told, what is made of its bytes.
 pub record Appends (input output : List ℕ) (made : List ℕ → List ℕ) (old new : Files) : Type 0 where
@@ -80,34 +85,43 @@ pub record Route : Type 0 where
   pub output : List ℕ
   pub size : ℕ
 
+-- the route from a file to another, of so many bytes
 abbrev pub route : List ℕ → List ℕ → ℕ → Route
 route input output size = record { input = input; output = output; size = size }
 
+-- the route of a pass
 abbrev pub route_of : Pass → Route
 route_of pass = route pass.input.now pass.output.now pass.length
 
--- The cause of a fault: that of a read of the input; or a call failed that writes the output, and nothing is counted of reads.
+-- The cause of a fault: that of a read of the input; or a call
+-- failed that writes the output, and nothing is counted of reads.
 abbrev pub HasPassCause : Route → Files → Counts → Counts → PassFault → Type 0
 HasPassCause way files before after Read = HasReadCause way.input way.size files before after Failed
-HasPassCause way files before after (Shrunk first second) = HasReadCause way.input way.size files before after (ShrunkRead first second)
-HasPassCause way files before after Write = HappenedTo way.output before.write_faults after.write_faults × OnlyWrites before after
+HasPassCause way files before after (Shrunk first second) =
+    HasReadCause way.input way.size files before after (ShrunkRead first second)
+HasPassCause way files before after Write =
+    HappenedTo way.output before.write_faults after.write_faults × OnlyWrites before after
 
 -- that of a fault that comes before there is an output
 abbrev pub HasInputCause : List ℕ → ℕ → Files → Counts → Counts → PassFault → Type 0
-HasInputCause name size files before after fault = HasPassCause (route name [] size) files before after fault
+HasInputCause name size files before after fault =
+    HasPassCause (route name [] size) files before after fault
 
 -- ---- what the calls of a pass answer
 
 -- What is made of the input was added to what waits for the output, or a call failed.
-pub record PassMakes {T : Type 0} (pass : Pass) (made : List ℕ → List ℕ) (before after : List ℕ) (fed : Fed) (old new : Seen) (result : Result T PassFault) : Type 0 where
+pub record PassMakes {T : Type 0} (pass : Pass) (made : List ℕ → List ℕ) (before after : List ℕ)
+    (fed : Fed) (old new : Seen) (result : Result T PassFault) : Type 0 where
   pub written : OnOk result (Writes pass made before after old.files new.files)
   pub prefix : IfErr result (WritesPrefix pass made before old.files new.files)
   pub done : OnOk result (new.counts ≡ old.counts)
   pub cause : IfErr result (HasPassCause (route_of pass) old.files old.counts new.counts)
   pub ready : OnOk result (IsReady pass new.files fed)
 
--- These bytes were added to what waits for the output, or a write failed, after which nothing waits.
-pub record PassPushes (pass : Pass) (before bytes after : List ℕ) (old new : Seen) (result : Result (Unit {0}) PassFault) : Type 0 where
+-- These bytes were added to what waits for the output,
+-- or a write failed, after which nothing waits.
+pub record PassPushes (pass : Pass) (before bytes after : List ℕ) (old new : Seen)
+    (result : Result (Unit {0}) PassFault) : Type 0 where
   pub passed : OnOk result (PassedOn pass.output.now (before ++ bytes) after old.files new.files)
   pub prefix : OnErr result (AppendedPrefix pass.output.now (before ++ bytes) old.files new.files)
   pub none : OnErr result (after ≡ [])
@@ -115,7 +129,8 @@ pub record PassPushes (pass : Pass) (before bytes after : List ℕ) (old new : S
   pub cause : IfErr result (HasPassCause (route_of pass) old.files old.counts new.counts)
 
 -- A feed gave so many bytes of the input, or a read failed.
-pub record PassFills (pass : Pass) (at n : ℕ) (fed : Fed) (old new : Seen) (result : Result (Unit {0}) PassFault) : Type 0 where
+pub record PassFills (pass : Pass) (at n : ℕ) (fed : Fed) (old new : Seen)
+    (result : Result (Unit {0}) PassFault) : Type 0 where
   pub given : OnOk result (length fed.given ≡ n)
   pub bytes : OnOk result (AreMade old.files pass.input.now (bytes_at at n) fed.given)
   pub done : OnOk result (new.counts ≡ old.counts)
@@ -125,7 +140,8 @@ pub record PassFills (pass : Pass) (at n : ℕ) (fed : Fed) (old new : Seen) (re
   pub ready : IsReady pass new.files fed
 
 -- What waits was appended to the output, or a write failed.
-pub record PassFinishes (pass : Pass) (before after : List ℕ) (old new : Seen) (result : Result (Unit {0}) PassFault) : Type 0 where
+pub record PassFinishes (pass : Pass) (before after : List ℕ) (old new : Seen)
+    (result : Result (Unit {0}) PassFault) : Type 0 where
   pub appended : OnOk result (new.files ≡ appended old.files pass.output.now before)
   pub prefix : OnErr result (AppendedPrefix pass.output.now before old.files new.files)
   pub none : after ≡ []

@@ -1,6 +1,6 @@
 -- What a buffer before a file, or before a sink, passed on to it.
-use Rattle.std.specs.Prelude.{◌≡◌, ℕ, ◌<◌, ◌≤◌, List, ◌++◌, length, take}
-use Rattle.outside.specs.Files.{Files, Sent, appended, sent_more}
+use Rattle.std.specs.Prelude.{length, List, take, ℕ, ◌++◌, ◌<◌, ◌≡◌, ◌≤◌}
+use Rattle.outside.specs.Files.{appended, Files, Sent, sent_more}
 
 -- `before` waited, and now its end `after` waits; what is before that end was appended
 pub record PassedOn (name before after : List ℕ) (old new : Files) : Type 0 where
@@ -8,7 +8,8 @@ pub record PassedOn (name before after : List ℕ) (old new : Files) : Type 0 wh
   pub split : before ≡ passed ++ after
   pub files : new ≡ appended old name passed
 
--- a prefix was appended, and not all of the bytes: a write is asked for only where there are any left
+-- a prefix was appended, and not all of the bytes: a
+-- write is asked for only where there are any left
 pub record AppendedPrefix (name bytes : List ℕ) (old new : Files) : Type 0 where
   pub count : ℕ
   pub short : count < length bytes

@@ -1,8 +1,8 @@
 -- Which calls of a kind are to fail.
-use Rattle.std.specs.Prelude.{ℕ, List, Bool, ◌==◌}
-use Rattle.std.specs.List.{list_any}
+use Rattle.std.specs.{List.list_any, Prelude.{Bool, List, ℕ, ◌==◌}}
 use Rattle.outside.specs.Counts.{one_more}
 
+-- how many calls of a kind there were, and which are to fail
 pub record Plan : Type 0 where
   -- the calls so far
   pub made : ℕ

@@ -1,25 +1,27 @@
 -- What can be seen of the outside at a moment.
-use Rattle.std.specs.Prelude.{◌≡◌, ℕ, List, Result, OnOk}
-use Rattle.outside.specs.Files.{Files, Sent, Holds}
-use Rattle.outside.specs.Counts.{Counts, OnlyReads}
+use Rattle.std.specs.Prelude.{List, OnOk, Result, ℕ, ◌≡◌}
+use Rattle.outside.specs.{Counts.{Counts, OnlyReads}, Files.{Files, Holds, Sent}}
 
--- of a folder: the files, where they are told, and the counts
+-- what is seen of a folder: the files, where they are told, and the counts
 pub record Seen : Type 0 where
   pub files : Files
   pub counts : Counts
 
+-- a folder with these files and counts
 abbrev pub seen : Files → Counts → Seen
 seen files counts = record { files = files; counts = counts }
 
--- of a sink: the bytes that it got, if they are told, and how often a write failed
+-- what is heard of a sink: the bytes that it got, if they are told, and how often a write failed
 pub record Heard : Type 0 where
   pub sent : Sent
   pub faults : ℕ
 
+-- a sink with these bytes and so many faults
 abbrev pub heard : Sent → ℕ → Heard
 heard sent faults = record { sent = sent; faults = faults }
 
--- Files were only read: they stay, a call that succeeds leaves all counts, and only counts of reading move.
+-- Files were only read: they stay, a call that succeeds
+-- leaves all counts, and only counts of reading move.
 pub record OnlyRead {T E : Type 0} (result : Result T E) (old new : Seen) : Type 0 where
   pub files : new.files ≡ old.files
   pub done : OnOk result (new.counts ≡ old.counts)

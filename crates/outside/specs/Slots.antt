@@ -1,9 +1,7 @@
 -- What a map of names holds, and the room that it has for each.
-use Rattle.std.specs.Prelude.{ℕ, List, Option, Some, None, option_map, if◌then◌else◌}
 use Rattle.std.specs.BTreeMap.{get_by_text}
-use Rattle.outside.specs.declared.memory.slots.Slot.{Slot}
-use Rattle.outside.specs.declared.memory.slots.Slots.{Slots}
-use Rattle.outside.specs.Files.{Contents}
+use Rattle.std.specs.Prelude.{if◌then◌else◌, List, None, Option, option_map, Some, ℕ}
+use Rattle.outside.specs.{Files.Contents, declared.memory.slots.{Slot.Slot, Slots.Slots}}
 
 -- the bytes of a slot, where a file is there
 abbrev pub content_of : Slot → Option (List ℕ)
@@ -14,6 +12,7 @@ abbrev pub content_in : Option Slot → Option (List ℕ)
 content_in None = None
 content_in (Some slot) = content_of slot
 
+-- the files that a map of names holds
 abbrev pub contents_in : Slots → Contents
 contents_in slots = λ name. content_in (get_by_text slots.by_name name)
 

@@ -1,33 +1,30 @@
--- How long a file of frames in the slots of a plan is: what is in front of the frames and behind them, and the lengths of the slots.
-use Rattle.std.proofs.Common.{◌≡◌, ℕ, ◌+◌, ◌-◌, ◌≤◌, List, [], ◌∷◌, ◌++◌, length, map, take, drop, Option, Some, None, refl, ◌∙◌, ap, arith, length-append, length-drop, ◌<◌, slice_get}
+-- How long a file of frames in the slots of a plan is: what is in
+-- front of the frames and behind them, and the lengths of the slots.
+use Rattle.std.proofs.Common.{ap, arith, drop, length, length-append, length-drop, List, map, None}
+use Rattle.std.proofs.Common.{Option, refl, slice_get, Some, take, ℕ, [], ◌++◌, ◌+◌, ◌-◌, ◌<◌, ◌∙◌}
+use Rattle.std.proofs.{Common.{◌∷◌, ◌≡◌, ◌≤◌}, lemmas.List.{length-take-le, Sums.sum_by-cons}}
 use Rattle.std.specs.List.{concat}
-use Rattle.std.proofs.lemmas.List.{length-take-le}
-use Rattle.std.proofs.lemmas.List.Sums.{sum_by-cons}
-use Rattle.frame_header.specs.Fields.{ClassFields}
-use Rattle.frame_header.specs.Tables.{class_of, length_of, window_of}
-use Rattle.info_header.specs.InfoFrame.{info_header_of, info_frame}
-use Rattle.info_header.specs.Over.{bytes_of}
-use Rattle.slot_plan.specs.declared.needs.Placed.{Placed}
-use Rattle.frame_writer.specs.Laid.{Piece, start_of, end_of, areas_end, zeros, CanBeLaidFrom, laid_from, laid}
-use Rattle.side_info.specs.Frame.{front_of}
-use Rattle.frame_writer.specs.Frames.{area_in, areas_in, framed, Frame, all_kept, pieces, frame_bytes}
+use Rattle.frame_header.specs.{Fields.ClassFields, Tables.{class_of, length_of, window_of}}
 use Rattle.frame_writer.proofs.LaidLaws.{length-zeros}
-use Rattle.laying.specs.LaidFiles.{AreEntries, laid_file}
-use Rattle.laying.proofs.EntryBytes.{shaped, length-entry}
-use Rattle.laying.proofs.InfoBytes.{length-info_frame}
-use Rattle.laying.proofs.LaidFrames.{areas-all}
-use Rattle.laying.specs.Surveys.{HasSurvey}
-use Rattle.laying.specs.Fits.{IsFitting}
-use Rattle.laying.specs.Written.{front_blocks, back_blocks, slot_in}
-use Rattle.laying.proofs.FittingFrames.{fitting-laid}
-use Rattle.sync_survey.specs.Row.{Row}
-use Rattle.sync_survey.specs.Faults.{SurveyFields}
-use Rattle.laying.specs.Laid.{Laid, part_laid, needs_laid, frames_laid, info_laid, file_from, file_laid}
-use Rattle.laying.proofs.LaidLaws.{part_is, laid-slots, sizes, first-header}
+use Rattle.frame_writer.specs.Frames.{all_kept, area_in, areas_in, Frame, frame_bytes, framed}
+use Rattle.frame_writer.specs.Frames.{pieces}
+use Rattle.frame_writer.specs.Laid.{areas_end, CanBeLaidFrom, end_of, laid, laid_from, Piece}
+use Rattle.frame_writer.specs.Laid.{start_of, zeros}
+use Rattle.info_header.specs.{InfoFrame.{info_frame, info_header_of}, Over.bytes_of}
+use Rattle.laying.proofs.{EntryBytes.{length-entry, shaped}, FittingFrames.fitting-laid}
+use Rattle.laying.proofs.{InfoBytes.length-info_frame, LaidFrames.areas-all}
+use Rattle.laying.{proofs.LaidLaws.{first-header, laid-slots, part_is, sizes}, specs.Fits.IsFitting}
+use Rattle.laying.specs.Laid.{file_from, file_laid, frames_laid, info_laid, Laid, needs_laid}
+use Rattle.laying.specs.{Laid.part_laid, LaidFiles.{AreEntries, laid_file}, Surveys.HasSurvey}
+use Rattle.laying.specs.Written.{back_blocks, front_blocks, slot_in}
+use Rattle.side_info.specs.Frame.{front_of}
+use Rattle.slot_plan.specs.declared.needs.Placed.{Placed}
+use Rattle.sync_survey.specs.{Faults.SurveyFields, Row.Row}
 
 -- ---- the bytes of all areas
 
-length-laid_from : (end start : ℕ) (ps : List Piece) → end ≤ start → CanBeLaidFrom end start ps → length (laid_from end start ps) + end ≡ areas_end start ps
+length-laid_from : (end start : ℕ) (ps : List Piece) → end ≤ start → CanBeLaidFrom end start ps
+    → length (laid_from end start ps) + end ≡ areas_end start ps
 length-laid_from end start [] within fits = omega (arith, length-zeros (start - end), within)
 length-laid_from end start (p ∷ ps) within fits =
     let gap = zeros (start_of start p - end) in
@@ -43,14 +40,17 @@ length-laid_from end start (p ∷ ps) within fits =
 
 -- ---- frames
 
-length-framed : (c : ClassFields) (fs : List Frame) (bytes : List ℕ) → AreEntries c fs → areas_in (all_kept fs) ≡ length bytes → length (framed (all_kept fs) bytes) ≡ bytes_of c slot_in fs
+length-framed : (c : ClassFields) (fs : List Frame) (bytes : List ℕ) → AreEntries c fs
+    → areas_in (all_kept fs) ≡ length bytes
+    → length (framed (all_kept fs) bytes) ≡ bytes_of c slot_in fs
 length-framed c [] bytes entries many = refl
 length-framed c (f ∷ fs) bytes entries many =
     let k = f.kept in
     let n = area_in k in
     let front = front_of k.header k.side in
     let more = framed (all_kept fs) (drop n bytes) in
-    let entry = length-entry k.header k.side (take n bytes) entries.0.header (shaped k.side entries.0.pairs) (length-take-le n bytes (omega (arith, many))) in
+    let entry = length-entry k.header k.side (take n bytes) entries.0.header
+    (shaped k.side entries.0.pairs) (length-take-le n bytes (omega (arith, many))) in
     omega (
       arith,
       entry,
@@ -62,14 +62,17 @@ length-framed c (f ∷ fs) bytes entries many =
       sum_by-cons (λ (g : Frame). length_of c (slot_in g)) f fs,
     )
 
-length-frames : (c : ClassFields) (fs : List Frame) → AreEntries c fs → CanBeLaidFrom 0 0 (pieces fs) → length (frame_bytes fs) ≡ bytes_of c slot_in fs
-length-frames c fs entries fit = length-framed c fs (laid (pieces fs)) entries (omega (arith, length-laid_from 0 0 (pieces fs) (omega arith) fit, areas-all 0 fs))
+length-frames : (c : ClassFields) (fs : List Frame) → AreEntries c fs
+    → CanBeLaidFrom 0 0 (pieces fs) → length (frame_bytes fs) ≡ bytes_of c slot_in fs
+length-frames c fs entries fit = length-framed c fs (laid (pieces fs)) entries
+    (omega (arith, length-laid_from 0 0 (pieces fs) (omega arith) fit, areas-all 0 fs))
 
 -- the lengths of the slots of a plan together
 abbrev pub size_of : ClassFields → List Placed → ℕ
 size_of c placed = bytes_of c (λ (p : Placed). p.slot) placed
 
-same-size : (c : ClassFields) (fs : List Frame) (placed : List Placed) → map slot_in fs ≡ map (λ (p : Placed). p.slot) placed → bytes_of c slot_in fs ≡ size_of c placed
+same-size : (c : ClassFields) (fs : List Frame) (placed : List Placed) → map slot_in fs
+    ≡ map (λ (p : Placed). p.slot) placed → bytes_of c slot_in fs ≡ size_of c placed
 same-size c [] [] same = refl
 same-size c (f ∷ fs) (p ∷ placed) same =
     let slot : slot_in f ≡ p.slot = cc in
@@ -89,16 +92,25 @@ same-size c _ _ same = absurd cc
 abbrev pub others_length : Row → List ℕ → SurveyFields → ℕ
 others_length first file s =
     let h = info_header_of first.header in
-    length (concat (front_blocks file s)) + (length_of (class_of h) h.slot + length (concat (back_blocks file s)))
+    length (concat (front_blocks file s))
+    + (length_of (class_of h) h.slot + length (concat (back_blocks file s)))
 
-module _ (l : Laid) (file : List ℕ) (s : SurveyFields) (is : HasSurvey file s) (some : l.from < l.to) (within : l.to ≤ length s.frames) (fitting : IsFitting (window_of s.class.version) (needs_laid l s) l.placed) (extension : length l.extension ≡ 36) where
+module _ (l : Laid) (file : List ℕ) (s : SurveyFields) (is : HasSurvey file s)
+    (some : l.from < l.to) (within : l.to ≤ length s.frames)
+    (fitting : IsFitting (window_of s.class.version) (needs_laid l s) l.placed)
+    (extension : length l.extension ≡ 36) where
+  -- the frames are as long as the slots of the plan
   pub length-laid : length (frame_bytes (frames_laid l file s)) ≡ size_of s.class l.placed
   length-laid =
       let part = part_is l file s is some within fitting in
       let are = fitting-laid s.class (part_laid l file s) l.placed part fitting in
-      length-frames s.class (frames_laid l file s) are.entries are.fit ∙ same-size s.class (frames_laid l file s) l.placed (laid-slots l file s is some within fitting)
+      length-frames s.class (frames_laid l file s) are.entries are.fit ∙ same-size s.class
+      (frames_laid l file s) l.placed (laid-slots l file s is some within fitting)
 
-  pub length-file : (first : Row) → slice_get s.frames l.from ≡ Some first → length (file_from (Some first) l file s) ≡ others_length first file s + size_of s.class l.placed
+  -- the file is as long as these and what is in front of the frames and behind them
+  pub length-file : (first : Row) → slice_get s.frames l.from ≡ Some first
+      → length (file_from (Some first) l file s)
+      ≡ others_length first file s + size_of s.class l.placed
   unfolding laid_file
   length-file first found =
       let front = concat (front_blocks file s) in
@@ -108,7 +120,8 @@ module _ (l : Laid) (file : List ℕ) (s : SurveyFields) (is : HasSurvey file s)
       omega (
         arith,
         length-laid,
-        length-info_frame first.header (info_laid l file s) (first-header l file s is some within fitting first found) (sizes l file s is some within fitting extension),
+        length-info_frame first.header (info_laid l file s) (first-header l file s is some within
+            fitting first found) (sizes l file s is some within fitting extension),
         length-append front (info ++ (frames ++ back)),
         length-append info (frames ++ back),
         length-append frames back,
@@ -116,15 +129,24 @@ module _ (l : Laid) (file : List ℕ) (s : SurveyFields) (is : HasSurvey file s)
 
 -- ---- by two plans
 
-module _ (l : Laid) (other : List Placed) (file : List ℕ) (s : SurveyFields) (is : HasSurvey file s) (some : l.from < l.to) (within : l.to ≤ length s.frames) (extension : length l.extension ≡ 36)
-    (fitting : IsFitting (window_of s.class.version) (needs_laid l s) l.placed) (fits : IsFitting (window_of s.class.version) (needs_laid l s) other) (least : size_of s.class l.placed ≤ size_of s.class other) where
+module _ (l : Laid) (other : List Placed) (file : List ℕ) (s : SurveyFields) (is : HasSurvey file s)
+    (some : l.from < l.to) (within : l.to ≤ length s.frames) (extension : length l.extension ≡ 36)
+    (fitting : IsFitting (window_of s.class.version) (needs_laid l s) l.placed)
+    (fits : IsFitting (window_of s.class.version) (needs_laid l s) other)
+    (least : size_of s.class l.placed ≤ size_of s.class other) where
   abbrev by_other : Laid
   by_other = record l { placed = other }
 
-  from-first : (o : Option Row) → slice_get s.frames l.from ≡ o → length (file_from o l file s) ≤ length (file_from o by_other file s)
+  from-first : (o : Option Row) → slice_get s.frames l.from ≡ o
+      → length (file_from o l file s) ≤ length (file_from o by_other file s)
   from-first None found = omega arith
   from-first (Some first) found =
-      omega (arith, least, length-file l file s is some within fitting extension first found, length-file by_other file s is some within fits extension first found)
+      omega (
+        arith,
+        least,
+        length-file l file s is some within fitting extension first found,
+        length-file by_other file s is some within fits extension first found,
+      )
 
   -- of the same frames the file of shorter slots is the shorter one
   pub no-longer : length (file_laid l file s) ≤ length (file_laid by_other file s)

@@ -1,48 +1,64 @@
 -- What the one body asks of a packing in each mode.
-use Rattle.std.proofs.Common.{◌≡◌, ℕ, ◌<◌, ◌≤◌, List, length, Ok, refl, subst, inr, arith, IfErr}
-use Rattle.frame_header.specs.Fields.{ClassFields}
-use Rattle.frame_header.specs.Tables.{window_of}
-use Rattle.outside.specs.Files.{Files, Holds}
-use Rattle.outside.specs.Seen.{Seen}
-use Rattle.slot_plan.specs.declared.needs.Need.{Need}
-use Rattle.slot_plan.specs.declared.needs.Placed.{Placed}
-use Rattle.laying.specs.NeedsFit.{IsPlaced, any_choice}
-use Rattle.sync_survey.specs.Faults.{SurveyFields}
-use Rattle.sync_survey.specs.Survey.{survey_of}
-use Rattle.commands.specs.declared.fault.EditFault.{EditFault}
-use Rattle.commands.specs.Left.{IsOfSurvey, IsOfInput, IsLate}
-use Rattle.commands.specs.One.{Task, most_frames, IsFileFault, IsInputFault, IsEarlyFault, IsOfInputs, IsMaking, IsProper}
-use Rattle.commands.proofs.InputLaws.{fault_is_input, of_survey_input, input_is_early, input_numbers}
-use Rattle.cut_edits.specs.Chosen.{Chosen, needs_of, first_plan, all_choice, laying_with, stream_with, laying_task}
-use Rattle.cut_edits.proofs.ChosenLaws.{IsPlanning, plan-fitting, plan-few, all_choosing, task_proper}
-use Rattle.requests.specs.declared.mode.PackMode.{PackMode}
-use Rattle.requests.specs.declared.mode.PackMode.TheVariants.{Least, Best, Constant, Floor}
-use Rattle.pack_edits.specs.Modes.{plan_by, refuses_by, most_best, allowed_by, pack_task}
-use Rattle.pack_edits.proofs.PlanLaws.{IsFittingFew, rates-late, chosen-fitting}
+use Rattle.std.proofs.Common.{arith, IfErr, inr, length, List, Ok, refl, subst, ℕ, ◌<◌, ◌≡◌, ◌≤◌}
+use Rattle.commands.proofs.InputLaws.{fault_is_input, input_is_early, input_numbers}
+use Rattle.commands.{proofs.InputLaws.of_survey_input, specs.Left.{IsLate, IsOfInput, IsOfSurvey}}
+use Rattle.commands.specs.One.{IsEarlyFault, IsFileFault, IsInputFault, IsMaking, IsOfInputs}
+use Rattle.commands.specs.{One.{IsProper, most_frames, Task}, declared.fault.EditFault.EditFault}
+use Rattle.cut_edits.proofs.ChosenLaws.{all_choosing, IsPlanning, plan-few, plan-fitting}
+use Rattle.cut_edits.proofs.ChosenLaws.{task_proper}
+use Rattle.cut_edits.specs.Chosen.{all_choice, Chosen, first_plan, laying_task, laying_with}
+use Rattle.cut_edits.specs.Chosen.{needs_of, stream_with}
+use Rattle.frame_header.specs.{Fields.ClassFields, Tables.window_of}
+use Rattle.laying.specs.NeedsFit.{any_choice, IsPlaced}
+use Rattle.outside.specs.{Files.{Files, Holds}, Seen.Seen}
 use Rattle.pack_edits.proofs.BestLaws.{best-fitting}
-use Rattle.pack_edits.proofs.LimitLaws.{limited-early, limited-numbers, limited-making, limited-proper, survey-early}
+use Rattle.pack_edits.proofs.LimitLaws.{limited-early, limited-making, limited-numbers}
+use Rattle.pack_edits.proofs.LimitLaws.{limited-proper, survey-early}
+use Rattle.pack_edits.proofs.PlanLaws.{chosen-fitting, IsFittingFew, rates-late}
+use Rattle.pack_edits.specs.Modes.{allowed_by, most_best, pack_task, plan_by, refuses_by}
+use Rattle.requests.specs.declared.mode.PackMode.{PackMode}
+use Rattle.requests.specs.declared.mode.PackMode.TheVariants.{Best, Constant, Floor, Least}
+use Rattle.slot_plan.specs.declared.needs.{Need.Need, Placed.Placed}
+use Rattle.sync_survey.specs.{Faults.SurveyFields, Survey.survey_of}
 
+-- no mode allows more frames than other commands
 pub allowed-most : (mode : PackMode) → allowed_by mode ≤ most_frames
 allowed-most Best = omega arith
 allowed-most _ = omega arith
 
 -- by the plan frames can be laid, with at most one lead-in
-module _ (chosen : Chosen) (s : SurveyFields) (placed : IsPlaced s) (some : chosen.from < chosen.to) (within : chosen.to ≤ length s.frames) where
-  least-fitting : IsFittingFew (window_of s.class.version) (needs_of chosen s) (first_plan any_choice s.class (needs_of chosen s))
-  least-fitting = record { fitting = plan-fitting chosen s placed some within any_choice (inr refl); few = plan-few chosen s placed some within any_choice (inr refl) }
+module _ (chosen : Chosen) (s : SurveyFields) (placed : IsPlaced s) (some : chosen.from < chosen.to)
+    (within : chosen.to ≤ length s.frames) where
+  least-fitting : IsFittingFew (window_of s.class.version) (needs_of chosen s)
+      (first_plan any_choice s.class (needs_of chosen s))
+  least-fitting = record {
+    fitting = plan-fitting chosen s placed some within any_choice (inr refl);
+    few = plan-few chosen s placed some within any_choice (inr refl);
+  }
 
-  pub mode-fitting : (mode : PackMode) (plan : List Placed) → plan_by mode s.class (needs_of chosen s) ≡ Ok plan → IsFittingFew (window_of s.class.version) (needs_of chosen s) plan
+  -- by the plan of a mode they can be laid, with at most one lead-in
+  pub mode-fitting : (mode : PackMode) (plan : List Placed)
+      → plan_by mode s.class (needs_of chosen s) ≡ Ok plan
+      → IsFittingFew (window_of s.class.version) (needs_of chosen s) plan
   mode-fitting Least plan planned =
       let same : first_plan any_choice s.class (needs_of chosen s) ≡ plan = cc in
       subst (IsFittingFew (window_of s.class.version) (needs_of chosen s)) same least-fitting
   mode-fitting Best plan planned = best-fitting chosen s placed some within plan planned
-  mode-fitting (Constant rate) plan planned = chosen-fitting chosen s placed some within (Constant rate) plan planned
-  mode-fitting (Floor rate) plan planned = chosen-fitting chosen s placed some within (Floor rate) plan planned
+  mode-fitting (Constant rate) plan planned =
+      chosen-fitting chosen s placed some within (Constant rate) plan planned
+  mode-fitting (Floor rate) plan planned =
+      chosen-fitting chosen s placed some within (Floor rate) plan planned
 
+-- the plans of each mode are late in their refusals, and can be laid
 pub planning : (mode : PackMode) → IsPlanning (plan_by mode)
-planning mode = record { late = late mode; fitting = λ chosen s well some within placed planned. (mode-fitting chosen s well some within mode placed planned).fitting }
+planning mode = record {
+  late = late mode;
+  fitting = λ chosen s well some within placed planned.
+      (mode-fitting chosen s well some within mode placed planned).fitting;
+}
   where
-    late : (mode : PackMode) (class : ClassFields) (needs : List Need) → IfErr (plan_by mode class needs) IsLate
+    late : (mode : PackMode) (class : ClassFields) (needs : List Need)
+        → IfErr (plan_by mode class needs) IsLate
     late (Constant rate) class needs = rates-late (Constant rate) class needs
     late (Floor rate) class needs = rates-late (Floor rate) class needs
     late _ class needs = tt
@@ -52,42 +68,68 @@ abbrev free_task : PackMode → List ℕ → Task
 free_task mode input = laying_task all_choice (plan_by mode) (refuses_by mode) input
 
 free_proper : (mode : PackMode) (input : List ℕ) → IsProper (free_task mode input)
-free_proper mode input = task_proper all_choice (plan_by mode) all_choosing (planning mode) (refuses_by mode) input
+free_proper mode input =
+    task_proper all_choice (plan_by mode) all_choosing (planning mode) (refuses_by mode) input
 
+-- the command is proper in each mode
 pub mode_proper : (mode : PackMode) (input : List ℕ) → IsProper (pack_task mode input)
 mode_proper Best input = limited-proper most_best (free_task Best input) (free_proper Best input)
 mode_proper mode input = free_proper mode input
 
--- a fault of the survey
-pub mode_survey : (mode : PackMode) (input : List ℕ) (old new : Seen) (fault : EditFault) → IsFileFault 0 (allowed_by mode) input old new fault → IsEarlyFault (pack_task mode input) old new fault
-mode_survey Best input old new fault is = survey-early most_best (laying_with all_choice (plan_by Best)) (stream_with all_choice (plan_by Best)) (refuses_by Best) input old new fault is
+-- a fault of the survey comes before the output is created
+pub mode_survey : (mode : PackMode) (input : List ℕ) (old new : Seen) (fault : EditFault)
+    → IsFileFault 0 (allowed_by mode) input old new fault
+    → IsEarlyFault (pack_task mode input) old new fault
+mode_survey Best input old new fault is = survey-early most_best (laying_with all_choice
+    (plan_by Best)) (stream_with all_choice (plan_by Best)) (refuses_by Best) input old new fault is
 mode_survey mode input old new fault is =
     let make = laying_with all_choice (plan_by mode) in
-    input_is_early make (stream_with all_choice (plan_by mode)) (refuses_by mode) input old new fault (fault_is_input make input old new fault is)
+    input_is_early make (stream_with all_choice (plan_by mode))
+    (refuses_by mode) input old new fault (fault_is_input make input old new fault is)
 
 -- the input has no fault where so many frames are allowed
 abbrev pub IsAllowed : PackMode → List ℕ → Files → Type 0
-IsAllowed mode input files = (file : List ℕ) → Holds files input file → (s : SurveyFields) × (survey_of file (allowed_by mode) ≡ Ok s)
+IsAllowed mode input files = (file : List ℕ) → Holds files input file
+    → (s : SurveyFields) × (survey_of file (allowed_by mode) ≡ Ok s)
 
-free_early : (mode : PackMode) (input : List ℕ) (old new : Seen) (fault : EditFault) → IsInputFault (laying_with all_choice (plan_by mode)) input old new fault → IsEarlyFault (free_task mode input) old new fault
-free_early mode input old new fault is = input_is_early (laying_with all_choice (plan_by mode)) (stream_with all_choice (plan_by mode)) (refuses_by mode) input old new fault is
+free_early : (mode : PackMode) (input : List ℕ) (old new : Seen) (fault : EditFault)
+    → IsInputFault (laying_with all_choice (plan_by mode)) input old new fault
+    → IsEarlyFault (free_task mode input) old new fault
+free_early mode input old new fault is = input_is_early (laying_with all_choice (plan_by mode))
+    (stream_with all_choice (plan_by mode)) (refuses_by mode) input old new fault is
 
 -- a fault that was met after the survey
-pub mode_early : (mode : PackMode) (input : List ℕ) (old new : Seen) (fault : EditFault) → IsAllowed mode input old.files → IsInputFault (laying_with all_choice (plan_by mode)) input old new fault → IsEarlyFault (pack_task mode input) old new fault
-mode_early Best input old new fault sound is = limited-early most_best (free_task Best input) old new fault sound (free_early Best input old new fault is)
+pub mode_early : (mode : PackMode) (input : List ℕ) (old new : Seen) (fault : EditFault)
+    → IsAllowed mode input old.files
+    → IsInputFault (laying_with all_choice (plan_by mode)) input old new fault
+    → IsEarlyFault (pack_task mode input) old new fault
+mode_early Best input old new fault sound is = limited-early most_best
+    (free_task Best input) old new fault sound (free_early Best input old new fault is)
 mode_early mode input old new fault sound is = free_early mode input old new fault is
 
-free_numbers : (mode : PackMode) (input : List ℕ) (fault : EditFault) → IsOfInput (refuses_by mode) fault → IsOfInputs (free_task mode input) fault
-free_numbers mode input fault is = input_numbers (laying_with all_choice (plan_by mode)) (stream_with all_choice (plan_by mode)) (refuses_by mode) input fault is
+free_numbers : (mode : PackMode) (input : List ℕ) (fault : EditFault)
+    → IsOfInput (refuses_by mode) fault → IsOfInputs (free_task mode input) fault
+free_numbers mode input fault is = input_numbers (laying_with all_choice (plan_by mode))
+    (stream_with all_choice (plan_by mode)) (refuses_by mode) input fault is
 
-pub mode_numbers : (mode : PackMode) (input : List ℕ) (fault : EditFault) → IsOfInput (refuses_by mode) fault → IsOfInputs (pack_task mode input) fault
-mode_numbers Best input fault is = limited-numbers most_best (free_task Best input) fault (free_numbers Best input fault is)
+-- a fault of the input has the numbers of the command's inputs
+pub mode_numbers : (mode : PackMode) (input : List ℕ) (fault : EditFault)
+    → IsOfInput (refuses_by mode) fault → IsOfInputs (pack_task mode input) fault
+mode_numbers Best input fault is =
+    limited-numbers most_best (free_task Best input) fault (free_numbers Best input fault is)
 mode_numbers mode input fault is = free_numbers mode input fault is
 
-pub mode_survey_numbers : (mode : PackMode) (input : List ℕ) (fault : EditFault) → IsOfSurvey 0 fault → IsOfInputs (pack_task mode input) fault
-mode_survey_numbers mode input fault is = mode_numbers mode input fault (of_survey_input (refuses_by mode) fault is)
+-- so has a fault of the survey
+pub mode_survey_numbers : (mode : PackMode) (input : List ℕ) (fault : EditFault)
+    → IsOfSurvey 0 fault → IsOfInputs (pack_task mode input) fault
+mode_survey_numbers mode input fault is =
+    mode_numbers mode input fault (of_survey_input (refuses_by mode) fault is)
 
--- what is written
-pub mode_makes : (mode : PackMode) (input : List ℕ) (made : List ℕ → List ℕ) (files : Files) → IsAllowed mode input files → IsMaking (laying_task all_choice (plan_by mode) (refuses_by mode) input) made files → IsMaking (pack_task mode input) made files
-mode_makes Best input made files sound is = limited-making most_best (free_task Best input) made files sound is
+-- what is written of a file with no more frames than allowed is what the command makes
+pub mode_makes : (mode : PackMode) (input : List ℕ) (made : List ℕ → List ℕ) (files : Files)
+    → IsAllowed mode input files
+    → IsMaking (laying_task all_choice (plan_by mode) (refuses_by mode) input) made files
+    → IsMaking (pack_task mode input) made files
+mode_makes Best input made files sound is =
+    limited-making most_best (free_task Best input) made files sound is
 mode_makes mode input made files sound is = is

@@ -1,42 +1,38 @@
 -- What `pack --best` writes, and what `pack` writes of the same input.
-use Rattle.std.proofs.Common.{◌≡◌, ℕ, ◌≤◌, List, [], ◌∷◌, length, Option, Some, None, Result, Ok, Err, refl, sym, ◌∙◌, ap, subst, OnOk}
-use Rattle.outside.specs.Files.{Contents, Files, Told, Untold, with_file, Holds, IfTold}
-use Rattle.outside.proofs.FilesLaws.{with_file_here}
-use Rattle.frame_header.specs.Tables.{window_of}
-use Rattle.outside.specs.Seen.{Seen}
-use Rattle.slot_plan.specs.declared.needs.Placed.{Placed}
+use Rattle.std.proofs.Common.{ap, Err, length, List, None, Ok, OnOk, Option, refl, Result, Some}
+use Rattle.std.proofs.Common.{subst, sym, ℕ, [], ◌∙◌, ◌∷◌, ◌≡◌, ◌≤◌}
 use Rattle.best_plan.specs.Best.{IsBestPlan}
-use Rattle.laying.specs.NeedsFit.{IsPlaced, any_choice}
-use Rattle.sync_survey.specs.declared.survey_fault.SurveyFault.{SurveyFault}
-use Rattle.sync_survey.specs.Faults.{SurveyFields}
-use Rattle.sync_survey.specs.Survey.{survey_of}
-use Rattle.sync_survey.proofs.PlacedRows.{surveyed-placed}
-use Rattle.sync_survey.proofs.SurveyedFiles.{survey_of-parts}
-use Rattle.laying.specs.Fits.{IsFitting}
-use Rattle.laying.proofs.ChosenFrames.{survey-had}
-use Rattle.commands.specs.declared.fault.EditFault.{EditFault}
-use Rattle.commands.specs.Command.{Made, clash_from, written}
-use Rattle.commands.specs.Left.{IsDone}
-use Rattle.commands.specs.Runs.{IsRunOf}
-use Rattle.commands.specs.One.{most_frames, made_by, made_file, made_where, unless_clash, made_result, made_of}
-use Rattle.laying.specs.Laid.{file_laid}
-use Rattle.cut_edits.specs.Chosen.{needs_of, first_plan, first_planning, laid_by, laying_with, all_choice}
-use Rattle.cut_edits.proofs.ChosenLaws.{IsRight, IsLaidBy, laid-parts, laying-is, all_right, all-whole}
-use Rattle.requests.specs.declared.mode.PackMode.{PackMode}
-use Rattle.requests.specs.declared.mode.PackMode.TheVariants.{Least, Best, Constant, Floor}
-use Rattle.pack_edits.specs.Modes.{best_planning, most_best, limited_by, pack_task, pack_mode_command}
-use Rattle.pack_edits.proofs.BestLaws.{best-is, best-fitting, plain-plan}
-use Rattle.pack_edits.proofs.ModeLaws.{mode-fitting}
-use Rattle.pack_edits.proofs.LimitLaws.{limited-made}
+use Rattle.commands.specs.{Command.{clash_from, Made, written}, Left.IsDone}
+use Rattle.commands.specs.One.{made_by, made_file, made_of, made_result, made_where, most_frames}
+use Rattle.commands.specs.{One.unless_clash, Runs.IsRunOf, declared.fault.EditFault.EditFault}
+use Rattle.cut_edits.proofs.ChosenLaws.{all-whole, all_right, IsLaidBy, IsRight, laid-parts}
+use Rattle.cut_edits.proofs.ChosenLaws.{laying-is}
+use Rattle.cut_edits.specs.Chosen.{all_choice, first_plan, first_planning, laid_by, laying_with}
+use Rattle.cut_edits.specs.Chosen.{needs_of}
+use Rattle.frame_header.specs.Tables.{window_of}
+use Rattle.laying.{proofs.ChosenFrames.survey-had, specs.{Fits.IsFitting, Laid.file_laid}}
+use Rattle.laying.specs.NeedsFit.{any_choice, IsPlaced}
+use Rattle.outside.proofs.FilesLaws.{with_file_here}
+use Rattle.outside.specs.Files.{Contents, Files, Holds, IfTold, Told, Untold, with_file}
+use Rattle.outside.specs.Seen.{Seen}
+use Rattle.pack_edits.proofs.{BestLaws.{best-fitting, best-is, plain-plan}, FileLengths.no-longer}
+use Rattle.pack_edits.proofs.{LimitLaws.limited-made, ModeLaws.mode-fitting}
 use Rattle.pack_edits.proofs.PlanLaws.{rows-same, rows-sound}
-use Rattle.pack_edits.specs.Fewest.{HasNoMore, IsFewest, WritesFewest}
-use Rattle.pack_edits.specs.Laws.{NeverLonger, FewestBytes}
-use Rattle.pack_edits.proofs.FileLengths.{no-longer}
 use Rattle.pack_edits.proofs.PlanLengths.{best-least, plan-no_more}
+use Rattle.pack_edits.specs.Fewest.{HasNoMore, IsFewest, WritesFewest}
+use Rattle.pack_edits.specs.Laws.{FewestBytes, NeverLonger}
+use Rattle.pack_edits.specs.Modes.{best_planning, limited_by, most_best, pack_mode_command}
+use Rattle.pack_edits.specs.Modes.{pack_task}
+use Rattle.requests.specs.declared.mode.PackMode.{PackMode, TheVariants.{Best, Constant, Least}}
+use Rattle.slot_plan.specs.declared.needs.Placed.{Placed}
+use Rattle.sync_survey.proofs.{PlacedRows.surveyed-placed, SurveyedFiles.survey_of-parts}
+use Rattle.sync_survey.specs.{Faults.SurveyFields, Survey.survey_of}
+use Rattle.sync_survey.specs.declared.survey_fault.SurveyFault.{SurveyFault}
 
 -- ---- what is written
 
--- no name clashes, the input is there without fault, all its frames are chosen, and these are the bytes of them in the slots of their best plan
+-- no name clashes, the input is there without fault, all its frames are
+-- chosen, and these are the bytes of them in the slots of their best plan
 record IsMadeOf (input output : List ℕ) (files : Contents) (made : List ℕ) : Type 0 where
   apart : clash_from (output ∷ []) 0 (input ∷ []) ≡ None
   file : List ℕ
@@ -46,46 +42,74 @@ record IsMadeOf (input output : List ℕ) (files : Contents) (made : List ℕ) :
   by : IsLaidBy all_choice best_planning file survey made
 
 module _ (input output : List ℕ) (files : Contents) (made : List ℕ) where
-  by-survey : clash_from (output ∷ []) 0 (input ∷ []) ≡ None → (file : List ℕ) → files input ≡ Some file → (r : Result SurveyFields SurveyFault) → survey_of file most_frames ≡ r → made_by (laying_with all_choice best_planning) file r ≡ Ok made → IsMadeOf input output files made
+  by-survey : clash_from (output ∷ []) 0 (input ∷ []) ≡ None → (file : List ℕ) → files input
+      ≡ Some file → (r : Result SurveyFields SurveyFault) → survey_of file most_frames ≡ r
+      → made_by (laying_with all_choice best_planning) file r ≡ Ok made
+      → IsMadeOf input output files made
   by-survey apart file there (Err fault) surveyed e = absurd cc
-  by-survey apart file there (Ok s) surveyed e = record { apart = apart; file = file; there = there; survey = s; surveyed = surveyed; by = laid-parts all_choice best_planning file s made e }
+  by-survey apart file there (Ok s) surveyed e = record {
+    apart = apart;
+    file = file;
+    there = there;
+    survey = s;
+    surveyed = surveyed;
+    by =
+        laid-parts all_choice best_planning file s made e;
+  }
 
-  by-there : clash_from (output ∷ []) 0 (input ∷ []) ≡ None → (o : Option (List ℕ)) → files input ≡ o → made_where (laying_with all_choice best_planning) o ≡ Ok made → IsMadeOf input output files made
+  by-there : clash_from (output ∷ []) 0 (input ∷ []) ≡ None → (o : Option (List ℕ))
+      → files input ≡ o → made_where (laying_with all_choice best_planning) o ≡ Ok made
+      → IsMadeOf input output files made
   unfolding made_file
   by-there apart None there e = absurd cc
-  by-there apart (Some file) there e = by-survey apart file there (survey_of file most_frames) refl e
+  by-there apart (Some file) there e =
+      by-survey apart file there (survey_of file most_frames) refl e
 
-  by-clash : (o : Option ℕ) → clash_from (output ∷ []) 0 (input ∷ []) ≡ o → unless_clash o (limited_by (Some most_best) (files input) (made_where (laying_with all_choice best_planning) (files input))) ≡ Ok made → IsMadeOf input output files made
+  by-clash : (o : Option ℕ) → clash_from (output ∷ []) 0 (input ∷ []) ≡ o
+      → unless_clash o (limited_by (Some most_best) (files input)
+      (made_where (laying_with all_choice best_planning) (files input))) ≡ Ok made
+      → IsMadeOf input output files made
   by-clash (Some place) apart e = absurd cc
-  by-clash None apart e = by-there apart (files input) refl (limited-made most_best (files input) (made_where (laying_with all_choice best_planning) (files input)) made e)
+  by-clash None apart e = by-there apart (files input) refl (limited-made most_best (files input)
+      (made_where (laying_with all_choice best_planning) (files input)) made e)
 
-  made-of : made_result (pack_task Best input) output files ≡ Ok made → IsMadeOf input output files made
+  made-of : made_result (pack_task Best input) output files ≡ Ok made
+      → IsMadeOf input output files made
   unfolding made_result
   made-of e = by-clash (clash_from (output ∷ []) 0 (input ∷ [])) refl e
 
 -- ---- its length
 
-module _ (input output : List ℕ) (files : Contents) (best : List ℕ) (m : IsMadeOf input output files best) where
+module _ (input output : List ℕ) (files : Contents) (best : List ℕ)
+    (m : IsMadeOf input output files best) where
   right : IsRight m.by.chosen m.survey
   right = all_right m.file m.survey m.by.chosen m.by.chose
 
   well : IsPlaced m.survey
-  well = surveyed-placed m.file most_frames m.survey (survey_of-parts m.file most_frames m.survey m.surveyed).1
+  well = surveyed-placed m.file most_frames
+      m.survey (survey_of-parts m.file most_frames m.survey m.surveyed).1
 
   abbrev window : ℕ
   window = window_of m.survey.class.version
 
   fitting : IsFitting window (needs_of m.by.chosen m.survey) m.by.placed
-  fitting = (best-fitting m.by.chosen m.survey well right.some right.within m.by.placed m.by.planned).fitting
+  fitting = (best-fitting m.by.chosen m.survey well
+      right.some right.within m.by.placed m.by.planned).fitting
 
   best_plan : IsBestPlan window any_choice (needs_of m.by.chosen m.survey) m.by.placed
   best_plan = best-is m.by.chosen m.survey well right.some right.within m.by.placed m.by.planned
 
-  by-other : (other : List Placed) → IsFitting window (needs_of m.by.chosen m.survey) other → HasNoMore m.by.placed other → length best ≤ length (file_laid (laid_by m.by.chosen other) m.file m.survey)
+  by-other : (other : List Placed) → IsFitting window (needs_of m.by.chosen m.survey) other
+      → HasNoMore m.by.placed other
+      → length best ≤ length (file_laid (laid_by m.by.chosen other) m.file m.survey)
   by-other other fits more =
-      subst (λ (l : List ℕ). length l ≤ length (file_laid (laid_by m.by.chosen other) m.file m.survey)) m.by.is
-      (no-longer (laid_by m.by.chosen m.by.placed) other m.file m.survey (survey-had m.file most_frames m.survey m.surveyed) right.some right.within right.extension fitting fits
-      (best-least window m.survey.class (needs_of m.by.chosen m.survey) (rows-sound m.by.chosen m.survey well right.some right.within) (rows-same m.by.chosen m.survey well right.some right.within) m.by.placed other best_plan fitting.slots fits more))
+      subst (λ (l : List ℕ). length l
+      ≤ length (file_laid (laid_by m.by.chosen other) m.file m.survey)) m.by.is
+      (no-longer (laid_by m.by.chosen m.by.placed) other m.file m.survey (survey-had m.file
+      most_frames m.survey m.surveyed) right.some right.within right.extension fitting fits
+      (best-least window m.survey.class (needs_of m.by.chosen m.survey)
+      (rows-sound m.by.chosen m.survey well right.some right.within) (rows-same m.by.chosen m.survey
+      well right.some right.within) m.by.placed other best_plan fitting.slots fits more))
 
   fewest-is : IsFewest m.file best
   fewest-is =
@@ -106,27 +130,36 @@ module _ (input output : List ℕ) (files : Contents) (best : List ℕ) (m : IsM
   abbrev plain : List Placed
   plain = first_plan any_choice m.survey.class (needs_of m.by.chosen m.survey)
 
-  plain_made : made_result (pack_task Least input) output files ≡ Ok (file_laid (laid_by m.by.chosen plain) m.file m.survey)
+  plain_made : made_result (pack_task Least input) output files
+      ≡ Ok (file_laid (laid_by m.by.chosen plain) m.file m.survey)
   unfolding made_result made_file
   plain_made =
       let make = laying_with all_choice (first_planning any_choice) in
       ap (λ o. unless_clash o (made_where make (files input))) m.apart
       ∙ ap (made_where make) m.there
       ∙ ap (made_by make m.file) m.surveyed
-      ∙ laying-is all_choice (first_planning any_choice) m.file m.survey m.by.chosen (Ok plain) m.by.chose refl
+      ∙ laying-is all_choice
+      (first_planning any_choice) m.file m.survey m.by.chosen (Ok plain) m.by.chose refl
 
   plain-longer : length best ≤ length (file_laid (laid_by m.by.chosen plain) m.file m.survey)
   plain-longer =
-      by-other plain (mode-fitting m.by.chosen m.survey well right.some right.within Least plain refl).fitting
-      (plan-no_more window m.by.placed plain (needs_of m.by.chosen m.survey) best_plan (plain-plan m.by.chosen m.survey well right.some right.within))
+      by-other plain
+      (mode-fitting m.by.chosen m.survey well right.some right.within Least plain refl).fitting
+      (plan-no_more window m.by.placed plain (needs_of m.by.chosen m.survey) best_plan
+      (plain-plan m.by.chosen m.survey well right.some right.within))
 
 -- ---- the laws
 
+-- what `pack` writes is never shorter than what `pack --best` writes
 pub longer-never : NeverLonger
 longer-never = λ input output files best e.
-    let m = made-of input output files best e in
-    (file_laid (laid_by m.by.chosen (plain input output files best m)) m.file m.survey, plain_made input output files best m, plain-longer input output files best m)
+    let m = made-of input output files best e in (
+      file_laid (laid_by m.by.chosen (plain input output files best m)) m.file m.survey,
+      plain_made input output files best m,
+      plain-longer input output files best m,
+    )
 
+-- no plan by which the frames can be laid makes a shorter file than `pack --best`
 pub bytes-fewest : FewestBytes
 bytes-fewest = λ input output files best e.
     let m = made-of input output files best e in
@@ -135,29 +168,44 @@ bytes-fewest = λ input output files best e.
 -- ---- what is written
 
 -- the one output holds what is made
-one-held : (output made : List ℕ) (f : Contents) (r : Result (List ℕ) EditFault) (all : Made) (new : Files) → made_of output r ≡ Ok all → new ≡ Told (written all.outputs f) → Holds new output made → r ≡ Ok made
+one-held : (output made : List ℕ) (f : Contents) (r : Result (List ℕ) EditFault) (all : Made)
+    (new : Files) → made_of output r ≡ Ok all → new ≡ Told (written all.outputs f)
+    → Holds new output made → r ≡ Ok made
 one-held output made f (Err fault) all new e told holds = absurd cc
 one-held output made f (Ok bytes) all new e told holds =
-    let same : record { outputs = record { name = output; bytes = bytes } ∷ []; text = [] } ≡ all = cc in
-    let now : Holds (Told (with_file f output bytes)) output made = subst (λ (m : Made). Holds (Told (written m.outputs f)) output made) (sym same) (subst (λ (n : Files). Holds n output made) told holds) in
+    let same : record { outputs = record { name = output; bytes = bytes } ∷ []; text = [] } ≡ all =
+    cc in
+    let now : Holds (Told (with_file f output bytes)) output made =
+    subst (λ (m : Made). Holds (Told (written m.outputs f)) output made) (sym same)
+    (subst (λ (n : Files). Holds n output made) told holds) in
     let is : Some bytes ≡ Some made = sym (with_file_here f output bytes) ∙ now in
     cc
 
 written-fewest : (input output file made : List ℕ) (old new : Files)
-    → IfTold old (λ f. (all : Made) × ((pack_mode_command Best input output).makes f ≡ Ok all) × (new ≡ Told (written all.outputs f))) → Holds old input file → Holds new output made → IsFewest file made
+    → IfTold old (λ f. (all : Made) × ((pack_mode_command Best input output).makes f ≡ Ok all)
+    × (new ≡ Told (written all.outputs f))) → Holds old input file → Holds new output made
+    → IsFewest file made
 written-fewest input output file made (Untold touched) new done there holds = absurd there
 written-fewest input output file made (Told f) new done there holds =
-    let is = one-held output made f (made_result (pack_task Best input) output f) done.0 new done.1 done.2 holds in
+    let is = one-held output made f
+    (made_result (pack_task Best input) output f) done.0 new done.1 done.2 holds in
     let least = bytes-fewest input output f made is in
     let same : least.0 ≡ file = let both : Some least.0 ≡ Some file = sym least.1 ∙ there in cc in
     subst (λ (l : List ℕ). IsFewest l made) same least.2
 
-pub done-fewest : (mode : PackMode) (input output : List ℕ) (old new : Seen) → IsDone (pack_mode_command mode input output) old new → WritesFewest mode input output old.files new.files
-done-fewest Best input output old new done = λ file made there holds. written-fewest input output file made old.files new.files done.made there holds
+-- so what it wrote has the fewest bytes
+pub done-fewest : (mode : PackMode) (input output : List ℕ) (old new : Seen)
+    → IsDone (pack_mode_command mode input output) old new
+    → WritesFewest mode input output old.files new.files
+done-fewest Best input output old new done = λ file made there holds. written-fewest input output
+    file made old.files new.files done.made there holds
 done-fewest (Constant rate) input output old new done = tt
 done-fewest _ input output old new done = tt
 
 -- what a run with this answer left
-pub run-fewest : (mode : PackMode) (input output : List ℕ) (old new : Seen) (answer : Result (Unit {0}) EditFault) → IsRunOf (pack_mode_command mode input output) old new answer → OnOk answer (WritesFewest mode input output old.files new.files)
+pub run-fewest : (mode : PackMode) (input output : List ℕ) (old new : Seen)
+    (answer : Result (Unit {0}) EditFault)
+    → IsRunOf (pack_mode_command mode input output) old new answer
+    → OnOk answer (WritesFewest mode input output old.files new.files)
 run-fewest mode input output old new (Ok none) run = done-fewest mode input output old new run.done
 run-fewest mode input output old new (Err fault) run = tt

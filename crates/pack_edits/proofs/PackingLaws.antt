@@ -1,37 +1,50 @@
--- Faults that are met before the output is created: of the frames that were chosen, and of their plan.
-use Rattle.std.proofs.Common.{◌≡◌, ℕ, List, Bool, Ok, Err, subst}
-use Rattle.frame_header.specs.Fields.{ClassFields}
-use Rattle.outside.specs.Files.{Holds, IsThere}
-use Rattle.outside.specs.Seen.{Seen}
-use Rattle.slot_plan.specs.declared.needs.Need.{Need}
-use Rattle.sync_survey.specs.Faults.{SurveyFields}
-use Rattle.sync_survey.specs.Survey.{survey_of}
-use Rattle.commands.specs.declared.fault.EditFault.{EditFault}
+-- Faults that are met before the output is created:
+-- of the frames that were chosen, and of their plan.
+use Rattle.std.proofs.Common.{Bool, Err, List, Ok, subst, ℕ, ◌≡◌}
+use Rattle.commands.{proofs.InputLaws.{memory_is_input, refused_is_input}, specs.Left.IsOfInput}
+use Rattle.commands.specs.One.{IsInputFault, Making, most_frames}
+use Rattle.commands.specs.declared.fault.EditFault.{EditFault, TheVariants.{Memory, Refused}}
 use Rattle.commands.specs.declared.fault.Refusal.{Refusal}
-use Rattle.commands.specs.declared.fault.EditFault.TheVariants.{Refused, Memory}
-use Rattle.commands.specs.Left.{IsOfInput}
-use Rattle.commands.specs.One.{Making, most_frames, IsInputFault}
-use Rattle.commands.proofs.InputLaws.{refused_is_input, memory_is_input}
-use Rattle.cut_edits.specs.Chosen.{Chosen, Planning, needs_of, laying_with, all_choice}
 use Rattle.cut_edits.proofs.ChosenLaws.{laying-is}
+use Rattle.cut_edits.specs.Chosen.{all_choice, Chosen, laying_with, needs_of, Planning}
+use Rattle.frame_header.specs.Fields.{ClassFields}
+use Rattle.outside.specs.{Files.{Holds, IsThere}, Seen.Seen}
 use Rattle.pack_edits.specs.Answers.{IsPlanFault}
+use Rattle.slot_plan.specs.declared.needs.Need.{Need}
+use Rattle.sync_survey.specs.{Faults.SurveyFields, Survey.survey_of}
 
 -- a fault that was met in a state equal to the old one
-pub input_moved : (make : Making) (name : List ℕ) (before old new : Seen) (fault : EditFault) → before ≡ old → IsInputFault make name before new fault → IsInputFault make name old new fault
-input_moved make name before old new fault same is = subst (λ o. IsInputFault make name o new fault) same is
+pub input_moved : (make : Making) (name : List ℕ) (before old new : Seen) (fault : EditFault)
+    → before ≡ old → IsInputFault make name before new fault → IsInputFault make name old new fault
+input_moved make name before old new fault same is =
+    subst (λ o. IsInputFault make name o new fault) same is
 
 -- the input was surveyed, its frames were chosen, and there is no plan of them
-module _ (plan : Planning) (refuses : Refusal → Bool) (name : List ℕ) (old new : Seen) (s : SurveyFields) (chosen : Chosen) (there : IsThere old.files name) (surveyed : (bytes : List ℕ) → Holds old.files name bytes → survey_of bytes most_frames ≡ Ok s)
-    (chose : (bytes : List ℕ) → Holds old.files name bytes → all_choice bytes s ≡ Ok chosen) (stays : new ≡ old) where
-  unplanned : (file : List ℕ) (fault : EditFault) → all_choice file s ≡ Ok chosen → plan s.class (needs_of chosen s) ≡ Err fault → laying_with all_choice plan file s ≡ Err fault
+module _ (plan : Planning) (refuses : Refusal → Bool) (name : List ℕ) (old new : Seen)
+    (s : SurveyFields) (chosen : Chosen) (there : IsThere old.files name)
+    (surveyed : (bytes : List ℕ) → Holds old.files name bytes → survey_of bytes most_frames ≡ Ok s)
+    (chose : (bytes : List ℕ) → Holds old.files name bytes → all_choice bytes s ≡ Ok chosen)
+    (stays : new ≡ old) where
+  unplanned : (file : List ℕ) (fault : EditFault) → all_choice file s ≡ Ok chosen
+      → plan s.class (needs_of chosen s) ≡ Err fault
+      → laying_with all_choice plan file s ≡ Err fault
   unplanned file fault is none = laying-is all_choice plan file s chosen (Err fault) is none
 
-  pub plan_is_input : (fault : EditFault) → IsPlanFault plan refuses s.class (needs_of chosen s) fault → IsInputFault (laying_with all_choice plan) name old new fault
-  plan_is_input (Refused refusal) is = refused_is_input (laying_with all_choice plan) name old new s refuses (Refused refusal) is.1 there surveyed (λ bytes holds. unplanned bytes (Refused refusal) (chose bytes holds) is.0) stays
-  plan_is_input Memory is = memory_is_input (laying_with all_choice plan) name old new s there surveyed stays
+  -- a fault of the plan is one of the input
+  pub plan_is_input : (fault : EditFault)
+      → IsPlanFault plan refuses s.class (needs_of chosen s) fault
+      → IsInputFault (laying_with all_choice plan) name old new fault
+  plan_is_input (Refused refusal) is = refused_is_input (laying_with all_choice plan) name old new s
+      refuses (Refused refusal) is.1 there surveyed
+      (λ bytes holds. unplanned bytes (Refused refusal) (chose bytes holds) is.0) stays
+  plan_is_input Memory is =
+      memory_is_input (laying_with all_choice plan) name old new s there surveyed stays
   plan_is_input _ is = absurd is
 
-pub plan_numbers : (plan : Planning) (refuses : Refusal → Bool) (class : ClassFields) (needs : List Need) (fault : EditFault) → IsPlanFault plan refuses class needs fault → IsOfInput refuses fault
+-- a fault of the plan has the numbers of the input
+pub plan_numbers : (plan : Planning) (refuses : Refusal → Bool) (class : ClassFields)
+    (needs : List Need) (fault : EditFault) → IsPlanFault plan refuses class needs fault
+    → IsOfInput refuses fault
 plan_numbers plan refuses class needs (Refused refusal) is = is.1
 plan_numbers plan refuses class needs Memory is = tt
 plan_numbers plan refuses class needs _ is = absurd is

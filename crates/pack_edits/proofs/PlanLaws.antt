@@ -1,51 +1,49 @@
--- The plan with the slots of some bit rates: it can be laid, and with all bit rates from one on there is always one.
-use Rattle.std.proofs.Common.{◌≡◌, ℕ, zero, suc, ◌+◌, ◌-◌, get_or, append-nil, ◌<◌, ◌≤◌, Bool, true, false, List, [], ◌∷◌, length, map, drop, All, Contains, None, Result, Ok, Err, refl, sym, ◌∙◌, ap, subst, arith, length-drop, IfErr, MatchResult}
-use Rattle.std.proofs.lemmas.List.{length-map, length-take}
-use Rattle.frame_header.specs.Fields.{SlotFields, ClassFields, IsSlot, IsClass}
-use Rattle.frame_header.specs.Tables.{window_of}
-use Rattle.frame_header.specs.Slots.{largest_slot}
-use Rattle.frame_header.proofs.HeaderLaws.{IsClass-class_of}
-use Rattle.slot_plan.specs.declared.needs.Need.{Need}
-use Rattle.slot_plan.specs.declared.needs.Placed.{Placed}
-use Rattle.slot_plan.specs.Layouts.{IsFeasible, begins_of}
-use Rattle.slot_plan.specs.Lists.{frames_of}
-use Rattle.slot_plan.specs.Parts.{Item, item_of, open_of, AreOfClass, window_in}
-use Rattle.slot_plan.specs.Plans.{AreFor, areas_in, entries}
-use Rattle.slot_plan.specs.declared.needs.Plan.{Plan}
-use Rattle.laying.specs.Needs.{Asked, need_of, asked_of, needs_of as needs_of_parts}
-use Rattle.laying.specs.NeedsFit.{IsPlaced}
-use Rattle.laying.proofs.NeedsFitLaws.{AreKnown, part-fits, part-known}
-use Rattle.rate_plan.specs.Menus.{from_menu, items_from, AreAscending, IsMenu, IsMenuPlan}
-use Rattle.rate_plan.specs.declared.fault.RateFault.{RateFault}
-use Rattle.rate_plan.specs.declared.fault.RateFault.TheVariants.{Unfit, Memory as NoMemory}
-use Rattle.rate_plan.specs.LeastMenuPlan.{least_menu_plan, IsMenuFault}
-use Rattle.rate_plan.proofs.LeastMenuPlan.{least_menu_plan-is}
-use Rattle.rate_plan.proofs.LargestLaw.{largest-fits}
-use Rattle.laying.specs.Fits.{IsFitting}
-use Rattle.laying.proofs.FitLaws.{Asks, items-fit, asks-each, AreOpen, open-in_slots}
-use Rattle.sync_survey.specs.Row.{Row}
-use Rattle.sync_survey.specs.Faults.{SurveyFields}
+-- The plan with the slots of some bit rates: it can be laid,
+-- and with all bit rates from one on there is always one.
+use Rattle.std.proofs.Common.{All, ap, append-nil, arith, Bool, Contains, drop, Err, false, get_or}
+use Rattle.std.proofs.Common.{IfErr, length, length-drop, List, map, MatchResult, None, Ok, refl}
+use Rattle.std.proofs.Common.{Result, subst, suc, sym, true, zero, ℕ, [], ◌+◌, ◌-◌, ◌<◌, ◌∙◌, ◌∷◌}
+use Rattle.std.proofs.{Common.{◌≡◌, ◌≤◌}, lemmas.List.{length-map, length-take}}
+use Rattle.commands.proofs.RefusingLaws.{then_late, then_ok, unless_late, unless_ok}
+use Rattle.commands.specs.{Left.IsLate, Refusing.{then_made, unless}}
 use Rattle.commands.specs.declared.fault.EditFault.{EditFault}
-use Rattle.commands.specs.Left.{IsLate}
-use Rattle.commands.specs.Refusing.{unless, then_made}
-use Rattle.commands.proofs.RefusingLaws.{unless_late, unless_ok, then_late, then_ok}
 use Rattle.cut_edits.specs.Chosen.{Chosen, chosen_rows, needs_of}
+use Rattle.frame_header.proofs.HeaderLaws.{IsClass-class_of}
+use Rattle.frame_header.specs.Fields.{ClassFields, IsClass, IsSlot, SlotFields}
+use Rattle.frame_header.specs.{Slots.largest_slot, Tables.window_of}
+use Rattle.laying.proofs.FitLaws.{AreOpen, Asks, asks-each, items-fit, open-in_slots}
+use Rattle.laying.{proofs.NeedsFitLaws.{AreKnown, part-fits, part-known}, specs.Fits.IsFitting}
+use Rattle.laying.specs.Needs.{Asked, asked_of, need_of, needs_of as needs_of_parts}
+use Rattle.laying.specs.NeedsFit.{IsPlaced}
+use Rattle.pack_edits.proofs.MenuLaws.{floor-largest, menu-ascends, menu-slots, menu-some}
+use Rattle.pack_edits.specs.{Answers.IsPlanFault, Modes.{plan_by, refuses_by}}
+use Rattle.pack_edits.specs.Rates.{fitted, menu_in, no_rate, of_rate, rates_plan}
+use Rattle.rate_plan.proofs.{LargestLaw.largest-fits, LeastMenuPlan.least_menu_plan-is}
+use Rattle.rate_plan.specs.LeastMenuPlan.{IsMenuFault, least_menu_plan}
+use Rattle.rate_plan.specs.Menus.{AreAscending, from_menu, IsMenu, IsMenuPlan, items_from}
+use Rattle.rate_plan.specs.declared.fault.RateFault.{RateFault}
+use Rattle.rate_plan.specs.declared.fault.RateFault.TheVariants.{Memory as NoMemory, Unfit}
 use Rattle.requests.specs.declared.mode.PackMode.{PackMode}
-use Rattle.requests.specs.declared.mode.PackMode.TheVariants.{Least, Best, Constant, Floor}
-use Rattle.pack_edits.specs.Answers.{IsPlanFault}
-use Rattle.pack_edits.specs.Rates.{menu_in, no_rate, fitted, rates_plan, of_rate}
-use Rattle.pack_edits.specs.Modes.{plan_by, refuses_by}
-use Rattle.pack_edits.proofs.MenuLaws.{menu-ascends, menu-slots, menu-some, floor-largest}
+use Rattle.requests.specs.declared.mode.PackMode.TheVariants.{Best, Constant, Floor, Least}
+use Rattle.slot_plan.specs.{Layouts.{begins_of, IsFeasible}, Lists.frames_of}
+use Rattle.slot_plan.specs.Parts.{AreOfClass, Item, item_of, open_of, window_in}
+use Rattle.slot_plan.specs.{Plans.{areas_in, AreFor, entries}, declared.needs.Need.Need}
+use Rattle.slot_plan.specs.declared.needs.{Placed.Placed, Plan.Plan}
+use Rattle.sync_survey.specs.{Faults.SurveyFields, Row.Row}
 
 -- ---- from a menu
 
-pub asks-from : (lead_in : Bool) (menu : List SlotFields) (needs : List Need) → Asks (items_from lead_in menu needs) needs
+-- behind a lead-in from the menu or none the places are asked for the frames
+pub asks-from : (lead_in : Bool) (menu : List SlotFields) (needs : List Need)
+    → Asks (items_from lead_in menu needs) needs
 unfolding items_from
 asks-from false menu needs = asks-each (from_menu menu) needs
 asks-from true menu [] = tt
-asks-from true menu (first ∷ needs) = ((refl, refl, refl), asks-each (from_menu menu) (first ∷ needs))
+asks-from true menu (first ∷ needs) =
+    ((refl, refl, refl), asks-each (from_menu menu) (first ∷ needs))
 
-module _ (menu : List SlotFields) (slots : (slot : SlotFields) → Contains menu slot → IsSlot slot) where
+module _ (menu : List SlotFields)
+    (slots : (slot : SlotFields) → Contains menu slot → IsSlot slot) where
   open-needs : (needs : List Need) → AreOpen (map (item_of (from_menu menu)) needs)
   open-needs [] = tt
   open-needs (need ∷ needs) = (slots, open-needs needs)
@@ -56,13 +54,15 @@ module _ (menu : List SlotFields) (slots : (slot : SlotFields) → Contains menu
   open-from true [] = tt
   open-from true (first ∷ needs) = (slots, open-needs (first ∷ needs))
 
-from-length : (lead_in : Bool) (menu : List SlotFields) (needs : List Need) → length (items_from lead_in menu needs) ≤ length needs + 1
+from-length : (lead_in : Bool) (menu : List SlotFields) (needs : List Need)
+    → length (items_from lead_in menu needs) ≤ length needs + 1
 unfolding items_from
 from-length false menu needs = omega (arith, length-map needs (item_of (from_menu menu)))
 from-length true menu [] = omega arith
 from-length true menu (first ∷ needs) = omega (arith, length-map needs (item_of (from_menu menu)))
 
-for-length : (items : List Item) (placed : List Placed) → AreFor items placed → length placed ≡ length items
+for-length : (items : List Item) (placed : List Placed) → AreFor items placed
+    → length placed ≡ length items
 unfolding AreFor
 for-length [] [] for_items = refl
 for-length (item ∷ items) (p ∷ placed) for_items = ap suc (for-length items placed for_items.2)
@@ -74,26 +74,40 @@ pub record IsFittingFew (window : ℕ) (needs : List Need) (placed : List Placed
   pub few : length placed ≤ length needs + 1
 
 -- these items ask for these frames, and were laid as early as they may be
-pub items-fitting : (window : ℕ) (lead_in : Bool) (menu : List SlotFields) (needs : List Need) (items : List Item) → items_from lead_in menu needs ≡ items → ((slot : SlotFields) → Contains menu slot → IsSlot slot)
-    → (placed : List Placed) → AreFor items placed → IsFeasible window 0 (frames_of (map open_of items) (areas_in items placed)) → map (λ (p : Placed). p.begin) placed ≡ begins_of window 0 0 (frames_of (map open_of items) (areas_in items placed)) → IsFittingFew window needs placed
+pub items-fitting : (window : ℕ) (lead_in : Bool) (menu : List SlotFields) (needs : List Need)
+    (items : List Item) → items_from lead_in menu needs ≡ items
+    → ((slot : SlotFields) → Contains menu slot → IsSlot slot) → (placed : List Placed)
+    → AreFor items placed
+    → IsFeasible window 0 (frames_of (map open_of items) (areas_in items placed))
+    → map (λ (p : Placed). p.begin) placed
+    ≡ begins_of window 0 0 (frames_of (map open_of items) (areas_in items placed))
+    → IsFittingFew window needs placed
 items-fitting window lead_in menu needs items same slots placed for_items feasible begins =
-    let most = subst (λ (l : List Item). length l ≤ length needs + 1) same (from-length lead_in menu needs) in
+    let most =
+    subst (λ (l : List Item). length l ≤ length needs + 1) same (from-length lead_in menu needs) in
     record {
       fitting = record {
-        fits = items-fit window items needs placed (subst (λ l. Asks l needs) same (asks-from lead_in menu needs)) for_items feasible begins;
-        slots = open-in_slots items placed (subst AreOpen same (open-from menu slots lead_in needs)) for_items;
+        fits = items-fit window items needs placed (subst (λ l. Asks l needs) same
+            (asks-from lead_in menu needs)) for_items feasible begins;
+        slots = open-in_slots items placed
+            (subst AreOpen same (open-from menu slots lead_in needs)) for_items;
       };
       few = omega (arith, for-length items placed for_items, most);
     }
 
-menu-fitting : (window : ℕ) (menu : List SlotFields) (needs : List Need) (placed : List Placed) → ((slot : SlotFields) → Contains menu slot → IsSlot slot) → IsMenuPlan window menu needs placed → IsFittingFew window needs placed
+menu-fitting : (window : ℕ) (menu : List SlotFields) (needs : List Need) (placed : List Placed)
+    → ((slot : SlotFields) → Contains menu slot → IsSlot slot) → IsMenuPlan window menu needs placed
+    → IsFittingFew window needs placed
 menu-fitting window menu needs placed slots is =
     let whole = is.whole in
-    items-fitting window is.lead_in menu needs (items_from is.lead_in menu needs) refl slots placed whole.slots whole.least.feasible whole.begins
+    items-fitting window is.lead_in menu needs (items_from is.lead_in menu needs) refl slots placed
+    whole.slots whole.least.feasible whole.begins
 
 -- ---- with the slots of some bit rates
 
-pub fitted-ok : (r : Result (List Placed) ℕ) (placed : List Placed) → fitted r ≡ Ok placed → r ≡ Ok placed
+-- a plan that isn't refused is the one that was found
+pub fitted-ok : (r : Result (List Placed) ℕ) (placed : List Placed) → fitted r ≡ Ok placed
+    → r ≡ Ok placed
 fitted-ok (Ok first) placed is = cc
 fitted-ok (Err i) placed is = absurd cc
 
@@ -101,32 +115,47 @@ fitted-late : (r : Result (List Placed) ℕ) → IfErr (fitted r) IsLate
 fitted-late (Ok placed) = tt
 fitted-late (Err i) = refl
 
-pub rates-late : (mode : PackMode) (class : ClassFields) (needs : List Need) → IfErr (rates_plan mode class needs) IsLate
+-- the refusals of a plan are late
+pub rates-late : (mode : PackMode) (class : ClassFields) (needs : List Need)
+    → IfErr (rates_plan mode class needs) IsLate
 rates-late mode class needs =
-    then_late (unless (no_rate mode class) (menu_in mode class)) (λ menu. fitted (least_menu_plan (window_of class.version) menu needs)) (unless_late (no_rate mode class) (menu_in mode class))
+    then_late (unless (no_rate mode class) (menu_in mode class))
+    (λ menu. fitted (least_menu_plan (window_of class.version) menu needs))
+    (unless_late (no_rate mode class) (menu_in mode class))
     (λ menu. fitted-late (least_menu_plan (window_of class.version) menu needs))
 
-pub rates-fitting : (mode : PackMode) (class : ClassFields) (needs : List Need) (placed : List Placed) → IsClass class → AreOfClass class needs → 1 ≤ length needs → rates_plan mode class needs ≡ Ok placed
-    → IsFittingFew (window_of class.version) needs placed
+-- by a plan the frames can be laid
+pub rates-fitting : (mode : PackMode) (class : ClassFields) (needs : List Need)
+    (placed : List Placed) → IsClass class → AreOfClass class needs → 1 ≤ length needs
+    → rates_plan mode class needs ≡ Ok placed → IsFittingFew (window_of class.version) needs placed
 rates-fitting mode class needs placed sound same some planned =
     let window = window_of class.version in
-    let made = then_ok (unless (no_rate mode class) (menu_in mode class)) (λ menu. fitted (least_menu_plan window menu needs)) placed planned in
+    let made = then_ok (unless (no_rate mode class) (menu_in mode class))
+    (λ menu. fitted (least_menu_plan window menu needs)) placed planned in
     let ok = unless_ok (no_rate mode class) (menu_in mode class) made.0 made.1 in
-    let is : least_menu_plan window (menu_in mode class) needs ≡ Ok placed = fitted-ok (least_menu_plan window (menu_in mode class) needs) placed (ap (λ menu. fitted (least_menu_plan window menu needs)) ok.1 ∙ made.2) in
+    let is : least_menu_plan window (menu_in mode class) needs ≡ Ok placed =
+    fitted-ok (least_menu_plan window (menu_in mode class) needs) placed
+    (ap (λ menu. fitted (least_menu_plan window menu needs)) ok.1 ∙ made.2) in
     menu-fitting window (menu_in mode class) needs placed (menu-slots mode class)
-    (((least_menu_plan-is window class (menu_in mode class) needs same some (menu-ascends mode class sound) (menu-some mode class ok.0)).0 placed).1 is)
+    (((least_menu_plan-is window class (menu_in mode class) needs same some
+    (menu-ascends mode class sound) (menu-some mode class ok.0)).0 placed).1 is)
 
 -- ---- what the planner answers
 
-pub window-is : (class : ClassFields) (needs : List Need) → AreOfClass class needs → 1 ≤ length needs → window_in needs ≡ window_of class.version
+-- the window of the needs is that of their class
+pub window-is : (class : ClassFields) (needs : List Need) → AreOfClass class needs
+    → 1 ≤ length needs → window_in needs ≡ window_of class.version
 unfolding AreOfClass
 window-is class [] same some = absurd (omega (arith, some))
 window-is class (first ∷ needs) same some = ap (λ (c : ClassFields). window_of c.version) same.0
 
-pub is-menu : (class : ClassFields) (menu : List SlotFields) (needs : List Need) → AreOfClass class needs → AreAscending class menu → IsMenu menu needs
+-- slots with ascending areas are a menu
+pub is-menu : (class : ClassFields) (menu : List SlotFields) (needs : List Need)
+    → AreOfClass class needs → AreAscending class menu → IsMenu menu needs
 unfolding AreOfClass
 is-menu class menu [] same ascend = tt
-is-menu class menu (first ∷ needs) same ascend = subst (λ c. AreAscending c menu) (sym same.0) ascend
+is-menu class menu (first ∷ needs) same ascend =
+    subst (λ c. AreAscending c menu) (sym same.0) ascend
 
 -- what the planner is given of frames
 pub needs-one : (rows : List Row) → needs_of_parts (rows ∷ []) ≡ map need_of rows
@@ -134,28 +163,39 @@ unfolding needs_of_parts
 needs-one rows = append-nil (map need_of rows)
 
 -- what the planner is given of one part
-pub given-needs : (rows : List Row) (parts : Asked) (needs : List Need) → parts ≡ asked_of (rows ∷ []) → needs ≡ parts.needs → needs ≡ map need_of rows
+pub given-needs : (rows : List Row) (parts : Asked) (needs : List Need)
+    → parts ≡ asked_of (rows ∷ []) → needs ≡ parts.needs → needs ≡ map need_of rows
 given-needs rows parts needs same is = is ∙ ap (λ (a : Asked). a.needs) same ∙ needs-one rows
 
 -- what it says of the plan from this menu
 abbrev Says : ℕ → List SlotFields → List Need → Result Plan RateFault → Type 0
-Says window menu needs r = MatchResult r (λ plan. least_menu_plan window menu needs ≡ Ok (entries plan)) (IsMenuFault (least_menu_plan window menu needs))
+Says window menu needs r = MatchResult r (λ plan. least_menu_plan window menu needs
+    ≡ Ok (entries plan)) (IsMenuFault (least_menu_plan window menu needs))
 
-pub planner-says : (class : ClassFields) (menu : List SlotFields) (needs : List Need) (r : Result Plan RateFault) → AreOfClass class needs → 1 ≤ length needs → Says (window_in needs) menu needs r → Says (window_of class.version) menu needs r
-planner-says class menu needs r same some says = subst (λ (w : ℕ). Says w menu needs r) (window-is class needs same some) says
+-- what the planner says of the needs' window it says of that of their class
+pub planner-says : (class : ClassFields) (menu : List SlotFields) (needs : List Need)
+    (r : Result Plan RateFault) → AreOfClass class needs → 1 ≤ length needs
+    → Says (window_in needs) menu needs r → Says (window_of class.version) menu needs r
+planner-says class menu needs r same some says =
+    subst (λ (w : ℕ). Says w menu needs r) (window-is class needs same some) says
 
 -- ---- chosen frames
 
-class-sound : (class : ClassFields) (rows : List Row) → AreKnown rows → AreOfClass class (map need_of rows) → 1 ≤ length rows → IsClass class
+class-sound : (class : ClassFields) (rows : List Row) → AreKnown rows
+    → AreOfClass class (map need_of rows) → 1 ≤ length rows → IsClass class
 unfolding AreOfClass
 class-sound class [] known same some = absurd (omega (arith, some))
-class-sound class (r ∷ rows) known same some = subst IsClass same.0 (IsClass-class_of r.header known.0)
+class-sound class (r ∷ rows) known same some =
+    subst IsClass same.0 (IsClass-class_of r.header known.0)
 
-known-slots : (rows : List Row) → AreKnown rows → All (λ need. IsSlot need.header.slot) (map need_of rows)
+known-slots : (rows : List Row) → AreKnown rows
+    → All (λ need. IsSlot need.header.slot) (map need_of rows)
 known-slots [] known = λ k d within. absurd (omega (arith, within))
 known-slots (r ∷ rows) known = λ k d within. at k d within (known-slots rows known.1)
   where
-    at : (k : ℕ) (d : Need) → k < suc (length (map need_of rows)) → All (λ need. IsSlot need.header.slot) (map need_of rows) → IsSlot (get_or (need_of r ∷ map need_of rows) k d).header.slot
+    at : (k : ℕ) (d : Need) → k < suc (length (map need_of rows))
+        → All (λ need. IsSlot need.header.slot) (map need_of rows)
+        → IsSlot (get_or (need_of r ∷ map need_of rows) k d).header.slot
     at zero d within rest = known.0.slot
     at (suc k) d within rest = rest k d (omega (arith, within))
 
@@ -165,57 +205,94 @@ IsNamed (Constant rate) = Unit {0}
 IsNamed (Floor rate) = Unit {0}
 IsNamed _ = ⊥
 
-module _ (chosen : Chosen) (s : SurveyFields) (placed : IsPlaced s) (some : chosen.from < chosen.to) (within : chosen.to ≤ length s.frames) where
+module _ (chosen : Chosen) (s : SurveyFields) (placed : IsPlaced s) (some : chosen.from < chosen.to)
+    (within : chosen.to ≤ length s.frames) where
+  -- some frames are chosen
   pub rows-some : 1 ≤ length (chosen_rows chosen s)
-  rows-some = omega (arith, some, within, length-drop chosen.from s.frames, length-take (chosen.to - chosen.from) (drop chosen.from s.frames))
+  rows-some = omega (
+    arith,
+    some,
+    within,
+    length-drop chosen.from s.frames,
+    length-take (chosen.to - chosen.from) (drop chosen.from s.frames),
+  )
 
+  -- no more than the survey has
   pub rows-few : length (chosen_rows chosen s) ≤ length s.frames
-  rows-few = omega (arith, length-drop chosen.from s.frames, length-take (chosen.to - chosen.from) (drop chosen.from s.frames))
+  rows-few = omega (
+    arith,
+    length-drop chosen.from s.frames,
+    length-take (chosen.to - chosen.from) (drop chosen.from s.frames),
+  )
 
+  -- they are of its class
   pub rows-same : AreOfClass s.class (needs_of chosen s)
   rows-same = (part-fits s chosen.from chosen.to placed).0
 
+  -- which is one of the standard
   pub rows-sound : IsClass s.class
-  rows-sound = class-sound s.class (chosen_rows chosen s) (part-known s chosen.from chosen.to placed) rows-same rows-some
+  rows-sound = class-sound s.class (chosen_rows chosen s)
+      (part-known s chosen.from chosen.to placed) rows-same rows-some
 
+  -- so there are needs
   pub needs-some : 1 ≤ length (needs_of chosen s)
   needs-some = omega (arith, rows-some, length-map (chosen_rows chosen s) need_of)
 
-  pub chosen-fitting : (mode : PackMode) (plan : List Placed) → rates_plan mode s.class (needs_of chosen s) ≡ Ok plan → IsFittingFew (window_of s.class.version) (needs_of chosen s) plan
-  chosen-fitting mode plan planned = rates-fitting mode s.class (needs_of chosen s) plan rows-sound rows-same needs-some planned
+  -- by the plan of a menu they can be laid
+  pub chosen-fitting : (mode : PackMode) (plan : List Placed)
+      → rates_plan mode s.class (needs_of chosen s) ≡ Ok plan
+      → IsFittingFew (window_of s.class.version) (needs_of chosen s) plan
+  chosen-fitting mode plan planned =
+      rates-fitting mode s.class (needs_of chosen s) plan rows-sound rows-same needs-some planned
 
   known : AreKnown (chosen_rows chosen s)
   known = part-known s chosen.from chosen.to placed
 
   abbrev menu_answer : PackMode → Result (List Placed) ℕ
-  menu_answer mode = least_menu_plan (window_of s.class.version) (menu_in mode s.class) (needs_of chosen s)
+  menu_answer mode =
+      least_menu_plan (window_of s.class.version) (menu_in mode s.class) (needs_of chosen s)
 
   -- where the largest slot is allowed no frame is unfit
-  never-unfit : (mode : PackMode) (i : ℕ) → no_rate mode s.class ≡ None → Contains (menu_in mode s.class) largest_slot → menu_answer mode ≡ Err i → ⊥
+  never-unfit : (mode : PackMode) (i : ℕ) → no_rate mode s.class ≡ None
+      → Contains (menu_in mode s.class) largest_slot → menu_answer mode ≡ Err i → ⊥
   never-unfit mode i none largest is =
       let menu = menu_in mode s.class in
-      let unfit = ((least_menu_plan-is (window_of s.class.version) s.class menu (needs_of chosen s) rows-same needs-some (menu-ascends mode s.class rows-sound) (menu-some mode s.class none)).1 i).1 is in
-      largest-fits s.class menu (needs_of chosen s) i rows-sound rows-same (known-slots (chosen_rows chosen s) known) largest (part-fits s chosen.from chosen.to placed).1 unfit
+      let unfit =
+      ((least_menu_plan-is (window_of s.class.version) s.class menu (needs_of chosen s) rows-same
+      needs-some (menu-ascends mode s.class rows-sound) (menu-some mode s.class none)).1 i).1 is in
+      largest-fits s.class menu (needs_of chosen s) i rows-sound rows-same
+      (known-slots (chosen_rows chosen s) known) largest
+      (part-fits s chosen.from chosen.to placed).1 unfit
 
   -- so it is with all bit rates from one on
-  pub floor-unfit : (rate i : ℕ) → no_rate (Floor rate) s.class ≡ None → menu_answer (Floor rate) ≡ Err i → ⊥
+  pub floor-unfit : (rate i : ℕ) → no_rate (Floor rate) s.class ≡ None
+      → menu_answer (Floor rate) ≡ Err i → ⊥
   floor-unfit rate i none is = never-unfit (Floor rate) i none (floor-largest rate s.class none) is
 
-  pub plan-is : (mode : PackMode) (r : Result (List Placed) ℕ) → no_rate mode s.class ≡ None → menu_answer mode ≡ r → rates_plan mode s.class (needs_of chosen s) ≡ fitted r
-  plan-is mode r none is = ap (λ o. then_made (unless o (menu_in mode s.class)) (λ menu. fitted (least_menu_plan (window_of s.class.version) menu (needs_of chosen s)))) none ∙ ap fitted is
+  -- the plan is what the menu gives
+  pub plan-is : (mode : PackMode) (r : Result (List Placed) ℕ) → no_rate mode s.class ≡ None
+      → menu_answer mode ≡ r → rates_plan mode s.class (needs_of chosen s) ≡ fitted r
+  plan-is mode r none is = ap (λ o. then_made (unless o (menu_in mode s.class))
+      (λ menu. fitted (least_menu_plan (window_of s.class.version) menu (needs_of chosen s)))) none
+      ∙ ap fitted is
 
   abbrev IsFaultIn : PackMode → EditFault → Type 0
-  IsFaultIn mode fault = IsPlanFault (plan_by mode) (refuses_by mode) s.class (needs_of chosen s) fault
+  IsFaultIn mode fault =
+      IsPlanFault (plan_by mode) (refuses_by mode) s.class (needs_of chosen s) fault
 
   -- what the planner of a menu answers, where it is asked for a plan of one
-  pub menu-fault : (mode : PackMode) (fault : RateFault) → IsNamed mode → no_rate mode s.class ≡ None → IsMenuFault (menu_answer mode) fault → IsFaultIn mode (of_rate fault)
-  menu-fault (Constant rate) (Unfit i) named none is = (plan-is (Constant rate) (Err i) none is, refl)
+  pub menu-fault : (mode : PackMode) (fault : RateFault) → IsNamed mode → no_rate mode s.class
+      ≡ None → IsMenuFault (menu_answer mode) fault → IsFaultIn mode (of_rate fault)
+  menu-fault (Constant rate) (Unfit i) named none is =
+      (plan-is (Constant rate) (Err i) none is, refl)
   menu-fault (Floor rate) (Unfit i) named none is = absurd (floor-unfit rate i none is)
   menu-fault Least (Unfit i) named none is = absurd named
   menu-fault Best (Unfit i) named none is = absurd named
   menu-fault mode NoMemory named none is = tt
 
-  pub menu-plan : (mode : PackMode) (plan : List Placed) → IsNamed mode → no_rate mode s.class ≡ None → menu_answer mode ≡ Ok plan → plan_by mode s.class (needs_of chosen s) ≡ Ok plan
+  -- the plan of a mode that names a bit rate is what the menu gives
+  pub menu-plan : (mode : PackMode) (plan : List Placed) → IsNamed mode → no_rate mode s.class
+      ≡ None → menu_answer mode ≡ Ok plan → plan_by mode s.class (needs_of chosen s) ≡ Ok plan
   menu-plan (Constant rate) plan named none is = plan-is (Constant rate) (Ok plan) none is
   menu-plan (Floor rate) plan named none is = plan-is (Floor rate) (Ok plan) none is
   menu-plan _ plan named none is = absurd named

@@ -1,29 +1,23 @@
--- Of all plans by which frames can be laid, with no lead-ins but those of the best plan, none has shorter slots.
-use Rattle.std.proofs.Common.{◌≡◌, ℕ, suc, ◌+◌, ◌≤◌, Bool, true, false, List, [], ◌∷◌, map, sum, All, Contains, Option, Some, None, refl, sym, ◌∙◌, ap, subst, inl, inr, arith, ◌↔◌}
-use Rattle.std.proofs.lemmas.List.Elements.{All-cons}
-use Rattle.std.proofs.lemmas.List.Sums.{sum_by-cons}
-use Rattle.frame_header.specs.Fields.{SlotFields, ClassFields, IsClass}
-use Rattle.frame_header.specs.Tables.{length_of, overhead_of}
-use Rattle.frame_header.specs.Slots.{all_slots}
-use Rattle.frame_header.proofs.SlotLaws.{Contains-all_slots, area-is}
-use Rattle.slot_plan.specs.declared.needs.Need.{Need}
-use Rattle.slot_plan.specs.declared.needs.Placed.{Placed}
-use Rattle.slot_plan.specs.Lists.{frames_of, CanBeLaid}
-use Rattle.slot_plan.specs.Parts.{Item, area_in, open_of, item_of, items_of, IsLeadIn, AreLeadIns, whole_of, AreOfClass}
-use Rattle.slot_plan.specs.Plans.{AreFor, areas_in, IsPlan}
-use Rattle.slot_plan.specs.Reserve.{free_behind}
-use Rattle.slot_plan.proofs.ReserveLaws.{AllFit}
-use Rattle.best_plan.specs.Best.{IsBestFor, items_behind, IsBestPlan}
+-- Of all plans by which frames can be laid, with no lead-ins
+-- but those of the best plan, none has shorter slots.
+use Rattle.std.proofs.Common.{All, ap, arith, Bool, Contains, false, inl, inr, List, map, None}
+use Rattle.std.proofs.Common.{Option, refl, Some, subst, suc, sum, sym, true, ℕ, [], ◌+◌, ◌↔◌, ◌∙◌}
+use Rattle.std.proofs.{Common.{◌∷◌, ◌≡◌, ◌≤◌}, lemmas.List.{Elements.All-cons, Sums.sum_by-cons}}
+use Rattle.best_plan.proofs.{BestOfLaws.chosen-for, ShortestLaw.whole-one}
 use Rattle.best_plan.proofs.SumLaws.{laid-fits, sum-cons}
-use Rattle.best_plan.proofs.BestOfLaws.{chosen-for}
-use Rattle.best_plan.proofs.ShortestLaw.{whole-one}
-use Rattle.laying.specs.NeedsFit.{any_choice}
+use Rattle.best_plan.specs.Best.{IsBestFor, IsBestPlan, items_behind}
+use Rattle.frame_header.proofs.SlotLaws.{area-is, Contains-all_slots}
+use Rattle.frame_header.specs.{Fields.{ClassFields, IsClass, SlotFields}, Slots.all_slots}
+use Rattle.frame_header.specs.Tables.{length_of, overhead_of}
+use Rattle.laying.proofs.FitLaws.{asked-area, asked-bytes, Asks, IsAsked}
+use Rattle.laying.specs.{Fits.{AreInSlots, FitsFrom, IsFitting, reach_behind}, NeedsFit.any_choice}
 use Rattle.laying.specs.Relaid.{left_behind}
-use Rattle.laying.specs.Fits.{reach_behind, FitsFrom, AreInSlots, IsFitting}
-use Rattle.laying.proofs.FitLaws.{IsAsked, Asks, asked-area, asked-bytes}
-use Rattle.pack_edits.proofs.BestLaws.{asks-behind}
-use Rattle.pack_edits.specs.Fewest.{lead_ins, HasNoMore}
-use Rattle.pack_edits.proofs.FileLengths.{size_of}
+use Rattle.pack_edits.proofs.{BestLaws.asks-behind, FileLengths.size_of}
+use Rattle.pack_edits.specs.Fewest.{HasNoMore, lead_ins}
+use Rattle.slot_plan.{proofs.ReserveLaws.AllFit, specs.Lists.{CanBeLaid, frames_of}}
+use Rattle.slot_plan.specs.Parts.{area_in, AreLeadIns, AreOfClass, IsLeadIn, Item, item_of}
+use Rattle.slot_plan.specs.{Parts.{items_of, open_of, whole_of}, Plans.{areas_in, AreFor, IsPlan}}
+use Rattle.slot_plan.specs.{Reserve.free_behind, declared.needs.{Need.Need, Placed.Placed}}
 
 -- ---- where lead-ins are
 
@@ -33,7 +27,8 @@ Flagged [] [] = Unit {0}
 Flagged (item ∷ items) (p ∷ placed) = (p.lead_in ≡ item.lead_in) × Flagged items placed
 Flagged _ _ = ⊥
 
-flagged-same : (items : List Item) (placed other : List Placed) → AreFor items placed → lead_ins other ≡ lead_ins placed → Flagged items other
+flagged-same : (items : List Item) (placed other : List Placed) → AreFor items placed
+    → lead_ins other ≡ lead_ins placed → Flagged items other
 unfolding AreFor
 flagged-same [] [] [] for_items same = tt
 flagged-same [] (p ∷ placed) other for_items same = absurd for_items
@@ -44,13 +39,19 @@ flagged-same (item ∷ items) (p ∷ placed) (o ∷ other) for_items same =
     (first ∙ for_items.0, flagged-same items placed other for_items.2 rest)
 flagged-same _ _ _ for_items same = absurd cc
 
-flagged-none : (window reach : ℕ) (needs : List Need) (other : List Placed) → FitsFrom window reach needs other → All (λ p. p.lead_in ≡ false) other → Flagged (map (item_of any_choice) needs) other
+flagged-none : (window reach : ℕ) (needs : List Need) (other : List Placed)
+    → FitsFrom window reach needs other → All (λ p. p.lead_in ≡ false) other
+    → Flagged (map (item_of any_choice) needs) other
 unfolding FitsFrom
 flagged-none window reach [] [] fits none = tt
 flagged-none window reach (need ∷ needs) (o ∷ other) fits none =
     let first : o.lead_in ≡ false = none 0 o (omega arith) in
-    let behind : FitsFrom window (reach_behind window o need) needs other = subst (λ b. FitsFrom window (reach_behind window o need) (left_behind b need needs) other) first fits.2 in
-    (first, flagged-none window (reach_behind window o need) needs other behind (λ k d lt. none (suc k) d (omega (arith, lt))))
+    let behind : FitsFrom window (reach_behind window o need) needs other = subst (λ b.
+    FitsFrom window (reach_behind window o need) (left_behind b need needs) other) first fits.2 in (
+      first,
+      flagged-none window (reach_behind window o need) needs other behind
+          (λ k d lt. none (suc k) d (omega (arith, lt))),
+    )
 flagged-none window reach _ _ fits none = absurd fits
 
 -- ---- such a plan has one of the lists among which the best is the shortest
@@ -69,27 +70,36 @@ wide-behind false needs = wide-each needs
 wide-behind true [] = tt
 wide-behind true (first ∷ needs) = (refl, wide-each (first ∷ needs))
 
-for-flagged : (items : List Item) (placed : List Placed) → AreWide items → Flagged items placed → AreInSlots placed → AreFor items placed
+for-flagged : (items : List Item) (placed : List Placed) → AreWide items → Flagged items placed
+    → AreInSlots placed → AreFor items placed
 unfolding AreFor
 for-flagged [] [] wide flagged slots = tt
-for-flagged (item ∷ items) (p ∷ placed) wide flagged slots =
-    (flagged.0, subst (λ l. Contains l p.slot) (sym wide.0) (Contains-all_slots p.slot slots.0), for-flagged items placed wide.1 flagged.1 slots.1)
+for-flagged (item ∷ items) (p ∷ placed) wide flagged slots = (
+  flagged.0,
+  subst (λ l. Contains l p.slot) (sym wide.0) (Contains-all_slots p.slot slots.0),
+  for-flagged items placed wide.1 flagged.1 slots.1,
+)
 for-flagged _ _ wide flagged slots = absurd flagged
 
 -- its main data have room, whatever main_data_begin it gives them
-fits-room : (window reach free : ℕ) (items : List Item) (needs : List Need) (placed : List Placed) → Asks items needs → Flagged items placed → FitsFrom window reach needs placed → reach ≤ free
+fits-room : (window reach free : ℕ) (items : List Item) (needs : List Need) (placed : List Placed)
+    → Asks items needs → Flagged items placed → FitsFrom window reach needs placed → reach ≤ free
     → AllFit window free (frames_of (map open_of items) (areas_in items placed))
 unfolding FitsFrom AllFit frames_of areas_in
 fits-room window reach free [] [] [] asks flagged fits within = tt
 fits-room window reach free [] (need ∷ needs) placed asks flagged fits within = absurd asks
 fits-room window reach free (item ∷ items) [] placed asks flagged fits within = absurd asks
 fits-room window reach free (item ∷ items) (need ∷ needs) (p ∷ placed) asks flagged fits within =
-    let is : IsAsked p.lead_in item need = subst (λ b. IsAsked b item need) (sym flagged.0) asks.0 in
-    let follow : Asks items (left_behind p.lead_in need needs) = subst (λ b. Asks items (left_behind b need needs)) (sym flagged.0) asks.1 in
+    let is : IsAsked p.lead_in item need =
+    subst (λ b. IsAsked b item need) (sym flagged.0) asks.0 in
+    let follow : Asks items (left_behind p.lead_in need needs) =
+    subst (λ b. Asks items (left_behind b need needs)) (sym flagged.0) asks.1 in
     let area = asked-area p.lead_in item need p.slot is in
     let bytes = asked-bytes p.lead_in item need is in (
       omega (arith, area, bytes, fits.0, fits.1, within),
-      fits-room window (reach_behind window p need) (free_behind window free item.bytes (area_in item p.slot)) items (left_behind p.lead_in need needs) placed follow flagged.1 fits.2 (omega (arith, area, bytes, fits.0, fits.1, within)),
+      fits-room window (reach_behind window p need) (free_behind window free
+          item.bytes (area_in item p.slot)) items (left_behind p.lead_in need needs) placed follow
+          flagged.1 fits.2 (omega (arith, area, bytes, fits.0, fits.1, within)),
     )
 fits-room window reach free _ _ _ asks flagged fits within = absurd flagged
 
@@ -99,12 +109,14 @@ abbrev AreAllOf : ClassFields → List Item → Type 0
 AreAllOf c [] = Unit {0}
 AreAllOf c (item ∷ items) = (item.class ≡ c) × AreAllOf c items
 
-all-each : (c : ClassFields) (needs : List Need) → AreOfClass c needs → AreAllOf c (map (item_of any_choice) needs)
+all-each : (c : ClassFields) (needs : List Need) → AreOfClass c needs
+    → AreAllOf c (map (item_of any_choice) needs)
 unfolding AreOfClass
 all-each c [] same = tt
 all-each c (need ∷ needs) same = (same.0, all-each c needs same.1)
 
-all-behind : (c : ClassFields) (lead_in : Bool) (needs : List Need) → AreOfClass c needs → AreAllOf c (items_behind lead_in any_choice needs)
+all-behind : (c : ClassFields) (lead_in : Bool) (needs : List Need) → AreOfClass c needs
+    → AreAllOf c (items_behind lead_in any_choice needs)
 unfolding items_behind AreOfClass
 all-behind c false needs same = all-each c needs same
 all-behind c true [] same = tt
@@ -115,7 +127,9 @@ abbrev overheads : List Item → ℕ
 overheads [] = 0
 overheads (item ∷ items) = overhead_of item.class item.protected + overheads items
 
-size-is : (c : ClassFields) (items : List Item) (placed : List Placed) → IsClass c → AreAllOf c items → AreInSlots placed → AreFor items placed → size_of c placed ≡ sum (areas_in items placed) + overheads items
+size-is : (c : ClassFields) (items : List Item) (placed : List Placed) → IsClass c
+    → AreAllOf c items → AreInSlots placed → AreFor items placed
+    → size_of c placed ≡ sum (areas_in items placed) + overheads items
 unfolding AreFor areas_in
 size-is c [] [] class all slots for_items = refl
 size-is c (item ∷ items) (p ∷ placed) class all slots for_items =
@@ -132,71 +146,115 @@ size-is c _ _ class all slots for_items = absurd for_items
 
 -- ---- the best plan
 
-module _ (window : ℕ) (c : ClassFields) (needs : List Need) (class : IsClass c) (same : AreOfClass c needs) where
-  behind-least : (lead_in : Bool) (best other : List Placed) → IsBestFor window 0 (items_behind lead_in any_choice needs) best → AreInSlots best → IsFitting window needs other
-      → Flagged (items_behind lead_in any_choice needs) other → size_of c best ≤ size_of c other
+module _ (window : ℕ) (c : ClassFields) (needs : List Need) (class : IsClass c)
+    (same : AreOfClass c needs) where
+  behind-least : (lead_in : Bool) (best other : List Placed)
+      → IsBestFor window 0 (items_behind lead_in any_choice needs) best → AreInSlots best
+      → IsFitting window needs other → Flagged (items_behind lead_in any_choice needs) other
+      → size_of c best ≤ size_of c other
   behind-least lead_in best other is slots fitting flagged =
       let items = items_behind lead_in any_choice needs in
       let all = all-behind c lead_in needs same in
       let for_items = for-flagged items other (wide-behind lead_in needs) flagged fitting.slots in
-      let room = fits-room window 0 0 items needs other (asks-behind lead_in needs) flagged fitting.fits (omega arith) in
-      let least = is.best.shortest (areas_in items other) (chosen-for items other for_items) (laid-fits window 0 (frames_of (map open_of items) (areas_in items other)) (omega arith) room) in
-      omega (arith, least, size-is c items best class all slots is.slots, size-is c items other class all fitting.slots for_items)
+      let room = fits-room window 0 0 items needs other
+      (asks-behind lead_in needs) flagged fitting.fits (omega arith) in
+      let least = is.best.shortest (areas_in items other) (chosen-for items other for_items)
+      (laid-fits window 0 (frames_of (map open_of items) (areas_in items other)) (omega arith) room)
+      in
+      omega (
+        arith,
+        least,
+        size-is c items best class all slots is.slots,
+        size-is c items other class all fitting.slots for_items,
+      )
 
   -- frames that can be laid without a lead-in have none
-  without-lead : (other : List Placed) → IsFitting window needs other → Flagged (items_behind false any_choice needs) other → CanBeLaid window (map open_of (items_behind false any_choice needs))
+  without-lead : (other : List Placed) → IsFitting window needs other
+      → Flagged (items_behind false any_choice needs) other
+      → CanBeLaid window (map open_of (items_behind false any_choice needs))
   unfolding CanBeLaid
   without-lead other fitting flagged =
       let items = items_behind false any_choice needs in
       let for_items = for-flagged items other (wide-behind false needs) flagged fitting.slots in
-      let room = fits-room window 0 0 items needs other (asks-behind false needs) flagged fitting.fits (omega arith) in
-      (areas_in items other, chosen-for items other for_items, laid-fits window 0 (frames_of (map open_of items) (areas_in items other)) (omega arith) room)
+      let room = fits-room window 0 0 items needs other
+      (asks-behind false needs) flagged fitting.fits (omega arith) in (
+        areas_in items other,
+        chosen-for items other for_items,
+        laid-fits window 0 (frames_of (map open_of items) (areas_in items other))
+            (omega arith) room,
+      )
 
-  none-flagged : (other : List Placed) → IsFitting window needs other → All (λ p. p.lead_in ≡ false) other → Flagged (items_behind false any_choice needs) other
+  none-flagged : (other : List Placed) → IsFitting window needs other
+      → All (λ p. p.lead_in ≡ false) other → Flagged (items_behind false any_choice needs) other
   unfolding items_behind
   none-flagged other fitting none = flagged-none window 0 needs other fitting.fits none
 
-  lead-none : (lead_in : Bool) → (lead_in ≡ false) ↔ CanBeLaid window (map open_of (map (item_of any_choice) needs)) → CanBeLaid window (map open_of (items_behind false any_choice needs)) → false ≡ lead_in
+  lead-none : (lead_in : Bool)
+      → (lead_in ≡ false) ↔ CanBeLaid window (map open_of (map (item_of any_choice) needs))
+      → CanBeLaid window (map open_of (items_behind false any_choice needs)) → false ≡ lead_in
   unfolding items_behind
   lead-none lead_in without can = sym (without.1 can)
 
-  pub best-least : (best other : List Placed) → IsBestPlan window any_choice needs best → AreInSlots best → IsFitting window needs other → HasNoMore best other → size_of c best ≤ size_of c other
-  best-least best other is slots fitting (inl places) = behind-least is.lead_in best other is.whole slots fitting (flagged-same (items_behind is.lead_in any_choice needs) best other is.whole.slots places)
+  -- the slots of the best plan are together the shortest of all plans with as many lead-ins or more
+  pub best-least : (best other : List Placed) → IsBestPlan window any_choice needs best
+      → AreInSlots best → IsFitting window needs other → HasNoMore best other
+      → size_of c best ≤ size_of c other
+  best-least best other is slots fitting (inl places) =
+      behind-least is.lead_in best other is.whole slots fitting
+      (flagged-same (items_behind is.lead_in any_choice needs) best other is.whole.slots places)
   best-least best other is slots fitting (inr none) =
       let flagged = none-flagged other fitting none in
       let without = lead-none is.lead_in is.without (without-lead other fitting flagged) in
-      behind-least is.lead_in best other is.whole slots fitting (subst (λ b. Flagged (items_behind b any_choice needs) other) without flagged)
+      behind-least is.lead_in best other is.whole slots fitting
+      (subst (λ b. Flagged (items_behind b any_choice needs) other) without flagged)
 
 -- ---- the plain plan has no other lead-ins
 
-flags-for : (items : List Item) (placed : List Placed) → AreFor items placed → lead_ins placed ≡ map (λ (item : Item). item.lead_in) items
+flags-for : (items : List Item) (placed : List Placed) → AreFor items placed
+    → lead_ins placed ≡ map (λ (item : Item). item.lead_in) items
 unfolding AreFor
 flags-for [] [] for_items = refl
-flags-for (item ∷ items) (p ∷ placed) for_items = ap (λ b. b ∷ lead_ins placed) for_items.0 ∙ ap (λ l. item.lead_in ∷ l) (flags-for items placed for_items.2)
+flags-for (item ∷ items) (p ∷ placed) for_items = ap (λ b. b ∷ lead_ins placed) for_items.0
+    ∙ ap (λ l. item.lead_in ∷ l) (flags-for items placed for_items.2)
 flags-for _ _ for_items = absurd for_items
 
-none-for : (needs : List Need) (placed : List Placed) → AreFor (map (item_of any_choice) needs) placed → All (λ p. p.lead_in ≡ false) placed
+none-for : (needs : List Need) (placed : List Placed)
+    → AreFor (map (item_of any_choice) needs) placed → All (λ p. p.lead_in ≡ false) placed
 unfolding AreFor
 none-for [] [] for_items = λ k d lt. absurd (omega (arith, lt))
-none-for (need ∷ needs) (p ∷ placed) for_items = All-cons (λ (q : Placed). q.lead_in ≡ false) p placed for_items.0 (none-for needs placed for_items.2)
+none-for (need ∷ needs) (p ∷ placed) for_items = All-cons (λ (q : Placed). q.lead_in ≡ false) p
+    placed for_items.0 (none-for needs placed for_items.2)
 none-for _ _ for_items = absurd for_items
 
 module _ (window : ℕ) (best placed : List Placed) where
-  by-lead : (needs : List Need) (lead_in : Bool) (other : Option SlotFields) → (lead_in ≡ false) ↔ CanBeLaid window (map open_of (map (item_of any_choice) needs)) → AreFor (items_behind lead_in any_choice needs) best
-      → IsLeadIn window any_choice needs other → AreFor (items_of any_choice needs other) placed → HasNoMore best placed
+  by-lead : (needs : List Need) (lead_in : Bool) (other : Option SlotFields)
+      → (lead_in ≡ false) ↔ CanBeLaid window (map open_of (map (item_of any_choice) needs))
+      → AreFor (items_behind lead_in any_choice needs) best → IsLeadIn window any_choice needs other
+      → AreFor (items_of any_choice needs other) placed → HasNoMore best placed
   unfolding IsLeadIn items_of items_behind
-  by-lead needs lead_in None without for_best alone for_items = inr (none-for needs placed for_items)
+  by-lead needs lead_in None without for_best alone for_items =
+      inr (none-for needs placed for_items)
   by-lead [] lead_in (Some slot) without for_best alone for_items = absurd alone
-  by-lead (first ∷ needs) false (Some slot) without for_best alone for_items = absurd (alone.0 (without.0 refl))
-  by-lead (first ∷ needs) true (Some slot) without for_best alone for_items = inl (flags-for _ placed for_items ∙ sym (flags-for _ best for_best))
+  by-lead (first ∷ needs) false (Some slot) without for_best alone for_items =
+      absurd (alone.0 (without.0 refl))
+  by-lead (first ∷ needs) true (Some slot) without for_best alone for_items =
+      inl (flags-for _ placed for_items ∙ sym (flags-for _ best for_best))
 
-  by-leads : (needs : List Need) (lead_in : Bool) (others : List (Option SlotFields)) → (lead_in ≡ false) ↔ CanBeLaid window (map open_of (map (item_of any_choice) needs)) → AreFor (items_behind lead_in any_choice needs) best
-      → AreLeadIns window any_choice (needs ∷ []) others → AreFor (whole_of any_choice (needs ∷ []) others) placed → HasNoMore best placed
+  by-leads : (needs : List Need) (lead_in : Bool) (others : List (Option SlotFields))
+      → (lead_in ≡ false) ↔ CanBeLaid window (map open_of (map (item_of any_choice) needs))
+      → AreFor (items_behind lead_in any_choice needs) best
+      → AreLeadIns window any_choice (needs ∷ []) others
+      → AreFor (whole_of any_choice (needs ∷ []) others) placed → HasNoMore best placed
   unfolding AreLeadIns
   by-leads needs lead_in [] without for_best alone for_items = absurd alone
-  by-leads needs lead_in (other ∷ another ∷ others) without for_best alone for_items = absurd alone.1
+  by-leads needs lead_in (other ∷ another ∷ others) without for_best alone for_items =
+      absurd alone.1
   by-leads needs lead_in (other ∷ []) without for_best alone for_items =
-      by-lead needs lead_in other without for_best alone.0 (subst (λ (l : List Item). AreFor l placed) (whole-one any_choice needs other) for_items)
+      by-lead needs lead_in other without for_best alone.0
+      (subst (λ (l : List Item). AreFor l placed) (whole-one any_choice needs other) for_items)
 
-  pub plan-no_more : (needs : List Need) → IsBestPlan window any_choice needs best → IsPlan window any_choice (needs ∷ []) placed → HasNoMore best placed
-  plan-no_more needs is plan = by-leads needs is.lead_in plan.lead_ins is.without is.whole.slots plan.alone plan.whole.slots
+  -- the best plan has no more places than any plan
+  pub plan-no_more : (needs : List Need) → IsBestPlan window any_choice needs best
+      → IsPlan window any_choice (needs ∷ []) placed → HasNoMore best placed
+  plan-no_more needs is plan =
+      by-leads needs is.lead_in plan.lead_ins is.without is.whole.slots plan.alone plan.whole.slots

@@ -1,20 +1,18 @@
 -- What the survey of an input that is packed answers, and the planner of its frames.
-use Rattle.std.specs.Prelude.{◌≡◌, ◌≤◌, ℕ, Bool, true, List, length, Result, Ok, Err, IfOk, IfErr, OnOk}
+use Rattle.std.specs.Prelude.{Bool, Err, IfErr, IfOk, length, List, Ok, OnOk, Result, true, ℕ, ◌≡◌}
+use Rattle.std.specs.Prelude.{◌≤◌}
 use Rattle.bit_fields.specs.Bits.{AreBytes}
-use Rattle.frame_header.specs.Fields.{ClassFields}
-use Rattle.slot_plan.specs.declared.needs.Need.{Need}
-use Rattle.outside.specs.Files.{IsThere}
-use Rattle.outside.specs.Seen.{Seen, OnFile, OnlyRead}
-use Rattle.sync_survey.specs.declared.surveys.Survey.{Survey}
-use Rattle.sync_survey.specs.Faults.{tells}
-use Rattle.sync_survey.specs.Survey.{survey_of, IsLaidOut}
-use Rattle.commands.specs.declared.fault.EditFault.{EditFault}
-use Rattle.commands.specs.declared.fault.EditFault.TheVariants.{Refused, Memory}
+use Rattle.commands.specs.One.{IsEarlyFault, IsOfInputs, most_frames}
+use Rattle.commands.specs.declared.fault.EditFault.{EditFault, TheVariants.{Memory, Refused}}
 use Rattle.commands.specs.declared.fault.Refusal.{Refusal}
-use Rattle.commands.specs.One.{most_frames, IsEarlyFault, IsOfInputs}
 use Rattle.cut_edits.specs.Chosen.{Planning}
-use Rattle.requests.specs.declared.mode.PackMode.{PackMode}
+use Rattle.frame_header.specs.Fields.{ClassFields}
+use Rattle.outside.specs.{Files.IsThere, Seen.{OnFile, OnlyRead, Seen}}
 use Rattle.pack_edits.specs.Modes.{allowed_by, pack_task}
+use Rattle.requests.specs.declared.mode.PackMode.{PackMode}
+use Rattle.slot_plan.specs.declared.needs.Need.{Need}
+use Rattle.sync_survey.specs.{Faults.tells, Survey.{IsLaidOut, survey_of}}
+use Rattle.sync_survey.specs.declared.surveys.Survey.{Survey}
 
 -- why there is no plan: a refusal of the definition, which may come, or want of memory
 abbrev pub IsPlanFault : Planning → (Refusal → Bool) → ClassFields → List Need → EditFault → Type 0
@@ -24,7 +22,8 @@ IsPlanFault plan refuses class needs Memory = Unit {0}
 IsPlanFault plan refuses class needs _ = ⊥
 
 -- The input was surveyed, and has no more frames than the mode allows, or it is at fault.
-pub record PackedSurvey (mode : PackMode) (name : List ℕ) (old new : Seen) (result : Result Survey EditFault) : Type 0 where
+pub record PackedSurvey (mode : PackMode) (name : List ℕ) (old new : Seen)
+    (result : Result Survey EditFault) : Type 0 where
   pub there : OnOk result (IsThere old.files name)
   pub surveyed : IfOk result
       (λ s. OnFile old name (λ bytes. survey_of bytes most_frames ≡ Ok (tells s)))

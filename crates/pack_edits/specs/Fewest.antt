@@ -1,15 +1,12 @@
 -- A file of the frames of another that has the fewest bytes.
-use Rattle.std.specs.Prelude.{◌≡◌, ◌⊎◌, ℕ, ◌≤◌, Bool, false, List, length, map, All, Ok}
-use Rattle.outside.specs.Files.{Files, Holds}
-use Rattle.frame_header.specs.Tables.{window_of}
-use Rattle.slot_plan.specs.declared.needs.Placed.{Placed}
-use Rattle.sync_survey.specs.Faults.{SurveyFields}
-use Rattle.sync_survey.specs.Survey.{survey_of}
-use Rattle.laying.specs.Fits.{IsFitting}
+use Rattle.std.specs.Prelude.{All, Bool, false, length, List, map, Ok, ℕ, ◌≡◌, ◌≤◌, ◌⊎◌}
 use Rattle.commands.specs.One.{most_frames}
-use Rattle.requests.specs.declared.mode.PackMode.{PackMode}
-use Rattle.requests.specs.declared.mode.PackMode.TheVariants.{Best}
-use Rattle.laying.specs.Laid.{Laid, needs_laid, file_laid}
+use Rattle.frame_header.specs.Tables.{window_of}
+use Rattle.laying.specs.{Fits.IsFitting, Laid.{file_laid, Laid, needs_laid}}
+use Rattle.outside.specs.Files.{Files, Holds}
+use Rattle.requests.specs.declared.mode.PackMode.{PackMode, TheVariants.Best}
+use Rattle.slot_plan.specs.declared.needs.Placed.{Placed}
+use Rattle.sync_survey.specs.{Faults.SurveyFields, Survey.survey_of}
 
 -- which of the places of a plan are those of lead-ins
 abbrev pub lead_ins : List Placed → List Bool

@@ -1,13 +1,12 @@
--- What holds of packing with the slots of some bit rates, and in the fewest bytes, whatever the code.
-use Rattle.std.specs.Prelude.{◌≡◌, ℕ, ◌≤◌, List, length, Some, Ok, Err}
-use Rattle.outside.specs.Files.{Contents}
-use Rattle.commands.specs.declared.fault.EditFault.TheVariants.{Refused}
-use Rattle.commands.specs.declared.fault.Refusal.TheVariants.{Unfit}
+-- What holds of packing with the slots of some bit
+-- rates, and in the fewest bytes, whatever the code.
+use Rattle.std.specs.Prelude.{Err, length, List, Ok, Some, ℕ, ◌≡◌, ◌≤◌}
 use Rattle.commands.specs.One.{made_file, made_result}
-use Rattle.requests.specs.declared.mode.PackMode.TheVariants.{Least, Best, Floor}
-use Rattle.cut_edits.specs.Chosen.{laying_with, all_choice}
-use Rattle.pack_edits.specs.Modes.{plan_by, pack_task}
-use Rattle.pack_edits.specs.Fewest.{IsFewest}
+use Rattle.commands.specs.declared.fault.{EditFault.TheVariants.Refused, Refusal.TheVariants.Unfit}
+use Rattle.cut_edits.specs.Chosen.{all_choice, laying_with}
+use Rattle.outside.specs.Files.{Contents}
+use Rattle.pack_edits.specs.{Fewest.IsFewest, Modes.{pack_task, plan_by}}
+use Rattle.requests.specs.declared.mode.PackMode.TheVariants.{Best, Floor, Least}
 
 -- where all bit rates from one on are allowed, no file is refused with `Unfit`
 abbrev pub FloorsFit : Type 0

@@ -1,21 +1,18 @@
 -- What each mode makes: how the frames of a file get their slots, and how many frames it may have.
-use Rattle.std.specs.Prelude.{ℕ, ◌==◌, Bool, true, false, List, [], unwrap_or, Option, Some, None, Result, Ok, Err}
-use Rattle.frame_header.specs.Tables.{window_of}
+use Rattle.std.specs.Prelude.{Bool, Err, false, List, None, Ok, Option, Result, Some, true}
+use Rattle.std.specs.Prelude.{unwrap_or, ℕ, [], ◌==◌}
 use Rattle.best_plan.specs.BestOf.{best_plan_of}
-use Rattle.laying.specs.NeedsFit.{any_choice}
-use Rattle.sync_survey.specs.declared.survey_fault.SurveyFault.{SurveyFault}
-use Rattle.sync_survey.specs.Faults.{SurveyFields}
-use Rattle.sync_survey.specs.Survey.{survey_of}
-use Rattle.commands.specs.declared.fault.EditFault.{EditFault}
-use Rattle.commands.specs.declared.fault.EditFault.TheVariants.{Input}
-use Rattle.commands.specs.declared.fault.Refusal.{Refusal}
+use Rattle.commands.specs.{Command.Command, One.{most_frames, one_command, Task}}
+use Rattle.commands.specs.declared.fault.{EditFault.{EditFault, TheVariants.Input}, Refusal.Refusal}
 use Rattle.commands.specs.declared.fault.Refusal.TheVariants.{NoRate, Unfit}
-use Rattle.commands.specs.Command.{Command}
-use Rattle.commands.specs.One.{most_frames, Task, one_command}
-use Rattle.requests.specs.declared.mode.PackMode.{PackMode}
-use Rattle.requests.specs.declared.mode.PackMode.TheVariants.{Least, Best, Constant, Floor}
-use Rattle.cut_edits.specs.Chosen.{Planning, first_planning, laying_task, all_choice}
+use Rattle.cut_edits.specs.Chosen.{all_choice, first_planning, laying_task, Planning}
+use Rattle.frame_header.specs.Tables.{window_of}
+use Rattle.laying.specs.NeedsFit.{any_choice}
 use Rattle.pack_edits.specs.Rates.{rates_plan}
+use Rattle.requests.specs.declared.mode.PackMode.{PackMode}
+use Rattle.requests.specs.declared.mode.PackMode.TheVariants.{Best, Constant, Floor, Least}
+use Rattle.sync_survey.specs.{Faults.SurveyFields, Survey.survey_of}
+use Rattle.sync_survey.specs.declared.survey_fault.SurveyFault.{SurveyFault}
 
 -- Of all lists of slots whose main data have room, with a lead-in only where there is none without,
 -- the one with the least sum of areas, and of several the lexicographically least (`best_plan_of`).
@@ -49,9 +46,11 @@ abbrev pub limit_by : PackMode → Option ℕ
 limit_by Best = Some most_best
 limit_by _ = None
 
+-- how many frames a file may have in this mode
 abbrev pub allowed_by : PackMode → ℕ
 allowed_by mode = unwrap_or (limit_by mode) most_frames
 
+-- what is made, unless the survey has a fault
 abbrev pub unless_fault : Result SurveyFields SurveyFault → Result (List ℕ) EditFault
     → Result (List ℕ) EditFault
 unless_fault (Err fault) made = Err (Input 0 fault)
@@ -71,9 +70,11 @@ limited limit task =
 
 -- ---- the command
 
+-- what is made is the file of all frames in the slots that the mode chooses
 abbrev pub pack_task : PackMode → List ℕ → Task
 pack_task mode input =
     limited (limit_by mode) (laying_task all_choice (plan_by mode) (refuses_by mode) input)
 
+-- all frames of the input, packed in this mode, are the output
 abbrev pub pack_mode_command : PackMode → List ℕ → List ℕ → Command
 pack_mode_command mode input output = one_command (pack_task mode input) output

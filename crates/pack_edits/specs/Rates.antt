@@ -1,20 +1,17 @@
--- The slots of some bit rates, and the plan with these alone.
-use Rattle.std.specs.Prelude.{ℕ, ◌==◌, leb, nat_lt, if◌then◌else◌, Bool, true, List, length, filter, Option, Some, None, Result, Ok, Err}
-use Rattle.frame_header.specs.Fields.{SlotFields, ClassFields}
-use Rattle.frame_header.specs.Tables.{window_of, rate_of}
-use Rattle.frame_header.specs.Slots.{all_slots}
-use Rattle.slot_plan.specs.declared.needs.Need.{Need}
-use Rattle.slot_plan.specs.declared.needs.Placed.{Placed}
-use Rattle.rate_plan.specs.LeastMenuPlan.{least_menu_plan}
-use Rattle.rate_plan.specs.declared.fault.RateFault.{RateFault}
-use Rattle.rate_plan.specs.declared.fault.RateFault.TheVariants.{Unfit as UnfitFrame, Memory as NoMemory}
-use Rattle.commands.specs.declared.fault.EditFault.{EditFault}
-use Rattle.commands.specs.declared.fault.EditFault.TheVariants.{Refused, Memory}
-use Rattle.commands.specs.declared.fault.Refusal.{Refusal}
+-- The slots of some bit rates (ISO/IEC 11172-3 and 13818-3, 2.4.2.3), and the plan with these
+-- alone.
+use Rattle.std.specs.Prelude.{Bool, Err, filter, if◌then◌else◌, leb, length, List, nat_lt, None, Ok}
+use Rattle.std.specs.Prelude.{Option, Result, Some, true, ℕ, ◌==◌}
+use Rattle.commands.specs.{Refusing.{then_made, unless}, declared.fault.EditFault.EditFault}
+use Rattle.commands.specs.declared.fault.{EditFault.TheVariants.{Memory, Refused}, Refusal.Refusal}
 use Rattle.commands.specs.declared.fault.Refusal.TheVariants.{NoRate, Unfit}
-use Rattle.commands.specs.Refusing.{unless, then_made}
-use Rattle.requests.specs.declared.mode.PackMode.{PackMode}
-use Rattle.requests.specs.declared.mode.PackMode.TheVariants.{Constant, Floor}
+use Rattle.frame_header.specs.{Fields.{ClassFields, SlotFields}, Slots.all_slots}
+use Rattle.frame_header.specs.Tables.{rate_of, window_of}
+use Rattle.rate_plan.specs.{LeastMenuPlan.least_menu_plan, declared.fault.RateFault.RateFault}
+use Rattle.rate_plan.specs.declared.fault.RateFault.TheVariants.{Memory as NoMemory}
+use Rattle.rate_plan.specs.declared.fault.RateFault.TheVariants.{Unfit as UnfitFrame}
+use Rattle.requests.specs.declared.mode.PackMode.{PackMode, TheVariants.{Constant, Floor}}
+use Rattle.slot_plan.specs.declared.needs.{Need.Need, Placed.Placed}
 
 -- the slot has a bit rate that the mode allows
 abbrev pub allows : PackMode → ClassFields → SlotFields → Bool
@@ -30,6 +27,7 @@ menu_in mode class = filter (allows mode class) all_slots
 abbrev pub is_rate : ℕ → ClassFields → Bool
 is_rate rate class = nat_lt 0 (length (menu_in (Constant rate) class))
 
+-- the refusal of a bit rate that isn't one of the class
 abbrev pub unless_rate : ℕ → ClassFields → Option Refusal
 unless_rate rate class = if is_rate rate class then None else Some (NoRate rate)
 

@@ -1,17 +1,17 @@
 -- Which frames fit: all do that fit in the largest slot each, after a lead-in of that slot.
-use Rattle.std.proofs.Common.{◌≡◌, ℕ, ◌+◌, ◌<◌, ◌≤◌, Bool, true, false, List, [], ◌∷◌, ◌++◌, map, length, get_or, take, drop, Contains, refl, sym, ap, ◌∙◌, subst, arith}
-use Rattle.std.proofs.lemmas.List.{map_more, map-append, take_all, take-take, take-append-drop, length-take-le}
-use Rattle.frame_header.specs.Fields.{SlotFields, ClassFields}
-use Rattle.frame_header.specs.Tables.{class_of, area_of}
-use Rattle.slot_plan.specs.declared.needs.Need.{Need}
-use Rattle.slot_plan.specs.Layouts.{Frame, IsFeasible}
-use Rattle.slot_plan.specs.Lists.{Open, AreChosen, frames_of, CanBeLaid}
-use Rattle.slot_plan.specs.Parts.{open_of, lead_in_of, areas_with, AreOfClass}
-use Rattle.slot_plan.specs.Reserve.{greatest, free_behind, opens_in}
-use Rattle.slot_plan.proofs.ReserveLaws.{AllFit, starts_of, fit-layout, layout-fit, greatest-most, Contains-greatest}
-use Rattle.slot_plan.proofs.PartLaws.{class-at, class-take}
-use Rattle.slot_plan.proofs.AreaLaws.{Contains-area}
-use Rattle.rate_plan.specs.Menus.{from_menu, items_from, CanBeLaidFrom, IsUnfit}
+use Rattle.std.proofs.Common.{ap, arith, Bool, Contains, drop, false, get_or, length, List, map}
+use Rattle.std.proofs.Common.{refl, subst, sym, take, true, ℕ, [], ◌++◌, ◌+◌, ◌<◌, ◌∙◌, ◌∷◌, ◌≡◌}
+use Rattle.std.proofs.Common.{◌≤◌}
+use Rattle.std.proofs.lemmas.List.{length-take-le, map-append, map_more, take-append-drop}
+use Rattle.std.proofs.lemmas.List.{take-take, take_all}
+use Rattle.frame_header.specs.{Fields.{ClassFields, SlotFields}, Tables.{area_of, class_of}}
+use Rattle.rate_plan.specs.Menus.{CanBeLaidFrom, from_menu, IsUnfit, items_from}
+use Rattle.slot_plan.proofs.{AreaLaws.Contains-area, PartLaws.{class-at, class-take}}
+use Rattle.slot_plan.proofs.ReserveLaws.{AllFit, Contains-greatest, fit-layout, greatest-most}
+use Rattle.slot_plan.{proofs.ReserveLaws.{layout-fit, starts_of}, specs.Layouts.{Frame, IsFeasible}}
+use Rattle.slot_plan.specs.Lists.{AreChosen, CanBeLaid, frames_of, Open}
+use Rattle.slot_plan.specs.Parts.{areas_with, AreOfClass, lead_in_of, open_of}
+use Rattle.slot_plan.specs.{Reserve.{free_behind, greatest, opens_in}, declared.needs.Need.Need}
 
 -- the largest area that a frame can have
 abbrev pub most_area : List SlotFields → Need → ℕ
@@ -28,7 +28,9 @@ tops_of [] = []
 tops_of (o ∷ opens) = greatest o.areas ∷ tops_of opens
 
 -- no other choice leaves more free bytes
-fit-tops : (window free more : ℕ) (opens : List Open) (areas : List ℕ) → free ≤ more → AreChosen opens areas → AllFit window free (frames_of opens areas) → AllFit window more (frames_of opens (tops_of opens))
+fit-tops : (window free more : ℕ) (opens : List Open) (areas : List ℕ) → free ≤ more
+    → AreChosen opens areas → AllFit window free (frames_of opens areas)
+    → AllFit window more (frames_of opens (tops_of opens))
 unfolding AreChosen AllFit frames_of tops_of
 fit-tops window free more [] areas less chosen fit = tt
 fit-tops window free more (o ∷ opens) [] less chosen fit = absurd chosen
@@ -36,179 +38,277 @@ fit-tops window free more (o ∷ opens) (area ∷ areas) less chosen fit =
     let most = greatest-most o.areas area chosen.0 in
     let room : o.bytes ≤ free + area = fit.0 in (
       omega (arith, most, room, less),
-      fit-tops window (free_behind window free o.bytes area) (free_behind window more o.bytes (greatest o.areas)) opens areas (omega (arith, most, less)) chosen.1 fit.1,
+      fit-tops window (free_behind window free o.bytes area) (free_behind window more
+          o.bytes (greatest o.areas)) opens areas (omega (arith, most, less)) chosen.1 fit.1,
     )
 
-can-tops : (window more : ℕ) (opens : List Open) → CanBeLaid window opens → AllFit window more (frames_of opens (tops_of opens))
+can-tops : (window more : ℕ) (opens : List Open) → CanBeLaid window opens
+    → AllFit window more (frames_of opens (tops_of opens))
 unfolding CanBeLaid IsFeasible
 can-tops window more opens can =
-    fit-tops window 0 more opens can.0 (omega arith) can.1 (fit-layout window 0 0 0 (frames_of opens can.0) can.2.0 (omega arith) can.2.1)
+    fit-tops window 0 more opens can.0 (omega arith)
+    can.1 (fit-layout window 0 0 0 (frames_of opens can.0) can.2.0 (omega arith) can.2.1)
 
-tops-can : (window : ℕ) (opens : List Open) → AreChosen opens (tops_of opens) → AllFit window 0 (frames_of opens (tops_of opens)) → CanBeLaid window opens
+tops-can : (window : ℕ) (opens : List Open) → AreChosen opens (tops_of opens)
+    → AllFit window 0 (frames_of opens (tops_of opens)) → CanBeLaid window opens
 unfolding CanBeLaid IsFeasible
 tops-can window opens chosen fit =
-    let frames : List Frame = frames_of opens (tops_of opens) in
-    (tops_of opens, chosen, (starts_of window 0 0 frames, layout-fit window 0 0 0 frames (omega arith) (omega arith) fit))
+    let frames : List Frame = frames_of opens (tops_of opens) in (
+      tops_of opens,
+      chosen,
+      (starts_of window 0 0 frames, layout-fit window 0 0 0 frames (omega arith) (omega arith) fit),
+    )
 
 -- ---- the frames of a menu
 
 abbrev pub top_frame : List SlotFields → Need → Frame
 top_frame menu need = record { bytes = need.bytes; area = most_area menu need }
 
-frames-top : (menu : List SlotFields) (needs : List Need) → frames_of (opens_in (from_menu menu) needs) (tops_of (opens_in (from_menu menu) needs)) ≡ map (top_frame menu) needs
+frames-top : (menu : List SlotFields) (needs : List Need)
+    → frames_of (opens_in (from_menu menu) needs) (tops_of (opens_in (from_menu menu) needs))
+    ≡ map (top_frame menu) needs
 unfolding frames_of tops_of
 frames-top menu [] = refl
 frames-top menu (need ∷ needs) = ap (λ l. top_frame menu need ∷ l) (frames-top menu needs)
 
-pub has-greatest : (class : ClassFields) (menu : List SlotFields) (protected : Bool) → 1 ≤ length menu → Contains (areas_with class protected menu) (greatest (areas_with class protected menu))
+-- the largest area of a menu is the area of one of its slots
+pub has-greatest : (class : ClassFields) (menu : List SlotFields) (protected : Bool)
+    → 1 ≤ length menu
+    → Contains (areas_with class protected menu) (greatest (areas_with class protected menu))
 has-greatest class [] protected some = absurd (omega (arith, some))
 has-greatest class (slot ∷ slots) protected some =
-    Contains-greatest (areas_with class protected (slot ∷ slots)) (area_of class slot protected) (Contains-area class protected (slot ∷ slots) slot (0, omega arith, refl))
+    Contains-greatest (areas_with class protected (slot ∷ slots)) (area_of class slot protected)
+    (Contains-area class protected (slot ∷ slots) slot (0, omega arith, refl))
 
-pub tops-chosen : (menu : List SlotFields) (needs : List Need) → 1 ≤ length menu → AreChosen (opens_in (from_menu menu) needs) (tops_of (opens_in (from_menu menu) needs))
+-- the largest areas are a choice
+pub tops-chosen : (menu : List SlotFields) (needs : List Need) → 1 ≤ length menu
+    → AreChosen (opens_in (from_menu menu) needs) (tops_of (opens_in (from_menu menu) needs))
 unfolding AreChosen tops_of
 tops-chosen menu [] some = tt
-tops-chosen menu (need ∷ needs) some = (has-greatest (class_of need.header) menu need.header.protected some, tops-chosen menu needs some)
+tops-chosen menu (need ∷ needs) some = (
+  has-greatest (class_of need.header) menu need.header.protected some,
+  tops-chosen menu needs some,
+)
 
 -- ---- after a lead-in
 
-fit-behind : (window : ℕ) (o : Open) (opens : List Open) → AllFit window 0 (frames_of (o ∷ opens) (tops_of (o ∷ opens))) → AllFit window (free_behind window 0 o.bytes (greatest o.areas)) (frames_of opens (tops_of opens))
+fit-behind : (window : ℕ) (o : Open) (opens : List Open)
+    → AllFit window 0 (frames_of (o ∷ opens) (tops_of (o ∷ opens))) → AllFit window
+    (free_behind window 0 o.bytes (greatest o.areas)) (frames_of opens (tops_of opens))
 unfolding AllFit frames_of tops_of
 fit-behind window o opens fit = fit.1
 
-lead-fit : (window : ℕ) (class : ClassFields) (menu : List SlotFields) (opens : List Open) → AllFit window (start_of window class menu) (frames_of opens (tops_of opens))
-    → AllFit window 0 (frames_of (open_of (lead_in_of class menu) ∷ opens) (tops_of (open_of (lead_in_of class menu) ∷ opens)))
+lead-fit : (window : ℕ) (class : ClassFields) (menu : List SlotFields) (opens : List Open)
+    → AllFit window (start_of window class menu) (frames_of opens (tops_of opens))
+    → AllFit window 0 (frames_of (open_of (lead_in_of class menu) ∷ opens)
+    (tops_of (open_of (lead_in_of class menu) ∷ opens)))
 unfolding AllFit frames_of tops_of
 lead-fit window class menu opens fit = (omega arith, fit)
 
-lead-chosen : (class : ClassFields) (menu : List SlotFields) (opens : List Open) → 1 ≤ length menu → AreChosen opens (tops_of opens) → AreChosen (open_of (lead_in_of class menu) ∷ opens) (tops_of (open_of (lead_in_of class menu) ∷ opens))
+lead-chosen : (class : ClassFields) (menu : List SlotFields) (opens : List Open) → 1 ≤ length menu
+    → AreChosen opens (tops_of opens) → AreChosen (open_of (lead_in_of class menu) ∷ opens)
+    (tops_of (open_of (lead_in_of class menu) ∷ opens))
 unfolding AreChosen tops_of
 lead-chosen class menu opens some chosen = (has-greatest class menu false some, chosen)
 
-pub laid-fit : (window : ℕ) (class : ClassFields) (menu : List SlotFields) (needs : List Need) → AreOfClass class needs → 1 ≤ length needs → CanBeLaidFrom window true menu needs → AllFit window (start_of window class menu) (map (top_frame menu) needs)
+-- frames with a layout after a lead-in fit in their largest slots after the largest lead-in
+pub laid-fit : (window : ℕ) (class : ClassFields) (menu : List SlotFields) (needs : List Need)
+    → AreOfClass class needs → 1 ≤ length needs → CanBeLaidFrom window true menu needs
+    → AllFit window (start_of window class menu) (map (top_frame menu) needs)
 unfolding AreOfClass items_from
 laid-fit window class menu [] same some can = absurd (omega (arith, some))
 laid-fit window class menu (first ∷ needs) same some can =
     let lead : Open = open_of (lead_in_of (class_of first.header) menu) in
     let opens : List Open = opens_in (from_menu menu) (first ∷ needs) in
     let fit = fit-behind window lead opens (can-tops window 0 (lead ∷ opens) can) in
-    subst (λ c. AllFit window (start_of window c menu) (map (top_frame menu) (first ∷ needs))) same.0
-    (subst (AllFit window (start_of window (class_of first.header) menu)) (frames-top menu (first ∷ needs)) fit)
+    subst (λ c. AllFit window (start_of window c menu) (map (top_frame menu) (first ∷ needs)))
+    same.0
+    (subst (AllFit window (start_of window (class_of first.header) menu))
+    (frames-top menu (first ∷ needs)) fit)
 
-pub fit-laid : (window : ℕ) (class : ClassFields) (menu : List SlotFields) (needs : List Need) → AreOfClass class needs → 1 ≤ length needs → 1 ≤ length menu → AllFit window (start_of window class menu) (map (top_frame menu) needs) → CanBeLaidFrom window true menu needs
+-- and frames that fit so have one
+pub fit-laid : (window : ℕ) (class : ClassFields) (menu : List SlotFields) (needs : List Need)
+    → AreOfClass class needs → 1 ≤ length needs → 1 ≤ length menu
+    → AllFit window (start_of window class menu) (map (top_frame menu) needs)
+    → CanBeLaidFrom window true menu needs
 unfolding AreOfClass items_from
 fit-laid window class menu [] same some slots fit = absurd (omega (arith, some))
 fit-laid window class menu (first ∷ needs) same some slots fit =
     let lead : Open = open_of (lead_in_of (class_of first.header) menu) in
     let opens : List Open = opens_in (from_menu menu) (first ∷ needs) in
-    let here = subst (λ c. AllFit window (start_of window c menu) (map (top_frame menu) (first ∷ needs))) (sym same.0) fit in
-    let tops = subst (AllFit window (start_of window (class_of first.header) menu)) (sym (frames-top menu (first ∷ needs))) here in
-    tops-can window (lead ∷ opens) (lead-chosen (class_of first.header) menu opens slots (tops-chosen menu (first ∷ needs) slots)) (lead-fit window (class_of first.header) menu opens tops)
+    let here = subst (λ c. AllFit window (start_of window c menu)
+    (map (top_frame menu) (first ∷ needs))) (sym same.0) fit in
+    let tops = subst (AllFit window (start_of window (class_of first.header) menu))
+    (sym (frames-top menu (first ∷ needs))) here in
+    tops-can window (lead ∷ opens)
+    (lead-chosen (class_of first.header) menu opens slots (tops-chosen menu (first ∷ needs) slots))
+    (lead-fit window (class_of first.header) menu opens tops)
 
 -- so they can be placed
-pub laid-feasible : (window : ℕ) (class : ClassFields) (menu : List SlotFields) (needs : List Need) → AreOfClass class needs → 1 ≤ length needs → CanBeLaidFrom window true menu needs → IsFeasible window (greatest (areas_with class false menu)) (map (top_frame menu) needs)
+pub laid-feasible : (window : ℕ) (class : ClassFields) (menu : List SlotFields) (needs : List Need)
+    → AreOfClass class needs → 1 ≤ length needs → CanBeLaidFrom window true menu needs
+    → IsFeasible window (greatest (areas_with class false menu)) (map (top_frame menu) needs)
 unfolding IsFeasible
 laid-feasible window class menu needs same some can =
     let before : ℕ = greatest (areas_with class false menu) in
-    let frames : List Frame = map (top_frame menu) needs in
-    (starts_of window 0 before frames, layout-fit window 0 before (start_of window class menu) frames (omega arith) (omega arith) (laid-fit window class menu needs same some can))
+    let frames : List Frame = map (top_frame menu) needs in (
+      starts_of window 0 before frames,
+      layout-fit window 0 before (start_of window class menu) frames (omega arith) (omega arith)
+          (laid-fit window class menu needs same some can),
+    )
 
 -- what has a layout without a lead-in has one after it
-pub without-fit : (window : ℕ) (class : ClassFields) (menu : List SlotFields) (needs : List Need) → CanBeLaidFrom window false menu needs → AllFit window (start_of window class menu) (map (top_frame menu) needs)
+pub without-fit : (window : ℕ) (class : ClassFields) (menu : List SlotFields) (needs : List Need)
+    → CanBeLaidFrom window false menu needs
+    → AllFit window (start_of window class menu) (map (top_frame menu) needs)
 unfolding items_from
 without-fit window class menu needs can =
-    subst (AllFit window (start_of window class menu)) (frames-top menu needs) (can-tops window (start_of window class menu) (opens_in (from_menu menu) needs) can)
+    subst (AllFit window (start_of window class menu)) (frames-top menu needs)
+    (can-tops window (start_of window class menu) (opens_in (from_menu menu) needs) can)
 
 -- ---- one frame more
 
 -- the free bytes after some frames
 unfoldable pub left_of : ℕ → ℕ → List Frame → ℕ
 left_of window free [] = free
-left_of window free (frame ∷ frames) = left_of window (free_behind window free frame.bytes frame.area) frames
+left_of window free (frame ∷ frames) =
+    left_of window (free_behind window free frame.bytes frame.area) frames
 
-left-more : (window free : ℕ) (frames : List Frame) (frame : Frame) → left_of window free (frames ++ frame ∷ []) ≡ free_behind window (left_of window free frames) frame.bytes frame.area
+left-more : (window free : ℕ) (frames : List Frame) (frame : Frame)
+    → left_of window free (frames ++ frame ∷ [])
+    ≡ free_behind window (left_of window free frames) frame.bytes frame.area
 unfolding left_of
 left-more window free [] frame = refl
-left-more window free (first ∷ frames) frame = left-more window (free_behind window free first.bytes first.area) frames frame
+left-more window free (first ∷ frames) frame =
+    left-more window (free_behind window free first.bytes first.area) frames frame
 
-fit-more : (window free : ℕ) (frames : List Frame) (frame : Frame) → AllFit window free frames → frame.bytes ≤ left_of window free frames + frame.area → AllFit window free (frames ++ frame ∷ [])
+fit-more : (window free : ℕ) (frames : List Frame) (frame : Frame) → AllFit window free frames
+    → frame.bytes ≤ left_of window free frames + frame.area
+    → AllFit window free (frames ++ frame ∷ [])
 unfolding AllFit left_of
 fit-more window free [] frame fit room = (room, tt)
-fit-more window free (first ∷ frames) frame fit room = (fit.0, fit-more window (free_behind window free first.bytes first.area) frames frame fit.1 room)
+fit-more window free (first ∷ frames) frame fit room = (
+  fit.0,
+  fit-more window (free_behind window free first.bytes first.area) frames frame fit.1 room,
+)
 
-fit-last : (window free : ℕ) (frames : List Frame) (frame : Frame) → AllFit window free (frames ++ frame ∷ []) → frame.bytes ≤ left_of window free frames + frame.area
+fit-last : (window free : ℕ) (frames : List Frame) (frame : Frame)
+    → AllFit window free (frames ++ frame ∷ [])
+    → frame.bytes ≤ left_of window free frames + frame.area
 unfolding AllFit left_of
 fit-last window free [] frame fit = fit.0
-fit-last window free (first ∷ frames) frame fit = fit-last window (free_behind window free first.bytes first.area) frames frame fit.1
+fit-last window free (first ∷ frames) frame fit =
+    fit-last window (free_behind window free first.bytes first.area) frames frame fit.1
 
-fit-front : (window free : ℕ) (xs ys : List Frame) → AllFit window free (xs ++ ys) → AllFit window free xs
+fit-front : (window free : ℕ) (xs ys : List Frame) → AllFit window free (xs ++ ys)
+    → AllFit window free xs
 unfolding AllFit
 fit-front window free [] ys fit = tt
-fit-front window free (x ∷ xs) ys fit = (fit.0, fit-front window (free_behind window free x.bytes x.area) xs ys fit.1)
+fit-front window free (x ∷ xs) ys fit =
+    (fit.0, fit-front window (free_behind window free x.bytes x.area) xs ys fit.1)
 
-fit-take : (window free : ℕ) (menu : List SlotFields) (needs : List Need) (k : ℕ) → AllFit window free (map (top_frame menu) needs) → AllFit window free (map (top_frame menu) (take k needs))
+fit-take : (window free : ℕ) (menu : List SlotFields) (needs : List Need) (k : ℕ)
+    → AllFit window free (map (top_frame menu) needs)
+    → AllFit window free (map (top_frame menu) (take k needs))
 fit-take window free menu needs k fit =
-    let parts : map (top_frame menu) needs ≡ map (top_frame menu) (take k needs) ++ map (top_frame menu) (drop k needs) =
-    ap (map (top_frame menu)) (sym (take-append-drop k needs)) ∙ map-append (top_frame menu) (take k needs) (drop k needs) in
-    fit-front window free (map (top_frame menu) (take k needs)) (map (top_frame menu) (drop k needs)) (subst (AllFit window free) parts fit)
+    let parts : map (top_frame menu) needs
+    ≡ map (top_frame menu) (take k needs) ++ map (top_frame menu) (drop k needs) =
+    ap (map (top_frame menu)) (sym (take-append-drop k needs))
+    ∙ map-append (top_frame menu) (take k needs) (drop k needs) in
+    fit-front window free (map (top_frame menu) (take k needs))
+    (map (top_frame menu) (drop k needs)) (subst (AllFit window free) parts fit)
 
 -- the largest area of the class is that of the frame
-pub area-at : (class : ClassFields) (menu : List SlotFields) (needs : List Need) (i : ℕ) (need : Need) → AreOfClass class needs → i < length needs → need ≡ get_or needs i need
+pub area-at : (class : ClassFields) (menu : List SlotFields) (needs : List Need) (i : ℕ)
+    (need : Need) → AreOfClass class needs → i < length needs → need ≡ get_or needs i need
     → greatest (areas_with class need.header.protected menu) ≡ most_area menu need
 area-at class menu needs i need same within is =
-    sym (ap (λ c. greatest (areas_with c need.header.protected menu)) (ap (λ n. class_of n.header) is ∙ class-at class needs i need same within))
+    sym (ap (λ c. greatest (areas_with c need.header.protected menu))
+    (ap (λ n. class_of n.header) is ∙ class-at class needs i need same within))
 
 -- ---- the frames before i fit
 
-pub record FitTo (window : ℕ) (class : ClassFields) (menu : List SlotFields) (needs : List Need) (i free : ℕ) : Type 0 where
+-- the frames so far fit in their largest slots, and so many bytes are free after them
+pub record FitTo (window : ℕ) (class : ClassFields) (menu : List SlotFields) (needs : List Need)
+    (i free : ℕ) : Type 0 where
   pub fit : AllFit window (start_of window class menu) (map (top_frame menu) (take i needs))
-  pub left : free ≡ left_of window (start_of window class menu) (map (top_frame menu) (take i needs))
+  pub left : free
+      ≡ left_of window (start_of window class menu) (map (top_frame menu) (take i needs))
 
-pub to-begun : (window : ℕ) (class : ClassFields) (menu : List SlotFields) (needs : List Need) (free : ℕ) → free ≡ start_of window class menu → FitTo window class menu needs 0 free
+-- before the first frame the bytes of the largest lead-in are free
+pub to-begun : (window : ℕ) (class : ClassFields) (menu : List SlotFields) (needs : List Need)
+    (free : ℕ) → free ≡ start_of window class menu → FitTo window class menu needs 0 free
 unfolding AllFit left_of
 to-begun window class menu needs free is = record { fit = tt; left = is }
 
-next_frame : (menu : List SlotFields) (needs : List Need) (i : ℕ) (need : Need) → i < length needs → need ≡ get_or needs i need
-    → map (top_frame menu) (take (i + 1) needs) ≡ map (top_frame menu) (take i needs) ++ top_frame menu need ∷ []
+next_frame : (menu : List SlotFields) (needs : List Need) (i : ℕ) (need : Need) → i < length needs
+    → need ≡ get_or needs i need → map (top_frame menu) (take (i + 1) needs)
+    ≡ map (top_frame menu) (take i needs) ++ top_frame menu need ∷ []
 next_frame menu needs i need within is =
-    map_more (top_frame menu) needs i need within ∙ ap (λ n. map (top_frame menu) (take i needs) ++ top_frame menu n ∷ []) (sym is)
+    map_more (top_frame menu) needs i need within
+    ∙ ap (λ n. map (top_frame menu) (take i needs) ++ top_frame menu n ∷ []) (sym is)
 
-pub to-more : (window : ℕ) (class : ClassFields) (menu : List SlotFields) (needs : List Need) (i : ℕ) (need : Need) (free next : ℕ) → i < length needs → need ≡ get_or needs i need
-    → need.bytes ≤ free + most_area menu need → next ≡ free_behind window free need.bytes (most_area menu need) → FitTo window class menu needs i free → FitTo window class menu needs (i + 1) next
+-- a frame that fits in the free bytes and its largest area is one more
+pub to-more : (window : ℕ) (class : ClassFields) (menu : List SlotFields) (needs : List Need)
+    (i : ℕ) (need : Need) (free next : ℕ) → i < length needs → need ≡ get_or needs i need
+    → need.bytes ≤ free + most_area menu need
+    → next ≡ free_behind window free need.bytes (most_area menu need)
+    → FitTo window class menu needs i free → FitTo window class menu needs (i + 1) next
 to-more window class menu needs i need free next within is room gives to =
     let start : ℕ = start_of window class menu in
     let frames : List Frame = map (top_frame menu) (take i needs) in
     let more = next_frame menu needs i need within is in
     record {
-      fit = subst (AllFit window start) (sym more) (fit-more window start frames (top_frame menu need) to.fit (omega (arith, room, to.left)));
-      left = gives ∙ ap (λ n. free_behind window n need.bytes (most_area menu need)) to.left ∙ sym (left-more window start frames (top_frame menu need)) ∙ ap (left_of window start) (sym more);
+      fit = subst (AllFit window start) (sym more) (fit-more window start frames
+          (top_frame menu need) to.fit (omega (arith, room, to.left)));
+      left = gives ∙ ap (λ n. free_behind window n need.bytes (most_area menu need)) to.left
+          ∙ sym (left-more window start frames (top_frame menu need))
+          ∙ ap (left_of window start) (sym more);
     }
 
-pub to-all : (window : ℕ) (class : ClassFields) (menu : List SlotFields) (needs : List Need) (i free : ℕ) → length needs ≤ i → AreOfClass class needs → 1 ≤ length needs → 1 ≤ length menu
+-- if all of them fit, they have a layout
+pub to-all : (window : ℕ) (class : ClassFields) (menu : List SlotFields) (needs : List Need)
+    (i free : ℕ) → length needs ≤ i → AreOfClass class needs → 1 ≤ length needs → 1 ≤ length menu
     → FitTo window class menu needs i free → CanBeLaidFrom window true menu needs
 to-all window class menu needs i free all same some slots to =
-    fit-laid window class menu needs same some slots (subst (λ l. AllFit window (start_of window class menu) (map (top_frame menu) l)) (take_all i needs all) to.fit)
+    fit-laid window class menu needs same some slots (subst (λ l. AllFit window
+    (start_of window class menu) (map (top_frame menu) l)) (take_all i needs all) to.fit)
 
-pub to-unfit : (window : ℕ) (class : ClassFields) (menu : List SlotFields) (needs : List Need) (i : ℕ) (need : Need) (free : ℕ) → i < length needs → need ≡ get_or needs i need
-    → free + most_area menu need < need.bytes → AreOfClass class needs → 1 ≤ length menu → FitTo window class menu needs i free → IsUnfit window menu needs i
+-- a frame that doesn't fit is the first up to which no list has a layout
+pub to-unfit : (window : ℕ) (class : ClassFields) (menu : List SlotFields) (needs : List Need)
+    (i : ℕ) (need : Need) (free : ℕ) → i < length needs → need ≡ get_or needs i need
+    → free + most_area menu need < need.bytes → AreOfClass class needs → 1 ≤ length menu
+    → FitTo window class menu needs i free → IsUnfit window menu needs i
 to-unfit window class menu needs i need free within is small same slots to =
     let start : ℕ = start_of window class menu in
     let frames : List Frame = map (top_frame menu) (take i needs) in
     let some : 1 ≤ length needs = omega (arith, within) in
-    let many : length (take (i + 1) needs) ≡ i + 1 = length-take-le (i + 1) needs (omega (arith, within)) in
+    let many : length (take (i + 1) needs) ≡ i + 1 =
+    length-take-le (i + 1) needs (omega (arith, within)) in
     let never : AllFit window start (map (top_frame menu) (take (i + 1) needs)) → ⊥ =
-    λ fit. omega (arith, small, to.left, fit-last window start frames (top_frame menu need) (subst (AllFit window start) (next_frame menu needs i need within is) fit)) in
-    let whole : AllFit window start (map (top_frame menu) needs) → ⊥ = λ fit. never (fit-take window start menu needs (i + 1) fit) in
+    λ fit. omega (
+      arith,
+      small,
+      to.left,
+      fit-last window start frames (top_frame menu need)
+          (subst (AllFit window start) (next_frame menu needs i need within is) fit),
+    ) in
+    let whole : AllFit window start (map (top_frame menu) needs) → ⊥ =
+    λ fit. never (fit-take window start menu needs (i + 1) fit) in
     record {
       never = λ lead_in. elim lead_in as (λ b. CanBeLaidFrom window b menu needs → ⊥) [
         | true ↦ (λ can. whole (laid-fit window class menu needs same some can))
         | false ↦ (λ can. whole (without-fit window class menu needs can))
       ];
       within = within;
-      here = λ can. never (laid-fit window class menu (take (i + 1) needs) (class-take class needs (i + 1) same) (omega (arith, many)) can);
+      here = λ can. never (laid-fit window class menu (take (i + 1) needs)
+          (class-take class needs (i + 1) same) (omega (arith, many)) can);
       before = λ k lt.
-          let few : length (take (k + 1) needs) ≡ k + 1 = length-take-le (k + 1) needs (omega (arith, within, lt)) in
+          let few : length (take (k + 1) needs) ≡ k + 1 =
+          length-take-le (k + 1) needs (omega (arith, within, lt)) in
           let fit = fit-take window start menu (take i needs) (k + 1) to.fit in
-          fit-laid window class menu (take (k + 1) needs) (class-take class needs (k + 1) same) (omega (arith, few)) slots
-          (subst (λ l. AllFit window start (map (top_frame menu) l)) (take-take (k + 1) i needs (omega (arith, lt))) fit);
+          fit-laid window class menu (take (k + 1) needs) (class-take class needs (k + 1) same)
+          (omega (arith, few)) slots
+          (subst (λ l. AllFit window start (map (top_frame menu) l))
+          (take-take (k + 1) i needs (omega (arith, lt))) fit);
     }

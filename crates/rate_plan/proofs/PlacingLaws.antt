@@ -1,19 +1,16 @@
 -- What is placed from a menu is the plan.
-use Rattle.std.proofs.Common.{◌≡◌, ℕ, ◌+◌, ◌-◌, ◌≤◌, true, false, List, [], ◌∷◌, ◌++◌, map, Option, Some, None, refl, sym, ◌∙◌, subst, lit≤, arith}
+use Rattle.std.proofs.Common.{arith, false, List, lit≤, map, None, Option, refl, Some, subst, sym}
+use Rattle.std.proofs.Common.{true, ℕ, [], ◌++◌, ◌+◌, ◌-◌, ◌∙◌, ◌∷◌, ◌≡◌, ◌≤◌}
 use Rattle.std.proofs.lemmas.List.{append-nil}
-use Rattle.frame_header.specs.Fields.{SlotFields, ClassFields}
-use Rattle.frame_header.specs.declared.version.Version.{Version}
-use Rattle.frame_header.specs.declared.version.Version.TheVariants.{One, Two, TwoFive}
-use Rattle.frame_header.specs.Tables.{class_of, window_of}
-use Rattle.slot_plan.specs.declared.needs.Need.{Need}
-use Rattle.slot_plan.specs.declared.needs.Placed.{Placed}
-use Rattle.slot_plan.specs.Parts.{Item, open_of, item_of, lead_in_of, items_of}
-use Rattle.slot_plan.specs.Reserve.{needed, IsLeastSlot, ArePlaced, PlacesOn, IsPlacedLeadIn, PlacesPart}
-use Rattle.slot_plan.proofs.ReserveLaws.{needed-can}
-use Rattle.slot_plan.proofs.AreaLaws.{only_one}
-use Rattle.slot_plan.proofs.PlacedLaws.{plan-placed}
-use Rattle.rate_plan.specs.Menus.{from_menu, items_from, IsMenuPlan}
+use Rattle.frame_header.specs.{Fields.{ClassFields, SlotFields}, Tables.{class_of, window_of}}
+use Rattle.frame_header.specs.declared.version.Version.{Version, TheVariants.One}
+use Rattle.rate_plan.specs.Menus.{from_menu, IsMenuPlan, items_from}
+use Rattle.slot_plan.proofs.{AreaLaws.only_one, PlacedLaws.plan-placed, ReserveLaws.needed-can}
+use Rattle.slot_plan.specs.Parts.{Item, item_of, items_of, lead_in_of, open_of}
+use Rattle.slot_plan.specs.Reserve.{ArePlaced, IsLeastSlot, IsPlacedLeadIn, needed, PlacesOn}
+use Rattle.slot_plan.specs.{Reserve.PlacesPart, declared.needs.{Need.Need, Placed.Placed}}
 
+-- no window is longer than 511 bytes
 pub window-most : (version : Version) → window_of version ≤ 511
 window-most One = lit≤ tt
 window-most _ = lit≤ tt
@@ -27,27 +24,36 @@ unfolding needed
 nothing = refl
 
 -- all were placed after nothing
-places-all : (window after : ℕ) (items : List Item) (new : List Placed) → PlacesOn window 0 after items [] [] new → ArePlaced window 0 items new
+places-all : (window after : ℕ) (items : List Item) (new : List Placed)
+    → PlacesOn window 0 after items [] [] new → ArePlaced window 0 items new
 places-all window after items new on =
     let all = on.goes [] [] nothing (nothing-placed window after) in
     let more : on.more ++ [] ≡ new = append-nil on.more ∙ sym on.appended in
-    subst (ArePlaced window 0 items) more (subst (λ l. ArePlaced window 0 l (on.more ++ [])) (append-nil items) all)
+    subst (ArePlaced window 0 items) more
+    (subst (λ l. ArePlaced window 0 l (on.more ++ [])) (append-nil items) all)
 
 -- a lead-in with the least of the slots of a menu is placed among them
-lead-among : (window : ℕ) (class : ClassFields) (menu : List SlotFields) (slot : SlotFields) (items : List Item) (placed : List Placed) → IsLeastSlot (needed (map open_of items)) class false menu slot
-    → ArePlaced window 0 (lead_in_of class (slot ∷ []) ∷ items) placed → ArePlaced window 0 (lead_in_of class menu ∷ items) placed
+lead-among : (window : ℕ) (class : ClassFields) (menu : List SlotFields) (slot : SlotFields)
+    (items : List Item) (placed : List Placed)
+    → IsLeastSlot (needed (map open_of items)) class false menu slot
+    → ArePlaced window 0 (lead_in_of class (slot ∷ []) ∷ items) placed
+    → ArePlaced window 0 (lead_in_of class menu ∷ items) placed
 unfolding ArePlaced
 lead-among window class menu slot items [] least all = absurd all
 lead-among window class menu slot items (p ∷ placed) least all =
     let wanted : needed (map open_of items) ≡ (0 + needed (map open_of items)) - 0 = omega arith in
-    let here = subst (λ s. IsLeastSlot (needed (map open_of items)) class false menu s) (only_one slot p.slot all.2.chosen) least in
+    let here = subst (λ s. IsLeastSlot (needed (map open_of items)) class false menu s)
+    (only_one slot p.slot all.2.chosen) least in
     (all.0, all.1, subst (λ n. IsLeastSlot n class false menu p.slot) wanted here, all.3)
 
 not-false : true ≡ false → ⊥
 not-false e = absurd cc
 
-menu-placed : (window : ℕ) (menu : List SlotFields) (needs : List Need) (lead_in : Option SlotFields) (placed : List Placed) → IsPlacedLeadIn window menu (from_menu menu) needs lead_in
-    → ArePlaced window 0 (items_of (from_menu menu) needs lead_in) placed → IsMenuPlan window menu needs placed
+menu-placed : (window : ℕ) (menu : List SlotFields) (needs : List Need)
+    (lead_in : Option SlotFields) (placed : List Placed)
+    → IsPlacedLeadIn window menu (from_menu menu) needs lead_in
+    → ArePlaced window 0 (items_of (from_menu menu) needs lead_in) placed
+    → IsMenuPlan window menu needs placed
 unfolding IsPlacedLeadIn items_of items_from
 menu-placed window menu needs None placed can all = record {
   lead_in = false;
@@ -59,11 +65,21 @@ menu-placed window menu (first ∷ needs) (Some slot) placed is all =
     let items : List Item = map (item_of (from_menu menu)) (first ∷ needs) in
     record {
       lead_in = true;
-      without = ((λ e. absurd (not-false e)), (λ can. absurd (omega (arith, is.0, (needed-can window (map open_of items) can).0))));
-      whole = plan-placed window (items_from true menu (first ∷ needs)) placed (lead-among window (class_of first.header) menu slot items placed is.2 all);
+      without = (
+        (λ e. absurd (not-false e)),
+        (λ can. absurd (omega (arith, is.0, (needed-can window (map open_of items) can).0))),
+      );
+      whole = plan-placed window (items_from true menu (first ∷ needs)) placed
+          (lead-among window (class_of first.header) menu slot items placed is.2 all);
     }
 
-pub menu-part : (window : ℕ) (menu : List SlotFields) (needs : List Need) (after : ℕ) (old new : List Placed) → old ≡ [] → PlacesPart window menu (from_menu menu) needs 0 after old new → IsMenuPlan window menu needs new
+-- a part that is placed by what is needed after each frame is its plan from the menu
+pub menu-part : (window : ℕ) (menu : List SlotFields) (needs : List Need) (after : ℕ)
+    (old new : List Placed) → old ≡ []
+    → PlacesPart window menu (from_menu menu) needs 0 after old new
+    → IsMenuPlan window menu needs new
 menu-part window menu needs after old new none part =
-    let places = subst (λ l. PlacesOn window 0 after (items_of (from_menu menu) needs part.lead_in) [] l new) none part.places in
-    menu-placed window menu needs part.lead_in new part.least (places-all window after (items_of (from_menu menu) needs part.lead_in) new places)
+    let places = subst (λ l. PlacesOn window 0 after
+    (items_of (from_menu menu) needs part.lead_in) [] l new) none part.places in
+    menu-placed window menu needs part.lead_in new
+    part.least (places-all window after (items_of (from_menu menu) needs part.lead_in) new places)

@@ -1,16 +1,16 @@
 -- The largest areas of a menu, computed once for all frames.
-use Rattle.std.specs.Prelude.{◌≡◌, ℕ, ◌≤◌, if◌then◌else◌, Bool, List}
-use Rattle.frame_header.specs.Fields.{SlotFields, ClassFields}
-use Rattle.slot_plan.specs.Parts.{areas_with}
-use Rattle.slot_plan.specs.Reserve.{greatest}
+use Rattle.std.specs.Prelude.{Bool, if◌then◌else◌, List, ℕ, ◌≡◌, ◌≤◌}
+use Rattle.frame_header.specs.{Fields.{ClassFields, SlotFields}, Limits.most_frame_length}
 use Rattle.rate_plan.specs.declared.largest.Largest.{Largest}
-use Rattle.frame_header.specs.Limits.{most_frame_length}
+use Rattle.slot_plan.specs.{Parts.areas_with, Reserve.greatest}
 
 -- that of a frame, by whether it has a check word
 abbrev pub largest_for : Largest → Bool → ℕ
 largest_for largest protected = if protected then largest.protected else largest.unprotected
 
 -- these are the largest areas, of which none is above 1,441
-pub record AreLargest (class : ClassFields) (menu : List SlotFields) (largest : Largest) : Type 0 where
-  pub are : (protected : Bool) → largest_for largest protected ≡ greatest (areas_with class protected menu)
+pub record AreLargest (class : ClassFields) (menu : List SlotFields)
+    (largest : Largest) : Type 0 where
+  pub are : (protected : Bool)
+      → largest_for largest protected ≡ greatest (areas_with class protected menu)
   pub most : (protected : Bool) → largest_for largest protected ≤ most_frame_length

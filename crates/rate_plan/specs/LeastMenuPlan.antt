@@ -1,34 +1,34 @@
--- The plan from a menu as a value: of all lists of slots from it the first, in the order of their areas, for which there is a layout; and
--- the first unfit frame where there is none.
-use Rattle.std.specs.Prelude.{ℕ, ◌+◌, ◌≡◌, is_none, Bool, true, false, List, length, take, find, unwrap_or, ok_or, Option, Result, Ok, Err, IfOk, IfErr, MatchResult}
-use Rattle.std.specs.List.{range_with_len}
-use Rattle.std.specs.Option.{option_or}
+-- The plan from a menu as a value: of all lists of slots from it the first, in the order of
+-- their areas, for which there is a layout; and the first unfit frame where there is none.
+use Rattle.std.specs.{List.range_with_len, Option.option_or}
+use Rattle.std.specs.Prelude.{Bool, Err, false, find, IfErr, IfOk, is_none, length, List}
+use Rattle.std.specs.Prelude.{MatchResult, Ok, ok_or, Option, Result, take, true, unwrap_or, ℕ, ◌+◌}
+use Rattle.std.specs.Prelude.{◌≡◌}
 use Rattle.frame_header.specs.Fields.{SlotFields}
-use Rattle.slot_plan.specs.declared.needs.Need.{Need}
-use Rattle.slot_plan.specs.declared.needs.Placed.{Placed}
-use Rattle.slot_plan.specs.declared.needs.Plan.{Plan}
-use Rattle.slot_plan.specs.LeastPlan.{first_list, least_of}
-use Rattle.slot_plan.specs.Parts.{window_in}
-use Rattle.slot_plan.specs.Plans.{entries}
-use Rattle.rate_plan.specs.declared.fault.RateFault.{RateFault}
-use Rattle.rate_plan.specs.declared.fault.RateFault.TheVariants.{Unfit, Memory}
-use Rattle.rate_plan.specs.Menus.{items_from, IsMenuPlan, Refuses}
+use Rattle.rate_plan.specs.Menus.{IsMenuPlan, items_from, Refuses}
+use Rattle.rate_plan.specs.declared.fault.RateFault.{RateFault, TheVariants.{Memory, Unfit}}
+use Rattle.slot_plan.specs.{LeastPlan.{first_list, least_of}, Parts.window_in, Plans.entries}
+use Rattle.slot_plan.specs.declared.needs.{Need.Need, Placed.Placed, Plan.Plan}
 
 -- the first list without a lead-in, or else the first with one
 abbrev pub least_from : ℕ → List SlotFields → List Need → Option (List Placed)
-least_from window menu needs = option_or (least_of window (items_from false menu needs)) (least_of window (items_from true menu needs))
+least_from window menu needs = option_or (least_of window (items_from false menu needs))
+    (least_of window (items_from true menu needs))
 
 -- there is no list for the frames up to this one, even after a lead-in
 abbrev pub is_unfit : ℕ → List SlotFields → List Need → ℕ → Bool
-is_unfit window menu needs i = is_none (first_list window (items_from true menu (take (i + 1) needs)))
+is_unfit window menu needs i =
+    is_none (first_list window (items_from true menu (take (i + 1) needs)))
 
 -- the first such frame
 abbrev pub first_unfit_in : ℕ → List SlotFields → List Need → ℕ
-first_unfit_in window menu needs = unwrap_or (find (is_unfit window menu needs) (range_with_len 0 (length needs))) 0
+first_unfit_in window menu needs =
+    unwrap_or (find (is_unfit window menu needs) (range_with_len 0 (length needs))) 0
 
 -- the plan, or the first unfit frame
 unfoldable pub least_menu_plan : ℕ → List SlotFields → List Need → Result (List Placed) ℕ
-least_menu_plan window menu needs = ok_or (least_from window menu needs) (first_unfit_in window menu needs)
+least_menu_plan window menu needs =
+    ok_or (least_from window menu needs) (first_unfit_in window menu needs)
 
 -- what a fault says where this is the plan, or the first unfit frame
 abbrev pub IsMenuFault : Result (List Placed) ℕ → RateFault → Type 0
@@ -36,10 +36,12 @@ IsMenuFault plan (Unfit i) = plan ≡ Err i
 IsMenuFault plan Memory = Unit {0}
 
 -- what is answered for a menu and these frames
-pub record IsMenuAnswer (menu : List SlotFields) (needs : List Need) (result : Result Plan RateFault) : Type 0 where
+pub record IsMenuAnswer (menu : List SlotFields) (needs : List Need)
+    (result : Result Plan RateFault) : Type 0 where
   -- a plan is that of the menu
   pub plan : IfOk result (λ plan. IsMenuPlan (window_in needs) menu needs (entries plan))
   -- a refusal names the first unfit frame
   pub refusal : IfErr result (Refuses (window_in needs) menu needs)
   -- both are those of the first list
-  pub least : MatchResult result (λ plan. least_menu_plan (window_in needs) menu needs ≡ Ok (entries plan)) (IsMenuFault (least_menu_plan (window_in needs) menu needs))
+  pub least : MatchResult result (λ plan. least_menu_plan (window_in needs) menu needs
+      ≡ Ok (entries plan)) (IsMenuFault (least_menu_plan (window_in needs) menu needs))

@@ -1,15 +1,12 @@
 -- The plan of one part whose frames, and whose lead-in, have slots of one menu.
-use Rattle.std.specs.Prelude.{◌≡◌, ℕ, ◌+◌, ◌<◌, ◌≤◌, ◌↔◌, Bool, true, false, List, [], ◌∷◌, map, length, take, AllPairs}
-use Rattle.frame_header.specs.Fields.{SlotFields, ClassFields, HeaderFields}
-use Rattle.frame_header.specs.Limits.{most_frames}
+use Rattle.std.specs.Prelude.{AllPairs, Bool, false, length, List, map, take, true, ℕ, [], ◌+◌, ◌<◌}
+use Rattle.std.specs.Prelude.{◌↔◌, ◌∷◌, ◌≡◌, ◌≤◌}
+use Rattle.frame_header.specs.{Fields.{ClassFields, HeaderFields, SlotFields}, Limits.most_frames}
 use Rattle.frame_header.specs.Tables.{class_of}
-use Rattle.slot_plan.specs.declared.needs.Need.{Need}
-use Rattle.slot_plan.specs.declared.needs.Placed.{Placed}
+use Rattle.rate_plan.specs.declared.fault.RateFault.{RateFault, TheVariants.{Memory, Unfit}}
 use Rattle.slot_plan.specs.Lists.{CanBeLaid}
-use Rattle.slot_plan.specs.Parts.{Item, open_of, item_of, lead_in_of, areas_with, AreOfClass}
-use Rattle.slot_plan.specs.Plans.{IsPlanFor}
-use Rattle.rate_plan.specs.declared.fault.RateFault.{RateFault}
-use Rattle.rate_plan.specs.declared.fault.RateFault.TheVariants.{Unfit, Memory}
+use Rattle.slot_plan.specs.Parts.{areas_with, AreOfClass, Item, item_of, lead_in_of, open_of}
+use Rattle.slot_plan.specs.{Plans.IsPlanFor, declared.needs.{Need.Need, Placed.Placed}}
 
 -- whatever its header, a frame has any slot of the menu
 abbrev pub from_menu : List SlotFields → HeaderFields → List SlotFields
@@ -17,7 +14,8 @@ from_menu menu header = menu
 
 -- in this class the areas of the slots ascend, whether or not the frames have check words
 abbrev pub AreAscending : ClassFields → List SlotFields → Type 0
-AreAscending class menu = (protected : Bool) → AllPairs (λ m n. m < n) (areas_with class protected menu)
+AreAscending class menu =
+    (protected : Bool) → AllPairs (λ m n. m < n) (areas_with class protected menu)
 
 -- a menu for frames of this class
 pub record IsMenuOf (class : ClassFields) (menu : List SlotFields) : Type 0 where
@@ -42,20 +40,24 @@ IsMenu menu (first ∷ needs) = AreAscending (class_of first.header) menu
 unfoldable pub items_from : Bool → List SlotFields → List Need → List Item
 items_from false menu needs = map (item_of (from_menu menu)) needs
 items_from true menu [] = []
-items_from true menu (first ∷ needs) = lead_in_of (class_of first.header) menu ∷ map (item_of (from_menu menu)) (first ∷ needs)
+items_from true menu (first ∷ needs) =
+    lead_in_of (class_of first.header) menu ∷ map (item_of (from_menu menu)) (first ∷ needs)
 
 -- some list of areas from the menu has a layout, after a lead-in or without one
 abbrev pub CanBeLaidFrom : ℕ → Bool → List SlotFields → List Need → Type 0
-CanBeLaidFrom window lead_in menu needs = CanBeLaid window (map open_of (items_from lead_in menu needs))
+CanBeLaidFrom window lead_in menu needs =
+    CanBeLaid window (map open_of (items_from lead_in menu needs))
 
--- The plan: with a lead-in exactly if no list has a layout without one, the lexicographically least list with or without it, laid as early
--- as it may be.
-pub record IsMenuPlan (window : ℕ) (menu : List SlotFields) (needs : List Need) (placed : List Placed) : Type 0 where
+-- The plan: with a lead-in exactly if no list has a layout without one, the
+-- lexicographically least list with or without it, laid as early as it may be.
+pub record IsMenuPlan (window : ℕ) (menu : List SlotFields) (needs : List Need)
+    (placed : List Placed) : Type 0 where
   pub lead_in : Bool
   pub without : (lead_in ≡ false) ↔ CanBeLaidFrom window false menu needs
   pub whole : IsPlanFor window (items_from lead_in menu needs) placed
 
--- No list has a layout, after a lead-in or without one, and this is the first frame up to which none has, even after one.
+-- No list has a layout, after a lead-in or without one, and
+-- this is the first frame up to which none has, even after one.
 pub record IsUnfit (window : ℕ) (menu : List SlotFields) (needs : List Need) (i : ℕ) : Type 0 where
   pub never : (lead_in : Bool) → CanBeLaidFrom window lead_in menu needs → ⊥
   pub within : i < length needs

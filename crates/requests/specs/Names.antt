@@ -1,6 +1,5 @@
 -- The names of pieces.
-use Rattle.std.specs.Prelude.{ℕ, ◌+◌, ◌/◌, ◌%◌, List, ◌∷◌, ◌++◌, map, codes}
-use Rattle.std.specs.List.{range_with_len}
+use Rattle.std.specs.{List.range_with_len, Prelude.{codes, List, map, ℕ, ◌%◌, ◌++◌, ◌+◌, ◌/◌, ◌∷◌}}
 
 -- that of a piece, counted from 1: the prefix, two decimal digits, and `.mp3`
 unfoldable pub piece_name : List ℕ → ℕ → List ℕ

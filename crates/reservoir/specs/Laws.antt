@@ -1,11 +1,9 @@
 -- Laws of windows over main data.
-use Rattle.std.specs.Prelude.{ℕ, ◌+◌, ◌≤◌, List, [], ◌∷◌, ◌++◌}
+use Rattle.std.specs.Prelude.{List, ℕ, [], ◌++◌, ◌+◌, ◌∷◌, ◌≤◌}
 use Rattle.circular_buffer.specs.Buffer.{keep_last}
-use Rattle.frame_header.specs.Fields.{HeaderFields, IsHeader}
-use Rattle.frame_header.specs.Tables.{class_of, area_of}
-use Rattle.side_info.specs.declared.side.Side.{Side}
-use Rattle.side_info.specs.Side.{SideFits}
+use Rattle.frame_header.specs.{Fields.{HeaderFields, IsHeader}, Tables.{area_of, class_of}}
 use Rattle.reservoir.specs.Window.{IsWindowOver, window_size}
+use Rattle.side_info.specs.{Side.SideFits, declared.side.Side.Side}
 
 -- all areas, one after the other
 abbrev pub joined : List (List ℕ) → List ℕ
@@ -17,9 +15,12 @@ abbrev pub held_behind : List ℕ → List (List ℕ) → List ℕ
 held_behind held [] = held
 held_behind held (area ∷ areas) = held_behind (keep_last window_size (held ++ area)) areas
 
+-- a window holds the end of all areas that were pushed, one after another
 abbrev pub AreasAreHeld : Type 0
 AreasAreHeld = (areas : List (List ℕ)) → IsWindowOver (held_behind [] areas) (joined areas)
 
--- a frame's area and its main_data_begin together have at most 1,939 bytes
+-- a frame's area and its main_data_begin together have at most 1,939 bytes, so no frame's main data
+-- begin further back than a window
 abbrev pub FramesAreHeld : Type 0
-FramesAreHeld = (h : HeaderFields) (s : Side) → IsHeader h → SideFits (class_of h) s → area_of (class_of h) h.slot h.protected + s.main_data_begin ≤ 1939
+FramesAreHeld = (h : HeaderFields) (s : Side) → IsHeader h → SideFits (class_of h) s
+    → area_of (class_of h) h.slot h.protected + s.main_data_begin ≤ 1939

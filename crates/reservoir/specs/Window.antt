@@ -1,10 +1,12 @@
--- What a window holds, and the main data of a frame in it (main_data_begin, ISO/IEC 11172-3 and 13818-3, 2.4.2.7). Here all areas, one
--- after the other, are called the main data.
-use Rattle.std.specs.Prelude.{◌≡◌, ℕ, ◌+◌, ◌-◌, ◌*◌, ◌/◌, List, [], ◌∷◌, ◌++◌, length, take, drop, replicate, Option, Some, None}
-use Rattle.circular_buffer.specs.Buffer.{keep_last}
+-- What a window holds, and the main data of a frame in it (main_data_begin, ISO/IEC 11172-3
+-- and 13818-3, 2.4.2.7). Here all areas, one after the other, are called the main data.
+use Rattle.std.specs.Prelude.{drop, length, List, None, Option, replicate, Some, take, ℕ, [], ◌*◌}
+use Rattle.std.specs.Prelude.{◌++◌, ◌+◌, ◌-◌, ◌/◌, ◌∷◌, ◌≡◌}
 use Rattle.bit_fields.specs.Bits.{bits}
+use Rattle.circular_buffer.specs.Buffer.{keep_last}
 
--- how many bytes a window holds
+-- how many bytes a window holds: more than main_data_begin and the frame lengths of the standard
+-- let a frame reach
 abbrev pub window_size : ℕ
 window_size = 2048
 

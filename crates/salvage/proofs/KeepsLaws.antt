@@ -1,44 +1,49 @@
 -- Of a file without fault all is read that its survey tells.
-use Rattle.std.proofs.Common.{◌≡◌, ℕ, zero, suc, ◌+◌, ◌<◌, ◌≤◌, ◌==◌, ◌&&◌, ◌||◌, Bool, true, false, cond, not, List, [], ◌∷◌, ◌++◌, length, drop, map, Option, Some, None, Ok, Err, refl, sym, ◌∙◌, ap, ap₂, subst, arith, append-nil, length-drop, slice_get, is_some, option_and_then, option_to_list}
-use Rattle.std.specs.List.{enumerate_from, cons_option}
-use Rattle.std.proofs.lemmas.Bool.{not-false, or_right, or_left}
-use Rattle.frame_header.specs.Fields.{HeaderFields, ClassFields, same_class}
-use Rattle.frame_header.specs.Tables.{class_of}
-use Rattle.side_info.specs.Frame.{word_said, word_right}
-use Rattle.sync_survey.specs.declared.items.Item.{Item}
-use Rattle.sync_survey.specs.declared.items.Item.TheVariants.{Frame, Free, Block, Zero, End, Nothing}
-use Rattle.sync_survey.specs.declared.places.Head.{Head}
-use Rattle.sync_survey.specs.declared.places.PlacedFrame.{PlacedFrame}
-use Rattle.sync_survey.specs.declared.places.Start.{Start}
-use Rattle.sync_survey.specs.Row.{Row}
+use Rattle.std.proofs.Common.{ap, append-nil, ap₂, arith, Bool, cond, drop, Err, false, is_some}
+use Rattle.std.proofs.Common.{length, length-drop, List, map, None, not, Ok, Option}
+use Rattle.std.proofs.Common.{option_and_then, option_to_list, refl, slice_get, Some, subst, suc}
+use Rattle.std.proofs.Common.{sym, true, zero, ℕ, [], ◌&&◌, ◌++◌, ◌+◌, ◌<◌, ◌==◌, ◌||◌, ◌∙◌, ◌∷◌}
+use Rattle.std.proofs.{Common.{◌≡◌, ◌≤◌}, lemmas.Bool.{not-false, or_left, or_right}}
+use Rattle.std.specs.List.{cons_option, enumerate_from}
+use Rattle.frame_header.specs.{Fields.{ClassFields, HeaderFields, same_class}, Tables.class_of}
+use Rattle.salvage.proofs.ProgressLaws.{few_counted}
+use Rattle.salvage.proofs.SearchLaws.{first_here, first_later, next_usable-some, not_usable}
+use Rattle.salvage.proofs.WalkLaws.{things-item, things-past}
+use Rattle.salvage.specs.Damaged.{damaged, damaged_by, damaged_from, DamagedFields, gap_between}
+use Rattle.salvage.specs.{Damaged.{things_from, with_number}, Laws.SalvageKeepsStreams}
+use Rattle.salvage.specs.Sound.{end_of_sound, FrameRuns, is_sound, judged, judged_row, judged_runs}
+use Rattle.salvage.specs.Sound.{runs_of, sound_end}
+use Rattle.salvage.specs.Usable.{has_right_word, if_usable, is_head, is_usable, usable_anchored}
+use Rattle.salvage.specs.Walk.{blocks_in, first_frame, gaps_of, if_read, is_read, IsItem, item_read}
+use Rattle.salvage.specs.{Walk.{PlacedThing, things}, declared.usable.Role.Role}
+use Rattle.salvage.specs.declared.usable.Role.TheVariants.{First, Later}
+use Rattle.side_info.specs.Frame.{word_right, word_said}
+use Rattle.sync_survey.proofs.{FaultsLaws.marked-length, Progress.first_of_stream}
+use Rattle.sync_survey.proofs.RunsLaws.{frames-next, item_of-is, run-ends}
+use Rattle.sync_survey.proofs.StartLaws.{anchored_frame-is, first_of-is, start-front, start_is}
+use Rattle.sync_survey.proofs.SurveyParts.{all_faults-none_sound, AreSound, frames_from}
+use Rattle.sync_survey.proofs.SurveyParts.{some_frames, StandWell, surveyed-parts, told_from}
+use Rattle.sync_survey.proofs.WalkLaws.{no_fault, nothing_left, numbered-blocks, numbered-frames}
+use Rattle.sync_survey.proofs.WalkLaws.{numbered-stop}
+use Rattle.sync_survey.specs.Faults.{class_from, has_wrong_word, overlaps, overruns, SurveyFields}
+use Rattle.sync_survey.specs.Items.{fits, item_at, size_of}
+use Rattle.sync_survey.specs.MainData.{end_before, end_behind, end_of_data, is_lost, is_silent}
+use Rattle.sync_survey.specs.MainData.{lacks_data, marked, marked_row, place, points_too_far}
+use Rattle.sync_survey.specs.{MainData.{row_of, rows_of}, Row.Row}
+use Rattle.sync_survey.specs.Runs.{AreEndToEnd, block_as, blocks_of, frame_as, frames_of, item_of}
+use Rattle.sync_survey.specs.Runs.{Placed, run, whole}
+use Rattle.sync_survey.specs.Start.{anchored_frame, first_anchored, front_end_of, longest_junk}
+use Rattle.sync_survey.specs.Start.{start_at, start_behind}
+use Rattle.sync_survey.specs.Walk.{all_blocks, head_of, numbered, numbered_at, stream_run}
+use Rattle.sync_survey.specs.declared.items.Item.{Item, TheVariants.{Block, Frame, Free, Zero}}
+use Rattle.sync_survey.specs.declared.places.{Head.Head, PlacedFrame.PlacedFrame, Start.Start}
 use Rattle.sync_survey.specs.declared.runs.Part.TheVariants.{Front, Stream}
 use Rattle.sync_survey.specs.declared.survey_fault.SurveyFault.{SurveyFault}
-use Rattle.sync_survey.specs.Items.{item_at, size_of, fits}
-use Rattle.sync_survey.specs.Runs.{Placed, whole, item_of, run, AreEndToEnd, frame_as, block_as, frames_of, blocks_of}
-use Rattle.sync_survey.specs.Start.{anchored_frame, first_anchored, longest_junk, start_behind, start_at, front_end_of}
-use Rattle.sync_survey.specs.Walk.{stream_run, head_of, numbered, numbered_at, all_blocks}
-use Rattle.sync_survey.specs.MainData.{row_of, rows_of, place, is_silent, points_too_far, lacks_data, end_of_data, end_behind, end_before, is_lost, marked_row, marked}
-use Rattle.sync_survey.specs.Faults.{SurveyFields, has_wrong_word, overlaps, overruns, class_from}
-use Rattle.sync_survey.proofs.RunsLaws.{item_of-is, run-ends, frames-next}
-use Rattle.sync_survey.proofs.StartLaws.{start_is, start-front, first_of-is, anchored_frame-is}
-use Rattle.sync_survey.proofs.WalkLaws.{numbered-frames, numbered-blocks, numbered-stop, no_fault, nothing_left}
-use Rattle.sync_survey.proofs.SurveyParts.{frames_from, told_from, surveyed-parts, StandWell, AreSound, all_faults-none_sound, some_frames}
-use Rattle.sync_survey.proofs.FaultsLaws.{marked-length}
-use Rattle.sync_survey.proofs.Progress.{first_of_stream}
-use Rattle.salvage.specs.declared.usable.Role.{Role}
-use Rattle.salvage.specs.declared.usable.Role.TheVariants.{First, Later}
-use Rattle.salvage.specs.Usable.{has_right_word, is_head, is_usable, if_usable, usable_anchored}
-use Rattle.salvage.specs.Walk.{is_read, if_read, item_read, first_frame, IsItem, PlacedThing, things, gaps_of, blocks_in}
-use Rattle.salvage.specs.Sound.{FrameRuns, runs_of, is_sound, sound_end, end_of_sound, judged_row, judged, judged_runs}
-use Rattle.salvage.specs.Damaged.{DamagedFields, damaged_from, things_from, gap_between, with_number, damaged_by, damaged}
-use Rattle.salvage.proofs.WalkLaws.{things-item, things-past}
-use Rattle.salvage.proofs.SearchLaws.{first_here, not_usable, next_usable-some, first_later}
-use Rattle.salvage.specs.Laws.{SalvageKeepsStreams}
-use Rattle.salvage.proofs.ProgressLaws.{few_counted}
 
 -- ---- frames without fault are usable
 
-right_by : (protected right : Bool) → (protected && not right) ≡ false → (not protected || right) ≡ true
+right_by : (protected right : Bool) → (protected && not right) ≡ false
+    → (not protected || right) ≡ true
 right_by true false is = absurd cc
 right_by _ _ is = refl
 
@@ -47,43 +52,64 @@ pub record HasNoFault (file : List ℕ) (class : ClassFields) (r : Row) : Type 0
   pub same : not (same_class (class_of r.header) class) ≡ false
   pub word : has_wrong_word (word_said (drop r.offset file)) r ≡ false
 
-word_by : (file : List ℕ) (class : ClassFields) (p : PlacedFrame) → HasNoFault file class (row_of file p) → has_right_word p.header (drop p.offset file) ≡ true
-word_by file class p sound = right_by p.header.protected (word_said (drop p.offset file) == word_right p.header (drop p.offset file)) sound.word
+word_by : (file : List ℕ) (class : ClassFields) (p : PlacedFrame)
+    → HasNoFault file class (row_of file p) → has_right_word p.header (drop p.offset file) ≡ true
+word_by file class p sound = right_by p.header.protected (word_said (drop p.offset file)
+    == word_right p.header (drop p.offset file)) sound.word
 
-usable_by : (file : List ℕ) (class : ClassFields) (p : PlacedFrame) → HasNoFault file class (row_of file p) → is_usable (Later class) p (drop p.offset file) ≡ true
-usable_by file class p sound = ap₂ (λ (a b : Bool). a && b) (not-false _ sound.same) (word_by file class p sound)
+usable_by : (file : List ℕ) (class : ClassFields) (p : PlacedFrame)
+    → HasNoFault file class (row_of file p) → is_usable (Later class) p (drop p.offset file) ≡ true
+usable_by file class p sound =
+    ap₂ (λ (a b : Bool). a && b) (not-false _ sound.same) (word_by file class p sound)
 
 abbrev AreUsable : List ℕ → ClassFields → List PlacedFrame → Type 0
 AreUsable file class [] = Unit {0}
-AreUsable file class (p ∷ ps) = (is_usable (Later class) p (drop p.offset file) ≡ true) × AreUsable file class ps
+AreUsable file class (p ∷ ps) =
+    (is_usable (Later class) p (drop p.offset file) ≡ true) × AreUsable file class ps
 
-usable_all : (file : List ℕ) (class : ClassFields) (ps : List PlacedFrame) → ((i : ℕ) (r : Row) → slice_get (rows_of file ps) i ≡ Some r → HasNoFault file class r) → AreUsable file class ps
+usable_all : (file : List ℕ) (class : ClassFields) (ps : List PlacedFrame)
+    → ((i : ℕ) (r : Row) → slice_get (rows_of file ps) i ≡ Some r → HasNoFault file class r)
+    → AreUsable file class ps
 usable_all file class [] sound = tt
-usable_all file class (p ∷ ps) sound = (usable_by file class p (sound zero (row_of file p) refl), usable_all file class ps (λ i r is. sound (suc i) r is))
+usable_all file class (p ∷ ps) sound = (
+  usable_by file class p (sound zero (row_of file p) refl),
+  usable_all file class ps (λ i r is. sound (suc i) r is),
+)
 
 -- ---- its items are all that is read
 
 abbrev as_thing : Placed → PlacedThing
 as_thing p = record { offset = p.offset; thing = IsItem p.item }
 
-read_by : (file : List ℕ) (class : ClassFields) (at : ℕ) (item : Item) → item_of Stream file at ≡ Some item → is_read file (Later class) at item ≡ true → item_read file (Later class) at ≡ Some item
+read_by : (file : List ℕ) (class : ClassFields) (at : ℕ) (item : Item)
+    → item_of Stream file at ≡ Some item → is_read file (Later class) at item ≡ true
+    → item_read file (Later class) at ≡ Some item
 unfolding item_read
-read_by file class at item here reads = ap (if_read file (Later class) at) here ∙ ap (λ b. cond b (Some item) None) reads
+read_by file class at item here reads =
+    ap (if_read file (Later class) at) here ∙ ap (λ b. cond b (Some item) None) reads
 
-item_reads : (file : List ℕ) (class : ClassFields) (at : ℕ) (item : Item) (ps : List PlacedFrame) → AreUsable file class (cons_option (frame_as at item) ps) → is_read file (Later class) at item ≡ true
+item_reads : (file : List ℕ) (class : ClassFields) (at : ℕ) (item : Item) (ps : List PlacedFrame)
+    → AreUsable file class (cons_option (frame_as at item) ps)
+    → is_read file (Later class) at item ≡ true
 item_reads file class at (Frame h) ps usable = usable.0
 item_reads file class at _ ps usable = refl
 
-rest_usable : (file : List ℕ) (class : ClassFields) (o : Option PlacedFrame) (ps : List PlacedFrame) → AreUsable file class (cons_option o ps) → AreUsable file class ps
+rest_usable : (file : List ℕ) (class : ClassFields) (o : Option PlacedFrame) (ps : List PlacedFrame)
+    → AreUsable file class (cons_option o ps) → AreUsable file class ps
 rest_usable file class None ps usable = usable
 rest_usable file class (Some p) ps usable = usable.1
 
-things_are : (file : List ℕ) (class : ClassFields) (from : ℕ) (ps : List Placed) (to : ℕ) → AreEndToEnd Stream file from ps to → AreUsable file class (frames_of ps) → length file ≤ to → things file class from ≡ map as_thing ps
-things_are file class from [] to ends usable past = things-past file class from (omega (arith, ends, past))
+things_are : (file : List ℕ) (class : ClassFields) (from : ℕ) (ps : List Placed) (to : ℕ)
+    → AreEndToEnd Stream file from ps to → AreUsable file class (frames_of ps) → length file ≤ to
+    → things file class from ≡ map as_thing ps
+things_are file class from [] to ends usable past =
+    things-past file class from (omega (arith, ends, past))
 things_are file class from (p ∷ ps) to ends usable past =
     ap (things file class) (sym ends.0)
-    ∙ things-item file class p.offset p.item (read_by file class p.offset p.item ends.1 (item_reads file class p.offset p.item (frames_of ps) usable))
-    ∙ ap (λ l. as_thing p ∷ l) (things_are file class (p.offset + size_of p.item) ps to ends.2 (rest_usable file class (frame_as p.offset p.item) (frames_of ps) usable) past)
+    ∙ things-item file class p.offset p.item (read_by file class
+    p.offset p.item ends.1 (item_reads file class p.offset p.item (frames_of ps) usable))
+    ∙ ap (λ l. as_thing p ∷ l) (things_are file class (p.offset + size_of p.item) ps to
+    ends.2 (rest_usable file class (frame_as p.offset p.item) (frames_of ps) usable) past)
 
 no_gaps : (ps : List Placed) → gaps_of (map as_thing ps) ≡ []
 no_gaps [] = refl
@@ -96,111 +122,166 @@ same_blocks (p ∷ ps) = ap (cons_option (block_as p.offset p.item)) (same_block
 abbrev runs_as : List PlacedFrame → List (List PlacedFrame) → FrameRuns
 runs_as first later = record { first = first; later = later }
 
-frame_run : (o : Option PlacedFrame) (runs : FrameRuns) (ps : List PlacedFrame) → runs ≡ runs_as ps [] → runs_as (option_to_list o ++ runs.first) runs.later ≡ runs_as (cons_option o ps) []
+frame_run : (o : Option PlacedFrame) (runs : FrameRuns) (ps : List PlacedFrame)
+    → runs ≡ runs_as ps []
+    → runs_as (option_to_list o ++ runs.first) runs.later ≡ runs_as (cons_option o ps) []
 frame_run None runs ps is = is
 frame_run (Some q) runs ps is = ap (λ (t : FrameRuns). runs_as (q ∷ t.first) t.later) is
 
 one_run : (ps : List Placed) → runs_of (map as_thing ps) ≡ runs_as (frames_of ps) []
 one_run [] = refl
-one_run (p ∷ ps) = frame_run (frame_as p.offset p.item) (runs_of (map as_thing ps)) (frames_of ps) (one_run ps)
+one_run (p ∷ ps) =
+    frame_run (frame_as p.offset p.item) (runs_of (map as_thing ps)) (frames_of ps) (one_run ps)
 
 -- ---- its marks are the same
 
 sound_well : (place ended : ℕ) (r : Row) → StandWell place ended r → is_sound place ended r ≡ true
-sound_well place ended r well = ap₂ (λ (a b : Bool). a && b) (ap₂ (λ (a b : Bool). not a && not b) well.begins well.apart) (ap not well.within)
+sound_well place ended r well = ap₂ (λ (a b : Bool). a && b)
+    (ap₂ (λ (a b : Bool). not a && not b) well.begins well.apart) (ap not well.within)
 
-unsound_far : (place ended : ℕ) (r : Row) → points_too_far place r ≡ true → is_sound place ended r ≡ false
-unsound_far place ended r far = ap (λ b. (not b && not (overlaps place ended r)) && not (overruns place r)) far
+unsound_far : (place ended : ℕ) (r : Row) → points_too_far place r ≡ true
+    → is_sound place ended r ≡ false
+unsound_far place ended r far =
+    ap (λ b. (not b && not (overlaps place ended r)) && not (overruns place r)) far
 
 second : (a b : Bool) → (a && b) ≡ true → b ≡ true
 second true b is = is
 second false b is = absurd cc
 
-not_sound : (place ended : ℕ) (r : Row) (lost : Bool) → lacks_data place ended r ≡ lost → (lost ≡ false → StandWell place ended r) → not (is_sound place ended r) ≡ lost
+not_sound : (place ended : ℕ) (r : Row) (lost : Bool) → lacks_data place ended r ≡ lost
+    → (lost ≡ false → StandWell place ended r) → not (is_sound place ended r) ≡ lost
 not_sound place ended r true is well = ap not (unsound_far place ended r (second _ _ is))
 not_sound place ended r false is well = ap not (sound_well place ended r (well refl))
 
-swap : (silent sound : Bool) (end ended : ℕ) → cond (sound && not silent) end ended ≡ cond (silent || not sound) ended end
+swap : (silent sound : Bool) (end ended : ℕ)
+    → cond (sound && not silent) end ended ≡ cond (silent || not sound) ended end
 swap true true end ended = refl
 swap true false end ended = refl
 swap false true end ended = refl
 swap false false end ended = refl
 
-end_same : (place ended : ℕ) (r : Row) → not (is_sound place ended r) ≡ lacks_data place ended r → sound_end place ended (Some r) ≡ end_behind place ended (Some r)
-end_same place ended r same = swap (is_silent r) (is_sound place ended r) (end_of_data place r) ended ∙ ap (λ b. cond (is_silent r || b) ended (end_of_data place r)) same
+end_same : (place ended : ℕ) (r : Row) → not (is_sound place ended r) ≡ lacks_data place ended r
+    → sound_end place ended (Some r) ≡ end_behind place ended (Some r)
+end_same place ended r same =
+    swap (is_silent r) (is_sound place ended r) (end_of_data place r) ended
+    ∙ ap (λ b. cond (is_silent r || b) ended (end_of_data place r)) same
 
-module _ (file : List ℕ) (head : Option Head) (class : ClassFields) (allowed : ℕ) (rows : List Row) (sound : AreSound file head class allowed rows) where
-  one_same : (i : ℕ) (r : Row) → slice_get rows i ≡ Some r → not (is_sound (place head rows i) (end_before head rows i) r) ≡ is_lost head rows i r
-  one_same i r is = not_sound (place head rows i) (end_before head rows i) r (is_lost head rows i r) refl (sound i r is).main
+module _ (file : List ℕ) (head : Option Head) (class : ClassFields) (allowed : ℕ) (rows : List Row)
+    (sound : AreSound file head class allowed rows) where
+  one_same : (i : ℕ) (r : Row) → slice_get rows i ≡ Some r
+      → not (is_sound (place head rows i) (end_before head rows i) r) ≡ is_lost head rows i r
+  one_same i r is = not_sound (place head rows i) (end_before head rows i) r
+      (is_lost head rows i r) refl (sound i r is).main
 
-  end_step : (i : ℕ) (o : Option Row) → slice_get rows i ≡ o → end_of_sound head rows i ≡ end_before head rows i → sound_end (place head rows i) (end_of_sound head rows i) o ≡ end_behind (place head rows i) (end_before head rows i) o
+  end_step : (i : ℕ) (o : Option Row) → slice_get rows i ≡ o → end_of_sound head rows i
+      ≡ end_before head rows i → sound_end (place head rows i) (end_of_sound head rows i) o
+      ≡ end_behind (place head rows i) (end_before head rows i) o
   end_step i None is so_far = so_far
-  end_step i (Some r) is so_far = ap (λ n. sound_end (place head rows i) n (Some r)) so_far ∙ end_same (place head rows i) (end_before head rows i) r (one_same i r is)
+  end_step i (Some r) is so_far = ap (λ n. sound_end (place head rows i) n (Some r)) so_far
+      ∙ end_same (place head rows i) (end_before head rows i) r (one_same i r is)
 
   ends_same : (i : ℕ) → end_of_sound head rows i ≡ end_before head rows i
   unfolding end_of_sound end_before
   ends_same zero = refl
   ends_same (suc i) = end_step i (slice_get rows i) refl (ends_same i)
 
-  row_same : (i : ℕ) (r : Row) → slice_get rows i ≡ Some r → judged_row head rows i r ≡ marked_row head rows i r
-  row_same i r is = ap (λ n. record r { lost = not (is_sound (place head rows i) n r) }) (ends_same i) ∙ ap (λ b. record r { lost = b }) (one_same i r is)
+  row_same : (i : ℕ) (r : Row) → slice_get rows i ≡ Some r
+      → judged_row head rows i r ≡ marked_row head rows i r
+  row_same i r is =
+      ap (λ n. record r { lost = not (is_sound (place head rows i) n r) }) (ends_same i)
+      ∙ ap (λ b. record r { lost = b }) (one_same i r is)
 
-each_same : (f g : ℕ → Row → Row) (n : ℕ) (xs : List Row) → ((i : ℕ) (x : Row) → slice_get xs i ≡ Some x → f (n + i) x ≡ g (n + i) x) → map (λ (p : ℕ × Row). f p.0 p.1) (enumerate_from n xs) ≡ map (λ (p : ℕ × Row). g p.0 p.1) (enumerate_from n xs)
+each_same : (f g : ℕ → Row → Row) (n : ℕ) (xs : List Row)
+    → ((i : ℕ) (x : Row) → slice_get xs i ≡ Some x → f (n + i) x ≡ g (n + i) x)
+    → map (λ (p : ℕ × Row). f p.0 p.1) (enumerate_from n xs)
+    ≡ map (λ (p : ℕ × Row). g p.0 p.1) (enumerate_from n xs)
 each_same f g n [] same = refl
 each_same f g n (x ∷ xs) same =
     let here : n + 0 ≡ n = omega arith in
     ap₂ (λ (a : Row) (l : List Row). a ∷ l) (subst (λ m. f m x ≡ g m x) here (same zero x refl))
-    (each_same f g (n + 1) xs (λ i y is. let next : n + suc i ≡ n + 1 + i = omega arith in subst (λ m. f m y ≡ g m y) next (same (suc i) y is)))
+    (each_same f g (n + 1) xs (λ i y is. let next : n + suc i ≡ n + 1 + i = omega arith in
+    subst (λ m. f m y ≡ g m y) next (same (suc i) y is)))
 
-judged-marked : (file : List ℕ) (head : Option Head) (class : ClassFields) (allowed : ℕ) (rows : List Row) → AreSound file head class allowed rows → judged head rows ≡ marked head rows
+judged-marked : (file : List ℕ) (head : Option Head) (class : ClassFields) (allowed : ℕ)
+    (rows : List Row) → AreSound file head class allowed rows → judged head rows ≡ marked head rows
 unfolding judged marked
 judged-marked file head class allowed rows sound =
-    each_same (judged_row head rows) (marked_row head rows) 0 rows (λ i r is. let same : i ≡ 0 + i = omega arith in subst (λ m. judged_row head rows m r ≡ marked_row head rows m r) same (row_same file head class allowed rows sound i r is))
+    each_same (judged_row head rows) (marked_row head rows) 0 rows
+    (λ i r is. let same : i ≡ 0 + i = omega arith in subst (λ m. judged_row head rows m r
+    ≡ marked_row head rows m r) same (row_same file head class allowed rows sound i r is))
 
 -- ---- its first frame is the first that is read
 
-head_seen : (file : List ℕ) (p : PlacedFrame) (head : Head) → head_of file p ≡ Some head → is_head p (drop p.offset file) ≡ true
+head_seen : (file : List ℕ) (p : PlacedFrame) (head : Head) → head_of file p ≡ Some head
+    → is_head p (drop p.offset file) ≡ true
 unfolding head_of
 head_seen file p head is = ap is_some is
 
-first_usable : (file : List ℕ) (class : ClassFields) (start : Start) (o : Option Head) → item_of Stream file start.first.offset ≡ Some (Frame start.first.header) → head_of file start.first ≡ o
-    → ((i : ℕ) (r : Row) → slice_get (rows_of file (numbered o (frames_of (stream_run file start).items))) i ≡ Some r → HasNoFault file class r) → is_usable First start.first (drop start.first.offset file) ≡ true
-first_usable file class start (Some head) here is sound = or_right _ _ (head_seen file start.first head is)
+first_usable : (file : List ℕ) (class : ClassFields) (start : Start) (o : Option Head)
+    → item_of Stream file start.first.offset ≡ Some (Frame start.first.header)
+    → head_of file start.first ≡ o → ((i : ℕ) (r : Row)
+    → slice_get (rows_of file (numbered o (frames_of (stream_run file start).items))) i ≡ Some r
+    → HasNoFault file class r) → is_usable First start.first (drop start.first.offset file) ≡ true
+first_usable file class start (Some head) here is sound =
+    or_right _ _ (head_seen file start.first head is)
 first_usable file class start None here is sound =
     let frames = frames-next Stream file start.first.offset (Frame start.first.header) here in
-    or_left _ _ (word_by file class start.first (sound zero (row_of file start.first) (ap (λ ps. slice_get (rows_of file ps) zero) frames)))
+    or_left _ _ (word_by file class start.first (sound zero (row_of file start.first)
+    (ap (λ ps. slice_get (rows_of file ps) zero) frames)))
 
-read_first : (file : List ℕ) (at : ℕ) (h : HeaderFields) → item_of Stream file at ≡ Some (Frame h) → is_usable First (record { offset = at; header = h }) (drop at file) ≡ true → option_and_then (frame_as at) (item_read file First at) ≡ Some (record { offset = at; header = h })
+read_first : (file : List ℕ) (at : ℕ) (h : HeaderFields) → item_of Stream file at ≡ Some (Frame h)
+    → is_usable First (record { offset = at; header = h }) (drop at file) ≡ true
+    → option_and_then (frame_as at) (item_read file First at)
+    ≡ Some (record { offset = at; header = h })
 unfolding item_read
-read_first file at h here usable = ap (λ o. option_and_then (frame_as at) (if_read file First at o)) here ∙ ap (λ b. option_and_then (frame_as at) (cond b (Some (Frame h)) None)) usable
+read_first file at h here usable =
+    ap (λ o. option_and_then (frame_as at) (if_read file First at o)) here
+    ∙ ap (λ b. option_and_then (frame_as at) (cond b (Some (Frame h)) None)) usable
 
-no_frame : (file : List ℕ) (at : ℕ) (item : Item) (b : Bool) → item_at file at ≡ item → ((h : HeaderFields) → item ≡ Frame h → ⊥) → option_and_then (frame_as at) (item_read file First at) ≡ None
+no_frame : (file : List ℕ) (at : ℕ) (item : Item) (b : Bool) → item_at file at ≡ item
+    → ((h : HeaderFields) → item ≡ Frame h → ⊥)
+    → option_and_then (frame_as at) (item_read file First at) ≡ None
 unfolding item_read item_of
 no_frame file at (Frame h) b is none = absurd (none h refl)
-no_frame file at (Block block) b is none = ap (λ i. option_and_then (frame_as at) (if_read file First at (whole Stream file at i))) is ∙ by_fit (fits file at (Block block))
+no_frame file at (Block block) b is none =
+    ap (λ i. option_and_then (frame_as at) (if_read file First at (whole Stream file at i))) is
+    ∙ by_fit (fits file at (Block block))
   where
-    by_fit : (f : Bool) → option_and_then (frame_as at) (if_read file First at (cond f (Some (Block block)) None)) ≡ None
+    by_fit : (f : Bool)
+        → option_and_then (frame_as at) (if_read file First at (cond f (Some (Block block)) None))
+        ≡ None
     by_fit true = refl
     by_fit false = refl
-no_frame file at Zero b is none = ap (λ i. option_and_then (frame_as at) (if_read file First at (whole Stream file at i))) is ∙ by_fit (fits file at Zero)
+no_frame file at Zero b is none =
+    ap (λ i. option_and_then (frame_as at) (if_read file First at (whole Stream file at i))) is
+    ∙ by_fit (fits file at Zero)
   where
-    by_fit : (f : Bool) → option_and_then (frame_as at) (if_read file First at (cond f (Some Zero) None)) ≡ None
+    by_fit : (f : Bool)
+        → option_and_then (frame_as at) (if_read file First at (cond f (Some Zero) None)) ≡ None
     by_fit true = refl
     by_fit false = refl
-no_frame file at _ b is none = ap (λ i. option_and_then (frame_as at) (if_read file First at (whole Stream file at i))) is
+no_frame file at _ b is none =
+    ap (λ i. option_and_then (frame_as at) (if_read file First at (whole Stream file at i))) is
 
-usable_here : (file : List ℕ) (role : Role) (at : ℕ) (p : PlacedFrame) → anchored_frame file at ≡ Some p → is_usable role p (drop p.offset file) ≡ true → usable_anchored file role at ≡ Some p
+usable_here : (file : List ℕ) (role : Role) (at : ℕ) (p : PlacedFrame) → anchored_frame file at
+    ≡ Some p → is_usable role p (drop p.offset file) ≡ true → usable_anchored file role at ≡ Some p
 unfolding usable_anchored
-usable_here file role at p here usable = ap (if_usable file role) here ∙ ap (λ b. cond b (Some p) None) usable
+usable_here file role at p here usable =
+    ap (if_usable file role) here ∙ ap (λ b. cond b (Some p) None) usable
 
-module _ (file : List ℕ) (at : ℕ) (start : Start) (within : start.first.offset + size_of (Frame start.first.header) ≤ length file) (usable : is_usable First start.first (drop start.first.offset file) ≡ true) where
-  junk_first : (item : Item) → item_at file at ≡ item → ((h : HeaderFields) → item ≡ Frame h → ⊥) → first_anchored longest_junk file (at + 1) ≡ Some start.first → 0 < size_of (Frame start.first.header) → first_frame file at ≡ Some start.first
+module _ (file : List ℕ) (at : ℕ) (start : Start)
+    (within : start.first.offset + size_of (Frame start.first.header) ≤ length file)
+    (usable : is_usable First start.first (drop start.first.offset file) ≡ true) where
+  junk_first : (item : Item) → item_at file at ≡ item → ((h : HeaderFields) → item ≡ Frame h → ⊥)
+      → first_anchored longest_junk file (at + 1) ≡ Some start.first
+      → 0 < size_of (Frame start.first.header) → first_frame file at ≡ Some start.first
   unfolding first_anchored
   junk_first item is none found some =
       let first = first_of-is (anchored_frame file) longest_junk (at + 1) start.first found in
       let place = (anchored_frame-is file first.0 start.first first.1.here).offset in
       first_later file at (no_frame file at item true is none)
-      ∙ next_usable-some file First (at + 1) first.0 start.first first.1.low (omega (arith, place, within, some)) (usable_here file First first.0 start.first first.1.here usable)
+      ∙ next_usable-some file First (at + 1) first.0 start.first first.1.low (omega
+      (arith, place, within, some)) (usable_here file First first.0 start.first first.1.here usable)
       (λ k low high. not_usable file First k (first.1.none k low high))
 
   start_same : (o : Option PlacedFrame) → start_behind at o ≡ Ok start → o ≡ Some start.first
@@ -209,17 +290,24 @@ module _ (file : List ℕ) (at : ℕ) (start : Start) (within : start.first.offs
       let same : record { front_end = at; first = p } ≡ start = cc in
       ap (λ s. Some s.first) same
 
-  here_first : (h : HeaderFields) (b : Bool) (fault : SurveyFault) → item_of Stream file start.first.offset ≡ Some (Frame start.first.header)
-      → cond b (Ok (record { front_end = at; first = record { offset = at; header = h } })) (Err fault) ≡ Ok start → first_frame file at ≡ Some start.first
+  here_first : (h : HeaderFields) (b : Bool) (fault : SurveyFault)
+      → item_of Stream file start.first.offset ≡ Some (Frame start.first.header)
+      → cond b (Ok (record { front_end = at; first = record { offset = at; header = h } }))
+      (Err fault) ≡ Ok start → first_frame file at ≡ Some start.first
   here_first h true fault here e =
-      let same : record { front_end = at; first = record { offset = at; header = h } } ≡ start = cc in
+      let same : record { front_end = at; first = record { offset = at; header = h } } ≡ start =
+      cc in
       let first : record { offset = at; header = h } ≡ start.first = ap (λ s. s.first) same in
       first_here file at (record { offset = at; header = h })
-      (read_first file at h (subst (λ p. item_of Stream file p.offset ≡ Some (Frame p.header)) (sym first) here) (subst (λ p. is_usable First p (drop p.offset file) ≡ true) (sym first) usable))
+      (read_first file at h
+      (subst (λ p. item_of Stream file p.offset ≡ Some (Frame p.header)) (sym first) here)
+      (subst (λ p. is_usable First p (drop p.offset file) ≡ true) (sym first) usable))
       ∙ ap Some first
   here_first h false fault here e = absurd cc
 
-  first_by : (item : Item) → item_at file at ≡ item → start_at file at item ≡ Ok start → item_of Stream file start.first.offset ≡ Some (Frame start.first.header) → 0 < size_of (Frame start.first.header) → first_frame file at ≡ Some start.first
+  first_by : (item : Item) → item_at file at ≡ item → start_at file at item ≡ Ok start
+      → item_of Stream file start.first.offset ≡ Some (Frame start.first.header)
+      → 0 < size_of (Frame start.first.header) → first_frame file at ≡ Some start.first
   first_by (Frame h) is e here some = here_first h (fits file at (Frame h)) _ here e
   first_by Free is e here some = absurd cc
   first_by (Block b) is e here some = absurd cc
@@ -227,7 +315,9 @@ module _ (file : List ℕ) (at : ℕ) (start : Start) (within : start.first.offs
 
 -- ---- all that is read
 
-damaged_first : (file : List ℕ) (first : PlacedFrame) → first_frame file (front_end_of file) ≡ Some first → damaged file ≡ with_number (front_end_of file) (damaged_from file (front_end_of file) first)
+damaged_first : (file : List ℕ) (first : PlacedFrame)
+    → first_frame file (front_end_of file) ≡ Some first
+    → damaged file ≡ with_number (front_end_of file) (damaged_from file (front_end_of file) first)
 unfolding damaged
 damaged_first file first is = ap (damaged_by file (front_end_of file)) is
 
@@ -235,18 +325,29 @@ damaged_first file first is = ap (damaged_by file (front_end_of file)) is
 abbrev with_junk : SurveyFields → DamagedFields
 with_junk s = record { survey = s; gaps = gap_between s.junk s.first }
 
-told_read : (file : List ℕ) (start : Start) (ps : List Placed) → start.front_end ≡ front_end_of file → things_from file start.first ≡ map as_thing ps → frames_of ps ≡ frames_from file start → blocks_of ps ≡ blocks_of (stream_run file start).items
-    → judged (head_of file start.first) (rows_of file (frames_from file start)) ≡ marked (head_of file start.first) (rows_of file (frames_from file start))
+told_read : (file : List ℕ) (start : Start) (ps : List Placed) → start.front_end ≡ front_end_of file
+    → things_from file start.first ≡ map as_thing ps → frames_of ps ≡ frames_from file start
+    → blocks_of ps ≡ blocks_of (stream_run file start).items
+    → judged (head_of file start.first) (rows_of file (frames_from file start))
+    ≡ marked (head_of file start.first) (rows_of file (frames_from file start))
     → damaged_from file (front_end_of file) start.first ≡ with_junk (told_from file start)
 unfolding damaged_from
 told_read file start ps front are frames blocks marks =
     let head = head_of file start.first in
-    let rows : judged_runs file head (runs_of (things_from file start.first)) ≡ marked head (rows_of file (frames_from file start)) =
-    ap (λ ts. judged_runs file head (runs_of ts)) are ∙ ap (judged_runs file head) (one_run ps) ∙ append-nil (judged head (rows_of file (frames_of ps))) ∙ ap (λ l. judged head (rows_of file l)) frames ∙ marks in
-    let pieces : blocks_of (run Front file 0).items ++ blocks_in (things_from file start.first) ≡ all_blocks file start =
-    ap (λ l. blocks_of (run Front file 0).items ++ l) (ap blocks_in are ∙ same_blocks ps ∙ blocks) in
-    let gaps : gap_between (front_end_of file) start.first.offset ++ gaps_of (things_from file start.first) ≡ gap_between start.front_end start.first.offset =
-    ap (λ l. gap_between (front_end_of file) start.first.offset ++ l) (ap gaps_of are ∙ no_gaps ps) ∙ append-nil (gap_between (front_end_of file) start.first.offset) ∙ ap (λ n. gap_between n start.first.offset) (sym front) in
+    let rows : judged_runs file head (runs_of (things_from file start.first))
+    ≡ marked head (rows_of file (frames_from file start)) =
+    ap (λ ts. judged_runs file head (runs_of ts)) are ∙ ap (judged_runs file head) (one_run ps)
+    ∙ append-nil (judged head (rows_of file (frames_of ps)))
+    ∙ ap (λ l. judged head (rows_of file l)) frames ∙ marks in
+    let pieces : blocks_of (run Front file 0).items ++ blocks_in (things_from file start.first)
+    ≡ all_blocks file start =
+    ap (λ l. blocks_of (run Front file 0).items ++ l)
+    (ap blocks_in are ∙ same_blocks ps ∙ blocks) in
+    let gaps : gap_between (front_end_of file) start.first.offset
+    ++ gaps_of (things_from file start.first) ≡ gap_between start.front_end start.first.offset =
+    ap (λ l. gap_between (front_end_of file) start.first.offset ++ l) (ap gaps_of are ∙ no_gaps ps)
+    ∙ append-nil (gap_between (front_end_of file) start.first.offset)
+    ∙ ap (λ n. gap_between n start.first.offset) (sym front) in
     λ i. record {
       survey = record {
         frames = rows i;
@@ -264,6 +365,7 @@ length_rows : (file : List ℕ) (ps : List PlacedFrame) → length (rows_of file
 length_rows file [] = refl
 length_rows file (p ∷ ps) = ap suc (length_rows file ps)
 
+-- of a file without fault all is read that its survey tells
 pub keeps_streams : SalvageKeepsStreams
 keeps_streams = λ file allowed s is few.
     let parts = surveyed-parts file allowed s is in
@@ -273,19 +375,39 @@ keeps_streams = λ file allowed s is few.
     let head = head_of file start.first in
     let rows = rows_of file (frames_from file start) in
     let sound = all_faults-none_sound file head (class_from start) allowed rows read.frames in
-    let fine : (i : ℕ) (r : Row) → slice_get rows i ≡ Some r → HasNoFault file (class_from start) r = λ i r is. record { same = (sound i r is).same; word = (sound i r is).word } in
+    let fine : (i : ℕ) (r : Row) → slice_get rows i ≡ Some r
+    → HasNoFault file (class_from start) r =
+    λ i r is. record { same = (sound i r is).same; word = (sound i r is).word } in
     let here = first_of_stream file start read.start_is in
     let item = item_of-is Stream file start.first.offset (Frame start.first.header) here in
     let usable = first_usable file (class_from start) start head here refl fine in
     let at = front_end_of file in
-    let first = first_by file at start item.within usable (item_at file at) refl (sym (start_is file at (item_at file at) refl refl) ∙ read.start_is) here item.some in
+    let first = first_by file at start item.within usable (item_at file at) refl
+    (sym (start_is file at (item_at file at) refl refl) ∙ read.start_is) here item.some in
     let from = numbered_at start.first head in
     let items = (run Stream file from).items in
     let frames = numbered-frames file start head here in
-    let nothing = nothing_left file (stream_run file start).stop (no_fault file (frames_from file start) _ read.end) in
-    let past : length file ≤ (run Stream file from).stop = omega (arith, ap length nothing, length-drop (stream_run file start).stop file, numbered-stop file start head here) in
-    let are = things_are file (class_from start) from items (run Stream file from).stop (run-ends Stream file from) (subst (AreUsable file (class_from start)) (sym frames) (usable_all file (class_from start) (frames_from file start) fine)) past in
+    let nothing = nothing_left file
+    (stream_run file start).stop (no_fault file (frames_from file start) _ read.end) in
+    let past : length file ≤ (run Stream file from).stop = omega (
+      arith,
+      ap length nothing,
+      length-drop (stream_run file start).stop file,
+      numbered-stop file start head here,
+    ) in
+    let are = things_are file (class_from start) from items (run Stream file from).stop
+    (run-ends Stream file from) (subst (AreUsable file (class_from start)) (sym frames)
+    (usable_all file (class_from start) (frames_from file start) fine)) past in
     let marks = judged-marked file head (class_from start) allowed rows sound in
-    let whole = told_read file start items (start-front file start read.start_is) are frames (numbered-blocks file start head here) marks ∙ ap with_junk told in
-    let some : s.frames ≡ [] → ⊥ = λ none. absurd (omega (arith, some_frames file (frames_from file start) _ read.end, length_rows file (frames_from file start), marked-length head rows, ap (λ (t : SurveyFields). length t.frames) told, ap length none)) in
-    damaged_first file start.first first ∙ ap (with_number at) whole ∙ few_counted at s.frames (with_junk s) some few
+    let whole = told_read file start items (start-front file start read.start_is) are frames
+    (numbered-blocks file start head here) marks ∙ ap with_junk told in
+    let some : s.frames ≡ [] → ⊥ = λ none. absurd (omega (
+      arith,
+      some_frames file (frames_from file start) _ read.end,
+      length_rows file (frames_from file start),
+      marked-length head rows,
+      ap (λ (t : SurveyFields). length t.frames) told,
+      ap length none,
+    )) in
+    damaged_first file start.first first ∙ ap (with_number at) whole
+    ∙ few_counted at s.frames (with_junk s) some few

@@ -1,105 +1,118 @@
 -- One thing more is read.
-use Rattle.std.proofs.Common.{◌≡◌, ℕ, ◌+◌, ◌-◌, ◌<◌, ◌≤◌, ◌==◌, Bool, true, false, cond, ltb, List, [], ◌∷◌, ◌++◌, length, drop, Option, Some, None, Ok, Err, refl, sym, ◌∙◌, ap, ap₂, subst, arith, append-nil, option_to_list, slice_get, IfSome}
-use Rattle.std.specs.List.{prefix_len}
-use Rattle.frame_header.specs.Fields.{HeaderFields, ClassFields, IsHeader}
-use Rattle.frame_header.specs.Tables.{class_of}
-use Rattle.frame_header.proofs.HeaderLaws.{IsClass-class_of}
+use Rattle.std.proofs.Common.{ap, append-nil, ap₂, arith, Bool, cond, drop, Err, false, IfSome}
+use Rattle.std.proofs.Common.{length, List, ltb, None, Ok, Option, option_to_list, refl, slice_get}
+use Rattle.std.proofs.Common.{Some, subst, sym, true, ℕ, [], ◌++◌, ◌+◌, ◌-◌, ◌<◌, ◌==◌, ◌∙◌, ◌∷◌}
+use Rattle.std.proofs.{Common.{◌≡◌, ◌≤◌}, lemmas.Bool.{and_parts, ltb-true}}
+use Rattle.std.{proofs.lemmas.Option.slice_get_past, specs.List.prefix_len}
+use Rattle.frame_header.proofs.{ClassLaws.same_class-is, HeaderLaws.IsClass-class_of}
+use Rattle.frame_header.specs.{Fields.{ClassFields, HeaderFields, IsHeader}, Tables.class_of}
+use Rattle.salvage.proofs.{KeptLaws.{kept_frame, kept_gap, kept_none}, ReadFaults.damaged_of-short}
+use Rattle.salvage.proofs.SoundLaws.{runs-left}
+use Rattle.salvage.proofs.WalkLaws.{item_passed, things-gap, things-item, things-past}
+use Rattle.salvage.specs.Damaged.{counted, damaged, damaged_by, damaged_from, damaged_of}
+use Rattle.salvage.specs.Damaged.{DamagedFields, gap_between, most_frames, unless_too_many}
+use Rattle.salvage.specs.Damaged.{with_number}
+use Rattle.salvage.specs.Judged.{AddsGap, AddsItem, before_behind, before_next, IsPastMost}
+use Rattle.salvage.specs.{Judged.{judged_by, none_before, rows_in, rows_left}, Kept.AreKeptTo}
+use Rattle.salvage.specs.Progress.{AreOfClass, BeginsSo, class_in, GapsAreLaid, IsLaidOut, IsLaidTo}
+use Rattle.salvage.specs.{Progress.{IsReadTo, told_of, whole_of}, Steps.admits_item}
+use Rattle.salvage.specs.Walk.{blocks_in, first_frame, gap_end, gaps_of, item_read, things}
+use Rattle.salvage.specs.declared.{begun.Begun.Begun, found.Found.Found, gap.Gap.Gap}
+use Rattle.salvage.specs.declared.usable.Role.TheVariants.{Later}
 use Rattle.side_info.proofs.FrameLaws.{fits-side_in, overhead-few}
-use Rattle.sync_survey.specs.declared.items.Item.{Item}
-use Rattle.sync_survey.specs.declared.items.Item.TheVariants.{Frame, Zero}
-use Rattle.sync_survey.specs.declared.places.Piece.{Piece}
-use Rattle.sync_survey.specs.Row.{Row}
-use Rattle.sync_survey.specs.declared.rows.Before.{Before}
-use Rattle.sync_survey.specs.Items.{item_front, size_of}
-use Rattle.sync_survey.specs.Runs.{block_as}
-use Rattle.sync_survey.specs.MainData.{row_in}
-use Rattle.sync_survey.specs.Looks.{Shows}
-use Rattle.sync_survey.specs.Survey.{AreLaid, BlocksAreLaid}
-use Rattle.sync_survey.proofs.RunsLaws.{kept_more, kept_whole}
 use Rattle.sync_survey.proofs.FrontLaws.{blocks_more, pieces_later}
-use Rattle.sync_survey.proofs.StepLaws.{row_shown, item_header, laid_later, laid_push, area_within}
-use Rattle.frame_header.proofs.ClassLaws.{same_class-is}
+use Rattle.sync_survey.proofs.RunsLaws.{kept_more, kept_whole}
+use Rattle.sync_survey.proofs.StepLaws.{area_within, item_header, laid_later, laid_push, row_shown}
+use Rattle.sync_survey.specs.{Faults.longest_file, Items.{item_front, size_of}}
+use Rattle.sync_survey.specs.{Kinds.RefusesRightly, Looks.Shows, MainData.{head_area, row_in}}
+use Rattle.sync_survey.specs.{Row.Row, Runs.{block_as, blocks_of, run}, Start.front_end_of}
+use Rattle.sync_survey.specs.Survey.{AreLaid, BlocksAreLaid, IsWholeHead}
+use Rattle.sync_survey.specs.{Walk.{head_of, IsFrameOf, numbered_at}, declared.items.Item.Item}
+use Rattle.sync_survey.specs.declared.{items.Item.TheVariants.{Frame, Zero}, places.Head.Head}
+use Rattle.sync_survey.specs.declared.{places.Piece.Piece, rows.Before.Before}
+use Rattle.sync_survey.specs.declared.runs.Part.TheVariants.{Front}
 use Rattle.sync_survey.specs.declared.survey_fault.SurveyFault.{SurveyFault}
 use Rattle.sync_survey.specs.declared.survey_fault.SurveyFault.TheVariants.{NoFrame, TooManyFrames}
-use Rattle.sync_survey.specs.Faults.{longest_file}
-use Rattle.sync_survey.specs.Kinds.{RefusesRightly}
-use Rattle.sync_survey.specs.Start.{front_end_of}
-use Rattle.salvage.specs.declared.begun.Begun.{Begun}
-use Rattle.salvage.specs.declared.found.Found.{Found}
-use Rattle.salvage.specs.declared.gap.Gap.{Gap}
-use Rattle.salvage.specs.declared.usable.Role.TheVariants.{Later}
-use Rattle.salvage.specs.Walk.{item_read, first_frame, gap_end, things, gaps_of, blocks_in}
-use Rattle.salvage.specs.Judged.{judged_by, before_next, none_before, rows_in, before_behind, rows_left, AddsItem, AddsGap, IsPastMost}
-use Rattle.salvage.specs.Steps.{admits_item}
-use Rattle.salvage.specs.Progress.{class_in, BeginsSo, whole_of, told_of, IsReadTo, GapsAreLaid, AreOfClass, IsLaidTo, IsLaidOut}
-use Rattle.salvage.specs.Damaged.{DamagedFields, damaged_from, unless_too_many, counted, with_number, damaged_by, damaged, damaged_of, most_frames}
-use Rattle.std.proofs.lemmas.Bool.{ltb-true, and_parts}
-use Rattle.std.proofs.lemmas.Option.{slice_get_past}
-use Rattle.sync_survey.specs.declared.places.Head.{Head}
-use Rattle.sync_survey.specs.declared.runs.Part.TheVariants.{Front}
-use Rattle.sync_survey.specs.Runs.{run, blocks_of}
-use Rattle.sync_survey.specs.Walk.{head_of, numbered_at, IsFrameOf}
-use Rattle.sync_survey.specs.MainData.{head_area}
-use Rattle.sync_survey.specs.Survey.{IsWholeHead}
-use Rattle.salvage.specs.Damaged.{gap_between}
-use Rattle.salvage.proofs.SoundLaws.{runs-left}
-use Rattle.salvage.specs.Kept.{AreKeptTo}
-use Rattle.salvage.proofs.KeptLaws.{kept_none, kept_gap, kept_frame}
-use Rattle.salvage.proofs.ReadFaults.{damaged_of-short}
-use Rattle.salvage.proofs.WalkLaws.{things-past, things-gap, things-item, item_passed}
 
 -- ---- what was found, and what is left
 
 module _ (file : List ℕ) (b : Begun) (old new : Found) where
-  left_by : (m : Before) (n : ℕ) → new.before ≡ m → new.at ≡ n → rows_left file new.before (things file (class_in b) new.at) ≡ rows_left file m (things file (class_in b) n)
-  left_by m n before at = ap₂ (λ (m : Before) (n : ℕ). rows_left file m (things file (class_in b) n)) before at
+  left_by : (m : Before) (n : ℕ) → new.before ≡ m → new.at ≡ n
+      → rows_left file new.before (things file (class_in b) new.at)
+      ≡ rows_left file m (things file (class_in b) n)
+  left_by m n before at =
+      ap₂ (λ (m : Before) (n : ℕ). rows_left file m (things file (class_in b) n)) before at
 
-  -- a gap more
-  pub gap_read : IsReadTo file b old → old.at < length file → item_read file (Later (class_in b)) old.at ≡ None → AddsGap (gap_end file (class_in b) old.at) old new → IsReadTo file b new
+  -- a gap up to the next usable frame is one more thing that was read
+  pub gap_read : IsReadTo file b old → old.at < length file
+      → item_read file (Later (class_in b)) old.at ≡ None
+      → AddsGap (gap_end file (class_in b) old.at) old new → IsReadTo file b new
   gap_read so_far before none adds =
       let end = gap_end file (class_in b) old.at in
       let here = things-gap file (class_in b) old.at before none in
       record {
         rows =
             ap (λ l. new.rows.items ++ l) (left_by none_before end adds.before adds.at)
-            ∙ kept_more old.rows.items [] new.rows.items (rows_left file old.before (things file (class_in b) old.at)) (rows_left file none_before (things file (class_in b) end)) (whole_of file b).survey.frames adds.rows
+            ∙ kept_more old.rows.items [] new.rows.items (rows_left file old.before (things file
+            (class_in b) old.at)) (rows_left file none_before (things file (class_in b) end))
+            (whole_of file b).survey.frames adds.rows
             (ap (rows_left file old.before) here) so_far.rows;
         blocks =
             ap (λ n. new.pieces.items ++ blocks_in (things file (class_in b) n)) adds.at
-            ∙ kept_more old.pieces.items [] new.pieces.items (blocks_in (things file (class_in b) old.at)) (blocks_in (things file (class_in b) end)) (whole_of file b).survey.blocks adds.pieces (ap blocks_in here) so_far.blocks;
+            ∙ kept_more old.pieces.items [] new.pieces.items
+            (blocks_in (things file (class_in b) old.at)) (blocks_in (things file (class_in b) end))
+            (whole_of file b).survey.blocks adds.pieces (ap blocks_in here) so_far.blocks;
         gaps =
             ap (λ n. new.gaps.items ++ gaps_of (things file (class_in b) n)) adds.at
-            ∙ kept_more old.gaps.items (record { offset = old.at; length = end - old.at } ∷ []) new.gaps.items (gaps_of (things file (class_in b) old.at)) (gaps_of (things file (class_in b) end)) (whole_of file b).gaps adds.gaps
+            ∙ kept_more old.gaps.items (record { offset = old.at; length = end - old.at } ∷ [])
+            new.gaps.items (gaps_of (things file (class_in b) old.at))
+            (gaps_of (things file (class_in b) end)) (whole_of file b).gaps adds.gaps
             (ap gaps_of here) so_far.gaps;
       }
 
-  rows_shown : (item : Item) (front : List ℕ) (left : ℕ) → Shows file old.at front left → rows_in old.before old.at front item ≡ rows_in old.before old.at (drop old.at file) item
-  rows_shown (Frame h) front left shows = ap (λ (r : Row). judged_by old.before r ∷ []) (row_shown file old.at front left shows h (omega (arith, overhead-few (class_of h) h.protected)))
+  rows_shown : (item : Item) (front : List ℕ) (left : ℕ) → Shows file old.at front left
+      → rows_in old.before old.at front item ≡ rows_in old.before old.at (drop old.at file) item
+  rows_shown (Frame h) front left shows = ap (λ (r : Row). judged_by old.before r ∷ []) (row_shown
+      file old.at front left shows h (omega (arith, overhead-few (class_of h) h.protected)))
   rows_shown _ front left shows = refl
 
-  before_shown : (item : Item) (front : List ℕ) (left : ℕ) → Shows file old.at front left → before_behind old.before old.at front item ≡ before_behind old.before old.at (drop old.at file) item
-  before_shown (Frame h) front left shows = ap (before_next old.before) (row_shown file old.at front left shows h (omega (arith, overhead-few (class_of h) h.protected)))
+  before_shown : (item : Item) (front : List ℕ) (left : ℕ) → Shows file old.at front left
+      → before_behind old.before old.at front item
+      ≡ before_behind old.before old.at (drop old.at file) item
+  before_shown (Frame h) front left shows = ap (before_next old.before) (row_shown file old.at front
+      left shows h (omega (arith, overhead-few (class_of h) h.protected)))
   before_shown _ front left shows = refl
 
-  -- an item more
-  pub item_more : (item : Item) (size : ℕ) (front : List ℕ) (left : ℕ) → IsReadTo file b old → Shows file old.at front left → item_read file (Later (class_in b)) old.at ≡ Some item
-      → (item ≡ Zero → size ≡ prefix_len (λ b. b == 0) front) → ((item ≡ Zero → ⊥) → size ≡ size_of item) → AddsItem item size front old new → IsReadTo file b new
+  -- an item that is read is one more, with its frame or block kept
+  pub item_more : (item : Item) (size : ℕ) (front : List ℕ) (left : ℕ) → IsReadTo file b old
+      → Shows file old.at front left → item_read file (Later (class_in b)) old.at ≡ Some item
+      → (item ≡ Zero → size ≡ prefix_len (λ b. b == 0) front)
+      → ((item ≡ Zero → ⊥) → size ≡ size_of item) → AddsItem item size front old new
+      → IsReadTo file b new
   item_more item size front left so_far shows is zeros own adds =
       let passed = item_passed file (class_in b) old.at front left item size shows is zeros own in
       let end = old.at + size in
       let main = before_behind old.before old.at (drop old.at file) item in
       record {
         rows =
-            ap (λ l. new.rows.items ++ l) (left_by main end (adds.before ∙ before_shown item front left shows) adds.at)
-            ∙ kept_more old.rows.items (rows_in old.before old.at (drop old.at file) item) new.rows.items (rows_left file old.before (things file (class_in b) old.at)) (rows_left file main (things file (class_in b) end))
-            (whole_of file b).survey.frames (adds.rows ∙ ap (λ l. old.rows.items ++ l) (rows_shown item front left shows)) (passed.rows old.before) so_far.rows;
+            ap (λ l. new.rows.items ++ l)
+            (left_by main end (adds.before ∙ before_shown item front left shows) adds.at)
+            ∙ kept_more old.rows.items (rows_in old.before old.at (drop old.at file) item)
+            new.rows.items (rows_left file old.before (things file (class_in b) old.at))
+            (rows_left file main (things file (class_in b) end))
+            (whole_of file b).survey.frames (adds.rows ∙ ap (λ l. old.rows.items ++ l)
+            (rows_shown item front left shows)) (passed.rows old.before) so_far.rows;
         blocks =
             ap (λ n. new.pieces.items ++ blocks_in (things file (class_in b) n)) adds.at
-            ∙ kept_more old.pieces.items (option_to_list (block_as old.at item)) new.pieces.items (blocks_in (things file (class_in b) old.at)) (blocks_in (things file (class_in b) end)) (whole_of file b).survey.blocks adds.pieces
+            ∙ kept_more old.pieces.items (option_to_list (block_as old.at item))
+            new.pieces.items (blocks_in (things file (class_in b) old.at))
+            (blocks_in (things file (class_in b) end)) (whole_of file b).survey.blocks adds.pieces
             passed.blocks so_far.blocks;
         gaps =
             ap (λ n. new.gaps.items ++ gaps_of (things file (class_in b) n)) adds.at
-            ∙ kept_more old.gaps.items [] new.gaps.items (gaps_of (things file (class_in b) old.at)) (gaps_of (things file (class_in b) end)) (whole_of file b).gaps adds.gaps passed.gaps so_far.gaps;
+            ∙ kept_more old.gaps.items [] new.gaps.items (gaps_of (things file (class_in b) old.at))
+            (gaps_of (things file (class_in b) end))
+            (whole_of file b).gaps adds.gaps passed.gaps so_far.gaps;
       }
 
 -- the file was read to its end
@@ -108,7 +121,9 @@ pub record IsReadWhole (file : List ℕ) (b : Begun) (found : Found) : Type 0 wh
   pub blocks : found.pieces.items ≡ (whole_of file b).survey.blocks
   pub gaps : found.gaps.items ≡ (whole_of file b).gaps
 
-pub read_whole : (file : List ℕ) (b : Begun) (found : Found) → IsReadTo file b found → length file ≤ found.at → IsReadWhole file b found
+-- at the end of the file it was read whole
+pub read_whole : (file : List ℕ) (b : Begun) (found : Found) → IsReadTo file b found
+    → length file ≤ found.at → IsReadWhole file b found
 read_whole file b found so_far end =
     let none = things-past file (class_in b) found.at end in
     record {
@@ -119,56 +134,86 @@ read_whole file b found so_far end =
 
 -- ---- where things are
 
-class_push : (class : ClassFields) (rows : List Row) (r : Row) → AreOfClass class rows → IsHeader r.header → class_of r.header ≡ class → AreOfClass class (rows ++ r ∷ [])
+class_push : (class : ClassFields) (rows : List Row) (r : Row) → AreOfClass class rows
+    → IsHeader r.header → class_of r.header ≡ class → AreOfClass class (rows ++ r ∷ [])
 class_push class [] r all known same = (known, same, tt)
-class_push class (q ∷ rows) r all known same = (all.0, all.1, class_push class rows r all.2 known same)
+class_push class (q ∷ rows) r all known same =
+    (all.0, all.1, class_push class rows r all.2 known same)
 
-gaps_push : (from : ℕ) (gaps : List Gap) (to later : ℕ) (g : Gap) → GapsAreLaid from gaps to → to ≤ g.offset → 1 ≤ g.length → g.offset + g.length ≤ later → GapsAreLaid from (gaps ++ g ∷ []) later
+gaps_push : (from : ℕ) (gaps : List Gap) (to later : ℕ) (g : Gap) → GapsAreLaid from gaps to
+    → to ≤ g.offset → 1 ≤ g.length → g.offset + g.length ≤ later
+    → GapsAreLaid from (gaps ++ g ∷ []) later
 gaps_push from [] to later g laid low some high = (omega (arith, laid, low), some, high)
-gaps_push from (q ∷ gaps) to later g laid low some high = (laid.0, laid.1, gaps_push (q.offset + q.length) gaps to later g laid.2 low some high)
+gaps_push from (q ∷ gaps) to later g laid low some high =
+    (laid.0, laid.1, gaps_push (q.offset + q.length) gaps to later g laid.2 low some high)
 
-pub gaps_later : (from : ℕ) (gaps : List Gap) (to later : ℕ) → GapsAreLaid from gaps to → to ≤ later → GapsAreLaid from gaps later
+-- gaps that end before an offset end before any later one
+pub gaps_later : (from : ℕ) (gaps : List Gap) (to later : ℕ) → GapsAreLaid from gaps to → to ≤ later
+    → GapsAreLaid from gaps later
 gaps_later from [] to later laid low = omega (arith, laid, low)
-gaps_later from (q ∷ gaps) to later laid low = (laid.0, laid.1, gaps_later (q.offset + q.length) gaps to later laid.2 low)
+gaps_later from (q ∷ gaps) to later laid low =
+    (laid.0, laid.1, gaps_later (q.offset + q.length) gaps to later laid.2 low)
 
 same_items : {X : Type 0} (P : List X → Type 0) (old new : List X) → new ≡ old ++ [] → P old → P new
 same_items P old new same holds = subst P (sym (same ∙ append-nil old)) holds
 
 module _ (b : Begun) (old new : Found) (laid : IsLaidTo b old) where
+  -- a gap that is added is behind all that was read before it
   pub gap_laid : (to : ℕ) → old.at < to → to ≤ b.size → AddsGap to old new → IsLaidTo b new
   gap_laid to some within adds =
       let here : new.at ≡ to = adds.at in
       let later : old.at ≤ new.at = omega (arith, here, some) in
       record {
-        rows = same_items (λ l. AreLaid b.start.first.offset l new.at) old.rows.items new.rows.items adds.rows (laid_later b.start.first.offset old.rows.items old.at new.at laid.rows later);
-        class = same_items (AreOfClass (class_in b)) old.rows.items new.rows.items adds.rows laid.class;
-        pieces = same_items (λ l. BlocksAreLaid 0 l new.at) old.pieces.items new.pieces.items adds.pieces (pieces_later 0 old.pieces.items old.at new.at laid.pieces later);
+        rows = same_items (λ l. AreLaid b.start.first.offset l new.at)
+            old.rows.items new.rows.items adds.rows
+            (laid_later b.start.first.offset old.rows.items old.at new.at laid.rows later);
+        class =
+            same_items (AreOfClass (class_in b)) old.rows.items new.rows.items adds.rows laid.class;
+        pieces = same_items (λ l. BlocksAreLaid 0 l new.at) old.pieces.items new.pieces.items
+            adds.pieces (pieces_later 0 old.pieces.items old.at new.at laid.pieces later);
         gaps =
             subst (λ l. GapsAreLaid 0 l new.at) (sym adds.gaps)
-            (gaps_push 0 old.gaps.items old.at new.at (record { offset = old.at; length = to - old.at }) laid.gaps (omega arith) (omega (arith, some)) (omega (arith, some, here)));
+            (gaps_push 0 old.gaps.items old.at new.at (record {
+              offset = old.at;
+              length = to - old.at;
+            }) laid.gaps (omega arith) (omega (arith, some)) (omega (arith, some, here)));
         low = omega (arith, ap (λ m. m.place) adds.before);
         within = omega (arith, here, within);
-        few = same_items (λ l. length l ≤ most_frames) old.rows.items new.rows.items adds.rows laid.few;
-        kept = subst (AreKeptTo b.head new.rows.items) (sym adds.before) (same_items (λ l. AreKeptTo b.head l none_before) old.rows.items new.rows.items adds.rows (kept_gap b.head old.rows.items old.before laid.kept));
+        few = same_items (λ l. length l ≤ most_frames)
+            old.rows.items new.rows.items adds.rows laid.few;
+        kept = subst (AreKeptTo b.head new.rows.items) (sym adds.before)
+            (same_items (λ l. AreKeptTo b.head l none_before) old.rows.items new.rows.items
+            adds.rows (kept_gap b.head old.rows.items old.before laid.kept));
       }
 
-  other_laid : (item : Item) (size : ℕ) (front : List ℕ) → size_of item ≤ size → old.at + size ≤ b.size → rows_in old.before old.at front item ≡ [] → before_behind old.before old.at front item ≡ old.before → AddsItem item size front old new → IsLaidTo b new
+  other_laid : (item : Item) (size : ℕ) (front : List ℕ) → size_of item ≤ size
+      → old.at + size ≤ b.size → rows_in old.before old.at front item ≡ []
+      → before_behind old.before old.at front item ≡ old.before → AddsItem item size front old new
+      → IsLaidTo b new
   other_laid item size front least within no_row same adds =
       let here : new.at ≡ old.at + size = adds.at in
       let later : old.at ≤ new.at = omega (arith, here) in
-      let rows : new.rows.items ≡ old.rows.items ++ [] = adds.rows ∙ ap (λ l. old.rows.items ++ l) no_row in
+      let rows : new.rows.items ≡ old.rows.items ++ [] =
+      adds.rows ∙ ap (λ l. old.rows.items ++ l) no_row in
       record {
-        rows = same_items (λ l. AreLaid b.start.first.offset l new.at) old.rows.items new.rows.items rows (laid_later b.start.first.offset old.rows.items old.at new.at laid.rows later);
+        rows = same_items (λ l. AreLaid b.start.first.offset l new.at) old.rows.items new.rows.items
+            rows (laid_later b.start.first.offset old.rows.items old.at new.at laid.rows later);
         class = same_items (AreOfClass (class_in b)) old.rows.items new.rows.items rows laid.class;
-        pieces = subst (BlocksAreLaid 0 new.pieces.items) (sym here) (blocks_more old.pieces.items new.pieces.items old.at size item laid.pieces least adds.pieces);
-        gaps = same_items (λ l. GapsAreLaid 0 l new.at) old.gaps.items new.gaps.items adds.gaps (gaps_later 0 old.gaps.items old.at new.at laid.gaps later);
+        pieces = subst (BlocksAreLaid 0 new.pieces.items) (sym here) (blocks_more old.pieces.items
+            new.pieces.items old.at size item laid.pieces least adds.pieces);
+        gaps = same_items (λ l. GapsAreLaid 0 l new.at) old.gaps.items new.gaps.items adds.gaps
+            (gaps_later 0 old.gaps.items old.at new.at laid.gaps later);
         low = omega (arith, ap (λ m. m.place) (adds.before ∙ same), laid.low, here);
         within = omega (arith, here, within);
         few = same_items (λ l. length l ≤ most_frames) old.rows.items new.rows.items rows laid.few;
-        kept = subst (AreKeptTo b.head new.rows.items) (sym (adds.before ∙ same)) (same_items (λ l. AreKeptTo b.head l old.before) old.rows.items new.rows.items rows laid.kept);
+        kept = subst (AreKeptTo b.head new.rows.items) (sym (adds.before ∙ same)) (same_items
+            (λ l. AreKeptTo b.head l old.before) old.rows.items new.rows.items rows laid.kept);
       }
 
-  frame_laid : (h : HeaderFields) (size : ℕ) (front : List ℕ) → (length old.rows.items ≤ most_frames → length new.rows.items ≤ most_frames) → IsHeader h → class_of h ≡ class_in b → size_of (Frame h) ≤ size → old.at + size ≤ b.size → AddsItem (Frame h) size front old new → IsLaidTo b new
+  frame_laid : (h : HeaderFields) (size : ℕ) (front : List ℕ)
+      → (length old.rows.items ≤ most_frames → length new.rows.items ≤ most_frames) → IsHeader h
+      → class_of h ≡ class_in b → size_of (Frame h) ≤ size → old.at + size ≤ b.size
+      → AddsItem (Frame h) size front old new → IsLaidTo b new
   frame_laid h size front few known same least within adds =
       let here : new.at ≡ old.at + size = adds.at in
       let later : old.at ≤ new.at = omega (arith, here) in
@@ -176,75 +221,111 @@ module _ (b : Begun) (old new : Found) (laid : IsLaidTo b old) where
       record {
         rows =
             subst (λ l. AreLaid b.start.first.offset l new.at) (sym adds.rows)
-            (laid_push b.start.first.offset old.rows.items old.at new.at row laid.rows (fits-side_in h front (IsClass-class_of h known)) (omega arith) (omega (arith, least, here)));
-        class = subst (AreOfClass (class_in b)) (sym adds.rows) (class_push (class_in b) old.rows.items row laid.class known same);
-        pieces = same_items (λ l. BlocksAreLaid 0 l new.at) old.pieces.items new.pieces.items adds.pieces (pieces_later 0 old.pieces.items old.at new.at laid.pieces later);
-        gaps = same_items (λ l. GapsAreLaid 0 l new.at) old.gaps.items new.gaps.items adds.gaps (gaps_later 0 old.gaps.items old.at new.at laid.gaps later);
+            (laid_push b.start.first.offset old.rows.items old.at new.at row laid.rows (fits-side_in
+            h front (IsClass-class_of h known)) (omega arith) (omega (arith, least, here)));
+        class = subst (AreOfClass (class_in b)) (sym adds.rows)
+            (class_push (class_in b) old.rows.items row laid.class known same);
+        pieces = same_items (λ l. BlocksAreLaid 0 l new.at) old.pieces.items new.pieces.items
+            adds.pieces (pieces_later 0 old.pieces.items old.at new.at laid.pieces later);
+        gaps = same_items (λ l. GapsAreLaid 0 l new.at) old.gaps.items new.gaps.items adds.gaps
+            (gaps_later 0 old.gaps.items old.at new.at laid.gaps later);
         low = omega (arith, ap (λ m. m.place) adds.before, laid.low, here, least, area_within h);
         within = omega (arith, here, within);
         few = few laid.few;
-        kept = subst (AreKeptTo b.head new.rows.items) (sym adds.before) (subst (λ l. AreKeptTo b.head l (before_next old.before (row_in old.at h front))) (sym adds.rows) (kept_frame b.head old.rows.items old.before laid.kept (row_in old.at h front)));
+        kept = subst (AreKeptTo b.head new.rows.items) (sym adds.before) (subst (λ l.
+            AreKeptTo b.head l (before_next old.before (row_in old.at h front))) (sym adds.rows)
+            (kept_frame b.head old.rows.items old.before laid.kept (row_in old.at h front)));
       }
 
   -- whatever item it is that is kept
-  pub item_laid : (item : Item) (size : ℕ) (front : List ℕ) → (length old.rows.items ≤ most_frames → length new.rows.items ≤ most_frames) → item ≡ item_front front → admits_item (Later (class_in b)) old.at item front ≡ true → size_of item ≤ size → old.at + size ≤ b.size → AddsItem item size front old new → IsLaidTo b new
+  pub item_laid : (item : Item) (size : ℕ) (front : List ℕ)
+      → (length old.rows.items ≤ most_frames → length new.rows.items ≤ most_frames)
+      → item ≡ item_front front → admits_item (Later (class_in b)) old.at item front ≡ true
+      → size_of item ≤ size → old.at + size ≤ b.size → AddsItem item size front old new
+      → IsLaidTo b new
   item_laid (Frame h) size front few is admits least within adds =
-      let same : class_of h ≡ class_in b = same_class-is (class_of h) (class_in b) (and_parts _ _ admits).0 in
+      let same : class_of h ≡ class_in b =
+      same_class-is (class_of h) (class_in b) (and_parts _ _ admits).0 in
       frame_laid h size front few (item_header front (Frame h) is h refl) same least within adds
-  item_laid item size front few is admits least within adds = other_laid item size front least within refl refl adds
+  item_laid item size front few is admits least within adds =
+      other_laid item size front least within refl refl adds
 
 -- ---- what is read of the whole file
 
 -- the file is read from its first frame on
-pub damaged_is : (file : List ℕ) (b : Begun) → BeginsSo file b → damaged file ≡ with_number b.start.front_end (whole_of file b)
+pub damaged_is : (file : List ℕ) (b : Begun) → BeginsSo file b
+    → damaged file ≡ with_number b.start.front_end (whole_of file b)
 unfolding damaged
 damaged_is file b begins =
-    ap (λ n. damaged_by file n (first_frame file n)) (sym begins.front) ∙ ap (damaged_by file b.start.front_end) begins.first
+    ap (λ n. damaged_by file n (first_frame file n)) (sym begins.front)
+    ∙ ap (damaged_by file b.start.front_end) begins.first
 
-get_first : (xs ys : List Row) (r : Row) (n : ℕ) → length xs ≡ n → slice_get (xs ++ r ∷ ys) n ≡ Some r
+get_first : (xs ys : List Row) (r : Row) (n : ℕ) → length xs ≡ n
+    → slice_get (xs ++ r ∷ ys) n ≡ Some r
 get_first [] ys r n is = ap (slice_get (r ∷ ys)) (sym is)
-get_first (x ∷ xs) ys r n is = ap (slice_get (x ∷ (xs ++ r ∷ ys))) (sym is) ∙ get_first xs ys r (length xs) refl
+get_first (x ∷ xs) ys r n is =
+    ap (slice_get (x ∷ (xs ++ r ∷ ys))) (sym is) ∙ get_first xs ys r (length xs) refl
 
-many_counted : (front_end : ℕ) (rows : List Row) (d : DamagedFields) (r : Row) → slice_get rows most_frames ≡ Some r → counted front_end rows d ≡ Err (TooManyFrames r.offset)
+many_counted : (front_end : ℕ) (rows : List Row) (d : DamagedFields) (r : Row)
+    → slice_get rows most_frames ≡ Some r → counted front_end rows d ≡ Err (TooManyFrames r.offset)
 many_counted front_end [] d r is = absurd cc
 many_counted front_end (q ∷ rows) d r is = ap (λ o. unless_too_many o d) is
 
--- a frame more than there may be
-pub past_most : (file : List ℕ) (b : Begun) (found : Found) (item : Item) (fault : SurveyFault) → BeginsSo file b → length file ≤ longest_file → IsReadTo file b found → item_read file (Later (class_in b)) found.at ≡ Some item
-    → IsPastMost item found fault → damaged_of file ≡ Err fault
+-- a frame more than there may be is the fault of the file
+pub past_most : (file : List ℕ) (b : Begun) (found : Found) (item : Item) (fault : SurveyFault)
+    → BeginsSo file b → length file ≤ longest_file → IsReadTo file b found
+    → item_read file (Later (class_in b)) found.at ≡ Some item → IsPastMost item found fault
+    → damaged_of file ≡ Err fault
 past_most file b found (Frame h) fault begins few so_far is past =
     let here = things-item file (class_in b) found.at (Frame h) is in
     let row = judged_by found.before (row_in found.at h (drop found.at file)) in
-    let rest = rows_left file (before_next found.before (row_in found.at h (drop found.at file))) (things file (class_in b) (found.at + size_of (Frame h))) in
-    let rows : found.rows.items ++ row ∷ rest ≡ (whole_of file b).survey.frames = sym (ap (λ l. found.rows.items ++ rows_left file found.before l) here) ∙ so_far.rows in
+    let rest = rows_left file (before_next found.before (row_in found.at h (drop found.at file)))
+    (things file (class_in b) (found.at + size_of (Frame h))) in
+    let rows : found.rows.items ++ row ∷ rest ≡ (whole_of file b).survey.frames =
+    sym (ap (λ l. found.rows.items ++ rows_left file found.before l) here) ∙ so_far.rows in
     damaged_of-short file few
     ∙ damaged_is file b begins
-    ∙ many_counted b.start.front_end (whole_of file b).survey.frames (whole_of file b) row (ap (λ l. slice_get l most_frames) (sym rows) ∙ get_first found.rows.items rest row most_frames past.1)
+    ∙ many_counted b.start.front_end (whole_of file b).survey.frames (whole_of file b) row (ap (λ l.
+    slice_get l most_frames) (sym rows) ∙ get_first found.rows.items rest row most_frames past.1)
     ∙ ap Err (sym past.0)
 past_most file b found _ fault begins few so_far is past = absurd past
 
 -- no frame besides the head
-none_counted : (front_end : ℕ) (rows : List Row) (d : DamagedFields) → rows ≡ [] → counted front_end rows d ≡ Err (NoFrame front_end)
+none_counted : (front_end : ℕ) (rows : List Row) (d : DamagedFields) → rows ≡ []
+    → counted front_end rows d ≡ Err (NoFrame front_end)
 none_counted front_end rows d is = ap (λ l. counted front_end l d) is
 
-pub no_frames : (file : List ℕ) (b : Begun) (found : Found) → BeginsSo file b → length file ≤ longest_file → IsReadWhole file b found → found.rows.items ≡ [] → damaged_of file ≡ Err (NoFrame b.start.front_end)
+-- if no frame was found, the file is refused where its front ends
+pub no_frames : (file : List ℕ) (b : Begun) (found : Found) → BeginsSo file b
+    → length file ≤ longest_file → IsReadWhole file b found → found.rows.items ≡ []
+    → damaged_of file ≡ Err (NoFrame b.start.front_end)
 no_frames file b found begins few read none =
-    damaged_of-short file few ∙ damaged_is file b begins ∙ none_counted b.start.front_end (whole_of file b).survey.frames (whole_of file b) (sym read.rows ∙ none)
+    damaged_of-short file few ∙ damaged_is file b begins ∙ none_counted b.start.front_end
+    (whole_of file b).survey.frames (whole_of file b) (sym read.rows ∙ none)
 
 -- no first frame
-first_none : (file : List ℕ) (front_end : ℕ) → front_end ≡ front_end_of file → first_frame file front_end ≡ None → damaged file ≡ Err (NoFrame front_end)
+first_none : (file : List ℕ) (front_end : ℕ) → front_end ≡ front_end_of file
+    → first_frame file front_end ≡ None → damaged file ≡ Err (NoFrame front_end)
 unfolding damaged
-first_none file front_end front none = ap (λ n. damaged_by file n (first_frame file n)) (sym front) ∙ ap (damaged_by file front_end) none
+first_none file front_end front none = ap (λ n. damaged_by file n (first_frame file n)) (sym front)
+    ∙ ap (damaged_by file front_end) none
 
-pub no_first : (file : List ℕ) (front_end : ℕ) → front_end ≡ front_end_of file → length file ≤ longest_file → first_frame file front_end ≡ None → damaged_of file ≡ Err (NoFrame front_end)
-no_first file front_end front few none = damaged_of-short file few ∙ first_none file front_end front none
+-- so it is without a first frame
+pub no_first : (file : List ℕ) (front_end : ℕ) → front_end ≡ front_end_of file → length file
+    ≤ longest_file → first_frame file front_end ≡ None → damaged_of file ≡ Err (NoFrame front_end)
+no_first file front_end front few none =
+    damaged_of-short file few ∙ first_none file front_end front none
 
-pub few_counted : (front_end : ℕ) (rows : List Row) (d : DamagedFields) → (rows ≡ [] → ⊥) → length rows ≤ most_frames → counted front_end rows d ≡ Ok d
+-- frames that are some, and not too many, are counted without fault
+pub few_counted : (front_end : ℕ) (rows : List Row) (d : DamagedFields) → (rows ≡ [] → ⊥)
+    → length rows ≤ most_frames → counted front_end rows d ≡ Ok d
 few_counted front_end [] d some few = absurd (some refl)
-few_counted front_end (r ∷ rows) d some few = ap (λ o. unless_too_many o d) (slice_get_past (r ∷ rows) most_frames few)
+few_counted front_end (r ∷ rows) d some few =
+    ap (λ o. unless_too_many o d) (slice_get_past (r ∷ rows) most_frames few)
 
 -- what the code tells is what is read
-told_is : (file : List ℕ) (b : Begun) (found : Found) → BeginsSo file b → length file ≡ b.size → IsReadWhole file b found → whole_of file b ≡ told_of b found
+told_is : (file : List ℕ) (b : Begun) (found : Found) → BeginsSo file b → length file ≡ b.size
+    → IsReadWhole file b found → whole_of file b ≡ told_of b found
 unfolding damaged_from
 told_is file b found begins size read = λ i. record {
   survey = record {
@@ -259,15 +340,20 @@ told_is file b found begins size read = λ i. record {
   gaps = sym read.gaps i;
 }
 
-pub all_read : (file : List ℕ) (b : Begun) (found : Found) → BeginsSo file b → length file ≤ longest_file → length file ≡ b.size → IsReadWhole file b found → (found.rows.items ≡ [] → ⊥) → length found.rows.items ≤ most_frames
-    → damaged_of file ≡ Ok (told_of b found)
+-- if frames were found, not too many, they are what is read
+pub all_read : (file : List ℕ) (b : Begun) (found : Found) → BeginsSo file b → length file
+    ≤ longest_file → length file ≡ b.size → IsReadWhole file b found → (found.rows.items ≡ [] → ⊥)
+    → length found.rows.items ≤ most_frames → damaged_of file ≡ Ok (told_of b found)
 all_read file b found begins few size read some most =
     damaged_of-short file few
     ∙ damaged_is file b begins
-    ∙ few_counted b.start.front_end (whole_of file b).survey.frames (whole_of file b) (λ none. some (read.rows ∙ none)) (subst (λ l. length l ≤ most_frames) read.rows most)
+    ∙ few_counted b.start.front_end (whole_of file b).survey.frames (whole_of file b)
+    (λ none. some (read.rows ∙ none)) (subst (λ l. length l ≤ most_frames) read.rows most)
     ∙ ap Ok (told_is file b found begins size read)
 
-pub past_rightly : (item : Item) (found : Found) (fault : SurveyFault) → IsPastMost item found fault → RefusesRightly fault
+-- a frame too many refuses the file, with the right numbers
+pub past_rightly : (item : Item) (found : Found) (fault : SurveyFault) → IsPastMost item found fault
+    → RefusesRightly fault
 past_rightly (Frame h) found fault past = subst RefusesRightly (sym past.0) (refl, tt)
 past_rightly _ found fault past = absurd past
 
@@ -280,40 +366,61 @@ pub record IsFirst (b : Begun) (found : Found) : Type 0 where
   pub before : found.before ≡ record { place = head_area b.head; ended = 0 }
   pub at : found.at ≡ numbered_at b.start.first b.head
 
-pub begun_read : (file : List ℕ) (b : Begun) (found : Found) → BeginsSo file b → IsFirst b found → found.pieces.items ≡ blocks_of (run Front file 0).items → IsReadTo file b found
+-- at the first frame the blocks of the front were read
+pub begun_read : (file : List ℕ) (b : Begun) (found : Found) → BeginsSo file b → IsFirst b found
+    → found.pieces.items ≡ blocks_of (run Front file 0).items → IsReadTo file b found
 unfolding damaged_from
 begun_read file b found begins first blocks =
     let ahead = λ (h : Option Head). things file (class_in b) (numbered_at b.start.first h) in
     record {
       rows =
-          ap (λ (l : List Row). l ++ rows_left file found.before (things file (class_in b) found.at)) first.rows
-          ∙ ap₂ (λ (m : Before) (n : ℕ). rows_left file m (things file (class_in b) n)) first.before first.at
-          ∙ ap (λ (h : Option Head). rows_left file (record { place = head_area h; ended = 0 }) (ahead h)) begins.head
+          ap (λ (l : List Row). l
+          ++ rows_left file found.before (things file (class_in b) found.at)) first.rows
+          ∙ ap₂ (λ (m : Before) (n : ℕ). rows_left file m (things file (class_in b) n))
+          first.before first.at
+          ∙ ap (λ (h : Option Head). rows_left file (record { place = head_area h; ended = 0 })
+          (ahead h)) begins.head
           ∙ sym (runs-left file (head_of file b.start.first) (ahead (head_of file b.start.first)));
-      blocks = ap₂ (λ (l : List Piece) (n : ℕ). l ++ blocks_in (things file (class_in b) n)) blocks first.at ∙ ap (λ (h : Option Head). blocks_of (run Front file 0).items ++ blocks_in (ahead h)) begins.head;
-      gaps = ap₂ (λ (l : List Gap) (n : ℕ). l ++ gaps_of (things file (class_in b) n)) first.gaps first.at ∙ ap (λ (h : Option Head). gap_between b.start.front_end b.start.first.offset ++ gaps_of (ahead h)) begins.head;
+      blocks = ap₂ (λ (l : List Piece) (n : ℕ). l ++ blocks_in (things file (class_in b) n)) blocks
+          first.at ∙ ap (λ (h : Option Head). blocks_of (run Front file 0).items
+          ++ blocks_in (ahead h)) begins.head;
+      gaps = ap₂ (λ (l : List Gap) (n : ℕ). l ++ gaps_of (things file (class_in b) n))
+          first.gaps first.at ∙ ap (λ (h : Option Head).
+          gap_between b.start.front_end b.start.first.offset ++ gaps_of (ahead h)) begins.head;
     }
 
-between_laid : (from to at : ℕ) (less : Bool) → ltb from to ≡ less → from ≤ to → to ≤ at → GapsAreLaid 0 (cond less (record { offset = from; length = to - from } ∷ []) []) at
-between_laid from to at true is low high = (omega arith, omega (arith, ltb-true from to is), omega (arith, low, high))
+between_laid : (from to at : ℕ) (less : Bool) → ltb from to ≡ less → from ≤ to → to ≤ at
+    → GapsAreLaid 0 (cond less (record { offset = from; length = to - from } ∷ []) []) at
+between_laid from to at true is low high =
+    (omega arith, omega (arith, ltb-true from to is), omega (arith, low, high))
 between_laid from to at false is low high = omega arith
 
-pub begun_laid : (b : Begun) (found : Found) → IsFirst b found → b.start.front_end ≤ b.start.first.offset → BlocksAreLaid 0 found.pieces.items b.start.front_end → found.before.place ≤ 1441 → b.start.first.offset ≤ found.at → found.at ≤ b.size
-    → IsLaidTo b found
+-- and they are in order before it
+pub begun_laid : (b : Begun) (found : Found) → IsFirst b found
+    → b.start.front_end ≤ b.start.first.offset
+    → BlocksAreLaid 0 found.pieces.items b.start.front_end → found.before.place ≤ 1441
+    → b.start.first.offset ≤ found.at → found.at ≤ b.size → IsLaidTo b found
 begun_laid b found first junk blocks low behind within = record {
   rows = subst (λ l. AreLaid b.start.first.offset l found.at) (sym first.rows) behind;
   class = subst (AreOfClass (class_in b)) (sym first.rows) tt;
-  pieces = pieces_later 0 found.pieces.items b.start.front_end found.at blocks (omega (arith, junk, behind));
-  gaps = subst (λ l. GapsAreLaid 0 l found.at) (sym first.gaps) (between_laid b.start.front_end b.start.first.offset found.at (ltb b.start.front_end b.start.first.offset) refl junk behind);
+  pieces = pieces_later 0 found.pieces.items b.start.front_end found.at blocks
+      (omega (arith, junk, behind));
+  gaps = subst (λ l. GapsAreLaid 0 l found.at) (sym first.gaps) (between_laid b.start.front_end
+      b.start.first.offset found.at (ltb b.start.front_end b.start.first.offset) refl junk behind);
   low = omega (arith, low);
   within = within;
   few = omega (arith, ap length first.rows);
-  kept = subst (AreKeptTo b.head found.rows.items) (sym first.before) (subst (λ l. AreKeptTo b.head l (record { place = head_area b.head; ended = 0 })) (sym first.rows) (kept_none b.head));
+  kept = subst (AreKeptTo b.head found.rows.items) (sym first.before)
+      (subst (λ l. AreKeptTo b.head l (record { place = head_area b.head; ended = 0 }))
+      (sym first.rows) (kept_none b.head));
 }
 
 -- ---- where it ends
 
-head_within : (b : Begun) (head : Option Head) → b.start.first.offset + size_of (Frame b.start.first.header) ≤ b.size → IfSome head (IsFrameOf b.start.first) → IfSome head (IsWholeHead b.start.first.offset (class_in b) b.size)
+head_within : (b : Begun) (head : Option Head)
+    → b.start.first.offset + size_of (Frame b.start.first.header) ≤ b.size
+    → IfSome head (IsFrameOf b.start.first)
+    → IfSome head (IsWholeHead b.start.first.offset (class_in b) b.size)
 head_within b None whole same = tt
 head_within b (Some head) whole same = record {
   place = same.0;
@@ -325,8 +432,11 @@ some_of : (rows : List Row) → (rows ≡ [] → ⊥) → 0 < length rows
 some_of [] none = absurd (none refl)
 some_of (r ∷ rows) none = omega arith
 
-pub laid_out : (b : Begun) (found : Found) → b.start.front_end ≤ b.start.first.offset → b.start.first.offset + size_of (Frame b.start.first.header) ≤ b.size → IfSome b.head (IsFrameOf b.start.first) → IsLaidTo b found
-    → (found.rows.items ≡ [] → ⊥) → b.size ≤ longest_file → IsLaidOut (told_of b found)
+-- what was read to the end is laid out
+pub laid_out : (b : Begun) (found : Found) → b.start.front_end ≤ b.start.first.offset
+    → b.start.first.offset + size_of (Frame b.start.first.header) ≤ b.size
+    → IfSome b.head (IsFrameOf b.start.first) → IsLaidTo b found → (found.rows.items ≡ [] → ⊥)
+    → b.size ≤ longest_file → IsLaidOut (told_of b found)
 laid_out b found junk whole same laid some long = record {
   junk = junk;
   first = omega (arith, whole);

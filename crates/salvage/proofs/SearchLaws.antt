@@ -1,32 +1,31 @@
 -- The next usable frame.
-use Rattle.std.proofs.Common.{◌≡◌, ℕ, zero, suc, ◌+◌, ◌-◌, ◌<◌, ◌≤◌, ◌⊎◌, leb, Bool, true, false, cond, inl, inr, List, [], ◌∷◌, length, drop, get_or, Option, Some, None, Result, Ok, Err, refl, sym, ◌∙◌, ap, ap₂, subst, arith, option_and_then, IfOk}
-use Rattle.std.proofs.lemmas.Bool.{false≢true, leb-true, leb-false, and_right}
-use Rattle.frame_header.specs.Fields.{HeaderFields}
-use Rattle.frame_header.specs.Tables.{class_of, length_of}
-use Rattle.sync_survey.specs.declared.items.Item.{Item}
-use Rattle.sync_survey.specs.declared.items.Item.TheVariants.{Frame}
-use Rattle.sync_survey.specs.declared.places.PlacedFrame.{PlacedFrame}
-use Rattle.sync_survey.specs.Items.{Stands, header_front, item_front, item_at, fits}
-use Rattle.sync_survey.specs.Start.{is_anchor, has_anchor, anchored, anchored_frame}
-use Rattle.sync_survey.specs.Looks.{Shows}
-use Rattle.sync_survey.proofs.ItemsLaws.{stands}
-use Rattle.sync_survey.proofs.LooksLaws.{item_at-behind}
-use Rattle.sync_survey.proofs.StartLaws.{first_of-none, first_of-some, anchored_frame-past}
-use Rattle.salvage.specs.declared.usable.Role.{Role}
-use Rattle.salvage.specs.Usable.{is_usable, if_usable, usable_anchored, next_usable}
-use Rattle.salvage.specs.declared.usable.Role.TheVariants.{First}
-use Rattle.salvage.specs.Walk.{item_read, first_frame}
-use Rattle.salvage.specs.Steps.{may_begin, IsBare}
-use Rattle.salvage.proofs.UsableLaws.{usable_behind}
-use Rattle.salvage.proofs.SaidLaws.{header_begins}
+use Rattle.std.proofs.Common.{ap, ap₂, arith, Bool, cond, drop, Err, false, get_or, IfOk, inl, inr}
+use Rattle.std.proofs.Common.{leb, length, List, None, Ok, Option, option_and_then, refl, Result}
+use Rattle.std.proofs.Common.{Some, subst, suc, sym, true, zero, ℕ, [], ◌+◌, ◌-◌, ◌<◌, ◌∙◌, ◌∷◌}
+use Rattle.std.proofs.Common.{◌≡◌, ◌≤◌, ◌⊎◌}
+use Rattle.std.proofs.lemmas.Bool.{and_right, false≢true, leb-false, leb-true}
 use Rattle.std.specs.Option.{option_or}
+use Rattle.frame_header.specs.{Fields.HeaderFields, Tables.{class_of, length_of}}
 use Rattle.outside.specs.Files.{Files, Holds}
-use Rattle.sync_survey.specs.declared.survey_fault.SurveyFault.{SurveyFault}
+use Rattle.salvage.proofs.{SaidLaws.header_begins, UsableLaws.usable_behind}
+use Rattle.salvage.specs.Steps.{IsBare, may_begin}
+use Rattle.salvage.specs.Usable.{if_usable, is_usable, next_usable, usable_anchored}
+use Rattle.salvage.specs.{Walk.{first_frame, item_read}, declared.usable.Role.Role}
+use Rattle.salvage.specs.declared.usable.Role.TheVariants.{First}
+use Rattle.sync_survey.proofs.{ItemsLaws.stands, LooksLaws.item_at-behind}
+use Rattle.sync_survey.proofs.StartLaws.{anchored_frame-past, first_of-none, first_of-some}
+use Rattle.sync_survey.specs.{Items.{fits, header_front, item_at, item_front, Stands}, Looks.Shows}
 use Rattle.sync_survey.specs.Runs.{frame_as}
+use Rattle.sync_survey.specs.Start.{anchored, anchored_frame, has_anchor, is_anchor}
+use Rattle.sync_survey.specs.declared.items.Item.{Item, TheVariants.Frame}
+use Rattle.sync_survey.specs.declared.places.PlacedFrame.{PlacedFrame}
+use Rattle.sync_survey.specs.declared.survey_fault.SurveyFault.{SurveyFault}
 
 -- ---- no usable anchored frame
 
-pub not_usable : (file : List ℕ) (role : Role) (at : ℕ) → anchored_frame file at ≡ None → usable_anchored file role at ≡ None
+-- a frame that isn't anchored isn't usable
+pub not_usable : (file : List ℕ) (role : Role) (at : ℕ) → anchored_frame file at ≡ None
+    → usable_anchored file role at ≡ None
 unfolding usable_anchored
 not_usable file role at none = ap (if_usable file role) none
 
@@ -38,42 +37,62 @@ get_drop (x ∷ xs) (suc k) i =
     get_drop xs k i ∙ ap (λ n. get_or (x ∷ xs) n 0) next
 
 -- where none may begin, none does
-pub bare_at : (front : List ℕ) → ((i : ℕ) → get_or front i 0 < 256) → (k : ℕ) → may_begin (get_or front k 0) (get_or front (k + 1) 0) ≡ false → (h : HeaderFields) → item_front (drop k front) ≡ Frame h → ⊥
+pub bare_at : (front : List ℕ) → ((i : ℕ) → get_or front i 0 < 256) → (k : ℕ)
+    → may_begin (get_or front k 0) (get_or front (k + 1) 0) ≡ false → (h : HeaderFields)
+    → item_front (drop k front) ≡ Frame h → ⊥
 bare_at front few k bare h is =
-    let header : header_front (drop k front) ≡ Ok h = subst (Stands (drop k front)) is (stands (drop k front)) in
-    let begins = header_begins (drop k front) h (λ i. subst (λ n. n < 256) (sym (get_drop front k i)) (few (k + i))) header in
-    let same = ap₂ (λ (m n : ℕ). may_begin m n) (get_drop front k 0 ∙ ap (λ n. get_or front n 0) (omega arith)) (get_drop front k 1) in
+    let header : header_front (drop k front) ≡ Ok h =
+    subst (Stands (drop k front)) is (stands (drop k front)) in
+    let begins = header_begins (drop k front) h
+    (λ i. subst (λ n. n < 256) (sym (get_drop front k i)) (few (k + i))) header in
+    let same = ap₂ (λ (m n : ℕ). may_begin m n)
+    (get_drop front k 0 ∙ ap (λ n. get_or front n 0) (omega arith)) (get_drop front k 1) in
     false≢true (sym bare ∙ sym same ∙ begins)
 
 -- ---- where there is no anchored frame
 
 -- a header other than this one isn't here
-pub header_same : (bytes : List ℕ) (h g : HeaderFields) → header_front bytes ≡ Ok h → item_front bytes ≡ Frame g → h ≡ g
+pub header_same : (bytes : List ℕ) (h g : HeaderFields) → header_front bytes ≡ Ok h
+    → item_front bytes ≡ Frame g → h ≡ g
 header_same bytes h g read is =
     let header : header_front bytes ≡ Ok g = subst (Stands bytes) is (stands bytes) in
     cc
 
-pub header_of : (bytes : List ℕ) (g : HeaderFields) → item_front bytes ≡ Frame g → header_front bytes ≡ Ok g
+-- where an item is a frame, its header is the one with which the bytes begin
+pub header_of : (bytes : List ℕ) (g : HeaderFields) → item_front bytes ≡ Frame g
+    → header_front bytes ≡ Ok g
 header_of bytes g is = subst (Stands bytes) is (stands bytes)
 
 -- the frame at this place has no anchor, or isn't usable
-module _ (role : Role) (offset : ℕ) (front : List ℕ) (k : ℕ) (g : HeaderFields) (here : header_front (drop k front) ≡ Ok g) (near : k + length_of (class_of g) g.slot ≤ 4064) where
-  pub bare_unanchored : is_anchor (class_of g) (item_front (drop (k + length_of (class_of g) g.slot) front)) ≡ false → IsBare role offset front k
+module _ (role : Role) (offset : ℕ) (front : List ℕ) (k : ℕ) (g : HeaderFields)
+    (here : header_front (drop k front) ≡ Ok g)
+    (near : k + length_of (class_of g) g.slot ≤ 4064) where
+  -- without an anchor none usable begins here
+  pub bare_unanchored : is_anchor (class_of g)
+      (item_front (drop (k + length_of (class_of g) g.slot) front)) ≡ false
+      → IsBare role offset front k
   bare_unanchored none = λ h is.
       subst
       (λ (f : HeaderFields). (k + length_of (class_of f) f.slot ≤ 4064)
-      × ((is_anchor (class_of f) (item_front (drop (k + length_of (class_of f) f.slot) front)) ≡ false) ⊎ (is_usable role (record { offset = offset + k; header = f }) (drop k front) ≡ false)))
+      × ((is_anchor (class_of f) (item_front (drop (k + length_of (class_of f) f.slot) front))
+      ≡ false)
+      ⊎ (is_usable role (record { offset = offset + k; header = f }) (drop k front) ≡ false)))
       (header_same (drop k front) g h here is) (near, inl none)
 
-  pub bare_unusable : is_usable role (record { offset = offset + k; header = g }) (drop k front) ≡ false → IsBare role offset front k
+  -- nor does one if the frame isn't usable
+  pub bare_unusable : is_usable role (record { offset = offset + k; header = g }) (drop k front)
+      ≡ false → IsBare role offset front k
   bare_unusable none = λ h is.
       subst
       (λ (f : HeaderFields). (k + length_of (class_of f) f.slot ≤ 4064)
-      × ((is_anchor (class_of f) (item_front (drop (k + length_of (class_of f) f.slot) front)) ≡ false) ⊎ (is_usable role (record { offset = offset + k; header = f }) (drop k front) ≡ false)))
+      × ((is_anchor (class_of f) (item_front (drop (k + length_of (class_of f) f.slot) front))
+      ≡ false)
+      ⊎ (is_usable role (record { offset = offset + k; header = f }) (drop k front) ≡ false)))
       (header_same (drop k front) g h here is) (near, inr none)
 
 -- what holds at the places up to one, and there, holds before the next
-pub bare_more : (P : ℕ → Type 0) (from at : ℕ) → ((k : ℕ) → from ≤ k → k < at → P k) → P at → (k : ℕ) → from ≤ k → k < at + 1 → P k
+pub bare_more : (P : ℕ → Type 0) (from at : ℕ) → ((k : ℕ) → from ≤ k → k < at → P k) → P at
+    → (k : ℕ) → from ≤ k → k < at + 1 → P k
 bare_more P from at before here k some low = by_place (leb at k) refl
   where
     by_place : (b : Bool) → leb at k ≡ b → P k
@@ -82,7 +101,9 @@ bare_more P from at before here k some low = by_place (leb at k) refl
         subst P same here
     by_place false is = before k some (leb-false at k is)
 
-pub bare_joined : (P : ℕ → Type 0) (from mid to : ℕ) → ((k : ℕ) → from ≤ k → k < mid → P k) → ((k : ℕ) → mid ≤ k → k < to → P k) → (k : ℕ) → from ≤ k → k < to → P k
+-- what holds up to one place, and from there to another, holds up to the other
+pub bare_joined : (P : ℕ → Type 0) (from mid to : ℕ) → ((k : ℕ) → from ≤ k → k < mid → P k)
+    → ((k : ℕ) → mid ≤ k → k < to → P k) → (k : ℕ) → from ≤ k → k < to → P k
 bare_joined P from mid to before behind k low high = by_place (leb mid k) refl
   where
     by_place : (b : Bool) → leb mid k ≡ b → P k
@@ -90,50 +111,72 @@ bare_joined P from mid to before behind k low high = by_place (leb mid k) refl
     by_place false is = before k low (leb-false mid k is)
 
 -- a frame that isn't usable is none, anchored or not
-unusable : (file : List ℕ) (role : Role) (p : PlacedFrame) (b : Bool) → is_usable role p (drop p.offset file) ≡ false → if_usable file role (cond b (Some p) None) ≡ None
+unusable : (file : List ℕ) (role : Role) (p : PlacedFrame) (b : Bool)
+    → is_usable role p (drop p.offset file) ≡ false
+    → if_usable file role (cond b (Some p) None) ≡ None
 unusable file role p true is = ap (λ u. cond u (Some p) None) is
 unusable file role p false is = refl
 
-module _ (file : List ℕ) (at : ℕ) (front : List ℕ) (left : ℕ) (shows : Shows file at front left) where
-  no_anchor : (k : ℕ) (h : HeaderFields) → k + length_of (class_of h) h.slot ≤ 4064 → is_anchor (class_of h) (item_front (drop (k + length_of (class_of h) h.slot) front)) ≡ false → has_anchor file (at + k) h ≡ false
+module _ (file : List ℕ) (at : ℕ) (front : List ℕ) (left : ℕ)
+    (shows : Shows file at front left) where
+  no_anchor : (k : ℕ) (h : HeaderFields) → k + length_of (class_of h) h.slot ≤ 4064
+      → is_anchor (class_of h) (item_front (drop (k + length_of (class_of h) h.slot) front)) ≡ false
+      → has_anchor file (at + k) h ≡ false
   no_anchor k h near none =
       let size = length_of (class_of h) h.slot in
       let place : at + (k + size) ≡ (at + k) + size = omega arith in
-      let behind : item_front (drop (k + size) front) ≡ item_at file ((at + k) + size) = item_at-behind file at front left shows (k + size) near ∙ ap (item_at file) place in
-      and_right (fits file (at + k) (Frame h)) (is_anchor (class_of h) (item_at file ((at + k) + size))) (sym (ap (is_anchor (class_of h)) behind) ∙ none)
+      let behind : item_front (drop (k + size) front) ≡ item_at file ((at + k) + size) =
+      item_at-behind file at front left shows (k + size) near ∙ ap (item_at file) place in
+      and_right (fits file (at + k) (Frame h)) (is_anchor (class_of h)
+      (item_at file ((at + k) + size))) (sym (ap (is_anchor (class_of h)) behind) ∙ none)
 
-  bare_frame : (role : Role) (k : ℕ) (h : HeaderFields) → item_front (drop k front) ≡ Frame h → k + length_of (class_of h) h.slot ≤ 4064
-      → (is_anchor (class_of h) (item_front (drop (k + length_of (class_of h) h.slot) front)) ≡ false) ⊎ (is_usable role (record { offset = at + k; header = h }) (drop k front) ≡ false)
+  bare_frame : (role : Role) (k : ℕ) (h : HeaderFields) → item_front (drop k front) ≡ Frame h
+      → k + length_of (class_of h) h.slot ≤ 4064
+      → (is_anchor (class_of h) (item_front (drop (k + length_of (class_of h) h.slot) front))
+      ≡ false) ⊎ (is_usable role (record { offset = at + k; header = h }) (drop k front) ≡ false)
       → if_usable file role (anchored file (at + k) (Frame h)) ≡ None
-  bare_frame role k h shown near (inl none) = ap (λ b. if_usable file role (cond b (Some (record { offset = at + k; header = h })) None)) (no_anchor k h near none)
+  bare_frame role k h shown near (inl none) = ap (λ b. if_usable file role
+      (cond b (Some (record { offset = at + k; header = h })) None)) (no_anchor k h near none)
   bare_frame role k h shown near (inr none) =
-      unusable file role (record { offset = at + k; header = h }) (has_anchor file (at + k) h) (sym (usable_behind file at front left shows role k h near shown) ∙ none)
+      unusable file role (record { offset = at + k; header = h }) (has_anchor file (at + k) h)
+      (sym (usable_behind file at front left shows role k h near shown) ∙ none)
 
-  bare_by : (role : Role) (k : ℕ) (item : Item) → item_front (drop k front) ≡ item → IsBare role at front k → if_usable file role (anchored file (at + k) item) ≡ None
+  bare_by : (role : Role) (k : ℕ) (item : Item) → item_front (drop k front) ≡ item
+      → IsBare role at front k → if_usable file role (anchored file (at + k) item) ≡ None
   bare_by role k (Frame h) shown bare =
       let found = bare h shown in
       bare_frame role k h shown found.0 found.1
   bare_by role k _ shown bare = refl
 
-  bare_usable : (role : Role) (k : ℕ) → k ≤ 4064 → IsBare role at front k → usable_anchored file role (at + k) ≡ None
+  bare_usable : (role : Role) (k : ℕ) → k ≤ 4064 → IsBare role at front k
+      → usable_anchored file role (at + k) ≡ None
   unfolding usable_anchored anchored_frame
   bare_usable role k near bare =
       let item = item_front (drop k front) in
-      ap (λ i. if_usable file role (anchored file (at + k) i)) (sym (item_at-behind file at front left shows k near)) ∙ bare_by role k item refl bare
+      ap (λ i. if_usable file role (anchored file (at + k) i))
+      (sym (item_at-behind file at front left shows k near)) ∙ bare_by role k item refl bare
 
   -- none is at the offsets that are passed
-  pub passed_bare : (role : Role) (n earlier : ℕ) → n ≤ 4064 → ((k : ℕ) → 0 < k → k < n → IsBare role at front k) → at < earlier → earlier < at + n → usable_anchored file role earlier ≡ None
+  pub passed_bare : (role : Role) (n earlier : ℕ) → n ≤ 4064
+      → ((k : ℕ) → 0 < k → k < n → IsBare role at front k) → at < earlier → earlier < at + n
+      → usable_anchored file role earlier ≡ None
   passed_bare role n earlier near bare low high =
       let k = earlier - at in
       let same : at + k ≡ earlier = omega (arith, low) in
-      subst (λ m. usable_anchored file role m ≡ None) same (bare_usable role k (omega (arith, near, high, low)) (bare k (omega (arith, low)) (omega (arith, high, low))))
+      subst (λ m. usable_anchored file role m ≡ None) same (bare_usable role k
+      (omega (arith, near, high, low)) (bare k (omega (arith, low)) (omega (arith, high, low))))
 
 -- none is before a later offset
-pub none_later : (file : List ℕ) (role : Role) (from at later earlier : ℕ) → ((k : ℕ) → from ≤ k → k < at → usable_anchored file role k ≡ None) → usable_anchored file role at ≡ None
-    → ((k : ℕ) → at < k → k < later → usable_anchored file role k ≡ None) → from ≤ earlier → earlier < later → usable_anchored file role earlier ≡ None
-none_later file role from at later earlier before here behind low high = by_place (leb earlier at) (leb at earlier) refl refl
+pub none_later : (file : List ℕ) (role : Role) (from at later earlier : ℕ)
+    → ((k : ℕ) → from ≤ k → k < at → usable_anchored file role k ≡ None)
+    → usable_anchored file role at ≡ None
+    → ((k : ℕ) → at < k → k < later → usable_anchored file role k ≡ None) → from ≤ earlier
+    → earlier < later → usable_anchored file role earlier ≡ None
+none_later file role from at later earlier before here behind low high =
+    by_place (leb earlier at) (leb at earlier) refl refl
   where
-    by_place : (a b : Bool) → leb earlier at ≡ a → leb at earlier ≡ b → usable_anchored file role earlier ≡ None
+    by_place : (a b : Bool) → leb earlier at ≡ a → leb at earlier ≡ b
+        → usable_anchored file role earlier ≡ None
     by_place true true is is' =
         let same : at ≡ earlier = omega (arith, leb-true earlier at is, leb-true at earlier is') in
         subst (λ k. usable_anchored file role k ≡ None) same here
@@ -142,32 +185,58 @@ none_later file role from at later earlier before here behind low high = by_plac
 
 -- ---- the search
 
-pub next_usable-some : (file : List ℕ) (role : Role) (from at : ℕ) (p : PlacedFrame) → from ≤ at → at < length file → usable_anchored file role at ≡ Some p → ((k : ℕ) → from ≤ k → k < at → usable_anchored file role k ≡ None)
+-- a usable frame before which there is none is the next
+pub next_usable-some : (file : List ℕ) (role : Role) (from at : ℕ) (p : PlacedFrame) → from ≤ at
+    → at < length file → usable_anchored file role at ≡ Some p
+    → ((k : ℕ) → from ≤ k → k < at → usable_anchored file role k ≡ None)
     → next_usable file role from ≡ Some p
 unfolding next_usable
 next_usable-some file role from at p low high here none =
-    first_of-some (usable_anchored file role) (length file) from at p (record { low = low; high = omega (arith, high); here = here; none = none })
+    first_of-some (usable_anchored file role) (length file) from at p
+    (record { low = low; high = omega (arith, high); here = here; none = none })
 
-none_by_end : (file : List ℕ) (role : Role) (from to at : ℕ) → length file ≤ to → ((k : ℕ) → from ≤ k → k < to → usable_anchored file role k ≡ None) → from ≤ at → (b : Bool) → leb to at ≡ b → usable_anchored file role at ≡ None
-none_by_end file role from to at end none low true e = not_usable file role at (anchored_frame-past file at (omega (arith, end, leb-true to at e)))
+none_by_end : (file : List ℕ) (role : Role) (from to at : ℕ) → length file ≤ to
+    → ((k : ℕ) → from ≤ k → k < to → usable_anchored file role k ≡ None) → from ≤ at → (b : Bool)
+    → leb to at ≡ b → usable_anchored file role at ≡ None
+none_by_end file role from to at end none low true e =
+    not_usable file role at (anchored_frame-past file at (omega (arith, end, leb-true to at e)))
 none_by_end file role from to at end none low false e = none at low (leb-false to at e)
 
-pub next_usable-none : (file : List ℕ) (role : Role) (from to : ℕ) → length file ≤ to → ((k : ℕ) → from ≤ k → k < to → usable_anchored file role k ≡ None) → next_usable file role from ≡ None
+-- without one before the end of the file there is no next
+pub next_usable-none : (file : List ℕ) (role : Role) (from to : ℕ) → length file ≤ to
+    → ((k : ℕ) → from ≤ k → k < to → usable_anchored file role k ≡ None)
+    → next_usable file role from ≡ None
 unfolding next_usable
-next_usable-none file role from to end none = first_of-none (usable_anchored file role) (length file) from (λ at low high. none_by_end file role from to at end none low (leb to at) refl)
+next_usable-none file role from to end none =
+    first_of-none (usable_anchored file role) (length file) from
+    (λ at low high. none_by_end file role from to at end none low (leb to at) refl)
 
 -- ---- the first frame
 
-pub first_here : (file : List ℕ) (front_end : ℕ) (p : PlacedFrame) → option_and_then (frame_as front_end) (item_read file First front_end) ≡ Some p → first_frame file front_end ≡ Some p
+-- a frame where the front ends is the first
+pub first_here : (file : List ℕ) (front_end : ℕ) (p : PlacedFrame)
+    → option_and_then (frame_as front_end) (item_read file First front_end) ≡ Some p
+    → first_frame file front_end ≡ Some p
 unfolding first_frame
-first_here file front_end p here = ap (λ o. option_or o (next_usable file First (front_end + 1))) here
+first_here file front_end p here =
+    ap (λ o. option_or o (next_usable file First (front_end + 1))) here
 
-pub first_later : (file : List ℕ) (front_end : ℕ) → option_and_then (frame_as front_end) (item_read file First front_end) ≡ None → first_frame file front_end ≡ next_usable file First (front_end + 1)
+-- if none is there, the first is the next usable one behind it
+pub first_later : (file : List ℕ) (front_end : ℕ)
+    → option_and_then (frame_as front_end) (item_read file First front_end) ≡ None
+    → first_frame file front_end ≡ next_usable file First (front_end + 1)
 unfolding first_frame
-first_later file front_end none = ap (λ o. option_or o (next_usable file First (front_end + 1))) none
+first_later file front_end none =
+    ap (λ o. option_or o (next_usable file First (front_end + 1))) none
 
-pub first_behind : (name : List ℕ) (files mid : Files) (front_end : ℕ) (r : Result (Option PlacedFrame) SurveyFault) → mid ≡ files
-    → ((bytes : List ℕ) → Holds files name bytes → option_and_then (frame_as front_end) (item_read bytes First front_end) ≡ None)
-    → IfOk r (λ o. (bytes : List ℕ) → Holds mid name bytes → o ≡ next_usable bytes First (front_end + 1)) → IfOk r (λ o. (bytes : List ℕ) → Holds files name bytes → o ≡ first_frame bytes front_end)
-first_behind name files mid front_end (Ok o) same none next = λ bytes holds. next bytes (subst (λ f. Holds f name bytes) (sym same) holds) ∙ sym (first_later bytes front_end (none bytes holds))
+-- so what the search behind it finds is the first frame
+pub first_behind : (name : List ℕ) (files mid : Files) (front_end : ℕ)
+    (r : Result (Option PlacedFrame) SurveyFault) → mid ≡ files
+    → ((bytes : List ℕ) → Holds files name bytes
+    → option_and_then (frame_as front_end) (item_read bytes First front_end) ≡ None) → IfOk r
+    (λ o. (bytes : List ℕ) → Holds mid name bytes → o ≡ next_usable bytes First (front_end + 1))
+    → IfOk r (λ o. (bytes : List ℕ) → Holds files name bytes → o ≡ first_frame bytes front_end)
+first_behind name files mid front_end (Ok o) same none next =
+    λ bytes holds. next bytes (subst (λ f. Holds f name bytes) (sym same) holds)
+    ∙ sym (first_later bytes front_end (none bytes holds))
 first_behind name files mid front_end (Err fault) same none next = tt

@@ -1,16 +1,16 @@
 -- The frames of all runs, judged one after the other.
-use Rattle.std.proofs.Common.{◌≡◌, ℕ, ◌+◌, not, List, [], ◌∷◌, ◌++◌, length, map, Option, None, refl, sym, ◌∙◌, ap, ap₂, arith, append_assoc, length-append, flat_map}
+use Rattle.std.proofs.Common.{ap, append_assoc, ap₂, arith, flat_map, length, length-append, List}
+use Rattle.std.proofs.Common.{map, None, not, Option, refl, sym, ℕ, [], ◌++◌, ◌+◌, ◌∙◌, ◌∷◌, ◌≡◌}
 use Rattle.std.specs.List.{enumerate_from}
-use Rattle.sync_survey.specs.declared.items.Item.TheVariants.{Frame}
-use Rattle.sync_survey.specs.declared.places.Head.{Head}
-use Rattle.sync_survey.specs.declared.places.PlacedFrame.{PlacedFrame}
-use Rattle.sync_survey.specs.Row.{Row}
-use Rattle.sync_survey.specs.declared.rows.Before.{Before}
-use Rattle.sync_survey.specs.MainData.{rows_of, head_area, place}
-use Rattle.sync_survey.proofs.FaultsLaws.{place-more, place-next, place-none, IsRuled, ruled}
-use Rattle.salvage.specs.Walk.{Thing, IsItem, IsGap, PlacedThing}
-use Rattle.salvage.specs.Sound.{FrameRuns, runs_behind, runs_of, is_sound, sound_end, end_of_sound, judged_row, judged, judged_runs}
-use Rattle.salvage.specs.Judged.{judged_by, before_next, none_before, rows_here, before_here, rows_left}
+use Rattle.salvage.specs.Judged.{before_here, before_next, judged_by, none_before, rows_here}
+use Rattle.salvage.specs.Judged.{rows_left}
+use Rattle.salvage.specs.Sound.{end_of_sound, FrameRuns, is_sound, judged, judged_row, judged_runs}
+use Rattle.salvage.specs.Sound.{runs_behind, runs_of, sound_end}
+use Rattle.salvage.specs.Walk.{IsItem, PlacedThing, Thing}
+use Rattle.sync_survey.proofs.FaultsLaws.{IsRuled, place-more, place-next, place-none, ruled}
+use Rattle.sync_survey.specs.{MainData.{head_area, place, rows_of}, Row.Row}
+use Rattle.sync_survey.specs.declared.{items.Item.TheVariants.Frame, places.Head.Head}
+use Rattle.sync_survey.specs.declared.{places.PlacedFrame.PlacedFrame, rows.Before.Before}
 
 -- ---- one run
 
@@ -26,20 +26,28 @@ module _ (head : Option Head) where
 
   -- the main data before the frame after these
   abbrev behind : List Row → Before
-  behind rows = record { place = place head rows (length rows); ended = end_of_sound head rows (length rows) }
+  behind rows =
+      record { place = place head rows (length rows); ended = end_of_sound head rows (length rows) }
 
   behind-next : (rows : List Row) (r : Row) → before_next (behind rows) r ≡ behind (rows ++ r ∷ [])
-  behind-next rows r = ap₂ (λ m n. record { place = m; ended = n }) (sym (place-next head rows r)) (sym (sound_ends.next rows r))
+  behind-next rows r = ap₂ (λ m n. record { place = m; ended = n }) (sym (place-next head rows r))
+      (sym (sound_ends.next rows r))
 
-  row-next : (rows rest : List Row) (r : Row) → judged_row head (rows ++ r ∷ rest) (length rows) r ≡ judged_by (behind rows) r
-  row-next rows rest r = ap₂ (λ m n. record r { lost = not (is_sound m n r) }) (place-more head rows (r ∷ rest) (length rows) (omega arith)) (sound_ends.more rows (r ∷ rest) (length rows) (omega arith))
+  row-next : (rows rest : List Row) (r : Row)
+      → judged_row head (rows ++ r ∷ rest) (length rows) r ≡ judged_by (behind rows) r
+  row-next rows rest r = ap₂ (λ m n. record r { lost = not (is_sound m n r) })
+      (place-more head rows (r ∷ rest) (length rows) (omega arith))
+      (sound_ends.more rows (r ∷ rest) (length rows) (omega arith))
 
-  judged_rest : (rows rest : List Row) → map (λ (p : ℕ × Row). judged_row head (rows ++ rest) p.0 p.1) (enumerate_from (length rows) rest) ≡ judged_from (behind rows) rest
+  judged_rest : (rows rest : List Row) → map (λ (p : ℕ × Row). judged_row head
+      (rows ++ rest) p.0 p.1) (enumerate_from (length rows) rest) ≡ judged_from (behind rows) rest
   judged_rest rows [] = refl
   judged_rest rows (r ∷ rest) =
-      let one : length rows + 1 ≡ length (rows ++ r ∷ []) = omega (arith, length-append rows (r ∷ [])) in
+      let one : length rows + 1 ≡ length (rows ++ r ∷ []) =
+      omega (arith, length-append rows (r ∷ [])) in
       ap₂ (λ (q : Row) (l : List Row). q ∷ l) (row-next rows rest r)
-      (ap₂ (λ (l : List Row) n. map (λ (p : ℕ × Row). judged_row head l p.0 p.1) (enumerate_from n rest)) (sym (append_assoc rows (r ∷ []) rest)) one
+      (ap₂ (λ (l : List Row) n. map (λ (p : ℕ × Row). judged_row head l p.0 p.1)
+      (enumerate_from n rest)) (sym (append_assoc rows (r ∷ []) rest)) one
       ∙ judged_rest (rows ++ r ∷ []) rest
       ∙ ap (λ b. judged_from b rest) (sym (behind-next rows r)))
 
@@ -47,31 +55,47 @@ module _ (head : Option Head) where
   unfolding end_of_sound
   behind-none = ap (λ n. record { place = n; ended = 0 }) (sym (place-none head))
 
-  pub judged-from : (rows : List Row) → judged head rows ≡ judged_from (record { place = head_area head; ended = 0 }) rows
+  -- the first frame is judged with the place after the head's area
+  pub judged-from : (rows : List Row)
+      → judged head rows ≡ judged_from (record { place = head_area head; ended = 0 }) rows
   unfolding judged
   judged-from rows = judged_rest [] rows ∙ ap (λ b. judged_from b rows) behind-none
 
 -- ---- all runs
 
 abbrev runs_from : List ℕ → Before → FrameRuns → List Row
-runs_from file b runs = judged_from b (rows_of file runs.first) ++ flat_map (λ run. judged_from none_before (rows_of file run)) runs.later
+runs_from file b runs = judged_from b (rows_of file runs.first)
+    ++ flat_map (λ run. judged_from none_before (rows_of file run)) runs.later
 
-later_same : (file : List ℕ) (later : List (List PlacedFrame)) → flat_map (λ run. judged None (rows_of file run)) later ≡ flat_map (λ run. judged_from none_before (rows_of file run)) later
+later_same : (file : List ℕ) (later : List (List PlacedFrame))
+    → flat_map (λ run. judged None (rows_of file run)) later
+    ≡ flat_map (λ run. judged_from none_before (rows_of file run)) later
 later_same file [] = refl
-later_same file (run ∷ later) = ap₂ (λ (a b : List Row). a ++ b) (judged-from None (rows_of file run)) (later_same file later)
+later_same file (run ∷ later) =
+    ap₂ (λ (a b : List Row). a ++ b) (judged-from None (rows_of file run)) (later_same file later)
 
-runs-from : (file : List ℕ) (head : Option Head) (runs : FrameRuns) → judged_runs file head runs ≡ runs_from file (record { place = head_area head; ended = 0 }) runs
-runs-from file head runs = ap₂ (λ (a b : List Row). a ++ b) (judged-from head (rows_of file runs.first)) (later_same file runs.later)
+runs-from : (file : List ℕ) (head : Option Head) (runs : FrameRuns) → judged_runs file head runs
+    ≡ runs_from file (record { place = head_area head; ended = 0 }) runs
+runs-from file head runs = ap₂ (λ (a b : List Row). a ++ b)
+    (judged-from head (rows_of file runs.first)) (later_same file runs.later)
 
 -- one thing more before the others
-thing_first : (file : List ℕ) (b : Before) (at : ℕ) (thing : Thing) (runs : FrameRuns) → runs_from file b (runs_behind at thing runs) ≡ rows_here file b at thing ++ runs_from file (before_here file b at thing) runs
+thing_first : (file : List ℕ) (b : Before) (at : ℕ) (thing : Thing) (runs : FrameRuns)
+    → runs_from file b (runs_behind at thing runs)
+    ≡ rows_here file b at thing ++ runs_from file (before_here file b at thing) runs
 thing_first file b at (IsItem (Frame h)) runs = refl
 thing_first file b at _ runs = refl
 
-all_things : (file : List ℕ) (b : Before) (ts : List PlacedThing) → runs_from file b (runs_of ts) ≡ rows_left file b ts
+all_things : (file : List ℕ) (b : Before) (ts : List PlacedThing)
+    → runs_from file b (runs_of ts) ≡ rows_left file b ts
 all_things file b [] = refl
-all_things file b (t ∷ ts) = thing_first file b t.offset t.thing (runs_of ts) ∙ ap (λ l. rows_here file b t.offset t.thing ++ l) (all_things file (before_here file b t.offset t.thing) ts)
+all_things file b (t ∷ ts) = thing_first file b t.offset t.thing (runs_of ts)
+    ∙ ap (λ l. rows_here file b t.offset t.thing ++ l)
+    (all_things file (before_here file b t.offset t.thing) ts)
 
 -- the frames of all runs are those that are met one after the other
-pub runs-left : (file : List ℕ) (head : Option Head) (ts : List PlacedThing) → judged_runs file head (runs_of ts) ≡ rows_left file (record { place = head_area head; ended = 0 }) ts
-runs-left file head ts = runs-from file head (runs_of ts) ∙ all_things file (record { place = head_area head; ended = 0 }) ts
+pub runs-left : (file : List ℕ) (head : Option Head) (ts : List PlacedThing)
+    → judged_runs file head (runs_of ts)
+    ≡ rows_left file (record { place = head_area head; ended = 0 }) ts
+runs-left file head ts = runs-from file head (runs_of ts)
+    ∙ all_things file (record { place = head_area head; ended = 0 }) ts

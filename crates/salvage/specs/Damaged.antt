@@ -1,39 +1,38 @@
 -- What is read of a damaged file.
-use Rattle.std.specs.Prelude.{◌≡◌, ℕ, ◌-◌, nat_lt, if◌then◌else◌, List, [], ◌∷◌, ◌++◌, length, slice_get, Option, Some, None, Result, Ok, Err}
+pub use Rattle.sync_survey.specs.Limits.{most_frames}
+use Rattle.std.specs.Prelude.{Err, if◌then◌else◌, length, List, nat_lt, None, Ok, Option, Result}
+use Rattle.std.specs.Prelude.{slice_get, Some, ℕ, [], ◌++◌, ◌-◌, ◌∷◌, ◌≡◌}
 use Rattle.frame_header.specs.Tables.{class_of}
-use Rattle.outside.specs.Files.{Files, Holds, IsThere}
-use Rattle.outside.specs.Counts.{Counts}
-use Rattle.sync_survey.specs.declared.places.PlacedFrame.{PlacedFrame}
-use Rattle.sync_survey.specs.Row.{Row}
+use Rattle.outside.specs.{Counts.Counts, Files.{Files, Holds, IsThere}}
+use Rattle.salvage.specs.Sound.{judged_runs, runs_of}
+use Rattle.salvage.specs.Walk.{blocks_in, first_frame, gaps_of, PlacedThing, things}
+use Rattle.salvage.specs.declared.{damaged.Damaged.Damaged, gap.Gap.Gap}
+use Rattle.sync_survey.specs.Faults.{longest_file, SurveyFields, tells}
+use Rattle.sync_survey.specs.{Kinds.{end_of, HasRightNumbers, kind_of}, Row.Row}
+use Rattle.sync_survey.specs.{Runs.{blocks_of, run}, Start.front_end_of, Survey.IsUnreadBy}
+use Rattle.sync_survey.specs.{Walk.{head_of, numbered_at}, declared.places.PlacedFrame.PlacedFrame}
 use Rattle.sync_survey.specs.declared.runs.Part.TheVariants.{Front}
 use Rattle.sync_survey.specs.declared.survey_fault.SurveyFault.{SurveyFault}
-use Rattle.sync_survey.specs.declared.survey_fault.SurveyFault.TheVariants.{TooLong, NoFrame, TooManyFrames}
-use Rattle.sync_survey.specs.Runs.{run, blocks_of}
-use Rattle.sync_survey.specs.Start.{front_end_of}
-use Rattle.sync_survey.specs.Walk.{head_of, numbered_at}
-use Rattle.sync_survey.specs.Faults.{SurveyFields, tells, longest_file}
-pub use Rattle.sync_survey.specs.Limits.{most_frames}
-use Rattle.sync_survey.specs.Kinds.{kind_of, end_of, HasRightNumbers}
-use Rattle.sync_survey.specs.Survey.{IsUnreadBy}
-use Rattle.salvage.specs.declared.damaged.Damaged.{Damaged}
-use Rattle.salvage.specs.declared.gap.Gap.{Gap}
-use Rattle.salvage.specs.Walk.{first_frame, PlacedThing, things, gaps_of, blocks_in}
-use Rattle.salvage.specs.Sound.{runs_of, judged_runs}
+use Rattle.sync_survey.specs.declared.survey_fault.SurveyFault.TheVariants.{NoFrame, TooLong}
+use Rattle.sync_survey.specs.declared.survey_fault.SurveyFault.TheVariants.{TooManyFrames}
 
--- What is read: the frames, of which those that become empty ones are marked, the blocks outside of gaps, and the head, as a survey tells
--- of them; and the gaps.
+-- What is read: the frames, of which those that become empty ones are marked, the
+-- blocks outside of gaps, and the head, as a survey tells of them; and the gaps.
 pub record DamagedFields : Type 0 where
   pub survey : SurveyFields
   pub gaps : List Gap
 
 -- the bytes between two offsets are a gap, if there are some
 abbrev pub gap_between : ℕ → ℕ → List Gap
-gap_between from to = if nat_lt from to then record { offset = from; length = to - from } ∷ [] else []
+gap_between from to =
+    if nat_lt from to then record { offset = from; length = to - from } ∷ [] else []
 
 -- what is after the head, or from the first frame on if there is no head
 abbrev pub things_from : List ℕ → PlacedFrame → List PlacedThing
-things_from file first = things file (class_of first.header) (numbered_at first (head_of file first))
+things_from file first =
+    things file (class_of first.header) (numbered_at first (head_of file first))
 
+-- what is read of a file whose front ends and whose first frame is there
 unfoldable pub damaged_from : List ℕ → ℕ → PlacedFrame → DamagedFields
 damaged_from file front_end first =
     let head = head_of file first in
@@ -60,9 +59,11 @@ abbrev pub counted : ℕ → List Row → DamagedFields → Result DamagedFields
 counted front_end [] d = Err (NoFrame front_end)
 counted front_end (r ∷ rows) d = unless_too_many (slice_get (r ∷ rows) most_frames) d
 
+-- what was read, if there is a frame besides the head, and not one too many
 abbrev pub with_number : ℕ → DamagedFields → Result DamagedFields SurveyFault
 with_number front_end d = counted front_end d.survey.frames d
 
+-- what is read of a file by its first frame, of which there has to be one
 abbrev pub damaged_by : List ℕ → ℕ → Option PlacedFrame → Result DamagedFields SurveyFault
 damaged_by file front_end None = Err (NoFrame front_end)
 damaged_by file front_end (Some first) = with_number front_end (damaged_from file front_end first)
@@ -73,7 +74,8 @@ damaged file = damaged_by file (front_end_of file) (first_frame file (front_end_
 
 -- what is read of a file with these bytes, or why it is refused
 unfoldable pub damaged_of : List ℕ → Result DamagedFields SurveyFault
-damaged_of file = if nat_lt longest_file (length file) then Err (TooLong (length file)) else damaged file
+damaged_of file =
+    if nat_lt longest_file (length file) then Err (TooLong (length file)) else damaged file
 
 -- what the code tells
 abbrev pub tells_of : Damaged → DamagedFields
@@ -86,16 +88,19 @@ IsReadOf name files d = (bytes : List ℕ) → Holds files name bytes → damage
 -- ---- refusals
 
 -- the file is there, its bytes are refused with this fault, and nothing is counted
-pub record RefusesDamaged (name : List ℕ) (files : Files) (before after : Counts) (fault : SurveyFault) : Type 0 where
+pub record RefusesDamaged (name : List ℕ) (files : Files) (before after : Counts)
+    (fault : SurveyFault) : Type 0 where
   pub there : IsThere files name
   pub bytes : (bytes : List ℕ) → Holds files name bytes → damaged_of bytes ≡ Err fault
   pub counts : after ≡ before
 
 -- why nothing is read, by the fault's kind: as for a survey, or what is read is refused
 abbrev pub IsReadFault : List ℕ → Files → Counts → Counts → SurveyFault → Type 0
-IsReadFault name files before after fault = IsUnreadBy name files before after (end_of fault) (RefusesDamaged name files before after fault) (kind_of fault)
+IsReadFault name files before after fault = IsUnreadBy name files before after (end_of fault)
+    (RefusesDamaged name files before after fault) (kind_of fault)
 
 -- with the right numbers
-pub record IsReadRefusal (name : List ℕ) (files : Files) (before after : Counts) (fault : SurveyFault) : Type 0 where
+pub record IsReadRefusal (name : List ℕ) (files : Files) (before after : Counts)
+    (fault : SurveyFault) : Type 0 where
   pub cause : IsReadFault name files before after fault
   pub numbers : HasRightNumbers fault

@@ -1,19 +1,13 @@
 -- What is kept of an item or a gap after what was kept before.
-use Rattle.std.specs.Prelude.{◌≡◌, ℕ, ◌+◌, ◌-◌, not, List, [], ◌∷◌, ◌++◌, length, drop, Some, option_to_list}
-use Rattle.sync_survey.specs.declared.items.Item.{Item}
-use Rattle.sync_survey.specs.declared.items.Item.TheVariants.{Frame}
-use Rattle.sync_survey.specs.declared.places.Piece.{Piece}
-use Rattle.sync_survey.specs.Row.{Row}
-use Rattle.sync_survey.specs.declared.rows.Before.{Before}
-use Rattle.sync_survey.specs.declared.survey_fault.SurveyFault.{SurveyFault}
-use Rattle.sync_survey.specs.declared.survey_fault.SurveyFault.TheVariants.{TooManyFrames}
-use Rattle.sync_survey.specs.Runs.{block_as}
-use Rattle.sync_survey.specs.MainData.{row_in, own_area}
-use Rattle.salvage.specs.declared.found.Found.{Found}
+use Rattle.std.specs.Prelude.{drop, length, List, not, option_to_list, Some, ℕ, [], ◌++◌, ◌+◌, ◌-◌}
+use Rattle.std.specs.Prelude.{◌∷◌, ◌≡◌}
+use Rattle.salvage.specs.{Damaged.most_frames, Sound.{is_sound, sound_end}}
+use Rattle.salvage.specs.{Walk.{IsGap, IsItem, PlacedThing, Thing}, declared.found.Found.Found}
 use Rattle.salvage.specs.declared.gap.Gap.{Gap}
-use Rattle.salvage.specs.Walk.{Thing, IsItem, IsGap, PlacedThing}
-use Rattle.salvage.specs.Sound.{is_sound, sound_end}
-use Rattle.salvage.specs.Damaged.{most_frames}
+use Rattle.sync_survey.specs.{MainData.{own_area, row_in}, Row.Row, Runs.block_as}
+use Rattle.sync_survey.specs.declared.{items.Item.{Item, TheVariants.Frame}, places.Piece.Piece}
+use Rattle.sync_survey.specs.declared.{rows.Before.Before, survey_fault.SurveyFault.SurveyFault}
+use Rattle.sync_survey.specs.declared.survey_fault.SurveyFault.TheVariants.{TooManyFrames}
 
 -- a frame, marked if it isn't sound by the areas before it
 abbrev pub judged_by : Before → Row → Row
@@ -21,7 +15,8 @@ judged_by b r = record r { lost = not (is_sound b.place b.ended r) }
 
 -- the areas before the frame after it
 abbrev pub before_next : Before → Row → Before
-before_next b r = record { place = b.place + own_area r.header; ended = sound_end b.place b.ended (Some r) }
+before_next b r =
+    record { place = b.place + own_area r.header; ended = sound_end b.place b.ended (Some r) }
 
 -- the areas before the first frame after a gap: none
 abbrev pub none_before : Before
@@ -52,27 +47,34 @@ before_here file b at (IsGap n) = none_before
 -- the rows of these things, by the areas before the first of them
 abbrev pub rows_left : List ℕ → Before → List PlacedThing → List Row
 rows_left file b [] = []
-rows_left file b (t ∷ ts) = rows_here file b t.offset t.thing ++ rows_left file (before_here file b t.offset t.thing) ts
+rows_left file b (t ∷ ts) =
+    rows_here file b t.offset t.thing ++ rows_left file (before_here file b t.offset t.thing) ts
 
 -- ---- what is kept
 
 -- these rows, blocks and gaps are kept after the others
-pub record Adds (found_rows : List Row) (found_blocks : List Piece) (found_gaps : List Gap) (main : Before) (to : ℕ) (old new : Found) : Type 0 where
+pub record Adds (found_rows : List Row) (found_blocks : List Piece) (found_gaps : List Gap)
+    (main : Before) (to : ℕ) (old new : Found) : Type 0 where
   pub rows : new.rows.items ≡ old.rows.items ++ found_rows
   pub pieces : new.pieces.items ≡ old.pieces.items ++ found_blocks
   pub gaps : new.gaps.items ≡ old.gaps.items ++ found_gaps
   pub before : new.before ≡ main
   pub at : new.at ≡ to
 
--- the item at the offset that was reached is kept, by the bytes from there on, and the reading goes on by so many bytes
+-- the item at the offset that was reached is kept, by the bytes
+-- from there on, and the reading goes on by so many bytes
 abbrev pub AddsItem : Item → ℕ → List ℕ → Found → Found → Type 0
-AddsItem item size bytes old new = Adds (rows_in old.before old.at bytes item) (option_to_list (block_as old.at item)) [] (before_behind old.before old.at bytes item) (old.at + size) old new
+AddsItem item size bytes old new =
+    Adds (rows_in old.before old.at bytes item) (option_to_list (block_as old.at item)) []
+    (before_behind old.before old.at bytes item) (old.at + size) old new
 
 -- a gap from there to another offset is kept
 abbrev pub AddsGap : ℕ → Found → Found → Type 0
-AddsGap to old new = Adds [] [] (record { offset = old.at; length = to - old.at } ∷ []) none_before to old new
+AddsGap to old new =
+    Adds [] [] (record { offset = old.at; length = to - old.at } ∷ []) none_before to old new
 
 -- the frame there is the first past the number that a file may have
 abbrev pub IsPastMost : Item → Found → SurveyFault → Type 0
-IsPastMost (Frame h) old fault = (fault ≡ TooManyFrames old.at) × (length old.rows.items ≡ most_frames)
+IsPastMost (Frame h) old fault =
+    (fault ≡ TooManyFrames old.at) × (length old.rows.items ≡ most_frames)
 IsPastMost item old fault = ⊥

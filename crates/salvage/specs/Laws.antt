@@ -1,16 +1,19 @@
 -- Laws of what is read of damaged files.
-use Rattle.std.specs.Prelude.{◌≡◌, ℕ, ◌≤◌, List, length, Ok}
-use Rattle.sync_survey.specs.Faults.{SurveyFields, surveyed, stream_of_survey}
-use Rattle.salvage.specs.Damaged.{DamagedFields, damaged, damaged_of, gap_between, most_frames}
+use Rattle.std.specs.Prelude.{length, List, Ok, ℕ, ◌≡◌, ◌≤◌}
+use Rattle.salvage.specs.Damaged.{damaged, damaged_of, DamagedFields, gap_between, most_frames}
 use Rattle.salvage.specs.Stream.{salvaged_stream}
+use Rattle.sync_survey.specs.Faults.{stream_of_survey, surveyed, SurveyFields}
 
--- of a file without fault all is read that its survey tells, and nothing is missing except the junk before the first frame
+-- of a file without fault all is read that its survey tells,
+-- and nothing is missing except the junk before the first frame
 abbrev pub SalvageKeepsStreams : Type 0
 SalvageKeepsStreams =
-    (file : List ℕ) (allowed : ℕ) (s : SurveyFields) → surveyed file allowed ≡ Ok s → length s.frames ≤ most_frames
+    (file : List ℕ) (allowed : ℕ) (s : SurveyFields) → surveyed file allowed ≡ Ok s
+    → length s.frames ≤ most_frames
     → damaged file ≡ Ok (record { survey = s; gaps = gap_between s.junk s.first })
 
--- The stream that the survey of what is read tells is that of the runs of frames between gaps: the main data of each frame that is kept are
--- those of its run, and each other one is an empty frame.
+-- The stream that the survey of what is read tells is that of the runs of frames between gaps: the
+-- main data of each frame that is kept are those of its run, and each other one is an empty frame.
 abbrev pub SalvageTellsStreams : Type 0
-SalvageTellsStreams = (file : List ℕ) (d : DamagedFields) → damaged_of file ≡ Ok d → stream_of_survey file d.survey ≡ salvaged_stream file
+SalvageTellsStreams = (file : List ℕ) (d : DamagedFields) → damaged_of file ≡ Ok d
+    → stream_of_survey file d.survey ≡ salvaged_stream file

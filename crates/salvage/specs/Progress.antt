@@ -1,23 +1,15 @@
 -- How far a damaged file was read.
-use Rattle.std.specs.Prelude.{◌≡◌, ℕ, ◌+◌, ◌<◌, ◌≤◌, List, [], ◌∷◌, ◌++◌, length, IfSome, Some}
-use Rattle.frame_header.specs.Fields.{ClassFields, IsHeader}
+use Rattle.std.specs.Prelude.{IfSome, length, List, Some, ℕ, [], ◌++◌, ◌+◌, ◌<◌, ◌∷◌, ◌≡◌, ◌≤◌}
+use Rattle.frame_header.specs.{Fields.{ClassFields, IsHeader}, Limits.most_frame_length}
 use Rattle.frame_header.specs.Tables.{class_of}
 use Rattle.outside.specs.Files.{Files, Holds}
-use Rattle.sync_survey.specs.Row.{Row}
-use Rattle.sync_survey.specs.declared.items.Item.TheVariants.{Frame}
-use Rattle.sync_survey.specs.Items.{size_of}
-use Rattle.sync_survey.specs.Start.{front_end_of}
-use Rattle.sync_survey.specs.Walk.{head_of, IsFrameOf}
-use Rattle.sync_survey.specs.Faults.{longest_file}
-use Rattle.sync_survey.specs.Survey.{HasLength, AreLaid, BlocksAreLaid, IsWholeHead}
-use Rattle.salvage.specs.declared.begun.Begun.{Begun}
-use Rattle.salvage.specs.declared.found.Found.{Found}
-use Rattle.salvage.specs.declared.gap.Gap.{Gap}
-use Rattle.salvage.specs.Walk.{things, gaps_of, blocks_in, first_frame}
-use Rattle.salvage.specs.Damaged.{DamagedFields, damaged_from, most_frames}
-use Rattle.salvage.specs.Judged.{rows_left}
-use Rattle.salvage.specs.Kept.{AreKeptWell, AreKeptTo}
-use Rattle.frame_header.specs.Limits.{most_frame_length}
+use Rattle.salvage.specs.{Damaged.{damaged_from, DamagedFields, most_frames}, Judged.rows_left}
+use Rattle.salvage.specs.Kept.{AreKeptTo, AreKeptWell}
+use Rattle.salvage.specs.Walk.{blocks_in, first_frame, gaps_of, things}
+use Rattle.salvage.specs.declared.{begun.Begun.Begun, found.Found.Found, gap.Gap.Gap}
+use Rattle.sync_survey.specs.{Faults.longest_file, Items.size_of, Row.Row, Start.front_end_of}
+use Rattle.sync_survey.specs.Survey.{AreLaid, BlocksAreLaid, HasLength, IsWholeHead}
+use Rattle.sync_survey.specs.{Walk.{head_of, IsFrameOf}, declared.items.Item.TheVariants.Frame}
 
 -- the class of the first frame
 abbrev pub class_in : Begun → ClassFields
@@ -29,8 +21,8 @@ pub record BeginsSo (file : List ℕ) (b : Begun) : Type 0 where
   pub first : first_frame file b.start.front_end ≡ Some b.start.first
   pub head : b.head ≡ head_of file b.start.first
 
--- What is known of the name's file: its first frame is within its length, and is the head if there is one; where the file is told, its
--- bytes begin as this says.
+-- What is known of the name's file: its first frame is within its length, and is
+-- the head if there is one; where the file is told, its bytes begin as this says.
 pub record IsBegun (files : Files) (name : List ℕ) (b : Begun) : Type 0 where
   pub known : HasLength files name b.size
   pub whole : b.start.first.offset + size_of (Frame b.start.first.header) ≤ b.size
@@ -59,9 +51,12 @@ told_of b found = record {
 
 -- what was found, and after it what the walk has left, is all that is read
 pub record IsReadTo (file : List ℕ) (b : Begun) (found : Found) : Type 0 where
-  pub rows : found.rows.items ++ rows_left file found.before (things file (class_in b) found.at) ≡ (whole_of file b).survey.frames
-  pub blocks : found.pieces.items ++ blocks_in (things file (class_in b) found.at) ≡ (whole_of file b).survey.blocks
-  pub gaps : found.gaps.items ++ gaps_of (things file (class_in b) found.at) ≡ (whole_of file b).gaps
+  pub rows : found.rows.items ++ rows_left file found.before (things file (class_in b) found.at)
+      ≡ (whole_of file b).survey.frames
+  pub blocks : found.pieces.items ++ blocks_in (things file (class_in b) found.at)
+      ≡ (whole_of file b).survey.blocks
+  pub gaps : found.gaps.items ++ gaps_of (things file (class_in b) found.at)
+      ≡ (whole_of file b).gaps
 
 -- the name's file was read up to here
 abbrev pub AreReadTo : Files → List ℕ → Begun → Found → Type 0
@@ -72,12 +67,14 @@ AreReadTo files name b found = (bytes : List ℕ) → Holds files name bytes →
 -- these gaps follow one after the other from one offset to another, and none is empty
 abbrev pub GapsAreLaid : ℕ → List Gap → ℕ → Type 0
 GapsAreLaid from [] to = from ≤ to
-GapsAreLaid from (g ∷ gaps) to = (from ≤ g.offset) × (1 ≤ g.length) × GapsAreLaid (g.offset + g.length) gaps to
+GapsAreLaid from (g ∷ gaps) to =
+    (from ≤ g.offset) × (1 ≤ g.length) × GapsAreLaid (g.offset + g.length) gaps to
 
 -- these frames have headers of the standard, and are of the class
 abbrev pub AreOfClass : ClassFields → List Row → Type 0
 AreOfClass class [] = Unit {0}
-AreOfClass class (r ∷ rows) = IsHeader r.header × (class_of r.header ≡ class) × AreOfClass class rows
+AreOfClass class (r ∷ rows) =
+    IsHeader r.header × (class_of r.header ≡ class) × AreOfClass class rows
 
 -- what was found is in order, before the offset that was reached
 pub record IsLaidTo (b : Begun) (found : Found) : Type 0 where
@@ -100,8 +97,9 @@ pub record ReadsOn (files : Files) (name : List ℕ) (b : Begun) (old new : Foun
   pub reading : IsReading files name b new
   pub on : old.at < new.at
 
--- The junk is before the first frame; head, frames, blocks and gaps are in order within the length; the frames are of the class, at least
--- one and not too many; and the main data that are kept are where they may be.
+-- The junk is before the first frame; head, frames, blocks and gaps are in
+-- order within the length; the frames are of the class, at least one and
+-- not too many; and the main data that are kept are where they may be.
 pub record IsLaidOut (d : DamagedFields) : Type 0 where
   pub junk : d.survey.junk ≤ d.survey.first
   pub first : d.survey.first ≤ d.survey.length

@@ -1,8 +1,8 @@
--- What the bytes of a frame say before its header is read.
-use Rattle.std.specs.Prelude.{ℕ, ◌/◌, ◌%◌, ◌==◌, ◌&&◌, ◌||◌, not, if◌then◌else◌, Bool, List, slice_index}
-use Rattle.frame_header.specs.declared.version.Version.{Version}
+-- What the bytes of a frame say before its header is read (ISO/IEC 11172-3 and 13818-3, 2.4.1.3).
+use Rattle.std.specs.Prelude.{Bool, if◌then◌else◌, List, not, slice_index, ℕ, ◌%◌, ◌&&◌, ◌/◌, ◌==◌}
+use Rattle.std.specs.Prelude.{◌||◌}
+use Rattle.frame_header.specs.{Tables.length_of, declared.version.Version.Version}
 use Rattle.frame_header.specs.declared.version.Version.TheVariants.{One, Two, TwoFive}
-use Rattle.frame_header.specs.Tables.{length_of}
 
 -- the version that two bits say
 abbrev pub version_said : ℕ → Version
@@ -11,7 +11,12 @@ version_said bits = if bits == 3 then One else (if bits == 2 then Two else TwoFi
 -- the length in bytes of a frame whose header has these second and third bytes
 unfoldable pub length_said : ℕ → ℕ → ℕ
 length_said second third =
-    length_of (record { version = version_said (second / 8 % 4); frequency_index = third / 4 % 4; channels = 2 }) (record { rate_index = third / 16; padding = third / 2 % 2 == 1 })
+    length_of (record {
+      version = version_said (second / 8 % 4);
+      frequency_index = third / 4 % 4;
+      channels = 2;
+    })
+    (record { rate_index = third / 16; padding = third / 2 % 2 == 1 })
 
 -- the channels that the fourth byte says
 abbrev pub channels_said : ℕ → ℕ
@@ -21,21 +26,25 @@ channels_said fourth = if fourth / 64 == 3 then 1 else 2
 abbrev pub has_rate : ℕ → Bool
 has_rate third = not (third / 16 == 0) && not (third / 16 == 15)
 
--- A header of the class of another may be at the front of these bytes: a sync word, the version and the layer of the other, its sampling
+-- A header of the class of another may be at the front of these bytes:
+-- a sync word, the version and the layer of the other, its sampling
 -- frequency, a bit rate index of a frame, and as many channels.
 unfoldable pub may_follow : List ℕ → List ℕ → Bool
 may_follow own next =
-    (slice_index next 0 == 255) && (slice_index next 1 / 2 == slice_index own 1 / 2) && (slice_index next 2 / 4 % 4 == slice_index own 2 / 4 % 4) && has_rate (slice_index next 2)
+    (slice_index next 0 == 255) && (slice_index next 1 / 2 == slice_index own 1 / 2)
+    && (slice_index next 2 / 4 % 4 == slice_index own 2 / 4 % 4) && has_rate (slice_index next 2)
     && (channels_said (slice_index next 3) == channels_said (slice_index own 3))
 
 -- a block may begin with these three bytes: with `ID3`, `TAG` or `APE`
 abbrev pub may_begin_block : ℕ → ℕ → ℕ → Bool
 may_begin_block first second third =
-    if first == 73 then (second == 68) && (third == 51) else (if first == 84 then (second == 65) && (third == 71) else ((first == 65) && ((second == 80) && (third == 69))))
+    if first == 73 then (second == 68) && (third == 51) else (if first == 84
+    then (second == 65) && (third == 71) else ((first == 65) && ((second == 80) && (third == 69))))
 
 -- the bytes of the side information of a frame whose header has these second and fourth bytes
 abbrev pub side_said : ℕ → ℕ → ℕ
-side_said second fourth = if second / 8 % 4 == 3 then (if channels_said fourth == 1 then 17 else 32) else (if channels_said fourth == 1 then 9 else 17)
+side_said second fourth = if second / 8 % 4 == 3 then (if channels_said fourth == 1 then 17 else 32)
+    else (if channels_said fourth == 1 then 9 else 17)
 
 -- `Xing` or `Info` may begin with this byte
 abbrev pub may_begin_text : ℕ → Bool

@@ -1,15 +1,10 @@
 -- What is read at an offset, by what a look has shown.
-use Rattle.std.specs.Prelude.{◌≡◌, ℕ, ◌+◌, ◌≤◌, ◌/◌, ◌%◌, ◌==◌, ◌&&◌, ◌⊎◌, Bool, true, false, List, drop, Option, Some, None, Ok}
-use Rattle.sync_survey.specs.declared.items.Item.{Item}
-use Rattle.sync_survey.specs.declared.items.Item.TheVariants.{Frame}
-use Rattle.frame_header.specs.Fields.{HeaderFields}
-use Rattle.frame_header.specs.Tables.{class_of, length_of}
-use Rattle.sync_survey.specs.Items.{header_front, item_front}
-use Rattle.sync_survey.specs.Start.{is_anchor}
-use Rattle.sync_survey.specs.declared.runs.Step.{Step}
-use Rattle.salvage.specs.declared.usable.Role.{Role}
-use Rattle.salvage.specs.Usable.{is_usable}
-use Rattle.salvage.specs.Walk.{item_read}
+use Rattle.std.specs.Prelude.{Bool, drop, false, List, None, Ok, Option, Some, true, ℕ, ◌%◌, ◌&&◌}
+use Rattle.std.specs.Prelude.{◌+◌, ◌/◌, ◌==◌, ◌≡◌, ◌≤◌, ◌⊎◌}
+use Rattle.frame_header.specs.{Fields.HeaderFields, Tables.{class_of, length_of}}
+use Rattle.salvage.specs.{Usable.is_usable, Walk.item_read, declared.usable.Role.Role}
+use Rattle.sync_survey.specs.{Items.{header_front, item_front}, Start.is_anchor}
+use Rattle.sync_survey.specs.declared.{items.Item.{Item, TheVariants.Frame}, runs.Step.Step}
 
 -- a header may begin with these two bytes: by eight bits of the sync word and the two of the layer
 abbrev pub may_begin : ℕ → ℕ → Bool
@@ -25,21 +20,24 @@ HasNoHeader front k = (h : HeaderFields) → item_front (drop k front) ≡ Frame
 
 -- a frame that these bytes begin with isn't usable
 abbrev pub IsUnusable : List ℕ → Type 0
-IsUnusable bytes = (role : Role) (offset : ℕ) (h : HeaderFields) → header_front bytes ≡ Ok h → is_usable role (record { offset = offset; header = h }) bytes ≡ false
+IsUnusable bytes = (role : Role) (offset : ℕ) (h : HeaderFields) → header_front bytes ≡ Ok h
+    → is_usable role (record { offset = offset; header = h }) bytes ≡ false
 
--- No usable anchored frame is at this place of a look at the offset: there is no header, or the look shows that there is no anchor at the
--- frame's end, or that the frame isn't usable.
+-- No usable anchored frame is at this place of a look at the offset: there is no header, or
+-- the look shows that there is no anchor at the frame's end, or that the frame isn't usable.
 abbrev pub IsBare : Role → ℕ → List ℕ → ℕ → Type 0
 IsBare role offset front k =
     (h : HeaderFields) → item_front (drop k front) ≡ Frame h
     → (k + length_of (class_of h) h.slot ≤ reach)
-    × ((is_anchor (class_of h) (item_front (drop (k + length_of (class_of h) h.slot) front)) ≡ false) ⊎ (is_usable role (record { offset = offset + k; header = h }) (drop k front) ≡ false))
+    × ((is_anchor (class_of h) (item_front (drop (k + length_of (class_of h) h.slot) front))
+    ≡ false) ⊎ (is_usable role (record { offset = offset + k; header = h }) (drop k front) ≡ false))
 
 -- whatever the look's offset is, and the frame's role
 abbrev pub IsPlainlyBare : List ℕ → ℕ → Type 0
 IsPlainlyBare front k = (role : Role) (offset : ℕ) → IsBare role offset front k
 
--- a whole item at an offset is read, by the bytes from there on: it isn't a frame, or is a usable one
+-- a whole item at an offset is read, by the bytes
+-- from there on: it isn't a frame, or is a usable one
 abbrev pub admits_item : Role → ℕ → Item → List ℕ → Bool
 admits_item role at (Frame h) bytes = is_usable role (record { offset = at; header = h }) bytes
 admits_item role at item bytes = true

@@ -1,28 +1,25 @@
 -- The stream of what is read of a damaged file.
-use Rattle.std.specs.Prelude.{ℕ, List, [], ◌++◌, flat_map, Option, Some, None}
-use Rattle.sync_survey.specs.declared.places.Head.{Head}
+use Rattle.std.specs.Prelude.{flat_map, List, None, Option, Some, ℕ, [], ◌++◌}
+use Rattle.salvage.specs.{Damaged.things_from, Sound.{FrameRuns, judged, runs_of}, Walk.first_frame}
+use Rattle.sync_survey.specs.{MainData.{main_bytes, rows_of, stream_frames, StreamFrame}, Row.Row}
+use Rattle.sync_survey.specs.{Start.front_end_of, Walk.head_of, declared.places.Head.Head}
 use Rattle.sync_survey.specs.declared.places.PlacedFrame.{PlacedFrame}
-use Rattle.sync_survey.specs.Row.{Row}
-use Rattle.sync_survey.specs.MainData.{rows_of, main_bytes, StreamFrame, stream_frames}
-use Rattle.sync_survey.specs.Start.{front_end_of}
-use Rattle.sync_survey.specs.Walk.{head_of}
-use Rattle.salvage.specs.Walk.{first_frame}
-use Rattle.salvage.specs.Sound.{FrameRuns, runs_of, judged}
-use Rattle.salvage.specs.Damaged.{things_from}
 
--- The frames of a run, with the main data that are in its areas: each sound frame as it is, and each other one as an empty frame, whose
--- side fields are all 0 and which has no main data.
+-- The frames of a run, with the main data that are in its areas: each sound frame as it is, and
+-- each other one as an empty frame, whose side fields are all 0 and which has no main data.
 abbrev pub run_stream : List ℕ → Option Head → List Row → List StreamFrame
 run_stream file head rows = stream_frames (main_bytes file head rows) head rows
 
 -- those of all runs; the head's area counts in the first
 abbrev pub runs_stream : List ℕ → Option Head → FrameRuns → List StreamFrame
-runs_stream file head runs = run_stream file head (judged head (rows_of file runs.first)) ++ flat_map (λ run. run_stream file None (judged None (rows_of file run))) runs.later
+runs_stream file head runs = run_stream file head (judged head (rows_of file runs.first))
+    ++ flat_map (λ run. run_stream file None (judged None (rows_of file run))) runs.later
 
 -- from this first frame on; without one there is none
 abbrev pub stream_from : List ℕ → Option PlacedFrame → List StreamFrame
 stream_from file None = []
-stream_from file (Some first) = runs_stream file (head_of file first) (runs_of (things_from file first))
+stream_from file (Some first) =
+    runs_stream file (head_of file first) (runs_of (things_from file first))
 
 -- the stream of what is read of a file
 unfoldable pub salvaged_stream : List ℕ → List StreamFrame

@@ -1,14 +1,12 @@
 -- Frames of a damaged file that can be used.
-use Rattle.std.specs.Prelude.{ℕ, ◌==◌, ◌&&◌, ◌||◌, not, if◌then◌else◌, Bool, List, length, drop, Option, Some, None, is_some, filter_map, slice_get}
 use Rattle.std.specs.List.{range_with_len}
-use Rattle.frame_header.specs.Fields.{HeaderFields, same_class}
-use Rattle.frame_header.specs.Tables.{class_of}
-use Rattle.side_info.specs.Frame.{word_said, word_right}
+use Rattle.std.specs.Prelude.{Bool, drop, filter_map, if◌then◌else◌, is_some, length, List, None}
+use Rattle.std.specs.Prelude.{not, Option, slice_get, Some, ℕ, ◌&&◌, ◌==◌, ◌||◌}
+use Rattle.frame_header.specs.{Fields.{HeaderFields, same_class}, Tables.class_of}
+use Rattle.salvage.specs.declared.usable.Role.{Role, TheVariants.{First, Later}}
+use Rattle.side_info.specs.Frame.{word_right, word_said}
+use Rattle.sync_survey.specs.{Start.anchored_frame, Walk.{head_by, own_bytes}}
 use Rattle.sync_survey.specs.declared.places.PlacedFrame.{PlacedFrame}
-use Rattle.sync_survey.specs.Start.{anchored_frame}
-use Rattle.sync_survey.specs.Walk.{own_bytes, head_by}
-use Rattle.salvage.specs.declared.usable.Role.{Role}
-use Rattle.salvage.specs.declared.usable.Role.TheVariants.{First, Later}
 
 -- the frame with which these bytes begin has no check word, or the right one
 abbrev pub has_right_word : HeaderFields → List ℕ → Bool
@@ -18,11 +16,13 @@ has_right_word h bytes = not h.protected || (word_said bytes == word_right h byt
 abbrev pub is_head : PlacedFrame → List ℕ → Bool
 is_head p bytes = is_some (head_by p (own_bytes p bytes))
 
--- A whole frame is usable for a role, by the bytes from its first on: its check word is right, and as a later frame it is of the class of
--- the first frame. As the first frame it may be a head, whose check word isn't judged.
+-- A whole frame is usable for a role, by the bytes from its first on: its check word (ISO/IEC
+-- 11172-3, 2.4.3.1) is right, and as a later frame it is of the class of the first frame. As the
+-- first frame it may be a head, whose check word isn't judged.
 abbrev pub is_usable : Role → PlacedFrame → List ℕ → Bool
 is_usable First p bytes = has_right_word p.header bytes || is_head p bytes
-is_usable (Later class) p bytes = same_class (class_of p.header) class && has_right_word p.header bytes
+is_usable (Later class) p bytes =
+    same_class (class_of p.header) class && has_right_word p.header bytes
 
 -- the frame of the file, if it is usable
 abbrev pub if_usable : List ℕ → Role → Option PlacedFrame → Option PlacedFrame
@@ -35,4 +35,5 @@ usable_anchored file role at = if_usable file role (anchored_frame file at)
 
 -- the usable anchored frame at the smallest offset from one on
 unfoldable pub next_usable : List ℕ → Role → ℕ → Option PlacedFrame
-next_usable file role from = slice_get (filter_map (usable_anchored file role) (range_with_len from (length file))) 0
+next_usable file role from =
+    slice_get (filter_map (usable_anchored file role) (range_with_len from (length file))) 0

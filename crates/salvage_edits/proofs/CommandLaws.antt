@@ -1,53 +1,45 @@
 -- What the command leaves, by its steps.
-use Rattle.std.proofs.Common.{◌≡◌, ℕ, ◌≤◌, List, [], ◌∷◌, length, Option, Some, None, Result, Ok, Err, refl, sym, ◌∙◌, ap, ap₂, subst, inl, arith, IfErr, slice_get}
-use Rattle.std.specs.Result.{IsErrAnd}
-use Rattle.std.proofs.lemmas.List.{length-map}
+use Rattle.std.proofs.Common.{ap, ap₂, arith, Err, IfErr, inl, length, List, None, Ok, Option, refl}
+use Rattle.std.proofs.Common.{Result, slice_get, Some, subst, sym, ℕ, [], ◌∙◌, ◌∷◌, ◌≡◌, ◌≤◌}
+use Rattle.std.{proofs.lemmas.List.length-map, specs.Result.IsErrAnd}
 use Rattle.bit_fields.specs.Bits.{AreBytes}
-use Rattle.outside.specs.Files.{Contents, Files, Holds, IsThere, IsMissing, Told, Untold, IfTold, OnlyTouches}
-use Rattle.outside.specs.Counts.{Counts, NoneFell}
-use Rattle.outside.proofs.FilesLaws.{there_holds}
-use Rattle.outside.specs.Seen.{Seen, seen}
-use Rattle.sync_survey.specs.declared.places.PlacedFrame.{PlacedFrame}
-use Rattle.sync_survey.specs.Row.{Row}
-use Rattle.sync_survey.specs.declared.survey_fault.SurveyFault.{SurveyFault}
-use Rattle.sync_survey.specs.declared.survey_fault.SurveyFault.TheVariants.{Absent, TooLong, Read, Shrunk, Memory as NoRoom, NoFrame, LostSync, Truncated, FreeFormat, Mixed, CheckWord, BackPointer, Overlap, Overrun, TooManyFrames}
-use Rattle.sync_survey.specs.Start.{front_end_of}
-use Rattle.sync_survey.specs.Kinds.{HasRightNumbers}
-use Rattle.sync_survey.specs.Faults.{SurveyFields, HoldsStream, longest_file, tells}
-use Rattle.sync_survey.specs.declared.surveys.Survey.{Survey}
-use Rattle.sync_survey.specs.Survey.{HoldsOctets, IsLaidOut as IsLaidSurvey}
-use Rattle.salvage.specs.Walk.{first_frame}
-use Rattle.salvage.specs.Damaged.{DamagedFields, unless_too_many, counted, damaged_by, damaged_from, damaged, damaged_of, IsReadOf, RefusesDamaged, IsReadFault, most_frames}
-use Rattle.salvage.specs.Mended.{mended_row, emptied_from}
-use Rattle.salvage.specs.Text.{salvage_text}
-use Rattle.salvage.proofs.ReadFaults.{damaged_of-short}
-use Rattle.salvage.proofs.LaidOutLaws.{damaged_of-is}
-use Rattle.commands.specs.declared.fault.EditFault.{EditFault}
-use Rattle.commands.specs.declared.fault.EditFault.TheVariants.{EqualNames, Input, Refused, Write, Memory}
-use Rattle.commands.specs.Command.{Command, clash_of, AreSound, HoldsStreams}
-use Rattle.commands.specs.Runs.{IsRunOf}
-use Rattle.commands.specs.Said.{IsText}
-use Rattle.commands.proofs.TellingLaws.{telling-text, telling-done, telling-left, telling-streams}
 use Rattle.commands.proofs.MakeLaws.{clash_left, early_left, one_done, one_left, one_streams}
 use Rattle.commands.proofs.RefusingLaws.{before_first}
-use Rattle.commands.specs.Kinds.{of_input}
-use Rattle.commands.specs.Left.{IsLate, IsDone, Leaves, IsOfPass, HasNumbers}
-use Rattle.commands.specs.One.{Refuses, NeedsMemory, IsEarlyFault, IsOfInputs, IsMaking, IsPassFault, clash_in, holding, one_command}
-use Rattle.laying.specs.NeedsFit.{own_choice}
+use Rattle.commands.proofs.TellingLaws.{telling-done, telling-left, telling-streams, telling-text}
+use Rattle.commands.specs.{Command.{AreSound, clash_of, Command, HoldsStreams}, Kinds.of_input}
+use Rattle.commands.specs.Left.{HasNumbers, IsDone, IsLate, IsOfPass, Leaves}
+use Rattle.commands.specs.One.{clash_in, holding, IsEarlyFault, IsMaking, IsOfInputs, IsPassFault}
+use Rattle.commands.specs.{One.{NeedsMemory, one_command, Refuses}, Runs.IsRunOf, Said.IsText}
+use Rattle.commands.specs.declared.fault.EditFault.{EditFault}
+use Rattle.commands.specs.declared.fault.EditFault.TheVariants.{EqualNames, Input, Memory, Refused}
+use Rattle.commands.specs.declared.fault.EditFault.TheVariants.{Write}
+use Rattle.cut_edits.proofs.LaidPass.{file-is, work_layable}
+use Rattle.cut_edits.specs.{Chosen.{chosen_file, IsSelected}, Layable.{IsWorkOf, work_file}}
+use Rattle.laying.specs.{Laid.laid_in, NeedsFit.own_choice, Surveys.HasSurvey}
 use Rattle.laying.specs.declared.selected.Selected.{Selected}
-use Rattle.laying.specs.Laid.{laid_in}
-use Rattle.cut_edits.specs.Chosen.{chosen_file, IsSelected}
-use Rattle.cut_edits.specs.Layable.{IsWorkOf, work_file}
-use Rattle.cut_edits.proofs.LaidPass.{work_layable, file-is}
-use Rattle.laying.specs.Surveys.{HasSurvey}
-use Rattle.salvage.specs.declared.mended.Mended.{Mended}
-use Rattle.salvage_edits.specs.declared.work.Work.{Work}
-use Rattle.salvage_edits.specs.Salvaged.{all_of, salvaged_file, left_stream, made_by, made_where, stream_by, stream_where, text_by, text_where, salvage_task, salvage_command}
-use Rattle.salvage_edits.specs.Ordered.{IsInOrder, report_text}
-use Rattle.salvage_edits.specs.Ready.{IsMended, IsReady, Reports, ReadsInput}
-use Rattle.salvage_edits.proofs.OrderLaws.{reports-order, report-text-same}
-use Rattle.salvage_edits.proofs.HadLaws.{damaged-had}
-use Rattle.salvage_edits.proofs.StreamLaws.{salvaged-holds}
+use Rattle.outside.{proofs.FilesLaws.there_holds, specs.Counts.{Counts, NoneFell}}
+use Rattle.outside.specs.Files.{Contents, Files, Holds, IfTold, IsMissing, IsThere, OnlyTouches}
+use Rattle.outside.specs.{Files.{Told, Untold}, Seen.{Seen, seen}}
+use Rattle.salvage.proofs.{LaidOutLaws.damaged_of-is, ReadFaults.damaged_of-short}
+use Rattle.salvage.specs.Damaged.{counted, damaged, damaged_by, damaged_from, damaged_of}
+use Rattle.salvage.specs.Damaged.{DamagedFields, IsReadFault, IsReadOf, most_frames, RefusesDamaged}
+use Rattle.salvage.specs.{Damaged.unless_too_many, Mended.{emptied_from, mended_row}}
+use Rattle.salvage.specs.{Text.salvage_text, Walk.first_frame, declared.mended.Mended.Mended}
+use Rattle.salvage_edits.proofs.{HadLaws.damaged-had, OrderLaws.{report-text-same, reports-order}}
+use Rattle.salvage_edits.{proofs.StreamLaws.salvaged-holds, specs.Ordered.{IsInOrder, report_text}}
+use Rattle.salvage_edits.specs.Ready.{IsMended, IsReady, ReadsInput, Reports}
+use Rattle.salvage_edits.specs.Salvaged.{all_of, left_stream, made_by, made_where, salvage_command}
+use Rattle.salvage_edits.specs.Salvaged.{salvage_task, salvaged_file, stream_by, stream_where}
+use Rattle.salvage_edits.specs.{Salvaged.{text_by, text_where}, declared.work.Work.Work}
+use Rattle.sync_survey.specs.Faults.{HoldsStream, longest_file, SurveyFields, tells}
+use Rattle.sync_survey.specs.{Kinds.HasRightNumbers, Row.Row, Start.front_end_of}
+use Rattle.sync_survey.specs.Survey.{HoldsOctets, IsLaidOut as IsLaidSurvey}
+use Rattle.sync_survey.specs.declared.places.PlacedFrame.{PlacedFrame}
+use Rattle.sync_survey.specs.declared.survey_fault.SurveyFault.{SurveyFault}
+use Rattle.sync_survey.specs.declared.survey_fault.SurveyFault.TheVariants.{Absent}
+use Rattle.sync_survey.specs.declared.survey_fault.SurveyFault.TheVariants.{Memory as NoRoom, Read}
+use Rattle.sync_survey.specs.declared.survey_fault.SurveyFault.TheVariants.{Shrunk, TooLong}
+use Rattle.sync_survey.specs.declared.surveys.Survey.{Survey}
 
 -- ---- a file that may be read
 
@@ -58,67 +50,101 @@ pub record IsReadAt (o : Option (List ℕ)) : Type 0 where
   pub left : DamagedFields
   pub read : damaged_of file ≡ Ok left
 
-read-by : (file bytes : List ℕ) (r : Result DamagedFields SurveyFault) → damaged_of file ≡ r → made_by file r ≡ Ok bytes → IsReadAt (Some file)
+read-by : (file bytes : List ℕ) (r : Result DamagedFields SurveyFault) → damaged_of file ≡ r
+    → made_by file r ≡ Ok bytes → IsReadAt (Some file)
 read-by file bytes (Err fault) is e = absurd cc
 read-by file bytes (Ok d) is e = record { file = file; there = refl; left = d; read = is }
 
+-- a file of which something is made was read
 pub read-where : (o : Option (List ℕ)) (bytes : List ℕ) → made_where o ≡ Ok bytes → IsReadAt o
 read-where None bytes e = absurd cc
 read-where (Some file) bytes e = read-by file bytes (damaged_of file) refl e
 
-many-late : (file : List ℕ) (o : Option Row) (d : DamagedFields) → IfErr (made_by file (unless_too_many o d)) IsLate
+many-late : (file : List ℕ) (o : Option Row) (d : DamagedFields)
+    → IfErr (made_by file (unless_too_many o d)) IsLate
 many-late file None d = tt
 many-late file (Some r) d = refl
 
-counted-late : (file : List ℕ) (front_end : ℕ) (rows : List Row) (d : DamagedFields) → IfErr (made_by file (counted front_end rows d)) IsLate
+counted-late : (file : List ℕ) (front_end : ℕ) (rows : List Row) (d : DamagedFields)
+    → IfErr (made_by file (counted front_end rows d)) IsLate
 counted-late file front_end [] d = refl
 counted-late file front_end (r ∷ rows) d = many-late file (slice_get (r ∷ rows) most_frames) d
 
-read-late : (file : List ℕ) (front_end : ℕ) (o : Option PlacedFrame) → IfErr (made_by file (damaged_by file front_end o)) IsLate
+read-late : (file : List ℕ) (front_end : ℕ) (o : Option PlacedFrame)
+    → IfErr (made_by file (damaged_by file front_end o)) IsLate
 read-late file front_end None = refl
-read-late file front_end (Some first) = counted-late file front_end (damaged_from file front_end first).survey.frames (damaged_from file front_end first)
+read-late file front_end (Some first) = counted-late file front_end
+    (damaged_from file front_end first).survey.frames (damaged_from file front_end first)
 
 damaged-late : (file : List ℕ) → IfErr (made_by file (damaged file)) IsLate
 unfolding damaged
 damaged-late file = read-late file (front_end_of file) (first_frame file (front_end_of file))
 
-pub salvage-late : (input : List ℕ) (f : Contents) (bytes : List ℕ) → f input ≡ Some bytes → length bytes ≤ longest_file → IfErr ((salvage_task input).makes f) IsLate
+-- the refusals of a file that isn't too long are late
+pub salvage-late : (input : List ℕ) (f : Contents) (bytes : List ℕ) → f input ≡ Some bytes
+    → length bytes ≤ longest_file → IfErr ((salvage_task input).makes f) IsLate
 salvage-late input f bytes held few =
-    subst (λ o. IfErr (made_where o) IsLate) (sym held) (subst (λ r. IfErr (made_by bytes r) IsLate) (sym (damaged_of-short bytes few)) (damaged-late bytes))
+    subst (λ o. IfErr (made_where o) IsLate) (sym held) (subst (λ r. IfErr (made_by bytes r) IsLate)
+    (sym (damaged_of-short bytes few)) (damaged-late bytes))
 
 -- ---- a fault of the reading
 
 module _ (input : List ℕ) where
-  refuses-bytes : (files : Files) (fault : SurveyFault) → IsThere files input → ((bytes : List ℕ) → Holds files input bytes → damaged_of bytes ≡ Err fault) → Refuses (salvage_task input) files (Input 0 fault)
+  refuses-bytes : (files : Files) (fault : SurveyFault) → IsThere files input
+      → ((bytes : List ℕ) → Holds files input bytes → damaged_of bytes ≡ Err fault)
+      → Refuses (salvage_task input) files (Input 0 fault)
   refuses-bytes (Untold touched) fault there is = tt
-  refuses-bytes (Told f) fault there is = let held = there_holds f input there in ap made_where held.1 ∙ ap (made_by held.0) (is held.0 held.1)
+  refuses-bytes (Told f) fault there is = let held = there_holds f input there in
+      ap made_where held.1 ∙ ap (made_by held.0) (is held.0 held.1)
 
-  refuses-absent : (files : Files) → IsMissing files input → Refuses (salvage_task input) files (Input 0 Absent)
+  refuses-absent : (files : Files) → IsMissing files input
+      → Refuses (salvage_task input) files (Input 0 Absent)
   refuses-absent (Untold touched) missing = tt
   refuses-absent (Told f) missing = ap made_where missing
 
   module _ (files after : Files) (before counts : Counts) (same : after ≡ files) where
-    rejected : (fault : SurveyFault) → RefusesDamaged input files before counts fault → Refuses (salvage_task input) files (Input 0 fault) × (seen after counts ≡ seen files before)
+    rejected : (fault : SurveyFault) → RefusesDamaged input files before counts fault
+        → Refuses (salvage_task input) files (Input 0 fault)
+        × (seen after counts ≡ seen files before)
     rejected fault h = (refuses-bytes files fault h.there h.bytes, ap₂ seen same h.counts)
 
-    pub early-fault : (fault : SurveyFault) → IsReadFault input files before counts fault → IsEarlyFault (salvage_task input) (seen files before) (seen after counts) (of_input fault)
+    -- a fault of reading comes before the output is created
+    pub early-fault : (fault : SurveyFault) → IsReadFault input files before counts fault
+        → IsEarlyFault (salvage_task input) (seen files before) (seen after counts) (of_input fault)
     early-fault Absent h = record { defined = refuses-absent files h.0; rose = h.1; files = same }
-    early-fault Read h = record { before = before_first files (salvage_task input).makes (Input 0 Read) refl; rose = h; files = same }
-    early-fault (Shrunk first second) h = record { ended = record { rose = h.ended; counts = h.counts; untold = h.nothing_told }; files = same }
+    early-fault Read h = record {
+      before = before_first files (salvage_task input).makes (Input 0 Read) refl;
+      rose = h;
+      files = same;
+    }
+    early-fault (Shrunk first second) h = record {
+      ended = record { rose = h.ended; counts = h.counts; untold = h.nothing_told };
+      files = same;
+    }
     early-fault NoRoom h = record { there = h.there; few = h.few; stays = ap₂ seen same h.counts }
     early-fault x h = let r = rejected x h in record { defined = r.0; stays = r.1 }
 
-  pub early-numbers : (fault : SurveyFault) → HasRightNumbers fault → IsOfInputs (salvage_task input) (of_input fault)
+  -- a fault of reading has the right numbers
+  pub early-numbers : (fault : SurveyFault) → HasRightNumbers fault
+      → IsOfInputs (salvage_task input) (of_input fault)
   early-numbers (TooLong n) h = (omega arith, λ e. absurd cc, h, inl refl)
   early-numbers NoRoom h = tt
   early-numbers _ h = (omega arith, λ e. absurd cc, h, inl refl)
 
   -- want of memory, once the input was read
-  pub early-memory : (old new : Seen) (d : DamagedFields) → IsThere old.files input → IsReadOf input old.files d → new ≡ old → NeedsMemory input old new
-  early-memory old new d there read stays = record { there = there; few = λ bytes holds. (damaged_of-is bytes d (read bytes holds)).0; stays = stays }
+  pub early-memory : (old new : Seen) (d : DamagedFields) → IsThere old.files input
+      → IsReadOf input old.files d → new ≡ old → NeedsMemory input old new
+  early-memory old new d there read stays = record {
+    there = there;
+    few = λ bytes holds. (damaged_of-is bytes d (read bytes holds)).0;
+    stays =
+        stays;
+  }
 
   -- a fault of the reading is one of the whole call
-  pub fault-on : {T U : Type 0} {old new : Seen} {fault : EditFault} (r : Result U EditFault) → IsErrAnd r (λ y. y ≡ fault) → ReadsInput {T = T} input (Err fault) old new → ReadsInput input r old new
+  pub fault-on : {T U : Type 0} {old new : Seen} {fault : EditFault} (r : Result U EditFault)
+      → IsErrAnd r (λ y. y ≡ fault) → ReadsInput {T = T} input (Err fault) old new
+      → ReadsInput input r old new
   fault-on (Ok x) is reads = absurd is
   fault-on {old = old} {new = new} (Err e) is reads = record {
     refused = subst (IsEarlyFault (salvage_task input) old new) (sym is) reads.refused;
@@ -129,7 +155,9 @@ module _ (input : List ℕ) where
   }
 
   -- and so is want of memory once it was read
-  pub memory-on : {T U : Type 0} {x : T} {old new : Seen} (r : Result U EditFault) → IsErrAnd r (λ y. y ≡ Memory) → (m : Mended) → IsThere old.files input → IsMended input old.files m → new ≡ old → ReadsInput input (Ok x) old new
+  pub memory-on : {T U : Type 0} {x : T} {old new : Seen} (r : Result U EditFault)
+      → IsErrAnd r (λ y. y ≡ Memory) → (m : Mended) → IsThere old.files input
+      → IsMended input old.files m → new ≡ old → ReadsInput input (Ok x) old new
       → ReadsInput input r old new
   memory-on {U = U} {old = old} {new = new} r is m there mended stays reads =
       fault-on {T = U} r is (record {
@@ -143,20 +171,29 @@ module _ (input : List ℕ) where
   -- ---- what was made ready
 
   -- what was mended is the survey of the file
-  mended-has : (files : Files) (m : Mended) (is : IsMended input files m) → (bytes : List ℕ) → Holds files input bytes → HasSurvey bytes (tells m.survey)
-  mended-has files m is bytes holds = subst (HasSurvey bytes) (sym is.survey) (damaged-had bytes is.of (damaged_of-is bytes is.of (is.read bytes holds)).1 is.laid)
+  mended-has : (files : Files) (m : Mended) (is : IsMended input files m) → (bytes : List ℕ)
+      → Holds files input bytes → HasSurvey bytes (tells m.survey)
+  mended-has files m is bytes holds = subst (HasSurvey bytes) (sym is.survey)
+      (damaged-had bytes is.of (damaged_of-is bytes is.of (is.read bytes holds)).1 is.laid)
 
-  pub ready-of : (files : Files) (m : Mended) (selected : Selected) (work : Work) → IsMended input files m → IsWorkOf m.survey selected work.laid → IsThere files input → HoldsOctets input files → IsLaidSurvey (tells m.survey)
-      → IsSelected own_choice (all_of (tells m.survey)) (tells m.survey) selected → work.sending ≡ [] → ((d : DamagedFields) → m.emptied.items ≡ emptied_from 0 d.survey.frames → m.gaps.items ≡ d.gaps → Reports d work.report)
-      → IsReady input files work
+  -- the work that was made of what is left is ready for the pass
+  pub ready-of : (files : Files) (m : Mended) (selected : Selected) (work : Work)
+      → IsMended input files m → IsWorkOf m.survey selected work.laid → IsThere files input
+      → HoldsOctets input files → IsLaidSurvey (tells m.survey)
+      → IsSelected own_choice (all_of (tells m.survey)) (tells m.survey) selected
+      → work.sending ≡ [] → ((d : DamagedFields) → m.emptied.items ≡ emptied_from 0 d.survey.frames
+      → m.gaps.items ≡ d.gaps → Reports d work.report) → IsReady input files work
   ready-of files m selected work is made there octets placed own unsaid reports = record {
     octets = octets;
     of = is.of;
     read = is.read;
     laid = is.laid;
-    layable = work_layable m.survey selected work.laid made input files there placed (mended-has files m is) own.writable;
+    layable = work_layable m.survey selected work.laid made input files there placed
+        (mended-has files m is) own.writable;
     survey = ap tells made.survey_is ∙ is.survey;
-    selected = subst (λ (s : Survey). IsSelected own_choice (all_of (tells s)) (tells s) work.laid.selected) (sym made.survey_is) (subst (IsSelected own_choice (all_of (tells m.survey)) (tells m.survey)) (sym made.selected_is) own);
+    selected = subst (λ (s : Survey). IsSelected own_choice (all_of (tells s))
+        (tells s) work.laid.selected) (sym made.survey_is) (subst (IsSelected own_choice
+        (all_of (tells m.survey)) (tells m.survey)) (sym made.selected_is) own);
     unsaid = unsaid;
     reports = reports is.of is.emptied is.gaps;
   }
@@ -168,52 +205,81 @@ module _ (input : List ℕ) where
     salvaged-is : (bytes : List ℕ) → file_of bytes ≡ salvaged_file bytes ready.of
     unfolding salvaged_file
     salvaged-is bytes =
-        file-is (all_of (tells work.laid.survey)) (laid_in work.laid.selected) bytes (tells work.laid.survey) ready.selected.laid
+        file-is (all_of (tells work.laid.survey)) (laid_in work.laid.selected) bytes
+        (tells work.laid.survey) ready.selected.laid
         ∙ ap (λ (s : SurveyFields). chosen_file (all_of s) bytes s) ready.survey
 
+    -- the work makes the file of the definition
     pub ready-makes : IsMaking (salvage_task input) file_of files
     ready-makes = record { there = ready.layable.there; makes = at files ready.read ready.octets }
       where
-        at : (fs : Files) → IsReadOf input fs ready.of → HoldsOctets input fs → IfTold fs (λ f. (bytes : List ℕ) → f input ≡ Some bytes → AreBytes bytes × (made_where (f input) ≡ Ok (file_of bytes)))
+        at : (fs : Files) → IsReadOf input fs ready.of → HoldsOctets input fs
+            → IfTold fs (λ f. (bytes : List ℕ) → f input ≡ Some bytes
+            → AreBytes bytes × (made_where (f input) ≡ Ok (file_of bytes)))
         at (Untold touched) read octets = tt
-        at (Told f) read octets = λ bytes held. (octets bytes held, ap made_where held ∙ ap (made_by bytes) (read bytes held) ∙ ap Ok (sym (salvaged-is bytes)))
+        at (Told f) read octets = λ bytes held. (
+          octets bytes held,
+          ap made_where held ∙ ap (made_by bytes) (read bytes held)
+              ∙ ap Ok (sym (salvaged-is bytes)),
+        )
 
-    pub ready-holds : IfTold files (λ f. (bytes : List ℕ) → f input ≡ Some bytes → AreSound f [] × HoldsStream (file_of bytes) (stream_where (f input)))
+    -- that file holds what is left
+    pub ready-holds : IfTold files (λ f. (bytes : List ℕ) → f input ≡ Some bytes
+        → AreSound f [] × HoldsStream (file_of bytes) (stream_where (f input)))
     ready-holds = at files ready.read
       where
-        at : (fs : Files) → IsReadOf input fs ready.of → IfTold fs (λ f. (bytes : List ℕ) → f input ≡ Some bytes → AreSound f [] × HoldsStream (file_of bytes) (stream_where (f input)))
+        at : (fs : Files) → IsReadOf input fs ready.of
+            → IfTold fs (λ f. (bytes : List ℕ) → f input ≡ Some bytes
+            → AreSound f [] × HoldsStream (file_of bytes) (stream_where (f input)))
         at (Untold touched) read = tt
         at (Told f) read = λ bytes held.
             let whole = (damaged_of-is bytes ready.of (read bytes held)).1 in
-            let stream : stream_where (f input) ≡ left_stream bytes ready.of = ap stream_where held ∙ ap (stream_by bytes) (read bytes held) in
-            (tt, subst (λ n. HoldsStream n (stream_where (f input))) (sym (salvaged-is bytes)) (subst (HoldsStream (salvaged_file bytes ready.of)) (sym stream) (salvaged-holds bytes ready.of whole ready.laid)))
+            let stream : stream_where (f input) ≡ left_stream bytes ready.of =
+            ap stream_where held ∙ ap (stream_by bytes) (read bytes held) in (
+              tt,
+              subst (λ n. HoldsStream n (stream_where (f input))) (sym (salvaged-is bytes))
+                  (subst (HoldsStream (salvaged_file bytes ready.of)) (sym stream)
+                  (salvaged-holds bytes ready.of whole ready.laid)),
+            )
 
     frames-same : length (tells work.laid.survey).frames ≡ length ready.of.survey.frames
-    frames-same = ap (λ (s : SurveyFields). length s.frames) ready.survey ∙ length-map ready.of.survey.frames mended_row
+    frames-same = ap (λ (s : SurveyFields). length s.frames) ready.survey
+        ∙ length-map ready.of.survey.frames mended_row
 
     -- the text is that of what was read
-    pub ready-text : (output all : List ℕ) → IsText (salvage_command input output) files all → all ≡ report_text (length (tells work.laid.survey).frames) work.report
+    pub ready-text : (output all : List ℕ) → IsText (salvage_command input output) files all
+        → all ≡ report_text (length (tells work.laid.survey).frames) work.report
     ready-text output all is =
-        let told = telling-text (λ f. text_where (f input)) (one_command (salvage_task input) output) files all is in
-        told.2 ∙ at files told.1 ready.layable.there ready.read ∙ sym (report-text-same ready.of work.report ready.reports) ∙ sym (ap (λ n. report_text n work.report) frames-same)
+        let told = telling-text (λ f. text_where (f input))
+        (one_command (salvage_task input) output) files all is in
+        told.2 ∙ at files told.1 ready.layable.there ready.read
+        ∙ sym (report-text-same ready.of work.report ready.reports)
+        ∙ sym (ap (λ n. report_text n work.report) frames-same)
       where
         told-same : (f g : Contents) → Told f ≡ Told g → f ≡ g
         told-same f g e = cc
 
-        at : (fs : Files) {f : Contents} → fs ≡ Told f → IsThere fs input → IsReadOf input fs ready.of → text_where (f input) ≡ salvage_text ready.of
+        at : (fs : Files) {f : Contents} → fs ≡ Told f → IsThere fs input
+            → IsReadOf input fs ready.of → text_where (f input) ≡ salvage_text ready.of
         at (Untold touched) e there read = absurd cc
         at (Told g) {f} e there read =
             let held = there_holds g input there in
-            ap (λ (h : Contents). text_where (h input)) (sym (told-same g f e)) ∙ ap text_where held.1 ∙ ap text_by (read held.0 held.1)
+            ap (λ (h : Contents). text_where (h input)) (sym (told-same g f e))
+            ∙ ap text_where held.1 ∙ ap text_by (read held.0 held.1)
 
+    -- the entries of its report are in order
     pub ready-order : IsInOrder work.report
     ready-order = reports-order ready.of work.report ready.laid ready.reports
 
 -- ---- what is left
 
-pub left-clash : (input output : List ℕ) (place : ℕ) (now : Seen) → clash_in (salvage_task input) output ≡ Some place → Leaves (salvage_command input output) now now (EqualNames place)
+-- a clash leaves all as it was, with its number
+pub left-clash : (input output : List ℕ) (place : ℕ) (now : Seen)
+    → clash_in (salvage_task input) output ≡ Some place
+    → Leaves (salvage_command input output) now now (EqualNames place)
 left-clash input output place now clash =
-    telling-left (λ f. text_where (f input)) (one_command (salvage_task input) output) now now (EqualNames place) (clash_left (salvage_task input) output place now clash)
+    telling-left (λ f. text_where (f input)) (one_command (salvage_task input) output) now now
+    (EqualNames place) (clash_left (salvage_task input) output place now clash)
 
 module _ (input output : List ℕ) (free : clash_in (salvage_task input) output ≡ None) where
   abbrev text : Contents → List ℕ
@@ -222,32 +288,49 @@ module _ (input output : List ℕ) (free : clash_in (salvage_task input) output 
   abbrev silent : Command
   silent = one_command (salvage_task input) output
 
-  pub left-early : (old new : Seen) (fault : EditFault) → IsEarlyFault (salvage_task input) old new fault → Leaves (salvage_command input output) old new fault
-  left-early old new fault h = telling-left text silent old new fault (early_left (salvage_task input) output free (salvage-late input) old new fault h)
+  -- a fault before the output leaves all as it was
+  pub left-early : (old new : Seen) (fault : EditFault)
+      → IsEarlyFault (salvage_task input) old new fault
+      → Leaves (salvage_command input output) old new fault
+  left-early old new fault h = telling-left text silent old new fault
+      (early_left (salvage_task input) output free (salvage-late input) old new fault h)
 
-  module _ (old mid new : Seen) (work : Work) (stays : mid ≡ old) (ready : IsReady input old.files work) (touches : OnlyTouches (output ∷ []) mid.files new.files) where
+  module _ (old mid new : Seen) (work : Work) (stays : mid ≡ old) (ready : IsReady input
+      old.files work) (touches : OnlyTouches (output ∷ []) mid.files new.files) where
     abbrev made : List ℕ → List ℕ
     made = work_file work.laid
 
     making : IsMaking (salvage_task input) made old.files
     making = ready-makes input old.files work ready
 
-    pub left-done : ((bytes : List ℕ) → Holds mid.files input bytes → new.files ≡ holding mid.files output (made bytes)) → new.counts ≡ mid.counts → IsDone (salvage_command input output) old new
-    left-done wrote counts = telling-done text silent old new (one_done (salvage_task input) output free made old mid new stays making touches done wrote counts)
+    -- if the output holds what is made, and no count changed, the command is done
+    pub left-done : ((bytes : List ℕ) → Holds mid.files input bytes
+        → new.files ≡ holding mid.files output (made bytes)) → new.counts ≡ mid.counts
+        → IsDone (salvage_command input output) old new
+    left-done wrote counts = telling-done text silent old new (one_done (salvage_task input) output
+        free made old mid new stays making touches done wrote counts)
       where
         done : Result (Unit {0}) EditFault
         done = Ok tt
 
-    pub left-part : (fault : EditFault) → IsOfPass fault → IsPassFault made (input ∷ []) output mid new fault → Leaves (salvage_command input output) old new fault
-    left-part fault numbers h = telling-left text silent old new fault (one_left (salvage_task input) output free made old mid new stays making touches refl failed numbers h)
+    -- a fault of the pass leaves the output begun
+    pub left-part : (fault : EditFault) → IsOfPass fault
+        → IsPassFault made (input ∷ []) output mid new fault
+        → Leaves (salvage_command input output) old new fault
+    left-part fault numbers h =
+        telling-left text silent old new fault (one_left (salvage_task input) output free made old
+        mid new stays making touches refl failed numbers h)
       where
         failed : Result (Unit {0}) EditFault
         failed = Err fault
 
-  pub left-streams : (files : Files) (work : Work) → IsReady input files work → HoldsStreams (salvage_command input output) files
+  -- what is written holds the stream
+  pub left-streams : (files : Files) (work : Work) → IsReady input files work
+      → HoldsStreams (salvage_command input output) files
   left-streams files work ready =
       telling-streams text silent files
-      (one_streams (salvage_task input) output free (work_file work.laid) files (ready-makes input files work ready) (ready-holds input files work ready) done)
+      (one_streams (salvage_task input) output free (work_file work.laid) files
+      (ready-makes input files work ready) (ready-holds input files work ready) done)
     where
       done : Result (Unit {0}) EditFault
       done = Ok tt
@@ -255,17 +338,30 @@ module _ (input output : List ℕ) (free : clash_in (salvage_task input) output 
 -- ---- what the numbers of a fault say
 
 module _ (input output : List ℕ) where
-  pub numbers-early : (fault : EditFault) → IsOfInputs (salvage_task input) fault → HasNumbers (salvage_command input output) fault
+  -- a fault before the output has the right numbers
+  pub numbers-early : (fault : EditFault) → IsOfInputs (salvage_task input) fault
+      → HasNumbers (salvage_command input output) fault
   numbers-early (Input place fault) h = h
   numbers-early (Refused refusal) h = h
   numbers-early Memory h = tt
   numbers-early _ h = absurd h
 
-  pub numbers-pass : (fault : EditFault) → IsOfPass fault → HasNumbers (salvage_command input output) fault
+  -- so has one of the pass
+  pub numbers-pass : (fault : EditFault) → IsOfPass fault
+      → HasNumbers (salvage_command input output) fault
   numbers-pass (Input place fault) h = (omega (arith, h.0), h.1, h.2, inl h.0)
   numbers-pass (Write place) h = omega (arith, h)
   numbers-pass _ h = absurd h
 
 -- where all was done
-pub done-run : (command : Command) (old new : Seen) → clash_of command ≡ None → IsDone command old new → HoldsStreams command old.files → NoneFell old.counts new.counts → IsRunOf command old new (Ok tt)
-done-run command old new none done streams fell = record { done = done; left = tt; numbers = tt; names = λ place. ((λ e. absurd cc), λ clash. absurd cc); streams = streams; counts = fell }
+pub done-run : (command : Command) (old new : Seen) → clash_of command ≡ None
+    → IsDone command old new → HoldsStreams command old.files → NoneFell old.counts new.counts
+    → IsRunOf command old new (Ok tt)
+done-run command old new none done streams fell = record {
+  done = done;
+  left = tt;
+  numbers = tt;
+  names = λ place. ((λ e. absurd cc), λ clash. absurd cc);
+  streams = streams;
+  counts = fell;
+}

@@ -1,26 +1,19 @@
 -- What was read of the input, and what is made ready before the output is created.
-use Rattle.std.specs.Prelude.{◌≡◌, ℕ, List, [], Result, OnOk, IfErr}
-use Rattle.outside.specs.Files.{Files}
-use Rattle.outside.specs.Counts.{OnlyReads}
-use Rattle.outside.specs.Seen.{Seen}
-use Rattle.sync_survey.specs.Faults.{tells}
-use Rattle.sync_survey.specs.Survey.{HoldsOctets}
-use Rattle.salvage.specs.declared.mended.Mended.{Mended}
-use Rattle.salvage.specs.Damaged.{DamagedFields, IsReadOf}
-use Rattle.salvage.specs.Progress.{IsLaidOut}
-use Rattle.salvage.specs.Mended.{mended, emptied_from}
-use Rattle.commands.specs.declared.fault.EditFault.{EditFault}
-use Rattle.commands.specs.One.{IsEarlyFault, IsOfInputs}
+use Rattle.std.specs.Prelude.{IfErr, List, OnOk, Result, ℕ, [], ◌≡◌}
+use Rattle.commands.specs.{One.{IsEarlyFault, IsOfInputs}, declared.fault.EditFault.EditFault}
+use Rattle.cut_edits.specs.{Chosen.IsSelected, Layable.IsLayable}
 use Rattle.laying.specs.NeedsFit.{own_choice}
-use Rattle.cut_edits.specs.Chosen.{IsSelected}
-use Rattle.cut_edits.specs.Layable.{IsLayable}
-use Rattle.salvage_edits.specs.declared.report.Report.{Report}
+use Rattle.outside.specs.{Counts.OnlyReads, Files.Files, Seen.Seen}
+use Rattle.salvage.specs.{Damaged.{DamagedFields, IsReadOf}, Mended.{emptied_from, mended}}
+use Rattle.salvage.specs.{Progress.IsLaidOut, declared.mended.Mended.Mended}
+use Rattle.salvage_edits.specs.{Salvaged.{all_of, salvage_task}, declared.report.Report.Report}
 use Rattle.salvage_edits.specs.declared.work.Work.{Work}
-use Rattle.salvage_edits.specs.Salvaged.{all_of, salvage_task}
+use Rattle.sync_survey.specs.{Faults.tells, Survey.HoldsOctets}
 
--- What a call leaves that reads the input before the output is created: the files stay, and only reads are counted, and nothing where it
--- succeeds; a fault is one of the input, or want of memory.
-pub record ReadsInput {T : Type 0} (input : List ℕ) (result : Result T EditFault) (old new : Seen) : Type 0 where
+-- What a call leaves that reads the input before the output is created: the files stay, and only
+-- reads are counted, and nothing where it succeeds; a fault is one of the input, or want of memory.
+pub record ReadsInput {T : Type 0} (input : List ℕ) (result : Result T EditFault)
+    (old new : Seen) : Type 0 where
   pub refused : IfErr result (IsEarlyFault (salvage_task input) old new)
   pub numbers : IfErr result (IsOfInputs (salvage_task input))
   pub done : OnOk result (new.counts ≡ old.counts)
@@ -41,7 +34,8 @@ pub record IsMended (name : List ℕ) (files : Files) (m : Mended) : Type 0 wher
   pub emptied : m.emptied.items ≡ emptied_from 0 of.survey.frames
   pub gaps : m.gaps.items ≡ of.gaps
 
--- The input was read, and all is ready for the pass; all frames are chosen and have their plan, and the report is that of what was read.
+-- The input was read, and all is ready for the pass; all frames are
+-- chosen and have their plan, and the report is that of what was read.
 pub record IsReady (input : List ℕ) (files : Files) (work : Work) : Type 0 where
   pub octets : HoldsOctets input files
   pub of : DamagedFields
@@ -49,6 +43,7 @@ pub record IsReady (input : List ℕ) (files : Files) (work : Work) : Type 0 whe
   pub laid : IsLaidOut of
   pub layable : IsLayable input work.laid files
   pub survey : tells work.laid.survey ≡ mended of.survey
-  pub selected : IsSelected own_choice (all_of (tells work.laid.survey)) (tells work.laid.survey) work.laid.selected
+  pub selected : IsSelected own_choice (all_of (tells work.laid.survey))
+      (tells work.laid.survey) work.laid.selected
   pub unsaid : work.sending ≡ []
   pub reports : Reports of work.report

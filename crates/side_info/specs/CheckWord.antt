@@ -1,21 +1,22 @@
--- The check word (ISO/IEC 11172-3, 2.4.3.1): the remainder of the bits that it covers in a division by x^16 + x^15 + x^2 + 1.
-use Rattle.std.specs.Prelude.{◌≡◌, ℕ, ◌*◌, ◌%◌, ◌==◌, if◌then◌else◌, List, [], ◌∷◌, ◌++◌, length, drop, bit_xor, Ok}
+-- The check word of a frame (ISO/IEC 11172-3, 2.4.3.1): the remainder of the bits that it covers in
+-- a division by x^16 + x^15 + x^2 + 1.
 use Rattle.std.specs.Int.{bit_at}
+use Rattle.std.specs.Prelude.{bit_xor, drop, if◌then◌else◌, length, List, Ok, ℕ, [], ◌%◌, ◌*◌, ◌++◌}
+use Rattle.std.specs.Prelude.{◌==◌, ◌∷◌, ◌≡◌}
 use Rattle.bit_fields.specs.Bits.{bits}
-use Rattle.frame_header.specs.Fields.{HeaderFields}
+use Rattle.frame_header.specs.{Fields.HeaderFields, HeaderBits.header_bits, Reading.header_at}
 use Rattle.frame_header.specs.Tables.{class_of, side_size_of}
-use Rattle.frame_header.specs.HeaderBits.{header_bits}
-use Rattle.frame_header.specs.Reading.{header_at}
-use Rattle.side_info.specs.declared.side.Side.{Side}
-use Rattle.side_info.specs.Side.{side_at, side_bits}
+use Rattle.side_info.specs.{Side.{side_at, side_bits}, declared.side.Side.Side}
 
 -- x^15 + x^2 + 1, the divisor below its highest power
 abbrev pub polynomial : ℕ
 polynomial = 0x8005
 
--- the word one bit further on: shifted by one, and less the divisor where the bit that went out isn't the bit that comes in
+-- the word one bit further on: shifted by one, and less the
+-- divisor where the bit that went out isn't the bit that comes in
 unfoldable pub bit_step : ℕ → ℕ → ℕ
-bit_step word bit = let shifted = word * 2 % 65536 in if bit_at word 15 == bit then shifted else bit_xor shifted polynomial
+bit_step word bit = let shifted = word * 2 % 65536 in
+    if bit_at word 15 == bit then shifted else bit_xor shifted polynomial
 
 -- the word after these bits, which come in one after the other
 unfoldable pub remainder : ℕ → List ℕ → ℕ
@@ -26,7 +27,8 @@ remainder word (bit ∷ rest) = remainder (bit_step word bit) rest
 abbrev pub start_word : ℕ
 start_word = 0xffff
 
--- the check word of a frame: over the last 16 bits of the header and the side bits
+-- the check word of a frame: over the last 16 bits of the header and the side bits, one bit at a
+-- time, from all ones
 unfoldable pub check_word_of : HeaderFields → Side → ℕ
 check_word_of h s = remainder start_word (drop 16 (header_bits h) ++ side_bits (class_of h) s)
 
@@ -34,4 +36,5 @@ check_word_of h s = remainder start_word (drop 16 (header_bits h) ++ side_bits (
 pub record IsWordOf (header part : List ℕ) (word : ℕ) : Type 0 where
   pub bytes : word ≡ remainder start_word (bits (drop 2 header ++ part))
   -- it is that of the header and of the side fields that these bytes are
-  pub read : (h : HeaderFields) → header_at header ≡ Ok h → length part ≡ side_size_of (class_of h) → word ≡ check_word_of h (side_at (class_of h) (bits part))
+  pub read : (h : HeaderFields) → header_at header ≡ Ok h → length part ≡ side_size_of (class_of h)
+      → word ≡ check_word_of h (side_at (class_of h) (bits part))

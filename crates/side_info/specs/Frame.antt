@@ -1,13 +1,11 @@
--- Where the check word and the side information of a frame are (ISO/IEC 11172-3, 2.4.1): first the header, then the check word of a
--- protected frame, the side information, and the area.
-use Rattle.std.specs.Prelude.{ℕ, ◌+◌, if◌then◌else◌, Bool, List, [], ◌++◌, take, drop}
+-- Where the check word and the side information of a frame are (ISO/IEC 11172-3, 2.4.1): first
+-- the header, then the check word of a protected frame, the side information, and the area.
+use Rattle.std.specs.Prelude.{Bool, drop, if◌then◌else◌, List, take, ℕ, [], ◌++◌, ◌+◌}
 use Rattle.bit_fields.specs.Bits.{bits, bits_of, bytes, number}
-use Rattle.frame_header.specs.Fields.{HeaderFields}
-use Rattle.frame_header.specs.Tables.{class_of, side_size_of, overhead_of}
-use Rattle.frame_header.specs.HeaderBits.{header_bits}
+use Rattle.frame_header.specs.{Fields.HeaderFields, HeaderBits.header_bits}
+use Rattle.frame_header.specs.Tables.{class_of, overhead_of, side_size_of}
+use Rattle.side_info.specs.{CheckWord.check_word_of, Side.{side_at, side_bits}}
 use Rattle.side_info.specs.declared.side.Side.{Side}
-use Rattle.side_info.specs.Side.{side_at, side_bits}
-use Rattle.side_info.specs.CheckWord.{check_word_of}
 
 -- the byte at which the side information begins: after the header, or after the check word
 abbrev pub side_place : Bool → ℕ
@@ -17,14 +15,15 @@ side_place protected = 4 + (if protected then 2 else 0)
 unfoldable pub side_part : HeaderFields → List ℕ → List ℕ
 side_part h frame = take (side_size_of (class_of h)) (drop (side_place h.protected) frame)
 
+-- the side information that is in a frame with this header
 unfoldable pub side_in : HeaderFields → List ℕ → Side
 side_in h frame = side_at (class_of h) (bits (side_part h frame))
 
--- the check word that is in a protected frame
+-- the check word that is in a protected frame: the two bytes after the header (2.4.1.4)
 unfoldable pub word_said : List ℕ → ℕ
 word_said frame = number (bits (take 2 (drop 4 frame)))
 
--- the check word that is right for it
+-- the check word that is right for its header and side information (2.4.3.1)
 abbrev pub word_right : HeaderFields → List ℕ → ℕ
 word_right h frame = check_word_of h (side_in h frame)
 
@@ -32,11 +31,13 @@ word_right h frame = check_word_of h (side_in h frame)
 abbrev pub word_part : HeaderFields → Side → List ℕ
 word_part h s = if h.protected then bytes (bits_of 16 (check_word_of h s)) else []
 
--- the frame with this side information in place of its own, and with the check word that is right for it
+-- the frame with this side information in place of its
+-- own, and with the check word that is right for it
 unfoldable pub frame_with : HeaderFields → Side → List ℕ → List ℕ
-frame_with h s frame = take 4 frame ++ (word_part h s ++ (bytes (side_bits (class_of h) s) ++ drop (overhead_of (class_of h) h.protected) frame))
+frame_with h s frame = take 4 frame ++ (word_part h s
+    ++ (bytes (side_bits (class_of h) s) ++ drop (overhead_of (class_of h) h.protected) frame))
 
--- the front of a frame: the header, the check word of a protected frame, which is right for this header and this side information, and the
--- side information
+-- the front of a frame: the header, the check word of a protected frame, which
+-- is right for this header and this side information, and the side information
 unfoldable pub front_of : HeaderFields → Side → List ℕ
 front_of h s = bytes (header_bits h) ++ (word_part h s ++ bytes (side_bits (class_of h) s))

@@ -3,11 +3,13 @@ use Rattle.std.specs.Prelude.{ℕ}
 use Rattle.frame_header.specs.Fields.{HeaderFields}
 use Rattle.side_info.specs.declared.side.Side.{Side}
 
+-- the header of a frame and its side information
 pub record FrameFields : Type 0 where
   pub header : HeaderFields
   pub side : Side
 
--- a header with the slot and the mode extension of another, the fields that change from frame to frame in most streams
+-- a header with the slot and the mode extension of another,
+-- the fields that change from frame to frame in most streams
 abbrev pub header_like : HeaderFields → HeaderFields → HeaderFields
 header_like h other = record h { slot = other.slot; mode_extension = other.mode_extension }
 

@@ -1,19 +1,15 @@
--- A frame's header and side information, as the bytes that hold them (ISO/IEC 11172-3 and 13818-3, 2.4.1.3 and 2.4.1.7).
-use Rattle.std.specs.Prelude.{◌≡◌, ℕ, ◌+◌, ◌≤◌, List, ◌++◌, length, take, drop, replicate}
-use Rattle.bit_fields.specs.Bits.{bits, bytes, AreBytes}
-use Rattle.bit_fields.specs.Groups.{group}
-use Rattle.frame_header.specs.declared.version.Version.{Version}
+-- A frame's header and side information, as the four and up to 32 bytes that hold them (ISO/IEC
+-- 11172-3 and 13818-3, 2.4.1.3 and 2.4.1.7).
+use Rattle.std.specs.Prelude.{drop, length, List, replicate, take, ℕ, ◌++◌, ◌+◌, ◌≡◌, ◌≤◌}
+use Rattle.bit_fields.specs.{Bits.{AreBytes, bits, bytes}, Groups.group}
+use Rattle.frame_header.specs.Fields.{ClassFields, HeaderFields, IsHeader, IsSlot, SlotFields}
+use Rattle.frame_header.specs.{HeaderBits.header_bits, Reading.header_fields}
+use Rattle.frame_header.specs.{Tables.{class_of, side_size_of}, declared.version.Version.Version}
 use Rattle.frame_header.specs.declared.version.Version.TheVariants.{One, Two, TwoFive}
-use Rattle.frame_header.specs.Fields.{HeaderFields, ClassFields, SlotFields, IsHeader, IsSlot}
-use Rattle.frame_header.specs.Tables.{class_of, side_size_of}
-use Rattle.frame_header.specs.Reading.{header_fields}
-use Rattle.frame_header.specs.HeaderBits.{header_bits}
+use Rattle.side_info.specs.{Frame.{side_in, side_place, word_part}, FrameFields.FrameFields}
+use Rattle.side_info.specs.Side.{payload_bits, side_at, side_bits, SideFits}
+use Rattle.side_info.specs.declared.frame_front.{Extent.Extent, FrameFront.TheInside.Inside}
 use Rattle.side_info.specs.declared.side.Side.{Side}
-use Rattle.side_info.specs.declared.frame_front.FrameFront.TheInside.{Inside}
-use Rattle.side_info.specs.declared.frame_front.Extent.{Extent}
-use Rattle.side_info.specs.Side.{side_at, side_bits, payload_bits, SideFits}
-use Rattle.side_info.specs.Frame.{side_in, side_place, word_part}
-use Rattle.side_info.specs.FrameFields.{FrameFields}
 
 -- how many bits main_data_begin has
 abbrev pub begin_width : Version → ℕ
@@ -21,7 +17,8 @@ begin_width One = 9
 begin_width Two = 8
 begin_width TwoFive = 8
 
--- the bits of two headers are the same but for bitrate_index, padding_bit and mode_extension, the sync bits and the layer
+-- the bits of two headers are the same but for bitrate_index,
+-- padding_bit and mode_extension, the sync bits and the layer
 pub record AreAlike (bs cs : List ℕ) : Type 0 where
   pub version : group 11 2 bs ≡ group 11 2 cs
   pub protection : group 15 1 bs ≡ group 15 1 cs
@@ -50,15 +47,20 @@ own_side c room = take (side_size_of c) room
 unfoldable pub header_of : Inside → HeaderFields
 header_of a = header_fields (bits a.header)
 
+-- the side information with which the 32 bytes begin
 unfoldable pub side_of : Inside → Side
 side_of a = side_at (class_of (header_of a)) (bits (own_side (class_of (header_of a)) a.side))
 
+-- the header and the side information that the bytes hold
 abbrev pub fields_of : Inside → FrameFields
 fields_of a = record { header = header_of a; side = side_of a }
 
 -- the bytes as which these fields are written
 abbrev pub inside_of : FrameFields → Inside
-inside_of f = record { header = bytes (header_bits f.header); side = padded (bytes (side_bits (class_of f.header) f.side)) }
+inside_of f = record {
+  header = bytes (header_bits f.header);
+  side = padded (bytes (side_bits (class_of f.header) f.side));
+}
 
 -- the bytes are those of a header of the standard's and of side information, with zeros after it
 pub record AreWritten (a : Inside) : Type 0 where
@@ -83,7 +85,8 @@ pub record IsRoomOf (c : ClassFields) (s : Side) (all : List ℕ) : Type 0 where
 
 -- a header gets this slot
 pub record PutsSlot (slot : SlotFields) (old new : List ℕ) : Type 0 where
-  pub bits : (h : HeaderFields) → bits old ≡ header_bits h → bits new ≡ header_bits (record h { slot = slot })
+  pub bits : (h : HeaderFields) → bits old ≡ header_bits h
+      → bits new ≡ header_bits (record h { slot = slot })
   pub octets : AreBytes new
   pub known : IsSlot slot
 

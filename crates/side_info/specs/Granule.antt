@@ -1,8 +1,9 @@
--- The side information of one granule and channel, as successive groups of bits (ISO/IEC 11172-3 and 13818-3, 2.4.1.7 and 2.4.2.7).
-use Rattle.std.specs.Prelude.{◌≡◌, ℕ, ◌^◌, ◌<◌, ◌==◌, if◌then◌else◌, Bool, false, List, [], ◌∷◌, slice_index, sum}
+-- The side information of one granule and channel, as successive
+-- groups of bits (ISO/IEC 11172-3 and 13818-3, 2.4.1.7 and 2.4.2.7).
+use Rattle.std.specs.Prelude.{Bool, false, if◌then◌else◌, List, slice_index, sum, ℕ, [], ◌<◌, ◌==◌}
+use Rattle.std.specs.Prelude.{◌^◌, ◌∷◌, ◌≡◌}
 use Rattle.bit_fields.specs.Groups.{numbers_at, spelled}
-use Rattle.frame_header.specs.declared.version.Version.{Version}
-use Rattle.frame_header.specs.declared.version.Version.TheVariants.{One, Two, TwoFive}
+use Rattle.frame_header.specs.declared.version.Version.{Version, TheVariants.{One, Two, TwoFive}}
 use Rattle.side_info.specs.declared.granule.Granule.{Granule}
 
 -- how many bits scalefac_compress has
@@ -17,19 +18,23 @@ preflag_width One = 1
 preflag_width Two = 0
 preflag_width TwoFive = 0
 
--- the width in bits of part2_3_length, big_values, global_gain, scalefac_compress, window_switching_flag, the 22 bits of
--- detail after it, preflag, scalefac_scale and count1table_select; 0 for a field that the version lacks
+-- the width in bits of part2_3_length, big_values, global_gain, scalefac_compress,
+-- window_switching_flag, the 22 bits of detail after it, preflag, scalefac_scale and
+-- count1table_select, 59 bits together and 63 in MPEG-2 and MPEG-2.5; 0 for a field that the
+-- version lacks
 abbrev pub granule_widths : Version → List ℕ
-granule_widths version = 12 ∷ 9 ∷ 8 ∷ compress_width version ∷ 1 ∷ 22 ∷ preflag_width version ∷ 1 ∷ 1 ∷ []
+granule_widths version =
+    12 ∷ 9 ∷ 8 ∷ compress_width version ∷ 1 ∷ 22 ∷ preflag_width version ∷ 1 ∷ 1 ∷ []
 
 -- how many bits one granule and channel has
 abbrev pub granule_size : Version → ℕ
 granule_size version = sum (granule_widths version)
 
--- a bit as a flag, and back
+-- a bit as a flag
 abbrev pub is_set : ℕ → Bool
 is_set bit = bit == 1
 
+-- a flag as a bit
 abbrev pub bit_of : Bool → ℕ
 bit_of flag = if flag then 1 else 0
 
@@ -64,13 +69,15 @@ granule_of ns = record {
 -- the numbers of the groups, from a granule's fields
 unfoldable pub granule_numbers : Granule → List ℕ
 granule_numbers g =
-    g.part2_3_length ∷ g.big_values ∷ g.global_gain ∷ g.scalefac_compress ∷ bit_of g.window_switching ∷ g.detail ∷
+    g.part2_3_length ∷ g.big_values ∷ g.global_gain ∷ g.scalefac_compress
+    ∷ bit_of g.window_switching ∷ g.detail ∷
     bit_of g.preflag ∷ bit_of g.scalefac_scale ∷ bit_of g.count1table_select ∷ []
 
--- the granule with which these bits begin, and the bits of a granule
+-- the granule with which these bits begin
 unfoldable pub granule_at : Version → List ℕ → Granule
 granule_at version bs = granule_of (numbers_at (granule_widths version) bs)
 
+-- the bits of a granule
 unfoldable pub granule_bits : Version → Granule → List ℕ
 granule_bits version g = spelled (granule_widths version) (granule_numbers g)
 

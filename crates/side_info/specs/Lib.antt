@@ -6,9 +6,9 @@ pub mod Frame
 pub mod Gains
 pub mod FrameFields
 pub mod FrontBytes
-pub use Rattle.frame_header.specs.Fields
-pub use Rattle.frame_header.specs.Tables
-pub use Rattle.frame_header.specs.Reading
-pub use Rattle.frame_header.specs.HeaderBits
 pub use Rattle.bit_fields.specs.Bits
 pub use Rattle.bit_fields.specs.Groups
+pub use Rattle.frame_header.specs.Fields
+pub use Rattle.frame_header.specs.HeaderBits
+pub use Rattle.frame_header.specs.Reading
+pub use Rattle.frame_header.specs.Tables

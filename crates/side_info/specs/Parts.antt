@@ -1,14 +1,14 @@
--- The parts of the side information that are read and written in turn (ISO/IEC 11172-3 and 13818-3, 2.4.1.7 and 2.4.2.7).
-use Rattle.std.specs.Prelude.{◌≡◌, ℕ, ◌+◌, ◌*◌, ◌<◌, ◌≤◌, ◌==◌, if◌then◌else◌, List, [], ◌∷◌, ◌++◌, length, take, drop, slice_index, slice_index_or, sum, flat_map}
+-- The parts of the side information that are read and written
+-- in turn (ISO/IEC 11172-3 and 13818-3, 2.4.1.7 and 2.4.2.7).
+use Rattle.std.specs.Prelude.{drop, flat_map, if◌then◌else◌, length, List, slice_index}
+use Rattle.std.specs.Prelude.{slice_index_or, sum, take, ℕ, [], ◌*◌, ◌++◌, ◌+◌, ◌<◌, ◌==◌, ◌∷◌, ◌≡◌}
+use Rattle.std.specs.Prelude.{◌≤◌}
 use Rattle.bit_fields.specs.Groups.{numbers_at, spelled}
+use Rattle.frame_header.specs.{Fields.ClassFields, Tables.granules_of}
 use Rattle.frame_header.specs.declared.version.Version.{Version}
-use Rattle.frame_header.specs.Fields.{ClassFields}
-use Rattle.frame_header.specs.Tables.{granules_of}
-use Rattle.side_info.specs.declared.front.Front.{Front}
-use Rattle.side_info.specs.declared.granule.Granule.{Granule}
-use Rattle.side_info.specs.declared.side.Side.{Side}
-use Rattle.side_info.specs.Granule.{no_granule, granule_at, granule_bits, granule_size, GranuleFits, AreAlike}
-use Rattle.side_info.specs.Side.{front_widths_of}
+use Rattle.side_info.specs.Granule.{AreAlike, granule_at, granule_bits, granule_size, GranuleFits}
+use Rattle.side_info.specs.{Granule.no_granule, Side.front_widths_of, declared.front.Front.Front}
+use Rattle.side_info.specs.declared.{granule.Granule.Granule, side.Side.Side}
 
 -- the fields before the granules, from their numbers
 unfoldable pub front_of : List ℕ → Front
@@ -44,15 +44,19 @@ no_pair = no_granule ∷ no_granule ∷ []
 
 -- the channels of the granule with which these bits begin; one that the class lacks is all 0
 abbrev pub pair_at : Version → ℕ → List ℕ → List Granule
-pair_at version channels bs = granule_at version bs ∷ (if channels == 1 then no_granule else granule_at version (drop (granule_size version) bs)) ∷ []
+pair_at version channels bs = granule_at version bs
+    ∷ (if channels == 1 then no_granule else granule_at version (drop (granule_size version) bs))
+    ∷ []
 
 -- the same of the second granule, which MPEG-1 alone has
 abbrev pub second_at : Version → ℕ → List ℕ → List Granule
-second_at version channels bs = if granules_of version == 1 then no_pair else pair_at version channels bs
+second_at version channels bs =
+    if granules_of version == 1 then no_pair else pair_at version channels bs
 
 -- a class of this version with so many channels, on which alone the side information depends
 abbrev pub class_with : Version → ℕ → ℕ → ClassFields
-class_with version frequency_index channels = record { version = version; frequency_index = frequency_index; channels = channels }
+class_with version frequency_index channels =
+    record { version = version; frequency_index = frequency_index; channels = channels }
 
 -- one channel, or two
 pub record AreChannels (channels : ℕ) : Type 0 where
@@ -64,7 +68,8 @@ pub record PairsFit (version : Version) (channels : ℕ) (gs hs : List Granule) 
   pub left : GranuleFits version (slice_index_or gs 0 no_granule)
   pub right : channels ≡ 2 → GranuleFits version (slice_index_or gs 1 no_granule)
   pub second_left : granules_of version ≡ 2 → GranuleFits version (slice_index_or hs 0 no_granule)
-  pub second_right : granules_of version ≡ 2 → channels ≡ 2 → GranuleFits version (slice_index_or hs 1 no_granule)
+  pub second_right : granules_of version ≡ 2 → channels ≡ 2
+      → GranuleFits version (slice_index_or hs 1 no_granule)
 
 -- the bits of a granule's channels
 abbrev pub pair_bits : Version → ℕ → List Granule → List ℕ
@@ -72,19 +77,24 @@ pair_bits version channels gs = flat_map (granule_bits version) (take channels g
 
 -- the same of the second granule
 abbrev pub second_bits : Version → ℕ → List Granule → List ℕ
-second_bits version channels gs = if granules_of version == 1 then [] else pair_bits version channels gs
+second_bits version channels gs =
+    if granules_of version == 1 then [] else pair_bits version channels gs
 
 -- the channels of two granules differ in no field but global_gain
 abbrev pub AllAlike : List Granule → List Granule → Type 0
-AllAlike gs hs = (channel : ℕ) → AreAlike (slice_index_or gs channel no_granule) (slice_index_or hs channel no_granule)
+AllAlike gs hs = (channel : ℕ)
+    → AreAlike (slice_index_or gs channel no_granule) (slice_index_or hs channel no_granule)
 
--- the gains of a granule's channels are put where the bits of a granule begin that differs in them alone
+-- the gains of a granule's channels are put where the
+-- bits of a granule begin that differs in them alone
 abbrev pub PutsPair : (List Granule → List ℕ) → List Granule → ℕ → List ℕ → List ℕ → Type 0
 PutsPair bits_of_pair hs at old new =
-    (gs : List Granule) (before after : List ℕ) → length gs ≡ 2 → length before ≡ at → old ≡ before ++ (bits_of_pair gs ++ after)
-    → AllAlike gs hs → new ≡ before ++ (bits_of_pair hs ++ after)
+    (gs : List Granule) (before after : List ℕ) → length gs ≡ 2 → length before ≡ at
+    → old ≡ before ++ (bits_of_pair gs ++ after) → AllAlike gs hs
+    → new ≡ before ++ (bits_of_pair hs ++ after)
 
--- fields of so many bits, and two granules of so many after them, together 17 bytes: the first granule ends in the second eight bytes
+-- fields of so many bits, and two granules of so many after them,
+-- together 17 bytes: the first granule ends in the second eight bytes
 pub record AreWidths (width size : ℕ) : Type 0 where
   pub some : 1 ≤ width
   pub few : width < 64

@@ -1,46 +1,68 @@
 -- What loops over needs and places show of them.
-use Rattle.std.proofs.Common.{◌≡◌, ℕ, ◌+◌, ◌<◌, ◌≤◌, List, [], ◌∷◌, map, length, get_or, drop, sym, ap, ◌∙◌, subst, arith}
-use Rattle.std.proofs.lemmas.List.{drop_all}
+use Rattle.std.proofs.Common.{ap, arith, drop, get_or, length, List, map, subst, sym, ℕ, [], ◌+◌}
+use Rattle.std.proofs.{Common.{◌<◌, ◌∙◌, ◌∷◌, ◌≡◌, ◌≤◌}, lemmas.List.drop_all}
 use Rattle.std.specs.Prelude.{slice_range}
-use Rattle.frame_header.specs.Fields.{ClassFields}
-use Rattle.frame_header.specs.Tables.{class_of, window_of}
-use Rattle.slot_plan.specs.declared.needs.Need.{Need}
-use Rattle.slot_plan.specs.Layouts.{IsFeasible}
-use Rattle.slot_plan.specs.Behind.{FitsBehind, FitBehindWindow, FitBehindFree, CanJoin}
-use Rattle.slot_plan.specs.Parts.{own_frame, own_area, parts_of, ArePartsFeasible, AreOfClass, AreOfOneClass}
-use Rattle.slot_plan.specs.Reserve.{free_behind}
-use Rattle.slot_plan.proofs.ReserveLaws.{AllFit}
+use Rattle.frame_header.specs.{Fields.ClassFields, Tables.{class_of, window_of}}
+use Rattle.slot_plan.proofs.BehindLaws.{more-behind, within-fit}
 use Rattle.slot_plan.proofs.PartLaws.{next_need, one-class, parts-cons, parts-none}
-use Rattle.slot_plan.proofs.BehindLaws.{within-fit, more-behind}
+use Rattle.slot_plan.proofs.ReserveLaws.{AllFit}
+use Rattle.slot_plan.specs.Behind.{CanJoin, FitBehindFree, FitBehindWindow, FitsBehind}
+use Rattle.slot_plan.specs.Layouts.{IsFeasible}
+use Rattle.slot_plan.specs.Parts.{AreOfClass, AreOfOneClass, ArePartsFeasible, own_area, own_frame}
+use Rattle.slot_plan.specs.{Parts.parts_of, Reserve.free_behind, declared.needs.Need.Need}
 
 -- ---- one class
-pub class-more : (class : ClassFields) (needs : List Need) (i : ℕ) (need : Need) → i < length needs → need ≡ get_or needs i need → class_of need.header ≡ class → (AreOfClass class (drop i needs) → AreOfClass class needs)
+-- one more frame is of the class
+pub class-more : (class : ClassFields) (needs : List Need) (i : ℕ) (need : Need) → i < length needs
+    → need ≡ get_or needs i need → class_of need.header ≡ class
+    → (AreOfClass class (drop i needs) → AreOfClass class needs)
     → AreOfClass class (drop (i + 1) needs) → AreOfClass class needs
 unfolding AreOfClass
-class-more class needs i need within is same on rest = on (subst (AreOfClass class) (sym (next_need needs i need within is)) (same, rest))
+class-more class needs i need within is same on rest =
+    on (subst (AreOfClass class) (sym (next_need needs i need within is)) (same, rest))
 
-pub class-all : (class : ClassFields) (needs : List Need) (i : ℕ) (d : Need) → 0 < length needs → length needs ≤ i → class ≡ class_of (get_or needs 0 d).header → (AreOfClass class (drop i needs) → AreOfClass class needs) → AreOfOneClass needs
+-- where the loop has reached the end, all frames are of the class
+pub class-all : (class : ClassFields) (needs : List Need) (i : ℕ) (d : Need) → 0 < length needs
+    → length needs ≤ i → class ≡ class_of (get_or needs 0 d).header
+    → (AreOfClass class (drop i needs) → AreOfClass class needs) → AreOfOneClass needs
 unfolding AreOfClass
 class-all class [] i d some all is on = absurd (omega arith)
 class-all class (first ∷ needs) i d some all is on =
-    subst (λ c. AreOfClass c needs) is (on (subst (AreOfClass class) (sym (drop_all i (first ∷ needs) all)) tt)).1
+    subst (λ c. AreOfClass c needs) is
+    (on (subst (AreOfClass class) (sym (drop_all i (first ∷ needs) all)) tt)).1
 
 -- ---- frames that fit
-pub fit-next : (window before free next area : ℕ) (part : List Need) (i : ℕ) (need : Need) → i < length part → need ≡ get_or part i need → area ≡ own_area need → need.bytes ≤ free + area → next ≡ free_behind window free need.bytes area
-    → (AllFit window free (map own_frame (drop i part)) → AllFit window before (map own_frame part)) → AllFit window next (map own_frame (drop (i + 1) part)) → AllFit window before (map own_frame part)
+-- one more frame fits in the bytes before it and its own area
+pub fit-next : (window before free next area : ℕ) (part : List Need) (i : ℕ) (need : Need)
+    → i < length part → need ≡ get_or part i need → area ≡ own_area need → need.bytes ≤ free + area
+    → next ≡ free_behind window free need.bytes area
+    → (AllFit window free (map own_frame (drop i part)) → AllFit window before (map own_frame part))
+    → AllFit window next (map own_frame (drop (i + 1) part))
+    → AllFit window before (map own_frame part)
 unfolding AllFit
 fit-next window before free next area part i need within is own room gives on rest =
-    let after : next ≡ free_behind window free need.bytes (own_area need) = gives ∙ ap (λ n. free_behind window free need.bytes n) own in
-    on (subst (λ l. AllFit window free (map own_frame l)) (sym (next_need part i need within is))
-    (omega (arith, room, own), subst (λ n. AllFit window n (map own_frame (drop (i + 1) part))) after rest))
+    let after : next ≡ free_behind window free need.bytes (own_area need) =
+    gives ∙ ap (λ n. free_behind window free need.bytes n) own in
+    on (subst (λ l. AllFit window free (map own_frame l)) (sym (next_need part i need within is)) (
+      omega (arith, room, own),
+      subst (λ n. AllFit window n (map own_frame (drop (i + 1) part))) after rest,
+    ))
 
-pub fit-all : (window before free : ℕ) (part : List Need) (i : ℕ) → before ≤ window → length part ≤ i → (AllFit window free (map own_frame (drop i part)) → AllFit window before (map own_frame part)) → FitsBehind window before part
+-- where the loop has reached the end, all frames fit
+pub fit-all : (window before free : ℕ) (part : List Need) (i : ℕ) → before ≤ window
+    → length part ≤ i
+    → (AllFit window free (map own_frame (drop i part)) → AllFit window before (map own_frame part))
+    → FitsBehind window before part
 unfolding AllFit
 fit-all window before free part i most all on =
-    within-fit window before (map own_frame part) most (on (subst (λ l. AllFit window free (map own_frame l)) (sym (drop_all i part all)) tt))
+    within-fit window before (map own_frame part) most
+    (on (subst (λ l. AllFit window free (map own_frame l)) (sym (drop_all i part all)) tt))
 
 -- ---- frames of one class that fit
-pub behind-free : (class : ClassFields) (needs : List Need) (d : Need) (window free : ℕ) → AreOfOneClass needs → class ≡ class_of (get_or needs 0 d).header → window ≡ window_of class.version → free ≤ window → FitsBehind window free needs
+-- frames of one class that fit behind free bytes fit there by their own window
+pub behind-free : (class : ClassFields) (needs : List Need) (d : Need) (window free : ℕ)
+    → AreOfOneClass needs → class ≡ class_of (get_or needs 0 d).header
+    → window ≡ window_of class.version → free ≤ window → FitsBehind window free needs
     → FitBehindFree free needs
 behind-free class needs d window free all is gives within fits = record {
   class = class;
@@ -50,25 +72,48 @@ behind-free class needs d window free all is gives within fits = record {
 }
 
 -- and so do they behind a whole window
-pub behind-window : (free : ℕ) (needs : List Need) → FitBehindFree free needs → FitBehindWindow needs
-behind-window free needs fit = record { class = fit.class; same = fit.same; fits = more-behind (window_of fit.class.version) free (window_of fit.class.version) needs fit.within fit.fits }
+pub behind-window : (free : ℕ) (needs : List Need) → FitBehindFree free needs
+    → FitBehindWindow needs
+behind-window free needs fit = record {
+  class = fit.class;
+  same = fit.same;
+  fits = more-behind (window_of fit.class.version) free
+      (window_of fit.class.version) needs fit.within fit.fits;
+}
 
-pub joins-window : (free other : ℕ) (needs : List Need) → 0 < length needs → FitBehindFree free needs → other ≤ free → CanJoin other needs
+-- they can join others that leave no more than these bytes
+pub joins-window : (free other : ℕ) (needs : List Need) → 0 < length needs
+    → FitBehindFree free needs → other ≤ free → CanJoin other needs
 joins-window free other needs some fit less = record {
   some = some;
   class = fit.class;
   same = fit.same;
   within = omega (arith, less, fit.within);
-  fits = more-behind (window_of fit.class.version) free (window_of fit.class.version) needs fit.within fit.fits;
+  fits = more-behind (window_of fit.class.version) free
+      (window_of fit.class.version) needs fit.within fit.fits;
 }
 
 -- ---- parts that fit
-pub parts-fit : (window : ℕ) (needs : List Need) (parts : List ℕ) (at from end : ℕ) → at < length parts → from ≡ get_or parts at 0 → (at + 1 < length parts → end ≡ get_or parts (at + 1) 0) → (length parts ≤ at + 1 → end ≡ length needs)
-    → IsFeasible window window (map own_frame (slice_range needs from end)) → (ArePartsFeasible window (parts_of needs (drop at parts)) → ArePartsFeasible window (parts_of needs parts))
-    → ArePartsFeasible window (parts_of needs (drop (at + 1) parts)) → ArePartsFeasible window (parts_of needs parts)
+-- one more part fits behind a whole window
+pub parts-fit : (window : ℕ) (needs : List Need) (parts : List ℕ) (at from end : ℕ)
+    → at < length parts → from ≡ get_or parts at 0
+    → (at + 1 < length parts → end ≡ get_or parts (at + 1) 0)
+    → (length parts ≤ at + 1 → end ≡ length needs)
+    → IsFeasible window window (map own_frame (slice_range needs from end))
+    → (ArePartsFeasible window (parts_of needs (drop at parts))
+    → ArePartsFeasible window (parts_of needs parts))
+    → ArePartsFeasible window (parts_of needs (drop (at + 1) parts))
+    → ArePartsFeasible window (parts_of needs parts)
 unfolding ArePartsFeasible
-parts-fit window needs parts at from end within is next last here on rest = on (subst (ArePartsFeasible window) (sym (parts-cons needs parts at from end within is next last)) (here, rest))
+parts-fit window needs parts at from end within is next last here on rest =
+    on (subst (ArePartsFeasible window)
+    (sym (parts-cons needs parts at from end within is next last)) (here, rest))
 
-pub parts-fit-all : (window : ℕ) (needs : List Need) (parts : List ℕ) (at : ℕ) → length parts ≤ at → (ArePartsFeasible window (parts_of needs (drop at parts)) → ArePartsFeasible window (parts_of needs parts)) → ArePartsFeasible window (parts_of needs parts)
+-- where the loop has reached the end, all parts fit
+pub parts-fit-all : (window : ℕ) (needs : List Need) (parts : List ℕ) (at : ℕ) → length parts ≤ at
+    → (ArePartsFeasible window (parts_of needs (drop at parts))
+    → ArePartsFeasible window (parts_of needs parts))
+    → ArePartsFeasible window (parts_of needs parts)
 unfolding ArePartsFeasible
-parts-fit-all window needs parts at all on = on (subst (ArePartsFeasible window) (sym (parts-none needs parts at all)) tt)
+parts-fit-all window needs parts at all on =
+    on (subst (ArePartsFeasible window) (sym (parts-none needs parts at all)) tt)

@@ -1,154 +1,166 @@
 -- The lead-in of frames in their own slots, and the slot in which such frames join others.
-use Rattle.std.proofs.Common.{◌≡◌, ℕ, ◌+◌, ◌-◌, ◌*◌, ◌<◌, ◌≤◌, max, Bool, false, List, [], ◌∷◌, length, get_or, take, drop, AllPairs, Contains, Option, Some, None, refl, sym, ap, ◌∙◌, subst, arith}
-use Rattle.std.proofs.lemmas.List.{take_all, length-drop}
-use Rattle.frame_header.specs.Fields.{SlotFields, ClassFields, HeaderFields, IsClass, IsSlot}
-use Rattle.frame_header.specs.Tables.{class_of, area_of, window_of}
-use Rattle.frame_header.specs.Slots.{all_slots, areas_of}
-use Rattle.frame_header.proofs.SlotLaws.{Contains-all_slots, areas-ascend, window-spanned}
-use Rattle.slot_plan.specs.declared.needs.Need.{Need}
-use Rattle.slot_plan.specs.Parts.{own_area, areas_with, AreRising, AreOfClass}
-use Rattle.slot_plan.specs.Reserve.{greatest, free_behind, IsLeastSlot}
-use Rattle.slot_plan.specs.Behind.{FitsBehind, FitBehindWindow, IsWanted, IsLeadInSlot, IsLeadInHeader, in_slot, JoinsIn, CanJoin, IsJoin}
-use Rattle.slot_plan.proofs.AreaLaws.{Contains-area, one-slot, class-ascend, lead-any, leads-span}
-use Rattle.slot_plan.proofs.OnePlan.{slots_ascend}
-use Rattle.slot_plan.proofs.PartLaws.{next_need, class-drop}
-use Rattle.slot_plan.proofs.ReserveLaws.{greatest-most, max-is}
-use Rattle.slot_plan.proofs.BehindLaws.{more-behind, cons-fits, fits-cons, fits-drop}
+use Rattle.std.proofs.Common.{AllPairs, ap, arith, Bool, Contains, drop, false, get_or, length}
+use Rattle.std.proofs.Common.{List, max, None, refl, Some, subst, sym, take, ℕ, [], ◌*◌, ◌+◌, ◌-◌}
+use Rattle.std.proofs.{Common.{◌<◌, ◌∙◌, ◌∷◌, ◌≡◌, ◌≤◌}, lemmas.List.{length-drop, take_all}}
+use Rattle.frame_header.proofs.SlotLaws.{window-spanned}
+use Rattle.frame_header.specs.Fields.{ClassFields, HeaderFields, IsClass, SlotFields}
+use Rattle.frame_header.specs.{Slots.{all_slots, areas_of}, Tables.{area_of, class_of, window_of}}
+use Rattle.slot_plan.proofs.AreaLaws.{class-ascend, Contains-area, lead-any, leads-span}
+use Rattle.slot_plan.proofs.BehindLaws.{cons-fits, fits-cons, fits-drop, more-behind}
+use Rattle.slot_plan.proofs.{PartLaws.{class-drop, next_need}, ReserveLaws.{greatest-most, max-is}}
+use Rattle.slot_plan.specs.Behind.{CanJoin, FitBehindWindow, FitsBehind, in_slot, IsJoin}
+use Rattle.slot_plan.specs.Behind.{IsLeadInHeader, IsLeadInSlot, IsWanted, JoinsIn}
+use Rattle.slot_plan.specs.Parts.{areas_with, AreOfClass, AreRising, own_area}
+use Rattle.slot_plan.specs.{Reserve.{free_behind, greatest, IsLeastSlot}, declared.needs.Need.Need}
 
 -- ---- the lead-in
 
 -- Its slot is the least whose area has what the frames want.
-pub lead-slot : (window wanted : ℕ) (class : ClassFields) (needs : List Need) (slot : SlotFields) → IsWanted window needs wanted → IsLeastSlot wanted class false all_slots slot → IsLeadInSlot window class needs slot
+pub lead-slot : (window wanted : ℕ) (class : ClassFields) (needs : List Need) (slot : SlotFields)
+    → IsWanted window needs wanted → IsLeastSlot wanted class false all_slots slot
+    → IsLeadInSlot window class needs slot
 lead-slot window wanted class needs slot is least = record {
   chosen = least.chosen;
   fits = more-behind window wanted (area_of class slot false) needs least.enough is.fits;
   least = λ other has fits. least.least other has (is.least (area_of class other false) fits);
 }
 
--- in a class of the standard there is only one
-pub one-lead-slot : (window : ℕ) (class : ClassFields) (needs : List Need) (s t : SlotFields) → IsClass class → IsLeadInSlot window class needs s → IsLeadInSlot window class needs t → s ≡ t
-one-lead-slot window class needs s t known first second =
-    let less = first.least t second.chosen second.fits in
-    let more = second.least s first.chosen first.fits in
-    one-slot class false all_slots s t (slots_ascend class known) first.chosen second.chosen (omega arith)
-
-pub lead-header : (window : ℕ) (first : Need) (needs : List Need) (slot : SlotFields) (header : HeaderFields) → IsLeadInSlot window (class_of first.header) (first ∷ needs) slot
-    → header ≡ record first.header { protected = false; slot = slot } → IsLeadInHeader window (first ∷ needs) header
+-- the first header, unprotected and in that slot, is the header of the lead-in
+pub lead-header : (window : ℕ) (first : Need) (needs : List Need) (slot : SlotFields)
+    (header : HeaderFields) → IsLeadInSlot window (class_of first.header) (first ∷ needs) slot
+    → header ≡ record first.header { protected = false; slot = slot }
+    → IsLeadInHeader window (first ∷ needs) header
 unfolding IsLeadInHeader
 lead-header window first needs slot header is gives =
-    let same : slot ≡ header.slot = sym (ap (λ h. h.slot) gives) in
-    (subst (IsLeadInSlot window (class_of first.header) (first ∷ needs)) same is, gives ∙ ap (λ s. record first.header { protected = false; slot = s }) same)
+    let same : slot ≡ header.slot = sym (ap (λ h. h.slot) gives) in (
+      subst (IsLeadInSlot window (class_of first.header) (first ∷ needs)) same is,
+      gives ∙ ap (λ s. record first.header { protected = false; slot = s }) same,
+    )
 
 -- ---- frames that join others
 
--- the areas of all slots ascend, with a check word too
-pub all-ascend : (c : ClassFields) (protected : Bool) → IsClass c → (s t : SlotFields) → Contains all_slots s → Contains all_slots t → area_of c s protected ≡ area_of c t protected → s ≡ t
-all-ascend c protected known s t first second same =
-    one-slot c protected all_slots s t (class-ascend c c protected all_slots refl refl (areas-ascend c known protected)) first second same
-
--- With its first frame in a slot, a list fits where what the others want and the main data of the first have room.
-pub slot-fits : (window free wanted : ℕ) (first : Need) (needs : List Need) (slot : SlotFields) → free ≤ window → wanted ≤ window → IsWanted window needs wanted
-    → first.bytes + wanted ≤ free + own_area (in_slot slot first) → FitsBehind window free (in_slot slot first ∷ needs)
+-- With its first frame in a slot, a list fits where what
+-- the others want and the main data of the first have room.
+pub slot-fits : (window free wanted : ℕ) (first : Need) (needs : List Need) (slot : SlotFields)
+    → free ≤ window → wanted ≤ window → IsWanted window needs wanted → first.bytes + wanted
+    ≤ free + own_area (in_slot slot first) → FitsBehind window free (in_slot slot first ∷ needs)
 slot-fits window free wanted first needs slot within most is room =
     cons-fits window free (in_slot slot first) needs within (omega (arith, room))
-    (more-behind window wanted (free_behind window free first.bytes (own_area (in_slot slot first))) needs (omega (arith, room, most)) is.fits)
+    (more-behind window wanted (free_behind window free first.bytes (own_area (in_slot slot first)))
+    needs (omega (arith, room, most)) is.fits)
 
-pub fits-slot : (window free wanted : ℕ) (first : Need) (needs : List Need) (slot : SlotFields) → free ≤ window → IsWanted window needs wanted
-    → FitsBehind window free (in_slot slot first ∷ needs) → first.bytes + wanted ≤ free + own_area (in_slot slot first)
+-- a list with its first frame in a slot fits where that frame and what the others want have room
+pub fits-slot : (window free wanted : ℕ) (first : Need) (needs : List Need) (slot : SlotFields)
+    → free ≤ window → IsWanted window needs wanted
+    → FitsBehind window free (in_slot slot first ∷ needs)
+    → first.bytes + wanted ≤ free + own_area (in_slot slot first)
 fits-slot window free wanted first needs slot within is fits =
     let parts = fits-cons window free (in_slot slot first) needs within fits in
-    let enough = is.least (free_behind window free first.bytes (own_area (in_slot slot first))) parts.1 in
+    let enough =
+    is.least (free_behind window free first.bytes (own_area (in_slot slot first))) parts.1 in
     omega (arith, parts.0, enough)
 
-module _ (window free wanted area : ℕ) (first : Need) (needs : List Need) (within : free ≤ window) (most : wanted ≤ window) (is : IsWanted window needs wanted)
+module _ (window free wanted area : ℕ) (first : Need) (needs : List Need) (within : free ≤ window)
+    (most : wanted ≤ window) (is : IsWanted window needs wanted)
     (gives : area ≡ max ((first.bytes + wanted) - free) (own_area first)) where
   -- the area of a slot in which the first can join
-  pub joins-area : (slot : SlotFields) → JoinsIn window free first needs slot → area ≤ own_area (in_slot slot first)
+  pub joins-area : (slot : SlotFields) → JoinsIn window free first needs slot
+      → area ≤ own_area (in_slot slot first)
   joins-area slot joins =
       let room = fits-slot window free wanted first needs slot within is joins.fits in
-      omega (arith, gives, max-is ((first.bytes + wanted) - free) (own_area first), room, joins.not_less)
+      omega
+      (arith, gives, max-is ((first.bytes + wanted) - free) (own_area first), room, joins.not_less)
 
-  pub area-joins : (slot : SlotFields) → Contains all_slots slot → area ≤ own_area (in_slot slot first) → JoinsIn window free first needs slot
+  -- in a slot with so large an area the frames join
+  pub area-joins : (slot : SlotFields) → Contains all_slots slot
+      → area ≤ own_area (in_slot slot first) → JoinsIn window free first needs slot
   area-joins slot has enough =
       let is_max = max-is ((first.bytes + wanted) - free) (own_area first) in
       record {
         chosen = has;
         not_less = omega (arith, gives, is_max, enough);
-        fits = slot-fits window free wanted first needs slot within most is (omega (arith, gives, is_max, enough));
+        fits = slot-fits window free wanted first needs slot within most is
+            (omega (arith, gives, is_max, enough));
       }
 
   -- It joins in the least slot with such an area, if there is one.
-  pub least-joins : (slot : SlotFields) → IsLeastSlot area (class_of first.header) first.header.protected all_slots slot → IsJoin window free (first ∷ needs) (Some slot)
+  pub least-joins : (slot : SlotFields)
+      → IsLeastSlot area (class_of first.header) first.header.protected all_slots slot
+      → IsJoin window free (first ∷ needs) (Some slot)
   unfolding IsJoin
   least-joins slot least = record {
     joins = area-joins slot least.chosen least.enough;
     least = λ other joins. least.least other joins.chosen (joins-area other joins);
   }
 
-  pub none-joins : greatest (areas_with (class_of first.header) first.header.protected all_slots) < area → IsJoin window free (first ∷ needs) None
+  -- if no slot has so large an area they don't
+  pub none-joins : greatest (areas_with (class_of first.header) first.header.protected all_slots)
+      < area → IsJoin window free (first ∷ needs) None
   unfolding IsJoin
   none-joins less slot joins =
       let class : ClassFields = class_of first.header in
-      let most_area = greatest-most (areas_with class first.header.protected all_slots) (area_of class slot first.header.protected) (Contains-area class first.header.protected all_slots slot joins.chosen) in
+      let most_area = greatest-most (areas_with class first.header.protected all_slots)
+      (area_of class slot first.header.protected)
+      (Contains-area class first.header.protected all_slots slot joins.chosen) in
       omega (arith, less, most_area, joins-area slot joins)
-
--- Frames that fit as they are join in their own slots.
-pub own-joins : (window free : ℕ) (first : Need) (needs : List Need) (joined : Option SlotFields) → IsClass (class_of first.header) → IsSlot first.header.slot
-    → FitsBehind window free (first ∷ needs) → IsJoin window free (first ∷ needs) joined → joined ≡ Some first.header.slot
-unfolding IsJoin
-own-joins window free first needs None known slot fits is =
-    absurd (is first.header.slot (record { chosen = Contains-all_slots first.header.slot slot; not_less = omega arith; fits = fits }))
-own-joins window free first needs (Some s) known slot fits is =
-    let own : JoinsIn window free first needs first.header.slot = record { chosen = Contains-all_slots first.header.slot slot; not_less = omega arith; fits = fits } in
-    let less = is.least first.header.slot own in
-    let more = is.joins.not_less in
-    ap Some (all-ascend (class_of first.header) first.header.protected known s first.header.slot is.joins.chosen own.chosen (omega (arith, less, more)))
-
--- In a class of the standard frames join in one way.
-pub one-join : (window free : ℕ) (first : Need) (needs : List Need) (x y : Option SlotFields) → IsClass (class_of first.header) → IsJoin window free (first ∷ needs) x → IsJoin window free (first ∷ needs) y → x ≡ y
-unfolding IsJoin
-one-join window free first needs None None known a b = refl
-one-join window free first needs None (Some t) known a b = absurd (a t b.joins)
-one-join window free first needs (Some s) None known a b = absurd (b s a.joins)
-one-join window free first needs (Some s) (Some t) known a b =
-    let less = a.least t b.joins in
-    let more = b.least s a.joins in
-    ap Some (all-ascend (class_of first.header) first.header.protected known s t a.joins.chosen b.joins.chosen (omega (arith, less, more)))
 
 -- ---- what the calls ask for
 
 -- all slots ascend
-pub rising-all : (class : ClassFields) (protected : Bool) (slots : List SlotFields) → slots ≡ all_slots → AllPairs (λ m n. m < n) (areas_of class protected) → AreRising class protected slots
-rising-all class protected slots all ascend = record { some = lead-any slots all; ascending = class-ascend class class protected slots all refl ascend }
+pub rising-all : (class : ClassFields) (protected : Bool) (slots : List SlotFields)
+    → slots ≡ all_slots → AllPairs (λ m n. m < n) (areas_of class protected)
+    → AreRising class protected slots
+rising-all class protected slots all ascend = record {
+  some = lead-any slots all;
+  ascending = class-ascend class class protected slots all refl ascend;
+}
 
 -- a lead-in of some slot has what frames want that fit behind a whole window
-pub lead-enough : (class : ClassFields) (wanted : ℕ) (needs : List Need) (slots : List SlotFields) → IsClass class → slots ≡ all_slots → FitsBehind (window_of class.version) (window_of class.version) needs → IsWanted (window_of class.version) needs wanted
+pub lead-enough : (class : ClassFields) (wanted : ℕ) (needs : List Need) (slots : List SlotFields)
+    → IsClass class → slots ≡ all_slots
+    → FitsBehind (window_of class.version) (window_of class.version) needs
+    → IsWanted (window_of class.version) needs wanted
     → wanted ≤ greatest (areas_with class false slots)
 lead-enough class wanted needs slots known all fits is =
     let most = is.least (window_of class.version) fits in
     let spans = leads-span class (window_of class.version) (window-spanned class known) in
     omega (arith, most, spans, ap (λ l. greatest (areas_with class false l)) all)
 
-pub least-in : (m n : ℕ) (c d : ClassFields) (p q : Bool) (xs ys : List SlotFields) (slot : SlotFields) → m ≡ n → c ≡ d → p ≡ q → xs ≡ ys → IsLeastSlot m c p xs slot → IsLeastSlot n d q ys slot
+-- the least slot is the same of equal classes and lists
+pub least-in : (m n : ℕ) (c d : ClassFields) (p q : Bool) (xs ys : List SlotFields)
+    (slot : SlotFields) → m ≡ n → c ≡ d → p ≡ q → xs ≡ ys → IsLeastSlot m c p xs slot
+    → IsLeastSlot n d q ys slot
 least-in m n c d p q xs ys slot same_wanted same_class same_protected same_slots least =
-    subst (λ k. IsLeastSlot k d q ys slot) same_wanted (subst (λ k. IsLeastSlot m k q ys slot) same_class (subst (λ k. IsLeastSlot m c k ys slot) same_protected (subst (λ k. IsLeastSlot m c p k slot) same_slots least)))
+    subst (λ k. IsLeastSlot k d q ys slot) same_wanted
+    (subst (λ k. IsLeastSlot m k q ys slot) same_class (subst (λ k. IsLeastSlot m c k ys slot)
+    same_protected (subst (λ k. IsLeastSlot m c p k slot) same_slots least)))
 
-pub greatest-in : (c d : ClassFields) (p q : Bool) (xs ys : List SlotFields) → c ≡ d → p ≡ q → xs ≡ ys → greatest (areas_with c p xs) ≡ greatest (areas_with d q ys)
+-- so is the greatest area
+pub greatest-in : (c d : ClassFields) (p q : Bool) (xs ys : List SlotFields) → c ≡ d → p ≡ q
+    → xs ≡ ys → greatest (areas_with c p xs) ≡ greatest (areas_with d q ys)
 greatest-in c d p q xs ys same_class same_protected same_slots =
-    ap (λ k. greatest (areas_with k p xs)) same_class ∙ ap (λ k. greatest (areas_with d k xs)) same_protected ∙ ap (λ k. greatest (areas_with d q k)) same_slots
+    ap (λ k. greatest (areas_with k p xs)) same_class
+    ∙ ap (λ k. greatest (areas_with d k xs)) same_protected
+    ∙ ap (λ k. greatest (areas_with d q k)) same_slots
 
 -- the frames but the first, as a slice
 abbrev pub others_of : List Need → List Need
 others_of needs = take (length needs - 1) (drop 1 needs)
 
+-- the other frames are those without the first
 pub others-are : (needs : List Need) → others_of needs ≡ drop 1 needs
 others-are needs = take_all (length needs - 1) (drop 1 needs) (omega (arith, length-drop 1 needs))
 
-pub others-fit : (free : ℕ) (needs : List Need) → CanJoin free needs → FitBehindWindow (others_of needs)
+-- the other frames of a list that can join fit behind a whole window
+pub others-fit : (free : ℕ) (needs : List Need) → CanJoin free needs
+    → FitBehindWindow (others_of needs)
 others-fit free needs can = record {
   class = can.class;
-  same = subst (AreOfClass can.class) (sym (others-are needs)) (class-drop can.class needs 1 can.same);
-  fits = subst (FitsBehind (window_of can.class.version) (window_of can.class.version)) (sym (others-are needs)) (fits-drop (window_of can.class.version) (window_of can.class.version) 1 needs can.fits);
+  same =
+      subst (AreOfClass can.class) (sym (others-are needs)) (class-drop can.class needs 1 can.same);
+  fits = subst (FitsBehind (window_of can.class.version) (window_of can.class.version))
+      (sym (others-are needs))
+      (fits-drop (window_of can.class.version) (window_of can.class.version) 1 needs can.fits);
 }
 
 -- the first of some frames, and what the others want
@@ -159,49 +171,76 @@ pub record FirstOf (window free wanted : ℕ) (first : Need) (needs : List Need)
   pub wants : IsWanted window (drop 1 needs) wanted
   pub most : wanted ≤ window
 
-one-window : (c d : ClassFields) (needs : List Need) → 0 < length needs → AreOfClass c needs → AreOfClass d needs → c ≡ d
+one-window : (c d : ClassFields) (needs : List Need) → 0 < length needs → AreOfClass c needs
+    → AreOfClass d needs → c ≡ d
 unfolding AreOfClass
 one-window c d [] some first second = absurd (omega (arith, some))
 one-window c d (need ∷ needs) some first second = sym first.0 ∙ second.0
 
-pub first-of : (class : ClassFields) (free wanted : ℕ) (first : Need) (needs : List Need) → CanJoin free needs → AreOfClass class needs → first ≡ get_or needs 0 first
-    → ((k : ClassFields) → AreOfClass k (others_of needs) → IsWanted (window_of k.version) (others_of needs) wanted) → FirstOf (window_of class.version) free wanted first needs
+-- the first frame of a list that can join, and what the others want
+pub first-of : (class : ClassFields) (free wanted : ℕ) (first : Need) (needs : List Need)
+    → CanJoin free needs → AreOfClass class needs → first ≡ get_or needs 0 first
+    → ((k : ClassFields) → AreOfClass k (others_of needs)
+    → IsWanted (window_of k.version) (others_of needs) wanted)
+    → FirstOf (window_of class.version) free wanted first needs
 first-of class free wanted first needs can same is gives =
     let one = one-window can.class class needs can.some can.same same in
-    let wants = subst (λ l. IsWanted (window_of class.version) l wanted) (others-are needs) (gives class (subst (AreOfClass class) (sym (others-are needs)) (class-drop class needs 1 same))) in
-    let fits = subst (λ (k : ClassFields). FitsBehind (window_of k.version) (window_of k.version) needs) one can.fits in
+    let wants = subst (λ l. IsWanted (window_of class.version) l wanted) (others-are needs) (gives
+    class (subst (AreOfClass class) (sym (others-are needs)) (class-drop class needs 1 same))) in
+    let fits = subst (λ (k : ClassFields). FitsBehind (window_of k.version)
+    (window_of k.version) needs) one can.fits in
     let whole : needs ≡ first ∷ drop 1 needs = next_need needs 0 first can.some is in
     record {
       whole = whole;
       within = subst (λ (k : ClassFields). free ≤ window_of k.version) one can.within;
       fits = subst (FitsBehind (window_of class.version) (window_of class.version)) whole fits;
       wants = wants;
-      most = wants.least (window_of class.version) (fits-drop (window_of class.version) (window_of class.version) 1 needs fits);
+      most = wants.least (window_of class.version)
+          (fits-drop (window_of class.version) (window_of class.version) 1 needs fits);
     }
 
-pub first-room : (window free wanted area : ℕ) (first : Need) (needs : List Need) → FirstOf window free wanted first needs → area ≡ own_area first → first.bytes + wanted ≤ 2 * window + area
+-- in its own area and two windows the first frame has room with what the others want
+pub first-room : (window free wanted area : ℕ) (first : Need) (needs : List Need)
+    → FirstOf window free wanted first needs → area ≡ own_area first
+    → first.bytes + wanted ≤ 2 * window + area
 first-room window free wanted area first needs of own =
     let room = (fits-cons window window first (drop 1 needs) (omega arith) of.fits).0 in
     omega (arith, room, of.most, own)
 
-pub first-joins : (window free wanted area : ℕ) (first : Need) (needs : List Need) (slot : SlotFields) → FirstOf window free wanted first needs → area ≡ max ((first.bytes + wanted) - free) (own_area first)
-    → IsLeastSlot area (class_of first.header) first.header.protected all_slots slot → IsJoin window free needs (Some slot)
+-- the least slot with what is missing, but no less than its own area, is that in which frames join
+pub first-joins : (window free wanted area : ℕ) (first : Need) (needs : List Need)
+    (slot : SlotFields) → FirstOf window free wanted first needs
+    → area ≡ max ((first.bytes + wanted) - free) (own_area first)
+    → IsLeastSlot area (class_of first.header) first.header.protected all_slots slot
+    → IsJoin window free needs (Some slot)
 first-joins window free wanted area first needs slot of gives least =
-    subst (λ l. IsJoin window free l (Some slot)) (sym of.whole) (least-joins window free wanted area first (drop 1 needs) of.within of.most of.wants gives slot least)
+    subst (λ l. IsJoin window free l (Some slot)) (sym of.whole) (least-joins window free wanted
+    area first (drop 1 needs) of.within of.most of.wants gives slot least)
 
-pub first-none : (window free wanted area : ℕ) (first : Need) (needs : List Need) → FirstOf window free wanted first needs → area ≡ max ((first.bytes + wanted) - free) (own_area first)
-    → greatest (areas_with (class_of first.header) first.header.protected all_slots) < area → IsJoin window free needs None
+-- if no slot has so much, they don't join
+pub first-none : (window free wanted area : ℕ) (first : Need) (needs : List Need)
+    → FirstOf window free wanted first needs
+    → area ≡ max ((first.bytes + wanted) - free) (own_area first)
+    → greatest (areas_with (class_of first.header) first.header.protected all_slots) < area
+    → IsJoin window free needs None
 first-none window free wanted area first needs of gives less =
-    subst (λ l. IsJoin window free l None) (sym of.whole) (none-joins window free wanted area first (drop 1 needs) of.within of.most of.wants gives less)
+    subst (λ l. IsJoin window free l None) (sym of.whole)
+    (none-joins window free wanted area first (drop 1 needs) of.within of.most of.wants gives less)
 
 -- ---- the lead-in of frames
 
-pub lead-of : (class : ClassFields) (wanted : ℕ) (first : Need) (needs : List Need) (slot : SlotFields) (header : HeaderFields) → FitBehindWindow needs → 0 < length needs → AreOfClass class needs → first ≡ get_or needs 0 first
-    → ((k : ClassFields) → AreOfClass k needs → IsWanted (window_of k.version) needs wanted) → IsLeastSlot wanted (class_of first.header) false all_slots slot
-    → header ≡ record first.header { protected = false; slot = slot } → IsLeadInHeader (window_of class.version) needs header
+-- the least slot with what frames want is that of their lead-in
+pub lead-of : (class : ClassFields) (wanted : ℕ) (first : Need) (needs : List Need)
+    (slot : SlotFields) (header : HeaderFields) → FitBehindWindow needs → 0 < length needs
+    → AreOfClass class needs → first ≡ get_or needs 0 first
+    → ((k : ClassFields) → AreOfClass k needs → IsWanted (window_of k.version) needs wanted)
+    → IsLeastSlot wanted (class_of first.header) false all_slots slot
+    → header ≡ record first.header { protected = false; slot = slot }
+    → IsLeadInHeader (window_of class.version) needs header
 lead-of class wanted first needs slot header fit some same is gives least made =
     let whole : needs ≡ first ∷ drop 1 needs = next_need needs 0 first some is in
     let wants = gives class same in
     subst (λ l. IsLeadInHeader (window_of class.version) l header) (sym whole)
     (lead-header (window_of class.version) first (drop 1 needs) slot header
-    (lead-slot (window_of class.version) wanted (class_of first.header) (first ∷ drop 1 needs) slot (subst (λ l. IsWanted (window_of class.version) l wanted) whole wants) least) made)
+    (lead-slot (window_of class.version) wanted (class_of first.header) (first ∷ drop 1 needs) slot
+    (subst (λ l. IsWanted (window_of class.version) l wanted) whole wants) least) made)

@@ -1,18 +1,18 @@
 -- The lead-in of a part is the first entry of the least list of its frames after one lead-in.
-use Rattle.std.proofs.Common.{◌≡◌, ℕ, zero, suc, ◌+◌, ◌-◌, ◌<◌, ◌≤◌, ◌⊎◌, inl, inr, false, List, [], ◌∷◌, map, Contains, Some, None, refl, subst, arith}
+use Rattle.std.proofs.Common.{arith, Contains, false, inl, inr, List, map, None, refl, Some, subst}
+use Rattle.std.proofs.Common.{suc, zero, ℕ, [], ◌+◌, ◌-◌, ◌<◌, ◌∷◌, ◌≡◌, ◌≤◌, ◌⊎◌}
 use Rattle.std.proofs.lemmas.Bool.{cases_lt}
-use Rattle.frame_header.specs.Fields.{SlotFields, ClassFields, HeaderFields}
-use Rattle.frame_header.specs.Tables.{class_of, area_of}
-use Rattle.frame_header.specs.Slots.{all_slots}
-use Rattle.slot_plan.specs.declared.needs.Need.{Need}
+use Rattle.frame_header.specs.{Fields.{ClassFields, HeaderFields, SlotFields}, Slots.all_slots}
+use Rattle.frame_header.specs.Tables.{area_of, class_of}
+use Rattle.slot_plan.proofs.AreaLaws.{Contains-area, slot-area}
+use Rattle.slot_plan.proofs.PlacedLaws.{lead-chosen, lead-needed, lead-within}
+use Rattle.slot_plan.proofs.ReserveLaws.{AreLeastAreas, can-needed, Contains-greatest, least-is}
+use Rattle.slot_plan.{proofs.ReserveLaws.needed-can, specs.Laws.{behind_any, LeadInsComeFirst}}
 use Rattle.slot_plan.specs.Layouts.{IsFeasible}
-use Rattle.slot_plan.specs.Lists.{Open, AreChosen, frames_of, CanBeLaid, IsNotBehind, IsLeast}
-use Rattle.slot_plan.specs.Parts.{open_of, lead_in_of, items_of, areas_with, IsLeadIn}
-use Rattle.slot_plan.specs.Reserve.{greatest, needed, free_behind, AllWithin, opens_in}
-use Rattle.slot_plan.specs.Laws.{behind_any, LeadInsComeFirst}
-use Rattle.slot_plan.proofs.ReserveLaws.{AreLeastAreas, Contains-greatest, needed-can, can-needed, least-is}
-use Rattle.slot_plan.proofs.AreaLaws.{slot-area, Contains-area}
-use Rattle.slot_plan.proofs.PlacedLaws.{lead-needed, lead-within, lead-chosen}
+use Rattle.slot_plan.specs.Lists.{AreChosen, CanBeLaid, frames_of, IsLeast, IsNotBehind, Open}
+use Rattle.slot_plan.specs.Parts.{areas_with, IsLeadIn, items_of, lead_in_of, open_of}
+use Rattle.slot_plan.specs.Reserve.{AllWithin, free_behind, greatest, needed, opens_in}
+use Rattle.slot_plan.specs.declared.needs.Need.{Need}
 
 -- ---- where some choice fits, there is a least one
 contains-cons : (m : ℕ) (ns : List ℕ) (n : ℕ) → Contains (m ∷ ns) n → (m ≡ n) ⊎ Contains ns n
@@ -30,22 +30,31 @@ record LeastOf (wanted first : ℕ) (ns : List ℕ) : Type 0 where
   low : least ≤ first
   most : (other : ℕ) → Contains ns other → wanted ≤ other → least ≤ other
 
-least-stays : (wanted first m : ℕ) (ns : List ℕ) → (wanted ≤ m → first ≤ m) → LeastOf wanted first ns → LeastOf wanted first (m ∷ ns)
+least-stays : (wanted first m : ℕ) (ns : List ℕ) → (wanted ≤ m → first ≤ m)
+    → LeastOf wanted first ns → LeastOf wanted first (m ∷ ns)
 least-stays wanted first m ns not_less rest = record {
   least = rest.least;
-  is = elim rest.is as (λ _. (first ≡ rest.least) ⊎ Contains (m ∷ ns) rest.least) [ inl same ↦ inl same | inr has ↦ inr (behind m rest.least ns has) ];
+  is = elim rest.is as (λ _. (first ≡ rest.least) ⊎ Contains (m ∷ ns) rest.least) [
+    | inl same ↦ inl same
+    | inr has ↦ inr (behind m rest.least ns has)
+  ];
   enough = rest.enough;
   low = rest.low;
   most = λ other has fits. elim (contains-cons m ns other has) as (λ _. rest.least ≤ other) [
-    | inl same ↦ let from = not_less (omega (arith, same, fits)) in omega (arith, same, from, rest.low)
+    | inl same ↦ let from = not_less (omega (arith, same, fits)) in
+        omega (arith, same, from, rest.low)
     | inr later ↦ rest.most other later fits
   ];
 }
 
-least-moves : (wanted first m : ℕ) (ns : List ℕ) → m < first → LeastOf wanted m ns → LeastOf wanted first (m ∷ ns)
+least-moves : (wanted first m : ℕ) (ns : List ℕ) → m < first → LeastOf wanted m ns
+    → LeastOf wanted first (m ∷ ns)
 least-moves wanted first m ns less rest = record {
   least = rest.least;
-  is = elim rest.is as (λ _. (first ≡ rest.least) ⊎ Contains (m ∷ ns) rest.least) [ inl same ↦ inr (zero, omega arith, same) | inr has ↦ inr (behind m rest.least ns has) ];
+  is = elim rest.is as (λ _. (first ≡ rest.least) ⊎ Contains (m ∷ ns) rest.least) [
+    | inl same ↦ inr (zero, omega arith, same)
+    | inr has ↦ inr (behind m rest.least ns has)
+  ];
   enough = rest.enough;
   low = omega (arith, less, rest.low);
   most = λ other has fits. elim (contains-cons m ns other has) as (λ _. rest.least ≤ other) [
@@ -55,18 +64,29 @@ least-moves wanted first m ns less rest = record {
 }
 
 least-from : (wanted first : ℕ) (ns : List ℕ) → wanted ≤ first → LeastOf wanted first ns
-least-from wanted first [] enough = record { least = first; is = inl refl; enough = enough; low = omega arith; most = λ other has fits. absurd (omega (arith, has.1)) }
+least-from wanted first [] enough = record {
+  least = first;
+  is = inl refl;
+  enough = enough;
+  low = omega arith;
+  most =
+      λ other has fits. absurd (omega (arith, has.1));
+}
 least-from wanted first (m ∷ ns) enough =
     elim (cases_lt m wanted) as (λ _. LeastOf wanted first (m ∷ ns)) [
-      | inl small ↦ least-stays wanted first m ns (λ fits. absurd (omega (arith, small, fits))) (least-from wanted first ns enough)
+      | inl small ↦ least-stays wanted first m ns (λ fits. absurd (omega (arith, small, fits)))
+          (least-from wanted first ns enough)
       | inr fits ↦
           elim (cases_lt m first) as (λ _. LeastOf wanted first (m ∷ ns)) [
             | inl less ↦ least-moves wanted first m ns less (least-from wanted m ns fits)
-            | inr from ↦ least-stays wanted first m ns (λ _. from) (least-from wanted first ns enough)
+            | inr from ↦
+                least-stays wanted first m ns (λ _. from) (least-from wanted first ns enough)
           ]
     ]
 
-least-areas : (window free : ℕ) (opens : List Open) (some : List ℕ) → AreChosen opens some → needed opens ≤ free → AllWithin window opens → (areas : List ℕ) × AreLeastAreas window free opens areas
+least-areas : (window free : ℕ) (opens : List Open) (some : List ℕ) → AreChosen opens some
+    → needed opens ≤ free → AllWithin window opens
+    → (areas : List ℕ) × AreLeastAreas window free opens areas
 unfolding AreChosen needed AllWithin AreLeastAreas
 least-areas window free [] some chosen enough within = ([], tt)
 least-areas window free (o ∷ opens) [] chosen enough within = absurd chosen
@@ -74,42 +94,58 @@ least-areas window free (o ∷ opens) (area ∷ some) chosen enough within =
     let all : (o.bytes + needed opens) - greatest o.areas ≤ free = enough in
     let later : needed opens ≤ window = within.0 in
     let greatest_is = Contains-greatest o.areas area chosen.0 in
-    let pick = least-from ((o.bytes + needed opens) - free) (greatest o.areas) o.areas (omega arith) in
-    let is = elim pick.is as (λ _. Contains o.areas pick.least) [ inl same ↦ subst (Contains o.areas) same greatest_is | inr has ↦ has ] in
+    let pick =
+    least-from ((o.bytes + needed opens) - free) (greatest o.areas) o.areas (omega arith) in
+    let is = elim pick.is as (λ _. Contains o.areas pick.least) [
+      | inl same ↦ subst (Contains o.areas) same greatest_is
+      | inr has ↦ has
+    ] in
     let fits : (o.bytes + needed opens) - free ≤ pick.least = pick.enough in
-    let rest = least-areas window (free_behind window free o.bytes pick.least) opens some chosen.1 (omega arith) within.1 in
+    let rest = least-areas window
+    (free_behind window free o.bytes pick.least) opens some chosen.1 (omega arith) within.1 in
     (pick.least ∷ rest.0, (is, pick.enough, pick.most, rest.1))
 
 -- ---- from the definition to the least list
-chosen-tail : (o : Open) (opens : List Open) (areas : List ℕ) → AreChosen (o ∷ opens) areas → (rest : List ℕ) × AreChosen opens rest
+chosen-tail : (o : Open) (opens : List Open) (areas : List ℕ) → AreChosen (o ∷ opens) areas
+    → (rest : List ℕ) × AreChosen opens rest
 unfolding AreChosen
 chosen-tail o opens [] chosen = absurd chosen
 chosen-tail o opens (area ∷ rest) chosen = (rest, chosen.1)
 
-pub within-tail : (window : ℕ) (o : Open) (opens : List Open) → AllWithin window (o ∷ opens) → (needed opens ≤ window) × AllWithin window opens
+-- the frames behind the first need no more than a window either
+pub within-tail : (window : ℕ) (o : Open) (opens : List Open) → AllWithin window (o ∷ opens)
+    → (needed opens ≤ window) × AllWithin window opens
 unfolding AllWithin
 within-tail window o opens within = within
 
-first-least : (window : ℕ) (class : ClassFields) (slot : SlotFields) (opens : List Open) (some : List ℕ) → Contains all_slots slot → AreChosen opens some → needed opens ≤ window → AllWithin window opens → needed opens ≤ area_of class slot false
-    → ((other : SlotFields) → Contains all_slots other → needed opens ≤ area_of class other false → area_of class slot false ≤ area_of class other false)
-    → (rest : List ℕ) × IsLeast window (open_of (lead_in_of class all_slots) ∷ opens) (area_of class slot false ∷ rest)
+first-least : (window : ℕ) (class : ClassFields) (slot : SlotFields) (opens : List Open)
+    (some : List ℕ) → Contains all_slots slot → AreChosen opens some → needed opens ≤ window
+    → AllWithin window opens → needed opens ≤ area_of class slot false
+    → ((other : SlotFields) → Contains all_slots other → needed opens ≤ area_of class other false
+    → area_of class slot false ≤ area_of class other false) → (rest : List ℕ) × IsLeast window
+    (open_of (lead_in_of class all_slots) ∷ opens) (area_of class slot false ∷ rest)
 unfolding AreLeastAreas
 first-least window class slot opens some is chosen most within enough least =
-    let rest = least-areas window (free_behind window 0 0 (area_of class slot false)) opens some chosen (omega arith) within in (
+    let rest = least-areas window
+    (free_behind window 0 0 (area_of class slot false)) opens some chosen (omega arith) within in (
       rest.0,
-      least-is window (open_of (lead_in_of class all_slots) ∷ opens) (area_of class slot false ∷ rest.0) (
-        Contains-area class false all_slots slot is,
-        omega arith,
-        (λ other has fits.
-            let of = slot-area class false all_slots other has in
-            let low = least of.0 of.1 (omega (arith, of.2, fits)) in
-            omega (arith, of.2, low)),
-        rest.1,
-      ),
+      least-is window (open_of (lead_in_of class all_slots) ∷ opens)
+          (area_of class slot false ∷ rest.0) (
+            Contains-area class false all_slots slot is,
+            omega arith,
+            (λ other has fits.
+                let of = slot-area class false all_slots other has in
+                let low = least of.0 of.1 (omega (arith, of.2, fits)) in
+                omega (arith, of.2, low)),
+            rest.1,
+          ),
     )
 
-pub lead-least : (window : ℕ) (choices : HeaderFields → List SlotFields) (first : Need) (part : List Need) (slot : SlotFields) → IsLeadIn window choices (first ∷ part) (Some slot)
-    → (rest : List ℕ) × IsLeast window (behind_any choices first part) (area_of (class_of first.header) slot false ∷ rest)
+-- the lead-in of a part is the first entry of the least list for a lead-in and its frames
+pub lead-least : (window : ℕ) (choices : HeaderFields → List SlotFields) (first : Need)
+    (part : List Need) (slot : SlotFields) → IsLeadIn window choices (first ∷ part) (Some slot)
+    → (rest : List ℕ) × IsLeast window (behind_any choices first part)
+    (area_of (class_of first.header) slot false ∷ rest)
 unfolding IsLeadIn items_of CanBeLaid
 lead-least window choices first part slot alone =
     let class : ClassFields = class_of first.header in
@@ -117,41 +153,60 @@ lead-least window choices first part slot alone =
     let lead : Open = open_of (lead_in_of class (slot ∷ [])) in
     let can = alone.1 in
     let none = needed-can window (lead ∷ opens) can in
-    let enough : needed opens ≤ area_of class slot false = omega (arith, none.0, lead-needed class slot opens) in
+    let enough : needed opens ≤ area_of class slot false =
+    omega (arith, none.0, lead-needed class slot opens) in
     let within = within-tail window lead opens none.1 in
     let some = chosen-tail lead opens can.0 can.1 in
     first-least window class slot opens some.0 alone.2 some.1 within.0 within.1 enough
     (λ other is fits.
-    elim (cases_lt (area_of class other false) (area_of class slot false)) as (λ _. area_of class slot false ≤ area_of class other false) [
+    elim (cases_lt (area_of class other false) (area_of class slot false))
+    as (λ _. area_of class slot false ≤ area_of class other false) [
       | inl less ↦
           absurd (alone.3 other is less
-          (can-needed window (open_of (lead_in_of class (other ∷ [])) ∷ opens) (area_of class other false ∷ some.0) (lead-chosen class other opens some.0 some.1) (omega (arith, lead-needed class other opens)) (lead-within window class other opens within.0 within.1)))
+          (can-needed window (open_of (lead_in_of class (other ∷ [])) ∷ opens)
+          (area_of class other false ∷ some.0) (lead-chosen class other opens some.0 some.1)
+          (omega (arith, lead-needed class other opens))
+          (lead-within window class other opens within.0 within.1)))
       | inr most ↦ most
     ])
 
 -- ---- and back
-with-slot : (window : ℕ) (class : ClassFields) (slot : SlotFields) (opens : List Open) (rest : List ℕ) → IsLeast window (open_of (lead_in_of class all_slots) ∷ opens) (area_of class slot false ∷ rest) → CanBeLaid window (open_of (lead_in_of class (slot ∷ [])) ∷ opens)
+with-slot : (window : ℕ) (class : ClassFields) (slot : SlotFields) (opens : List Open)
+    (rest : List ℕ) → IsLeast window (open_of (lead_in_of class all_slots) ∷ opens)
+    (area_of class slot false ∷ rest)
+    → CanBeLaid window (open_of (lead_in_of class (slot ∷ [])) ∷ opens)
 unfolding AreChosen CanBeLaid frames_of
-with-slot window class slot opens rest least = (area_of class slot false ∷ rest, ((zero, omega arith, refl), least.chosen.1), least.feasible)
+with-slot window class slot opens rest least =
+    (area_of class slot false ∷ rest, ((zero, omega arith, refl), least.chosen.1), least.feasible)
 
-pub only-area : (class : ClassFields) (slot : SlotFields) (n : ℕ) → Contains (areas_with class false (slot ∷ [])) n → area_of class slot false ≡ n
+-- of one slot there is one area
+pub only-area : (class : ClassFields) (slot : SlotFields) (n : ℕ)
+    → Contains (areas_with class false (slot ∷ [])) n → area_of class slot false ≡ n
 only-area class slot n (zero, within, at) = at
 only-area class slot n (suc i, within, at) = absurd (omega arith)
 
-not-before : (window : ℕ) (class : ClassFields) (slot other : SlotFields) (opens : List Open) (rest areas : List ℕ) → IsLeast window (open_of (lead_in_of class all_slots) ∷ opens) (area_of class slot false ∷ rest) → Contains all_slots other
-    → area_of class other false < area_of class slot false → AreChosen (open_of (lead_in_of class (other ∷ [])) ∷ opens) areas → IsFeasible window 0 (frames_of (open_of (lead_in_of class (other ∷ [])) ∷ opens) areas) → ⊥
+not-before : (window : ℕ) (class : ClassFields) (slot other : SlotFields) (opens : List Open)
+    (rest areas : List ℕ) → IsLeast window (open_of (lead_in_of class all_slots) ∷ opens)
+    (area_of class slot false ∷ rest) → Contains all_slots other → area_of class other false
+    < area_of class slot false → AreChosen (open_of (lead_in_of class (other ∷ [])) ∷ opens) areas
+    → IsFeasible window 0 (frames_of (open_of (lead_in_of class (other ∷ [])) ∷ opens) areas) → ⊥
 unfolding AreChosen frames_of IsNotBehind
 not-before window class slot other opens rest [] least is less chosen feasible = absurd chosen
 not-before window class slot other opens rest (area ∷ areas) least is less chosen feasible =
     let same : area_of class other false ≡ area = only-area class other area chosen.0 in
-    let has : Contains (areas_with class false all_slots) area = subst (Contains (areas_with class false all_slots)) same (Contains-area class false all_slots other is) in
+    let has : Contains (areas_with class false all_slots) area = subst (Contains
+    (areas_with class false all_slots)) same (Contains-area class false all_slots other is) in
     elim (least.least (area ∷ areas) (has, chosen.1) feasible) as (λ _. ⊥) [
       | inl before ↦ omega (arith, same)
       | inr at ↦ omega (arith, same, at.0)
     ]
 
-least-lead : (window : ℕ) (choices : HeaderFields → List SlotFields) (first : Need) (part : List Need) (slot : SlotFields) → (CanBeLaid window (map open_of (items_of choices (first ∷ part) None)) → ⊥) → Contains all_slots slot
-    → ((rest : List ℕ) × IsLeast window (behind_any choices first part) (area_of (class_of first.header) slot false ∷ rest)) → IsLeadIn window choices (first ∷ part) (Some slot)
+least-lead : (window : ℕ) (choices : HeaderFields → List SlotFields) (first : Need)
+    (part : List Need) (slot : SlotFields)
+    → (CanBeLaid window (map open_of (items_of choices (first ∷ part) None)) → ⊥)
+    → Contains all_slots slot → ((rest : List ℕ) × IsLeast window (behind_any choices first part)
+    (area_of (class_of first.header) slot false ∷ rest))
+    → IsLeadIn window choices (first ∷ part) (Some slot)
 unfolding IsLeadIn items_of CanBeLaid
 least-lead window choices first part slot never is (rest, least) =
     let class : ClassFields = class_of first.header in
@@ -159,8 +214,11 @@ least-lead window choices first part slot never is (rest, least) =
       never,
       with-slot window class slot opens rest least,
       is,
-      (λ other has less can. not-before window class slot other opens rest can.0 least has less can.1 can.2),
+      (λ other has less can. not-before window class slot other opens rest can.0 least has less
+          can.1 can.2),
     )
 
+-- the same of every part that gets a lead-in
 pub lead-first : LeadInsComeFirst
-lead-first = λ window choices first part slot never is. (lead-least window choices first part slot, least-lead window choices first part slot never is)
+lead-first = λ window choices first part slot never is.
+    (lead-least window choices first part slot, least-lead window choices first part slot never is)

@@ -1,21 +1,22 @@
--- There is at most one plan: areas decide the lead-ins, one list is least, and each of its areas has one slot.
-use Rattle.std.proofs.Common.{◌≡◌, ℕ, suc, false, List, [], ◌∷◌, ◌++◌, map, get_or, drop, All, Option, Some, None, inl, inr, refl, sym, ap, ap₂, ◌∙◌, subst, arith}
+-- There is at most one plan: areas decide the lead-ins,
+-- one list is least, and each of its areas has one slot.
+use Rattle.std.proofs.Common.{All, ap, ap₂, arith, drop, false, get_or, inl, inr, List, map, None}
+use Rattle.std.proofs.Common.{Option, refl, Some, subst, suc, sym, ℕ, [], ◌++◌, ◌∙◌, ◌∷◌, ◌≡◌}
 use Rattle.std.proofs.lemmas.Bool.{cases_lt}
-use Rattle.frame_header.specs.Fields.{SlotFields, HeaderFields, ClassFields, IsClass}
-use Rattle.frame_header.specs.Tables.{class_of, area_of}
-use Rattle.frame_header.specs.Slots.{all_slots}
 use Rattle.frame_header.proofs.SlotLaws.{areas-ascend}
-use Rattle.slot_plan.specs.declared.needs.Need.{Need}
+use Rattle.frame_header.specs.Fields.{ClassFields, HeaderFields, IsClass, SlotFields}
+use Rattle.frame_header.specs.{Slots.all_slots, Tables.{area_of, class_of}}
+use Rattle.slot_plan.proofs.AreaLaws.{Ascend, lead-ascend, one-slot}
+use Rattle.slot_plan.specs.{Laws.{ChooseInOrder, ChoosesInOrder}, Layouts.begins_of}
+use Rattle.slot_plan.specs.Lists.{frames_of, IsLeast, IsNotBehind, Open}
+use Rattle.slot_plan.specs.Parts.{area_in, areas_with, AreLeadIns, IsLeadIn, Item, item_of}
+use Rattle.slot_plan.specs.Parts.{items_of, open_of, whole_of}
+use Rattle.slot_plan.specs.{Plans.{areas_in, AreFor, IsPlan, IsPlanFor}, declared.needs.Need.Need}
 use Rattle.slot_plan.specs.declared.needs.Placed.{Placed}
-use Rattle.slot_plan.specs.Layouts.{begins_of}
-use Rattle.slot_plan.specs.Lists.{Open, IsNotBehind, IsLeast, frames_of}
-use Rattle.slot_plan.specs.Parts.{Item, area_in, open_of, item_of, items_of, areas_with, IsLeadIn, AreLeadIns, whole_of}
-use Rattle.slot_plan.specs.Plans.{AreFor, areas_in, IsPlanFor, IsPlan}
-use Rattle.slot_plan.specs.Laws.{ChoosesInOrder, ChooseInOrder}
-use Rattle.slot_plan.proofs.AreaLaws.{Ascend, one-slot, lead-ascend}
 
 -- ---- there is one least list
 
+-- two lists neither of which is behind the other are equal
 pub equal_lists : (xs ys : List ℕ) → IsNotBehind xs ys → IsNotBehind ys xs → xs ≡ ys
 unfolding IsNotBehind
 equal_lists [] [] first second = refl
@@ -35,15 +36,18 @@ equal_lists (m ∷ ms) (n ∷ ns) first second =
           ]
     ]
 
-one_least : (window : ℕ) (opens : List Open) (xs ys : List ℕ) → IsLeast window opens xs → IsLeast window opens ys → xs ≡ ys
-one_least window opens xs ys first second = equal_lists xs ys (first.least ys second.chosen second.feasible) (second.least xs first.chosen first.feasible)
+one_least : (window : ℕ) (opens : List Open) (xs ys : List ℕ) → IsLeast window opens xs
+    → IsLeast window opens ys → xs ≡ ys
+one_least window opens xs ys first second = equal_lists xs ys
+    (first.least ys second.chosen second.feasible) (second.least xs first.chosen first.feasible)
 
 -- ---- what is placed
 
 -- the areas of each item's choices ascend
 abbrev pub AreOrdered : List Item → Type 0
 AreOrdered [] = Unit {0}
-AreOrdered (item ∷ items) = Ascend (areas_with item.class item.protected item.choices) × AreOrdered items
+AreOrdered (item ∷ items) =
+    Ascend (areas_with item.class item.protected item.choices) × AreOrdered items
 
 placed_same : (p q : Placed) → p.lead_in ≡ q.lead_in → p.slot ≡ q.slot → p.begin ≡ q.begin → p ≡ q
 placed_same p q lead slot begin =
@@ -51,7 +55,10 @@ placed_same p q lead slot begin =
     ∙ ap (λ s. record { lead_in = q.lead_in; slot = s; begin = p.begin }) slot
     ∙ ap (λ n. record { lead_in = q.lead_in; slot = q.slot; begin = n }) begin
 
-pub one_placed : (items : List Item) (a b : List Placed) → AreOrdered items → AreFor items a → AreFor items b → areas_in items a ≡ areas_in items b → map (λ p. p.begin) a ≡ map (λ p. p.begin) b → a ≡ b
+-- places with the same areas and main_data_begin are the same
+pub one_placed : (items : List Item) (a b : List Placed) → AreOrdered items → AreFor items a
+    → AreFor items b → areas_in items a ≡ areas_in items b
+    → map (λ p. p.begin) a ≡ map (λ p. p.begin) b → a ≡ b
 unfolding AreFor areas_in
 one_placed [] [] [] ordered first second areas begins = refl
 one_placed [] [] (q ∷ b) ordered first second areas begins = absurd second
@@ -60,15 +67,22 @@ one_placed (item ∷ items) [] b ordered first second areas begins = absurd firs
 one_placed (item ∷ items) (p ∷ a) [] ordered first second areas begins = absurd second
 one_placed (item ∷ items) (p ∷ a) (q ∷ b) ordered first second areas begins =
     let area : area_in item p.slot ≡ area_in item q.slot = ap (λ l. get_or l 0 0) areas in
-    let slot = one-slot item.class item.protected item.choices p.slot q.slot ordered.0 first.1 second.1 area in
+    let slot =
+    one-slot item.class item.protected item.choices p.slot q.slot ordered.0 first.1 second.1 area in
     let begin : p.begin ≡ q.begin = ap (λ l. get_or l 0 0) begins in
-    ap₂ (λ (x : Placed) (l : List Placed). x ∷ l) (placed_same p q (first.0 ∙ sym second.0) slot begin) (one_placed items a b ordered.1 first.2 second.2 (ap (drop 1) areas) (ap (drop 1) begins))
+    ap₂ (λ (x : Placed) (l : List Placed). x ∷ l)
+    (placed_same p q (first.0 ∙ sym second.0) slot begin)
+    (one_placed items a b ordered.1 first.2 second.2 (ap (drop 1) areas) (ap (drop 1) begins))
 
-pub one_plan_for : (window : ℕ) (items : List Item) (a b : List Placed) → AreOrdered items → IsPlanFor window items a → IsPlanFor window items b → a ≡ b
+-- frames with given lead-ins have one plan at most
+pub one_plan_for : (window : ℕ) (items : List Item) (a b : List Placed) → AreOrdered items
+    → IsPlanFor window items a → IsPlanFor window items b → a ≡ b
 one_plan_for window items a b ordered first second =
-    let areas = one_least window (map open_of items) (areas_in items a) (areas_in items b) first.least second.least in
+    let areas = one_least window (map open_of items) (areas_in items a)
+    (areas_in items b) first.least second.least in
     one_placed items a b ordered first.slots second.slots areas
-    (first.begins ∙ ap (λ l. begins_of window 0 0 (frames_of (map open_of items) l)) areas ∙ sym second.begins)
+    (first.begins ∙ ap (λ l. begins_of window 0 0 (frames_of (map open_of items) l)) areas
+    ∙ sym second.begins)
 
 -- ---- the lead-ins
 
@@ -77,23 +91,34 @@ abbrev pub AreInOrder : (HeaderFields → List SlotFields) → List Need → Typ
 AreInOrder choices [] = Unit {0}
 AreInOrder choices (need ∷ needs) = ChoosesInOrder choices need × AreInOrder choices needs
 
-in_order : (choices : HeaderFields → List SlotFields) (part : List Need) → All (ChoosesInOrder choices) part → AreInOrder choices part
+in_order : (choices : HeaderFields → List SlotFields) (part : List Need)
+    → All (ChoosesInOrder choices) part → AreInOrder choices part
 in_order choices [] all = tt
-in_order choices (need ∷ needs) all = (all 0 need (omega arith), in_order choices needs (λ k d lt. all (suc k) d (omega (arith, lt))))
+in_order choices (need ∷ needs) all =
+    (all 0 need (omega arith), in_order choices needs (λ k d lt. all (suc k) d (omega (arith, lt))))
 
 -- and of each part
 abbrev pub AllInOrder : (HeaderFields → List SlotFields) → List (List Need) → Type 0
 AllInOrder choices [] = Unit {0}
 AllInOrder choices (part ∷ parts) = AreInOrder choices part × AllInOrder choices parts
 
-pub all_in_order : (choices : HeaderFields → List SlotFields) (parts : List (List Need)) → ChooseInOrder choices parts → AllInOrder choices parts
+-- choices that ascend in every part ascend in all
+pub all_in_order : (choices : HeaderFields → List SlotFields) (parts : List (List Need))
+    → ChooseInOrder choices parts → AllInOrder choices parts
 all_in_order choices [] all = tt
-all_in_order choices (part ∷ parts) all = (in_order choices part (all 0 part (omega arith)), all_in_order choices parts (λ k d lt. all (suc k) d (omega (arith, lt))))
+all_in_order choices (part ∷ parts) all = (
+  in_order choices part (all 0 part (omega arith)),
+  all_in_order choices parts (λ k d lt. all (suc k) d (omega (arith, lt))),
+)
 
+-- the areas of all slots of a class ascend
 pub slots_ascend : (c : ClassFields) → IsClass c → Ascend (areas_with c false all_slots)
 slots_ascend c class = lead-ascend c all_slots refl (areas-ascend c class false)
 
-pub one_lead : (window : ℕ) (choices : HeaderFields → List SlotFields) (part : List Need) (x y : Option SlotFields) → AreInOrder choices part → IsLeadIn window choices part x → IsLeadIn window choices part y → x ≡ y
+-- a part has one lead-in at most
+pub one_lead : (window : ℕ) (choices : HeaderFields → List SlotFields) (part : List Need)
+    (x y : Option SlotFields) → AreInOrder choices part → IsLeadIn window choices part x
+    → IsLeadIn window choices part y → x ≡ y
 unfolding IsLeadIn
 one_lead window choices part None None order first second = refl
 one_lead window choices [] None (Some t) order first second = absurd second
@@ -105,13 +130,17 @@ one_lead window choices (need ∷ part) (Some s) (Some t) order first second =
     elim (cases_lt (area_of class s false) (area_of class t false)) as (λ _. Some s ≡ Some t) [
       | inl less ↦ absurd (second.3 s first.2 less first.1)
       | inr most ↦
-          elim (cases_lt (area_of class t false) (area_of class s false)) as (λ _. Some s ≡ Some t) [
+          elim (cases_lt (area_of class t false) (area_of class s false))
+          as (λ _. Some s ≡ Some t) [
             | inl less ↦ absurd (first.3 t second.2 less second.1)
-            | inr least ↦ ap Some (one-slot class false all_slots s t (slots_ascend class order.0.class) first.2 second.2 (omega (arith, most, least)))
+            | inr least ↦ ap Some (one-slot class false all_slots s t
+                (slots_ascend class order.0.class) first.2 second.2 (omega (arith, most, least)))
           ]
     ]
 
-one_leads : (window : ℕ) (choices : HeaderFields → List SlotFields) (parts : List (List Need)) (xs ys : List (Option SlotFields)) → AllInOrder choices parts → AreLeadIns window choices parts xs → AreLeadIns window choices parts ys → xs ≡ ys
+one_leads : (window : ℕ) (choices : HeaderFields → List SlotFields) (parts : List (List Need))
+    (xs ys : List (Option SlotFields)) → AllInOrder choices parts
+    → AreLeadIns window choices parts xs → AreLeadIns window choices parts ys → xs ≡ ys
 unfolding AreLeadIns
 one_leads window choices [] [] [] order first second = refl
 one_leads window choices [] [] (y ∷ ys) order first second = absurd second
@@ -119,7 +148,9 @@ one_leads window choices [] (x ∷ xs) ys order first second = absurd first
 one_leads window choices (part ∷ parts) [] ys order first second = absurd first
 one_leads window choices (part ∷ parts) (x ∷ xs) [] order first second = absurd second
 one_leads window choices (part ∷ parts) (x ∷ xs) (y ∷ ys) order first second =
-    ap₂ (λ (o : Option SlotFields) (l : List (Option SlotFields)). o ∷ l) (one_lead window choices part x y order.0 first.0 second.0) (one_leads window choices parts xs ys order.1 first.1 second.1)
+    ap₂ (λ (o : Option SlotFields) (l : List (Option SlotFields)). o ∷ l)
+    (one_lead window choices part x y order.0 first.0 second.0)
+    (one_leads window choices parts xs ys order.1 first.1 second.1)
 
 -- ---- the whole
 
@@ -127,29 +158,46 @@ ordered_append : (xs ys : List Item) → AreOrdered xs → AreOrdered ys → Are
 ordered_append [] ys first second = second
 ordered_append (x ∷ xs) ys first second = (first.0, ordered_append xs ys first.1 second)
 
-pub ordered_frames : (choices : HeaderFields → List SlotFields) (part : List Need) → AreInOrder choices part → AreOrdered (map (item_of choices) part)
+-- the choices of the frames of a part ascend
+pub ordered_frames : (choices : HeaderFields → List SlotFields) (part : List Need)
+    → AreInOrder choices part → AreOrdered (map (item_of choices) part)
 ordered_frames choices [] order = tt
-ordered_frames choices (need ∷ needs) order = (order.0.ascending, ordered_frames choices needs order.1)
+ordered_frames choices (need ∷ needs) order =
+    (order.0.ascending, ordered_frames choices needs order.1)
 
 one_ascends : (n : ℕ) → Ascend (n ∷ [])
 one_ascends n = λ i j d before lt. absurd (omega (arith, before, lt))
 
-ordered_items : (choices : HeaderFields → List SlotFields) (part : List Need) (lead_in : Option SlotFields) → AreInOrder choices part → AreOrdered (items_of choices part lead_in)
+ordered_items : (choices : HeaderFields → List SlotFields) (part : List Need)
+    (lead_in : Option SlotFields) → AreInOrder choices part
+    → AreOrdered (items_of choices part lead_in)
 unfolding items_of
 ordered_items choices part None order = ordered_frames choices part order
 ordered_items choices [] (Some slot) order = tt
-ordered_items choices (need ∷ part) (Some slot) order = (one_ascends (area_of (class_of need.header) slot false), ordered_frames choices (need ∷ part) order)
+ordered_items choices (need ∷ part) (Some slot) order = (
+  one_ascends (area_of (class_of need.header) slot false),
+  ordered_frames choices (need ∷ part) order,
+)
 
-pub ordered_whole : (choices : HeaderFields → List SlotFields) (parts : List (List Need)) (lead_ins : List (Option SlotFields)) → AllInOrder choices parts → AreOrdered (whole_of choices parts lead_ins)
+-- so do those of all parts with their lead-ins
+pub ordered_whole : (choices : HeaderFields → List SlotFields) (parts : List (List Need))
+    (lead_ins : List (Option SlotFields)) → AllInOrder choices parts
+    → AreOrdered (whole_of choices parts lead_ins)
 unfolding whole_of
 ordered_whole choices [] lead_ins order = tt
 ordered_whole choices (part ∷ parts) [] order = tt
 ordered_whole choices (part ∷ parts) (lead_in ∷ lead_ins) order =
-    ordered_append (items_of choices part lead_in) (whole_of choices parts lead_ins) (ordered_items choices part lead_in order.0) (ordered_whole choices parts lead_ins order.1)
+    ordered_append (items_of choices part lead_in) (whole_of choices parts lead_ins)
+    (ordered_items choices part lead_in order.0) (ordered_whole choices parts lead_ins order.1)
 
-pub one-plan : (window : ℕ) (choices : HeaderFields → List SlotFields) (parts : List (List Need)) (a b : List Placed) → ChooseInOrder choices parts → IsPlan window choices parts a → IsPlan window choices parts b → a ≡ b
+-- parts have one plan at most
+pub one-plan : (window : ℕ) (choices : HeaderFields → List SlotFields) (parts : List (List Need))
+    (a b : List Placed) → ChooseInOrder choices parts → IsPlan window choices parts a
+    → IsPlan window choices parts b → a ≡ b
 one-plan window choices parts a b order first second =
     let all = all_in_order choices parts order in
-    let leads = one_leads window choices parts first.lead_ins second.lead_ins all first.alone second.alone in
-    one_plan_for window (whole_of choices parts second.lead_ins) a b (ordered_whole choices parts second.lead_ins all)
+    let leads =
+    one_leads window choices parts first.lead_ins second.lead_ins all first.alone second.alone in
+    one_plan_for window (whole_of choices parts second.lead_ins) a b
+    (ordered_whole choices parts second.lead_ins all)
     (subst (λ l. IsPlanFor window (whole_of choices parts l) a) leads first.whole) second.whole

@@ -1,23 +1,26 @@
 -- Frames that are placed by what is needed after them are the plan.
-use Rattle.std.proofs.Common.{◌≡◌, ℕ, zero, ◌+◌, ◌-◌, ◌<◌, ◌≤◌, true, false, List, [], ◌∷◌, ◌++◌, map, length, get_or, drop, Option, Some, None, append_assoc, refl, sym, ap, ap₂, ◌∙◌, subst, arith}
-use Rattle.std.proofs.lemmas.List.{map-append, append-nil}
-use Rattle.frame_header.specs.Fields.{SlotFields, HeaderFields, ClassFields}
-use Rattle.frame_header.specs.Tables.{class_of, area_of}
-use Rattle.frame_header.specs.Slots.{all_slots}
-use Rattle.slot_plan.specs.declared.needs.Need.{Need}
-use Rattle.slot_plan.specs.declared.needs.Placed.{Placed}
-use Rattle.slot_plan.specs.declared.reserves.Reserves.{Reserves}
-use Rattle.slot_plan.specs.Layouts.{Frame, IsLayout, IsFeasible}
-use Rattle.slot_plan.specs.Lists.{Open, AreChosen, CanBeLaid, frames_of}
-use Rattle.slot_plan.specs.Parts.{Item, area_in, open_of, item_of, lead_in_of, items_of, led_items, AreOfClass, IsLeadIn, AreLeadIns, whole_of}
-use Rattle.slot_plan.specs.Plans.{AreFor, areas_in, IsPlanFor, IsPlan, IsLedPlan}
-use Rattle.slot_plan.specs.Reserve.{greatest, needed, free_behind, AllWithin, opens_in, area_by, IsLeastSlot, ArePlaced, PlacesOn, IsPlacedLeadIn, IsLeastLead, PlacesLed, PlacesPart, AreReserves}
-use Rattle.slot_plan.proofs.ReserveLaws.{AreLeastAreas, frees_of, begins-frees, fit-least, least-is, needed-can, can-needed, append-needed, append-can}
-use Rattle.slot_plan.proofs.PartLaws.{next_need}
-use Rattle.slot_plan.proofs.AreaLaws.{slot-area, Contains-area, only_one}
+use Rattle.std.proofs.Common.{ap, append_assoc, ap₂, arith, drop, false, get_or, length, List, map}
+use Rattle.std.proofs.Common.{None, Option, refl, Some, subst, sym, true, zero, ℕ, [], ◌++◌, ◌+◌}
+use Rattle.std.proofs.{Common.{◌-◌, ◌<◌, ◌∙◌, ◌∷◌, ◌≡◌, ◌≤◌}, lemmas.List.{append-nil, map-append}}
+use Rattle.frame_header.specs.{Fields.{ClassFields, HeaderFields, SlotFields}, Slots.all_slots}
+use Rattle.frame_header.specs.Tables.{area_of, class_of}
+use Rattle.slot_plan.proofs.{AreaLaws.{Contains-area, only_one, slot-area}, PartLaws.next_need}
+use Rattle.slot_plan.proofs.ReserveLaws.{append-can, append-needed, AreLeastAreas, begins-frees}
+use Rattle.slot_plan.proofs.ReserveLaws.{can-needed, fit-least, frees_of, least-is, needed-can}
+use Rattle.slot_plan.specs.Layouts.{Frame, IsFeasible, IsLayout}
+use Rattle.slot_plan.specs.Lists.{AreChosen, CanBeLaid, frames_of, Open}
+use Rattle.slot_plan.specs.Parts.{area_in, AreLeadIns, AreOfClass, IsLeadIn, Item, item_of}
+use Rattle.slot_plan.specs.Parts.{items_of, lead_in_of, led_items, open_of, whole_of}
+use Rattle.slot_plan.specs.Plans.{areas_in, AreFor, IsLedPlan, IsPlan, IsPlanFor}
+use Rattle.slot_plan.specs.Reserve.{AllWithin, area_by, ArePlaced, AreReserves, free_behind}
+use Rattle.slot_plan.specs.Reserve.{greatest, IsLeastLead, IsLeastSlot, IsPlacedLeadIn, needed}
+use Rattle.slot_plan.specs.Reserve.{opens_in, PlacesLed, PlacesOn, PlacesPart}
+use Rattle.slot_plan.specs.declared.{needs.{Need.Need, Placed.Placed}, reserves.Reserves.Reserves}
 
 -- ---- what is placed is the least list
-least-placed : (window free : ℕ) (items : List Item) (placed : List Placed) → ArePlaced window free items placed → AreLeastAreas window free (map open_of items) (areas_in items placed)
+least-placed : (window free : ℕ) (items : List Item) (placed : List Placed)
+    → ArePlaced window free items placed
+    → AreLeastAreas window free (map open_of items) (areas_in items placed)
 unfolding ArePlaced AreLeastAreas areas_in
 least-placed window free [] [] all = tt
 least-placed window free [] (p ∷ placed) all = absurd all
@@ -27,53 +30,76 @@ least-placed window free (item ∷ items) (p ∷ placed) all = (
   all.2.enough,
   (λ other has fits.
       let slot = slot-area item.class item.protected item.choices other has in
-      let less : area_in item p.slot ≤ area_in item slot.0 = all.2.least slot.0 slot.1 (omega (arith, slot.2, fits)) in
+      let less : area_in item p.slot ≤ area_in item slot.0 =
+      all.2.least slot.0 slot.1 (omega (arith, slot.2, fits)) in
       omega (arith, slot.2, less)),
   least-placed window (free_behind window free item.bytes (area_in item p.slot)) items placed all.3,
 )
 
-for-placed : (window free : ℕ) (items : List Item) (placed : List Placed) → ArePlaced window free items placed → AreFor items placed
+for-placed : (window free : ℕ) (items : List Item) (placed : List Placed)
+    → ArePlaced window free items placed → AreFor items placed
 unfolding ArePlaced AreFor
 for-placed window free [] [] all = tt
 for-placed window free [] (p ∷ placed) all = absurd all
 for-placed window free (item ∷ items) [] all = absurd all
-for-placed window free (item ∷ items) (p ∷ placed) all = (all.0, all.2.chosen, for-placed window (free_behind window free item.bytes (area_in item p.slot)) items placed all.3)
+for-placed window free (item ∷ items) (p ∷ placed) all = (
+  all.0,
+  all.2.chosen,
+  for-placed window (free_behind window free item.bytes (area_in item p.slot)) items placed all.3,
+)
 
-begins-placed : (window free : ℕ) (items : List Item) (placed : List Placed) → ArePlaced window free items placed → map (λ p. p.begin) placed ≡ frees_of window free (frames_of (map open_of items) (areas_in items placed))
+begins-placed : (window free : ℕ) (items : List Item) (placed : List Placed)
+    → ArePlaced window free items placed → map (λ p. p.begin) placed
+    ≡ frees_of window free (frames_of (map open_of items) (areas_in items placed))
 unfolding ArePlaced areas_in frames_of frees_of
 begins-placed window free [] [] all = refl
 begins-placed window free [] (p ∷ placed) all = absurd all
 begins-placed window free (item ∷ items) [] all = absurd all
 begins-placed window free (item ∷ items) (p ∷ placed) all =
-    ap₂ (λ n l. n ∷ l) all.1 (begins-placed window (free_behind window free item.bytes (area_in item p.slot)) items placed all.3)
+    ap₂ (λ n l. n ∷ l) all.1 (begins-placed window
+    (free_behind window free item.bytes (area_in item p.slot)) items placed all.3)
 
-pub plan-placed : (window : ℕ) (items : List Item) (placed : List Placed) → ArePlaced window 0 items placed → IsPlanFor window items placed
+-- frames that are placed by what is needed after them are a plan for them
+pub plan-placed : (window : ℕ) (items : List Item) (placed : List Placed)
+    → ArePlaced window 0 items placed → IsPlanFor window items placed
 plan-placed window items placed all =
     let least = least-placed window 0 items placed all in
     let frames : List Frame = frames_of (map open_of items) (areas_in items placed) in
     record {
       slots = for-placed window 0 items placed all;
       least = least-is window (map open_of items) (areas_in items placed) least;
-      begins = begins-placed window 0 items placed all ∙ begins-frees window 0 0 0 frames (omega arith) (omega arith) (fit-least window 0 (map open_of items) (areas_in items placed) least);
+      begins =
+          begins-placed window 0 items placed all ∙ begins-frees window 0 0 0 frames (omega arith)
+          (omega arith) (fit-least window 0 (map open_of items) (areas_in items placed) least);
     }
 
 -- ---- the lead-in of a part
 
--- with a lead-in of one slot
-pub lead-needed : (class : ClassFields) (slot : SlotFields) (opens : List Open) → needed (open_of (lead_in_of class (slot ∷ [])) ∷ opens) ≡ needed opens - area_of class slot false
+-- with a lead-in of one slot in front less is needed by its area
+pub lead-needed : (class : ClassFields) (slot : SlotFields) (opens : List Open)
+    → needed (open_of (lead_in_of class (slot ∷ [])) ∷ opens)
+    ≡ needed opens - area_of class slot false
 unfolding needed greatest
 lead-needed class slot opens = omega arith
 
-pub lead-within : (window : ℕ) (class : ClassFields) (slot : SlotFields) (opens : List Open) → needed opens ≤ window → AllWithin window opens → AllWithin window (open_of (lead_in_of class (slot ∷ [])) ∷ opens)
+-- with a lead-in in front no more than a window is needed anywhere
+pub lead-within : (window : ℕ) (class : ClassFields) (slot : SlotFields) (opens : List Open)
+    → needed opens ≤ window → AllWithin window opens
+    → AllWithin window (open_of (lead_in_of class (slot ∷ [])) ∷ opens)
 unfolding AllWithin
 lead-within window class slot opens most within = (most, within)
 
-pub lead-chosen : (class : ClassFields) (slot : SlotFields) (opens : List Open) (areas : List ℕ) → AreChosen opens areas → AreChosen (open_of (lead_in_of class (slot ∷ [])) ∷ opens) (area_of class slot false ∷ areas)
+-- the area of a lead-in in front of chosen areas is chosen too
+pub lead-chosen : (class : ClassFields) (slot : SlotFields) (opens : List Open) (areas : List ℕ)
+    → AreChosen opens areas
+    → AreChosen (open_of (lead_in_of class (slot ∷ [])) ∷ opens) (area_of class slot false ∷ areas)
 unfolding AreChosen
 lead-chosen class slot opens areas chosen = ((zero, omega arith, refl), chosen)
 
 -- what is placed before a part is its lead-in alone
-lead_in-alone : (window : ℕ) (choices : HeaderFields → List SlotFields) (part : List Need) (lead_in : Option SlotFields) → IsPlacedLeadIn window all_slots choices part lead_in → IsLeadIn window choices part lead_in
+lead_in-alone : (window : ℕ) (choices : HeaderFields → List SlotFields) (part : List Need)
+    (lead_in : Option SlotFields) → IsPlacedLeadIn window all_slots choices part lead_in
+    → IsLeadIn window choices part lead_in
 unfolding IsPlacedLeadIn IsLeadIn items_of
 lead_in-alone window choices part None can = can
 lead_in-alone window choices [] (Some slot) is = absurd is
@@ -91,7 +117,9 @@ lead_in-alone window choices (first ∷ part) (Some slot) is =
     )
 
 -- with its lead-in a part has a layout
-pub lead_in-can : (window : ℕ) (choices : HeaderFields → List SlotFields) (part : List Need) (lead_in : Option SlotFields) → IsLeadIn window choices part lead_in → CanBeLaid window (map open_of (items_of choices part lead_in))
+pub lead_in-can : (window : ℕ) (choices : HeaderFields → List SlotFields) (part : List Need)
+    (lead_in : Option SlotFields) → IsLeadIn window choices part lead_in
+    → CanBeLaid window (map open_of (items_of choices part lead_in))
 unfolding IsLeadIn
 lead_in-can window choices part None is = is
 lead_in-can window choices [] (Some slot) is = absurd is
@@ -102,123 +130,194 @@ pub nothing-can : (window : ℕ) → CanBeLaid window []
 unfolding CanBeLaid AreChosen frames_of IsFeasible IsLayout
 nothing-can window = ([], tt, ([], tt))
 
-pub whole-can : (window : ℕ) (choices : HeaderFields → List SlotFields) (parts : List (List Need)) (lead_ins : List (Option SlotFields)) → AreLeadIns window choices parts lead_ins → CanBeLaid window (map open_of (whole_of choices parts lead_ins))
+-- parts with their lead-ins have a layout all together
+pub whole-can : (window : ℕ) (choices : HeaderFields → List SlotFields) (parts : List (List Need))
+    (lead_ins : List (Option SlotFields)) → AreLeadIns window choices parts lead_ins
+    → CanBeLaid window (map open_of (whole_of choices parts lead_ins))
 unfolding AreLeadIns whole_of
 whole-can window choices [] lead_ins all = nothing-can window
 whole-can window choices (part ∷ parts) [] all = absurd all
 whole-can window choices (part ∷ parts) (lead_in ∷ lead_ins) all =
-    subst (CanBeLaid window) (sym (map-append open_of (items_of choices part lead_in) (whole_of choices parts lead_ins)))
-    (append-can window (map open_of (items_of choices part lead_in)) (map open_of (whole_of choices parts lead_ins)) (lead_in-can window choices part lead_in all.0) (whole-can window choices parts lead_ins all.1))
+    subst (CanBeLaid window)
+    (sym (map-append open_of (items_of choices part lead_in) (whole_of choices parts lead_ins)))
+    (append-can window (map open_of (items_of choices part lead_in))
+    (map open_of (whole_of choices parts lead_ins)) (lead_in-can window choices part lead_in all.0)
+    (whole-can window choices parts lead_ins all.1))
 
 -- ---- placing on
-pub places-begun : (window free : ℕ) (items : List Item) (placed : List Placed) → PlacesOn window free free items items placed placed
+-- before the first frame nothing is placed
+pub places-begun : (window free : ℕ) (items : List Item) (placed : List Placed)
+    → PlacesOn window free free items items placed placed
 places-begun window free items placed = record {
   more = [];
   appended = sym (append-nil placed);
   goes = λ rest behind none all. all;
 }
 
-placed-cons : (window free : ℕ) (item : Item) (items : List Item) (p : Placed) (placed : List Placed) → p.lead_in ≡ item.lead_in → p.begin ≡ free → IsLeastSlot ((item.bytes + needed (map open_of items)) - free) item.class item.protected item.choices p.slot
-    → ArePlaced window (free_behind window free item.bytes (area_in item p.slot)) items placed → ArePlaced window free (item ∷ items) (p ∷ placed)
+placed-cons : (window free : ℕ) (item : Item) (items : List Item) (p : Placed)
+    (placed : List Placed) → p.lead_in ≡ item.lead_in → p.begin ≡ free → IsLeastSlot
+    ((item.bytes + needed (map open_of items)) - free) item.class item.protected item.choices p.slot
+    → ArePlaced window (free_behind window free item.bytes (area_in item p.slot)) items placed
+    → ArePlaced window free (item ∷ items) (p ∷ placed)
 unfolding ArePlaced
 placed-cons window free item items p placed is begin least behind = (is, begin, least, behind)
 
-pub places-more : (window free now : ℕ) (items : List Item) (item : Item) (left : List Item) (old new : List Placed) (p : Placed) → p.lead_in ≡ item.lead_in → p.begin ≡ now → IsLeastSlot ((item.bytes + needed (map open_of left)) - now) item.class item.protected item.choices p.slot
-    → PlacesOn window free now items (item ∷ left) old new → PlacesOn window free (free_behind window now item.bytes (area_in item p.slot)) items left old (new ++ p ∷ [])
+-- a frame in the least slot with what is needed after it is one placed more
+pub places-more : (window free now : ℕ) (items : List Item) (item : Item) (left : List Item)
+    (old new : List Placed) (p : Placed) → p.lead_in ≡ item.lead_in → p.begin ≡ now → IsLeastSlot
+    ((item.bytes + needed (map open_of left)) - now) item.class item.protected item.choices p.slot
+    → PlacesOn window free now items (item ∷ left) old new → PlacesOn window free
+    (free_behind window now item.bytes (area_in item p.slot)) items left old (new ++ p ∷ [])
 places-more window free now items item left old new p is begin least on = record {
   more = on.more ++ p ∷ [];
   appended = ap (λ l. l ++ p ∷ []) on.appended ∙ append_assoc old on.more (p ∷ []);
   goes = λ rest placed none all.
-      let same : needed (map open_of left) ≡ needed (map open_of (left ++ rest)) = sym (ap needed (map-append open_of left rest) ∙ append-needed (map open_of left) (map open_of rest) none) in
-      let here = subst (λ n. IsLeastSlot ((item.bytes + n) - now) item.class item.protected item.choices p.slot) same least in
-      subst (λ l. ArePlaced window free (items ++ rest) l) (sym (append_assoc on.more (p ∷ []) placed))
-      (on.goes rest (p ∷ placed) none (placed-cons window now item (left ++ rest) p placed is begin here all));
+      let same : needed (map open_of left) ≡ needed (map open_of (left ++ rest)) = sym (ap needed
+      (map-append open_of left rest) ∙ append-needed (map open_of left) (map open_of rest) none) in
+      let here = subst (λ n. IsLeastSlot ((item.bytes + n) - now)
+      item.class item.protected item.choices p.slot) same least in
+      subst (λ l. ArePlaced window free (items ++ rest) l)
+      (sym (append_assoc on.more (p ∷ []) placed))
+      (on.goes rest (p ∷ placed) none
+      (placed-cons window now item (left ++ rest) p placed is begin here all));
 }
 
-pub places-then : (window free now after : ℕ) (items left : List Item) (old mid new : List Placed) → PlacesOn window free now items left old mid → PlacesOn window now after left [] mid new → PlacesOn window free after items [] old new
+-- frames placed up to one, and from it on, are all placed
+pub places-then : (window free now after : ℕ) (items left : List Item) (old mid new : List Placed)
+    → PlacesOn window free now items left old mid → PlacesOn window now after left [] mid new
+    → PlacesOn window free after items [] old new
 places-then window free now after items left old mid new first second = record {
   more = first.more ++ second.more;
-  appended = second.appended ∙ ap (λ l. l ++ second.more) first.appended ∙ append_assoc old first.more second.more;
+  appended = second.appended ∙ ap (λ l. l ++ second.more) first.appended
+      ∙ append_assoc old first.more second.more;
   goes = λ rest placed none all.
-      subst (λ l. ArePlaced window free (items ++ rest) l) (sym (append_assoc first.more second.more placed))
+      subst (λ l. ArePlaced window free (items ++ rest) l)
+      (sym (append_assoc first.more second.more placed))
       (first.goes rest (second.more ++ placed) none (second.goes rest placed none all));
 }
 
 -- ---- part by part: whatever places the parts from here on rightly places all rightly
-unfoldable pub PartsPlaced : ℕ → (HeaderFields → List SlotFields) → List (List Need) → List (List Need) → ℕ → List Placed → Type 0
+unfoldable pub PartsPlaced : ℕ → (HeaderFields → List SlotFields) → List (List Need)
+    → List (List Need) → ℕ → List Placed → Type 0
 PartsPlaced window choices all left free before =
-    (lead_ins : List (Option SlotFields)) (placed : List Placed) → AreLeadIns window choices left lead_ins → ArePlaced window free (whole_of choices left lead_ins) placed
-    → (whole : List (Option SlotFields)) × AreLeadIns window choices all whole × ArePlaced window 0 (whole_of choices all whole) (before ++ placed)
+    (lead_ins : List (Option SlotFields)) (placed : List Placed)
+    → AreLeadIns window choices left lead_ins
+    → ArePlaced window free (whole_of choices left lead_ins) placed
+    → (whole : List (Option SlotFields)) × AreLeadIns window choices all whole
+    × ArePlaced window 0 (whole_of choices all whole) (before ++ placed)
 
-pub parts-begun : (window : ℕ) (choices : HeaderFields → List SlotFields) (parts : List (List Need)) → PartsPlaced window choices parts parts 0 []
+-- before the first part nothing is placed
+pub parts-begun : (window : ℕ) (choices : HeaderFields → List SlotFields) (parts : List (List Need))
+    → PartsPlaced window choices parts parts 0 []
 unfolding PartsPlaced
 parts-begun window choices parts lead_ins placed alone all = (lead_ins, alone, all)
 
-leads-cons : (window : ℕ) (choices : HeaderFields → List SlotFields) (part : List Need) (parts : List (List Need)) (lead_in : Option SlotFields) (lead_ins : List (Option SlotFields)) → IsLeadIn window choices part lead_in → AreLeadIns window choices parts lead_ins → AreLeadIns window choices (part ∷ parts) (lead_in ∷ lead_ins)
+leads-cons : (window : ℕ) (choices : HeaderFields → List SlotFields) (part : List Need)
+    (parts : List (List Need)) (lead_in : Option SlotFields) (lead_ins : List (Option SlotFields))
+    → IsLeadIn window choices part lead_in → AreLeadIns window choices parts lead_ins
+    → AreLeadIns window choices (part ∷ parts) (lead_in ∷ lead_ins)
 unfolding AreLeadIns
 leads-cons window choices part parts lead_in lead_ins here behind = (here, behind)
 
-whole-cons : (choices : HeaderFields → List SlotFields) (part : List Need) (parts : List (List Need)) (lead_in : Option SlotFields) (lead_ins : List (Option SlotFields)) → items_of choices part lead_in ++ whole_of choices parts lead_ins ≡ whole_of choices (part ∷ parts) (lead_in ∷ lead_ins)
+whole-cons : (choices : HeaderFields → List SlotFields) (part : List Need)
+    (parts : List (List Need)) (lead_in : Option SlotFields) (lead_ins : List (Option SlotFields))
+    → items_of choices part lead_in ++ whole_of choices parts lead_ins
+    ≡ whole_of choices (part ∷ parts) (lead_in ∷ lead_ins)
 unfolding whole_of
 whole-cons choices part parts lead_in lead_ins = refl
 
-pub parts-more : (window : ℕ) (choices : HeaderFields → List SlotFields) (all : List (List Need)) (part : List Need) (left : List (List Need)) (free after : ℕ) (before behind : List Placed) → PlacesPart window all_slots choices part free after before behind
-    → PartsPlaced window choices all (part ∷ left) free before → PartsPlaced window choices all left after behind
+-- a part that is placed behind those before it is one more
+pub parts-more : (window : ℕ) (choices : HeaderFields → List SlotFields) (all : List (List Need))
+    (part : List Need) (left : List (List Need)) (free after : ℕ) (before behind : List Placed)
+    → PlacesPart window all_slots choices part free after before behind
+    → PartsPlaced window choices all (part ∷ left) free before
+    → PartsPlaced window choices all left after behind
 unfolding PartsPlaced
-parts-more window choices all part left free after before behind part_placed on lead_ins placed alone rest =
+parts-more window choices all part left free after before behind part_placed on lead_ins placed
+    alone rest =
     let lead_in : Option SlotFields = part_placed.lead_in in
     let more : List Placed = part_placed.places.more in
-    let none = (needed-can window (map open_of (whole_of choices left lead_ins)) (whole-can window choices left lead_ins alone)).0 in
-    let here : ArePlaced window free (whole_of choices (part ∷ left) (lead_in ∷ lead_ins)) (more ++ placed) =
-    subst (λ l. ArePlaced window free l (more ++ placed)) (whole-cons choices part left lead_in lead_ins) (part_placed.places.goes (whole_of choices left lead_ins) placed none rest) in
-    let end = on (lead_in ∷ lead_ins) (more ++ placed) (leads-cons window choices part left lead_in lead_ins (lead_in-alone window choices part lead_in part_placed.least) alone) here in
-    let same : before ++ (more ++ placed) ≡ behind ++ placed = sym (append_assoc before more placed) ∙ ap (λ l. l ++ placed) (sym part_placed.places.appended) in
+    let none = (needed-can window (map open_of (whole_of choices left lead_ins))
+    (whole-can window choices left lead_ins alone)).0 in
+    let here : ArePlaced window free (whole_of choices (part ∷ left) (lead_in ∷ lead_ins))
+    (more ++ placed) =
+    subst (λ l. ArePlaced window free l (more ++ placed)) (whole-cons choices part left lead_in
+    lead_ins) (part_placed.places.goes (whole_of choices left lead_ins) placed none rest) in
+    let end = on (lead_in ∷ lead_ins) (more ++ placed) (leads-cons window choices part left lead_in
+    lead_ins (lead_in-alone window choices part lead_in part_placed.least) alone) here in
+    let same : before ++ (more ++ placed) ≡ behind ++ placed = sym (append_assoc before more placed)
+    ∙ ap (λ l. l ++ placed) (sym part_placed.places.appended) in
     (end.0, end.1, subst (λ l. ArePlaced window 0 (whole_of choices all end.0) l) same end.2)
 
 no-leads : (window : ℕ) (choices : HeaderFields → List SlotFields) → AreLeadIns window choices [] []
 unfolding AreLeadIns
 no-leads window choices = tt
 
-no-placed : (window free : ℕ) (choices : HeaderFields → List SlotFields) → ArePlaced window free (whole_of choices [] []) []
+no-placed : (window free : ℕ) (choices : HeaderFields → List SlotFields)
+    → ArePlaced window free (whole_of choices [] []) []
 unfolding ArePlaced whole_of
 no-placed window free choices = tt
 
-pub parts-all : (window : ℕ) (choices : HeaderFields → List SlotFields) (all : List (List Need)) (free : ℕ) (placed : List Placed) → PartsPlaced window choices all [] free placed → IsPlan window choices all placed
+-- all parts, placed one after the other, are the plan
+pub parts-all : (window : ℕ) (choices : HeaderFields → List SlotFields) (all : List (List Need))
+    (free : ℕ) (placed : List Placed) → PartsPlaced window choices all [] free placed
+    → IsPlan window choices all placed
 unfolding PartsPlaced
 parts-all window choices all free placed on =
     let end = on [] [] (no-leads window choices) (no-placed window free choices) in
     record {
       lead_ins = end.0;
       alone = end.1;
-      whole = plan-placed window (whole_of choices all end.0) placed (subst (λ l. ArePlaced window 0 (whole_of choices all end.0) l) (append-nil placed) end.2);
+      whole = plan-placed window (whole_of choices all end.0) placed (subst (λ l. ArePlaced window 0
+          (whole_of choices all end.0) l) (append-nil placed) end.2);
     }
 
 -- ---- the next frame of a part
-pub places-next : (window free now next : ℕ) (choices : HeaderFields → List SlotFields) (part : List Need) (i : ℕ) (need : Need) (p : Placed) (wanted : ℕ) (old new : List Placed) → i < length part → need ≡ get_or part i need
-    → wanted ≡ needed (opens_in choices (drop (i + 1) part)) → p.lead_in ≡ false → p.begin ≡ now → IsLeastSlot ((need.bytes + wanted) - now) (class_of need.header) need.header.protected (choices need.header) p.slot
-    → next ≡ free_behind window now need.bytes (area_of (class_of need.header) p.slot need.header.protected) → PlacesOn window free now (map (item_of choices) part) (map (item_of choices) (drop i part)) old new
-    → PlacesOn window free next (map (item_of choices) part) (map (item_of choices) (drop (i + 1) part)) old (new ++ p ∷ [])
-places-next window free now next choices part i need p wanted old new within is wants frame begin least behind on =
+-- the frame at i, in the least slot with what is needed after it, is one placed more
+pub places-next : (window free now next : ℕ) (choices : HeaderFields → List SlotFields)
+    (part : List Need) (i : ℕ) (need : Need) (p : Placed) (wanted : ℕ) (old new : List Placed)
+    → i < length part → need ≡ get_or part i need
+    → wanted ≡ needed (opens_in choices (drop (i + 1) part)) → p.lead_in ≡ false → p.begin ≡ now
+    → IsLeastSlot ((need.bytes + wanted) - now) (class_of need.header)
+    need.header.protected (choices need.header) p.slot → next ≡ free_behind window now
+    need.bytes (area_of (class_of need.header) p.slot need.header.protected)
+    → PlacesOn window free now (map (item_of choices) part)
+    (map (item_of choices) (drop i part)) old new → PlacesOn window free next
+    (map (item_of choices) part) (map (item_of choices) (drop (i + 1) part)) old (new ++ p ∷ [])
+places-next window free now next choices part i need p wanted old new within is wants frame begin
+    least behind on =
     let items : List Item = map (item_of choices) part in
     let left : List Item = map (item_of choices) (drop (i + 1) part) in
-    let here : PlacesOn window free now items (item_of choices need ∷ left) old new = subst (λ l. PlacesOn window free now items (map (item_of choices) l) old new) (next_need part i need within is) on in
-    let enough = subst (λ n. IsLeastSlot ((need.bytes + n) - now) (class_of need.header) need.header.protected (choices need.header) p.slot) wants least in
-    subst (λ n. PlacesOn window free n items left old (new ++ p ∷ [])) (sym behind) (places-more window free now items (item_of choices need) left old new p frame begin enough here)
+    let here : PlacesOn window free now items (item_of choices need ∷ left) old new =
+    subst (λ l. PlacesOn window free now items (map (item_of choices) l) old new)
+    (next_need part i need within is) on in
+    let enough = subst (λ n. IsLeastSlot ((need.bytes + n) - now)
+    (class_of need.header) need.header.protected (choices need.header) p.slot) wants least in
+    subst (λ n. PlacesOn window free n items left old (new ++ p ∷ [])) (sym behind) (places-more
+    window free now items (item_of choices need) left old new p frame begin enough here)
 
 -- ---- a part with its lead-in
-module _ (window : ℕ) (leads : List SlotFields) (choices : HeaderFields → List SlotFields) (area : HeaderFields → ℕ) where
-  pub part-without : (part : List Need) (reserves : Reserves) (free after : ℕ) (old new : List Placed) → AreReserves window choices area part reserves → reserves.before ≡ 0
-      → PlacesOn window free after (map (item_of choices) part) [] old new → PlacesPart window leads choices part free after old new
+module _ (window : ℕ) (leads : List SlotFields) (choices : HeaderFields → List SlotFields)
+    (area : HeaderFields → ℕ) where
+  -- a part that needs nothing before it is placed without a lead-in
+  pub part-without : (part : List Need) (reserves : Reserves) (free after : ℕ)
+      (old new : List Placed) → AreReserves window choices area part reserves → reserves.before ≡ 0
+      → PlacesOn window free after (map (item_of choices) part) [] old new
+      → PlacesPart window leads choices part free after old new
   unfolding IsPlacedLeadIn items_of
   part-without part reserves free after old new are none places = record {
     lead_in = None;
-    least = can-needed window (opens_in choices part) (map (area_by area) part) are.chosen (sym are.before ∙ none) are.within;
+    least = can-needed window (opens_in choices part)
+        (map (area_by area) part) are.chosen (sym are.before ∙ none) are.within;
     places = places;
   }
 
-  led-with : (first : Need) (part : List Need) (free mid after : ℕ) (p : Placed) (old new : List Placed)
-      → p.lead_in ≡ true → p.begin ≡ free → IsLeastSlot (needed (opens_in choices (first ∷ part))) (class_of first.header) false leads p.slot → mid ≡ free_behind window free 0 (area_of (class_of first.header) p.slot false)
-      → PlacesOn window mid after (map (item_of choices) (first ∷ part)) [] (old ++ p ∷ []) new → PlacesLed window leads choices (first ∷ part) free after old new
+  led-with : (first : Need) (part : List Need) (free mid after : ℕ) (p : Placed)
+      (old new : List Placed) → p.lead_in ≡ true → p.begin ≡ free
+      → IsLeastSlot (needed (opens_in choices (first ∷ part))) (class_of first.header) false leads
+      p.slot → mid ≡ free_behind window free 0 (area_of (class_of first.header) p.slot false)
+      → PlacesOn window mid after (map (item_of choices) (first ∷ part)) [] (old ++ p ∷ []) new
+      → PlacesLed window leads choices (first ∷ part) free after old new
   unfolding IsLeastLead items_of
   led-with first part free mid after p old new frame begin least behind places =
       let class : ClassFields = class_of first.header in
@@ -226,30 +325,42 @@ module _ (window : ℕ) (leads : List SlotFields) (choices : HeaderFields → Li
       let opens : List Open = map open_of items in
       let lead : Item = lead_in_of class (p.slot ∷ []) in
       let enough = least.enough in
-      let least_one : IsLeastSlot ((0 + needed opens) - free) class false (p.slot ∷ []) p.slot = record {
+      let least_one : IsLeastSlot ((0 + needed opens) - free) class false (p.slot ∷ []) p.slot =
+      record {
         chosen = (zero, omega arith, refl);
         enough = omega arith;
-        least = λ other is fits. omega (arith, ap (λ s. area_of class s false) (only_one p.slot other is));
+        least = λ other is fits.
+            omega (arith, ap (λ s. area_of class s false) (only_one p.slot other is));
       } in
-      let begun = places-more window free free (lead ∷ items) lead items old old p frame begin least_one (places-begun window free (lead ∷ items) old) in
-      let on = subst (λ n. PlacesOn window free n (lead ∷ items) items old (old ++ p ∷ [])) (sym behind) begun in
+      let begun = places-more window free free (lead ∷ items) lead items old old p frame begin
+      least_one (places-begun window free (lead ∷ items) old) in
+      let on = subst (λ n. PlacesOn window free n (lead ∷ items) items old (old ++ p ∷ []))
+      (sym behind) begun in
       record {
         slot = p.slot;
         least = least;
-        places = places-then window free mid after (lead ∷ items) items old (old ++ p ∷ []) new on places;
+        places = places-then window free mid after (lead ∷ items) items old
+            (old ++ p ∷ []) new on places;
       }
 
   -- the same where the class is known
-  pub led-of : (class : ClassFields) (part : List Need) (free mid after : ℕ) (p : Placed) (old new : List Placed) → 0 < length part → AreOfClass class part
-      → p.lead_in ≡ true → p.begin ≡ free → IsLeastSlot (needed (opens_in choices part)) class false leads p.slot → mid ≡ free_behind window free 0 (area_of class p.slot false)
-      → PlacesOn window mid after (map (item_of choices) part) [] (old ++ p ∷ []) new → PlacesLed window leads choices part free after old new
+  pub led-of : (class : ClassFields) (part : List Need) (free mid after : ℕ) (p : Placed)
+      (old new : List Placed) → 0 < length part → AreOfClass class part → p.lead_in ≡ true
+      → p.begin ≡ free → IsLeastSlot (needed (opens_in choices part)) class false leads p.slot
+      → mid ≡ free_behind window free 0 (area_of class p.slot false)
+      → PlacesOn window mid after (map (item_of choices) part) [] (old ++ p ∷ []) new
+      → PlacesLed window leads choices part free after old new
   unfolding AreOfClass
-  led-of class [] free mid after p old new any same frame begin least behind places = absurd (omega arith)
+  led-of class [] free mid after p old new any same frame begin least behind places =
+      absurd (omega arith)
   led-of class (first ∷ part) free mid after p old new any same frame begin least behind places =
-      led-with first part free mid after p old new frame begin (subst (λ k. IsLeastSlot (needed (opens_in choices (first ∷ part))) k false leads p.slot) (sym same.0) least)
+      led-with first part free mid after p old new frame begin
+      (subst (λ k. IsLeastSlot (needed (opens_in choices (first ∷ part))) k false leads p.slot)
+      (sym same.0) least)
       (behind ∙ ap (λ k. free_behind window free 0 (area_of k p.slot false)) (sym same.0)) places
 
-  lead-needing : (part : List Need) (reserves : Reserves) (slot : SlotFields) → AreReserves window choices area part reserves → 0 < reserves.before
+  lead-needing : (part : List Need) (reserves : Reserves) (slot : SlotFields)
+      → AreReserves window choices area part reserves → 0 < reserves.before
       → IsLeastLead leads choices part slot → IsPlacedLeadIn window leads choices part (Some slot)
   unfolding IsLeastLead IsPlacedLeadIn items_of
   lead-needing [] reserves slot are some least = absurd least
@@ -259,14 +370,19 @@ module _ (window : ℕ) (leads : List SlotFields) (choices : HeaderFields → Li
       let value : needed opens ≡ reserves.before = sym are.before in
       let enough = least.enough in (
         omega (arith, value, some),
-        can-needed window (open_of (lead_in_of class (slot ∷ [])) ∷ opens) (area_of class slot false ∷ map (area_by area) (first ∷ part)) (lead-chosen class slot opens (map (area_by area) (first ∷ part)) are.chosen)
-            (omega (arith, lead-needed class slot opens, enough)) (lead-within window class slot opens (omega (arith, value, are.most)) are.within),
+        can-needed window (open_of (lead_in_of class (slot ∷ [])) ∷ opens)
+            (area_of class slot false ∷ map (area_by area) (first ∷ part))
+            (lead-chosen class slot opens (map (area_by area) (first ∷ part)) are.chosen)
+            (omega (arith, lead-needed class slot opens, enough))
+            (lead-within window class slot opens (omega (arith, value, are.most)) are.within),
         least,
       )
 
   -- where its frames need something free, that is its own lead-in
-  pub part-led : (part : List Need) (reserves : Reserves) (free after : ℕ) (old new : List Placed) → AreReserves window choices area part reserves → 0 < reserves.before
-      → PlacesLed window leads choices part free after old new → PlacesPart window leads choices part free after old new
+  pub part-led : (part : List Need) (reserves : Reserves) (free after : ℕ) (old new : List Placed)
+      → AreReserves window choices area part reserves → 0 < reserves.before
+      → PlacesLed window leads choices part free after old new
+      → PlacesPart window leads choices part free after old new
   part-led part reserves free after old new are some led = record {
     lead_in = Some led.slot;
     least = lead-needing part reserves led.slot are some led.least;
@@ -274,21 +390,27 @@ module _ (window : ℕ) (leads : List SlotFields) (choices : HeaderFields → Li
   }
 
 -- ---- a part after a lead-in of any slot
-any-slot : (window : ℕ) (class : ClassFields) (slot : SlotFields) (items : List Item) (placed : List Placed) → IsLeastSlot (needed (map open_of items)) class false all_slots slot
-    → ArePlaced window 0 (lead_in_of class (slot ∷ []) ∷ items) placed → ArePlaced window 0 (lead_in_of class all_slots ∷ items) placed
+any-slot : (window : ℕ) (class : ClassFields) (slot : SlotFields) (items : List Item)
+    (placed : List Placed) → IsLeastSlot (needed (map open_of items)) class false all_slots slot
+    → ArePlaced window 0 (lead_in_of class (slot ∷ []) ∷ items) placed
+    → ArePlaced window 0 (lead_in_of class all_slots ∷ items) placed
 unfolding ArePlaced
 any-slot window class slot items [] least all = absurd all
 any-slot window class slot items (p ∷ placed) least all =
     let same : needed (map open_of items) ≡ (0 + needed (map open_of items)) - 0 = omega arith in
-    let here = subst (IsLeastSlot (needed (map open_of items)) class false all_slots) (only_one slot p.slot all.2.chosen) least in
+    let here = subst (IsLeastSlot (needed (map open_of items)) class false all_slots)
+    (only_one slot p.slot all.2.chosen) least in
     (all.0, all.1, subst (λ n. IsLeastSlot n class false all_slots p.slot) same here, all.3)
 
-led-items : (window : ℕ) (choices : HeaderFields → List SlotFields) (part : List Need) (slot : SlotFields) (placed : List Placed) → IsLeastLead all_slots choices part slot
-    → ArePlaced window 0 (items_of choices part (Some slot)) placed → ArePlaced window 0 (led_items choices part) placed
+led-items : (window : ℕ) (choices : HeaderFields → List SlotFields) (part : List Need)
+    (slot : SlotFields) (placed : List Placed) → IsLeastLead all_slots choices part slot
+    → ArePlaced window 0 (items_of choices part (Some slot)) placed
+    → ArePlaced window 0 (led_items choices part) placed
 unfolding IsLeastLead items_of led_items
 led-items window choices [] slot placed least all = absurd least
 led-items window choices (first ∷ part) slot placed least all =
-    any-slot window (class_of first.header) slot (map (item_of choices) (first ∷ part)) placed least all
+    any-slot window (class_of first.header) slot
+    (map (item_of choices) (first ∷ part)) placed least all
 
 nothing_needed : needed (map open_of []) ≡ 0
 unfolding needed
@@ -299,10 +421,14 @@ unfolding ArePlaced
 nothing_placed window free = tt
 
 -- is its led plan
-pub led-placed : (window after : ℕ) (choices : HeaderFields → List SlotFields) (part : List Need) (placed : List Placed) → PlacesLed window all_slots choices part 0 after [] placed → IsLedPlan window choices part placed
+pub led-placed : (window after : ℕ) (choices : HeaderFields → List SlotFields) (part : List Need)
+    (placed : List Placed) → PlacesLed window all_slots choices part 0 after [] placed
+    → IsLedPlan window choices part placed
 led-placed window after choices part placed led =
     let goes = led.places.goes [] [] nothing_needed (nothing_placed window after) in
     let items : List Item = items_of choices part (Some led.slot) in
-    let all : ArePlaced window 0 items placed = subst (ArePlaced window 0 items) (append-nil led.places.more ∙ sym led.places.appended)
+    let all : ArePlaced window 0 items placed =
+    subst (ArePlaced window 0 items) (append-nil led.places.more ∙ sym led.places.appended)
     (subst (λ l. ArePlaced window 0 l (led.places.more ++ [])) (append-nil items) goes) in
-    plan-placed window (led_items choices part) placed (led-items window choices part led.slot placed led.least all)
+    plan-placed window (led_items choices part) placed
+    (led-items window choices part led.slot placed led.least all)

@@ -1,14 +1,15 @@
--- Frames in their own slots behind some free bytes: behind how many they fit, how many they leave, which lead-in goes before them, and in
+-- Frames in their own slots behind some free bytes: behind how many
+-- they fit, how many they leave, which lead-in goes before them, and in
 -- which slot the first of them joins the frames that left these bytes.
-use Rattle.std.specs.Prelude.{◌≡◌, ℕ, ◌<◌, ◌≤◌, false, List, [], ◌∷◌, ◌++◌, map, length, Contains, Option, Some, None}
-use Rattle.frame_header.specs.Fields.{SlotFields, ClassFields, HeaderFields}
-use Rattle.frame_header.specs.Tables.{class_of, area_of, window_of}
-use Rattle.frame_header.specs.Slots.{all_slots}
+use Rattle.std.specs.Prelude.{Contains, false, length, List, map, None, Option, Some, ℕ, [], ◌++◌}
+use Rattle.std.specs.Prelude.{◌<◌, ◌∷◌, ◌≡◌, ◌≤◌}
+use Rattle.frame_header.specs.{Fields.{ClassFields, HeaderFields, SlotFields}, Slots.all_slots}
+use Rattle.frame_header.specs.Tables.{area_of, class_of, window_of}
+use Rattle.slot_plan.specs.{Layouts.{Frame, IsFeasible}, Parts.{AreOfClass, own_area, own_frame}}
 use Rattle.slot_plan.specs.declared.needs.Need.{Need}
-use Rattle.slot_plan.specs.Layouts.{Frame, IsFeasible}
-use Rattle.slot_plan.specs.Parts.{own_area, own_frame, AreOfClass}
 
--- frames, each in its own slot, have a layout after so many bytes of areas that hold nothing; no frames always have one
+-- frames, each in its own slot, have a layout after so many
+-- bytes of areas that hold nothing; no frames always have one
 abbrev pub FitsBehind : ℕ → ℕ → List Need → Type 0
 FitsBehind window free needs = IsFeasible window free (map own_frame needs)
 
@@ -34,7 +35,8 @@ pub record IsWanted (window : ℕ) (needs : List Need) (wanted : ℕ) : Type 0 w
 abbrev pub before_it : ℕ → Frame
 before_it bytes = record { bytes = bytes; area = 0 }
 
--- behind `free` bytes the frames leave so many: they have a layout together with a frame behind them that has these before it
+-- behind `free` bytes the frames leave so many: they have a layout
+-- together with a frame behind them that has these before it
 abbrev pub Leaves : ℕ → ℕ → List Need → ℕ → Type 0
 Leaves window free needs left = IsFeasible window free (map own_frame needs ++ before_it left ∷ [])
 
@@ -47,16 +49,20 @@ pub record IsLeft (window free : ℕ) (needs : List Need) (left : ℕ) : Type 0 
 -- ---- a lead-in
 
 -- the least slot of a lead-in, which has no check word, behind whose area they fit
-pub record IsLeadInSlot (window : ℕ) (class : ClassFields) (needs : List Need) (slot : SlotFields) : Type 0 where
+pub record IsLeadInSlot (window : ℕ) (class : ClassFields) (needs : List Need)
+    (slot : SlotFields) : Type 0 where
   pub chosen : Contains all_slots slot
   pub fits : FitsBehind window (area_of class slot false) needs
-  pub least : (other : SlotFields) → Contains all_slots other → FitsBehind window (area_of class other false) needs → area_of class slot false ≤ area_of class other false
+  pub least : (other : SlotFields) → Contains all_slots other
+      → FitsBehind window (area_of class other false) needs
+      → area_of class slot false ≤ area_of class other false
 
 -- the header of their lead-in: that of the first of them in this slot, without a check word
 unfoldable pub IsLeadInHeader : ℕ → List Need → HeaderFields → Type 0
 IsLeadInHeader window [] header = ⊥
 IsLeadInHeader window (first ∷ needs) header =
-    IsLeadInSlot window (class_of first.header) (first ∷ needs) header.slot × (header ≡ record first.header { protected = false; slot = header.slot })
+    IsLeadInSlot window (class_of first.header) (first ∷ needs) header.slot
+    × (header ≡ record first.header { protected = false; slot = header.slot })
 
 -- ---- frames that join others
 
@@ -69,18 +75,23 @@ unfoldable pub first_in : SlotFields → List Need → List Need
 first_in slot [] = []
 first_in slot (first ∷ needs) = in_slot slot first ∷ needs
 
--- Where others left `free` bytes, frames join in a slot of the first of them: it is not less than its own, and so they fit.
-pub record JoinsIn (window free : ℕ) (first : Need) (needs : List Need) (slot : SlotFields) : Type 0 where
+-- Where others left `free` bytes, frames join in a slot of the
+-- first of them: it is not less than its own, and so they fit.
+pub record JoinsIn (window free : ℕ) (first : Need) (needs : List Need)
+    (slot : SlotFields) : Type 0 where
   pub chosen : Contains all_slots slot
   pub not_less : own_area first ≤ own_area (in_slot slot first)
   pub fits : FitsBehind window free (in_slot slot first ∷ needs)
 
 -- the least such slot
-pub record JoinsInLeast (window free : ℕ) (first : Need) (needs : List Need) (slot : SlotFields) : Type 0 where
+pub record JoinsInLeast (window free : ℕ) (first : Need) (needs : List Need)
+    (slot : SlotFields) : Type 0 where
   pub joins : JoinsIn window free first needs slot
-  pub least : (other : SlotFields) → JoinsIn window free first needs other → own_area (in_slot slot first) ≤ own_area (in_slot other first)
+  pub least : (other : SlotFields) → JoinsIn window free first needs other
+      → own_area (in_slot slot first) ≤ own_area (in_slot other first)
 
--- frames that can be asked for such a slot: there is one, and they are of one class and fit behind a whole window, which is at least `free`
+-- frames that can be asked for such a slot: there is one, and they are
+-- of one class and fit behind a whole window, which is at least `free`
 pub record CanJoin (free : ℕ) (needs : List Need) : Type 0 where
   pub some : 0 < length needs
   pub class : ClassFields
@@ -92,4 +103,5 @@ pub record CanJoin (free : ℕ) (needs : List Need) : Type 0 where
 unfoldable pub IsJoin : ℕ → ℕ → List Need → Option SlotFields → Type 0
 IsJoin window free [] joined = ⊥
 IsJoin window free (first ∷ needs) (Some slot) = JoinsInLeast window free first needs slot
-IsJoin window free (first ∷ needs) None = (slot : SlotFields) → JoinsIn window free first needs slot → ⊥
+IsJoin window free (first ∷ needs) None =
+    (slot : SlotFields) → JoinsIn window free first needs slot → ⊥

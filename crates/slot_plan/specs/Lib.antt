@@ -9,5 +9,5 @@ pub mod Plans
 pub mod Reserve
 pub mod SlotTables
 pub use Rattle.frame_header.specs.Fields
-pub use Rattle.frame_header.specs.Tables
 pub use Rattle.frame_header.specs.Slots
+pub use Rattle.frame_header.specs.Tables

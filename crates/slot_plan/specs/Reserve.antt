@@ -1,15 +1,12 @@
--- How `plan` works: the bytes that have to be free before a frame, and the choice by them. What the plan is, is said without them
--- (`Plans`, `LeastPlan`).
-use Rattle.std.specs.Prelude.{◌≡◌, ℕ, ◌+◌, ◌-◌, ◌<◌, ◌≤◌, max, Bool, false, List, [], ◌∷◌, ◌++◌, map, length, Contains, Option, Some, None}
-use Rattle.frame_header.specs.Fields.{SlotFields, ClassFields, HeaderFields}
-use Rattle.frame_header.specs.Tables.{class_of, area_of}
-use Rattle.slot_plan.specs.declared.needs.Placed.{Placed}
-use Rattle.slot_plan.specs.declared.needs.Need.{Need}
-use Rattle.slot_plan.specs.declared.reserves.Reserves.{Reserves}
-use Rattle.frame_header.specs.Limits.{most_back}
-use Rattle.slot_plan.specs.Layouts.{Frame, IsFeasible}
-use Rattle.slot_plan.specs.Lists.{Open, AreChosen, CanBeLaid}
-use Rattle.slot_plan.specs.Parts.{Item, area_in, areas_for, areas_with, open_of, item_of, items_of}
+-- How `plan` works: the bytes that have to be free before a frame, and the
+-- choice by them. What the plan is, is said without them (`Plans`, `LeastPlan`).
+use Rattle.std.specs.Prelude.{Bool, Contains, false, length, List, map, max, None, Option, Some, ℕ}
+use Rattle.std.specs.Prelude.{[], ◌++◌, ◌+◌, ◌-◌, ◌<◌, ◌∷◌, ◌≡◌, ◌≤◌}
+use Rattle.frame_header.specs.{Fields.{ClassFields, HeaderFields, SlotFields}, Limits.most_back}
+use Rattle.frame_header.specs.Tables.{area_of, class_of}
+use Rattle.slot_plan.specs.{Layouts.{Frame, IsFeasible}, Lists.{AreChosen, CanBeLaid, Open}}
+use Rattle.slot_plan.specs.Parts.{area_in, areas_for, areas_with, Item, item_of, items_of, open_of}
+use Rattle.slot_plan.specs.declared.{needs.{Need.Need, Placed.Placed}, reserves.Reserves.Reserves}
 
 -- the greatest number of a list
 unfoldable pub greatest : List ℕ → ℕ
@@ -31,22 +28,27 @@ abbrev pub free_behind : ℕ → ℕ → ℕ → ℕ → ℕ
 free_behind window free bytes area = let left = (free + area) - bytes in left - (left - window)
 
 -- of some slots, the one with the smallest area of at least so many bytes
-pub record IsLeastSlot (wanted : ℕ) (class : ClassFields) (protected : Bool) (slots : List SlotFields) (slot : SlotFields) : Type 0 where
+pub record IsLeastSlot (wanted : ℕ) (class : ClassFields) (protected : Bool)
+    (slots : List SlotFields) (slot : SlotFields) : Type 0 where
   pub chosen : Contains slots slot
   pub enough : wanted ≤ area_of class slot protected
-  pub least : (other : SlotFields) → Contains slots other → wanted ≤ area_of class other protected → area_of class slot protected ≤ area_of class other protected
+  pub least : (other : SlotFields) → Contains slots other → wanted ≤ area_of class other protected
+      → area_of class slot protected ≤ area_of class other protected
 
 -- of the slots that a frame with this header may have
 abbrev pub IsLeastFor : ℕ → (HeaderFields → List SlotFields) → HeaderFields → SlotFields → Type 0
 IsLeastFor wanted choices h slot = IsLeastSlot wanted (class_of h) h.protected (choices h) slot
 
 -- the largest area that a frame with this header may have, and its own slot is one that it may have
-pub record IsLargestFor (choices : HeaderFields → List SlotFields) (h : HeaderFields) (area : ℕ) : Type 0 where
+pub record IsLargestFor (choices : HeaderFields → List SlotFields) (h : HeaderFields)
+    (area : ℕ) : Type 0 where
   pub largest : area ≡ greatest (areas_for choices h)
   pub own : Contains (choices h) h.slot
 
--- a frame, or a lead-in, is placed where so many bytes are free, in the smallest of some slots that has so many
-pub record IsPlacedIn (lead_in : Bool) (free wanted : ℕ) (class : ClassFields) (protected : Bool) (slots : List SlotFields) (p : Placed) : Type 0 where
+-- a frame, or a lead-in, is placed where so many bytes are
+-- free, in the smallest of some slots that has so many
+pub record IsPlacedIn (lead_in : Bool) (free wanted : ℕ) (class : ClassFields) (protected : Bool)
+    (slots : List SlotFields) (p : Placed) : Type 0 where
   pub frame : p.lead_in ≡ lead_in
   pub begin : p.begin ≡ free
   pub least : IsLeastSlot wanted class protected slots p.slot
@@ -57,7 +59,8 @@ ArePlaced window free [] [] = Unit {0}
 ArePlaced window free [] (p ∷ placed) = ⊥
 ArePlaced window free (item ∷ items) [] = ⊥
 ArePlaced window free (item ∷ items) (p ∷ placed) =
-    (p.lead_in ≡ item.lead_in) × (p.begin ≡ free) × IsLeastSlot ((item.bytes + needed (map open_of items)) - free) item.class item.protected item.choices p.slot
+    (p.lead_in ≡ item.lead_in) × (p.begin ≡ free) × IsLeastSlot
+    ((item.bytes + needed (map open_of items)) - free) item.class item.protected item.choices p.slot
     × ArePlaced window (free_behind window free item.bytes (area_in item p.slot)) items placed
 
 -- after each frame no more is needed than the window
@@ -69,7 +72,8 @@ AllWithin window (o ∷ opens) = (needed opens ≤ window) × AllWithin window o
 abbrev pub opens_in : (HeaderFields → List SlotFields) → List Need → List Open
 opens_in choices part = map open_of (map (item_of choices) part)
 
--- frames can be placed where so many bytes are free, by what is needed after each, the last frame's first
+-- frames can be placed where so many bytes are free,
+-- by what is needed after each, the last frame's first
 pub record CanBePlaced (window free : ℕ) (opens : List Open) (needs : List ℕ) : Type 0 where
   -- no more is free than the window
   pub most : free ≤ window
@@ -88,6 +92,7 @@ own_area_of h = area_of (class_of h) h.slot h.protected
 abbrev pub area_by : (HeaderFields → ℕ) → Need → ℕ
 area_by area need = area need.header
 
+-- a need as a frame, with an area by its header
 abbrev pub frame_by : (HeaderFields → ℕ) → Need → Frame
 frame_by area need = record { bytes = need.bytes; area = area need.header }
 
@@ -111,12 +116,16 @@ pub record AreReserves (window : ℕ) (choices : HeaderFields → List SlotField
   pub within : AllWithin window (opens_in choices part)
   pub chosen : AreChosen (opens_in choices part) (map (area_by area) part)
 
--- More frames were placed, from `free` free bytes before the first of `items` to `after` before the first of those that are left. Whatever
--- places the others rightly from there on places, together with these frames, all of them rightly.
-pub record PlacesOn (window free after : ℕ) (items left : List Item) (old new : List Placed) : Type 0 where
+-- More frames were placed, from `free` free bytes before the first of `items` to
+-- `after` before the first of those that are left. Whatever places the others
+-- rightly from there on places, together with these frames, all of them rightly.
+pub record PlacesOn (window free after : ℕ) (items left : List Item)
+    (old new : List Placed) : Type 0 where
   pub more : List Placed
   pub appended : new ≡ old ++ more
-  pub goes : (rest : List Item) (placed : List Placed) → needed (map open_of rest) ≡ 0 → ArePlaced window after (left ++ rest) placed → ArePlaced window free (items ++ rest) (more ++ placed)
+  pub goes : (rest : List Item) (placed : List Placed) → needed (map open_of rest) ≡ 0
+      → ArePlaced window after (left ++ rest) placed
+      → ArePlaced window free (items ++ rest) (more ++ placed)
 
 -- The lead-in after which a part is placed: none if its frames have a layout without one, else the
 -- one of some slots with the smallest area that has what they need.
@@ -128,7 +137,8 @@ IsPlacedLeadIn window leads choices [] (Some slot) = ⊥
 IsPlacedLeadIn window leads choices (first ∷ part) (Some slot) =
     (0 < needed (opens_in choices (first ∷ part)))
     × CanBeLaid window (map open_of (items_of choices (first ∷ part) (Some slot)))
-    × IsLeastSlot (needed (opens_in choices (first ∷ part))) (class_of first.header) false leads slot
+    × IsLeastSlot (needed (opens_in choices (first ∷ part)))
+    (class_of first.header) false leads slot
 
 -- a part was placed after its lead-in, which has one of some slots
 pub record PlacesPart (window : ℕ) (leads : List SlotFields)
@@ -139,7 +149,8 @@ pub record PlacesPart (window : ℕ) (leads : List SlotFields)
   pub places : PlacesOn window free after (items_of choices part lead_in) [] old new
 
 -- the lead-in of some slots with the smallest area that has what the frames of a part need
-unfoldable pub IsLeastLead : List SlotFields → (HeaderFields → List SlotFields) → List Need → SlotFields → Type 0
+unfoldable pub IsLeastLead : List SlotFields → (HeaderFields → List SlotFields) → List Need
+    → SlotFields → Type 0
 IsLeastLead leads choices [] slot = ⊥
 IsLeastLead leads choices (first ∷ part) slot =
     IsLeastSlot (needed (opens_in choices (first ∷ part))) (class_of first.header) false leads slot

@@ -1,34 +1,36 @@
 -- The first of some slots that is long enough, by the length that is wanted.
-use Rattle.std.specs.Prelude.{◌≡◌, ℕ, ◌+◌, ◌<◌, ◌≤◌, List, length, slice_index_or, Contains}
-use Rattle.frame_header.specs.Fields.{SlotFields, ClassFields}
-use Rattle.frame_header.specs.Tables.{length_of, side_size_of}
-use Rattle.slot_plan.specs.declared.needs.Need.{Need}
-use Rattle.slot_plan.specs.declared.table.SlotTable.{SlotTable}
-use Rattle.slot_plan.specs.Parts.{AreOfClass}
+use Rattle.std.specs.Prelude.{Contains, length, List, slice_index_or, ℕ, ◌+◌, ◌<◌, ◌≡◌, ◌≤◌}
+use Rattle.frame_header.specs.{Fields.{ClassFields, SlotFields}, Tables.{length_of, side_size_of}}
+use Rattle.slot_plan.specs.{Parts.AreOfClass, declared.{needs.Need.Need, table.SlotTable.SlotTable}}
 
 -- of some slots, the one with the shortest frame of at least so many bytes
-pub record IsShortest (class : ClassFields) (slots : List SlotFields) (wanted : ℕ) (slot : SlotFields) : Type 0 where
+pub record IsShortest (class : ClassFields) (slots : List SlotFields) (wanted : ℕ)
+    (slot : SlotFields) : Type 0 where
   pub chosen : Contains slots slot
   pub enough : wanted ≤ length_of class slot
   pub least : (other : SlotFields) → Contains slots other → wanted ≤ length_of class other
       → length_of class slot ≤ length_of class other
 
--- There is a slot. The table has this slot for each length up to that of the longest frame, and each
--- frame has room for more than what is before its area.
+-- There is a slot. The table has this slot for each length up to that of the
+-- longest frame, and each frame has room for more than what is before its area.
 pub record IsTableOf (slots : List SlotFields) (table : SlotTable) : Type 0 where
   pub some : 1 ≤ length slots
-  pub room : (slot : SlotFields) → Contains slots slot → 6 + side_size_of table.lengths < length_of table.lengths slot
-  pub all : (slot : SlotFields) → Contains slots slot → length_of table.lengths slot < length table.by_length.items
+  pub room : (slot : SlotFields) → Contains slots slot
+      → 6 + side_size_of table.lengths < length_of table.lengths slot
+  pub all : (slot : SlotFields) → Contains slots slot
+      → length_of table.lengths slot < length table.by_length.items
   pub least : (wanted : ℕ) (d : SlotFields) → wanted < length table.by_length.items
       → IsShortest table.lengths slots wanted (slice_index_or table.by_length.items wanted d)
 
 -- the table of these slots of a class
-pub record IsTableWith (class : ClassFields) (slots : List SlotFields) (table : SlotTable) : Type 0 where
+pub record IsTableWith (class : ClassFields) (slots : List SlotFields)
+    (table : SlotTable) : Type 0 where
   pub class_is : table.lengths ≡ class
   pub of_slots : IsTableOf slots table
 
 -- the table of these slots in the class of these frames
-pub record IsTableFor (slots : List SlotFields) (needs : List Need) (table : SlotTable) : Type 0 where
+pub record IsTableFor (slots : List SlotFields) (needs : List Need)
+    (table : SlotTable) : Type 0 where
   -- they are of its class
   pub class : AreOfClass table.lengths needs
   -- it has these slots

@@ -1,52 +1,51 @@
--- What a file is cut into at positions, and at places of samples: no fault comes too early, and what is laid holds its stream.
-use Rattle.std.proofs.Common.{◌≡◌, ℕ, ◌&&◌, ◌||◌, Bool, true, false, cond, List, length, Option, Some, None, Result, Ok, Err, refl, sym, ◌∙◌, ap, ap₂, subst, arith}
-use Rattle.std.specs.Prelude.{IfSome, IfErr, nat_lt, nat_le, replicate}
-use Rattle.cue_sheet.specs.declared.cue_fault.CueFault.{CueFault}
+-- What a file is cut into at positions, and at places of samples:
+-- no fault comes too early, and what is laid holds its stream.
+use Rattle.std.proofs.Common.{ap, ap₂, arith, Bool, cond, Err, false, length, List, None, Ok}
+use Rattle.std.proofs.Common.{Option, refl, Result, Some, subst, sym, true, ℕ, ◌&&◌, ◌||◌, ◌∙◌, ◌≡◌}
+use Rattle.std.specs.Prelude.{IfErr, IfSome, nat_le, nat_lt, replicate}
+use Rattle.commands.proofs.{RefusingLaws.{then_all, then_ok, unless_all}, SheetLaws.sheet-all}
+use Rattle.commands.specs.{Left.{IsLate, IsNotBefore, IsRefusal}, One.most_frames}
+use Rattle.commands.specs.{Refusing.then_made, Sheet.sheet_in, declared.fault.EditFault.EditFault}
+use Rattle.commands.specs.declared.fault.{EditFault.TheVariants.{Input, Refused}, Refusal.Refusal}
+use Rattle.commands.specs.declared.fault.Refusal.TheVariants.{Range, Sheet, SheetTooLarge}
+use Rattle.commands.specs.declared.fault.Refusal.TheVariants.{Span as NoSpan}
+use Rattle.cue_sheet.specs.{Cues.cue_of, Places.frame_at, declared.cue_fault.CueFault.CueFault}
 use Rattle.cue_sheet.specs.declared.place.Place.{Place}
-use Rattle.cue_sheet.specs.Places.{frame_at}
-use Rattle.cue_sheet.specs.Cues.{cue_of}
-use Rattle.exact_span.specs.declared.exact_place.ExactPlace.{ExactPlace}
-use Rattle.exact_span.specs.declared.span.Span.{Span}
-use Rattle.exact_span.specs.Places.{sample_at}
-use Rattle.exact_span.specs.PlayedPositions.{played_of, length_of_played}
+use Rattle.cut_edits.proofs.{ChosenLaws.{chosen-holds, with_right}, HeadLaws.apart-length}
+use Rattle.cut_edits.proofs.PieceLaws.{apart_had, head_long, piece-holds, span-there, span_apart}
+use Rattle.cut_edits.specs.Chosen.{Chosen, chosen_file, chosen_stream, cut_choice, cut_refuses}
+use Rattle.cut_edits.specs.Chosen.{first_plan, first_planning, laid_as, laid_by, laid_of, laid_with}
+use Rattle.cut_edits.specs.Chosen.{needs_of, outside_fault}
+use Rattle.cut_edits.specs.Exact.{apart, exact_laid, exact_refuses, piece_of, samples_fault}
+use Rattle.cut_edits.specs.Exact.{span_between, span_in}
+use Rattle.exact_span.specs.{Places.sample_at, PlayedPositions.{length_of_played, played_of}}
+use Rattle.exact_span.specs.declared.{exact_place.ExactPlace.ExactPlace, span.Span.Span}
 use Rattle.info_header.specs.declared.fields.Info.{Info}
-use Rattle.laying.specs.NeedsFit.{own_choice}
-use Rattle.laying.specs.KeptFields.{fields_of_head}
-use Rattle.laying.specs.Laid.{Laid, file_laid, stream_laid}
-use Rattle.laying.proofs.ChosenFrames.{survey-had}
-use Rattle.sync_survey.specs.declared.survey_fault.SurveyFault.TheVariants.{Absent, Read}
-use Rattle.sync_survey.specs.Faults.{SurveyFields, HoldsStream}
-use Rattle.sync_survey.specs.Survey.{survey_of}
-use Rattle.commands.specs.declared.fault.EditFault.{EditFault}
-use Rattle.commands.specs.declared.fault.EditFault.TheVariants.{Input, Refused}
-use Rattle.commands.specs.declared.fault.Refusal.{Refusal}
-use Rattle.commands.specs.declared.fault.Refusal.TheVariants.{Range, Span as NoSpan, Sheet, SheetTooLarge}
-use Rattle.commands.specs.Left.{IsLate, IsNotBefore, IsRefusal}
-use Rattle.commands.specs.One.{most_frames}
-use Rattle.commands.specs.Refusing.{then_made}
-use Rattle.commands.specs.Sheet.{sheet_in}
-use Rattle.commands.proofs.RefusingLaws.{unless_all, then_all, then_ok}
-use Rattle.commands.proofs.SheetLaws.{sheet-all}
-use Rattle.cut_edits.specs.Chosen.{Chosen, outside_fault, cut_choice, cut_refuses, first_planning, first_plan, needs_of, laid_by, laid_as, laid_with, laid_of, chosen_file, chosen_stream}
-use Rattle.cut_edits.specs.Exact.{apart, samples_fault, span_between, span_in, piece_of, exact_laid, exact_refuses}
-use Rattle.cut_edits.proofs.ChosenLaws.{with_right, chosen-holds}
-use Rattle.cut_edits.proofs.HeadLaws.{apart-length}
-use Rattle.cut_edits.proofs.PieceLaws.{head_long, span-there, span_apart, apart_had, piece-holds}
-use Rattle.split_edits.specs.declared.points.Points.{Points}
-use Rattle.split_edits.specs.declared.points.Points.TheVariants.{Places, Sheet as InSheet}
-use Rattle.split_edits.specs.declared.exact_points.ExactPoints.{ExactPoints}
-use Rattle.split_edits.specs.declared.exact_points.ExactPoints.TheVariants.{Places as ExactPlaces, Sheet as InExactSheet}
+use Rattle.laying.{proofs.ChosenFrames.survey-had, specs.KeptFields.fields_of_head}
+use Rattle.laying.specs.{Laid.{file_laid, Laid, stream_laid}, NeedsFit.own_choice}
 use Rattle.split_edits.specs.Cutting.{IsProper}
-use Rattle.split_edits.specs.Split.{with_end, places_where, sheet_refuses, frames_between, as_exact, refuses_of, cutting_of, exact_refuses_of, exact_cutting_of}
+use Rattle.split_edits.specs.Split.{as_exact, cutting_of, exact_cutting_of, exact_refuses_of}
+use Rattle.split_edits.specs.Split.{frames_between, places_where, refuses_of, sheet_refuses}
+use Rattle.split_edits.specs.{Split.with_end, declared.exact_points.ExactPoints.ExactPoints}
+use Rattle.split_edits.specs.declared.exact_points.ExactPoints.TheVariants.{Places as ExactPlaces}
+use Rattle.split_edits.specs.declared.exact_points.ExactPoints.TheVariants.{Sheet as InExactSheet}
+use Rattle.split_edits.specs.declared.points.Points.{Points, TheVariants.{Places, Sheet as InSheet}}
+use Rattle.sync_survey.specs.{Faults.{HoldsStream, SurveyFields}, Survey.survey_of}
+use Rattle.sync_survey.specs.declared.survey_fault.SurveyFault.TheVariants.{Absent, Read}
 
 -- ---- the positions of a sheet
 
-end-all : (P : EditFault → Type 0) → ((fault : CueFault) → P (Refused (Sheet fault))) → (r : Result (List Place) CueFault) → IfErr (with_end r) P
+end-all : (P : EditFault → Type 0) → ((fault : CueFault) → P (Refused (Sheet fault)))
+    → (r : Result (List Place) CueFault) → IfErr (with_end r) P
 end-all P cue (Ok starts) = tt
 end-all P cue (Err fault) = cue fault
 
-where-all : (P : EditFault → Type 0) → P (Input 1 Absent) → ((size : ℕ) → P (Refused (SheetTooLarge size))) → ((fault : CueFault) → P (Refused (Sheet fault))) → (o : Option (List ℕ)) → IfErr (places_where o) P
-where-all P absent large cue o = then_all P (sheet_in o) (λ bytes. with_end (cue_of bytes)) (sheet-all P absent large o) (λ bytes. end-all P cue (cue_of bytes))
+where-all : (P : EditFault → Type 0) → P (Input 1 Absent)
+    → ((size : ℕ) → P (Refused (SheetTooLarge size)))
+    → ((fault : CueFault) → P (Refused (Sheet fault))) → (o : Option (List ℕ))
+    → IfErr (places_where o) P
+where-all P absent large cue o = then_all P (sheet_in o) (λ bytes. with_end (cue_of bytes))
+    (sheet-all P absent large o) (λ bytes. end-all P cue (cue_of bytes))
 
 where-late : (o : Option (List ℕ)) → IfErr (places_where o) IsLate
 where-late = where-all IsLate refl (λ size. refl) (λ fault. refl)
@@ -54,34 +53,45 @@ where-late = where-all IsLate refl (λ size. refl) (λ fault. refl)
 where-after : (o : Option (List ℕ)) → IfErr (places_where o) (IsNotBefore (Input 1 Read))
 where-after = where-all (IsNotBefore (Input 1 Read)) (omega arith) (λ size. tt) (λ fault. tt)
 
-as-all : (P : EditFault → Type 0) (r : Result (List Place) EditFault) → IfErr r P → IfErr (as_exact r) P
+as-all : (P : EditFault → Type 0) (r : Result (List Place) EditFault) → IfErr r P
+    → IfErr (as_exact r) P
 as-all P (Ok places) is = tt
 as-all P (Err fault) is = is
 
 -- nothing is refused where the test holds
-unless-test : (P : EditFault → Type 0) (refusal : Refusal) → P (Refused refusal) → (test : Bool) → IfSome (cond test None (Some refusal)) (λ r. P (Refused r))
+unless-test : (P : EditFault → Type 0) (refusal : Refusal) → P (Refused refusal) → (test : Bool)
+    → IfSome (cond test None (Some refusal)) (λ r. P (Refused r))
 unless-test P refusal is true = tt
 unless-test P refusal is false = is
 
 -- ---- at positions
 
-module _ (P : EditFault → Type 0) (range : (from to frames : ℕ) → P (Refused (Range from to frames))) where
-  frames-all : (from to : Place) (file : List ℕ) (s : SurveyFields) → IfErr (frames_between from to file s) P
+module _ (P : EditFault → Type 0)
+    (range : (from to frames : ℕ) → P (Refused (Range from to frames))) where
+  frames-all : (from to : Place) (file : List ℕ) (s : SurveyFields)
+      → IfErr (frames_between from to file s) P
   unfolding laid_with cut_choice
   frames-all from to file s =
       let a = frame_at s.class (length s.frames) from in
       let b = frame_at s.class (length s.frames) to in
       let n = length s.frames in
-      then_all P (cut_choice from to file s) (laid_as (first_planning own_choice) s) (unless_all P (outside_fault a b n) _ (unless-test P (Range a b n) (range a b n) (nat_lt a b && nat_le b n))) (λ chosen. tt)
+      then_all P (cut_choice from to file s) (laid_as (first_planning own_choice) s)
+      (unless_all P (outside_fault a b n) _
+      (unless-test P (Range a b n) (range a b n) (nat_lt a b && nat_le b n))) (λ chosen. tt)
 
-frames-hold : (from to : Place) (file : List ℕ) (s : SurveyFields) (laid : Laid) → survey_of file most_frames ≡ Ok s → frames_between from to file s ≡ Ok laid → HoldsStream (file_laid laid file s) (stream_laid laid file s)
+frames-hold : (from to : Place) (file : List ℕ) (s : SurveyFields) (laid : Laid)
+    → survey_of file most_frames ≡ Ok s → frames_between from to file s ≡ Ok laid
+    → HoldsStream (file_laid laid file s) (stream_laid laid file s)
 unfolding laid_with cut_choice chosen_file chosen_stream
 frames-hold from to file s laid surveyed e =
-    let parts = then_ok (cut_choice from to file s) (laid_as (first_planning own_choice) s) laid e in
+    let parts =
+    then_ok (cut_choice from to file s) (laid_as (first_planning own_choice) s) laid e in
     let same : laid_of parts.0 s ≡ laid = cc in
-    let right = with_right None (replicate 36 0) (frame_at s.class (length s.frames) from) (frame_at s.class (length s.frames) to) s parts.0 refl parts.1 in
+    let right = with_right None (replicate 36 0) (frame_at s.class (length s.frames) from)
+    (frame_at s.class (length s.frames) to) s parts.0 refl parts.1 in
     subst (λ (l : Laid). HoldsStream (file_laid l file s) (stream_laid l file s)) same
-    (chosen-holds parts.0 file s (survey-had file most_frames s surveyed) right.some right.within right.extension)
+    (chosen-holds parts.0 file s
+    (survey-had file most_frames s surveyed) right.some right.within right.extension)
 
 -- a file that is cut at positions
 pub points-proper : (points : Points) → IsProper (cutting_of points)
@@ -101,45 +111,62 @@ points-proper (InSheet sheet) = record {
 }
 
 -- its refusals are among those that there can be
-pub points-refusal : (points : Points) (fault : EditFault) → IsRefusal cut_refuses fault → IsRefusal (refuses_of points) fault
+pub points-refusal : (points : Points) (fault : EditFault) → IsRefusal cut_refuses fault
+    → IsRefusal (refuses_of points) fault
 points-refusal (Places places) fault is = is
 points-refusal (InSheet sheet) (Refused refusal) is = ap (λ b. b || sheet_refuses refusal) is
 points-refusal (InSheet sheet) _ is = absurd is
 
 -- the frames that were chosen in the slots of their plan, by the survey that is known
 module _ (from to : Place) (file : List ℕ) (s known : SurveyFields) (same : known ≡ s) where
-  pub frames-laid : (chosen : Chosen) (laid : Laid) → cut_choice from to file known ≡ Ok chosen → laid ≡ laid_by chosen (first_plan own_choice known.class (needs_of chosen known)) → frames_between from to file s ≡ Ok laid
+  -- they are what is laid from the one place to the other
+  pub frames-laid : (chosen : Chosen) (laid : Laid) → cut_choice from to file known ≡ Ok chosen
+      → laid ≡ laid_by chosen (first_plan own_choice known.class (needs_of chosen known))
+      → frames_between from to file s ≡ Ok laid
   unfolding laid_with
   frames-laid chosen laid chose is =
       subst (λ (t : SurveyFields). frames_between from to file t ≡ Ok laid) same
-      (ap (λ (r : Result Chosen EditFault). then_made r (laid_as (first_planning own_choice) known)) chose ∙ ap Ok (sym is))
+      (ap (λ (r : Result Chosen EditFault). then_made r (laid_as (first_planning own_choice) known))
+      chose ∙ ap Ok (sym is))
 
-  pub frames-refused : (fault : EditFault) → cut_choice from to file known ≡ Err fault → frames_between from to file s ≡ Err fault
+  -- and where they are refused, so is what is laid
+  pub frames-refused : (fault : EditFault) → cut_choice from to file known ≡ Err fault
+      → frames_between from to file s ≡ Err fault
   unfolding laid_with
   frames-refused fault chose =
       subst (λ (t : SurveyFields). frames_between from to file t ≡ Err fault) same
-      (ap (λ (r : Result Chosen EditFault). then_made r (laid_as (first_planning own_choice) known)) chose)
+      (ap (λ (r : Result Chosen EditFault). then_made r (laid_as (first_planning own_choice) known))
+      chose)
 
 -- ---- at places of samples
 
-module _ (P : EditFault → Type 0) (span : (a b samples : ℕ) → P (Refused (NoSpan a b samples))) where
-  exact-all : (from to : ExactPlace) (file : List ℕ) (s : SurveyFields) → IfErr (exact_laid from to file s) P
+module _ (P : EditFault → Type 0)
+    (span : (a b samples : ℕ) → P (Refused (NoSpan a b samples))) where
+  exact-all : (from to : ExactPlace) (file : List ℕ) (s : SurveyFields)
+      → IfErr (exact_laid from to file s) P
   unfolding exact_laid span_in
   exact-all from to file s =
       let head = fields_of_head file s.head in
       let samples = length_of_played (played_of head s.class (length s.frames)) in
       let a = sample_at s.class samples from in
       let b = sample_at s.class samples to in
-      then_all P (span_in from to head s) (λ span. Ok (piece_of head span file (apart s))) (unless_all P (samples_fault a b samples) _ (unless-test P (NoSpan a b samples) (span a b samples) (nat_lt a b && nat_le b samples))) (λ span. tt)
+      then_all P (span_in from to head s) (λ span. Ok (piece_of head span file (apart s)))
+      (unless_all P (samples_fault a b samples) _ (unless-test P (NoSpan a b samples)
+      (span a b samples) (nat_lt a b && nat_le b samples))) (λ span. tt)
 
-exact-hold : (from to : ExactPlace) (file : List ℕ) (s : SurveyFields) (laid : Laid) → survey_of file most_frames ≡ Ok s → exact_laid from to file s ≡ Ok laid → HoldsStream (file_laid laid file (apart s)) (stream_laid laid file (apart s))
+exact-hold : (from to : ExactPlace) (file : List ℕ) (s : SurveyFields) (laid : Laid)
+    → survey_of file most_frames ≡ Ok s → exact_laid from to file s ≡ Ok laid
+    → HoldsStream (file_laid laid file (apart s)) (stream_laid laid file (apart s))
 unfolding exact_laid
 exact-hold from to file s laid surveyed e =
     let head = fields_of_head file s.head in
-    let parts = then_ok (span_in from to head s) (λ span. Ok (piece_of head span file (apart s))) laid e in
+    let parts =
+    then_ok (span_in from to head s) (λ span. Ok (piece_of head span file (apart s))) laid e in
     let same : piece_of head parts.0 file (apart s) ≡ laid = cc in
-    subst (λ (l : Laid). HoldsStream (file_laid l file (apart s)) (stream_laid l file (apart s))) same
-    (piece-holds head (head_long file s.head) parts.0 file (apart s) (apart_had file s surveyed) (span_apart s parts.0 (span-there from to head s parts.0 parts.1)))
+    subst (λ (l : Laid). HoldsStream (file_laid l file (apart s)) (stream_laid l file (apart s)))
+    same
+    (piece-holds head (head_long file s.head) parts.0 file (apart s) (apart_had file s surveyed)
+    (span_apart s parts.0 (span-there from to head s parts.0 parts.1)))
 
 -- a file that is cut at places of samples
 pub exact-points-proper : (points : ExactPoints) → IsProper (exact_cutting_of points)
@@ -152,39 +179,53 @@ exact-points-proper (ExactPlaces places) = record {
 }
 exact-points-proper (InExactSheet sheet) = record {
   places_late = λ f. as-all IsLate (places_where (f sheet.now)) (where-late (f sheet.now));
-  places_after = λ f. as-all (IsNotBefore (Input 1 Read)) (places_where (f sheet.now)) (where-after (f sheet.now));
+  places_after = λ f. as-all (IsNotBefore (Input 1 Read)) (places_where (f sheet.now))
+      (where-after (f sheet.now));
   late = exact-all IsLate (λ a b n. refl);
   after = exact-all (IsNotBefore (Input 1 Read)) (λ a b n. tt);
   streams = λ from to file s laid octets surveyed e. exact-hold from to file s laid surveyed e;
 }
 
 -- its refusals are among those that there can be
-pub exact-points-refusal : (points : ExactPoints) (fault : EditFault) → IsRefusal exact_refuses fault → IsRefusal (exact_refuses_of points) fault
+pub exact-points-refusal : (points : ExactPoints) (fault : EditFault)
+    → IsRefusal exact_refuses fault → IsRefusal (exact_refuses_of points) fault
 exact-points-refusal (ExactPlaces places) fault is = is
-exact-points-refusal (InExactSheet sheet) (Refused refusal) is = ap (λ b. b || sheet_refuses refusal) is
+exact-points-refusal (InExactSheet sheet) (Refused refusal) is =
+    ap (λ b. b || sheet_refuses refusal) is
 exact-points-refusal (InExactSheet sheet) _ is = absurd is
 
 -- setting the head apart leaves the samples where they are
-span_same : (from to : ExactPlace) (head : Option Info) (s : SurveyFields) → span_in from to head (apart s) ≡ span_in from to head s
+span_same : (from to : ExactPlace) (head : Option Info) (s : SurveyFields)
+    → span_in from to head (apart s) ≡ span_in from to head s
 unfolding span_in
-span_same from to head s = ap (λ (n : ℕ). span_between s.class (played_of head s.class n) from to) (apart-length s)
+span_same from to head s =
+    ap (λ (n : ℕ). span_between s.class (played_of head s.class n) from to) (apart-length s)
 
 -- the span that was found, by the survey and the head that are known
-module _ (from to : ExactPlace) (file : List ℕ) (s known : SurveyFields) (same : known ≡ apart s) (head : Option Info) (head_is : head ≡ fields_of_head file s.head) where
-  found : (r : Result Span EditFault) → span_in from to head known ≡ r → span_in from to (fields_of_head file s.head) s ≡ r
+module _ (from to : ExactPlace) (file : List ℕ) (s known : SurveyFields) (same : known ≡ apart s)
+    (head : Option Info) (head_is : head ≡ fields_of_head file s.head) where
+  found : (r : Result Span EditFault) → span_in from to head known ≡ r
+      → span_in from to (fields_of_head file s.head) s ≡ r
   found r is =
       sym (span_same from to (fields_of_head file s.head) s)
       ∙ ap (λ (h : Option Info). span_in from to h (apart s)) (sym head_is)
       ∙ ap (span_in from to head) (sym same)
       ∙ is
 
-  pub exact-laid-is : (span : Span) (laid : Laid) → span_in from to head known ≡ Ok span → laid ≡ piece_of head span file known → exact_laid from to file s ≡ Ok laid
+  -- its piece is what is laid from the one place to the other
+  pub exact-laid-is : (span : Span) (laid : Laid) → span_in from to head known ≡ Ok span
+      → laid ≡ piece_of head span file known → exact_laid from to file s ≡ Ok laid
   unfolding exact_laid
   exact-laid-is span laid is piece =
-      ap (λ (r : Result Span EditFault). then_made r (λ p. Ok (piece_of (fields_of_head file s.head) p file (apart s)))) (found (Ok span) is)
-      ∙ ap₂ (λ (h : Option Info) (t : SurveyFields). Ok (piece_of h span file t)) (sym head_is) (sym same)
+      ap (λ (r : Result Span EditFault). then_made r
+      (λ p. Ok (piece_of (fields_of_head file s.head) p file (apart s)))) (found (Ok span) is)
+      ∙ ap₂ (λ (h : Option Info) (t : SurveyFields). Ok (piece_of h span file t)) (sym head_is)
+      (sym same)
       ∙ ap Ok (sym piece)
 
-  pub exact-laid-refused : (fault : EditFault) → span_in from to head known ≡ Err fault → exact_laid from to file s ≡ Err fault
+  -- and where it is refused, so is what is laid
+  pub exact-laid-refused : (fault : EditFault) → span_in from to head known ≡ Err fault
+      → exact_laid from to file s ≡ Err fault
   unfolding exact_laid
-  exact-laid-refused fault is = ap (λ (r : Result Span EditFault). then_made r (λ p. Ok (piece_of (fields_of_head file s.head) p file (apart s)))) (found (Err fault) is)
+  exact-laid-refused fault is = ap (λ (r : Result Span EditFault). then_made r
+      (λ p. Ok (piece_of (fields_of_head file s.head) p file (apart s)))) (found (Err fault) is)

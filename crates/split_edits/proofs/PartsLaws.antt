@@ -1,24 +1,19 @@
 -- What a split that isn't refused is made of.
-use Rattle.std.proofs.Common.{◌≡◌, ℕ, ◌≤◌, List, [], ◌∷◌, ◌++◌, length, Option, Some, None, Result, Ok, Err, refl, sym, ◌∙◌, ap}
-use Rattle.outside.specs.Files.{Contents}
-use Rattle.cue_sheet.specs.declared.cue_fault.CueFault.{CueFault}
-use Rattle.cue_sheet.specs.declared.place.Place.{Place}
+use Rattle.std.proofs.Common.{ap, Err, length, List, None, Ok, Option, refl, Result, Some, sym, ℕ}
+use Rattle.std.proofs.Common.{[], ◌++◌, ◌∙◌, ◌∷◌, ◌≡◌, ◌≤◌}
+use Rattle.commands.proofs.{FoundSheet.{is-sheet, sheet-is}, RefusingLaws.then_ok}
+use Rattle.commands.specs.{Command.{clash_from, Made}, One.most_frames, Refusing.then_made}
+use Rattle.commands.specs.{Sheet.{longest_sheet, sheet_in}, declared.fault.EditFault.EditFault}
+use Rattle.cue_sheet.specs.{Cues.cue_of, declared.{cue_fault.CueFault.CueFault, place.Place.Place}}
 use Rattle.cue_sheet.specs.declared.place.Place.TheVariants.{End}
-use Rattle.cue_sheet.specs.Cues.{cue_of}
-use Rattle.sync_survey.specs.declared.survey_fault.SurveyFault.{SurveyFault}
-use Rattle.sync_survey.specs.Faults.{SurveyFields}
-use Rattle.sync_survey.specs.Survey.{survey_of}
-use Rattle.commands.specs.declared.fault.EditFault.{EditFault}
-use Rattle.commands.specs.Command.{Made, clash_from}
-use Rattle.commands.specs.One.{most_frames}
-use Rattle.commands.specs.Refusing.{then_made}
-use Rattle.commands.specs.Sheet.{longest_sheet, sheet_in}
-use Rattle.commands.proofs.RefusingLaws.{then_ok}
-use Rattle.commands.proofs.FoundSheet.{sheet-is, is-sheet}
 use Rattle.laying.specs.Laid.{Laid}
+use Rattle.outside.specs.Files.{Contents}
 use Rattle.requests.specs.Names.{piece_names}
-use Rattle.split_edits.specs.Cutting.{Cutting, laid_at, pieces_from, made_of, made_at, made_by, made_where, unless_equal, made_result, split_command}
-use Rattle.split_edits.specs.Split.{with_end, places_where}
+use Rattle.split_edits.specs.Cutting.{Cutting, laid_at, made_at, made_by, made_of, made_result}
+use Rattle.split_edits.specs.Cutting.{made_where, pieces_from, split_command, unless_equal}
+use Rattle.split_edits.specs.Split.{places_where, with_end}
+use Rattle.sync_survey.specs.{Faults.SurveyFields, Survey.survey_of}
+use Rattle.sync_survey.specs.declared.survey_fault.SurveyFault.{SurveyFault}
 
 -- ---- the pieces
 
@@ -28,6 +23,7 @@ of_made made = Ok made
 ok-made : (a b : Made) → of_made a ≡ of_made b → a ≡ b
 ok-made a b e = cc
 
+-- the file, its survey, the places, and what is laid of it between them
 pub record IsSplit {P : Type 0} (cut : Cutting P) (files : Contents) (input : List ℕ) : Type 0 where
   pub file : List ℕ
   pub survey : SurveyFields
@@ -39,38 +35,61 @@ pub record IsSplit {P : Type 0} (cut : Cutting P) (files : Contents) (input : Li
   pub picked : laid_at cut file survey found ≡ Ok laid
 
 -- the pieces
-abbrev pub made_in : {P : Type 0} (cut : Cutting P) (files : Contents) (prefix input : List ℕ) → IsSplit cut files input → Made
-made_in cut files prefix input is = record { outputs = pieces_from prefix 1 is.file (cut.survey is.survey) is.laid; text = [] }
+abbrev pub made_in : {P : Type 0} (cut : Cutting P) (files : Contents) (prefix input : List ℕ)
+    → IsSplit cut files input → Made
+made_in cut files prefix input is =
+    record { outputs = pieces_from prefix 1 is.file (cut.survey is.survey) is.laid; text = [] }
 
 module _ {P : Type 0} (cut : Cutting P) (files : Contents) (prefix input : List ℕ) where
   -- these pieces are what was made
   abbrev pub Splits : Made → Type 0
   Splits made = (is : IsSplit cut files input) × (made_in cut files prefix input is ≡ made)
 
-  placed-parts : (file : List ℕ) (s : SurveyFields) (made : Made) → files input ≡ Some file → survey_of file most_frames ≡ Ok s → then_made (cut.places files) (made_at cut prefix file s) ≡ Ok made → Splits made
+  placed-parts : (file : List ℕ) (s : SurveyFields) (made : Made) → files input ≡ Some file
+      → survey_of file most_frames ≡ Ok s
+      → then_made (cut.places files) (made_at cut prefix file s) ≡ Ok made → Splits made
   placed-parts file s made there surveyed e =
       let one = then_ok (cut.places files) (made_at cut prefix file s) made e in
-      let two = then_ok (laid_at cut file s one.0) (made_of prefix file (cut.survey s)) made one.2 in
-      (record { file = file; survey = s; there = there; surveyed = surveyed; found = one.0; placed = one.1; laid = two.0; picked = two.1 }, ok-made _ made two.2)
+      let two =
+      then_ok (laid_at cut file s one.0) (made_of prefix file (cut.survey s)) made one.2 in (
+        record {
+          file = file;
+          survey = s;
+          there = there;
+          surveyed = surveyed;
+          found = one.0;
+          placed = one.1;
+          laid = two.0;
+          picked = two.1;
+        },
+        ok-made _ made two.2,
+      )
 
-  where-parts : (o : Option (List ℕ)) (made : Made) → files input ≡ o → made_where cut prefix (cut.places files) o ≡ Ok made → Splits made
+  where-parts : (o : Option (List ℕ)) (made : Made) → files input ≡ o
+      → made_where cut prefix (cut.places files) o ≡ Ok made → Splits made
   where-parts None made there e = absurd cc
   where-parts (Some file) made there e = at (survey_of file most_frames) refl e
     where
-      at : (r : Result SurveyFields SurveyFault) → survey_of file most_frames ≡ r → made_by cut prefix (cut.places files) file r ≡ Ok made → Splits made
+      at : (r : Result SurveyFields SurveyFault) → survey_of file most_frames ≡ r
+          → made_by cut prefix (cut.places files) file r ≡ Ok made → Splits made
       at (Err fault) surveyed e = absurd cc
       at (Ok s) surveyed e = placed-parts file s made there surveyed e
 
-  equal-parts : (clash : Option ℕ) (made : Made) → unless_equal clash (made_where cut prefix (cut.places files) (files input)) ≡ Ok made → (clash ≡ None) × Splits made
+  equal-parts : (clash : Option ℕ) (made : Made)
+      → unless_equal clash (made_where cut prefix (cut.places files) (files input)) ≡ Ok made
+      → (clash ≡ None) × Splits made
   equal-parts (Some place) made e = absurd cc
   equal-parts None made e = (refl, where-parts (files input) made refl e)
 
-  pub split-parts : (made : Made) → (split_command cut input prefix).makes files ≡ Ok made → (clash_from (piece_names prefix) 0 (input ∷ cut.more) ≡ None) × Splits made
+  -- a split that isn't refused has no clash, and was made so
+  pub split-parts : (made : Made) → (split_command cut input prefix).makes files ≡ Ok made
+      → (clash_from (piece_names prefix) 0 (input ∷ cut.more) ≡ None) × Splits made
   unfolding made_result
   split-parts made e = equal-parts (clash_from (piece_names prefix) 0 (input ∷ cut.more)) made e
 
 -- ---- a cue sheet
 
+-- the bytes of a sheet that isn't too long, its starts, and the places, up to the end
 pub record IsCue (o : Option (List ℕ)) (places : List Place) : Type 0 where
   pub bytes : List ℕ
   pub there : o ≡ Some bytes
@@ -79,24 +98,40 @@ pub record IsCue (o : Option (List ℕ)) (places : List Place) : Type 0 where
   pub read : cue_of bytes ≡ Ok starts
   pub all : starts ++ End ∷ [] ≡ places
 
-end-parts : (r : Result (List Place) CueFault) (places : List Place) → with_end r ≡ Ok places → (starts : List Place) × (r ≡ Ok starts) × (starts ++ End ∷ [] ≡ places)
+end-parts : (r : Result (List Place) CueFault) (places : List Place) → with_end r ≡ Ok places
+    → (starts : List Place) × (r ≡ Ok starts) × (starts ++ End ∷ [] ≡ places)
 end-parts (Ok starts) places e = (starts, refl, cc)
 end-parts (Err fault) places e = absurd cc
 
 -- the positions are those that the bytes of the sheet say
-by-sheet : (o : Option (List ℕ)) → places_where o ≡ then_made (sheet_in o) (λ bytes. with_end (cue_of bytes))
+by-sheet : (o : Option (List ℕ))
+    → places_where o ≡ then_made (sheet_in o) (λ bytes. with_end (cue_of bytes))
 by-sheet o = refl
 
-pub cue-parts : (o : Option (List ℕ)) (places : List Place) → places_where o ≡ Ok places → IsCue o places
+-- places that are read of a sheet are so made
+pub cue-parts : (o : Option (List ℕ)) (places : List Place) → places_where o ≡ Ok places
+    → IsCue o places
 cue-parts o places e =
-    let one = then_ok (sheet_in o) (λ bytes. with_end (cue_of bytes)) places (sym (by-sheet o) ∙ e) in
+    let one =
+    then_ok (sheet_in o) (λ bytes. with_end (cue_of bytes)) places (sym (by-sheet o) ∙ e) in
     let is = sheet-is o one.0 one.1 in
     let parts = end-parts (cue_of one.0) places one.2 in
-    record { bytes = one.0; there = is.there; small = is.small; starts = parts.0; read = parts.1; all = parts.2 }
+    record {
+      bytes = one.0;
+      there = is.there;
+      small = is.small;
+      starts = parts.0;
+      read = parts.1;
+      all =
+          parts.2;
+    }
 
-pub parts-cue : (o : Option (List ℕ)) (places : List Place) → IsCue o places → places_where o ≡ Ok places
+-- and places that are so made are those that are read
+pub parts-cue : (o : Option (List ℕ)) (places : List Place) → IsCue o places
+    → places_where o ≡ Ok places
 parts-cue o places is =
     by-sheet o
-    ∙ ap (λ (r : Result (List ℕ) EditFault). then_made r (λ bytes. with_end (cue_of bytes))) (is-sheet o is.bytes (record { there = is.there; small = is.small }))
+    ∙ ap (λ (r : Result (List ℕ) EditFault). then_made r (λ bytes. with_end (cue_of bytes)))
+    (is-sheet o is.bytes (record { there = is.there; small = is.small }))
     ∙ ap with_end is.read
     ∙ ap Ok is.all

@@ -1,22 +1,22 @@
 -- Pieces one more at a time, from the places and for the outputs.
-use Rattle.std.proofs.lemmas.List.{get_or-take, length-map}
-use Rattle.std.proofs.Common.{◌≡◌, ◌≢◌, ℕ, ◌+◌, ◌-◌, ◌<◌, ◌≤◌, true, false, List, [], ◌∷◌, ◌++◌, length, map, take, drop, get_or, Result, Ok, Err, refl, sym, ◌∙◌, ap, ap₂, subst, inl, inr, zero, suc, bytes_eq, string_bytes, arith, append-nil, append_assoc, slice_index_or}
-use Rattle.std.specs.Prelude.{◌⊎◌, MatchResult}
+use Rattle.std.proofs.Common.{ap, append-nil, append_assoc, ap₂, arith, bytes_eq, drop, Err, false}
+use Rattle.std.proofs.Common.{get_or, inl, inr, length, List, map, Ok, refl, Result, slice_index_or}
+use Rattle.std.proofs.Common.{string_bytes, subst, suc, sym, take, true, zero, ℕ, [], ◌++◌, ◌+◌}
+use Rattle.std.proofs.Common.{◌-◌, ◌<◌, ◌∙◌, ◌∷◌, ◌≡◌, ◌≢◌, ◌≤◌}
+use Rattle.std.proofs.lemmas.List.{drop_all, get_or-take, length-map, take_all}
+use Rattle.std.proofs.lemmas.List.Elements.{All-cons, All-head, All-nil, All-tail, All-take}
+use Rattle.std.proofs.lemmas.List.{Folds.list_any_at, FromFn.take-map-range_with_len}
+use Rattle.std.specs.{List.{All, list_any, range_with_len}, Prelude.{MatchResult, ◌⊎◌}}
 use Rattle.std.specs.Result.{IsErrAnd}
-use Rattle.std.specs.List.{All, list_any, range_with_len}
-use Rattle.std.proofs.lemmas.List.{drop_all, take_all}
-use Rattle.std.proofs.lemmas.List.Elements.{All-nil, All-cons, All-head, All-tail, All-take}
-use Rattle.std.proofs.lemmas.List.Folds.{list_any_at}
-use Rattle.std.proofs.lemmas.List.FromFn.{take-map-range_with_len}
-use Rattle.outside.proofs.FilesLaws.{bytes_eq_same}
-use Rattle.sync_survey.specs.Faults.{SurveyFields}
 use Rattle.commands.specs.declared.fault.EditFault.{EditFault}
-use Rattle.laying.specs.Laid.{Laid, file_laid, IsWritable}
-use Rattle.split_edits.specs.declared.piece.Piece.{Piece}
-use Rattle.requests.proofs.NamesLaws.{names-length, name-at}
+use Rattle.laying.specs.Laid.{file_laid, IsWritable, Laid}
+use Rattle.outside.proofs.FilesLaws.{bytes_eq_same}
+use Rattle.requests.proofs.NamesLaws.{name-at, names-length}
 use Rattle.requests.specs.Names.{piece_name, piece_names}
-use Rattle.split_edits.specs.Cutting.{Cutting, with_first, laid_from, laid_at, pieces_from}
-use Rattle.split_edits.specs.Steps.{ArePieces, CanBeWritten, laid_of, outputs_of, names_of}
+use Rattle.split_edits.specs.Cutting.{Cutting, laid_at, laid_from, pieces_from, with_first}
+use Rattle.split_edits.specs.Steps.{ArePieces, CanBeWritten, laid_of, names_of, outputs_of}
+use Rattle.split_edits.specs.declared.piece.Piece.{Piece}
+use Rattle.sync_survey.specs.Faults.{SurveyFields}
 
 -- ---- what is laid
 
@@ -25,92 +25,140 @@ abbrev pub laid_before : List Laid → Result (List Laid) EditFault → Result (
 laid_before done (Ok more) = Ok (done ++ more)
 laid_before done (Err fault) = Err fault
 
-before-first : (done : List Laid) (first : Laid) (r : Result (List Laid) EditFault) → laid_before done (with_first first r) ≡ laid_before (done ++ first ∷ []) r
+before-first : (done : List Laid) (first : Laid) (r : Result (List Laid) EditFault)
+    → laid_before done (with_first first r) ≡ laid_before (done ++ first ∷ []) r
 before-first done first (Ok more) = ap Ok (sym (append_assoc done (first ∷ []) more))
 before-first done first (Err fault) = refl
 
-module _ {P : Type 0} (cut : Cutting P) (file : List ℕ) (s : SurveyFields) (index : ℕ) (from : P) (rest : List P) (done : List Laid) (whole : Result (List Laid) EditFault)
+module _ {P : Type 0} (cut : Cutting P) (file : List ℕ) (s : SurveyFields) (index : ℕ) (from : P)
+    (rest : List P) (done : List Laid) (whole : Result (List Laid) EditFault)
     (before : laid_before done (laid_from cut file s from (drop index rest)) ≡ whole) where
   module _ (to : P) (next : drop index rest ≡ to ∷ drop (index + 1) rest) where
     -- what is laid up to a place, and then after it
-    pub place-laid : (first : Laid) → cut.between from to file s ≡ Ok first → laid_before (done ++ first ∷ []) (laid_from cut file s to (drop (index + 1) rest)) ≡ whole
-    place-laid first is = sym (before-first done first (laid_from cut file s to (drop (index + 1) rest))) ∙ rw (next, is) at before
+    pub place-laid : (first : Laid) → cut.between from to file s ≡ Ok first
+        → laid_before (done ++ first ∷ []) (laid_from cut file s to (drop (index + 1) rest)) ≡ whole
+    place-laid first is =
+        sym (before-first done first (laid_from cut file s to (drop (index + 1) rest)))
+        ∙ rw (next, is) at before
 
     -- a pair of places that is refused
-    pub place-refused : (fault : EditFault) → cut.between from to file s ≡ Err fault → whole ≡ Err fault
+    pub place-refused : (fault : EditFault) → cut.between from to file s ≡ Err fault
+        → whole ≡ Err fault
     place-refused fault is = sym (rw (next, is) at before)
 
-  -- all places
+  -- where no place is left all pieces are laid
   pub places-laid : length rest ≤ index → whole ≡ Ok done
   places-laid all = sym (rw (drop_all index rest all) at before) ∙ ap Ok (append-nil done)
 
 -- it is that from the first place on
-pub laid-is : {P : Type 0} (cut : Cutting P) (file : List ℕ) (s : SurveyFields) (from : P) (places : List P) → 2 ≤ length places → from ≡ get_or places 0 from
-    → laid_at cut file s places ≡ laid_from cut file s from (take (length places - 1) (drop 1 places))
+pub laid-is : {P : Type 0} (cut : Cutting P) (file : List ℕ) (s : SurveyFields) (from : P)
+    (places : List P) → 2 ≤ length places → from ≡ get_or places 0 from → laid_at cut file s places
+    ≡ laid_from cut file s from (take (length places - 1) (drop 1 places))
 laid-is cut file s from [] some is = absurd (omega (arith, some))
 laid-is cut file s from (place ∷ places) some is =
     ap (λ p. laid_from cut file s p places) (sym is)
-    ∙ ap (laid_from cut file s from) (sym (take_all (length (place ∷ places) - 1) places (omega arith)))
+    ∙ ap (laid_from cut file s from)
+    (sym (take_all (length (place ∷ places) - 1) places (omega arith)))
 
 -- a fault of a pair of places is one of them all
 pub fault-of-all : {M A B C : Type 0} → (B → C) → M ⊎ (A × B) → M ⊎ (A × C)
 fault-of-all all (inl none) = inl none
 fault-of-all all (inr is) = inr (is.0, all is.1)
 
-pub match_err : {T E : Type 0} (r : Result T E) (P : T → Type 0) (Q : E → Type 0) {e : E} → IsErrAnd r (λ y. y ≡ e) → Q e → MatchResult r P Q
+-- what holds of an error holds of the answer with it
+pub match_err : {T E : Type 0} (r : Result T E) (P : T → Type 0) (Q : E → Type 0) {e : E}
+    → IsErrAnd r (λ y. y ≡ e) → Q e → MatchResult r P Q
 match_err (Ok x) P Q is q = absurd is
 match_err (Err y) P Q is q = subst Q (sym is) q
 
 -- ---- the names
 
-pub pieces-push : (prefix : List ℕ) (s : SurveyFields) (k n : ℕ) (pieces : List Piece) (piece : Piece) → ArePieces prefix s k pieces → n ≡ k + length pieces → string_bytes piece.name ≡ piece_name prefix n → IsWritable s piece.selected
+-- a piece more has the next number in its name
+pub pieces-push : (prefix : List ℕ) (s : SurveyFields) (k n : ℕ) (pieces : List Piece)
+    (piece : Piece) → ArePieces prefix s k pieces → n ≡ k + length pieces
+    → string_bytes piece.name ≡ piece_name prefix n → IsWritable s piece.selected
     → ArePieces prefix s k (pieces ++ piece ∷ [])
-pieces-push prefix s k n [] piece are is named writable = (named ∙ ap (piece_name prefix) (let e : n ≡ k = omega (arith, is) in e), writable, tt)
-pieces-push prefix s k n (first ∷ pieces) piece are is named writable = (are.0, are.1, pieces-push prefix s (k + 1) n pieces piece are.2 (omega (arith, is)) named writable)
+pieces-push prefix s k n [] piece are is named writable =
+    (named ∙ ap (piece_name prefix) (let e : n ≡ k = omega (arith, is) in e), writable, tt)
+pieces-push prefix s k n (first ∷ pieces) piece are is named writable = (
+  are.0,
+  are.1,
+  pieces-push prefix s (k + 1) n pieces piece are.2 (omega (arith, is)) named writable,
+)
 
 -- the files of pieces are those of what is laid for them
-pub outputs-are : (prefix : List ℕ) (s : SurveyFields) (k : ℕ) (pieces : List Piece) (bytes : List ℕ) → ArePieces prefix s k pieces → outputs_of s pieces bytes ≡ pieces_from prefix k bytes s (map laid_of pieces)
+pub outputs-are : (prefix : List ℕ) (s : SurveyFields) (k : ℕ) (pieces : List Piece)
+    (bytes : List ℕ) → ArePieces prefix s k pieces
+    → outputs_of s pieces bytes ≡ pieces_from prefix k bytes s (map laid_of pieces)
 outputs-are prefix s k [] bytes are = refl
 outputs-are prefix s k (piece ∷ pieces) bytes are =
-    ap₂ (λ name outputs. record { name = name; bytes = file_laid (laid_of piece) bytes s } ∷ outputs) are.0 (outputs-are prefix s (k + 1) pieces bytes are.2)
+    ap₂ (λ name outputs. record { name = name; bytes = file_laid (laid_of piece) bytes s }
+    ∷ outputs) are.0 (outputs-are prefix s (k + 1) pieces bytes are.2)
 
 -- an input that has the name of no piece
-other-name : (prefix input : List ℕ) (k : ℕ) → list_any (bytes_eq input) (piece_names prefix) ≡ false → 1 ≤ k → k ≤ 99 → input ≢ piece_name prefix k
+other-name : (prefix input : List ℕ) (k : ℕ) → list_any (bytes_eq input) (piece_names prefix)
+    ≡ false → 1 ≤ k → k ≤ 99 → input ≢ piece_name prefix k
 other-name prefix input k none from to same =
     let before : k - 1 + 1 ≡ k = omega arith in
-    let found = list_any_at (bytes_eq input) (piece_names prefix) (k - 1) [] (omega (arith, names-length prefix)) (ap (bytes_eq input) (name-at prefix (k - 1) [] (omega arith) ∙ ap (piece_name prefix) before ∙ sym same) ∙ bytes_eq_same input) in
+    let found = list_any_at (bytes_eq input) (piece_names prefix) (k - 1) []
+    (omega (arith, names-length prefix)) (ap (bytes_eq input) (name-at prefix (k - 1) []
+    (omega arith) ∙ ap (piece_name prefix) before ∙ sym same) ∙ bytes_eq_same input) in
     let both : true ≡ false = sym found ∙ none in
     absurd cc
 
-pub can-be-written : (prefix input : List ℕ) (s : SurveyFields) (k : ℕ) (pieces : List Piece) → list_any (bytes_eq input) (piece_names prefix) ≡ false → 1 ≤ k → k + length pieces ≤ 100 → ArePieces prefix s k pieces → CanBeWritten input s pieces
-can-be-written prefix input s k [] none from to are = All-nil (λ piece. (input ≢ string_bytes piece.name) × IsWritable s piece.selected)
+-- pieces none of which has the input's name can be written
+pub can-be-written : (prefix input : List ℕ) (s : SurveyFields) (k : ℕ) (pieces : List Piece)
+    → list_any (bytes_eq input) (piece_names prefix) ≡ false → 1 ≤ k → k + length pieces ≤ 100
+    → ArePieces prefix s k pieces → CanBeWritten input s pieces
+can-be-written prefix input s k [] none from to are =
+    All-nil (λ piece. (input ≢ string_bytes piece.name) × IsWritable s piece.selected)
 can-be-written prefix input s k (piece ∷ pieces) none from to are =
-    All-cons (λ p. (input ≢ string_bytes p.name) × IsWritable s p.selected) piece pieces ((λ same. other-name prefix input k none from (omega (arith, to)) (same ∙ are.0)), are.1) (can-be-written prefix input s (k + 1) pieces none (omega arith) (omega (arith, to)) are.2)
+    All-cons (λ p. (input ≢ string_bytes p.name) × IsWritable s p.selected) piece pieces
+    ((λ same. other-name prefix input k none from (omega (arith, to)) (same ∙ are.0)), are.1)
+    (can-be-written prefix input s (k + 1) pieces none (omega arith) (omega (arith, to)) are.2)
 
 -- ---- their names are the first of the 99
 
-names-are : (prefix : List ℕ) (s : SurveyFields) (k : ℕ) (pieces : List Piece) → ArePieces prefix s k pieces → names_of pieces ≡ map (piece_name prefix) (range_with_len k (length pieces))
+names-are : (prefix : List ℕ) (s : SurveyFields) (k : ℕ) (pieces : List Piece)
+    → ArePieces prefix s k pieces
+    → names_of pieces ≡ map (piece_name prefix) (range_with_len k (length pieces))
 names-are prefix s k [] are = refl
-names-are prefix s k (piece ∷ pieces) are = ap₂ (λ name names. name ∷ names) are.0 (names-are prefix s (k + 1) pieces are.2)
+names-are prefix s k (piece ∷ pieces) are =
+    ap₂ (λ name names. name ∷ names) are.0 (names-are prefix s (k + 1) pieces are.2)
 
-names-prefix : (prefix : List ℕ) (s : SurveyFields) (pieces : List Piece) → length pieces ≤ 99 → ArePieces prefix s 1 pieces → names_of pieces ≡ take (length pieces) (piece_names prefix)
+names-prefix : (prefix : List ℕ) (s : SurveyFields) (pieces : List Piece) → length pieces ≤ 99
+    → ArePieces prefix s 1 pieces → names_of pieces ≡ take (length pieces) (piece_names prefix)
 unfolding piece_names
-names-prefix prefix s pieces few are = names-are prefix s 1 pieces are ∙ sym (take-map-range_with_len (piece_name prefix) 1 99 (length pieces) few)
+names-prefix prefix s pieces few are = names-are prefix s 1 pieces are
+    ∙ sym (take-map-range_with_len (piece_name prefix) 1 99 (length pieces) few)
 
-pub name-here : (prefix : List ℕ) (s : SurveyFields) (pieces : List Piece) (k : ℕ) → length pieces ≤ 99 → k < length (names_of pieces) → ArePieces prefix s 1 pieces → slice_index_or (names_of pieces) k [] ≡ slice_index_or (piece_names prefix) k []
+-- the name of the piece at a place is the one that the prefix gives it
+pub name-here : (prefix : List ℕ) (s : SurveyFields) (pieces : List Piece) (k : ℕ)
+    → length pieces ≤ 99 → k < length (names_of pieces) → ArePieces prefix s 1 pieces
+    → slice_index_or (names_of pieces) k [] ≡ slice_index_or (piece_names prefix) k []
 name-here prefix s pieces k few within are =
     ap (λ (names : List (List ℕ)). slice_index_or names k []) (names-prefix prefix s pieces few are)
-    ∙ get_or-take (length pieces) (piece_names prefix) k [] (omega (arith, within, length-map pieces (λ (p : Piece). string_bytes p.name)))
+    ∙ get_or-take (length pieces) (piece_names prefix) k []
+    (omega (arith, within, length-map pieces (λ (p : Piece). string_bytes p.name)))
 
-All-first : {X : Type 0} (P : X → Type 0) (m n : ℕ) (xs : List X) → All P (take m xs) → All P (take m (take n xs))
+All-first : {X : Type 0} (P : X → Type 0) (m n : ℕ) (xs : List X) → All P (take m xs)
+    → All P (take m (take n xs))
 All-first P zero n xs all = All-nil P
 All-first P (suc m) zero xs all = All-nil P
 All-first P (suc m) (suc n) [] all = All-nil P
-All-first P (suc m) (suc n) (x ∷ xs) all = All-cons P x (take m (take n xs)) (All-head P x (take m xs) all) (All-first P m n xs (All-tail P x (take m xs) all))
+All-first P (suc m) (suc n) (x ∷ xs) all = All-cons P x (take m (take n xs))
+    (All-head P x (take m xs) all) (All-first P m n xs (All-tail P x (take m xs) all))
 
 module _ (prefix : List ℕ) (s : SurveyFields) (pieces : List Piece) (P : List ℕ → Type 0) where
-  pub names-first : (k : ℕ) → length pieces ≤ 99 → ArePieces prefix s 1 pieces → All P (take (k + 1) (piece_names prefix)) → All P (take (k + 1) (names_of pieces))
-  names-first k few are all = subst (λ names. All P (take (k + 1) names)) (sym (names-prefix prefix s pieces few are)) (All-first P (k + 1) (length pieces) (piece_names prefix) all)
+  -- what holds of the first names of a prefix holds of those of the first pieces
+  pub names-first : (k : ℕ) → length pieces ≤ 99 → ArePieces prefix s 1 pieces
+      → All P (take (k + 1) (piece_names prefix)) → All P (take (k + 1) (names_of pieces))
+  names-first k few are all =
+      subst (λ names. All P (take (k + 1) names)) (sym (names-prefix prefix s pieces few are))
+      (All-first P (k + 1) (length pieces) (piece_names prefix) all)
 
-  pub names-all : length pieces ≤ 99 → ArePieces prefix s 1 pieces → All P (piece_names prefix) → All P (names_of pieces)
-  names-all few are all = subst (All P) (sym (names-prefix prefix s pieces few are)) (All-take P (length pieces) (piece_names prefix) all)
+  -- and what holds of all holds of those of all pieces
+  pub names-all : length pieces ≤ 99 → ArePieces prefix s 1 pieces → All P (piece_names prefix)
+      → All P (names_of pieces)
+  names-all few are all = subst (All P) (sym (names-prefix prefix s pieces few are))
+      (All-take P (length pieces) (piece_names prefix) all)

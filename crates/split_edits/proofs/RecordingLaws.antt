@@ -1,35 +1,32 @@
--- The pieces of a split at places of samples, played one after another, are the samples from the first place to the last.
-use Rattle.std.proofs.Common.{◌≡◌, ℕ, zero, suc, ◌+◌, ◌-◌, ◌*◌, ◌&&◌, ◌<◌, ◌≤◌, List, [], ◌∷◌, ◌++◌, length, map, Option, Some, Ok, refl, sym, ◌∙◌, ap, ap₂, subst, arith}
-use Rattle.std.specs.Prelude.{nat_lt, nat_le}
-use Rattle.std.specs.List.{range_with_len}
-use Rattle.info_header.specs.declared.fields.Info.{Info}
-use Rattle.exact_span.specs.declared.exact_place.ExactPlace.{ExactPlace}
-use Rattle.exact_span.specs.declared.span.Span.{Span}
-use Rattle.exact_span.specs.PlayedPositions.{samples_in, played_of, length_of_played}
-use Rattle.exact_span.specs.Spans.{span_of}
-use Rattle.exact_span.specs.Laws.{samples_between, pieces_samples as samples_from, Ascend}
-use Rattle.exact_span.proofs.SplitLaws.{pieces-whole}
-use Rattle.laying.specs.KeptFields.{fields_of_head}
-use Rattle.laying.specs.Laid.{Laid, info_laid}
-use Rattle.laying.specs.Surveys.{HasSurvey}
-use Rattle.laying.proofs.ChosenFrames.{survey-had}
-use Rattle.sync_survey.specs.Faults.{SurveyFields}
-use Rattle.commands.specs.One.{most_frames}
-use Rattle.commands.proofs.RefusingLaws.{unless_ok, then_ok}
-use Rattle.cut_edits.specs.Exact.{samples_fault, span_in, apart, leads_in, piece_of, exact_laid}
+-- The pieces of a split at places of samples, played one after
+-- another, are the samples from the first place to the last.
+use Rattle.std.proofs.Common.{ap, ap₂, arith, length, List, map, Ok, Option, refl, Some, subst, suc}
+use Rattle.std.proofs.Common.{sym, zero, ℕ, [], ◌&&◌, ◌*◌, ◌++◌, ◌+◌, ◌-◌, ◌<◌, ◌∙◌, ◌∷◌, ◌≡◌, ◌≤◌}
+use Rattle.std.specs.{List.range_with_len, Prelude.{nat_le, nat_lt}}
+use Rattle.commands.{proofs.RefusingLaws.{then_ok, unless_ok}, specs.One.most_frames}
+use Rattle.cut_edits.proofs.{PieceLaws.samples_there, PlayLaws.{piece-from, piece-to, pieces-play}}
+use Rattle.cut_edits.specs.Exact.{apart, exact_laid, leads_in, piece_of, samples_fault, span_in}
 use Rattle.cut_edits.specs.ExactLaws.{PlaysItsSamples}
-use Rattle.cut_edits.proofs.PieceLaws.{samples_there}
-use Rattle.cut_edits.proofs.PlayLaws.{pieces-play, piece-from, piece-to}
-use Rattle.split_edits.specs.declared.exact_points.ExactPoints.{ExactPoints}
-use Rattle.split_edits.specs.Cutting.{with_first, laid_from}
-use Rattle.split_edits.specs.Split.{exact_cutting_of}
-use Rattle.split_edits.specs.Recording.{input_played, sample_named, leads_laid, piece_played, sample_of, piece_samples, pieces_samples, PlaysBetween, PlayInTurn, PiecesAreTheRecording}
-use Rattle.split_edits.proofs.CommandLaws.{first-parts}
+use Rattle.exact_span.proofs.SplitLaws.{pieces-whole}
+use Rattle.exact_span.specs.Laws.{Ascend, pieces_samples as samples_from, samples_between}
+use Rattle.exact_span.specs.PlayedPositions.{length_of_played, played_of, samples_in}
+use Rattle.exact_span.specs.{Spans.span_of, declared.exact_place.ExactPlace.ExactPlace}
+use Rattle.exact_span.specs.declared.span.Span.{Span}
+use Rattle.info_header.specs.declared.fields.Info.{Info}
+use Rattle.laying.{proofs.ChosenFrames.survey-had, specs.KeptFields.fields_of_head}
+use Rattle.laying.specs.{Laid.{info_laid, Laid}, Surveys.HasSurvey}
+use Rattle.split_edits.{proofs.CommandLaws.first-parts, specs.Cutting.{laid_from, with_first}}
+use Rattle.split_edits.specs.Recording.{input_played, leads_laid, piece_played, piece_samples}
+use Rattle.split_edits.specs.Recording.{pieces_samples, PiecesAreTheRecording, PlayInTurn}
+use Rattle.split_edits.specs.Recording.{PlaysBetween, sample_named, sample_of}
+use Rattle.split_edits.specs.{Split.exact_cutting_of, declared.exact_points.ExactPoints.ExactPoints}
+use Rattle.sync_survey.specs.Faults.{SurveyFields}
 
 -- ---- the samples of one piece
 
 -- numbers from one on, each with the number that is as far from another
-numbers-moved : (f : ℕ → ℕ) (x a n : ℕ) → ((k : ℕ) → k < n → f (x + k) ≡ a + k) → map f (range_with_len x n) ≡ range_with_len a n
+numbers-moved : (f : ℕ → ℕ) (x a n : ℕ) → ((k : ℕ) → k < n → f (x + k) ≡ a + k)
+    → map f (range_with_len x n) ≡ range_with_len a n
 numbers-moved f x a zero same = refl
 numbers-moved f x a (suc n) same =
     let none : x + 0 ≡ x = omega arith in
@@ -41,7 +38,8 @@ numbers-moved f x a (suc n) same =
     let next : a + suc k ≡ a + 1 + k = omega arith in
     ap f there ∙ same (suc k) (omega (arith, few)) ∙ next))
 
-moved-by : (x first leads start a k : ℕ) → x + first ≡ start + a + leads → x + k + first - (leads + start) ≡ a + k
+moved-by : (x first leads start a k : ℕ) → x + first ≡ start + a + leads
+    → x + k + first - (leads + start) ≡ a + k
 moved-by x first leads start a k same = omega (arith, same)
 
 module _ (file : List ℕ) (s : SurveyFields) (is : HasSurvey file s) where
@@ -52,35 +50,45 @@ module _ (file : List ℕ) (s : SurveyFields) (is : HasSurvey file s) where
   sample place = sample_named file s place
 
   -- by the equations of its start and its length
-  played-samples : (laid : Laid) (a b : ℕ) → (piece_played file (apart s) laid).start + laid.from * samples_in s.class ≡ (input_played file s).start + a + leads_laid laid * samples_in s.class
-      → length_of_played (piece_played file (apart s) laid) ≡ b - a → piece_samples file s laid ≡ samples_between a b
+  played-samples : (laid : Laid) (a b : ℕ)
+      → (piece_played file (apart s) laid).start + laid.from * samples_in s.class
+      ≡ (input_played file s).start + a + leads_laid laid * samples_in s.class
+      → length_of_played (piece_played file (apart s) laid) ≡ b - a
+      → piece_samples file s laid ≡ samples_between a b
   unfolding piece_samples
   played-samples laid a b start long =
       let played = piece_played file (apart s) laid in
       let f = sample_of s.class (input_played file s).start laid in
       ap (λ n. map f (range_with_len played.start n)) long
-      ∙ numbers-moved f played.start a (b - a) (λ k few. moved-by played.start (laid.from * samples_in s.class) (leads_laid laid * samples_in s.class) (input_played file s).start a k start)
+      ∙ numbers-moved f played.start a (b - a)
+      (λ k few. moved-by played.start (laid.from * samples_in s.class)
+      (leads_laid laid * samples_in s.class) (input_played file s).start a k start)
 
   module _ (from to : ExactPlace) (span : Span) (found : span_in from to head s ≡ Ok span) where
     abbrev piece : Laid
     piece = piece_of head span file (apart s)
 
-    plays : PlaysItsSamples head s (sample from) (sample to) span (leads_in span piece.placed) (info_laid piece file (apart s))
+    plays : PlaysItsSamples head s (sample from) (sample to) span (leads_in span piece.placed)
+        (info_laid piece file (apart s))
     plays = pieces-play file s from to span is found
 
     -- the first and the last frame of a piece are those of its span
     abbrev StartsBy : ℕ → ℕ → Type 0
     StartsBy first last =
         let many = length piece.placed - (last - first) in
-        let played = played_of (Some (info_laid piece file (apart s))) s.class (many + (last - first)) in
-        (played.start + first * samples_in s.class ≡ (input_played file s).start + sample from + many * samples_in s.class)
+        let played =
+        played_of (Some (info_laid piece file (apart s))) s.class (many + (last - first)) in
+        (played.start + first * samples_in s.class
+        ≡ (input_played file s).start + sample from + many * samples_in s.class)
         × (length_of_played played ≡ sample to - sample from)
 
     starts : StartsBy piece.from piece.to
     starts =
         subst (λ (n : ℕ). StartsBy n piece.to) (sym (piece-from head span file (apart s)))
-        (subst (λ (n : ℕ). StartsBy span.first n) (sym (piece-to head span file (apart s))) (plays.places.start, plays.places.length))
+        (subst (λ (n : ℕ). StartsBy span.first n) (sym (piece-to head span file (apart s)))
+        (plays.places.start, plays.places.length))
 
+    -- the piece plays the samples from the one place to the other
     pub between-plays : PlaysBetween file s from to piece
     between-plays = record {
       span = span;
@@ -91,45 +99,65 @@ module _ (file : List ℕ) (s : SurveyFields) (is : HasSurvey file s) where
     }
 
   -- a piece that was laid
-  laid-plays : (from to : ExactPlace) (laid : Laid) → exact_laid from to file s ≡ Ok laid → PlaysBetween file s from to laid
+  laid-plays : (from to : ExactPlace) (laid : Laid) → exact_laid from to file s ≡ Ok laid
+      → PlaysBetween file s from to laid
   unfolding exact_laid
   laid-plays from to laid e =
-      let chose = then_ok (span_in from to head s) (λ span. Ok (piece_of head span file (apart s))) laid e in
+      let chose =
+      then_ok (span_in from to head s) (λ span. Ok (piece_of head span file (apart s))) laid e in
       let same : piece_of head chose.0 file (apart s) ≡ laid = cc in
       subst (PlaysBetween file s from to) same (between-plays from to chose.0 chose.1)
 
   -- its places are in order
-  laid-ascends : (from to : ExactPlace) (laid : Laid) → PlaysBetween file s from to laid → sample from ≤ sample to
+  laid-ascends : (from to : ExactPlace) (laid : Laid) → PlaysBetween file s from to laid
+      → sample from ≤ sample to
   unfolding span_in
   laid-ascends from to laid is =
       let samples = length_of_played (input_played file s) in
       let start = (input_played file s).start in
-      let ok = unless_ok (samples_fault (sample from) (sample to) samples) (span_of s.class (start + sample from) (start + sample to)) is.span is.found in
-      omega (arith, (samples_there (sample from) (sample to) samples (nat_lt (sample from) (sample to) && nat_le (sample to) samples) refl ok.0).0)
+      let ok = unless_ok (samples_fault (sample from) (sample to) samples)
+      (span_of s.class (start + sample from) (start + sample to)) is.span is.found in
+      omega (
+        arith,
+        (samples_there (sample from) (sample to) samples
+            (nat_lt (sample from) (sample to) && nat_le (sample to) samples) refl ok.0).0,
+      )
 
   -- ---- all pieces
 
-  turns-ascend : (from : ExactPlace) (tos : List ExactPlace) (laid : List Laid) → PlayInTurn file s from tos laid → Ascend (sample from) (map sample tos)
+  turns-ascend : (from : ExactPlace) (tos : List ExactPlace) (laid : List Laid)
+      → PlayInTurn file s from tos laid → Ascend (sample from) (map sample tos)
   turns-ascend from [] [] are = tt
   turns-ascend from [] (l ∷ laid) are = absurd are
   turns-ascend from (to ∷ tos) [] are = absurd are
-  turns-ascend from (to ∷ tos) (l ∷ laid) are = (laid-ascends from to l are.0, turns-ascend to tos laid are.1)
+  turns-ascend from (to ∷ tos) (l ∷ laid) are =
+      (laid-ascends from to l are.0, turns-ascend to tos laid are.1)
 
-  turns-samples : (from : ExactPlace) (tos : List ExactPlace) (laid : List Laid) → PlayInTurn file s from tos laid → pieces_samples file s laid ≡ samples_from (sample from) (map sample tos)
+  turns-samples : (from : ExactPlace) (tos : List ExactPlace) (laid : List Laid)
+      → PlayInTurn file s from tos laid
+      → pieces_samples file s laid ≡ samples_from (sample from) (map sample tos)
   unfolding samples_from
   turns-samples from [] [] are = refl
   turns-samples from [] (l ∷ laid) are = absurd are
   turns-samples from (to ∷ tos) [] are = absurd are
-  turns-samples from (to ∷ tos) (l ∷ laid) are = ap₂ (λ (xs ys : List ℕ). xs ++ ys) are.0.samples (turns-samples to tos laid are.1)
+  turns-samples from (to ∷ tos) (l ∷ laid) are =
+      ap₂ (λ (xs ys : List ℕ). xs ++ ys) are.0.samples (turns-samples to tos laid are.1)
 
   module _ (points : ExactPoints) where
-    from-turns : (from : ExactPlace) (tos : List ExactPlace) (laid : List Laid) → laid_from (exact_cutting_of points) file s from tos ≡ Ok laid → PlayInTurn file s from tos laid
-    from-turns from [] laid e = let none : [] ≡ laid = cc in subst (PlayInTurn file s from []) none tt
+    from-turns : (from : ExactPlace) (tos : List ExactPlace) (laid : List Laid)
+        → laid_from (exact_cutting_of points) file s from tos ≡ Ok laid
+        → PlayInTurn file s from tos laid
+    from-turns from [] laid e = let none : [] ≡ laid = cc in
+        subst (PlayInTurn file s from []) none tt
     from-turns from (to ∷ tos) laid e =
-        let parts = then_ok (exact_laid from to file s) (λ first. with_first first (laid_from (exact_cutting_of points) file s to tos)) laid e in
-        let more = first-parts parts.0 (laid_from (exact_cutting_of points) file s to tos) laid parts.2 in
-        subst (PlayInTurn file s from (to ∷ tos)) more.2 (laid-plays from to parts.0 parts.1, from-turns to tos more.0 more.1)
+        let parts = then_ok (exact_laid from to file s)
+        (λ first. with_first first (laid_from (exact_cutting_of points) file s to tos)) laid e in
+        let more =
+        first-parts parts.0 (laid_from (exact_cutting_of points) file s to tos) laid parts.2 in
+        subst (PlayInTurn file s from (to ∷ tos))
+        more.2 (laid-plays from to parts.0 parts.1, from-turns to tos more.0 more.1)
 
+-- the pieces, one after another, play the samples from the first place to the last
 pub pieces-recording : PiecesAreTheRecording
 pieces-recording points file s place places laid surveyed e =
     let is = survey-had file most_frames s surveyed in
@@ -137,5 +165,6 @@ pieces-recording points file s place places laid surveyed e =
     record {
       each = each;
       all = turns-samples file s is place places laid each
-          ∙ pieces-whole (sample_named file s place) (map (sample_named file s) places) (turns-ascend file s is place places laid each);
+          ∙ pieces-whole (sample_named file s place) (map (sample_named file s) places)
+          (turns-ascend file s is place places laid each);
     }

@@ -1,22 +1,19 @@
--- One file cut at places of whatever kind: what is laid from each place to the next is a piece, a file of its own.
-use Rattle.std.specs.Prelude.{◌≡◌, ℕ, ◌+◌, ◌≤◌, Bool, List, [], ◌∷◌, length, map, Option, Some, None, Result, Ok, Err, IfErr}
+-- One file cut at places of whatever kind: what is laid from
+-- each place to the next is a piece, a file of its own.
 use Rattle.std.specs.List.{All}
+use Rattle.std.specs.Prelude.{Bool, Err, IfErr, length, List, map, None, Ok, Option, Result, Some}
+use Rattle.std.specs.Prelude.{ℕ, [], ◌+◌, ◌∷◌, ◌≡◌, ◌≤◌}
 use Rattle.bit_fields.specs.Bits.{AreBytes}
-use Rattle.outside.specs.Files.{Contents}
-use Rattle.laying.specs.Laid.{Laid, file_laid, stream_laid}
-use Rattle.sync_survey.specs.declared.survey_fault.SurveyFault.{SurveyFault}
-use Rattle.sync_survey.specs.declared.survey_fault.SurveyFault.TheVariants.{Absent, Read}
-use Rattle.sync_survey.specs.MainData.{StreamFrame}
-use Rattle.sync_survey.specs.Faults.{SurveyFields, HoldsStream}
-use Rattle.sync_survey.specs.Survey.{survey_of}
-use Rattle.commands.specs.declared.fault.EditFault.{EditFault}
+use Rattle.commands.specs.{Command.{clash_from, Command, Made, Output}, Left.{IsLate, IsNotBefore}}
+use Rattle.commands.specs.{One.most_frames, Refusing.then_made, declared.fault.EditFault.EditFault}
 use Rattle.commands.specs.declared.fault.EditFault.TheVariants.{EqualNames, Input}
 use Rattle.commands.specs.declared.fault.Refusal.{Refusal}
-use Rattle.commands.specs.Refusing.{then_made}
-use Rattle.commands.specs.Command.{Output, Made, Command, clash_from}
-use Rattle.commands.specs.Left.{IsLate, IsNotBefore}
-use Rattle.commands.specs.One.{most_frames}
+use Rattle.laying.specs.Laid.{file_laid, Laid, stream_laid}
+use Rattle.outside.specs.Files.{Contents}
 use Rattle.requests.specs.Names.{piece_name, piece_names}
+use Rattle.sync_survey.specs.{Faults.{HoldsStream, SurveyFields}, MainData.StreamFrame}
+use Rattle.sync_survey.specs.{Survey.survey_of, declared.survey_fault.SurveyFault.SurveyFault}
+use Rattle.sync_survey.specs.declared.survey_fault.SurveyFault.TheVariants.{Absent, Read}
 
 -- ---- how a file is cut
 
@@ -35,24 +32,31 @@ pub record Cutting (P : Type 0) : Type 0 where
 
 -- ---- the pieces
 
+-- what is laid of a piece, and of those after it
 abbrev pub with_first : Laid → Result (List Laid) EditFault → Result (List Laid) EditFault
 with_first first (Ok more) = Ok (first ∷ more)
 with_first first (Err fault) = Err fault
 
--- what is laid from a place to the first of these, and from each to the next, or the first fault of these
-abbrev pub laid_from : {P : Type 0} → Cutting P → List ℕ → SurveyFields → P → List P → Result (List Laid) EditFault
+-- what is laid from a place to the first of these, and
+-- from each to the next, or the first fault of these
+abbrev pub laid_from : {P : Type 0} → Cutting P → List ℕ → SurveyFields → P → List P
+    → Result (List Laid) EditFault
 laid_from cut file s from [] = Ok []
-laid_from cut file s from (to ∷ more) = then_made (cut.between from to file s) (λ first. with_first first (laid_from cut file s to more))
+laid_from cut file s from (to ∷ more) = then_made (cut.between from to file s)
+    (λ first. with_first first (laid_from cut file s to more))
 
 -- from each place to the next
-abbrev pub laid_at : {P : Type 0} → Cutting P → List ℕ → SurveyFields → List P → Result (List Laid) EditFault
+abbrev pub laid_at : {P : Type 0} → Cutting P → List ℕ → SurveyFields → List P
+    → Result (List Laid) EditFault
 laid_at cut file s [] = Ok []
 laid_at cut file s (place ∷ places) = laid_from cut file s place places
 
 -- the files of them by this survey, of which the first has this number
 abbrev pub pieces_from : List ℕ → ℕ → List ℕ → SurveyFields → List Laid → List Output
 pieces_from prefix k file s [] = []
-pieces_from prefix k file s (laid ∷ more) = record { name = piece_name prefix k; bytes = file_laid laid file s } ∷ pieces_from prefix (k + 1) file s more
+pieces_from prefix k file s (laid ∷ more) =
+    record { name = piece_name prefix k; bytes = file_laid laid file s }
+    ∷ pieces_from prefix (k + 1) file s more
 
 -- ---- the command
 
@@ -60,45 +64,63 @@ pieces_from prefix k file s (laid ∷ more) = record { name = piece_name prefix 
 abbrev pub made_of : List ℕ → List ℕ → SurveyFields → List Laid → Result Made EditFault
 made_of prefix file s laid = Ok (record { outputs = pieces_from prefix 1 file s laid; text = [] })
 
-abbrev pub made_at : {P : Type 0} → Cutting P → List ℕ → List ℕ → SurveyFields → List P → Result Made EditFault
-made_at cut prefix file s places = then_made (laid_at cut file s places) (made_of prefix file (cut.survey s))
+-- what is made of a file with this survey, cut at these places
+abbrev pub made_at : {P : Type 0} → Cutting P → List ℕ → List ℕ → SurveyFields → List P
+    → Result Made EditFault
+made_at cut prefix file s places =
+    then_made (laid_at cut file s places) (made_of prefix file (cut.survey s))
 
-abbrev pub made_by : {P : Type 0} → Cutting P → List ℕ → Result (List P) EditFault → List ℕ → Result SurveyFields SurveyFault → Result Made EditFault
+-- the same where there are places and the survey has no fault, else why not
+abbrev pub made_by : {P : Type 0} → Cutting P → List ℕ → Result (List P) EditFault → List ℕ
+    → Result SurveyFields SurveyFault → Result Made EditFault
 made_by cut prefix places file (Err fault) = Err (Input 0 fault)
 made_by cut prefix places file (Ok s) = then_made places (made_at cut prefix file s)
 
--- It is refused where the input is at fault, or else where there are no places, or else where there is nothing from one to the next or the next is
--- after the end.
-abbrev pub made_where : {P : Type 0} → Cutting P → List ℕ → Result (List P) EditFault → Option (List ℕ) → Result Made EditFault
+-- It is refused where the input is at fault, or else where there are no places, or
+-- else where there is nothing from one to the next or the next is after the end.
+abbrev pub made_where : {P : Type 0} → Cutting P → List ℕ → Result (List P) EditFault
+    → Option (List ℕ) → Result Made EditFault
 made_where cut prefix places None = Err (Input 0 Absent)
-made_where cut prefix places (Some file) = made_by cut prefix places file (survey_of file most_frames)
+made_where cut prefix places (Some file) =
+    made_by cut prefix places file (survey_of file most_frames)
 
+-- the answer, unless names are equal
 abbrev pub unless_equal : Option ℕ → Result Made EditFault → Result Made EditFault
 unless_equal (Some place) answer = Err (EqualNames place)
 unless_equal None answer = answer
 
 -- it is refused where an input has the name of a piece, or else as above
-unfoldable pub made_result : {P : Type 0} → Cutting P → List ℕ → List (List ℕ) → Result (List P) EditFault → Option (List ℕ) → Result Made EditFault
-made_result cut prefix names places input = unless_equal (clash_from (piece_names prefix) 0 names) (made_where cut prefix places input)
+unfoldable pub made_result : {P : Type 0} → Cutting P → List ℕ → List (List ℕ)
+    → Result (List P) EditFault → Option (List ℕ) → Result Made EditFault
+made_result cut prefix names places input =
+    unless_equal (clash_from (piece_names prefix) 0 names) (made_where cut prefix places input)
 
 -- the streams of the pieces; none where the split is refused
-abbrev pub streams_of : List ℕ → SurveyFields → Result (List Laid) EditFault → List (List StreamFrame)
+abbrev pub streams_of : List ℕ → SurveyFields → Result (List Laid) EditFault
+    → List (List StreamFrame)
 streams_of file s (Err fault) = []
 streams_of file s (Ok laid) = map (λ (l : Laid). stream_laid l file s) laid
 
-abbrev pub streams_at : {P : Type 0} → Cutting P → List ℕ → SurveyFields → Result (List P) EditFault → List (List StreamFrame)
+-- the streams of the pieces of a file with this survey
+abbrev pub streams_at : {P : Type 0} → Cutting P → List ℕ → SurveyFields → Result (List P) EditFault
+    → List (List StreamFrame)
 streams_at cut file s (Err fault) = []
 streams_at cut file s (Ok places) = streams_of file (cut.survey s) (laid_at cut file s places)
 
-abbrev pub streams_by : {P : Type 0} → Cutting P → Result (List P) EditFault → List ℕ → Result SurveyFields SurveyFault → List (List StreamFrame)
+-- the same where the survey has no fault, else none
+abbrev pub streams_by : {P : Type 0} → Cutting P → Result (List P) EditFault → List ℕ
+    → Result SurveyFields SurveyFault → List (List StreamFrame)
 streams_by cut places file (Err fault) = []
 streams_by cut places file (Ok s) = streams_at cut file s places
 
-unfoldable pub streams_where : {P : Type 0} → Cutting P → Result (List P) EditFault → Option (List ℕ) → List (List StreamFrame)
+-- the same where the file is there, else none
+unfoldable pub streams_where : {P : Type 0} → Cutting P → Result (List P) EditFault
+    → Option (List ℕ) → List (List StreamFrame)
 streams_where cut places None = []
 streams_where cut places (Some file) = streams_by cut places file (survey_of file most_frames)
 
--- The input is cut at places, which a further input may say. It may write a file of each of the 99 names.
+-- The input is cut at places, which a further input may
+-- say. It may write a file of each of the 99 names.
 abbrev pub split_command : {P : Type 0} → Cutting P → List ℕ → List ℕ → Command
 split_command cut input prefix = record {
   inputs = input ∷ cut.more;
@@ -116,12 +138,16 @@ split_command cut input prefix = record {
 abbrev pub ArePlaces : {P : Type 0} → (P → Type 0) → List P → Type 0
 ArePlaces IsSound places = All IsSound places × (2 ≤ length places) × (length places ≤ 100)
 
--- No fault of the places or of what is between them is found before memory is taken, and none is of an input before the sheet; and what is
--- laid of a file without fault holds the stream that it says.
+-- No fault of the places or of what is between them is found before
+-- memory is taken, and none is of an input before the sheet; and what
+-- is laid of a file without fault holds the stream that it says.
 pub record IsProper {P : Type 0} (cut : Cutting P) : Type 0 where
   pub places_late : (f : Contents) → IfErr (cut.places f) IsLate
   pub places_after : (f : Contents) → IfErr (cut.places f) (IsNotBefore (Input 1 Read))
-  pub late : (from to : P) (file : List ℕ) (s : SurveyFields) → IfErr (cut.between from to file s) IsLate
-  pub after : (from to : P) (file : List ℕ) (s : SurveyFields) → IfErr (cut.between from to file s) (IsNotBefore (Input 1 Read))
-  pub streams : (from to : P) (file : List ℕ) (s : SurveyFields) (laid : Laid) → AreBytes file → survey_of file most_frames ≡ Ok s → cut.between from to file s ≡ Ok laid
+  pub late : (from to : P) (file : List ℕ) (s : SurveyFields)
+      → IfErr (cut.between from to file s) IsLate
+  pub after : (from to : P) (file : List ℕ) (s : SurveyFields)
+      → IfErr (cut.between from to file s) (IsNotBefore (Input 1 Read))
+  pub streams : (from to : P) (file : List ℕ) (s : SurveyFields) (laid : Laid) → AreBytes file
+      → survey_of file most_frames ≡ Ok s → cut.between from to file s ≡ Ok laid
       → HoldsStream (file_laid laid file (cut.survey s)) (stream_laid laid file (cut.survey s))

@@ -1,23 +1,17 @@
 -- What is played of the pieces of `split_exact`, one after another.
-use Rattle.std.specs.Prelude.{◌≡◌, ℕ, ◌+◌, ◌-◌, ◌*◌, List, [], ◌∷◌, length, map, flat_map, Some, Ok}
 use Rattle.std.specs.List.{range_with_len}
-use Rattle.frame_header.specs.Fields.{ClassFields}
-use Rattle.exact_span.specs.declared.exact_place.ExactPlace.{ExactPlace}
-use Rattle.exact_span.specs.declared.played.Played.{Played}
-use Rattle.exact_span.specs.declared.span.Span.{Span}
-use Rattle.exact_span.specs.Places.{sample_at}
-use Rattle.exact_span.specs.PlayedPositions.{samples_in, played_of, length_of_played}
-use Rattle.exact_span.specs.Laws.{samples_between, last_point}
-use Rattle.laying.specs.KeptFields.{fields_of_head}
-use Rattle.laying.specs.Laid.{Laid, info_laid}
-use Rattle.sync_survey.specs.Faults.{SurveyFields}
-use Rattle.sync_survey.specs.Survey.{survey_of}
+use Rattle.std.specs.Prelude.{flat_map, length, List, map, Ok, Some, ℕ, [], ◌*◌, ◌+◌, ◌-◌, ◌∷◌, ◌≡◌}
 use Rattle.commands.specs.One.{most_frames}
-use Rattle.cut_edits.specs.Exact.{apart, span_in, leads_in, piece_of}
-use Rattle.cut_edits.specs.ExactLaws.{PlaysItsSamples}
+use Rattle.cut_edits.specs.{Exact.{apart, leads_in, piece_of, span_in}, ExactLaws.PlaysItsSamples}
+use Rattle.exact_span.specs.{Laws.{last_point, samples_between}, Places.sample_at}
+use Rattle.exact_span.specs.PlayedPositions.{length_of_played, played_of, samples_in}
+use Rattle.exact_span.specs.declared.{exact_place.ExactPlace.ExactPlace, played.Played.Played}
+use Rattle.exact_span.specs.declared.span.Span.{Span}
+use Rattle.frame_header.specs.Fields.{ClassFields}
+use Rattle.laying.specs.{KeptFields.fields_of_head, Laid.{info_laid, Laid}}
+use Rattle.split_edits.specs.{Cutting.laid_at, Split.exact_cutting_of}
 use Rattle.split_edits.specs.declared.exact_points.ExactPoints.{ExactPoints}
-use Rattle.split_edits.specs.Cutting.{laid_at}
-use Rattle.split_edits.specs.Split.{exact_cutting_of}
+use Rattle.sync_survey.specs.{Faults.SurveyFields, Survey.survey_of}
 
 -- ---- the input
 
@@ -40,8 +34,8 @@ abbrev pub piece_played : List ℕ → SurveyFields → Laid → Played
 piece_played file s laid =
     played_of (Some (info_laid laid file s)) s.class (leads_laid laid + (laid.to - laid.from))
 
--- The sample of the input, whose first played position is `start`, that is at the offset in its frame at
--- which position x of a piece is in the same frame.
+-- The sample of the input, whose first played position is `start`, that is at
+-- the offset in its frame at which position x of a piece is in the same frame.
 abbrev pub sample_of : ClassFields → ℕ → Laid → ℕ → ℕ
 sample_of class start laid x =
     x + laid.from * samples_in class - (leads_laid laid * samples_in class + start)
@@ -59,8 +53,8 @@ pieces_samples file s laid = flat_map (piece_samples file s) laid
 
 -- ---- the law
 
--- What is laid is the piece of the span from one place to another. It plays the samples from the one to
--- before the other, each at its place in its frame.
+-- What is laid is the piece of the span from one place to another. It plays the
+-- samples from the one to before the other, each at its place in its frame.
 pub record PlaysBetween (file : List ℕ) (s : SurveyFields) (from to : ExactPlace) (laid : Laid)
     : Type 0 where
   pub span : Span
@@ -78,9 +72,10 @@ PlayInTurn file s from (to ∷ places) (laid ∷ more) =
     PlaysBetween file s from to laid × PlayInTurn file s to places more
 PlayInTurn file s from _ _ = ⊥
 
--- the pieces from a place on, one by one and together: each sample from the first place to the last is
--- played once, in order
-pub record PlayTheRecording (file : List ℕ) (s : SurveyFields) (place : ExactPlace) (places : List ExactPlace) (laid : List Laid)
+-- the pieces from a place on, one by one and together: each sample
+-- from the first place to the last is played once, in order
+pub record PlayTheRecording (file : List ℕ) (s : SurveyFields) (place : ExactPlace)
+    (places : List ExactPlace) (laid : List Laid)
     : Type 0 where
   pub each : PlayInTurn file s place places laid
   pub all : pieces_samples file s laid

@@ -1,44 +1,46 @@
 -- The faults of a file are listed by their offsets, so that the first of them has the smallest.
-use Rattle.std.proofs.Common.{◌≡◌, ℕ, ◌+◌, ◌≤◌, ◌⊎◌, Bool, true, false, cond, ltb, not, List, [], ◌∷◌, ◌++◌, length, drop, Option, Some, None, Result, Ok, Err, refl, sym, ◌∙◌, ap, subst, inl, inr, ⊎_elim, arith, append_assoc, ◌==◌, flat_map, IfErr, option_to_list}
-use Rattle.std.specs.List.{enumerate_from}
-use Rattle.frame_header.specs.Fields.{ClassFields}
-use Rattle.frame_header.specs.Tables.{class_of}
-use Rattle.side_info.specs.Side.{payload_bits}
-use Rattle.side_info.specs.CheckWord.{check_word_of}
-use Rattle.side_info.specs.Frame.{word_said}
-use Rattle.outside.specs.Files.{Files, Holds}
-use Rattle.outside.specs.Counts.{Counts}
-use Rattle.sync_survey.specs.declared.items.Item.{Item}
-use Rattle.sync_survey.specs.declared.items.Item.TheVariants.{Frame, Free, Block, Zero, End, Nothing}
-use Rattle.sync_survey.specs.declared.places.Head.{Head}
-use Rattle.sync_survey.specs.declared.places.PlacedFrame.{PlacedFrame}
-use Rattle.sync_survey.specs.declared.places.Start.{Start}
-use Rattle.sync_survey.specs.Row.{Row}
-use Rattle.sync_survey.specs.declared.runs.Part.{Part}
-use Rattle.sync_survey.specs.declared.runs.Part.TheVariants.{Stream}
-use Rattle.sync_survey.specs.declared.surveys.Survey.{Survey}
-use Rattle.sync_survey.specs.declared.survey_fault.SurveyFault.{SurveyFault}
-use Rattle.sync_survey.specs.declared.survey_fault.SurveyFault.TheVariants.{Absent, TooLong, LostSync, Truncated, FreeFormat, Mixed, CheckWord, BackPointer, Overlap, Overrun, TooManyFrames, Shrunk, Read, Memory}
-use Rattle.sync_survey.specs.Items.{item_at, size_of, same_class}
-use Rattle.sync_survey.specs.Runs.{Placed, AreEndToEnd, frame_as, frames_of}
-use Rattle.sync_survey.specs.Start.{start_of}
-use Rattle.sync_survey.specs.Walk.{stream_run, head_of, numbered, fault_at, end_fault, walk_from}
-use Rattle.sync_survey.specs.MainData.{rows_of, lacks_data, place, end_before}
-use Rattle.sync_survey.specs.Faults.{where_true, has_wrong_word, points_too_far, overlaps, overruns, room_for_data, own_faults, data_faults, faults_at, frame_faults, all_faults, first_of, class_from, faults_from, fault_place, NoneBefore, fields_from, survey_by, surveyed, longest_file}
+use Rattle.std.proofs.Common.{ap, append_assoc, arith, Bool, cond, drop, Err, false, flat_map}
+use Rattle.std.proofs.Common.{IfErr, inl, inr, length, List, ltb, None, not, Ok, Option}
+use Rattle.std.proofs.Common.{option_to_list, refl, Result, Some, subst, sym, true, ℕ, ⊎_elim, []}
+use Rattle.std.{proofs.Common.{◌++◌, ◌+◌, ◌==◌, ◌∙◌, ◌∷◌, ◌≡◌, ◌≤◌, ◌⊎◌}, specs.List.enumerate_from}
+use Rattle.frame_header.specs.{Fields.ClassFields, Tables.class_of}
+use Rattle.outside.specs.{Counts.Counts, Files.{Files, Holds}}
+use Rattle.side_info.specs.{CheckWord.check_word_of, Frame.word_said, Side.payload_bits}
+use Rattle.sync_survey.proofs.{BytesFaults.fault_is, ItemLists.ends-within}
+use Rattle.sync_survey.proofs.{RunsLaws.{cons_list, run-ends}, StartLaws.start-first}
+use Rattle.sync_survey.specs.Faults.{all_faults, class_from, data_faults, fault_place, faults_at}
+use Rattle.sync_survey.specs.Faults.{faults_from, fields_from, first_of, frame_faults}
+use Rattle.sync_survey.specs.Faults.{has_wrong_word, longest_file, NoneBefore, overlaps, overruns}
+use Rattle.sync_survey.specs.Faults.{own_faults, points_too_far, room_for_data, survey_by, surveyed}
+use Rattle.sync_survey.specs.{Faults.where_true, Items.{item_at, same_class, size_of}}
 use Rattle.sync_survey.specs.Kinds.{IsRefused, kind_of}
-use Rattle.sync_survey.specs.Survey.{survey_of, RefusesBytes, IsSurveyFaultBy, IsSurveyFault, IsRefusal}
-use Rattle.sync_survey.proofs.ItemLists.{ends-within}
-use Rattle.sync_survey.proofs.RunsLaws.{cons_list, run-ends}
-use Rattle.sync_survey.proofs.StartLaws.{start-first}
-use Rattle.sync_survey.proofs.BytesFaults.{fault_is}
+use Rattle.sync_survey.specs.{MainData.{end_before, lacks_data, place, rows_of}, Row.Row}
+use Rattle.sync_survey.specs.{Runs.{AreEndToEnd, frame_as, frames_of, Placed}, Start.start_of}
+use Rattle.sync_survey.specs.Survey.{IsRefusal, IsSurveyFault, IsSurveyFaultBy, RefusesBytes}
+use Rattle.sync_survey.specs.Survey.{survey_of}
+use Rattle.sync_survey.specs.Walk.{end_fault, fault_at, head_of, numbered, stream_run, walk_from}
+use Rattle.sync_survey.specs.declared.items.Item.{Item, TheVariants.{Block, End, Frame, Free}}
+use Rattle.sync_survey.specs.declared.places.{Head.Head, PlacedFrame.PlacedFrame, Start.Start}
+use Rattle.sync_survey.specs.declared.runs.Part.{Part, TheVariants.Stream}
+use Rattle.sync_survey.specs.declared.survey_fault.SurveyFault.{SurveyFault}
+use Rattle.sync_survey.specs.declared.survey_fault.SurveyFault.TheVariants.{Absent, BackPointer}
+use Rattle.sync_survey.specs.declared.survey_fault.SurveyFault.TheVariants.{CheckWord, FreeFormat}
+use Rattle.sync_survey.specs.declared.survey_fault.SurveyFault.TheVariants.{LostSync, Memory, Mixed}
+use Rattle.sync_survey.specs.declared.survey_fault.SurveyFault.TheVariants.{Overlap, Overrun, Read}
+use Rattle.sync_survey.specs.declared.survey_fault.SurveyFault.TheVariants.{Shrunk, TooLong}
+use Rattle.sync_survey.specs.declared.survey_fault.SurveyFault.TheVariants.{TooManyFrames}
+use Rattle.sync_survey.specs.declared.survey_fault.SurveyFault.TheVariants.{Truncated}
+use Rattle.sync_survey.specs.declared.surveys.Survey.{Survey}
 
 -- ---- lists of faults
 
-none-append : (at : ℕ) (xs ys : List SurveyFault) → NoneBefore at xs → NoneBefore at ys → NoneBefore at (xs ++ ys)
+none-append : (at : ℕ) (xs ys : List SurveyFault) → NoneBefore at xs → NoneBefore at ys
+    → NoneBefore at (xs ++ ys)
 none-append at [] ys p q = q
 none-append at (x ∷ xs) ys p q = (p.0, none-append at xs ys p.1 q)
 
-none-less : (low high : ℕ) (xs : List SurveyFault) → low ≤ high → NoneBefore high xs → NoneBefore low xs
+none-less : (low high : ℕ) (xs : List SurveyFault) → low ≤ high → NoneBefore high xs
+    → NoneBefore low xs
 none-less low high [] le p = tt
 none-less low high (x ∷ xs) le p = (omega (arith, le, p.0), none-less low high xs le p.1)
 
@@ -47,7 +49,8 @@ abbrev AreAt : ℕ → List SurveyFault → Type 0
 AreAt at [] = Unit {0}
 AreAt at (fault ∷ later) = (fault_place fault ≡ at) × AreAt at later
 
-one_at : (at : ℕ) (b : Bool) (fault : SurveyFault) → fault_place fault ≡ at → AreAt at (where_true b fault)
+one_at : (at : ℕ) (b : Bool) (fault : SurveyFault) → fault_place fault ≡ at
+    → AreAt at (where_true b fault)
 one_at at true fault is = (is, tt)
 one_at at false fault is = tt
 
@@ -68,24 +71,31 @@ own_at place ended r =
     let far = where_true (points_too_far place r) begins in
     let over = where_true (overlaps place ended r) (Overlap r.offset) in
     all_at r.offset (far ++ over) (where_true (overruns place r) ends)
-    (all_at r.offset far over (one_at r.offset (points_too_far place r) begins refl) (one_at r.offset (overlaps place ended r) (Overlap r.offset) refl)) (one_at r.offset (overruns place r) ends refl)
+    (all_at r.offset far over (one_at r.offset (points_too_far place r) begins refl)
+    (one_at r.offset (overlaps place ended r) (Overlap r.offset) refl))
+    (one_at r.offset (overruns place r) ends refl)
 
 unless_at : (at : ℕ) (b : Bool) (xs : List SurveyFault) → AreAt at xs → AreAt at (cond b [] xs)
 unless_at at true xs p = tt
 unless_at at false xs p = p
 
 data_at : (place ended : ℕ) (r : Row) → AreAt r.offset (data_faults place ended r)
-data_at place ended r = unless_at r.offset (lacks_data place ended r) (own_faults place ended r) (own_at place ended r)
+data_at place ended r =
+    unless_at r.offset (lacks_data place ended r) (own_faults place ended r) (own_at place ended r)
 
-frame_at : (said : ℕ) (class : ClassFields) (allowed place ended count : ℕ) (r : Row) → AreAt r.offset (faults_at said class allowed place ended count r)
+frame_at : (said : ℕ) (class : ClassFields) (allowed place ended count : ℕ) (r : Row)
+    → AreAt r.offset (faults_at said class allowed place ended count r)
 unfolding faults_at
 frame_at said class allowed place ended count r =
     let other = not (same_class (class_of r.header) class) in
     let word = CheckWord r.offset said (check_word_of r.header r.side) in
     let mixed = where_true other (Mixed r.offset) in
     let wrong = where_true (has_wrong_word said r) word in
-    all_at r.offset ((mixed ++ wrong) ++ data_faults place ended r) (where_true (count == allowed) (TooManyFrames r.offset))
-    (all_at r.offset (mixed ++ wrong) (data_faults place ended r) (all_at r.offset mixed wrong (one_at r.offset other (Mixed r.offset) refl) (one_at r.offset (has_wrong_word said r) word refl)) (data_at place ended r))
+    all_at r.offset ((mixed ++ wrong) ++ data_faults place ended r)
+    (where_true (count == allowed) (TooManyFrames r.offset))
+    (all_at r.offset (mixed ++ wrong) (data_faults place ended r)
+    (all_at r.offset mixed wrong (one_at r.offset other (Mixed r.offset) refl)
+    (one_at r.offset (has_wrong_word said r) word refl)) (data_at place ended r))
     (one_at r.offset (count == allowed) (TooManyFrames r.offset) refl)
 
 -- ---- the faults of frames that follow one after the other
@@ -106,89 +116,128 @@ AreOfEach each = (i : ℕ) (r : Row) → AreAt r.offset (each i r)
 abbrev in_turn : (ℕ → Row → List SurveyFault) → ℕ → List Row → List SurveyFault
 in_turn each n rows = flat_map (λ (p : ℕ × Row). each p.0 p.1) (enumerate_from n rows)
 
-rising_none : (each : ℕ → Row → List SurveyFault) (own : AreOfEach each) (at to n : ℕ) (rows : List Row) → AreRising at rows to → NoneBefore at (in_turn each n rows)
+rising_none : (each : ℕ → Row → List SurveyFault) (own : AreOfEach each) (at to n : ℕ)
+    (rows : List Row) → AreRising at rows to → NoneBefore at (in_turn each n rows)
 rising_none each own at to n [] rise = tt
 rising_none each own at to n (r ∷ rows) rise =
-    none-append at (each n r) (in_turn each (n + 1) rows) (none-less at r.offset (each n r) rise.0 (at_none r.offset (each n r) (own n r)))
-    (none-less at r.offset (in_turn each (n + 1) rows) rise.0 (rising_none each own r.offset to (n + 1) rows rise.1))
+    none-append at (each n r) (in_turn each (n + 1) rows)
+    (none-less at r.offset (each n r) rise.0 (at_none r.offset (each n r) (own n r)))
+    (none-less at r.offset (in_turn each (n + 1) rows)
+    rise.0 (rising_none each own r.offset to (n + 1) rows rise.1))
 
-first_at : (at : ℕ) (xs ys : List SurveyFault) (fault : SurveyFault) → AreAt at xs → first_of (xs ++ ys) ≡ Some fault → NoneBefore at ys → (xs ≡ []) ⊎ ((fault_place fault ≡ at) × NoneBefore (fault_place fault) (xs ++ ys))
+first_at : (at : ℕ) (xs ys : List SurveyFault) (fault : SurveyFault) → AreAt at xs
+    → first_of (xs ++ ys) ≡ Some fault → NoneBefore at ys
+    → (xs ≡ []) ⊎ ((fault_place fault ≡ at) × NoneBefore (fault_place fault) (xs ++ ys))
 first_at at [] ys fault all is later = inl refl
 first_at at (x ∷ xs) ys fault all is later =
     let same : x ≡ fault = cc in
     let place : fault_place fault ≡ at = sym (ap fault_place same) ∙ all.0 in
-    inr (place, subst (λ n. NoneBefore n ((x ∷ xs) ++ ys)) (sym place) (none-append at (x ∷ xs) ys (at_none at (x ∷ xs) all) later))
+    inr (
+      place,
+      subst (λ n. NoneBefore n ((x ∷ xs) ++ ys)) (sym place)
+          (none-append at (x ∷ xs) ys (at_none at (x ∷ xs) all) later),
+    )
 
 -- the first of the faults of frames and of what comes after them
-least_first : (each : ℕ → Row → List SurveyFault) (own : AreOfEach each) (at to n : ℕ) (rows : List Row) (later : List SurveyFault) (fault : SurveyFault) → AreRising at rows to → NoneBefore to later
-    → ((f : SurveyFault) → first_of later ≡ Some f → NoneBefore (fault_place f) later) → first_of (in_turn each n rows ++ later) ≡ Some fault → NoneBefore (fault_place fault) (in_turn each n rows ++ later)
+least_first : (each : ℕ → Row → List SurveyFault) (own : AreOfEach each) (at to n : ℕ)
+    (rows : List Row) (later : List SurveyFault) (fault : SurveyFault) → AreRising at rows to
+    → NoneBefore to later
+    → ((f : SurveyFault) → first_of later ≡ Some f → NoneBefore (fault_place f) later)
+    → first_of (in_turn each n rows ++ later) ≡ Some fault
+    → NoneBefore (fault_place fault) (in_turn each n rows ++ later)
 least_first each own at to n [] later fault rise behind last is = last fault is
 least_first each own at to n (r ∷ rows) later fault rise behind last is =
     let here = each n r in
     let rest = in_turn each (n + 1) rows in
-    let regrouped : (here ++ rest) ++ later ≡ here ++ (rest ++ later) = append_assoc here rest later in
+    let regrouped : (here ++ rest) ++ later ≡ here ++ (rest ++ later) =
+    append_assoc here rest later in
     let low : NoneBefore r.offset (rest ++ later) =
-    none-append r.offset rest later (rising_none each own r.offset to (n + 1) rows rise.1) (none-less r.offset to later (rising_ends r.offset rows to rise.1) behind) in
+    none-append r.offset rest later (rising_none each own r.offset to (n + 1) rows rise.1)
+    (none-less r.offset to later (rising_ends r.offset rows to rise.1) behind) in
     ⊎_elim
-    (λ none. let same : (here ++ rest) ++ later ≡ rest ++ later = ap (λ l. (l ++ rest) ++ later) none in
-    subst (NoneBefore (fault_place fault)) (sym same) (least_first each own r.offset to (n + 1) rows later fault rise.1 behind last (ap first_of (sym same) ∙ is)))
+    (λ none.
+    let same : (here ++ rest) ++ later ≡ rest ++ later = ap (λ l. (l ++ rest) ++ later) none in
+    subst (NoneBefore (fault_place fault)) (sym same) (least_first each own r.offset to
+    (n + 1) rows later fault rise.1 behind last (ap first_of (sym same) ∙ is)))
     (λ found. subst (NoneBefore (fault_place fault)) (sym regrouped) found.1)
     (first_at r.offset here (rest ++ later) fault (own n r) (ap first_of (sym regrouped) ∙ is) low)
 
-all_least : (file : List ℕ) (head : Option Head) (class : ClassFields) (allowed at to : ℕ) (rows : List Row) (later : List SurveyFault) (fault : SurveyFault) → AreRising at rows to → NoneBefore to later
+all_least : (file : List ℕ) (head : Option Head) (class : ClassFields) (allowed at to : ℕ)
+    (rows : List Row) (later : List SurveyFault) (fault : SurveyFault) → AreRising at rows to
+    → NoneBefore to later
     → ((f : SurveyFault) → first_of later ≡ Some f → NoneBefore (fault_place f) later)
-    → first_of (all_faults file head class allowed rows ++ later) ≡ Some fault → NoneBefore (fault_place fault) (all_faults file head class allowed rows ++ later)
+    → first_of (all_faults file head class allowed rows ++ later) ≡ Some fault
+    → NoneBefore (fault_place fault) (all_faults file head class allowed rows ++ later)
 unfolding all_faults
 all_least file head class allowed at to rows later fault rise behind last is =
-    least_first (frame_faults file head class allowed rows) (λ i r. frame_at (word_said (drop r.offset file)) class allowed (place head rows i) (end_before head rows i) i r) at to 0 rows later fault rise behind last is
+    least_first (frame_faults file head class allowed rows)
+    (λ i r. frame_at (word_said (drop r.offset file)) class allowed (place head rows i)
+    (end_before head rows i) i r) at to 0 rows later fault rise behind last is
 
 -- ---- the frames of a walk follow one after the other
 
-rising_more : (file : List ℕ) (at : ℕ) (item : Item) (rows : List PlacedFrame) (to : ℕ) → AreRising at (rows_of file rows) to → AreRising at (rows_of file (option_to_list (frame_as at item) ++ rows)) to
+rising_more : (file : List ℕ) (at : ℕ) (item : Item) (rows : List PlacedFrame) (to : ℕ)
+    → AreRising at (rows_of file rows) to
+    → AreRising at (rows_of file (option_to_list (frame_as at item) ++ rows)) to
 rising_more file at (Frame h) rows to rise = (omega arith, rise)
 rising_more file at _ rows to rise = rise
 
-rising_less : (low high : ℕ) (rows : List Row) (to : ℕ) → low ≤ high → AreRising high rows to → AreRising low rows to
+rising_less : (low high : ℕ) (rows : List Row) (to : ℕ) → low ≤ high → AreRising high rows to
+    → AreRising low rows to
 rising_less low high [] to le rise = omega (arith, le, rise)
 rising_less low high (r ∷ rows) to le rise = (omega (arith, le, rise.0), rise.1)
 
-items_rise : (file : List ℕ) (part : Part) (from : ℕ) (ps : List Placed) (to : ℕ) → AreEndToEnd part file from ps to → AreRising from (rows_of file (frames_of ps)) to
+items_rise : (file : List ℕ) (part : Part) (from : ℕ) (ps : List Placed) (to : ℕ)
+    → AreEndToEnd part file from ps to → AreRising from (rows_of file (frames_of ps)) to
 items_rise file part from [] to ends = omega (arith, ends)
 items_rise file part from (p ∷ ps) to ends =
-    let later = rising_less p.offset (p.offset + size_of p.item) (rows_of file (frames_of ps)) to (omega arith) (items_rise file part (p.offset + size_of p.item) ps to ends.2) in
+    let later = rising_less p.offset (p.offset + size_of p.item) (rows_of file (frames_of ps)) to
+    (omega arith) (items_rise file part (p.offset + size_of p.item) ps to ends.2) in
     subst (λ n. AreRising n (rows_of file (frames_of (p ∷ ps))) to) ends.0
-    (subst (λ l. AreRising p.offset (rows_of file l) to) (sym (cons_list (frame_as p.offset p.item) (frames_of ps))) (rising_more file p.offset p.item (frames_of ps) to later))
+    (subst (λ l. AreRising p.offset (rows_of file l) to) (sym (cons_list (frame_as p.offset p.item)
+    (frames_of ps))) (rising_more file p.offset p.item (frames_of ps) to later))
 
-rise_behind : (file : List ℕ) (at : ℕ) (ps : List PlacedFrame) (to : ℕ) → AreRising at (rows_of file ps) to → AreRising at (rows_of file (drop 1 ps)) to
+rise_behind : (file : List ℕ) (at : ℕ) (ps : List PlacedFrame) (to : ℕ)
+    → AreRising at (rows_of file ps) to → AreRising at (rows_of file (drop 1 ps)) to
 rise_behind file at [] to rise = rise
 rise_behind file at (p ∷ ps) to rise = rising_less at p.offset (rows_of file ps) to rise.0 rise.1
 
-rise_numbered : (file : List ℕ) (at : ℕ) (head : Option Head) (ps : List PlacedFrame) (to : ℕ) → AreRising at (rows_of file ps) to → AreRising at (rows_of file (numbered head ps)) to
+rise_numbered : (file : List ℕ) (at : ℕ) (head : Option Head) (ps : List PlacedFrame) (to : ℕ)
+    → AreRising at (rows_of file ps) to → AreRising at (rows_of file (numbered head ps)) to
 rise_numbered file at None ps to rise = rise
 rise_numbered file at (Some head) ps to rise = rise_behind file at ps to rise
 
 -- ---- the fault where the walk ends
 
-stop_place : (stop : ℕ) (item : Item) (fault : SurveyFault) → fault_at stop item ≡ Some fault → fault_place fault ≡ stop
-stop_place stop (Frame h) fault e = let same : Truncated stop ≡ fault = cc in sym (ap fault_place same)
+stop_place : (stop : ℕ) (item : Item) (fault : SurveyFault) → fault_at stop item ≡ Some fault
+    → fault_place fault ≡ stop
+stop_place stop (Frame h) fault e = let same : Truncated stop ≡ fault = cc in
+    sym (ap fault_place same)
 stop_place stop Free fault e = let same : FreeFormat stop ≡ fault = cc in sym (ap fault_place same)
-stop_place stop (Block b) fault e = let same : Truncated stop ≡ fault = cc in sym (ap fault_place same)
+stop_place stop (Block b) fault e = let same : Truncated stop ≡ fault = cc in
+    sym (ap fault_place same)
 stop_place stop End fault e = absurd cc
 stop_place stop _ fault e = let same : LostSync stop ≡ fault = cc in sym (ap fault_place same)
 
-end_place : (file : List ℕ) (frames : List PlacedFrame) (stop : ℕ) (o : Option SurveyFault) → stop ≤ length file → fault_at stop (item_at file stop) ≡ o → NoneBefore stop (option_to_list (end_fault file frames o))
-end_place file frames stop (Some fault) within is = (omega (arith, stop_place stop (item_at file stop) fault is), tt)
+end_place : (file : List ℕ) (frames : List PlacedFrame) (stop : ℕ) (o : Option SurveyFault)
+    → stop ≤ length file → fault_at stop (item_at file stop) ≡ o
+    → NoneBefore stop (option_to_list (end_fault file frames o))
+end_place file frames stop (Some fault) within is =
+    (omega (arith, stop_place stop (item_at file stop) fault is), tt)
 end_place file (p ∷ ps) stop None within is = tt
 end_place file [] stop None within is = (within, tt)
 
-one_only : (o : Option SurveyFault) (fault : SurveyFault) → first_of (option_to_list o) ≡ Some fault → NoneBefore (fault_place fault) (option_to_list o)
+one_only : (o : Option SurveyFault) (fault : SurveyFault) → first_of (option_to_list o) ≡ Some fault
+    → NoneBefore (fault_place fault) (option_to_list o)
 one_only None fault e = absurd cc
 one_only (Some f) fault e =
     let same : f ≡ fault = cc in
     (omega (arith, ap fault_place same), tt)
 
 -- the first fault of a file with this start has the smallest offset
-pub first_is_least : (file : List ℕ) (allowed : ℕ) (start : Start) (fault : SurveyFault) → start.first.offset ≤ length file → first_of (faults_from file allowed start) ≡ Some fault → NoneBefore (fault_place fault) (faults_from file allowed start)
+pub first_is_least : (file : List ℕ) (allowed : ℕ) (start : Start) (fault : SurveyFault)
+    → start.first.offset ≤ length file → first_of (faults_from file allowed start) ≡ Some fault
+    → NoneBefore (fault_place fault) (faults_from file allowed start)
 unfolding faults_from walk_from
 first_is_least file allowed start fault within is =
     let stream = stream_run file start in
@@ -196,23 +245,32 @@ first_is_least file allowed start fault within is =
     let head = head_of file start.first in
     let frames = numbered head (frames_of stream.items) in
     let o = end_fault file frames (fault_at stream.stop (item_at file stream.stop)) in
-    all_least file head (class_from start) allowed start.first.offset stream.stop (rows_of file frames) (option_to_list o) fault
-    (rise_numbered file start.first.offset head (frames_of stream.items) stream.stop (items_rise file Stream start.first.offset stream.items stream.stop ends))
-    (end_place file frames stream.stop (fault_at stream.stop (item_at file stream.stop)) (ends-within Stream file start.first.offset stream.items stream.stop ends within) refl)
+    all_least file head (class_from start) allowed
+    start.first.offset stream.stop (rows_of file frames) (option_to_list o) fault
+    (rise_numbered file start.first.offset head (frames_of stream.items)
+    stream.stop (items_rise file Stream start.first.offset stream.items stream.stop ends))
+    (end_place file frames stream.stop (fault_at stream.stop (item_at file stream.stop))
+    (ends-within Stream file start.first.offset stream.items stream.stop ends within) refl)
     (λ f found. one_only o f found) is
 
 -- ---- the refusal of a survey
 
-start_is : (file : List ℕ) (allowed : ℕ) (start : Start) (fault : SurveyFault) (r : Result Start SurveyFault) → start_of file ≡ r → r ≡ Ok start → survey_by file allowed r ≡ Err fault → NoneBefore (fault_place fault) (faults_from file allowed start)
+start_is : (file : List ℕ) (allowed : ℕ) (start : Start) (fault : SurveyFault)
+    (r : Result Start SurveyFault) → start_of file ≡ r → r ≡ Ok start → survey_by file allowed r
+    ≡ Err fault → NoneBefore (fault_place fault) (faults_from file allowed start)
 start_is file allowed start fault (Err f) begun same e = absurd cc
 start_is file allowed start fault (Ok s) begun same e =
     let one : s ≡ start = cc in
     subst (λ t. NoneBefore (fault_place fault) (faults_from file allowed t)) one
-    (first_is_least file allowed s fault (omega (arith, (start-first file s begun).frame.within)) (fault_is (first_of (faults_from file allowed s)) (fields_from file s) fault e))
+    (first_is_least file allowed s fault (omega (arith, (start-first file s begun).frame.within))
+    (fault_is (first_of (faults_from file allowed s)) (fields_from file s) fault e))
 
-surveyed_first : (file : List ℕ) (allowed : ℕ) (fault : SurveyFault) → surveyed file allowed ≡ Err fault → (start : Start) → start_of file ≡ Ok start → NoneBefore (fault_place fault) (faults_from file allowed start)
+surveyed_first : (file : List ℕ) (allowed : ℕ) (fault : SurveyFault)
+    → surveyed file allowed ≡ Err fault → (start : Start) → start_of file ≡ Ok start
+    → NoneBefore (fault_place fault) (faults_from file allowed start)
 unfolding surveyed
-surveyed_first file allowed fault e start begun = start_is file allowed start fault (start_of file) refl begun e
+surveyed_first file allowed fault e start begun =
+    start_is file allowed start fault (start_of file) refl begun e
 
 none_at_all : (xs : List SurveyFault) → NoneBefore 0 xs
 none_at_all [] = tt
@@ -227,26 +285,41 @@ nowhere Read = inl refl
 nowhere Memory = inl refl
 nowhere _ = inr refl
 
-long_by : (file : List ℕ) (allowed : ℕ) (fault : SurveyFault) (start : Start) (b : Bool) → start_of file ≡ Ok start → cond b (Err (TooLong (length file))) (surveyed file allowed) ≡ Err fault → NoneBefore (fault_place fault) (faults_from file allowed start)
+long_by : (file : List ℕ) (allowed : ℕ) (fault : SurveyFault) (start : Start) (b : Bool)
+    → start_of file ≡ Ok start → cond b (Err (TooLong (length file))) (surveyed file allowed)
+    ≡ Err fault → NoneBefore (fault_place fault) (faults_from file allowed start)
 long_by file allowed fault start true begun e =
     let same : TooLong (length file) ≡ fault = cc in
-    subst (λ f. NoneBefore (fault_place f) (faults_from file allowed start)) same (none_at_all (faults_from file allowed start))
+    subst (λ f. NoneBefore (fault_place f) (faults_from file allowed start)) same
+    (none_at_all (faults_from file allowed start))
 long_by file allowed fault start false begun e = surveyed_first file allowed fault e start begun
 
-of_file : (file : List ℕ) (allowed : ℕ) (fault : SurveyFault) (start : Start) → start_of file ≡ Ok start → survey_of file allowed ≡ Err fault → NoneBefore (fault_place fault) (faults_from file allowed start)
+of_file : (file : List ℕ) (allowed : ℕ) (fault : SurveyFault) (start : Start)
+    → start_of file ≡ Ok start → survey_of file allowed ≡ Err fault
+    → NoneBefore (fault_place fault) (faults_from file allowed start)
 unfolding survey_of
-of_file file allowed fault start begun is = long_by file allowed fault start (ltb longest_file (length file)) begun is
+of_file file allowed fault start begun is =
+    long_by file allowed fault start (ltb longest_file (length file)) begun is
 
 abbrev IsFirstOf : Files → List ℕ → ℕ → SurveyFault → Type 0
-IsFirstOf files name allowed fault = (bytes : List ℕ) → Holds files name bytes → (start : Start) → start_of bytes ≡ Ok start → NoneBefore (fault_place fault) (faults_from bytes allowed start)
+IsFirstOf files name allowed fault = (bytes : List ℕ) → Holds files name bytes → (start : Start)
+    → start_of bytes ≡ Ok start → NoneBefore (fault_place fault) (faults_from bytes allowed start)
 
-refusal_first : (name : List ℕ) (files : Files) (allowed : ℕ) (before after : Counts) (fault : SurveyFault) → IsSurveyFault name files allowed before after fault → (fault_place fault ≡ 0) ⊎ (kind_of fault ≡ IsRefused)
-    → IsFirstOf files name allowed fault
-refusal_first name files allowed before after fault is (inl zero) = λ bytes holds start begun. subst (λ n. NoneBefore n (faults_from bytes allowed start)) (sym zero) (none_at_all (faults_from bytes allowed start))
+refusal_first : (name : List ℕ) (files : Files) (allowed : ℕ) (before after : Counts)
+    (fault : SurveyFault) → IsSurveyFault name files allowed before after fault
+    → (fault_place fault ≡ 0) ⊎ (kind_of fault ≡ IsRefused) → IsFirstOf files name allowed fault
+refusal_first name files allowed before after fault is (inl zero) =
+    λ bytes holds start begun. subst (λ n. NoneBefore n (faults_from bytes allowed start))
+    (sym zero) (none_at_all (faults_from bytes allowed start))
 refusal_first name files allowed before after fault is (inr kind) =
-    let refuses : RefusesBytes name files allowed before after fault = subst (IsSurveyFaultBy name files allowed before after fault) kind is in
+    let refuses : RefusesBytes name files allowed before after fault =
+    subst (IsSurveyFaultBy name files allowed before after fault) kind is in
     λ bytes holds start begun. of_file bytes allowed fault start begun (refuses.bytes bytes holds)
 
-pub refused_first : (name : List ℕ) (files : Files) (allowed : ℕ) (before after : Counts) (r : Result Survey SurveyFault) → IfErr r (IsRefusal name files allowed before after) → IfErr r (IsFirstOf files name allowed)
+-- a refusal of a file is the one with the smallest offset
+pub refused_first : (name : List ℕ) (files : Files) (allowed : ℕ) (before after : Counts)
+    (r : Result Survey SurveyFault) → IfErr r (IsRefusal name files allowed before after)
+    → IfErr r (IsFirstOf files name allowed)
 refused_first name files allowed before after (Ok s) is = tt
-refused_first name files allowed before after (Err fault) is = refusal_first name files allowed before after fault is.cause (nowhere fault)
+refused_first name files allowed before after (Err fault) is =
+    refusal_first name files allowed before after fault is.cause (nowhere fault)

@@ -1,50 +1,67 @@
 -- The refusals of a survey of a file of a folder.
-use Rattle.std.proofs.Common.{◌≡◌, ℕ, ◌-◌, ◌<◌, ◌≤◌, min, Bool, true, false, cond, leb, ltb, List, length, take, drop, Result, Ok, Err, refl, sym, ◌∙◌, ap, subst, arith, length-drop, IfOk, IfErr}
-use Rattle.std.proofs.lemmas.Bool.{leb-true, leb-false, lt-ltb, le-ltb}
-use Rattle.std.proofs.lemmas.List.{take_all}
-use Rattle.bit_fields.specs.Bits.{AreBytes}
-use Rattle.bit_fields.proofs.BitsLaws.{AreBytes-from_slice}
-use Rattle.outside.specs.Exact.{HasReadCause}
+use Rattle.std.proofs.Common.{ap, arith, Bool, cond, drop, Err, false, IfErr, IfOk, leb, length}
+use Rattle.std.proofs.Common.{length-drop, List, ltb, min, Ok, refl, Result, subst, sym, take, true}
+use Rattle.std.proofs.Common.{ℕ, ◌-◌, ◌<◌, ◌∙◌, ◌≡◌, ◌≤◌}
+use Rattle.std.proofs.lemmas.{Bool.{le-ltb, leb-false, leb-true, lt-ltb}, List.take_all}
+use Rattle.bit_fields.{proofs.BitsLaws.AreBytes-from_slice, specs.Bits.AreBytes}
+use Rattle.outside.{proofs.CountsLaws.only_reads_same, specs.Counts.{Counts, OnlyReads}}
+use Rattle.outside.specs.{Exact.HasReadCause, Feed.{Fed, IsFedFrom}}
+use Rattle.outside.specs.{Files.{AreOctets, Files, Holds, IsThere}, Seen.seen}
 use Rattle.outside.specs.declared.exact.ReadFault.{ReadFault}
 use Rattle.outside.specs.declared.exact.ReadFault.TheVariants.{Failed, Shrunk as ShrunkRead}
-use Rattle.outside.specs.Files.{Files, Holds, IsThere, AreOctets}
-use Rattle.outside.specs.Counts.{Counts, OnlyReads}
-use Rattle.outside.proofs.CountsLaws.{only_reads_same}
-use Rattle.outside.specs.Feed.{Fed, IsFedFrom}
-use Rattle.outside.specs.Seen.{seen}
-use Rattle.sync_survey.specs.declared.places.Start.{Start}
-use Rattle.sync_survey.specs.declared.survey_fault.SurveyFault.{SurveyFault}
-use Rattle.sync_survey.specs.declared.survey_fault.SurveyFault.TheVariants.{TooLong, Memory}
-use Rattle.sync_survey.specs.Looks.{look_size, Shows}
+use Rattle.sync_survey.specs.Faults.{longest_file, survey_by, surveyed}
+use Rattle.sync_survey.specs.{Kinds.{of_read, RefusesRightly}, Looks.{look_size, Shows}}
 use Rattle.sync_survey.specs.Start.{start_of}
-use Rattle.sync_survey.specs.Faults.{survey_by, surveyed, longest_file}
-use Rattle.sync_survey.specs.Kinds.{of_read, RefusesRightly}
-use Rattle.sync_survey.specs.Survey.{survey_of, RefusesBytes, IsSurveyFaultBy, IsRefusal, HasLength, ReadsBy}
+use Rattle.sync_survey.specs.Survey.{HasLength, IsRefusal, IsSurveyFaultBy, ReadsBy, RefusesBytes}
+use Rattle.sync_survey.specs.{Survey.survey_of, declared.places.Start.Start}
+use Rattle.sync_survey.specs.declared.survey_fault.SurveyFault.{SurveyFault}
+use Rattle.sync_survey.specs.declared.survey_fault.SurveyFault.TheVariants.{Memory, TooLong}
 
 -- ---- by the length
 
-too_long : (file : List ℕ) (allowed size : ℕ) → size ≡ length file → longest_file < size → survey_of file allowed ≡ Err (TooLong size)
+too_long : (file : List ℕ) (allowed size : ℕ) → size ≡ length file → longest_file < size
+    → survey_of file allowed ≡ Err (TooLong size)
 unfolding survey_of
 too_long file allowed size is long =
-    let more : ltb longest_file (length file) ≡ true = lt-ltb longest_file (length file) (omega (arith, is, long)) in
-    ap (λ b. cond b (Err (TooLong (length file))) (surveyed file allowed)) more ∙ ap (λ n. Err (TooLong n)) (sym is)
+    let more : ltb longest_file (length file) ≡ true =
+    lt-ltb longest_file (length file) (omega (arith, is, long)) in
+    ap (λ b. cond b (Err (TooLong (length file))) (surveyed file allowed)) more
+    ∙ ap (λ n. Err (TooLong n)) (sym is)
 
-pub survey_of-short : (file : List ℕ) (allowed : ℕ) → length file ≤ longest_file → survey_of file allowed ≡ surveyed file allowed
+-- the survey of a file that isn't too long is that of its bytes
+pub survey_of-short : (file : List ℕ) (allowed : ℕ) → length file ≤ longest_file
+    → survey_of file allowed ≡ surveyed file allowed
 unfolding survey_of
-survey_of-short file allowed few = let short : ltb longest_file (length file) ≡ false = le-ltb longest_file (length file) few in rw short refl
+survey_of-short file allowed few = let short : ltb longest_file (length file) ≡ false =
+    le-ltb longest_file (length file) few in rw short refl
 
-pub long_refusal : (name : List ℕ) (files : Files) (allowed : ℕ) (before after : Counts) (size : ℕ) → IsThere files name → ((bytes : List ℕ) → Holds files name bytes → size ≡ length bytes) → longest_file < size → after ≡ before
+-- a file that is too long is refused with its length
+pub long_refusal : (name : List ℕ) (files : Files) (allowed : ℕ) (before after : Counts) (size : ℕ)
+    → IsThere files name → ((bytes : List ℕ) → Holds files name bytes → size ≡ length bytes)
+    → longest_file < size → after ≡ before
     → IsRefusal name files allowed before after (TooLong size)
 long_refusal name files allowed before after size there is long same =
-    record { cause = record { there = there; bytes = λ bytes holds. too_long bytes allowed size (is bytes holds) long; counts = same }; numbers = long }
+    record {
+      cause = record {
+        there = there;
+        bytes = λ bytes holds. too_long bytes allowed size (is bytes holds) long;
+        counts = same;
+      };
+      numbers = long;
+    }
 
+-- octets are bytes, as a list
 pub octets_bytes : (bytes : List ℕ) → AreOctets bytes → AreBytes bytes
 octets_bytes bytes all = AreBytes-from_slice bytes (λ i. record { fits = all i })
 
 -- ---- by a read that ends early
 
-pub read_refusal : (name : List ℕ) (files : Files) (allowed : ℕ) (before after : Counts) (size : ℕ) (fault : ReadFault) → HasReadCause name size files before after fault → IsRefusal name files allowed before after (of_read fault)
-read_refusal name files allowed before after size Failed cause = record { cause = cause.0; numbers = tt }
+-- a fault of reading refuses the file, with the cause of the fault
+pub read_refusal : (name : List ℕ) (files : Files) (allowed : ℕ) (before after : Counts) (size : ℕ)
+    (fault : ReadFault) → HasReadCause name size files before after fault
+    → IsRefusal name files allowed before after (of_read fault)
+read_refusal name files allowed before after size Failed cause =
+    record { cause = cause.0; numbers = tt }
 read_refusal name files allowed before after size (ShrunkRead first second) cause = record {
   cause = record { nothing_told = cause.0; ended = cause.3; counts = cause.4 };
   numbers = cause.2;
@@ -52,89 +69,144 @@ read_refusal name files allowed before after size (ShrunkRead first second) caus
 
 -- ---- what a look shows
 
-take_fewer : (m n : ℕ) (xs : List ℕ) → n ≡ min (length xs) m → (short : Bool) → leb (length xs) m ≡ short → take n xs ≡ take m xs
+take_fewer : (m n : ℕ) (xs : List ℕ) → n ≡ min (length xs) m → (short : Bool)
+    → leb (length xs) m ≡ short → take n xs ≡ take m xs
 take_fewer m n xs is true e =
     let few = leb-true (length xs) m e in
     take_all n xs (omega (arith, is, few)) ∙ sym (take_all m xs few)
-take_fewer m n xs is false e = let same : n ≡ m = omega (arith, is, leb-false (length xs) m e) in ap (λ k. take k xs) same
+take_fewer m n xs is false e = let same : n ≡ m = omega (arith, is, leb-false (length xs) m e) in
+    ap (λ k. take k xs) same
 
-pub shown : (file : List ℕ) (at left wanted size : ℕ) (given : List ℕ) → size ≡ length file → left ≡ size - at → wanted ≡ min left look_size → given ≡ take wanted (drop at file) → Shows file at given left
+-- what was read at an offset shows the file there
+pub shown : (file : List ℕ) (at left wanted size : ℕ) (given : List ℕ) → size ≡ length file
+    → left ≡ size - at → wanted ≡ min left look_size → given ≡ take wanted (drop at file)
+    → Shows file at given left
 shown file at left wanted size given whole is many bytes = record {
-  front_is = bytes ∙ take_fewer look_size wanted (drop at file) (omega (arith, whole, is, many, length-drop at file)) (leb (length (drop at file)) look_size) refl;
+  front_is = bytes ∙ take_fewer look_size wanted (drop at file) (omega
+      (arith, whole, is, many, length-drop at file)) (leb (length (drop at file)) look_size) refl;
   left_is = omega (arith, whole, is);
 }
 
 -- ---- want of memory
 
-pub memory_refusal : (name : List ℕ) (files : Files) (allowed : ℕ) (before after : Counts) (size : ℕ) → HasLength files name size → after ≡ before → IsRefusal name files allowed before after Memory
+-- want of memory may refuse any file
+pub memory_refusal : (name : List ℕ) (files : Files) (allowed : ℕ) (before after : Counts)
+    (size : ℕ) → HasLength files name size → after ≡ before
+    → IsRefusal name files allowed before after Memory
 memory_refusal name files allowed before after size known same = record {
-  cause = record { there = known.there; few = λ bytes holds. omega (arith, known.few, known.long bytes holds); counts = same };
+  cause = record {
+    there = known.there;
+    few = λ bytes holds. omega (arith, known.few, known.long bytes holds);
+    counts = same;
+  };
   numbers = tt;
 }
 
 -- ---- after calls that left the files and all counts
 
 -- the feed is fed from the name's file, and the files and all counts are as they were
-pub record HasRead (feed : Fed) (name : List ℕ) (before after : Files) (old new : Counts) : Type 0 where
+pub record HasRead (feed : Fed) (name : List ℕ) (before after : Files)
+    (old new : Counts) : Type 0 where
   pub fed : IsFedFrom feed after name
   pub files : after ≡ before
   pub counts : new ≡ old
 
-pub none_read : {feed : Fed} {name : List ℕ} {files : Files} {counts : Counts} → IsFedFrom feed files name → HasRead feed name files files counts counts
+-- where nothing was read yet, files and counts are what they were
+pub none_read : {feed : Fed} {name : List ℕ} {files : Files} {counts : Counts}
+    → IsFedFrom feed files name → HasRead feed name files files counts counts
 none_read fed = record { fed = fed; files = refl; counts = refl }
 
-pub read_more : {T : Type 0} {x : T} {feed next : Fed} {name : List ℕ} {files mid now : Files} {old between new : Counts} → HasRead feed name files mid old between → ReadsBy next name (Ok x) (seen mid between) (seen now new) → HasRead next name files now old new
-read_more before reads = record { fed = reads.fed; files = reads.files ∙ before.files; counts = reads.done ∙ before.counts }
+-- one more read that succeeded leaves files and feed so
+pub read_more : {T : Type 0} {x : T} {feed next : Fed} {name : List ℕ} {files mid now : Files}
+    {old between new : Counts} → HasRead feed name files mid old between
+    → ReadsBy next name (Ok x) (seen mid between) (seen now new)
+    → HasRead next name files now old new
+read_more before reads = record {
+  fed = reads.fed;
+  files = reads.files ∙ before.files;
+  counts = reads.done ∙ before.counts;
+}
 
 -- the file is what it was
-pub still_held : {feed : Fed} {name : List ℕ} {files now : Files} {old new : Counts} → HasRead feed name files now old new → (bytes : List ℕ) → Holds files name bytes → Holds now name bytes
-still_held {name = name} before bytes holds = subst (λ f. Holds f name bytes) (sym before.files) holds
+pub still_held : {feed : Fed} {name : List ℕ} {files now : Files} {old new : Counts}
+    → HasRead feed name files now old new → (bytes : List ℕ) → Holds files name bytes
+    → Holds now name bytes
+still_held {name = name} before bytes holds =
+    subst (λ f. Holds f name bytes) (sym before.files) holds
 
 -- a refusal is one of all these calls
-pub refusal_later : {name : List ℕ} {files mid : Files} {allowed : ℕ} {before between after : Counts} {fault : SurveyFault} → mid ≡ files → between ≡ before → IsRefusal name mid allowed between after fault → IsRefusal name files allowed before after fault
-refusal_later {name = name} {mid = mid} {allowed = allowed} {before = before} {after = after} {fault = fault} same_files same_counts is =
-    subst (λ f. IsRefusal name f allowed before after fault) same_files (subst (λ n. IsRefusal name mid allowed n after fault) same_counts is)
+pub refusal_later : {name : List ℕ} {files mid : Files} {allowed : ℕ}
+    {before between after : Counts} {fault : SurveyFault} → mid ≡ files → between ≡ before
+    → IsRefusal name mid allowed between after fault
+    → IsRefusal name files allowed before after fault
+refusal_later {name = name} {mid = mid} {allowed = allowed} {before = before} {after =
+    after} {fault = fault} same_files same_counts is =
+    subst (λ f. IsRefusal name f allowed before after fault) same_files
+    (subst (λ n. IsRefusal name mid allowed n after fault) same_counts is)
 
-pub refusal_after : {feed : Fed} {name : List ℕ} {files mid : Files} {allowed : ℕ} {before between after : Counts} {fault : SurveyFault} → HasRead feed name files mid before between → IsRefusal name mid allowed between after fault → IsRefusal name files allowed before after fault
+-- a refusal after reads that succeeded is one of all calls together
+pub refusal_after : {feed : Fed} {name : List ℕ} {files mid : Files} {allowed : ℕ}
+    {before between after : Counts} {fault : SurveyFault}
+    → HasRead feed name files mid before between → IsRefusal name mid allowed between after fault
+    → IsRefusal name files allowed before after fault
 refusal_after read is = refusal_later read.files read.counts is
 
 -- where no count changed, only reads were counted
 pub only_reads_equal : {before after : Counts} → after ≡ before → OnlyReads before after
-only_reads_equal {before = before} same = subst (OnlyReads before) (sym same) (only_reads_same before)
+only_reads_equal {before = before} same =
+    subst (OnlyReads before) (sym same) (only_reads_same before)
 
 -- ---- by the bytes
 
-kind_refusal : (name : List ℕ) (files : Files) (allowed : ℕ) (before after : Counts) (fault : SurveyFault) → RefusesRightly fault → RefusesBytes name files allowed before after fault → IsRefusal name files allowed before after fault
+kind_refusal : (name : List ℕ) (files : Files) (allowed : ℕ) (before after : Counts)
+    (fault : SurveyFault) → RefusesRightly fault
+    → RefusesBytes name files allowed before after fault
+    → IsRefusal name files allowed before after fault
 kind_refusal name files allowed before after fault rightly refuses = record {
   cause = subst (IsSurveyFaultBy name files allowed before after fault) (sym rightly.0) refuses;
   numbers = rightly.1;
 }
 
-pub bytes_refusal : (name : List ℕ) (files : Files) (allowed : ℕ) (before after : Counts) (size : ℕ) (fault : SurveyFault) → HasLength files name size → after ≡ before → RefusesRightly fault
-    → ((bytes : List ℕ) → Holds files name bytes → surveyed bytes allowed ≡ Err fault) → IsRefusal name files allowed before after fault
+-- a fault of the file's bytes refuses it
+pub bytes_refusal : (name : List ℕ) (files : Files) (allowed : ℕ) (before after : Counts) (size : ℕ)
+    (fault : SurveyFault) → HasLength files name size → after ≡ before → RefusesRightly fault
+    → ((bytes : List ℕ) → Holds files name bytes → surveyed bytes allowed ≡ Err fault)
+    → IsRefusal name files allowed before after fault
 bytes_refusal name files allowed before after size fault known same rightly refused =
     kind_refusal name files allowed before after fault rightly (record {
       there = known.there;
-      bytes = λ bytes holds. survey_of-short bytes allowed (omega (arith, known.few, known.long bytes holds)) ∙ refused bytes holds;
+      bytes = λ bytes holds. survey_of-short bytes allowed
+          (omega (arith, known.few, known.long bytes holds)) ∙ refused bytes holds;
       counts = same;
     })
 
 -- the stream doesn't begin
-pub surveyed_by : (file : List ℕ) (allowed : ℕ) (fault : SurveyFault) → start_of file ≡ Err fault → surveyed file allowed ≡ Err fault
+pub surveyed_by : (file : List ℕ) (allowed : ℕ) (fault : SurveyFault) → start_of file ≡ Err fault
+    → surveyed file allowed ≡ Err fault
 unfolding surveyed
 surveyed_by file allowed fault is = ap (survey_by file allowed) is
 
-pub start_refusal : (name : List ℕ) (files : Files) (allowed : ℕ) (before after : Counts) (size : ℕ) (fault : SurveyFault) → HasLength files name size → after ≡ before → RefusesRightly fault
-    → ((bytes : List ℕ) → Holds files name bytes → start_of bytes ≡ Err fault) → IsRefusal name files allowed before after fault
+-- so does a fault before its first frame
+pub start_refusal : (name : List ℕ) (files : Files) (allowed : ℕ) (before after : Counts) (size : ℕ)
+    (fault : SurveyFault) → HasLength files name size → after ≡ before → RefusesRightly fault
+    → ((bytes : List ℕ) → Holds files name bytes → start_of bytes ≡ Err fault)
+    → IsRefusal name files allowed before after fault
 start_refusal name files allowed before after size fault known same rightly none =
-    bytes_refusal name files allowed before after size fault known same rightly (λ bytes holds. surveyed_by bytes allowed fault (none bytes holds))
+    bytes_refusal name files allowed before after size fault known same rightly
+    (λ bytes holds. surveyed_by bytes allowed fault (none bytes holds))
 
 -- the start, or why there is none
-pub start_ok : (r : Result Start SurveyFault) (files : Files) (name : List ℕ) → ((bytes : List ℕ) → Holds files name bytes → start_of bytes ≡ r) → IfOk r (λ s. (bytes : List ℕ) → Holds files name bytes → start_of bytes ≡ Ok s)
+pub start_ok : (r : Result Start SurveyFault) (files : Files) (name : List ℕ)
+    → ((bytes : List ℕ) → Holds files name bytes → start_of bytes ≡ r)
+    → IfOk r (λ s. (bytes : List ℕ) → Holds files name bytes → start_of bytes ≡ Ok s)
 start_ok (Ok s) files name is = is
 start_ok (Err fault) files name is = tt
 
-pub start_err : (r : Result Start SurveyFault) (name : List ℕ) (files : Files) (before after : Counts) (size : ℕ) → HasLength files name size → after ≡ before → IfErr r RefusesRightly
-    → ((bytes : List ℕ) → Holds files name bytes → start_of bytes ≡ r) → IfErr r (λ fault. (allowed : ℕ) → IsRefusal name files allowed before after fault)
+-- an answer that is an error is such a refusal
+pub start_err : (r : Result Start SurveyFault) (name : List ℕ) (files : Files)
+    (before after : Counts) (size : ℕ) → HasLength files name size → after ≡ before
+    → IfErr r RefusesRightly → ((bytes : List ℕ) → Holds files name bytes → start_of bytes ≡ r)
+    → IfErr r (λ fault. (allowed : ℕ) → IsRefusal name files allowed before after fault)
 start_err (Ok s) name files before after size known same rightly is = tt
-start_err (Err fault) name files before after size known same rightly is = λ allowed. start_refusal name files allowed before after size fault known same rightly is
+start_err (Err fault) name files before after size known same rightly is =
+    λ allowed. start_refusal name files allowed before after size fault known same rightly is

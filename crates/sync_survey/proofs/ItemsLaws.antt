@@ -1,73 +1,94 @@
 -- What bytes begin with: one item, and no other.
-use Rattle.std.proofs.Common.{◌≡◌, ℕ, ◌<◌, ◌==◌, Bool, true, false, cond, List, [], ◌∷◌, take, drop, Option, Some, None, Result, Ok, Err, refl, sym, ◌∙◌, ap, subst, arith}
-use Rattle.std.proofs.lemmas.Bool.{false≢true, eqb-true}
-use Rattle.frame_header.specs.declared.header.NotHeader.{NotHeader}
-use Rattle.frame_header.specs.declared.header.NotHeader.TheVariants.{Free as FreeHeader, No}
-use Rattle.frame_header.specs.Fields.{HeaderFields, IsHeader}
-use Rattle.frame_header.specs.Tables.{class_of, length_of}
-use Rattle.frame_header.proofs.Lengths.{area_some}
-use Rattle.frame_header.proofs.HeaderLaws.{IsHeader-header_at, IsClass-class_of}
-use Rattle.tag_blocks.specs.declared.block.Block.{Block as TagBlock}
-use Rattle.tag_blocks.specs.Blocks.{block_front}
-use Rattle.tag_blocks.proofs.BlocksLaws.{block_front-least}
-use Rattle.sync_survey.specs.declared.items.Item.{Item}
-use Rattle.sync_survey.specs.declared.items.Item.TheVariants.{Frame, Block, Zero, Nothing}
+use Rattle.std.proofs.Common.{ap, arith, Bool, cond, drop, Err, false, List, None, Ok, Option, refl}
+use Rattle.std.proofs.Common.{Result, Some, subst, sym, take, true, ℕ, [], ◌<◌, ◌==◌, ◌∙◌, ◌∷◌, ◌≡◌}
+use Rattle.std.proofs.lemmas.Bool.{eqb-true, false≢true}
+use Rattle.frame_header.proofs.HeaderLaws.{IsClass-class_of, IsHeader-header_at}
+use Rattle.frame_header.{proofs.Lengths.area_some, specs.Fields.{HeaderFields, IsHeader}}
+use Rattle.frame_header.specs.{Reading.header_at, Tables.{class_of, length_of}}
+use Rattle.frame_header.specs.declared.header.NotHeader.{NotHeader, TheVariants.No}
+use Rattle.sync_survey.specs.Items.{by_block, by_byte, by_header, header_front, item_at, item_front}
+use Rattle.sync_survey.specs.{Items.{size_of, Stands}, Runs.belongs, declared.items.Item.Item}
+use Rattle.sync_survey.specs.declared.items.Item.TheVariants.{Block, Frame, Nothing, Zero}
 use Rattle.sync_survey.specs.declared.runs.Part.{Part}
-use Rattle.frame_header.specs.Reading.{header_at}
-use Rattle.sync_survey.specs.Items.{header_front, Stands, by_header, by_block, by_byte, item_front, item_at, size_of}
-use Rattle.sync_survey.specs.Runs.{belongs}
+use Rattle.tag_blocks.{proofs.BlocksLaws.block_front-least, specs.Blocks.block_front}
+use Rattle.tag_blocks.specs.declared.block.Block.{Block as TagBlock}
 
 -- ---- the item that is found is there
 
-byte_stands : (b : ℕ) (bs : List ℕ) (zero : Bool) → (b == 0) ≡ zero → header_front (b ∷ bs) ≡ Err No → block_front (b ∷ bs) ≡ None → Stands (b ∷ bs) (cond zero Zero Nothing)
+byte_stands : (b : ℕ) (bs : List ℕ) (zero : Bool) → (b == 0) ≡ zero → header_front (b ∷ bs) ≡ Err No
+    → block_front (b ∷ bs) ≡ None → Stands (b ∷ bs) (cond zero Zero Nothing)
 byte_stands b bs true is no_header no_block = ap (λ x. x ∷ []) (eqb-true b 0 is)
-byte_stands b bs false is no_header no_block = (no_header, no_block, (λ e. absurd cc), (λ e. let first : b ≡ 0 = cc in let zero : (b == 0) ≡ true = ap (λ x. x == 0) first in absurd (false≢true (sym is ∙ zero))))
+byte_stands b bs false is no_header no_block = (
+  no_header,
+  no_block,
+  (λ e. absurd cc),
+  (λ e. let first : b ≡ 0 = cc in let zero : (b == 0) ≡ true = ap (λ x. x == 0) first in
+      absurd (false≢true (sym is ∙ zero))),
+)
 
-stands_by : (bytes : List ℕ) (r : Result HeaderFields NotHeader) (o : Option TagBlock) → header_front bytes ≡ r → block_front bytes ≡ o → Stands bytes (by_header r (by_block o (by_byte bytes)))
+stands_by : (bytes : List ℕ) (r : Result HeaderFields NotHeader) (o : Option TagBlock)
+    → header_front bytes ≡ r → block_front bytes ≡ o
+    → Stands bytes (by_header r (by_block o (by_byte bytes)))
 stands_by bytes (Err No) (Some b) header block = block
 stands_by [] (Err No) None header block = refl
 stands_by (b ∷ bs) (Err No) None header block = byte_stands b bs (b == 0) refl header block
 stands_by bytes _ o header block = header
 
+-- bytes begin with the item that is found at their front
 pub stands : (bytes : List ℕ) → Stands bytes (item_front bytes)
 unfolding item_front
 stands bytes = stands_by bytes (header_front bytes) (block_front bytes) refl refl
 
 -- bytes that begin with a header begin with its frame
-pub frame_of_header : (bytes : List ℕ) (h : HeaderFields) → header_front bytes ≡ Ok h → item_front bytes ≡ Frame h
+pub frame_of_header : (bytes : List ℕ) (h : HeaderFields) → header_front bytes ≡ Ok h
+    → item_front bytes ≡ Frame h
 unfolding item_front
 frame_of_header bytes h e = ap (λ r. by_header r (by_block (block_front bytes) (by_byte bytes))) e
 
 -- an item that is a frame is one by the header with which the bytes begin
-pub header_stands : (bytes : List ℕ) (item : Item) (h : HeaderFields) → item ≡ item_front bytes → item ≡ Frame h → header_front bytes ≡ Ok h
+pub header_stands : (bytes : List ℕ) (item : Item) (h : HeaderFields) → item ≡ item_front bytes
+    → item ≡ Frame h → header_front bytes ≡ Ok h
 header_stands bytes item h front is = subst (Stands bytes) (sym front ∙ is) (stands bytes)
 
-pub stands-at : (file : List ℕ) (at : ℕ) (item : Item) → item_at file at ≡ item → Stands (drop at file) item
+-- so they do at an offset of a file
+pub stands-at : (file : List ℕ) (at : ℕ) (item : Item) → item_at file at ≡ item
+    → Stands (drop at file) item
 unfolding item_at
 stands-at file at item is = subst (Stands (drop at file)) is (stands (drop at file))
 
 -- ---- what belongs to a part of a file has bytes
 
-header_cases : (b : Bool) (r : Result HeaderFields NotHeader) (h : HeaderFields) → cond b r (Err No) ≡ Ok h → r ≡ Ok h
+header_cases : (b : Bool) (r : Result HeaderFields NotHeader) (h : HeaderFields)
+    → cond b r (Err No) ≡ Ok h → r ≡ Ok h
 header_cases true r h e = e
 header_cases false r h e = absurd cc
 
-pub header_at-front : (bytes : List ℕ) (h : HeaderFields) → header_front bytes ≡ Ok h → header_at (take 4 bytes) ≡ Ok h
+-- a header with which bytes begin is that of their first four bytes
+pub header_at-front : (bytes : List ℕ) (h : HeaderFields) → header_front bytes ≡ Ok h
+    → header_at (take 4 bytes) ≡ Ok h
 unfolding header_front
 header_at-front bytes h e = header_cases _ _ h e
 
-pub header_front-in_range : (bytes : List ℕ) (h : HeaderFields) → header_front bytes ≡ Ok h → IsHeader h
+-- and its fields are in range
+pub header_front-in_range : (bytes : List ℕ) (h : HeaderFields) → header_front bytes ≡ Ok h
+    → IsHeader h
 unfolding header_front
 header_front-in_range bytes h e = IsHeader-header_at (take 4 bytes) h (header_cases _ _ h e)
 
 frame_some : (h : HeaderFields) → IsHeader h → 0 < length_of (class_of h) h.slot
-frame_some h fields = omega (arith, area_some (class_of h) h.slot (IsClass-class_of h fields) fields.slot)
+frame_some h fields =
+    omega (arith, area_some (class_of h) h.slot (IsClass-class_of h fields) fields.slot)
 
-pub some_by : (bytes : List ℕ) (part : Part) (item : Item) → Stands bytes item → belongs part item ≡ true → 0 < size_of item
+-- an item with which bytes begin, and that belongs to a part, has at least a byte
+pub some_by : (bytes : List ℕ) (part : Part) (item : Item) → Stands bytes item
+    → belongs part item ≡ true → 0 < size_of item
 some_by bytes part (Frame h) here is = frame_some h (header_front-in_range bytes h here)
 some_by bytes part (Block b) here is = omega (arith, block_front-least bytes b here)
 some_by bytes part Zero here is = omega arith
 some_by bytes part _ here is = absurd (false≢true is)
 
-pub size-some : (part : Part) (file : List ℕ) (at : ℕ) (item : Item) → item_at file at ≡ item → belongs part item ≡ true → 0 < size_of item
-size-some part file at item is belongs = some_by (drop at file) part item (stands-at file at item is) belongs
+-- so has one at an offset of a file
+pub size-some : (part : Part) (file : List ℕ) (at : ℕ) (item : Item) → item_at file at ≡ item
+    → belongs part item ≡ true → 0 < size_of item
+size-some part file at item is belongs =
+    some_by (drop at file) part item (stands-at file at item is) belongs

@@ -1,30 +1,31 @@
 -- The survey of a file's bytes, from what the parts of the code find.
-use Rattle.std.proofs.Common.{◌≡◌, ℕ, ◌≤◌, List, [], ◌∷◌, ◌++◌, length, drop, Option, Some, None, Result, Ok, Err, refl, ◌∙◌, ap, ap₂, subst, arith, option_to_list}
+use Rattle.std.proofs.Common.{ap, ap₂, arith, drop, Err, length, List, None, Ok, Option}
+use Rattle.std.proofs.Common.{option_to_list, refl, Result, Some, subst, ℕ, [], ◌++◌, ◌∙◌, ◌∷◌, ◌≡◌}
+use Rattle.std.proofs.Common.{◌≤◌}
+use Rattle.frame_header.proofs.{HeaderLaws.IsClass-class_of, Lengths.area_some}
 use Rattle.frame_header.specs.Fields.{HeaderFields, IsHeader}
 use Rattle.frame_header.specs.Tables.{class_of, length_of, overhead_of}
-use Rattle.frame_header.proofs.Lengths.{area_some}
-use Rattle.frame_header.proofs.HeaderLaws.{IsClass-class_of}
 use Rattle.side_info.proofs.FrameLaws.{overhead-most}
-use Rattle.sync_survey.specs.declared.places.PlacedFrame.{PlacedFrame}
-use Rattle.sync_survey.specs.declared.places.Piece.{Piece}
-use Rattle.sync_survey.specs.declared.places.Head.{Head}
-use Rattle.sync_survey.specs.declared.places.Start.{Start}
-use Rattle.sync_survey.specs.declared.survey_fault.SurveyFault.{SurveyFault}
-use Rattle.sync_survey.specs.Row.{Row}
-use Rattle.sync_survey.specs.declared.survey_fault.SurveyFault.{SurveyFault}
-use Rattle.sync_survey.specs.Items.{item_at}
-use Rattle.sync_survey.specs.Runs.{frames_of}
+use Rattle.sync_survey.proofs.FaultsLaws.{none-of, some-append}
+use Rattle.sync_survey.proofs.WalkLaws.{IsFound, no_fault, nothing_left, walk-is}
+use Rattle.sync_survey.specs.Faults.{all_faults, class_from, faults_from, fields_from, first_of}
+use Rattle.sync_survey.specs.Faults.{survey_by, surveyed, SurveyFields, unless_fault}
+use Rattle.sync_survey.specs.{Items.item_at, MainData.{marked, rows_of}, Row.Row, Runs.frames_of}
 use Rattle.sync_survey.specs.Start.{start_of}
-use Rattle.sync_survey.specs.Walk.{stream_run, head_of, numbered, fault_at, end_fault, walk_from}
-use Rattle.sync_survey.specs.MainData.{rows_of, marked}
-use Rattle.sync_survey.specs.Faults.{all_faults, first_of, class_from, faults_from, SurveyFields, fields_from, unless_fault, survey_by, surveyed}
-use Rattle.sync_survey.proofs.WalkLaws.{IsFound, walk-is, no_fault, nothing_left}
-use Rattle.sync_survey.proofs.FaultsLaws.{some-append, none-of}
+use Rattle.sync_survey.specs.Walk.{end_fault, fault_at, head_of, numbered, stream_run, walk_from}
+use Rattle.sync_survey.specs.declared.places.{Head.Head, Piece.Piece, PlacedFrame.PlacedFrame}
+use Rattle.sync_survey.specs.declared.{places.Start.Start, survey_fault.SurveyFault.SurveyFault}
 
 -- ---- a frame is longer than what is before its area
 
-pub overhead-within : (h : HeaderFields) → IsHeader h → overhead_of (class_of h) h.protected ≤ length_of (class_of h) h.slot
-overhead-within h fields = omega (arith, overhead-most (class_of h) h.protected, area_some (class_of h) h.slot (IsClass-class_of h fields) fields.slot)
+-- what is before the area is within the frame
+pub overhead-within : (h : HeaderFields) → IsHeader h
+    → overhead_of (class_of h) h.protected ≤ length_of (class_of h) h.slot
+overhead-within h fields = omega (
+  arith,
+  overhead-most (class_of h) h.protected,
+  area_some (class_of h) h.slot (IsClass-class_of h fields) fields.slot,
+)
 
 -- ---- the survey
 
@@ -40,11 +41,14 @@ told_by file start head rows blocks = record {
   length = length file;
 }
 
-survey-by : (file : List ℕ) (allowed : ℕ) (r : Result Start SurveyFault) → start_of file ≡ r → surveyed file allowed ≡ survey_by file allowed r
+survey-by : (file : List ℕ) (allowed : ℕ) (r : Result Start SurveyFault) → start_of file ≡ r
+    → surveyed file allowed ≡ survey_by file allowed r
 unfolding surveyed
 survey-by file allowed r is = ap (survey_by file allowed) is
 
-module _ (file : List ℕ) (allowed : ℕ) (start : Start) (head : Option Head) (frames : List PlacedFrame) (blocks : List Piece) (stop : ℕ) (found : IsFound file start head frames blocks stop) where
+module _ (file : List ℕ) (allowed : ℕ) (start : Start) (head : Option Head)
+    (frames : List PlacedFrame) (blocks : List Piece) (stop : ℕ)
+    (found : IsFound file start head frames blocks stop) where
   abbrev end : Option SurveyFault
   end = end_fault file frames (fault_at stop (item_at file stop))
 
@@ -53,29 +57,37 @@ module _ (file : List ℕ) (allowed : ℕ) (start : Start) (head : Option Head) 
 
   faults-are : faults_from file allowed start ≡ of_frames ++ option_to_list end
   unfolding faults_from
-  faults-are = ap (λ w. all_faults file w.head (class_from start) allowed (rows_of file w.frames) ++ option_to_list w.fault) (walk-is file start head frames blocks stop found)
+  faults-are = ap (λ w. all_faults file w.head (class_from start) allowed (rows_of file w.frames)
+      ++ option_to_list w.fault) (walk-is file start head frames blocks stop found)
 
   abbrev fields : SurveyFields
   fields = told_by file start head (rows_of file frames) blocks
 
   fields-are : fields_from file start ≡ fields
   unfolding fields_from
-  fields-are = ap (λ w. told_by file start w.head (rows_of file w.frames) w.blocks) (walk-is file start head frames blocks stop found)
+  fields-are = ap (λ w. told_by file start w.head (rows_of file w.frames) w.blocks)
+      (walk-is file start head frames blocks stop found)
 
   -- a frame is at fault
-  pub survey-frame : (fault : SurveyFault) → first_of of_frames ≡ Some fault → surveyed file allowed ≡ Err fault
+  pub survey-frame : (fault : SurveyFault) → first_of of_frames ≡ Some fault
+      → surveyed file allowed ≡ Err fault
   survey-frame fault is =
       survey-by file allowed (Ok start) found.start_is
-      ∙ ap (λ o. unless_fault o (fields_from file start)) (ap first_of faults-are ∙ some-append of_frames (option_to_list end) fault is)
+      ∙ ap (λ o. unless_fault o (fields_from file start))
+      (ap first_of faults-are ∙ some-append of_frames (option_to_list end) fault is)
 
-  last-fault : first_of of_frames ≡ None → (o : Option SurveyFault) → end ≡ o → first_of (faults_from file allowed start) ≡ first_of (option_to_list o)
+  last-fault : first_of of_frames ≡ None → (o : Option SurveyFault) → end ≡ o
+      → first_of (faults_from file allowed start) ≡ first_of (option_to_list o)
   last-fault none o is =
-      ap first_of (faults-are ∙ ap₂ (λ (xs : List SurveyFault) (e : Option SurveyFault). xs ++ option_to_list e) (none-of of_frames none) is)
+      ap first_of (faults-are ∙ ap₂ (λ (xs : List SurveyFault) (e : Option SurveyFault). xs
+      ++ option_to_list e) (none-of of_frames none) is)
 
   -- the walk stops before the end, or has no frame
-  pub survey-stopped : (fault : SurveyFault) → first_of of_frames ≡ None → end ≡ Some fault → surveyed file allowed ≡ Err fault
+  pub survey-stopped : (fault : SurveyFault) → first_of of_frames ≡ None → end ≡ Some fault
+      → surveyed file allowed ≡ Err fault
   survey-stopped fault none is =
-      survey-by file allowed (Ok start) found.start_is ∙ ap (λ o. unless_fault o (fields_from file start)) (last-fault none (Some fault) is)
+      survey-by file allowed (Ok start) found.start_is
+      ∙ ap (λ o. unless_fault o (fields_from file start)) (last-fault none (Some fault) is)
 
   -- nothing is at fault
   pub survey-whole : first_of of_frames ≡ None → end ≡ None → surveyed file allowed ≡ Ok fields
@@ -92,20 +104,27 @@ pub record IsSurveyed (file : List ℕ) (allowed : ℕ) (s : SurveyFields) : Typ
   pub fields_are : fields_from file start ≡ s
   pub none : first_of (faults_from file allowed start) ≡ None
 
-fields_cases : (file : List ℕ) (allowed : ℕ) (start : Start) (s : SurveyFields) (o : Option SurveyFault) → start_of file ≡ Ok start → first_of (faults_from file allowed start) ≡ o
-    → unless_fault o (fields_from file start) ≡ Ok s → IsSurveyed file allowed s
+fields_cases : (file : List ℕ) (allowed : ℕ) (start : Start) (s : SurveyFields)
+    (o : Option SurveyFault) → start_of file ≡ Ok start → first_of (faults_from file allowed start)
+    ≡ o → unless_fault o (fields_from file start) ≡ Ok s → IsSurveyed file allowed s
 fields_cases file allowed start s (Some fault) begins is e = absurd cc
-fields_cases file allowed start s None begins is e = record { start = start; begins = begins; fields_are = cc; none = is }
+fields_cases file allowed start s None begins is e =
+    record { start = start; begins = begins; fields_are = cc; none = is }
 
-start_cases : (file : List ℕ) (allowed : ℕ) (s : SurveyFields) (r : Result Start SurveyFault) → start_of file ≡ r → survey_by file allowed r ≡ Ok s → IsSurveyed file allowed s
+start_cases : (file : List ℕ) (allowed : ℕ) (s : SurveyFields) (r : Result Start SurveyFault)
+    → start_of file ≡ r → survey_by file allowed r ≡ Ok s → IsSurveyed file allowed s
 start_cases file allowed s (Err fault) begins e = absurd cc
-start_cases file allowed s (Ok start) begins e = fields_cases file allowed start s (first_of (faults_from file allowed start)) begins refl e
+start_cases file allowed s (Ok start) begins e =
+    fields_cases file allowed start s (first_of (faults_from file allowed start)) begins refl e
 
-pub surveyed-is : (file : List ℕ) (allowed : ℕ) (s : SurveyFields) → surveyed file allowed ≡ Ok s → IsSurveyed file allowed s
+-- a survey without fault has a start, and nothing at fault
+pub surveyed-is : (file : List ℕ) (allowed : ℕ) (s : SurveyFields) → surveyed file allowed ≡ Ok s
+    → IsSurveyed file allowed s
 unfolding surveyed
 surveyed-is file allowed s e = start_cases file allowed s (start_of file) refl e
 
-last_none : (xs : List SurveyFault) (o : Option SurveyFault) → first_of (xs ++ option_to_list o) ≡ None → o ≡ None
+last_none : (xs : List SurveyFault) (o : Option SurveyFault)
+    → first_of (xs ++ option_to_list o) ≡ None → o ≡ None
 last_none [] None e = refl
 last_none [] (Some fault) e = absurd cc
 last_none (x ∷ xs) o e = absurd cc
@@ -113,22 +132,35 @@ last_none (x ∷ xs) o e = absurd cc
 -- the frames and the head that the survey tells are those of the walk, which goes to the file's end
 pub record IsWalked (file : List ℕ) (s : SurveyFields) (start : Start) : Type 0 where
   pub head_is : s.head ≡ head_of file start.first
-  pub frames_are : s.frames ≡ marked s.head (rows_of file (numbered s.head (frames_of (stream_run file start).items)))
+  pub frames_are : s.frames
+      ≡ marked s.head (rows_of file (numbered s.head (frames_of (stream_run file start).items)))
   pub junk_is : s.junk ≡ start.front_end
   pub first_is : s.first ≡ start.first.offset
   pub nothing_behind : drop (stream_run file start).stop file ≡ []
 
-walk_fault : (file : List ℕ) (start : Start) → (walk_from file start).fault ≡ None → drop (stream_run file start).stop file ≡ []
+walk_fault : (file : List ℕ) (start : Start) → (walk_from file start).fault ≡ None
+    → drop (stream_run file start).stop file ≡ []
 unfolding walk_from
 walk_fault file start none = nothing_left file (stream_run file start).stop (no_fault file _ _ none)
 
-walked_by : (file : List ℕ) (start : Start) → drop (stream_run file start).stop file ≡ [] → IsWalked file (fields_from file start) start
+walked_by : (file : List ℕ) (start : Start) → drop (stream_run file start).stop file ≡ []
+    → IsWalked file (fields_from file start) start
 unfolding fields_from walk_from
-walked_by file start left = record { head_is = refl; frames_are = refl; junk_is = refl; first_is = refl; nothing_behind = left }
+walked_by file start left = record {
+  head_is = refl;
+  frames_are = refl;
+  junk_is = refl;
+  first_is = refl;
+  nothing_behind = left;
+}
 
-end_none : (file : List ℕ) (allowed : ℕ) (start : Start) → first_of (faults_from file allowed start) ≡ None → (walk_from file start).fault ≡ None
+end_none : (file : List ℕ) (allowed : ℕ) (start : Start)
+    → first_of (faults_from file allowed start) ≡ None → (walk_from file start).fault ≡ None
 unfolding faults_from
 end_none file allowed start none = last_none _ _ none
 
-pub walked : (file : List ℕ) (allowed : ℕ) (s : SurveyFields) (is : IsSurveyed file allowed s) → IsWalked file s is.start
-walked file allowed s is = subst (λ t. IsWalked file t is.start) is.fields_are (walked_by file is.start (walk_fault file is.start (end_none file allowed is.start is.none)))
+-- its frames and head are those of the walk
+pub walked : (file : List ℕ) (allowed : ℕ) (s : SurveyFields) (is : IsSurveyed file allowed s)
+    → IsWalked file s is.start
+walked file allowed s is = subst (λ t. IsWalked file t is.start) is.fields_are
+    (walked_by file is.start (walk_fault file is.start (end_none file allowed is.start is.none)))

@@ -1,52 +1,63 @@
--- What a survey without fault says of a file: where its stream starts, and that nothing is at fault from there on.
-use Rattle.std.proofs.Common.{◌≡◌, ℕ, zero, suc, ◌+◌, ◌<◌, ◌≤◌, ◌==◌, Bool, true, false, cond, List, [], ◌∷◌, ◌++◌, length, drop, Option, Some, None, Ok, refl, sym, ◌∙◌, ap, ap₂, arith, zero-add, option_to_list, not, flat_map, slice_get}
-use Rattle.std.specs.List.{enumerate_from}
-use Rattle.std.proofs.lemmas.Option.{slice_get_within}
-use Rattle.std.proofs.lemmas.Bool.{ne_eqb}
-use Rattle.std.proofs.lemmas.List.{length-map}
-use Rattle.std.proofs.lemmas.List.FromFn.{length-enumerate_from}
-use Rattle.frame_header.specs.Fields.{ClassFields}
-use Rattle.frame_header.specs.Tables.{class_of}
+-- What a survey without fault says of a file: where its
+-- stream starts, and that nothing is at fault from there on.
+use Rattle.std.proofs.Common.{ap, ap₂, arith, Bool, cond, drop, false, flat_map, length, List, None}
+use Rattle.std.proofs.Common.{not, Ok, Option, option_to_list, refl, slice_get, Some, suc, sym}
+use Rattle.std.proofs.Common.{true, zero, zero-add, ℕ, [], ◌++◌, ◌+◌, ◌<◌, ◌==◌, ◌∙◌, ◌∷◌, ◌≡◌, ◌≤◌}
+use Rattle.std.proofs.lemmas.{Bool.ne_eqb, List.{length-map, FromFn.length-enumerate_from}}
+use Rattle.std.{proofs.lemmas.Option.slice_get_within, specs.List.enumerate_from}
+use Rattle.frame_header.specs.{Fields.ClassFields, Tables.class_of}
 use Rattle.side_info.specs.Frame.{word_said}
-use Rattle.sync_survey.specs.declared.places.PlacedFrame.{PlacedFrame}
-use Rattle.sync_survey.specs.declared.places.Head.{Head}
-use Rattle.sync_survey.specs.declared.places.Start.{Start}
-use Rattle.sync_survey.specs.declared.survey_fault.SurveyFault.{SurveyFault}
-use Rattle.sync_survey.specs.Row.{Row}
-use Rattle.sync_survey.specs.declared.survey_fault.SurveyFault.{SurveyFault}
-use Rattle.sync_survey.specs.declared.runs.Part.TheVariants.{Stream}
+use Rattle.sync_survey.proofs.{FaultsLaws.none-of, ItemLists.{ends-within, frames-few}}
+use Rattle.sync_survey.proofs.{RunsLaws.run-ends, StartLaws.start-first}
+use Rattle.sync_survey.proofs.SurveyLaws.{survey-whole, surveyed-is, told_by}
+use Rattle.sync_survey.specs.Faults.{all_faults, class_from, data_faults, faults_at, faults_from}
+use Rattle.sync_survey.specs.Faults.{fields_from, first_of, frame_faults, has_wrong_word}
+use Rattle.sync_survey.specs.Faults.{HoldsStream, overlaps, overruns, own_faults, points_too_far}
+use Rattle.sync_survey.specs.Faults.{stream_by, stream_of, stream_of_survey, surveyed}
+use Rattle.sync_survey.specs.Faults.{surveyed_freely, SurveyFields, where_true}
 use Rattle.sync_survey.specs.Items.{item_at, same_class}
-use Rattle.sync_survey.specs.Runs.{frames_of}
+use Rattle.sync_survey.specs.MainData.{end_before, lacks_data, main_bytes, place, row_of, rows_of}
+use Rattle.sync_survey.specs.{MainData.{stream_frame, stream_frames}, Row.Row, Runs.frames_of}
 use Rattle.sync_survey.specs.Start.{start_of}
-use Rattle.sync_survey.specs.Walk.{stream_run, head_of, numbered, all_blocks, fault_at, end_fault, walk_from}
-use Rattle.sync_survey.specs.MainData.{row_of, rows_of, lacks_data, place, end_before, main_bytes, stream_frame, stream_frames}
-use Rattle.sync_survey.specs.Faults.{where_true, has_wrong_word, points_too_far, overlaps, overruns, own_faults, data_faults, faults_at, frame_faults, all_faults, first_of, class_from, faults_from, SurveyFields, fields_from, surveyed, surveyed_freely, stream_of_survey, stream_by, stream_of, HoldsStream}
-use Rattle.sync_survey.proofs.FaultsLaws.{none-of}
-use Rattle.sync_survey.proofs.SurveyLaws.{told_by, survey-whole, surveyed-is}
-use Rattle.sync_survey.proofs.RunsLaws.{run-ends}
-use Rattle.sync_survey.proofs.StartLaws.{start-first}
-use Rattle.sync_survey.proofs.ItemLists.{ends-within, frames-few}
+use Rattle.sync_survey.specs.Walk.{all_blocks, end_fault, fault_at, head_of, numbered, stream_run}
+use Rattle.sync_survey.specs.{Walk.walk_from, declared.places.{Head.Head, PlacedFrame.PlacedFrame}}
+use Rattle.sync_survey.specs.declared.{places.Start.Start, runs.Part.TheVariants.Stream}
+use Rattle.sync_survey.specs.declared.survey_fault.SurveyFault.{SurveyFault}
 
 -- ---- a survey by its start
 
 -- the frames that are numbered in a file with this start
 abbrev pub frames_from : List ℕ → Start → List PlacedFrame
-frames_from file start = numbered (head_of file start.first) (frames_of (stream_run file start).items)
+frames_from file start =
+    numbered (head_of file start.first) (frames_of (stream_run file start).items)
 
 -- the survey of a file with this start that has no fault
 abbrev pub told_from : List ℕ → Start → SurveyFields
-told_from file start = told_by file start (head_of file start.first) (rows_of file (frames_from file start)) (all_blocks file start)
+told_from file start = told_by file start (head_of file start.first)
+    (rows_of file (frames_from file start)) (all_blocks file start)
 
 -- the stream of the file starts so, and nothing is at fault in it
 pub record IsRead (file : List ℕ) (allowed : ℕ) (start : Start) : Type 0 where
   pub start_is : start_of file ≡ Ok start
-  pub frames : all_faults file (head_of file start.first) (class_from start) allowed (rows_of file (frames_from file start)) ≡ []
-  pub end : end_fault file (frames_from file start) (fault_at (stream_run file start).stop (item_at file (stream_run file start).stop)) ≡ None
+  pub frames : all_faults file (head_of file start.first) (class_from start) allowed
+      (rows_of file (frames_from file start)) ≡ []
+  pub end : end_fault file (frames_from file start)
+      (fault_at (stream_run file start).stop (item_at file (stream_run file start).stop)) ≡ None
 
-pub surveyed-told : (file : List ℕ) (allowed : ℕ) (start : Start) → IsRead file allowed start → surveyed file allowed ≡ Ok (told_from file start)
+-- a file without fault has the survey that its start tells
+pub surveyed-told : (file : List ℕ) (allowed : ℕ) (start : Start) → IsRead file allowed start
+    → surveyed file allowed ≡ Ok (told_from file start)
 surveyed-told file allowed start read =
-    survey-whole file allowed start (head_of file start.first) (frames_from file start) (all_blocks file start) (stream_run file start).stop
-    (record { start_is = read.start_is; head_is = refl; frames_are = refl; blocks_are = refl; stop_is = refl }) (ap first_of read.frames) read.end
+    survey-whole file allowed start (head_of file start.first) (frames_from file start)
+    (all_blocks file start) (stream_run file start).stop
+    (record {
+      start_is = read.start_is;
+      head_is = refl;
+      frames_are = refl;
+      blocks_are = refl;
+      stop_is =
+          refl;
+    }) (ap first_of read.frames) read.end
 
 empty_parts : (xs ys : List SurveyFault) → xs ++ ys ≡ [] → (xs ≡ []) × (ys ≡ [])
 empty_parts [] ys e = (refl, e)
@@ -60,17 +71,22 @@ fields_from-told : (file : List ℕ) (start : Start) → fields_from file start 
 unfolding fields_from walk_from
 fields_from-told file start = refl
 
-is_read : (file : List ℕ) (allowed : ℕ) (start : Start) → start_of file ≡ Ok start → faults_from file allowed start ≡ [] → IsRead file allowed start
+is_read : (file : List ℕ) (allowed : ℕ) (start : Start) → start_of file ≡ Ok start
+    → faults_from file allowed start ≡ [] → IsRead file allowed start
 unfolding faults_from walk_from
 is_read file allowed start is none =
     let parts = empty_parts _ _ none in
     record { start_is = is; frames = parts.0; end = no_last _ parts.1 }
 
 -- what a survey says
-pub surveyed-parts : (file : List ℕ) (allowed : ℕ) (s : SurveyFields) → surveyed file allowed ≡ Ok s → (start : Start) × IsRead file allowed start × (told_from file start ≡ s)
+pub surveyed-parts : (file : List ℕ) (allowed : ℕ) (s : SurveyFields) → surveyed file allowed ≡ Ok s
+    → (start : Start) × IsRead file allowed start × (told_from file start ≡ s)
 surveyed-parts file allowed s e =
-    let is = surveyed-is file allowed s e in
-    (is.start, is_read file allowed is.start is.begins (none-of _ is.none), sym (fields_from-told file is.start) ∙ is.fields_are)
+    let is = surveyed-is file allowed s e in (
+      is.start,
+      is_read file allowed is.start is.begins (none-of _ is.none),
+      sym (fields_from-told file is.start) ∙ is.fields_are,
+    )
 
 -- ---- a frame without fault
 
@@ -90,22 +106,31 @@ pub record StandWell (place ended : ℕ) (r : Row) : Type 0 where
   pub apart : overlaps place ended r ≡ false
   pub within : overruns place r ≡ false
 
--- it is of the class, its check word is right, its main data are where they may or it is lost, and it isn't one too many
-pub record IsSound (said : ℕ) (class : ClassFields) (allowed place ended count : ℕ) (r : Row) : Type 0 where
+-- it is of the class, its check word is right, its main data
+-- are where they may or it is lost, and it isn't one too many
+pub record IsSound (said : ℕ) (class : ClassFields) (allowed place ended count : ℕ)
+    (r : Row) : Type 0 where
   pub same : not (same_class (class_of r.header) class) ≡ false
   pub word : has_wrong_word said r ≡ false
   pub main : lacks_data place ended r ≡ false → StandWell place ended r
   pub few : (count == allowed) ≡ false
 
-own-none_well : (place ended : ℕ) (r : Row) → own_faults place ended r ≡ [] → StandWell place ended r
+own-none_well : (place ended : ℕ) (r : Row) → own_faults place ended r ≡ []
+    → StandWell place ended r
 own-none_well place ended r none =
     let main = empty_parts _ _ none in
     let begin = empty_parts _ _ main.0 in
-    record { begins = nothing_true _ _ begin.0; apart = nothing_true _ _ begin.1; within = nothing_true _ _ main.1 }
+    record {
+      begins = nothing_true _ _ begin.0;
+      apart = nothing_true _ _ begin.1;
+      within =
+          nothing_true _ _ main.1;
+    }
 
 well-no_own : (place ended : ℕ) (r : Row) → StandWell place ended r → own_faults place ended r ≡ []
 well-no_own place ended r well =
-    empty_both _ _ (empty_both _ _ (nothing_false _ _ well.begins) (nothing_false _ _ well.apart)) (nothing_false _ _ well.within)
+    empty_both _ _ (empty_both _ _ (nothing_false _ _ well.begins) (nothing_false _ _ well.apart))
+    (nothing_false _ _ well.within)
 
 unless-none : (b : Bool) (xs : List SurveyFault) → cond b [] xs ≡ [] → b ≡ false → xs ≡ []
 unless-none true xs none is = absurd cc
@@ -115,7 +140,10 @@ none-unless : (b : Bool) (xs : List SurveyFault) → (b ≡ false → xs ≡ [])
 none-unless true xs none = refl
 none-unless false xs none = none refl
 
-pub faults-none_sound : (said : ℕ) (class : ClassFields) (allowed place ended count : ℕ) (r : Row) → faults_at said class allowed place ended count r ≡ [] → IsSound said class allowed place ended count r
+-- a frame without fault is sound
+pub faults-none_sound : (said : ℕ) (class : ClassFields) (allowed place ended count : ℕ) (r : Row)
+    → faults_at said class allowed place ended count r ≡ []
+    → IsSound said class allowed place ended count r
 unfolding faults_at
 faults-none_sound said class allowed place ended count r none =
     let all = empty_parts _ _ none in
@@ -124,64 +152,95 @@ faults-none_sound said class allowed place ended count r none =
     record {
       same = nothing_true _ _ word.0;
       word = nothing_true _ _ word.1;
-      main = λ is. own-none_well place ended r (unless-none (lacks_data place ended r) (own_faults place ended r) front.1 is);
+      main = λ is. own-none_well place ended r
+          (unless-none (lacks_data place ended r) (own_faults place ended r) front.1 is);
       few = nothing_true _ _ all.1;
     }
 
-pub sound-no_faults : (said : ℕ) (class : ClassFields) (allowed place ended count : ℕ) (r : Row) → IsSound said class allowed place ended count r → faults_at said class allowed place ended count r ≡ []
+-- a sound frame has no fault
+pub sound-no_faults : (said : ℕ) (class : ClassFields) (allowed place ended count : ℕ) (r : Row)
+    → IsSound said class allowed place ended count r
+    → faults_at said class allowed place ended count r ≡ []
 unfolding faults_at
 sound-no_faults said class allowed place ended count r sound =
     empty_both _ _
     (empty_both _ _ (empty_both _ _ (nothing_false _ _ sound.same) (nothing_false _ _ sound.word))
-    (none-unless (lacks_data place ended r) (own_faults place ended r) (λ is. well-no_own place ended r (sound.main is))))
+    (none-unless (lacks_data place ended r) (own_faults place ended r)
+    (λ is. well-no_own place ended r (sound.main is))))
     (nothing_false _ _ sound.few)
 
-pub sound-no_data : (said : ℕ) (class : ClassFields) (allowed place ended count : ℕ) (r : Row) → IsSound said class allowed place ended count r → data_faults place ended r ≡ []
+-- nor is its main data at fault
+pub sound-no_data : (said : ℕ) (class : ClassFields) (allowed place ended count : ℕ) (r : Row)
+    → IsSound said class allowed place ended count r → data_faults place ended r ≡ []
 sound-no_data said class allowed place ended count r sound =
-    none-unless (lacks_data place ended r) (own_faults place ended r) (λ is. well-no_own place ended r (sound.main is))
+    none-unless (lacks_data place ended r) (own_faults place ended r)
+    (λ is. well-no_own place ended r (sound.main is))
 
 -- main data without a fault are where they may be, unless the frame is lost
-pub data-none_well : (place ended : ℕ) (r : Row) → data_faults place ended r ≡ [] → lacks_data place ended r ≡ false → StandWell place ended r
-data-none_well place ended r none is = own-none_well place ended r (unless-none (lacks_data place ended r) (own_faults place ended r) none is)
+pub data-none_well : (place ended : ℕ) (r : Row) → data_faults place ended r ≡ []
+    → lacks_data place ended r ≡ false → StandWell place ended r
+data-none_well place ended r none is = own-none_well place ended r
+    (unless-none (lacks_data place ended r) (own_faults place ended r) none is)
 
 -- ---- all frames
 
 -- frame i of these is without fault
 abbrev pub IsSoundAt : List ℕ → Option Head → ClassFields → ℕ → List Row → ℕ → Row → Type 0
-IsSoundAt file head class allowed rows i r = IsSound (word_said (drop r.offset file)) class allowed (place head rows i) (end_before head rows i) i r
+IsSoundAt file head class allowed rows i r = IsSound (word_said (drop r.offset file)) class allowed
+    (place head rows i) (end_before head rows i) i r
 
 -- so is each
 abbrev pub AreSound : List ℕ → Option Head → ClassFields → ℕ → List Row → Type 0
-AreSound file head class allowed rows = (i : ℕ) (r : Row) → slice_get rows i ≡ Some r → IsSoundAt file head class allowed rows i r
+AreSound file head class allowed rows =
+    (i : ℕ) (r : Row) → slice_get rows i ≡ Some r → IsSoundAt file head class allowed rows i r
 
 -- what is made of each in turn is nothing
-none_each : (each : ℕ → Row → List SurveyFault) (n : ℕ) (rows : List Row) → flat_map (λ (p : ℕ × Row). each p.0 p.1) (enumerate_from n rows) ≡ [] → (i : ℕ) (r : Row) → slice_get rows i ≡ Some r → each (n + i) r ≡ []
+none_each : (each : ℕ → Row → List SurveyFault) (n : ℕ) (rows : List Row)
+    → flat_map (λ (p : ℕ × Row). each p.0 p.1) (enumerate_from n rows) ≡ [] → (i : ℕ) (r : Row)
+    → slice_get rows i ≡ Some r → each (n + i) r ≡ []
 none_each each n [] none i r is = absurd cc
 none_each each n (q ∷ rows) none zero r is =
     let same : q ≡ r = cc in
     ap₂ each (omega arith) (sym same) ∙ (empty_parts (each n q) _ none).0
-none_each each n (q ∷ rows) none (suc i) r is = ap (λ m. each m r) (omega arith) ∙ none_each each (n + 1) rows (empty_parts (each n q) _ none).1 i r is
+none_each each n (q ∷ rows) none (suc i) r is = ap (λ m. each m r) (omega arith)
+    ∙ none_each each (n + 1) rows (empty_parts (each n q) _ none).1 i r is
 
-each_none : (each : ℕ → Row → List SurveyFault) (n : ℕ) (rows : List Row) → ((i : ℕ) (r : Row) → slice_get rows i ≡ Some r → each (n + i) r ≡ []) → flat_map (λ (p : ℕ × Row). each p.0 p.1) (enumerate_from n rows) ≡ []
+each_none : (each : ℕ → Row → List SurveyFault) (n : ℕ) (rows : List Row)
+    → ((i : ℕ) (r : Row) → slice_get rows i ≡ Some r → each (n + i) r ≡ [])
+    → flat_map (λ (p : ℕ × Row). each p.0 p.1) (enumerate_from n rows) ≡ []
 each_none each n [] none = refl
 each_none each n (q ∷ rows) none =
-    empty_both (each n q) _ (ap (λ m. each m q) (omega arith) ∙ none zero q refl) (each_none each (n + 1) rows (λ i r is. ap (λ m. each m r) (omega arith) ∙ none (suc i) r is))
+    empty_both (each n q) _ (ap (λ m. each m q) (omega arith) ∙ none zero q refl)
+    (each_none each (n + 1) rows (λ i r is. ap (λ m. each m r) (omega arith) ∙ none (suc i) r is))
 
-pub all_faults-none_sound : (file : List ℕ) (head : Option Head) (class : ClassFields) (allowed : ℕ) (rows : List Row) → all_faults file head class allowed rows ≡ [] → AreSound file head class allowed rows
+-- frames without any fault are all sound
+pub all_faults-none_sound : (file : List ℕ) (head : Option Head) (class : ClassFields) (allowed : ℕ)
+    (rows : List Row) → all_faults file head class allowed rows ≡ []
+    → AreSound file head class allowed rows
 unfolding all_faults
 all_faults-none_sound file head class allowed rows none = λ i r is.
-    faults-none_sound (word_said (drop r.offset file)) class allowed (place head rows i) (end_before head rows i) i r
-    (ap (λ m. frame_faults file head class allowed rows m r) (sym (zero-add i)) ∙ none_each (frame_faults file head class allowed rows) 0 rows none i r is)
+    faults-none_sound (word_said (drop r.offset file)) class allowed (place head rows i)
+    (end_before head rows i) i r
+    (ap (λ m. frame_faults file head class allowed rows m r) (sym (zero-add i))
+    ∙ none_each (frame_faults file head class allowed rows) 0 rows none i r is)
 
-pub sound-no_all_faults : (file : List ℕ) (head : Option Head) (class : ClassFields) (allowed : ℕ) (rows : List Row) → AreSound file head class allowed rows → all_faults file head class allowed rows ≡ []
+-- sound frames have no fault
+pub sound-no_all_faults : (file : List ℕ) (head : Option Head) (class : ClassFields) (allowed : ℕ)
+    (rows : List Row) → AreSound file head class allowed rows
+    → all_faults file head class allowed rows ≡ []
 unfolding all_faults
 sound-no_all_faults file head class allowed rows sound =
     each_none (frame_faults file head class allowed rows) 0 rows (λ i r is.
-    ap (λ m. frame_faults file head class allowed rows m r) (zero-add i) ∙ sound-no_faults (word_said (drop r.offset file)) class allowed (place head rows i) (end_before head rows i) i r (sound i r is))
+    ap (λ m. frame_faults file head class allowed rows m r) (zero-add i)
+    ∙ sound-no_faults (word_said (drop r.offset file)) class allowed (place head rows i)
+    (end_before head rows i) i r (sound i r is))
 
 -- ---- however many frames are allowed
 
-pub sound_allowed : (file : List ℕ) (head : Option Head) (class : ClassFields) (allowed other : ℕ) (rows : List Row) → length rows ≤ other → AreSound file head class allowed rows → AreSound file head class other rows
+-- sound frames are so with any allowed number that isn't below their own
+pub sound_allowed : (file : List ℕ) (head : Option Head) (class : ClassFields) (allowed other : ℕ)
+    (rows : List Row) → length rows ≤ other → AreSound file head class allowed rows
+    → AreSound file head class other rows
 sound_allowed file head class allowed other rows few sound = λ i r is.
     let here = sound i r is in
     record {
@@ -191,12 +250,14 @@ sound_allowed file head class allowed other rows few sound = λ i r is.
       few = ne_eqb i other (λ e. omega (arith, few, e, slice_get_within rows i r is));
     }
 
-numbered_few : (head : Option Head) (frames : List PlacedFrame) → length (numbered head frames) ≤ length frames
+numbered_few : (head : Option Head) (frames : List PlacedFrame)
+    → length (numbered head frames) ≤ length frames
 numbered_few (Some head) (p ∷ ps) = omega arith
 numbered_few _ _ = omega arith
 
 -- there are no more frames than bytes
-pub numbered-few : (file : List ℕ) (start : Start) → start_of file ≡ Ok start → length (rows_of file (frames_from file start)) ≤ length file
+pub numbered-few : (file : List ℕ) (start : Start) → start_of file ≡ Ok start
+    → length (rows_of file (frames_from file start)) ≤ length file
 numbered-few file start is =
     let stream = stream_run file start in
     let first = start.first.offset in
@@ -210,36 +271,46 @@ numbered-few file start is =
       ends-within Stream file first stream.items stream.stop ends (omega (arith, frame.within)),
     )
 
--- a file without fault has none whatever number of frames, greater than that of its bytes, is allowed
-pub surveyed-allowed : (file : List ℕ) (allowed other : ℕ) (s : SurveyFields) → length file < other → surveyed file allowed ≡ Ok s → surveyed file other ≡ Ok s
+-- a file without fault has none whatever number of
+-- frames, greater than that of its bytes, is allowed
+pub surveyed-allowed : (file : List ℕ) (allowed other : ℕ) (s : SurveyFields) → length file < other
+    → surveyed file allowed ≡ Ok s → surveyed file other ≡ Ok s
 surveyed-allowed file allowed other s many e =
     let parts = surveyed-parts file allowed s e in
     let start = parts.0 in
     let read = parts.1 in
     let rows = rows_of file (frames_from file start) in
-    let sound = all_faults-none_sound file (head_of file start.first) (class_from start) allowed rows read.frames in
+    let sound = all_faults-none_sound file (head_of file start.first)
+    (class_from start) allowed rows read.frames in
     surveyed-told file other start (record {
       start_is = read.start_is;
       frames = sound-no_all_faults file (head_of file start.first) (class_from start) other rows
-          (sound_allowed file (head_of file start.first) (class_from start) allowed other rows (omega (arith, many, numbered-few file start read.start_is)) sound);
+          (sound_allowed file (head_of file start.first) (class_from start) allowed other rows
+          (omega (arith, many, numbered-few file start read.start_is)) sound);
       end = read.end;
     })
     ∙ ap Ok parts.2
 
 -- a file without fault is well-formed, and holds the stream that its survey tells
-pub surveyed-stream : (file : List ℕ) (allowed : ℕ) (s : SurveyFields) → surveyed file allowed ≡ Ok s → HoldsStream file (stream_of_survey file s)
+pub surveyed-stream : (file : List ℕ) (allowed : ℕ) (s : SurveyFields)
+    → surveyed file allowed ≡ Ok s → HoldsStream file (stream_of_survey file s)
 unfolding stream_of
 surveyed-stream file allowed s e =
-    let freely : surveyed_freely file ≡ Ok s = surveyed-allowed file allowed (length file + 1) s (omega arith) e in
+    let freely : surveyed_freely file ≡ Ok s =
+    surveyed-allowed file allowed (length file + 1) s (omega arith) e in
     record { well_formed = (s, freely); stream_is = ap (stream_by file) freely }
 
 -- a file whose end has no fault has a frame
-pub some_frames : (file : List ℕ) (frames : List PlacedFrame) (o : Option SurveyFault) → end_fault file frames o ≡ None → 0 < length frames
+pub some_frames : (file : List ℕ) (frames : List PlacedFrame) (o : Option SurveyFault)
+    → end_fault file frames o ≡ None → 0 < length frames
 some_frames file (p ∷ ps) o e = omega arith
 some_frames file [] None e = absurd cc
 some_frames file [] (Some fault) e = absurd cc
 
 -- its stream has as many frames as its survey
-pub stream-length : (file : List ℕ) (s : SurveyFields) → length (stream_of_survey file s) ≡ length s.frames
+pub stream-length : (file : List ℕ) (s : SurveyFields)
+    → length (stream_of_survey file s) ≡ length s.frames
 unfolding stream_of_survey stream_frames
-stream-length file s = length-map (enumerate_from 0 s.frames) (λ (p : ℕ × Row). stream_frame (main_bytes file s.head s.frames) s.head s.frames p.0 p.1) ∙ length-enumerate_from 0 s.frames
+stream-length file s = length-map (enumerate_from 0 s.frames)
+    (λ (p : ℕ × Row). stream_frame (main_bytes file s.head s.frames) s.head s.frames p.0 p.1)
+    ∙ length-enumerate_from 0 s.frames

@@ -1,18 +1,28 @@
 -- What the survey of a file that isn't too long says.
-use Rattle.std.proofs.Common.{◌≡◌, ℕ, ◌+◌, ◌≤◌, ltb, Bool, true, false, cond, List, length, Result, Ok, Err, refl, arith}
-use Rattle.std.proofs.lemmas.Bool.{ltb-false}
-use Rattle.sync_survey.specs.declared.survey_fault.SurveyFault.{SurveyFault}
-use Rattle.sync_survey.specs.Faults.{SurveyFields, surveyed, longest_file, IsWellFormed}
-use Rattle.sync_survey.specs.Survey.{survey_of}
+use Rattle.std.proofs.Common.{arith, Bool, cond, Err, false, length, List, ltb, Ok, refl, Result}
+use Rattle.std.proofs.{Common.{true, ℕ, ◌+◌, ◌≡◌, ◌≤◌}, lemmas.Bool.ltb-false}
 use Rattle.sync_survey.proofs.SurveyParts.{surveyed-allowed}
+use Rattle.sync_survey.specs.Faults.{IsWellFormed, longest_file, surveyed, SurveyFields}
+use Rattle.sync_survey.specs.{Survey.survey_of, declared.survey_fault.SurveyFault.SurveyFault}
 
-long_cases : (long : Bool) (file : List ℕ) (r : Result SurveyFields SurveyFault) (fault : SurveyFault) (s : SurveyFields) → ltb longest_file (length file) ≡ long → cond long (Err fault) r ≡ Ok s → (length file ≤ longest_file) × (r ≡ Ok s)
+long_cases : (long : Bool) (file : List ℕ) (r : Result SurveyFields SurveyFault)
+    (fault : SurveyFault) (s : SurveyFields) → ltb longest_file (length file) ≡ long
+    → cond long (Err fault) r ≡ Ok s → (length file ≤ longest_file) × (r ≡ Ok s)
 long_cases true file r fault s is e = absurd cc
 long_cases false file r fault s is e = (ltb-false longest_file (length file) is, e)
 
-pub survey_of-parts : (file : List ℕ) (allowed : ℕ) (s : SurveyFields) → survey_of file allowed ≡ Ok s → (length file ≤ longest_file) × (surveyed file allowed ≡ Ok s)
+-- a surveyed file isn't too long, and its bytes have this survey
+pub survey_of-parts : (file : List ℕ) (allowed : ℕ) (s : SurveyFields)
+    → survey_of file allowed ≡ Ok s → (length file ≤ longest_file) × (surveyed file allowed ≡ Ok s)
 unfolding survey_of
-survey_of-parts file allowed s e = long_cases (ltb longest_file (length file)) file (surveyed file allowed) _ s refl e
+survey_of-parts file allowed s e =
+    long_cases (ltb longest_file (length file)) file (surveyed file allowed) _ s refl e
 
-pub survey_of-sound : (file : List ℕ) (allowed : ℕ) (s : SurveyFields) → survey_of file allowed ≡ Ok s → IsWellFormed file
-survey_of-sound file allowed s e = (s, surveyed-allowed file allowed (length file + 1) s (omega arith) (survey_of-parts file allowed s e).1)
+-- so it is well-formed
+pub survey_of-sound : (file : List ℕ) (allowed : ℕ) (s : SurveyFields)
+    → survey_of file allowed ≡ Ok s → IsWellFormed file
+survey_of-sound file allowed s e = (
+  s,
+  surveyed-allowed file allowed (length file + 1) s (omega arith)
+      (survey_of-parts file allowed s e).1,
+)

@@ -1,16 +1,14 @@
 -- What a survey of a file answers.
-use Rattle.std.specs.Prelude.{◌≡◌, ◌≤◌, ℕ, List, length, Result, IfOk, IfErr, OnOk}
-use Rattle.outside.specs.Files.{IsThere}
-use Rattle.outside.specs.Counts.{OnlyReads}
-use Rattle.outside.specs.Seen.{Seen}
-use Rattle.sync_survey.specs.declared.surveys.Survey.{Survey}
-use Rattle.sync_survey.specs.declared.survey_fault.SurveyFault.{SurveyFault}
-use Rattle.sync_survey.specs.Faults.{tells}
-use Rattle.sync_survey.specs.Kinds.{HasRightNumbers}
-use Rattle.sync_survey.specs.Survey.{HoldsOctets, IsSurveyOf, IsWholeSurvey, IsFirstFault, IsRefusal, IsSurveyFault, IsLaidOut}
+use Rattle.std.specs.Prelude.{IfErr, IfOk, length, List, OnOk, Result, ℕ, ◌≡◌, ◌≤◌}
+use Rattle.outside.specs.{Counts.OnlyReads, Files.IsThere, Seen.Seen}
+use Rattle.sync_survey.specs.{Faults.tells, Kinds.HasRightNumbers}
+use Rattle.sync_survey.specs.Survey.{HoldsOctets, IsFirstFault, IsLaidOut, IsRefusal, IsSurveyFault}
+use Rattle.sync_survey.specs.Survey.{IsSurveyOf, IsWholeSurvey}
+use Rattle.sync_survey.specs.declared.{survey_fault.SurveyFault.SurveyFault, surveys.Survey.Survey}
 
 -- The frames of a file whose beginning is known were judged: the survey, or the first fault.
-pub record FramesAnswer (name : List ℕ) (allowed : ℕ) (old new : Seen) (result : Result Survey SurveyFault) : Type 0 where
+pub record FramesAnswer (name : List ℕ) (allowed : ℕ) (old new : Seen)
+    (result : Result Survey SurveyFault) : Type 0 where
   pub surveyed : IfOk result (λ s. IsWholeSurvey name old.files allowed (tells s))
   pub done : OnOk result (new.counts ≡ old.counts)
   pub refused : IfErr result (IsRefusal name old.files allowed old.counts new.counts)
@@ -18,7 +16,8 @@ pub record FramesAnswer (name : List ℕ) (allowed : ℕ) (old new : Seen) (resu
   pub counts : OnlyReads old.counts new.counts
 
 -- A file was surveyed: the survey, or why there is none.
-pub record FileAnswer (name : List ℕ) (allowed : ℕ) (old new : Seen) (result : Result Survey SurveyFault) : Type 0 where
+pub record FileAnswer (name : List ℕ) (allowed : ℕ) (old new : Seen)
+    (result : Result Survey SurveyFault) : Type 0 where
   pub surveyed : IfOk result (λ s. IsWholeSurvey name old.files allowed (tells s))
   pub there : OnOk result (IsThere old.files name)
   pub octets : OnOk result (HoldsOctets name old.files)
@@ -28,9 +27,11 @@ pub record FileAnswer (name : List ℕ) (allowed : ℕ) (old new : Seen) (result
   pub counts : OnlyReads old.counts new.counts
 
 -- A file was surveyed: the survey, or the first fault.
-pub record SurveyAnswer (name : List ℕ) (allowed : ℕ) (old new : Seen) (result : Result Survey SurveyFault) : Type 0 where
+pub record SurveyAnswer (name : List ℕ) (allowed : ℕ) (old new : Seen)
+    (result : Result Survey SurveyFault) : Type 0 where
   pub exact : IfOk result (λ s. IsSurveyOf name old.files allowed (tells s))
-  -- whether the files are told or not: where head, frames and blocks are, that there is a frame, and that the main data of the frames are where they may be
+  -- whether the files are told or not: where head, frames and blocks are, that
+  -- there is a frame, and that the main data of the frames are where they may be
   pub laid : IfOk result (λ s. IsLaidOut (tells s))
   pub few : IfOk result (λ s. length (tells s).frames ≤ allowed)
   pub there : OnOk result (IsThere old.files name)

@@ -1,14 +1,10 @@
 -- What is known of a file before its frames are judged.
-use Rattle.std.specs.Prelude.{◌≡◌, ℕ, ◌+◌, ◌≤◌, List, IfSome, Ok}
+use Rattle.std.specs.Prelude.{IfSome, List, Ok, ℕ, ◌+◌, ◌≡◌, ◌≤◌}
 use Rattle.outside.specs.Files.{Files, Holds}
-use Rattle.sync_survey.specs.declared.folders.Walk.{Walk}
-use Rattle.sync_survey.specs.declared.items.Item.TheVariants.{Frame}
+use Rattle.sync_survey.specs.{Items.size_of, Runs.{blocks_of, run}, Start.start_of}
+use Rattle.sync_survey.specs.{Survey.{BlocksAreLaid, HasLength}, Walk.{head_of, IsFrameOf}}
+use Rattle.sync_survey.specs.declared.{folders.Walk.Walk, items.Item.TheVariants.Frame}
 use Rattle.sync_survey.specs.declared.runs.Part.TheVariants.{Front}
-use Rattle.sync_survey.specs.Items.{size_of}
-use Rattle.sync_survey.specs.Runs.{run, blocks_of}
-use Rattle.sync_survey.specs.Start.{start_of}
-use Rattle.sync_survey.specs.Walk.{head_of, IsFrameOf}
-use Rattle.sync_survey.specs.Survey.{HasLength, BlocksAreLaid}
 
 -- the bytes begin as this says
 pub record BeginsSo (bytes : List ℕ) (w : Walk) : Type 0 where
@@ -16,8 +12,8 @@ pub record BeginsSo (bytes : List ℕ) (w : Walk) : Type 0 where
   pub head : w.head ≡ head_of bytes w.start.first
   pub kept : w.pieces.items ≡ blocks_of (run Front bytes 0).items
 
--- What is known of the name's file: its first frame is within its length, the blocks and the junk are before it, and the head is that
--- frame; where the file is told, its bytes begin as this says.
+-- What is known of the name's file: its first frame is within its length, the blocks and the junk
+-- are before it, and the head is that frame; where the file is told, its bytes begin as this says.
 pub record IsWalk (files : Files) (name : List ℕ) (w : Walk) : Type 0 where
   pub known : HasLength files name w.size
   pub whole : w.start.first.offset + size_of (Frame w.start.first.header) ≤ w.size

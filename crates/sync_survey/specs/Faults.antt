@@ -1,23 +1,23 @@
 -- What is at fault in a file, and what a survey of a file without fault tells.
-use Rattle.std.specs.Prelude.{◌≡◌, ℕ, ◌≤◌, ◌+◌, ◌*◌, ◌==◌, ◌&&◌, not, nat_lt, if◌then◌else◌, Bool, List, [], ◌∷◌, ◌++◌, length, drop, flat_map, Option, Some, None, Result, Ok, Err, option_to_list}
-use Rattle.std.specs.List.{enumerate_from}
-use Rattle.frame_header.specs.Fields.{ClassFields}
-use Rattle.frame_header.specs.Tables.{class_of}
-use Rattle.side_info.specs.Side.{payload_bits}
-use Rattle.side_info.specs.CheckWord.{check_word_of}
-use Rattle.side_info.specs.Frame.{word_said}
-use Rattle.sync_survey.specs.declared.places.Piece.{Piece}
-use Rattle.sync_survey.specs.declared.places.Head.{Head}
-use Rattle.sync_survey.specs.declared.places.Start.{Start}
-use Rattle.sync_survey.specs.Row.{Row}
-use Rattle.sync_survey.specs.declared.surveys.Survey.{Survey}
-use Rattle.sync_survey.specs.declared.survey_fault.SurveyFault.{SurveyFault}
-use Rattle.sync_survey.specs.declared.survey_fault.SurveyFault.TheVariants.{NoFrame, LostSync, Truncated, FreeFormat, Mixed, CheckWord, BackPointer, Overlap, Overrun, TooManyFrames}
-use Rattle.sync_survey.specs.Items.{same_class}
-use Rattle.sync_survey.specs.Start.{start_of}
-use Rattle.sync_survey.specs.Walk.{walk_from}
 pub use Rattle.sync_survey.specs.MainData.{points_too_far}
-use Rattle.sync_survey.specs.MainData.{rows_of, own_area, start_of_data, end_of_data, lacks_data, place, end_before, marked, main_bytes, StreamFrame, stream_frames}
+use Rattle.std.specs.List.{enumerate_from}
+use Rattle.std.specs.Prelude.{Bool, drop, Err, flat_map, if◌then◌else◌, length, List, nat_lt, None}
+use Rattle.std.specs.Prelude.{not, Ok, Option, option_to_list, Result, Some, ℕ, [], ◌&&◌, ◌*◌, ◌++◌}
+use Rattle.std.specs.Prelude.{◌+◌, ◌==◌, ◌∷◌, ◌≡◌, ◌≤◌}
+use Rattle.frame_header.specs.{Fields.ClassFields, Tables.class_of}
+use Rattle.side_info.specs.{CheckWord.check_word_of, Frame.word_said, Side.payload_bits}
+use Rattle.sync_survey.specs.Items.{same_class}
+use Rattle.sync_survey.specs.MainData.{end_before, end_of_data, lacks_data, main_bytes, marked}
+use Rattle.sync_survey.specs.MainData.{own_area, place, rows_of, start_of_data, stream_frames}
+use Rattle.sync_survey.specs.{MainData.StreamFrame, Row.Row, Start.start_of, Walk.walk_from}
+use Rattle.sync_survey.specs.declared.places.{Head.Head, Piece.Piece, Start.Start}
+use Rattle.sync_survey.specs.declared.survey_fault.SurveyFault.{SurveyFault}
+use Rattle.sync_survey.specs.declared.survey_fault.SurveyFault.TheVariants.{BackPointer, CheckWord}
+use Rattle.sync_survey.specs.declared.survey_fault.SurveyFault.TheVariants.{FreeFormat, LostSync}
+use Rattle.sync_survey.specs.declared.survey_fault.SurveyFault.TheVariants.{Mixed, NoFrame, Overlap}
+use Rattle.sync_survey.specs.declared.survey_fault.SurveyFault.TheVariants.{Overrun, TooManyFrames}
+use Rattle.sync_survey.specs.declared.survey_fault.SurveyFault.TheVariants.{Truncated}
+use Rattle.sync_survey.specs.declared.surveys.Survey.{Survey}
 
 -- ---- a frame
 
@@ -29,7 +29,8 @@ where_true holds fault = if holds then fault ∷ [] else []
 abbrev pub has_wrong_word : ℕ → Row → Bool
 has_wrong_word said r = r.header.protected && not (said == check_word_of r.header r.side)
 
--- the main data of a frame whose own area begins at this place begin before the end of those before them
+-- the main data of a frame whose own area begins at
+-- this place begin before the end of those before them
 abbrev pub overlaps : ℕ → ℕ → Row → Bool
 overlaps place ended r = nat_lt (start_of_data place r) ended
 
@@ -41,7 +42,9 @@ overruns place r = nat_lt (place + own_area r.header) (end_of_data place r)
 abbrev pub room_for_data : Row → ℕ
 room_for_data r = 8 * (r.side.main_data_begin + own_area r.header)
 
--- the faults of a frame's main data, in their order, if the frame isn't lost
+-- the faults of a frame's main data, in their order, if the frame isn't lost: they begin before all
+-- main data of the file, begin before the end of those before them, or end after the frame's own
+-- area (main_data_begin, ISO/IEC 11172-3 and 13818-3, 2.4.2.7)
 abbrev pub own_faults : ℕ → ℕ → Row → List SurveyFault
 own_faults place ended r =
     where_true (points_too_far place r) (BackPointer r.offset r.side.main_data_begin place)
@@ -54,18 +57,22 @@ data_faults place ended r = if lacks_data place ended r then [] else own_faults 
 
 -- the fault of its check word
 abbrev pub word_faults : ℕ → Row → List SurveyFault
-word_faults said r = where_true (has_wrong_word said r) (CheckWord r.offset said (check_word_of r.header r.side))
+word_faults said r =
+    where_true (has_wrong_word said r) (CheckWord r.offset said (check_word_of r.header r.side))
 
 -- the fault of a frame before which there are as many frames as are allowed
 abbrev pub count_faults : ℕ → ℕ → Row → List SurveyFault
 count_faults count allowed r = where_true (count == allowed) (TooManyFrames r.offset)
 
--- the faults of a frame of the class, in their order
+-- the faults of a frame of the class, in their order: a wrong check word, those of its main data,
+-- and that it is one more than allowed
 abbrev pub later_faults : ℕ → ℕ → ℕ → ℕ → ℕ → Row → List SurveyFault
-later_faults said allowed place ended count r = word_faults said r ++ data_faults place ended r ++ count_faults count allowed r
+later_faults said allowed place ended count r =
+    word_faults said r ++ data_faults place ended r ++ count_faults count allowed r
 
--- The faults of a frame, in their order. Given are the check word that is in it, the class, how many frames the file may have, the place of
--- the frame's own area among all areas, the end of the main data before it, and how many frames are before it.
+-- The faults of a frame, in their order. Given are the check word that is in it, the
+-- class, how many frames the file may have, the place of the frame's own area among
+-- all areas, the end of the main data before it, and how many frames are before it.
 unfoldable pub faults_at : ℕ → ClassFields → ℕ → ℕ → ℕ → ℕ → Row → List SurveyFault
 faults_at said class allowed place ended count r =
     where_true (not (same_class (class_of r.header) class)) (Mixed r.offset)
@@ -74,16 +81,19 @@ faults_at said class allowed place ended count r =
     ++ count_faults count allowed r
 
 -- the faults of frame i of these
-abbrev pub frame_faults : List ℕ → Option Head → ClassFields → ℕ → List Row → ℕ → Row → List SurveyFault
-frame_faults file head class allowed rows i r = faults_at (word_said (drop r.offset file)) class allowed (place head rows i) (end_before head rows i) i r
+abbrev pub frame_faults : List ℕ → Option Head → ClassFields → ℕ → List Row → ℕ → Row
+    → List SurveyFault
+frame_faults file head class allowed rows i r = faults_at (word_said (drop r.offset file)) class
+    allowed (place head rows i) (end_before head rows i) i r
 
 -- the faults of all of these in turn
 unfoldable pub all_faults : List ℕ → Option Head → ClassFields → ℕ → List Row → List SurveyFault
-all_faults file head class allowed rows = flat_map (λ (p : ℕ × Row). frame_faults file head class allowed rows p.0 p.1) (enumerate_from 0 rows)
+all_faults file head class allowed rows = flat_map
+    (λ (p : ℕ × Row). frame_faults file head class allowed rows p.0 p.1) (enumerate_from 0 rows)
 
 -- ---- a file
 
--- the first of these
+-- the first of these, which is that of the least offset
 abbrev pub first_of : List SurveyFault → Option SurveyFault
 first_of [] = None
 first_of (fault ∷ later) = Some fault
@@ -92,13 +102,15 @@ first_of (fault ∷ later) = Some fault
 abbrev pub class_from : Start → ClassFields
 class_from start = class_of start.first.header
 
--- all faults of a file with this start, by their offsets: those of its frames, and the one where the walk stops
+-- all faults of a file with this start, by their offsets:
+-- those of its frames, and the one where the walk stops
 unfoldable pub faults_from : List ℕ → ℕ → Start → List SurveyFault
 faults_from file allowed start =
     let walk = walk_from file start in
-    all_faults file walk.head (class_from start) allowed (rows_of file walk.frames) ++ option_to_list walk.fault
+    all_faults file walk.head (class_from start) allowed (rows_of file walk.frames)
+    ++ option_to_list walk.fault
 
--- what a survey tells of a file
+-- what a survey tells of a file: its frames, blocks, head, junk, first offset, class and length
 pub record SurveyFields : Type 0 where
   pub frames : List Row
   pub blocks : List Piece
@@ -109,6 +121,7 @@ pub record SurveyFields : Type 0 where
   pub class : ClassFields
   pub length : ℕ
 
+-- what a survey tells of a file with this start, were it without fault
 unfoldable pub fields_from : List ℕ → Start → SurveyFields
 fields_from file start =
     let walk = walk_from file start in record {
@@ -121,13 +134,16 @@ fields_from file start =
       length = length file;
     }
 
+-- the survey, unless there is a fault
 abbrev pub unless_fault : Option SurveyFault → SurveyFields → Result SurveyFields SurveyFault
 unless_fault (Some fault) fields = Err fault
 unless_fault None fields = Ok fields
 
+-- the survey of a file by its start, or why there is none
 abbrev pub survey_by : List ℕ → ℕ → Result Start SurveyFault → Result SurveyFields SurveyFault
 survey_by file allowed (Err fault) = Err fault
-survey_by file allowed (Ok start) = unless_fault (first_of (faults_from file allowed start)) (fields_from file start)
+survey_by file allowed (Ok start) =
+    unless_fault (first_of (faults_from file allowed start)) (fields_from file start)
 
 -- the survey of a file that may have so many frames, or its first fault
 unfoldable pub surveyed : List ℕ → ℕ → Result SurveyFields SurveyFault
@@ -182,6 +198,7 @@ IsWellFormed file = (s : SurveyFields) × (surveyed_freely file ≡ Ok s)
 unfoldable pub stream_of_survey : List ℕ → SurveyFields → List StreamFrame
 stream_of_survey file s = stream_frames (main_bytes file s.head s.frames) s.head s.frames
 
+-- the stream of a file that was surveyed so; no frame where that has a fault
 abbrev pub stream_by : List ℕ → Result SurveyFields SurveyFault → List StreamFrame
 stream_by file (Ok s) = stream_of_survey file s
 stream_by file (Err fault) = []

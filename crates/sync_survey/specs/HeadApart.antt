@@ -1,15 +1,15 @@
--- Frames that are lost when the head is set apart. By the standard the head's area is main data as every other area is (main_data_begin,
--- ISO/IEC 11172-3 and 13818-3, 2.4.2.7). But players leave the head out, so none of them has main data that begin in it.
-use Rattle.std.specs.Prelude.{ℕ, ◌||◌, if◌then◌else◌, false, List, map, Option, Some, None}
+-- Frames that are lost when the head is set apart. By the standard the head's area is main
+-- data as every other area is (main_data_begin, ISO/IEC 11172-3 and 13818-3, 2.4.2.7). But
+-- players leave the head out, so none of them has main data that begin in it.
 use Rattle.std.specs.List.{enumerate_from}
+use Rattle.std.specs.Prelude.{false, if◌then◌else◌, List, map, None, Option, Some, ℕ, ◌||◌}
 use Rattle.side_info.specs.Side.{no_side}
+use Rattle.sync_survey.specs.{Faults.SurveyFields, MainData.is_lost, Row.Row}
 use Rattle.sync_survey.specs.declared.places.Head.{Head}
-use Rattle.sync_survey.specs.Row.{Row}
-use Rattle.sync_survey.specs.MainData.{is_lost}
-use Rattle.sync_survey.specs.Faults.{SurveyFields}
 
--- Frame i, marked as lost also if it is lost in a file of the same frames without a head: its main_data_begin is greater than the sum of the
--- areas of the frames before it, and each of these is silent or lost in this sense (`LostFramesLead`).
+-- Frame i, marked as lost also if it is lost in a file of the same frames without
+-- a head: its main_data_begin is greater than the sum of the areas of the frames
+-- before it, and each of these is silent or lost in this sense (`LostFramesLead`).
 abbrev pub apart_row : List Row → ℕ → Row → Row
 apart_row rows i r = record r { lost = r.lost || is_lost None rows i r }
 
@@ -32,5 +32,6 @@ head_apart s = record s { frames = set_apart s.head s.frames }
 abbrev pub emptied_row : Row → Row
 emptied_row r = if r.lost then record r { side = no_side; lost = false } else r
 
+-- a survey with lost frames as empty ones
 abbrev pub emptied : SurveyFields → SurveyFields
 emptied s = record s { frames = map emptied_row s.frames }

@@ -1,15 +1,15 @@
--- What begins at an offset of a file: frames (ISO/IEC 11172-3 and 13818-3, 2.4.1), blocks of tags, single zero bytes.
-use Rattle.std.specs.Prelude.{◌≡◌, ◌≢◌, ℕ, ◌-◌, ◌==◌, nat_le, if◌then◌else◌, Bool, List, [], ◌∷◌, length, take, drop, Option, Some, None, Result, Ok, Err}
+-- What begins at an offset of a file: frames (ISO/IEC 11172-3 and 13818-3, 2.4.1), a header of free
+-- format, blocks of tags, single zero bytes, the end, or nothing of these.
+pub use Rattle.frame_header.specs.Fields.{same_class}
+use Rattle.std.specs.Prelude.{Bool, drop, Err, if◌then◌else◌, length, List, nat_le, None, Ok}
+use Rattle.std.specs.Prelude.{Option, Result, Some, take, ℕ, [], ◌-◌, ◌==◌, ◌∷◌, ◌≡◌, ◌≢◌}
+use Rattle.frame_header.specs.{Fields.HeaderFields, Reading.header_at, Tables.{class_of, length_of}}
 use Rattle.frame_header.specs.declared.header.NotHeader.{NotHeader}
 use Rattle.frame_header.specs.declared.header.NotHeader.TheVariants.{Free as FreeHeader, No}
-use Rattle.frame_header.specs.Fields.{HeaderFields}
-pub use Rattle.frame_header.specs.Fields.{same_class}
-use Rattle.frame_header.specs.Tables.{class_of, length_of}
-use Rattle.frame_header.specs.Reading.{header_at}
-use Rattle.tag_blocks.specs.declared.block.Block.{Block as TagBlock}
-use Rattle.tag_blocks.specs.Blocks.{block_front}
 use Rattle.sync_survey.specs.declared.items.Item.{Item}
-use Rattle.sync_survey.specs.declared.items.Item.TheVariants.{Frame, Free, Block, Zero, End, Nothing}
+use Rattle.sync_survey.specs.declared.items.Item.TheVariants.{Block, End, Frame, Free, Nothing}
+use Rattle.sync_survey.specs.declared.items.Item.TheVariants.{Zero}
+use Rattle.tag_blocks.specs.{Blocks.block_front, declared.block.Block.Block as TagBlock}
 
 -- the header with which these bytes begin; none if they are fewer than four
 unfoldable pub header_front : List ℕ → Result HeaderFields NotHeader
@@ -22,7 +22,8 @@ Stands bytes Free = header_front bytes ≡ Err FreeHeader
 Stands bytes (Block b) = block_front bytes ≡ Some b
 Stands bytes Zero = take 1 bytes ≡ 0 ∷ []
 Stands bytes End = bytes ≡ []
-Stands bytes Nothing = (header_front bytes ≡ Err No) × (block_front bytes ≡ None) × (bytes ≢ []) × (take 1 bytes ≢ 0 ∷ [])
+Stands bytes Nothing = (header_front bytes ≡ Err No) × (block_front bytes ≡ None) × (bytes ≢ [])
+    × (take 1 bytes ≢ 0 ∷ [])
 
 -- a header, else what there is otherwise
 abbrev pub by_header : Result HeaderFields NotHeader → Item → Item
@@ -40,7 +41,8 @@ abbrev pub by_byte : List ℕ → Item
 by_byte [] = End
 by_byte (b ∷ bs) = if b == 0 then Zero else Nothing
 
--- the item with which these bytes begin; they begin with one kind at most, so the order of these questions decides nothing
+-- the item with which these bytes begin; they begin with one
+-- kind at most, so the order of these questions decides nothing
 unfoldable pub item_front : List ℕ → Item
 item_front bytes = by_header (header_front bytes) (by_block (block_front bytes) (by_byte bytes))
 
@@ -48,7 +50,8 @@ item_front bytes = by_header (header_front bytes) (by_block (block_front bytes) 
 unfoldable pub item_at : List ℕ → ℕ → Item
 item_at file at = item_front (drop at file)
 
--- the length in bytes of a frame by its header, of a block by its first bytes, of a zero byte; what is no part of a file has none
+-- the length in bytes of a frame by its header, of a block by its
+-- first bytes, of a zero byte; what is no part of a file has none
 abbrev pub size_of : Item → ℕ
 size_of (Frame h) = length_of (class_of h) h.slot
 size_of Free = 0

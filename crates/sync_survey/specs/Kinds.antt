@@ -1,11 +1,13 @@
 -- The kinds of a survey's faults.
-use Rattle.std.specs.Prelude.{◌≡◌, ◌<◌, ℕ}
+use Rattle.std.specs.Prelude.{ℕ, ◌<◌, ◌≡◌}
 use Rattle.outside.specs.declared.exact.ReadFault.{ReadFault}
 use Rattle.outside.specs.declared.exact.ReadFault.TheVariants.{Failed, Shrunk as ShrunkRead}
-use Rattle.sync_survey.specs.declared.survey_fault.SurveyFault.{SurveyFault}
-use Rattle.sync_survey.specs.declared.survey_fault.SurveyFault.TheVariants.{Absent, TooLong, Shrunk, Read, Memory}
-use Rattle.sync_survey.specs.Faults.{longest_file}
+use Rattle.sync_survey.specs.{Faults.longest_file, declared.survey_fault.SurveyFault.SurveyFault}
+use Rattle.sync_survey.specs.declared.survey_fault.SurveyFault.TheVariants.{Absent, Memory, Read}
+use Rattle.sync_survey.specs.declared.survey_fault.SurveyFault.TheVariants.{Shrunk, TooLong}
 
+-- why a file has no survey: it is absent, a read failed, it became shorter, there is no memory, or
+-- its bytes are refused
 pub data InputKind : Type 0 where
   -- the file isn't there
   IsAbsent : InputKind
@@ -26,8 +28,8 @@ kind_of Read = IsUnread
 kind_of Memory = IsTooMuch
 kind_of _ = IsRefused
 
--- the numbers that a fault has, whatever is told of the file: a length is too long only above the limit, and a file ended before the length
--- with which it was found
+-- the numbers that a fault has, whatever is told of the file: a length is too long
+-- only above the limit, and a file ended before the length with which it was found
 abbrev pub HasRightNumbers : SurveyFault → Type 0
 HasRightNumbers (TooLong size) = longest_file < size
 HasRightNumbers (Shrunk first second) = second < first
@@ -50,6 +52,7 @@ pub record ByKind {ℓ} (A : Type ℓ) : Type ℓ where
   pub too_much : A
   pub refused : A
 
+-- what there is for this kind
 abbrev pub by_kind {ℓ} : {A : Type ℓ} → ByKind A → InputKind → A
 by_kind k IsAbsent = k.absent
 by_kind k IsUnread = k.unread

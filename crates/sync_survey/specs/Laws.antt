@@ -1,82 +1,93 @@
 -- What the definitions of the survey say, without their recursions.
-use Rattle.std.specs.Prelude.{◌≡◌, ◌↔◌, ◌⊎◌, ℕ, ◌+◌, ◌≤◌, ◌<◌, true, List, ◌++◌, length, drop, slice_get, Option, Some, None, Ok}
+use Rattle.std.specs.Prelude.{drop, length, List, None, Ok, Option, slice_get, Some, true, ℕ, ◌++◌}
+use Rattle.std.specs.Prelude.{◌+◌, ◌<◌, ◌↔◌, ◌≡◌, ◌≤◌, ◌⊎◌}
 use Rattle.frame_header.specs.Fields.{ClassFields}
-use Rattle.sync_survey.specs.declared.items.Item.{Item}
-use Rattle.sync_survey.specs.declared.items.Item.TheVariants.{Frame}
-use Rattle.sync_survey.specs.declared.places.Start.{Start}
-use Rattle.sync_survey.specs.declared.places.Head.{Head}
-use Rattle.sync_survey.specs.Row.{Row}
-use Rattle.sync_survey.specs.declared.runs.Part.{Part}
-use Rattle.sync_survey.specs.Items.{Stands, item_front, item_at, size_of}
-use Rattle.sync_survey.specs.Runs.{Placed, run, item_of, AreEndToEnd, bytes_of_items}
-use Rattle.sync_survey.specs.Start.{start_of, IsLeastStart}
-use Rattle.sync_survey.specs.MainData.{is_silent, points_too_far, place, is_lost}
-use Rattle.sync_survey.specs.Faults.{SurveyFields, surveyed, stream_of_survey, HoldsStream}
-use Rattle.sync_survey.specs.HeadApart.{set_apart, head_apart, emptied}
-use Rattle.sync_survey.specs.Survey.{AreWellPlaced, IsLaidOut}
+use Rattle.sync_survey.specs.Faults.{HoldsStream, stream_of_survey, surveyed, SurveyFields}
+use Rattle.sync_survey.specs.HeadApart.{emptied, head_apart, set_apart}
+use Rattle.sync_survey.specs.Items.{item_at, item_front, size_of, Stands}
+use Rattle.sync_survey.specs.{MainData.{is_lost, is_silent, place, points_too_far}, Row.Row}
+use Rattle.sync_survey.specs.Runs.{AreEndToEnd, bytes_of_items, item_of, Placed, run}
+use Rattle.sync_survey.specs.{Start.{IsLeastStart, start_of}, Survey.{AreWellPlaced, IsLaidOut}}
+use Rattle.sync_survey.specs.declared.{items.Item.{Item, TheVariants.Frame}, places.Head.Head}
+use Rattle.sync_survey.specs.declared.{places.Start.Start, runs.Part.Part}
 
 -- bytes begin with one item, and with no other
 abbrev pub OneItemStands : Type 0
 OneItemStands = (bytes : List ℕ) (item : Item) → Stands bytes item ↔ (item ≡ item_front bytes)
 
--- The items of a run are whole and follow end to end, and none is after them; with the bytes after them they are the file's bytes; and no
--- other items of the part are so.
+-- The items of a run are whole and follow end to end, and none is after them; with the
+-- bytes after them they are the file's bytes; and no other items of the part are so.
 pub record IsOnlyRun (part : Part) (file : List ℕ) (from : ℕ) : Type 0 where
   pub items : AreEndToEnd part file from (run part file from).items (run part file from).stop
   pub last : item_of part file (run part file from).stop ≡ None
-  pub bytes : bytes_of_items file (run part file from).items ++ drop (run part file from).stop file ≡ drop from file
-  pub only : (others : List Placed) (stop : ℕ) → AreEndToEnd part file from others stop → item_of part file stop ≡ None → run part file from ≡ record { items = others; stop = stop }
+  pub bytes : bytes_of_items file (run part file from).items ++ drop (run part file from).stop file
+      ≡ drop from file
+  pub only : (others : List Placed) (stop : ℕ) → AreEndToEnd part file from others stop
+      → item_of part file stop ≡ None → run part file from ≡ record { items = others; stop = stop }
 
+-- so is every run
 abbrev pub RunsAreOnly : Type 0
 RunsAreOnly = (part : Part) (file : List ℕ) (from : ℕ) → IsOnlyRun part file from
 
--- The first frame of a stream is whole. It is where the front ends, or after junk at the smallest offset at which an anchored frame begins.
+-- The first frame of a stream is whole. It is where the front ends, or
+-- after junk at the smallest offset at which an anchored frame begins.
 pub record IsFirstOfStream (file : List ℕ) (start : Start) : Type 0 where
   pub item : item_at file start.first.offset ≡ Frame start.first.header
   pub whole : start.first.offset + size_of (Frame start.first.header) ≤ length file
   pub least : IsLeastStart file start
 
+-- so is the start of every file
 abbrev pub StartsAreLeast : Type 0
-StartsAreLeast = (file : List ℕ) (start : Start) → start_of file ≡ Ok start → IsFirstOfStream file start
+StartsAreLeast =
+    (file : List ℕ) (start : Start) → start_of file ≡ Ok start → IsFirstOfStream file start
 
 -- every frame before frame i is silent or lost
 abbrev pub AreSilentOrLost : Option Head → List Row → ℕ → Type 0
-AreSilentOrLost head rows i = (j : ℕ) (q : Row) → j < i → slice_get rows j ≡ Some q → (is_silent q ≡ true) ⊎ (is_lost head rows j q ≡ true)
+AreSilentOrLost head rows i = (j : ℕ) (q : Row) → j < i → slice_get rows j ≡ Some q
+    → (is_silent q ≡ true) ⊎ (is_lost head rows j q ≡ true)
 
--- lost are exactly the frames whose main data begin before the stream and before which there are only silent and lost frames
+-- lost are exactly the frames whose main data begin before the
+-- stream and before which there are only silent and lost frames
 abbrev pub LostFramesLead : Type 0
 LostFramesLead =
-    (head : Option Head) (rows : List Row) (i : ℕ) (r : Row)
-    → (is_lost head rows i r ≡ true) ↔ ((points_too_far (place head rows i) r ≡ true) × AreSilentOrLost head rows i)
+    (head : Option Head) (rows : List Row) (i : ℕ) (r : Row) → (is_lost head rows i r ≡ true)
+    ↔ ((points_too_far (place head rows i) r ≡ true) × AreSilentOrLost head rows i)
 
--- a file without fault holds the stream that its survey tells, and is well-formed whatever number of frames was allowed
+-- a file without fault holds the stream that its survey tells,
+-- and is well-formed whatever number of frames was allowed
 abbrev pub SurveysHoldStreams : Type 0
-SurveysHoldStreams = (file : List ℕ) (allowed : ℕ) (s : SurveyFields) → surveyed file allowed ≡ Ok s → HoldsStream file (stream_of_survey file s)
+SurveysHoldStreams = (file : List ℕ) (allowed : ℕ) (s : SurveyFields) → surveyed file allowed ≡ Ok s
+    → HoldsStream file (stream_of_survey file s)
 
 -- the main data of the frames of a file without fault are where they may be
 abbrev pub SurveysArePlaced : Type 0
-SurveysArePlaced = (file : List ℕ) (allowed : ℕ) (s : SurveyFields) → surveyed file allowed ≡ Ok s → AreWellPlaced s.head s.class s.frames
+SurveysArePlaced = (file : List ℕ) (allowed : ℕ) (s : SurveyFields) → surveyed file allowed ≡ Ok s
+    → AreWellPlaced s.head s.class s.frames
 
--- In a file without fault a frame whose main_data_begin is greater than the sum of the areas of the frames before it, the head's left out, is
--- lost where the head is set apart: every frame before it is silent or lost in this sense.
+-- In a file without fault a frame whose main_data_begin is greater than the sum
+-- of the areas of the frames before it, the head's left out, is lost where the
+-- head is set apart: every frame before it is silent or lost in this sense.
 abbrev pub ApartFramesLead : Type 0
 ApartFramesLead =
     (head : Option Head) (class : ClassFields) (rows : List Row) → AreWellPlaced head class rows
     → (i : ℕ) (r : Row) → slice_get rows i ≡ Some r → points_too_far (place None rows i) r ≡ true
     → (is_lost None rows i r ≡ true) × AreSilentOrLost None rows i
 
--- where the head of a file without fault is set apart, the main data of the frames are where they may be in a file of the same frames without a
--- head
+-- where the head of a file without fault is set apart, the main data of the
+-- frames are where they may be in a file of the same frames without a head
 abbrev pub HeadsApartArePlaced : Type 0
-HeadsApartArePlaced = (head : Option Head) (class : ClassFields) (rows : List Row) → AreWellPlaced head class rows → AreWellPlaced None class (set_apart head rows)
+HeadsApartArePlaced = (head : Option Head) (class : ClassFields) (rows : List Row)
+    → AreWellPlaced head class rows → AreWellPlaced None class (set_apart head rows)
 
--- with lost frames as empty ones they are where they may be in a file with the head, too, and all else is laid out as it was
+-- with lost frames as empty ones they are where they may be in
+-- a file with the head, too, and all else is laid out as it was
 abbrev pub HeadsApartAreLaid : Type 0
 HeadsApartAreLaid = (s : SurveyFields) → IsLaidOut s → IsLaidOut (emptied (head_apart s))
 
 -- the main data of each frame begin within the areas of the frames before it, the head's left out
 abbrev pub AreNear : List Row → Type 0
-AreNear rows = (i : ℕ) (r : Row) → slice_get rows i ≡ Some r → r.side.main_data_begin ≤ place None rows i
+AreNear rows =
+    (i : ℕ) (r : Row) → slice_get rows i ≡ Some r → r.side.main_data_begin ≤ place None rows i
 
 -- then no frame is lost where the head is set apart
 abbrev pub NearFramesStay : Type 0

@@ -1,31 +1,22 @@
 -- What a look shows of a file.
-use Rattle.std.specs.Prelude.{◌≡◌, ℕ, ◌+◌, ◌-◌, ◌<◌, ◌≤◌, ◌==◌, ◌⊎◌, List, [], ◌∷◌, ◌++◌, length, take, drop, Option, Some, None, option_to_list}
 use Rattle.std.specs.List.{prefix_len}
-use Rattle.frame_header.specs.Fields.{HeaderFields, ClassFields}
+use Rattle.std.specs.Prelude.{drop, length, List, None, Option, option_to_list, Some, take, ℕ, []}
+use Rattle.std.specs.Prelude.{◌++◌, ◌+◌, ◌-◌, ◌<◌, ◌==◌, ◌∷◌, ◌≡◌, ◌≤◌, ◌⊎◌}
+use Rattle.frame_header.specs.{Fields.{ClassFields, HeaderFields}, Limits.most_frame_length}
 use Rattle.frame_header.specs.Tables.{class_of, overhead_of}
-use Rattle.side_info.specs.Side.{SideFits}
-use Rattle.side_info.specs.Frame.{word_said}
-use Rattle.sync_survey.specs.declared.found.Found.{Found}
-use Rattle.sync_survey.specs.declared.items.Item.{Item}
-use Rattle.sync_survey.specs.declared.items.Item.TheVariants.{Frame, Block, Zero}
-use Rattle.sync_survey.specs.declared.places.Piece.{Piece}
-use Rattle.sync_survey.specs.Row.{Row}
-use Rattle.sync_survey.specs.declared.rows.Before.{Before}
-use Rattle.sync_survey.specs.declared.rows.Behind.{Behind}
-use Rattle.sync_survey.specs.declared.survey_fault.SurveyFault.{SurveyFault}
-use Rattle.sync_survey.specs.declared.survey_fault.SurveyFault.TheVariants.{Memory}
-use Rattle.sync_survey.specs.Items.{size_of, item_front}
-use Rattle.sync_survey.specs.MainData.{row_in, own_area, lacks_data, end_behind}
-use Rattle.sync_survey.specs.Faults.{data_faults, later_faults, faults_at, first_of}
-use Rattle.sync_survey.specs.declared.runs.Part.{Part}
-use Rattle.sync_survey.specs.declared.runs.Part.TheVariants.{Stream}
-use Rattle.sync_survey.specs.declared.runs.Step.{Step}
-use Rattle.sync_survey.specs.Kinds.{RefusesRightly}
-use Rattle.sync_survey.specs.Walk.{fault_at}
-use Rattle.sync_survey.specs.Runs.{item_of, run, frame_as, block_as, frames_of, blocks_of}
-use Rattle.frame_header.specs.Limits.{most_frame_length}
+use Rattle.side_info.specs.{Frame.word_said, Side.SideFits}
+use Rattle.sync_survey.specs.Faults.{data_faults, faults_at, first_of, later_faults}
+use Rattle.sync_survey.specs.{Items.{item_front, size_of}, Kinds.RefusesRightly}
+use Rattle.sync_survey.specs.{MainData.{end_behind, lacks_data, own_area, row_in}, Row.Row}
+use Rattle.sync_survey.specs.Runs.{block_as, blocks_of, frame_as, frames_of, item_of, run}
+use Rattle.sync_survey.specs.{Walk.fault_at, declared.{found.Found.Found, items.Item.Item}}
+use Rattle.sync_survey.specs.declared.items.Item.TheVariants.{Block, Frame, Zero}
+use Rattle.sync_survey.specs.declared.{places.Piece.Piece, rows.{Before.Before, Behind.Behind}}
+use Rattle.sync_survey.specs.declared.runs.{Part.{Part, TheVariants.Stream}, Step.Step}
+use Rattle.sync_survey.specs.declared.survey_fault.SurveyFault.{SurveyFault, TheVariants.Memory}
 
--- how many bytes a look shows, if the file has them: more than a frame and the 32 bytes after it, by which the next item is known
+-- how many bytes a look shows, 4,096 if the file has them: more than a frame and the 32 bytes after
+-- it, by which the next item is known
 abbrev pub look_size : ℕ
 look_size = 4096
 
@@ -34,14 +25,18 @@ pub record Shows (file : List ℕ) (at : ℕ) (front : List ℕ) (left : ℕ) : 
   pub front_is : front ≡ take look_size (drop at file)
   pub left_is : left ≡ length file - at
 
--- the items of the part that follow end to end from the offset on are this one and those so many bytes later, except zero bytes between them
+-- the items of the part that follow end to end from the offset on are
+-- this one and those so many bytes later, except zero bytes between them
 pub record Passes (part : Part) (file : List ℕ) (at : ℕ) (item : Item) (size : ℕ) : Type 0 where
-  pub frames : frames_of (run part file at).items ≡ option_to_list (frame_as at item) ++ frames_of (run part file (at + size)).items
-  pub blocks : blocks_of (run part file at).items ≡ option_to_list (block_as at item) ++ blocks_of (run part file (at + size)).items
+  pub frames : frames_of (run part file at).items
+      ≡ option_to_list (frame_as at item) ++ frames_of (run part file (at + size)).items
+  pub blocks : blocks_of (run part file at).items
+      ≡ option_to_list (block_as at item) ++ blocks_of (run part file (at + size)).items
   pub stop : (run part file at).stop ≡ (run part file (at + size)).stop
 
--- An item that is passed, by the bytes of a look and how many are left: it is the one with which they begin, and is whole. The bytes that
--- are passed with it are its own, or after a zero byte all zero bytes that were seen.
+-- An item that is passed, by the bytes of a look and how many are left: it
+-- is the one with which they begin, and is whole. The bytes that are passed
+-- with it are its own, or after a zero byte all zero bytes that were seen.
 pub record PassesFront (front : List ℕ) (left : ℕ) (step : Step) : Type 0 where
   pub item : step.item ≡ item_front front
   pub zeros : step.item ≡ Zero → step.size ≡ prefix_len (λ b. b == 0) front
@@ -68,22 +63,26 @@ data_fault b r = first_of (data_faults b.place b.ended r)
 
 -- the first fault of a frame of the class, by its bytes and how many frames are before it
 abbrev pub frame_fault : List ℕ → ℕ → Before → ℕ → Row → Option SurveyFault
-frame_fault bytes allowed b count r = first_of (later_faults (word_said bytes) allowed b.place b.ended count r)
+frame_fault bytes allowed b count r =
+    first_of (later_faults (word_said bytes) allowed b.place b.ended count r)
 
 -- ---- what is kept of an item
 
--- what is known after a frame without fault, by the place of its own area and where the main data before it end: whether it is lost, and
--- the areas before the next frame
+-- what is known after a frame without fault, by the place of its own area and where
+-- the main data before it end: whether it is lost, and the areas before the next frame
 pub record IsBehind (place_now ended_now : ℕ) (r : Row) (b : Behind) : Type 0 where
   pub lost : b.lost ≡ lacks_data place_now ended_now r
   pub place : b.before.place ≡ place_now + own_area r.header
   pub ended : b.before.ended ≡ end_behind place_now ended_now (Some r)
 
 -- a frame has no fault, and is kept after the others, marked if it is lost
-pub record KeepsFrame (said : ℕ) (class : ClassFields) (allowed : ℕ) (r : Row) (old new : Found) : Type 0 where
-  pub sound : first_of (faults_at said class allowed old.before.place old.before.ended (length old.rows.items) r) ≡ None
+pub record KeepsFrame (said : ℕ) (class : ClassFields) (allowed : ℕ) (r : Row)
+    (old new : Found) : Type 0 where
+  pub sound : first_of (faults_at said class allowed
+      old.before.place old.before.ended (length old.rows.items) r) ≡ None
   pub fits : SideFits (class_of r.header) r.side
-  pub rows : new.rows.items ≡ old.rows.items ++ record r { lost = lacks_data old.before.place old.before.ended r } ∷ []
+  pub rows : new.rows.items
+      ≡ old.rows.items ++ record r { lost = lacks_data old.before.place old.before.ended r } ∷ []
   pub pieces : new.pieces.items ≡ old.pieces.items
   pub place : new.before.place ≡ old.before.place + own_area r.header
   pub ended : new.before.ended ≡ end_behind old.before.place old.before.ended (Some r)
@@ -96,29 +95,36 @@ pub record KeepsBlocks (blocks : List Piece) (old new : Found) : Type 0 where
 
 -- what is kept of an item at an offset, by the bytes from there on
 abbrev pub Keeps : ClassFields → ℕ → ℕ → Item → List ℕ → Found → Found → Type 0
-Keeps class allowed offset (Frame h) bytes old new = KeepsFrame (word_said bytes) class allowed (row_in offset h bytes) old new
-Keeps class allowed offset (Block b) bytes old new = KeepsBlocks (record { offset = offset; block = b } ∷ []) old new
+Keeps class allowed offset (Frame h) bytes old new =
+    KeepsFrame (word_said bytes) class allowed (row_in offset h bytes) old new
+Keeps class allowed offset (Block b) bytes old new =
+    KeepsBlocks (record { offset = offset; block = b } ∷ []) old new
 Keeps class allowed offset _ bytes old new = KeepsBlocks [] old new
 
 -- the first fault of a frame
 abbrev pub IsFrameFault : ClassFields → ℕ → ℕ → Item → List ℕ → Found → SurveyFault → Type 0
 IsFrameFault class allowed offset (Frame h) bytes old fault =
-    first_of (faults_at (word_said bytes) class allowed old.before.place old.before.ended (length old.rows.items) (row_in offset h bytes)) ≡ Some fault
+    first_of (faults_at (word_said bytes) class allowed
+    old.before.place old.before.ended (length old.rows.items) (row_in offset h bytes)) ≡ Some fault
 IsFrameFault class allowed offset _ bytes old fault = ⊥
 
 -- ---- an item that is passed
 
--- A whole item is passed, by the bytes of a look and how many are left: so many bytes, and it is kept if it is a frame without fault or a
--- block.
-pub record PassesItem (class : ClassFields) (allowed offset : ℕ) (bytes : List ℕ) (left : ℕ) (old new : Found) (size : ℕ) : Type 0 where
-  pub passes : (file : List ℕ) → Shows file offset bytes left → Passes Stream file offset (item_front bytes) size
+-- A whole item is passed, by the bytes of a look and how many are left: so
+-- many bytes, and it is kept if it is a frame without fault or a block.
+pub record PassesItem (class : ClassFields) (allowed offset : ℕ) (bytes : List ℕ) (left : ℕ)
+    (old new : Found) (size : ℕ) : Type 0 where
+  pub passes : (file : List ℕ) → Shows file offset bytes left
+      → Passes Stream file offset (item_front bytes) size
   pub front : PassesFront bytes left (record { item = item_front bytes; size = size })
   pub keeps : Keeps class allowed offset (item_front bytes) bytes old new
 
 -- a frame is passed that has a fault
-pub record PassesFault (class : ClassFields) (allowed offset : ℕ) (bytes : List ℕ) (left : ℕ) (old : Found) (fault : SurveyFault) : Type 0 where
+pub record PassesFault (class : ClassFields) (allowed offset : ℕ) (bytes : List ℕ) (left : ℕ)
+    (old : Found) (fault : SurveyFault) : Type 0 where
   pub size : ℕ
-  pub passes : (file : List ℕ) → Shows file offset bytes left → Passes Stream file offset (item_front bytes) size
+  pub passes : (file : List ℕ) → Shows file offset bytes left
+      → Passes Stream file offset (item_front bytes) size
   pub front : PassesFront bytes left (record { item = item_front bytes; size = size })
   pub faulty : IsFrameFault class allowed offset (item_front bytes) bytes old fault
 
@@ -131,4 +137,5 @@ pub record StopsThere (offset : ℕ) (bytes : List ℕ) (left : ℕ) (fault : Su
 -- why an item isn't passed
 abbrev pub IsNotPassed : ClassFields → ℕ → ℕ → List ℕ → ℕ → Found → SurveyFault → Type 0
 IsNotPassed class allowed offset bytes left old fault =
-    (fault ≡ Memory) ⊎ (PassesFault class allowed offset bytes left old fault ⊎ StopsThere offset bytes left fault)
+    (fault ≡ Memory)
+    ⊎ (PassesFault class allowed offset bytes left old fault ⊎ StopsThere offset bytes left fault)

@@ -1,23 +1,22 @@
--- Where the main data of the frames are in the file (main_data_begin, ISO/IEC 11172-3 and 13818-3, 2.4.2.7). The areas of the head and of
--- all frames, one after the other, are the main data of the file. A frame's own begin as many bytes before its own area as its
--- main_data_begin says, counted in areas alone.
-use Rattle.std.specs.Prelude.{ℕ, zero, suc, ◌+◌, ◌-◌, ◌*◌, ◌==◌, ◌&&◌, ◌||◌, nat_lt, if◌then◌else◌, Bool, false, List, [], ◌∷◌, ◌++◌, take, drop, map, sum_by, flat_map, slice_get, Option, Some, None}
+-- Where the main data of the frames are in the file (main_data_begin, ISO/IEC
+-- 11172-3 and 13818-3, 2.4.2.7). The areas of the head and of all frames, one
+-- after the other, are the main data of the file. A frame's own begin as many
+-- bytes before its own area as its main_data_begin says, counted in areas alone.
 use Rattle.std.specs.List.{enumerate_from}
+use Rattle.std.specs.Prelude.{Bool, drop, false, flat_map, if◌then◌else◌, List, map, nat_lt, None}
+use Rattle.std.specs.Prelude.{Option, slice_get, Some, suc, sum_by, take, zero, ℕ, [], ◌&&◌, ◌*◌}
+use Rattle.std.specs.Prelude.{◌++◌, ◌+◌, ◌-◌, ◌==◌, ◌||◌, ◌∷◌}
 use Rattle.bit_fields.specs.Bits.{bits}
 use Rattle.frame_header.specs.Fields.{HeaderFields, SlotFields}
-use Rattle.frame_header.specs.Tables.{class_of, area_of, overhead_of}
-use Rattle.side_info.specs.declared.granule.Granule.{Granule}
-use Rattle.side_info.specs.declared.side.Side.{Side}
-use Rattle.side_info.specs.Side.{no_side, payload_bits, payload_bytes, granules_in}
-use Rattle.side_info.specs.Frame.{side_in}
-use Rattle.sync_survey.specs.declared.places.PlacedFrame.{PlacedFrame}
-use Rattle.sync_survey.specs.declared.places.Head.{Head}
-use Rattle.sync_survey.specs.Row.{Row}
+use Rattle.frame_header.specs.Tables.{area_of, class_of, overhead_of}
+use Rattle.side_info.specs.{Frame.side_in, Side.{granules_in, no_side, payload_bits, payload_bytes}}
+use Rattle.side_info.specs.declared.{granule.Granule.Granule, side.Side.Side}
+use Rattle.sync_survey.specs.{Row.Row, declared.places.{Head.Head, PlacedFrame.PlacedFrame}}
 
 -- ---- frames with their side information
 
--- a frame with the side information that is in these bytes, the first of which are the frame's; whether it is lost depends on the frames
--- before it (`marked` below)
+-- a frame with the side information that is in these bytes, the first of which are
+-- the frame's; whether it is lost depends on the frames before it (`marked` below)
 abbrev pub row_in : ℕ → HeaderFields → List ℕ → Row
 row_in offset h bytes = record { offset = offset; header = h; side = side_in h bytes; lost = false }
 
@@ -25,6 +24,7 @@ row_in offset h bytes = record { offset = offset; header = h; side = side_in h b
 abbrev pub row_of : List ℕ → PlacedFrame → Row
 row_of file p = row_in p.offset p.header (drop p.offset file)
 
+-- these frames of the file, each with its side information
 abbrev pub rows_of : List ℕ → List PlacedFrame → List Row
 rows_of file ps = map (row_of file) ps
 
@@ -39,14 +39,16 @@ abbrev pub head_area : Option Head → ℕ
 head_area None = 0
 head_area (Some head) = own_area head.header
 
--- the place among the main data where the own area of frame i begins: after the head's and those of the frames before
+-- the place among the main data where the own area of frame
+-- i begins: after the head's and those of the frames before
 unfoldable pub place : Option Head → List Row → ℕ → ℕ
 place head rows i = head_area head + sum_by (λ (r : Row). own_area r.header) (take i rows)
 
--- the place where the main data of a frame begin, and where they end, by the place of its own area
+-- the place where the main data of a frame begin, by the place of its own area
 abbrev pub start_of_data : ℕ → Row → ℕ
 start_of_data place r = place - r.side.main_data_begin
 
+-- the place where they end
 abbrev pub end_of_data : ℕ → Row → ℕ
 end_of_data place r = start_of_data place r + payload_bytes r.side
 
@@ -58,27 +60,30 @@ is_silent r = payload_bits r.side == 0
 abbrev pub points_too_far : ℕ → Row → Bool
 points_too_far place r = nat_lt place r.side.main_data_begin
 
--- so they do, and no main data are before them, which would end after 0: what main_data_begin points to was before the stream, and was
--- cut off
+-- so they do, and no main data are before them, which would end after 0:
+-- what main_data_begin points to was before the stream, and was cut off
 abbrev pub lacks_data : ℕ → ℕ → Row → Bool
 lacks_data place ended r = ended == 0 && points_too_far place r
 
--- where the main data end after a frame, by the place of its own area and where those before it end: a silent or lost frame doesn't change
--- it
+-- where the main data end after a frame, by the place of its own area and
+-- where those before it end: a silent or lost frame doesn't change it
 abbrev pub end_behind : ℕ → ℕ → Option Row → ℕ
 end_behind place ended None = ended
-end_behind place ended (Some r) = if is_silent r || lacks_data place ended r then ended else end_of_data place r
+end_behind place ended (Some r) =
+    if is_silent r || lacks_data place ended r then ended else end_of_data place r
 
--- the place where the main data end that are before frame i: those of the last frame before it that is neither silent nor lost, or
--- 0 where there is none
+-- the place where the main data end that are before frame i: those of the last
+-- frame before it that is neither silent nor lost, or 0 where there is none
 unfoldable pub end_before : Option Head → List Row → ℕ → ℕ
 end_before head rows zero = 0
-end_before head rows (suc i) = end_behind (place head rows i) (end_before head rows i) (slice_get rows i)
+end_before head rows (suc i) =
+    end_behind (place head rows i) (end_before head rows i) (slice_get rows i)
 
 -- ---- lost frames
 
--- Frame i is lost: its main data begin before the stream, and every frame before it is silent or lost. (The law `LostFramesLead` says that
--- `end_before` is 0 exactly if no other frame is before it.)
+-- Frame i is lost: its main data begin before the stream, and every
+-- frame before it is silent or lost. (The law `LostFramesLead` says
+-- that `end_before` is 0 exactly if no other frame is before it.)
 abbrev pub is_lost : Option Head → List Row → ℕ → Row → Bool
 is_lost head rows i r = lacks_data (place head rows i) (end_before head rows i) r
 
@@ -94,17 +99,20 @@ marked head rows = map (λ (p : ℕ × Row). marked_row head rows p.0 p.1) (enum
 
 -- the area of the frame that begins at an offset
 abbrev pub area_bytes : List ℕ → ℕ → HeaderFields → List ℕ
-area_bytes file offset h = take (own_area h) (drop (overhead_of (class_of h) h.protected) (drop offset file))
+area_bytes file offset h =
+    take (own_area h) (drop (overhead_of (class_of h) h.protected) (drop offset file))
 
+-- the area of the head, which counts as every other does; none without a head
 abbrev pub head_bytes : List ℕ → Option Head → List ℕ
 head_bytes file None = []
 head_bytes file (Some head) = area_bytes file head.offset head.header
 
 -- all areas, one after the other
 unfoldable pub main_bytes : List ℕ → Option Head → List Row → List ℕ
-main_bytes file head rows = head_bytes file head ++ flat_map (λ (r : Row). area_bytes file r.offset r.header) rows
+main_bytes file head rows =
+    head_bytes file head ++ flat_map (λ (r : Row). area_bytes file r.offset r.header) rows
 
--- the bits of a frame's main data, which begin at this place
+-- the bits of a frame's main data, which begin at this place (2.4.1.7 and 2.4.2.7)
 abbrev pub payload_at : List ℕ → ℕ → Side → List ℕ
 payload_at main start s = take (payload_bits s) (drop (8 * start) (bits main))
 
@@ -115,13 +123,15 @@ parts_of (n ∷ ns) bs = take n bs ∷ parts_of ns (drop n bs)
 
 -- ---- the stream
 
--- What a frame of a stream is, wherever it is: the header except its bit rate index and padding, the side information except
--- main_data_begin, and the main data of each granule and channel. A lost frame has none: its side fields are all 0.
+-- What a frame of a stream is, wherever it is: the header except its bit rate index
+-- and padding, the side information except main_data_begin, and the main data of
+-- each granule and channel. A lost frame has none: its side fields are all 0.
 pub record StreamFrame : Type 0 where
   pub header : HeaderFields
   pub side : Side
   pub payload : List (List ℕ)
 
+-- the slot of a frame whose slot is left out
 abbrev pub no_slot : SlotFields
 no_slot = record { rate_index = 0; padding = false }
 
@@ -138,9 +148,11 @@ abbrev pub stream_frame : List ℕ → Option Head → List Row → ℕ → Row 
 stream_frame main head rows i r = record {
   header = record r.header { slot = no_slot };
   side = record (side_of r) { main_data_begin = 0 };
-  payload = parts_of (part_lengths r.header (side_of r)) (payload_at main (start_of_data (place head rows i) r) (side_of r));
+  payload = parts_of (part_lengths r.header (side_of r))
+      (payload_at main (start_of_data (place head rows i) r) (side_of r));
 }
 
 -- all frames
 unfoldable pub stream_frames : List ℕ → Option Head → List Row → List StreamFrame
-stream_frames main head rows = map (λ (p : ℕ × Row). stream_frame main head rows p.0 p.1) (enumerate_from 0 rows)
+stream_frames main head rows =
+    map (λ (p : ℕ × Row). stream_frame main head rows p.0 p.1) (enumerate_from 0 rows)

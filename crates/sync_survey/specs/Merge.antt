@@ -1,15 +1,15 @@
 -- A walk over two lists that are in order of offset.
-use Rattle.std.specs.Prelude.{◌≡◌, ℕ, ◌+◌, List, [], ◌∷◌, map, drop, Option, Some, None}
-use Rattle.sync_survey.specs.declared.merge.Entry.{Entry}
-use Rattle.sync_survey.specs.declared.merge.Entry.TheVariants.{First, Second}
-use Rattle.sync_survey.specs.declared.merge.Merge.{Merge}
+use Rattle.std.specs.Prelude.{drop, List, map, None, Option, Some, ℕ, [], ◌+◌, ◌∷◌, ◌≡◌}
 use Rattle.sync_survey.specs.Order.{IsAfter, IsFrom, IsUntil, merged_by}
+use Rattle.sync_survey.specs.declared.merge.Entry.{Entry, TheVariants.{First, Second}}
+use Rattle.sync_survey.specs.declared.merge.Merge.{Merge}
 
 module _ {A B : Type 0} where
-  -- what the walk hasn't met yet of each list
+  -- what the walk hasn't met yet of the first list
   abbrev pub firsts_left : Merge A B → List A
   firsts_left m = drop m.next_first m.firsts.now
 
+  -- what it hasn't met yet of the second
   abbrev pub seconds_left : Merge A B → List B
   seconds_left m = drop m.next_second m.seconds.now
 
@@ -26,24 +26,29 @@ module _ {A B : Type 0} where
     pub number : new.next_second ≡ old.next_second + 1
 
 module _ {A B : Type 0} (first_at : A → ℕ) (second_at : B → ℕ) where
+  -- the offset of an entry of either list
   abbrev pub entry_offset : Entry A B → ℕ
   entry_offset (First a) = first_at a
   entry_offset (Second b) = second_at b
 
-  -- the next entry isn't one of the second of these lists: none of it is left, or the next of the first is at or before it
+  -- the next entry isn't one of the second of these lists: none
+  -- of it is left, or the next of the first is at or before it
   abbrev pub IsNoSecondNext : List A → List B → Type 0
   IsNoSecondNext firsts [] = Unit {0}
   IsNoSecondNext firsts (b ∷ seconds) = IsUntil first_at (second_at b) firsts
 
+  -- so it is in this walk
   abbrev pub HasNoSecondNext : Merge A B → Type 0
   HasNoSecondNext m = IsNoSecondNext (firsts_left m) (seconds_left m)
 
-  -- the walk met the entry at the smallest offset, one of the first list before one of the second; none where none is left, and then it stays
-  -- as it was
+  -- the walk met the entry at the smallest offset, one of the first list before
+  -- one of the second; none where none is left, and then it stays as it was
   abbrev pub Meets : Merge A B → Option (Entry A B) → Merge A B → Type 0
   Meets old None new = (firsts_left old ≡ []) × (seconds_left old ≡ []) × (new ≡ old)
-  Meets old (Some (First a)) new = PassesFirst a old new × IsFrom second_at (first_at a) (seconds_left old)
-  Meets old (Some (Second b)) new = PassesSecond b old new × IsAfter first_at (second_at b) (firsts_left old)
+  Meets old (Some (First a)) new =
+      PassesFirst a old new × IsFrom second_at (first_at a) (seconds_left old)
+  Meets old (Some (Second b)) new =
+      PassesSecond b old new × IsAfter first_at (second_at b) (firsts_left old)
 
   -- what the walk hasn't met yet, in order
   unfoldable pub left : Merge A B → List (Entry A B)

@@ -1,11 +1,12 @@
 -- Lists in order of a number that each entry has, its key.
-use Rattle.std.specs.Prelude.{ℕ, ◌<◌, ◌≤◌, nat_lt, if◌then◌else◌, List, [], ◌∷◌}
+use Rattle.std.specs.Prelude.{if◌then◌else◌, List, nat_lt, ℕ, [], ◌<◌, ◌∷◌, ◌≤◌}
 
 -- an entry before the first of these that isn't before it
 abbrev pub put_by : {A : Type 0} → (A → ℕ) → A → List A → List A
 put_by key t [] = t ∷ []
 put_by key t (u ∷ us) = if nat_lt (key u) (key t) then u ∷ put_by key t us else t ∷ u ∷ us
 
+-- the entries in order, those with the same key as they were
 unfoldable pub ordered_by : {A : Type 0} → (A → ℕ) → List A → List A
 ordered_by key [] = []
 ordered_by key (t ∷ ts) = put_by key t (ordered_by key ts)
@@ -20,8 +21,10 @@ RisesBy key from (t ∷ ts) = (from ≤ key t) × RisesBy key (key t) ts
 -- the entry, or before it those of the others that are before it
 abbrev pub before_by : {A : Type 0} → (A → ℕ) → A → (List A → List A) → List A → List A
 before_by key t behind [] = t ∷ behind []
-before_by key t behind (u ∷ us) = if nat_lt (key u) (key t) then u ∷ before_by key t behind us else t ∷ behind (u ∷ us)
+before_by key t behind (u ∷ us) =
+    if nat_lt (key u) (key t) then u ∷ before_by key t behind us else t ∷ behind (u ∷ us)
 
+-- two lists that are in order, as one
 unfoldable pub merged_by : {A : Type 0} → (A → ℕ) → List A → List A → List A
 merged_by key [] us = us
 merged_by key (t ∷ ts) us = before_by key t (merged_by key ts) us

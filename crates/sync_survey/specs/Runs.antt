@@ -1,12 +1,11 @@
 -- Items that follow end to end.
-use Rattle.std.specs.Prelude.{◌≡◌, ℕ, zero, suc, ◌+◌, ◌&&◌, if◌then◌else◌, Bool, true, false, List, [], ◌∷◌, length, take, drop, flat_map, filter_map, Option, Some, None}
-use Rattle.sync_survey.specs.declared.items.Item.{Item}
-use Rattle.sync_survey.specs.declared.items.Item.TheVariants.{Frame, Free, Block, Zero, End, Nothing}
-use Rattle.sync_survey.specs.declared.places.PlacedFrame.{PlacedFrame}
-use Rattle.sync_survey.specs.declared.places.Piece.{Piece}
-use Rattle.sync_survey.specs.declared.runs.Part.{Part}
+use Rattle.std.specs.Prelude.{Bool, drop, false, filter_map, flat_map, if◌then◌else◌, length, List}
+use Rattle.std.specs.Prelude.{None, Option, Some, suc, take, true, zero, ℕ, [], ◌&&◌, ◌+◌, ◌∷◌, ◌≡◌}
+use Rattle.sync_survey.specs.{Items.{fits, item_at, size_of}, declared.items.Item.Item}
+use Rattle.sync_survey.specs.declared.items.Item.TheVariants.{Block, End, Frame, Free, Nothing}
+use Rattle.sync_survey.specs.declared.{items.Item.TheVariants.Zero, places.Piece.Piece}
+use Rattle.sync_survey.specs.declared.{places.PlacedFrame.PlacedFrame, runs.Part.Part}
 use Rattle.sync_survey.specs.declared.runs.Part.TheVariants.{Front, Stream}
-use Rattle.sync_survey.specs.Items.{item_at, size_of, fits}
 
 -- an item and the offset at which it begins
 pub record Placed : Type 0 where
@@ -31,16 +30,20 @@ whole part file at item = if belongs part item && fits file at item then Some it
 unfoldable pub item_of : Part → List ℕ → ℕ → Option Item
 item_of part file at = whole part file at (item_at file at)
 
--- the items of the part that follow end to end from an offset on, and the offset at which none begins
+-- the items of the part that follow end to end from
+-- an offset on, and the offset at which none begins
 pub record Run : Type 0 where
   pub items : List Placed
   pub stop : ℕ
 
+-- no item is at this offset
 abbrev pub stopped : ℕ → Run
 stopped at = record { items = []; stop = at }
 
+-- a run with this item before it
 abbrev pub behind : ℕ → Item → Run → Run
-behind at item run = record { items = record { offset = at; item = item } ∷ run.items; stop = run.stop }
+behind at item run =
+    record { items = record { offset = at; item = item } ∷ run.items; stop = run.stop }
 
 -- the item, and the run from its end on; without an item the run stops
 abbrev pub onward : ℕ → (ℕ → Run) → Option Item → Run
@@ -50,7 +53,8 @@ onward at next (Some item) = behind at item (next (at + size_of item))
 -- a run of at most so many items
 unfoldable pub run_up_to : ℕ → Part → List ℕ → ℕ → Run
 run_up_to zero part file at = stopped at
-run_up_to (suc most) part file at = onward at (λ later. run_up_to most part file later) (item_of part file at)
+run_up_to (suc most) part file at =
+    onward at (λ later. run_up_to most part file later) (item_of part file at)
 
 -- a run of all of them: there are no more items than bytes
 unfoldable pub run : Part → List ℕ → ℕ → Run
@@ -61,7 +65,9 @@ run part file from = run_up_to (length file) part file from
 -- these whole items of the part follow end to end in the file, from one offset to another
 abbrev pub AreEndToEnd : Part → List ℕ → ℕ → List Placed → ℕ → Type 0
 AreEndToEnd part file from [] to = from ≡ to
-AreEndToEnd part file from (p ∷ ps) to = (p.offset ≡ from) × (item_of part file p.offset ≡ Some p.item) × AreEndToEnd part file (p.offset + size_of p.item) ps to
+AreEndToEnd part file from (p ∷ ps) to =
+    (p.offset ≡ from) × (item_of part file p.offset ≡ Some p.item)
+    × AreEndToEnd part file (p.offset + size_of p.item) ps to
 
 -- the bytes of an item of the file
 abbrev pub bytes_in : List ℕ → Placed → List ℕ
@@ -73,6 +79,7 @@ bytes_of_items file ps = flat_map (bytes_in file) ps
 
 -- ---- frames and blocks among the items
 
+-- the frame that an item at an offset is
 abbrev pub frame_as : ℕ → Item → Option PlacedFrame
 frame_as at (Frame h) = Some (record { offset = at; header = h })
 frame_as at Free = None
@@ -81,6 +88,7 @@ frame_as at Zero = None
 frame_as at End = None
 frame_as at Nothing = None
 
+-- the block that an item at an offset is
 abbrev pub block_as : ℕ → Item → Option Piece
 block_as at (Block b) = Some (record { offset = at; block = b })
 block_as at (Frame h) = None

@@ -1,35 +1,31 @@
 -- What a survey of a file of a folder answers.
-use Rattle.std.specs.Prelude.{◌≡◌, ℕ, ◌+◌, ◌<◌, ◌≤◌, nat_lt, if◌then◌else◌, List, [], ◌∷◌, length, slice_get, Option, Some, IfSome, Result, Ok, Err, OnOk, false}
+use Rattle.std.specs.Prelude.{Err, false, IfSome, if◌then◌else◌, length, List, nat_lt, Ok, OnOk}
+use Rattle.std.specs.Prelude.{Option, Result, slice_get, Some, ℕ, [], ◌+◌, ◌<◌, ◌∷◌, ◌≡◌, ◌≤◌}
 use Rattle.bit_fields.specs.Bits.{AreBytes}
-use Rattle.frame_header.specs.Fields.{ClassFields, IsHeader}
-use Rattle.frame_header.specs.Tables.{class_of, length_of}
-use Rattle.side_info.specs.Side.{SideFits}
-use Rattle.outside.specs.Files.{Files, is_told, Holds, IsThere, IsMissing}
-use Rattle.outside.specs.Counts.{Counts, HappenedTo, EndedAt, OnlyReads, NothingFailed}
-use Rattle.outside.specs.Feed.{Fed, IsFedFrom}
+use Rattle.frame_header.specs.{Fields.{ClassFields, IsHeader}, Tables.{class_of, length_of}}
+use Rattle.outside.specs.Counts.{Counts, EndedAt, HappenedTo, NothingFailed, OnlyReads}
+use Rattle.outside.specs.{Feed.{Fed, IsFedFrom}, Files.{Files, Holds, is_told, IsMissing, IsThere}}
 use Rattle.outside.specs.Seen.{Seen}
-use Rattle.sync_survey.specs.declared.items.Item.TheVariants.{Frame}
-use Rattle.sync_survey.specs.declared.places.Head.{Head}
-use Rattle.sync_survey.specs.declared.places.Piece.{Piece}
-use Rattle.sync_survey.specs.declared.places.PlacedFrame.{PlacedFrame}
-use Rattle.sync_survey.specs.declared.places.Start.{Start}
-use Rattle.sync_survey.specs.Row.{Row}
-use Rattle.sync_survey.specs.declared.survey_fault.SurveyFault.{SurveyFault}
+use Rattle.side_info.specs.Side.{SideFits}
+use Rattle.sync_survey.specs.Faults.{data_faults, fault_place, faults_from, longest_file}
+use Rattle.sync_survey.specs.{Faults.{NoneBefore, surveyed, SurveyFields}, Items.size_of}
+use Rattle.sync_survey.specs.Kinds.{by_kind, end_of, HasRightNumbers, InputKind, IsRefused, kind_of}
+use Rattle.sync_survey.specs.{MainData.{end_before, is_lost, place}, Row.Row, Start.start_of}
+use Rattle.sync_survey.specs.{Walk.head_of, declared.items.Item.TheVariants.Frame}
+use Rattle.sync_survey.specs.declared.places.{Head.Head, Piece.Piece, PlacedFrame.PlacedFrame}
+use Rattle.sync_survey.specs.declared.{places.Start.Start, survey_fault.SurveyFault.SurveyFault}
 use Rattle.sync_survey.specs.declared.survey_fault.SurveyFault.TheVariants.{TooLong}
-use Rattle.sync_survey.specs.Items.{size_of}
-use Rattle.sync_survey.specs.MainData.{place, end_before, is_lost}
-use Rattle.sync_survey.specs.Faults.{SurveyFields, surveyed, data_faults, faults_from, fault_place, NoneBefore, longest_file}
-use Rattle.sync_survey.specs.Start.{start_of}
-use Rattle.sync_survey.specs.Walk.{head_of}
-use Rattle.sync_survey.specs.Kinds.{InputKind, IsRefused, kind_of, by_kind, end_of, HasRightNumbers}
 
--- the survey of a file with these bytes, or why there is none: it is too long, or else its first fault
+-- the survey of a file with these bytes, or why there
+-- is none: it is too long, or else its first fault
 unfoldable pub survey_of : List ℕ → ℕ → Result SurveyFields SurveyFault
-survey_of file allowed = if nat_lt longest_file (length file) then Err (TooLong (length file)) else surveyed file allowed
+survey_of file allowed =
+    if nat_lt longest_file (length file) then Err (TooLong (length file)) else surveyed file allowed
 
 -- where the name's file is told, this is its survey
 abbrev pub IsSurveyOf : List ℕ → Files → ℕ → SurveyFields → Type 0
-IsSurveyOf name files allowed s = (bytes : List ℕ) → Holds files name bytes → survey_of bytes allowed ≡ Ok s
+IsSurveyOf name files allowed s =
+    (bytes : List ℕ) → Holds files name bytes → survey_of bytes allowed ≡ Ok s
 
 -- where it is told, it consists of bytes
 abbrev pub HoldsOctets : List ℕ → Files → Type 0
@@ -38,18 +34,21 @@ HoldsOctets name files = (bytes : List ℕ) → Holds files name bytes → AreBy
 -- where it is told, no fault of its bytes is before this one
 abbrev pub IsFirstFault : List ℕ → Files → ℕ → SurveyFault → Type 0
 IsFirstFault name files allowed fault =
-    (bytes : List ℕ) → Holds files name bytes → (start : Start) → start_of bytes ≡ Ok start → NoneBefore (fault_place fault) (faults_from bytes allowed start)
+    (bytes : List ℕ) → Holds files name bytes → (start : Start) → start_of bytes ≡ Ok start
+    → NoneBefore (fault_place fault) (faults_from bytes allowed start)
 
 -- ---- refusals
 
 -- the file is there, its bytes are refused so, and nothing is counted
-pub record RefusesBytes (name : List ℕ) (files : Files) (allowed : ℕ) (before after : Counts) (fault : SurveyFault) : Type 0 where
+pub record RefusesBytes (name : List ℕ) (files : Files) (allowed : ℕ) (before after : Counts)
+    (fault : SurveyFault) : Type 0 where
   pub there : IsThere files name
   pub bytes : (bytes : List ℕ) → Holds files name bytes → survey_of bytes allowed ≡ Err fault
   pub counts : after ≡ before
 
 -- of the file nothing is told, a read of it at this offset gave no byte, and no call failed
-pub record HasShrunk (name : List ℕ) (place : ℕ) (files : Files) (before after : Counts) : Type 0 where
+pub record HasShrunk (name : List ℕ) (place : ℕ) (files : Files)
+    (before after : Counts) : Type 0 where
   pub nothing_told : is_told files ≡ false
   pub ended : EndedAt name place before.ends after.ends
   pub counts : NothingFailed before after
@@ -60,8 +59,8 @@ pub record AsksForMemory (name : List ℕ) (files : Files) (before after : Count
   pub few : (bytes : List ℕ) → Holds files name bytes → length bytes ≤ longest_file
   pub counts : after ≡ before
 
--- why a file isn't read, by the fault's kind: it isn't there, could not be read, became shorter and ended at this offset, there is no memory, or
--- it is refused so
+-- why a file isn't read, by the fault's kind: it isn't there, could not be read,
+-- became shorter and ended at this offset, there is no memory, or it is refused so
 abbrev pub IsUnreadBy : List ℕ → Files → Counts → Counts → ℕ → Type 0 → InputKind → Type 0
 IsUnreadBy name files before after place refused kind = by_kind
     (record {
@@ -75,23 +74,29 @@ IsUnreadBy name files before after place refused kind = by_kind
 
 -- why there is no survey
 abbrev pub IsSurveyFaultBy : List ℕ → Files → ℕ → Counts → Counts → SurveyFault → InputKind → Type 0
-IsSurveyFaultBy name files allowed before after fault kind = IsUnreadBy name files before after (end_of fault) (RefusesBytes name files allowed before after fault) kind
+IsSurveyFaultBy name files allowed before after fault kind = IsUnreadBy name files before after
+    (end_of fault) (RefusesBytes name files allowed before after fault) kind
 
+-- why there is no survey, by the fault
 abbrev pub IsSurveyFault : List ℕ → Files → ℕ → Counts → Counts → SurveyFault → Type 0
-IsSurveyFault name files allowed before after fault = IsSurveyFaultBy name files allowed before after fault (kind_of fault)
+IsSurveyFault name files allowed before after fault =
+    IsSurveyFaultBy name files allowed before after fault (kind_of fault)
 
 -- with the right numbers
-pub record IsRefusal (name : List ℕ) (files : Files) (allowed : ℕ) (before after : Counts) (fault : SurveyFault) : Type 0 where
+pub record IsRefusal (name : List ℕ) (files : Files) (allowed : ℕ) (before after : Counts)
+    (fault : SurveyFault) : Type 0 where
   pub cause : IsSurveyFault name files allowed before after fault
   pub numbers : HasRightNumbers fault
 
 -- refused so, whatever number of frames is allowed
 abbrev pub IsEarlyRefusal : List ℕ → Seen → Seen → SurveyFault → Type 0
-IsEarlyRefusal name old new fault = (allowed : ℕ) → IsRefusal name old.files allowed old.counts new.counts fault
+IsEarlyRefusal name old new fault =
+    (allowed : ℕ) → IsRefusal name old.files allowed old.counts new.counts fault
 
 -- where the fault refuses the name's file, it is that of its length
 abbrev pub IsOfLength : List ℕ → Files → SurveyFault → Type 0
-IsOfLength name files fault = kind_of fault ≡ IsRefused → (bytes : List ℕ) → Holds files name bytes → fault ≡ TooLong (length bytes)
+IsOfLength name files fault = kind_of fault ≡ IsRefused → (bytes : List ℕ) → Holds files name bytes
+    → fault ≡ TooLong (length bytes)
 
 -- ---- what is known of the file while it is read
 
@@ -110,9 +115,10 @@ pub record IsWholeFrom (from size : ℕ) (p : PlacedFrame) : Type 0 where
   pub behind : from ≤ p.offset
   pub within : p.offset + size_of (Frame p.header) ≤ size
 
--- What a call leaves that reads the name's file by a feed: the files stay, and the feed is fed from them; only reads are counted, and
--- nothing where it succeeds.
-pub record ReadsBy {T : Type 0} (feed : Fed) (name : List ℕ) (result : Result T SurveyFault) (old new : Seen) : Type 0 where
+-- What a call leaves that reads the name's file by a feed: the files stay, and the
+-- feed is fed from them; only reads are counted, and nothing where it succeeds.
+pub record ReadsBy {T : Type 0} (feed : Fed) (name : List ℕ) (result : Result T SurveyFault)
+    (old new : Seen) : Type 0 where
   pub done : OnOk result (new.counts ≡ old.counts)
   pub fed : IsFedFrom feed new.files name
   pub files : new.files ≡ old.files
@@ -120,19 +126,23 @@ pub record ReadsBy {T : Type 0} (feed : Fed) (name : List ℕ) (result : Result 
 
 -- ---- what every survey tells, whether the files are told or not
 
--- these frames follow one after the other from one offset to another, and their side fields are within their bits
+-- these frames follow one after the other from one offset
+-- to another, and their side fields are within their bits
 abbrev pub AreLaid : ℕ → List Row → ℕ → Type 0
 AreLaid from [] to = from ≤ to
-AreLaid from (r ∷ rows) to = (from ≤ r.offset) × SideFits (class_of r.header) r.side × AreLaid (r.offset + length_of (class_of r.header) r.header.slot) rows to
+AreLaid from (r ∷ rows) to = (from ≤ r.offset) × SideFits (class_of r.header) r.side
+    × AreLaid (r.offset + length_of (class_of r.header) r.header.slot) rows to
 
 -- so do these blocks
 abbrev pub BlocksAreLaid : ℕ → List Piece → ℕ → Type 0
 BlocksAreLaid from [] to = from ≤ to
-BlocksAreLaid from (b ∷ blocks) to = (from ≤ b.offset) × BlocksAreLaid (b.offset + b.block.length) blocks to
+BlocksAreLaid from (b ∷ blocks) to =
+    (from ≤ b.offset) × BlocksAreLaid (b.offset + b.block.length) blocks to
 
--- frame i of a stream of this class: its header is one of the standard's and of the class, its side fields are within their bits, its main
--- data have no fault, and it is marked exactly if it is lost
-pub record IsWellPlaced (head : Option Head) (class : ClassFields) (rows : List Row) (i : ℕ) (r : Row) : Type 0 where
+-- frame i of a stream of this class: its header is one of the standard's and of the class, its side
+-- fields are within their bits, its main data have no fault, and it is marked exactly if it is lost
+pub record IsWellPlaced (head : Option Head) (class : ClassFields) (rows : List Row) (i : ℕ)
+    (r : Row) : Type 0 where
   pub known : IsHeader r.header
   pub class_is : class_of r.header ≡ class
   pub fits : SideFits class r.side
@@ -141,7 +151,8 @@ pub record IsWellPlaced (head : Option Head) (class : ClassFields) (rows : List 
 
 -- so is each frame
 abbrev pub AreWellPlaced : Option Head → ClassFields → List Row → Type 0
-AreWellPlaced head class rows = (i : ℕ) (r : Row) → slice_get rows i ≡ Some r → IsWellPlaced head class rows i r
+AreWellPlaced head class rows =
+    (i : ℕ) (r : Row) → slice_get rows i ≡ Some r → IsWellPlaced head class rows i r
 
 -- a head begins where the first frame does, is of the class, and is within the length
 pub record IsWholeHead (first : ℕ) (class : ClassFields) (length : ℕ) (head : Head) : Type 0 where
@@ -149,7 +160,8 @@ pub record IsWholeHead (first : ℕ) (class : ClassFields) (length : ℕ) (head 
   pub class_is : class_of head.header ≡ class
   pub within : head.offset + length_of (class_of head.header) head.header.slot ≤ length
 
--- the junk ends where the first frame begins, there is a frame besides the head, and head, frames and blocks are within the length
+-- the junk ends where the first frame begins, there is a frame
+-- besides the head, and head, frames and blocks are within the length
 pub record IsLaidOut (s : SurveyFields) : Type 0 where
   pub junk : s.junk ≤ s.first
   pub first : s.first ≤ s.length
@@ -160,8 +172,10 @@ pub record IsLaidOut (s : SurveyFields) : Type 0 where
   pub few : s.length ≤ longest_file
   pub placed : AreWellPlaced s.head s.class s.frames
 
--- where the name's file is told, this is its survey; and whether it is or not, all is laid out, and there are no more frames than allowed
-pub record IsWholeSurvey (name : List ℕ) (files : Files) (allowed : ℕ) (s : SurveyFields) : Type 0 where
+-- where the name's file is told, this is its survey; and whether it is
+-- or not, all is laid out, and there are no more frames than allowed
+pub record IsWholeSurvey (name : List ℕ) (files : Files) (allowed : ℕ)
+    (s : SurveyFields) : Type 0 where
   pub exact : IsSurveyOf name files allowed s
   pub laid : IsLaidOut s
   pub few : length s.frames ≤ allowed

@@ -1,18 +1,17 @@
 -- The walk over a whole file: the frames and blocks from the start on, and where it stops.
-use Rattle.std.specs.Prelude.{◌≡◌, ℕ, ◌+◌, List, [], ◌∷◌, ◌++◌, length, take, drop, Option, Some, None, option_map}
+use Rattle.std.specs.Prelude.{drop, length, List, None, Option, option_map, Some, take, ℕ, [], ◌++◌}
+use Rattle.std.specs.Prelude.{◌+◌, ◌∷◌, ◌≡◌}
 use Rattle.frame_header.specs.Tables.{class_of, length_of}
 use Rattle.info_header.specs.HeadText.{head_text_of}
+use Rattle.sync_survey.specs.{Items.item_at, Runs.{blocks_of, frames_of, Run, run}}
 use Rattle.sync_survey.specs.declared.items.Item.{Item}
-use Rattle.sync_survey.specs.declared.items.Item.TheVariants.{Frame, Free, Block, Zero, End, Nothing}
-use Rattle.sync_survey.specs.declared.survey_fault.SurveyFault.{SurveyFault}
-use Rattle.sync_survey.specs.declared.survey_fault.SurveyFault.TheVariants.{NoFrame, LostSync, Truncated, FreeFormat}
-use Rattle.sync_survey.specs.declared.places.PlacedFrame.{PlacedFrame}
-use Rattle.sync_survey.specs.declared.places.Piece.{Piece}
-use Rattle.sync_survey.specs.declared.places.Head.{Head}
-use Rattle.sync_survey.specs.declared.places.Start.{Start}
+use Rattle.sync_survey.specs.declared.items.Item.TheVariants.{Block, End, Frame, Free, Nothing}
+use Rattle.sync_survey.specs.declared.{items.Item.TheVariants.Zero, places.{Head.Head, Piece.Piece}}
+use Rattle.sync_survey.specs.declared.places.{PlacedFrame.PlacedFrame, Start.Start}
 use Rattle.sync_survey.specs.declared.runs.Part.TheVariants.{Front, Stream}
-use Rattle.sync_survey.specs.Items.{item_at}
-use Rattle.sync_survey.specs.Runs.{Run, run, frames_of, blocks_of}
+use Rattle.sync_survey.specs.declared.survey_fault.SurveyFault.{SurveyFault}
+use Rattle.sync_survey.specs.declared.survey_fault.SurveyFault.TheVariants.{FreeFormat, LostSync}
+use Rattle.sync_survey.specs.declared.survey_fault.SurveyFault.TheVariants.{NoFrame, Truncated}
 
 -- the items from the first frame on
 abbrev pub stream_run : List ℕ → Start → Run
@@ -28,9 +27,10 @@ own_bytes p bytes = take (length_of (class_of p.header) p.header.slot) bytes
 abbrev pub frame_bytes : List ℕ → PlacedFrame → List ℕ
 frame_bytes file p = own_bytes p (drop p.offset file)
 
--- a frame with these bytes is a head exactly if `Xing` or `Info` is in it
+-- a frame with these bytes is a head exactly if `Xing` or `Info` is in it; no standard has heads
 abbrev pub head_by : PlacedFrame → List ℕ → Option Head
-head_by p own = option_map (λ at. record { offset = p.offset; header = p.header; text_at = at }) (head_text_of p.header own)
+head_by p own = option_map (λ at. record { offset = p.offset; header = p.header; text_at = at })
+    (head_text_of p.header own)
 
 -- the head that a frame of the file is
 unfoldable pub head_of : List ℕ → PlacedFrame → Option Head
@@ -40,7 +40,8 @@ head_of file p = head_by p (frame_bytes file p)
 abbrev pub IsFrameOf : PlacedFrame → Head → Type 0
 IsFrameOf p head = (head.offset ≡ p.offset) × (head.header ≡ p.header)
 
--- only the first frame can be a head, and it isn't counted: all others are numbered from 0, in their order
+-- only the first frame can be a head, and it isn't
+-- counted: all others are numbered from 0, in their order
 abbrev pub numbered : Option Head → List PlacedFrame → List PlacedFrame
 numbered None frames = frames
 numbered (Some head) frames = drop 1 frames
@@ -52,11 +53,13 @@ numbered_at first (Some head) = first.offset + length_of (class_of first.header)
 
 -- the blocks of the front, and those from the first frame on
 abbrev pub all_blocks : List ℕ → Start → List Piece
-all_blocks file start = blocks_of (run Front file 0).items ++ blocks_of (stream_run file start).items
+all_blocks file start =
+    blocks_of (run Front file 0).items ++ blocks_of (stream_run file start).items
 
 -- ---- where the walk ends
 
--- why the walk stops at an offset with this item, which isn't whole if it is a frame or a block; at the end of the file nothing is wrong
+-- why the walk stops at an offset with this item, which isn't whole if
+-- it is a frame or a block; at the end of the file nothing is wrong
 abbrev pub fault_at : ℕ → Item → Option SurveyFault
 fault_at at (Frame h) = Some (Truncated at)
 fault_at at Free = Some (FreeFormat at)
@@ -73,8 +76,8 @@ end_fault file [] None = Some (NoFrame (length file))
 
 -- ---- the walk
 
--- what is in a file with this start: the head, the frames of the stream, all blocks by their offsets, and why the walk stops
--- before the end of the file or has no frame
+-- what is in a file with this start: the head, the frames of the stream, all blocks
+-- by their offsets, and why the walk stops before the end of the file or has no frame
 pub record WalkFields : Type 0 where
   pub start : Start
   pub head : Option Head
@@ -82,6 +85,7 @@ pub record WalkFields : Type 0 where
   pub blocks : List Piece
   pub fault : Option SurveyFault
 
+-- what is in a file with this start
 unfoldable pub walk_from : List ℕ → Start → WalkFields
 walk_from file start =
     let stream = stream_run file start in

@@ -1,12 +1,16 @@
--- Items of an APEv2 tag: what they are, their bytes, and the items with which bytes begin, one right after the other.
-use Rattle.std.specs.Prelude.{◌≡◌, ℕ, ◌≤◌, zero, suc, ◌+◌, ◌^◌, ◌==◌, ◌&&◌, ◌||◌, nat_le, nat_lt, if◌then◌else◌, Bool, List, [], ◌∷◌, ◌++◌, length, take, drop, slice_index, flat_map, sum_by, Option, Some, None, codes}
+-- Items of an APEv2 tag: what they are, their bytes, and the
+-- items with which bytes begin, one right after the other.
 use Rattle.std.specs.List.{list_all, prefix_len}
+use Rattle.std.specs.Prelude.{Bool, codes, drop, flat_map, if◌then◌else◌, length, List, nat_le}
+use Rattle.std.specs.Prelude.{nat_lt, None, Option, slice_index, Some, suc, sum_by, take, zero, ℕ}
+use Rattle.std.specs.Prelude.{[], ◌&&◌, ◌++◌, ◌+◌, ◌==◌, ◌^◌, ◌||◌, ◌∷◌, ◌≡◌, ◌≤◌}
 use Rattle.std.specs.Str.{str_eq_ignore_ascii_case}
 use Rattle.byteorder.specs.Endian.{little_bytes}
 use Rattle.tag_blocks.specs.Blocks.{ape_number}
 
 -- ---- an item
 
+-- an item of a tag: its key, its flags, and a value of any bytes
 pub record TagItem : Type 0 where
   pub key : List ℕ
   pub flags : ℕ
@@ -24,16 +28,20 @@ is_key key = nat_le 2 (length key) && nat_le (length key) 255 && list_all is_key
 unfoldable pub is_item : TagItem → Bool
 is_item item = is_key item.key && nat_lt (length item.value) (2 ^ 32) && nat_lt item.flags (2 ^ 32)
 
--- the item with the key `MP3GAIN_UNDO`, compared without ASCII case
+-- the item with the key `MP3GAIN_UNDO`, compared without ASCII case, in which mp3gain keeps its
+-- undo
 unfoldable pub is_undo : TagItem → Bool
 is_undo item = str_eq_ignore_ascii_case item.key (codes "MP3GAIN_UNDO")
 
 -- ---- its bytes
 
--- the length of the value, the flags, the key, a zero byte, and the value; numbers have 32 bits and are little-endian
+-- the length of the value, the flags, the key, a zero byte,
+-- and the value; numbers have 32 bits and are little-endian
 unfoldable pub item_bytes : TagItem → List ℕ
-item_bytes item = little_bytes 4 (length item.value) ++ (little_bytes 4 item.flags ++ (item.key ++ (0 ∷ item.value)))
+item_bytes item = little_bytes 4 (length item.value)
+    ++ (little_bytes 4 item.flags ++ (item.key ++ (0 ∷ item.value)))
 
+-- how many bytes an item has: eight of length and flags, the key, the zero byte and the value
 abbrev pub item_length : TagItem → ℕ
 item_length item = 9 + length item.key + length item.value
 
@@ -41,6 +49,7 @@ item_length item = 9 + length item.key + length item.value
 abbrev pub items_bytes : List TagItem → List ℕ
 items_bytes items = flat_map item_bytes items
 
+-- how many bytes items have together
 abbrev pub items_length : List TagItem → ℕ
 items_length items = sum_by item_length items
 
@@ -50,13 +59,16 @@ items_length items = sum_by item_length items
 abbrev pub key_length : List ℕ → ℕ
 key_length bytes = prefix_len is_key_char (drop 8 bytes)
 
+-- where the value begins, after the key and its zero byte
 abbrev pub value_place : List ℕ → ℕ
 value_place bytes = 9 + key_length bytes
 
 -- a key of 2 to 255 characters, a zero byte, and a value that is whole
 unfoldable pub stands : List ℕ → Bool
 stands bytes =
-    nat_le 2 (key_length bytes) && nat_le (key_length bytes) 255 && nat_le (value_place bytes + ape_number 0 bytes) (length bytes) && (slice_index bytes (8 + key_length bytes) == 0)
+    nat_le 2 (key_length bytes) && nat_le (key_length bytes) 255
+    && nat_le (value_place bytes + ape_number 0 bytes) (length bytes)
+    && (slice_index bytes (8 + key_length bytes) == 0)
 
 -- where the key ends, and where the value begins and ends; all of it is there
 pub record IsLayout (bytes : List ℕ) (key_end value_at end : ℕ) : Type 0 where
@@ -67,8 +79,14 @@ pub record IsLayout (bytes : List ℕ) (key_end value_at end : ℕ) : Type 0 whe
 
 -- the item that is there
 unfoldable pub item_front : List ℕ → TagItem
-item_front bytes = record { key = take (key_length bytes) (drop 8 bytes); flags = ape_number 4 bytes; value = take (ape_number 0 bytes) (drop (value_place bytes) bytes) }
+item_front bytes = record {
+  key = take (key_length bytes) (drop 8 bytes);
+  flags = ape_number 4 bytes;
+  value =
+      take (ape_number 0 bytes) (drop (value_place bytes) bytes);
+}
 
+-- the item with which the bytes begin, if one does
 abbrev pub item_at : List ℕ → Option TagItem
 item_at bytes = if stands bytes then Some (item_front bytes) else None
 
@@ -78,6 +96,7 @@ item_at bytes = if stands bytes then Some (item_front bytes) else None
 abbrev pub admitted : Bool → TagItem → Option TagItem
 admitted met item = if met && is_undo item then None else Some item
 
+-- the item that is there, if it is admitted
 abbrev pub next_of : Bool → Option TagItem → Option TagItem
 next_of met None = None
 next_of met (Some item) = admitted met item
@@ -86,11 +105,14 @@ next_of met (Some item) = admitted met item
 abbrev pub next_item : Bool → List ℕ → Option TagItem
 next_item met bytes = next_of met (item_at bytes)
 
+-- an item and those behind it, or none where there is no item
 abbrev pub and_behind : (TagItem → List TagItem) → Option TagItem → List TagItem
 and_behind behind None = []
 and_behind behind (Some item) = item ∷ behind item
 
--- the items with which the bytes begin, one right after the other: so many at most, and only those before a second undo item
+-- the items with which the bytes begin, one right after the other:
+-- so many at most, and only those before a second undo item
 unfoldable pub items_from : ℕ → Bool → List ℕ → List TagItem
 items_from zero met bytes = []
-items_from (suc most) met bytes = and_behind (λ item. items_from most (met || is_undo item) (drop (item_length item) bytes)) (next_item met bytes)
+items_from (suc most) met bytes = and_behind (λ item. items_from most (met || is_undo item)
+    (drop (item_length item) bytes)) (next_item met bytes)

@@ -1,14 +1,15 @@
 -- What the definitions of tags and undo items say, without their recursions.
-use Rattle.std.specs.Prelude.{◌≡◌, ◌↔◌, ℕ, ◌<◌, ◌≤◌, ◌==◌, ◌&&◌, true, false, Bool, List, ◌++◌, length, take, drop, slice_index, Some, None, Ok}
 use Rattle.std.specs.List.{list_all, list_any}
-use Rattle.tag_blocks.specs.declared.block.Kind.TheVariants.{Ape}
-use Rattle.tag_blocks.specs.declared.undo.Undo.{Undo}
-use Rattle.tag_blocks.specs.declared.undo.UndoItem.TheVariants.{Missing, Found}
+use Rattle.std.specs.Prelude.{Bool, drop, false, length, List, None, Ok, slice_index, Some, take}
+use Rattle.std.specs.Prelude.{true, ℕ, ◌&&◌, ◌++◌, ◌<◌, ◌==◌, ◌↔◌, ◌≡◌, ◌≤◌}
 use Rattle.tag_blocks.specs.Blocks.{block_front}
-use Rattle.tag_blocks.specs.UndoText.{undo_text, undo_of, digits_number, FitsText}
-use Rattle.tag_blocks.specs.Items.{TagItem, is_item, is_undo, items_bytes, items_length, next_item, items_from}
-use Rattle.tag_blocks.specs.Tags.{TagFields, IsTag, other_items, undo_items, tag_bytes, tag_of}
+use Rattle.tag_blocks.specs.Items.{is_item, is_undo, items_bytes, items_from, items_length}
+use Rattle.tag_blocks.specs.Items.{next_item, TagItem}
+use Rattle.tag_blocks.specs.Tags.{IsTag, other_items, tag_bytes, tag_of, TagFields, undo_items}
 use Rattle.tag_blocks.specs.UndoItems.{undo_from, with_undo, without_undo}
+use Rattle.tag_blocks.specs.UndoText.{digits_number, FitsText, undo_of, undo_text}
+use Rattle.tag_blocks.specs.declared.{block.Kind.TheVariants.Ape, undo.Undo.Undo}
+use Rattle.tag_blocks.specs.declared.undo.UndoItem.TheVariants.{Found, Missing}
 
 -- every member of the list is a byte
 abbrev pub AreOctets : List ℕ → Type 0
@@ -17,21 +18,28 @@ AreOctets bytes = (i : ℕ) → slice_index bytes i < 256
 -- a block is a tag exactly where its bytes are those of the tag
 abbrev pub TagsAreTheirBytes : Type 0
 TagsAreTheirBytes =
-    (block : List ℕ) (tag : TagFields) → AreOctets block → block_front block ≡ Some (record { kind = Ape; length = length block }) → length block ≤ 1048576 → (tag_of block ≡ Ok tag) ↔ (IsTag tag × (tag_bytes tag ≡ block))
+    (block : List ℕ) (tag : TagFields) → AreOctets block
+    → block_front block ≡ Some (record { kind = Ape; length = length block })
+    → length block ≤ 1048576 → (tag_of block ≡ Ok tag) ↔ (IsTag tag × (tag_bytes tag ≡ block))
 
--- The bytes begin with these items, one right after the other. They are so many at most, and at most one of them is the undo item. Where
--- they are fewer, no item that may be there comes after them.
+-- The bytes begin with these items, one right after the other. They
+-- are so many at most, and at most one of them is the undo item.
+-- Where they are fewer, no item that may be there comes after them.
 pub record AreItemsOf (most : ℕ) (bytes : List ℕ) (items : List TagItem) : Type 0 where
   pub all : list_all is_item items ≡ true
   pub few : length items ≤ most
   pub one : length (undo_items items) ≤ 1
   pub front : bytes ≡ items_bytes items ++ drop (items_length items) bytes
-  pub last : length items < most → next_item (list_any is_undo items) (drop (items_length items) bytes) ≡ None
+  pub last : length items < most
+      → next_item (list_any is_undo items) (drop (items_length items) bytes) ≡ None
 
+-- what the items are without recursion: those of the definition, and no other list
 abbrev pub ItemsAreAll : Type 0
-ItemsAreAll = (most : ℕ) (bytes : List ℕ) (items : List TagItem) → AreOctets bytes → AreItemsOf most bytes items ↔ (items_from most false bytes ≡ items)
+ItemsAreAll = (most : ℕ) (bytes : List ℕ) (items : List TagItem) → AreOctets bytes
+    → AreItemsOf most bytes items ↔ (items_from most false bytes ≡ items)
 
--- With another undo put in, the undo item says it; with the undo item taken out, there is none; and all others stay.
+-- With another undo put in, the undo item says it; with the
+-- undo item taken out, there is none; and all others stay.
 pub record ChangesUndoAlone (undo : Undo) (items : List TagItem) : Type 0 where
   pub put : (place : ℕ) → undo_from place (with_undo undo items) ≡ Found undo
   pub put_others : other_items (with_undo undo items) ≡ other_items items
@@ -39,8 +47,10 @@ pub record ChangesUndoAlone (undo : Undo) (items : List TagItem) : Type 0 where
   pub gone_others : other_items (without_undo items) ≡ other_items items
   pub back : without_undo (with_undo undo items) ≡ without_undo items
 
+-- another undo, and none, change the undo item alone
 abbrev pub UndoItemsAloneChange : Type 0
-UndoItemsAloneChange = (undo : Undo) (items : List TagItem) → FitsText undo → length (undo_items items) ≤ 1 → ChangesUndoAlone undo items
+UndoItemsAloneChange = (undo : Undo) (items : List TagItem) → FitsText undo
+    → length (undo_items items) ≤ 1 → ChangesUndoAlone undo items
 
 -- a minus and three zeros, which is never written
 abbrev pub is_minus_zero : List ℕ → Bool
@@ -48,4 +58,6 @@ is_minus_zero four = (slice_index four 0 == 45) && (digits_number four == 0)
 
 -- a value that is read and has no such number is written again as it was
 abbrev pub UndosAreTheirTexts : Type 0
-UndosAreTheirTexts = (value : List ℕ) (undo : Undo) → undo_of value ≡ Some undo → is_minus_zero (take 4 value) ≡ false → is_minus_zero (take 4 (drop 5 value)) ≡ false → undo_text undo ≡ value
+UndosAreTheirTexts = (value : List ℕ) (undo : Undo) → undo_of value ≡ Some undo
+    → is_minus_zero (take 4 value) ≡ false → is_minus_zero (take 4 (drop 5 value)) ≡ false
+    → undo_text undo ≡ value

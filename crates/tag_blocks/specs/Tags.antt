@@ -1,15 +1,17 @@
--- APEv2 tags: a header, items and a footer. What a tag is, its bytes, and the tag that a block is, or the first place at fault in it.
-use Rattle.std.specs.Prelude.{◌≡◌, ℕ, ◌+◌, ◌-◌, ◌^◌, ◌<◌, ◌≤◌, ◌==◌, ◌&&◌, not, nat_lt, if◌then◌else◌, Bool, true, false, List, ◌++◌, length, take, drop, replicate, filter, codes, Result, Ok, Err, ⊤}
-use Rattle.std.specs.Int.{bit_at}
-use Rattle.std.specs.List.{list_all}
+-- APEv2 tags: a header, items and a footer. What a tag is, its bytes,
+-- and the tag that a block is, or the first place at fault in it.
+use Rattle.std.specs.{Int.bit_at, List.list_all}
+use Rattle.std.specs.Prelude.{Bool, codes, drop, Err, false, filter, if◌then◌else◌, length, List}
+use Rattle.std.specs.Prelude.{nat_lt, not, Ok, replicate, Result, take, true, ℕ, ⊤, ◌&&◌, ◌++◌, ◌+◌}
+use Rattle.std.specs.Prelude.{◌-◌, ◌<◌, ◌==◌, ◌^◌, ◌≡◌, ◌≤◌}
 use Rattle.byteorder.specs.Endian.{little_bytes}
-use Rattle.tag_blocks.specs.declared.tag_fault.TagFault.{TagFault}
-use Rattle.tag_blocks.specs.declared.tag_fault.TagFault.TheVariants.{BadTag, Memory}
-use Rattle.tag_blocks.specs.Blocks.{begins_with, ape_number, ape_version, ape_size, ape_flags}
-use Rattle.tag_blocks.specs.Items.{TagItem, is_item, is_undo, items_bytes, items_length, items_from}
+use Rattle.tag_blocks.specs.Blocks.{ape_flags, ape_number, ape_size, ape_version, begins_with}
+use Rattle.tag_blocks.specs.Items.{is_item, is_undo, items_bytes, items_from, items_length, TagItem}
+use Rattle.tag_blocks.specs.declared.tag_fault.TagFault.{TagFault, TheVariants.{BadTag, Memory}}
 
 -- ---- a tag
 
+-- the flags of the header and of the footer, and the items
 pub record TagFields : Type 0 where
   pub header_flags : ℕ
   pub footer_flags : ℕ
@@ -23,15 +25,16 @@ are_header_flags flags = (bit_at flags 31 == 1) && (bit_at flags 29 == 1)
 abbrev pub are_footer_flags : ℕ → Bool
 are_footer_flags flags = bit_at flags 29 == 0
 
--- all items except the undo item, and the undo item alone
+-- all items except the undo item
 abbrev pub other_items : List TagItem → List TagItem
 other_items items = filter (λ item. not (is_undo item)) items
 
+-- the undo item alone
 abbrev pub undo_items : List TagItem → List TagItem
 undo_items items = filter is_undo items
 
--- Keys, flags and lengths are legal, and at most one item is the undo item. It has at most 1,048,512 bytes, and so have all others
--- together: no tag is longer than 2,097,088 bytes.
+-- Keys, flags and lengths are legal, and at most one item is the undo item. It has at most
+-- 1,048,512 bytes, and so have all others together: no tag is longer than 2,097,088 bytes.
 pub record IsTag (tag : TagFields) : Type 0 where
   pub items : list_all is_item tag.items ≡ true
   pub one : length (undo_items tag.items) ≤ 1
@@ -44,20 +47,25 @@ pub record IsTag (tag : TagFields) : Type 0 where
 
 -- ---- its bytes
 
--- a header or a footer: `APETAGEX`, version 2000, the size of items and footer, the count of items, flags, and 8 zero bytes
+-- a header or a footer: `APETAGEX`, version 2000, the size of
+-- items and footer, the count of items, flags, and 8 zero bytes
 unfoldable pub end_bytes : ℕ → ℕ → ℕ → List ℕ
-end_bytes size count flags = codes "APETAGEX" ++ (little_bytes 4 2000 ++ (little_bytes 4 size ++ (little_bytes 4 count ++ (little_bytes 4 flags ++ replicate 8 0))))
+end_bytes size count flags = codes "APETAGEX" ++ (little_bytes 4 2000
+    ++ (little_bytes 4 size ++ (little_bytes 4 count ++ (little_bytes 4 flags ++ replicate 8 0))))
 
 -- the size that header and footer say: that of the items and the footer
 abbrev pub size_of : TagFields → ℕ
 size_of tag = items_length tag.items + 32
 
+-- the header, the items and the footer
 unfoldable pub tag_bytes : TagFields → List ℕ
 tag_bytes tag =
-    end_bytes (size_of tag) (length tag.items) tag.header_flags ++ (items_bytes tag.items ++ end_bytes (size_of tag) (length tag.items) tag.footer_flags)
+    end_bytes (size_of tag) (length tag.items) tag.header_flags
+    ++ (items_bytes tag.items ++ end_bytes (size_of tag) (length tag.items) tag.footer_flags)
 
 -- ---- the tag of a block
 
+-- the count of items in a header or a footer
 abbrev pub ape_count : List ℕ → ℕ
 ape_count bytes = ape_number 16 bytes
 
@@ -80,18 +88,28 @@ items_of block = items_from (ape_count block) false (item_part block)
 -- the text, version 2000, size and count of the header, flag bit 29 clear, and 8 zero bytes
 unfoldable pub is_footer : ℕ → ℕ → List ℕ → Bool
 is_footer size count footer =
-    begins_with (codes "APETAGEX") footer && (ape_version footer == 2000) && (ape_size footer == size) && (ape_number 16 footer == count) && are_footer_flags (ape_flags footer)
+    begins_with (codes "APETAGEX") footer && (ape_version footer == 2000)
+    && (ape_size footer == size) && (ape_number 16 footer == count)
+    && are_footer_flags (ape_flags footer)
     && is_reserved footer
 
--- the tag that an APEv2 block is, or the place of the first fault: in the header, at the first item that isn't whole, has no legal
--- key or is a second undo item, after the last item, or at the footer
+-- the tag that an APEv2 block is, or the place of the first fault: in
+-- the header, at the first item that isn't whole, has no legal key or
+-- is a second undo item, after the last item, or at the footer
 unfoldable pub tag_of : List ℕ → Result TagFields TagFault
 tag_of block =
     if not (is_reserved block) then Err (BadTag 24) else
-    if not (length (items_of block) == ape_count block) then Err (BadTag (32 + items_length (items_of block))) else
-    if not (32 + items_length (items_of block) == footer_place block) then Err (BadTag (32 + items_length (items_of block))) else
-    if not (is_footer (ape_size block) (ape_count block) (drop (footer_place block) block)) then Err (BadTag (footer_place block)) else
-    Ok (record { header_flags = ape_flags block; footer_flags = ape_flags (drop (footer_place block) block); items = items_of block })
+    if not (length (items_of block) == ape_count block)
+    then Err (BadTag (32 + items_length (items_of block))) else
+    if not (32 + items_length (items_of block) == footer_place block)
+    then Err (BadTag (32 + items_length (items_of block))) else
+    if not (is_footer (ape_size block) (ape_count block) (drop (footer_place block) block))
+    then Err (BadTag (footer_place block)) else
+    Ok (record {
+      header_flags = ape_flags block;
+      footer_flags = ape_flags (drop (footer_place block) block);
+      items = items_of block;
+    })
 
 -- the place of a fault is one of the block's bytes
 abbrev pub IsPlaceIn : List ℕ → TagFault → Type 0

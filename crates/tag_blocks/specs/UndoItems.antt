@@ -1,29 +1,32 @@
--- The undo item of a tag: what it says, and the items with another one or without it. All other items stay as they are.
-use Rattle.std.specs.Prelude.{ℕ, ◌+◌, if◌then◌else◌, List, [], ◌∷◌, Option, Some, None, codes}
-use Rattle.tag_blocks.specs.declared.undo.Undo.{Undo}
-use Rattle.tag_blocks.specs.declared.undo.UndoItem.{UndoItem}
-use Rattle.tag_blocks.specs.declared.undo.UndoItem.TheVariants.{Missing, Bad, Found}
-use Rattle.tag_blocks.specs.UndoText.{undo_text, undo_of}
-use Rattle.tag_blocks.specs.Items.{TagItem, is_undo, item_length}
+-- The undo item of a tag: what it says, and the items with
+-- another one or without it. All other items stay as they are.
+use Rattle.std.specs.Prelude.{codes, if◌then◌else◌, List, None, Option, Some, ℕ, [], ◌+◌, ◌∷◌}
+use Rattle.tag_blocks.specs.{Items.{is_undo, item_length, TagItem}, UndoText.{undo_of, undo_text}}
+use Rattle.tag_blocks.specs.declared.undo.{Undo.Undo, UndoItem.UndoItem}
+use Rattle.tag_blocks.specs.declared.undo.UndoItem.TheVariants.{Bad, Found, Missing}
 
 -- what an item at a place says by its value
 abbrev pub undo_at : ℕ → Option Undo → UndoItem
 undo_at place None = Bad place
 undo_at place (Some undo) = Found undo
 
--- what the undo item says; the first item is at this place
+-- what the undo item says, of items of which the first is at this place: nothing where there is
+-- none, the place of the item where its value is of another form, else what its value says
 abbrev pub undo_from : ℕ → List TagItem → UndoItem
 undo_from place [] = Missing
-undo_from place (item ∷ items) = if is_undo item then undo_at place (undo_of item.value) else undo_from (place + item_length item) items
+undo_from place (item ∷ items) = if is_undo item then undo_at place (undo_of item.value)
+    else undo_from (place + item_length item) items
 
 -- a new undo item
 abbrev pub new_undo_item : Undo → TagItem
 new_undo_item undo = record { key = codes "MP3GAIN_UNDO"; flags = 0; value = undo_text undo }
 
--- the same items with this undo: it is the value of the undo item, or a new item after all others where there is none
+-- the same items with this undo: it is the value of the undo
+-- item, or a new item after all others where there is none
 abbrev pub with_undo : Undo → List TagItem → List TagItem
 with_undo undo [] = new_undo_item undo ∷ []
-with_undo undo (item ∷ items) = if is_undo item then record item { value = undo_text undo } ∷ items else item ∷ with_undo undo items
+with_undo undo (item ∷ items) = if is_undo item then record item { value = undo_text undo } ∷ items
+    else item ∷ with_undo undo items
 
 -- the same items without the undo item
 abbrev pub without_undo : List TagItem → List TagItem

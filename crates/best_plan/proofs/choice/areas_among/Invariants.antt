@@ -1,5 +1,5 @@
 -- The areas of the slots so far.
-use Rattle.std.proofs.Common.{◌≡◌, ◌≤◌, All, map, take}
+use Rattle.std.proofs.Common.{All, map, take, ◌≡◌, ◌≤◌}
 use Rattle.arrayvec.specs.ArrayVec.{array_vec_len}
 use Rattle.frame_header.specs.Tables.{area_of}
 use Rattle.best_plan.proofs.choice.areas_among.Given as goal

@@ -4,4 +4,7 @@ use Rattle.best_plan.proofs.RowLaws.{AreBoundsTo}
 use Rattle.best_plan.proofs.choice.bounds_of.Given as goal
 
 abbrev pub invariant-loop-free : goal.invariant-loop-free
-invariant-loop-free l = record { bounds : AreBoundsTo l.later l.free l.known.alone l.known.together; from : l.known.from ≡ 0 }
+invariant-loop-free l = record {
+  bounds : AreBoundsTo l.later l.free l.known.alone l.known.together;
+  from : l.known.from ≡ 0;
+}

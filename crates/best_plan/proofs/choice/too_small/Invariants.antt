@@ -1,5 +1,5 @@
 -- The area at this place isn't too small.
-use Rattle.std.proofs.Common.{◌+◌, ◌<◌, ◌≤◌, get_or}
+use Rattle.std.proofs.Common.{get_or, ◌+◌, ◌<◌, ◌≤◌}
 use Rattle.best_plan.proofs.choice.too_small.Given as goal
 
 abbrev pub invariant-loop-place : goal.invariant-loop-place

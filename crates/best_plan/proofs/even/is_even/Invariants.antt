@@ -1,5 +1,5 @@
 -- The sums so far.
-use Rattle.std.proofs.Common.{◌≡◌, ℕ, ◌+◌, ◌<◌, get_or}
+use Rattle.std.proofs.Common.{get_or, ℕ, ◌+◌, ◌<◌, ◌≡◌}
 use Rattle.best_plan.proofs.even.is_even.Given as goal
 
 abbrev pub invariant-loop-free : goal.invariant-loop-free

@@ -1,5 +1,5 @@
 -- There was no sum yet.
-use Rattle.std.proofs.Common.{◌≡◌, ℕ, ◌<◌, get_or}
+use Rattle.std.proofs.Common.{get_or, ℕ, ◌<◌, ◌≡◌}
 use Rattle.best_plan.specs.Rows.{nothing}
 use Rattle.best_plan.proofs.near.too_few.Given as goal
 

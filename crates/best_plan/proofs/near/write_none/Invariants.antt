@@ -1,5 +1,5 @@
 -- There are none so far.
-use Rattle.std.proofs.Common.{◌≡◌, ℕ, ◌<◌, length, get_or}
+use Rattle.std.proofs.Common.{get_or, length, ℕ, ◌<◌, ◌≡◌}
 use Rattle.best_plan.specs.Rows.{nothing}
 use Rattle.best_plan.proofs.near.write_none.Given as goal
 

@@ -1,10 +1,11 @@
 -- The row so far, and a place of an area.
-use Rattle.std.proofs.Common.{◌≤◌, length}
+use Rattle.std.proofs.Common.{length, ◌≤◌}
 use Rattle.best_plan.proofs.RowLaws.{IsRowTo}
 use Rattle.best_plan.proofs.rows.append_row.Given as goal
 
 abbrev pub invariant-loop-free : goal.invariant-loop-free
 invariant-loop-free l = record {
-  row : IsRowTo l.row.window l.row.bytes l.row.areas.now l.row.later.now l.free l.sums.items l.initial.places.items l.places.items;
+  row : IsRowTo l.row.window l.row.bytes l.row.areas.now l.row.later.now l.free l.sums.items
+      l.initial.places.items l.places.items;
   from : l.from ≤ length l.row.areas.now;
 }

@@ -1,48 +1,63 @@
 -- The list that the table gives, after the lead-in that its sums give.
-use Rattle.std.proofs.Common.{[], ◌∷◌, ◌++◌, map, length, get_or, sym, ap, ◌∙◌, subst, arith}
-use Rattle.slot_plan.specs.Parts.{own_frame}
-use Rattle.slot_plan.specs.Layouts.{IsFeasible}
-use Rattle.slot_plan.specs.Plans.{entries}
-use Rattle.slot_plan.specs.Reserve.{free_behind}
-use Rattle.slot_plan.proofs.PartLaws.{one-class, window-first}
-use Rattle.best_plan.specs.Best.{IsBestPlan}
-use Rattle.best_plan.specs.Table.{IsLeadInBy}
-use Rattle.best_plan.proofs.WalkLaws.{table-width}
-use Rattle.best_plan.proofs.PlanLaws.{whole-sum, plan-without, plan-behind, first-sum}
+use Rattle.std.proofs.Common.{ap, arith, get_or, length, map, subst, sym, [], ◌++◌, ◌∙◌, ◌∷◌}
+use Rattle.best_plan.proofs.PlanLaws.{first-sum, plan-behind, plan-without, whole-sum}
+use Rattle.best_plan.{proofs.WalkLaws.table-width, specs.{Best.IsBestPlan, Table.IsLeadInBy}}
+use Rattle.slot_plan.{proofs.PartLaws.{one-class, window-first}, specs.Layouts.IsFeasible}
+use Rattle.slot_plan.specs.{Parts.own_frame, Plans.entries, Reserve.free_behind}
 use Rattle.best_plan.proofs.shortest.best.Goals as goal
 
 pub table_of-requires-clause-class : goal.table_of-requires-clause-class
-table_of-requires-clause-class g c = one-class c.new-lengths.result c.args.needs.now c.index-needs-0.result c.requires.class (c.new-lengths.ensures.class ∙ c.class-class.ensures)
+table_of-requires-clause-class g c = one-class c.new-lengths.result c.args.needs.now
+    c.index-needs-0.result c.requires.class (c.new-lengths.ensures.class ∙ c.class-class.ensures)
 
 pub walk-requires-clause-class : goal.walk-requires-clause-class
-walk-requires-clause-class g c = one-class c.new-lengths.result c.args.needs.now c.index-needs-0.result c.requires.class (c.new-lengths.ensures.class ∙ c.class-class.ensures)
+walk-requires-clause-class g c = one-class c.new-lengths.result c.args.needs.now
+    c.index-needs-0.result c.requires.class (c.new-lengths.ensures.class ∙ c.class-class.ensures)
 
 pub walk-requires-2-clause-class : goal.walk-requires-2-clause-class
-walk-requires-2-clause-class g c = one-class c.new-lengths.result c.args.needs.now c.index-needs-0.result c.requires.class (c.new-lengths.ensures.class ∙ c.class-class.ensures)
+walk-requires-2-clause-class g c = one-class c.new-lengths.result c.args.needs.now
+    c.index-needs-0.result c.requires.class (c.new-lengths.ensures.class ∙ c.class-class.ensures)
 
 pub index-requires : goal.index-requires
-index-requires g c = omega (arith, table-width c.window-window.result (g.P.Policy.choices_of c.args.policy.now) c.args.needs.now c.in_ok-table.table.sums.items c.in_ok-table.table.places.items c.in_ok-table.ensures)
+index-requires g c = omega (
+  arith,
+  table-width c.window-window.result (g.P.Policy.choices_of c.args.policy.now) c.args.needs.now
+      c.in_ok-table.table.sums.items c.in_ok-table.table.places.items c.in_ok-table.ensures,
+)
 
 pub returns-then-index-lt-NOTHING : goal.returns-then-index-lt-NOTHING
 returns-then-index-lt-NOTHING g c =
     let needs = c.args.needs.now in
     let choices = g.P.Policy.choices_of c.args.policy.now in
     let sums = c.in_ok-table.table.sums.items in
-    let window = window-first needs c.index-needs-0.result c.class-class.result c.window-window.result c.requires.class c.requires.some c.class-class.ensures c.window-window.ensures.window in
-    let first = first-sum c.window-window.result choices needs sums c.in_ok-table.table.places.items c.index.result.now c.in_ok-table.ensures c.index.ensures in
+    let window =
+    window-first needs c.index-needs-0.result c.class-class.result c.window-window.result
+    c.requires.class c.requires.some c.class-class.ensures c.window-window.ensures.window in
+    let first = first-sum c.window-window.result choices needs sums
+    c.in_ok-table.table.places.items c.index.result.now c.in_ok-table.ensures c.index.ensures in
     subst (λ n. IsBestPlan n choices needs (entries c.from_placed.result)) window
-    (plan-without c.window-window.result choices needs sums c.in_ok-table.table.places.items c.in_ok-placed.placed.items c.walk.new.placed.items (entries c.from_placed.result) c.in_ok-table.ensures (omega (arith, first, c.if-index-lt-NOTHING.true)) c.in_ok-placed.ensures.items c.in_ok-walk.ensures c.from_placed.ensures)
+    (plan-without c.window-window.result choices needs sums c.in_ok-table.table.places.items
+    c.in_ok-placed.placed.items c.walk.new.placed.items (entries c.from_placed.result)
+    c.in_ok-table.ensures (omega (arith, first, c.if-index-lt-NOTHING.true))
+    c.in_ok-placed.ensures.items c.in_ok-walk.ensures c.from_placed.ensures)
 
 pub lead_in-frame-requires-clause-sums : goal.lead_in-frame-requires-clause-sums
 lead_in-frame-requires-clause-sums g c =
-    ap length c.as_slice.ensures.value ∙ table-width c.window-window.result (g.P.Policy.choices_of c.args.policy.now) c.args.needs.now c.in_ok-table.table.sums.items c.in_ok-table.table.places.items c.in_ok-table.ensures
+    ap length c.as_slice.ensures.value
+    ∙ table-width c.window-window.result (g.P.Policy.choices_of c.args.policy.now) c.args.needs.now
+    c.in_ok-table.table.sums.items c.in_ok-table.table.places.items c.in_ok-table.ensures
 
 pub lead_in-frame-requires-clause-some : goal.lead_in-frame-requires-clause-some
 lead_in-frame-requires-clause-some g c =
     let needs = c.args.needs.now in
-    let window = window-first needs c.index-needs-0.result c.class-class.result c.window-window.result c.requires.class c.requires.some c.class-class.ensures c.window-window.ensures.window in
-    let feasible = subst (λ n. IsFeasible n n (map own_frame needs)) (sym window) c.requires.feasible in
-    let whole = whole-sum c.window-window.result (g.P.Policy.choices_of c.args.policy.now) needs c.in_ok-table.table.sums.items c.in_ok-table.table.places.items c.requires.few feasible c.in_ok-table.ensures in
+    let window =
+    window-first needs c.index-needs-0.result c.class-class.result c.window-window.result
+    c.requires.class c.requires.some c.class-class.ensures c.window-window.ensures.window in
+    let feasible =
+    subst (λ n. IsFeasible n n (map own_frame needs)) (sym window) c.requires.feasible in
+    let whole = whole-sum c.window-window.result (g.P.Policy.choices_of c.args.policy.now) needs
+    c.in_ok-table.table.sums.items c.in_ok-table.table.places.items c.requires.few feasible
+    c.in_ok-table.ensures in
     omega (arith, whole, ap (λ l. get_or l c.window-window.result 0) c.as_slice.ensures.value)
 
 pub returns : goal.returns
@@ -51,11 +66,20 @@ returns g c =
     let choices = g.P.Policy.choices_of c.args.policy.now in
     let sums = c.in_ok-table.table.sums.items in
     let places = c.in_ok-table.table.places.items in
-    let window = window-first needs c.index-needs-0.result c.class-class.result c.window-window.result c.requires.class c.requires.some c.class-class.ensures c.window-window.ensures.window in
-    let first = first-sum c.window-window.result choices needs sums places c.index.result.now c.in_ok-table.ensures c.index.ensures in
-    let by = subst (λ l. IsLeadInBy c.window-window.result c.class-class.result l c.lead_in-frame.result) c.as_slice.ensures.value c.lead_in-frame.ensures in
-    let old = c.in_ok-push.ensures.items ∙ ap (λ l. l ++ c.lead_in-frame.result ∷ []) c.in_ok-placed.ensures.items in
+    let window =
+    window-first needs c.index-needs-0.result c.class-class.result c.window-window.result
+    c.requires.class c.requires.some c.class-class.ensures c.window-window.ensures.window in
+    let first = first-sum c.window-window.result choices needs sums places
+    c.index.result.now c.in_ok-table.ensures c.index.ensures in
+    let by = subst (λ l. IsLeadInBy c.window-window.result c.class-class.result l
+    c.lead_in-frame.result) c.as_slice.ensures.value c.lead_in-frame.ensures in
+    let old = c.in_ok-push.ensures.items
+    ∙ ap (λ l. l ++ c.lead_in-frame.result ∷ []) c.in_ok-placed.ensures.items in
     subst (λ n. IsBestPlan n choices needs (entries c.from_placed-2.result)) window
-    (plan-behind c.window-window.result choices needs c.index-needs-0.result c.class-class.result sums places c.lead_in-frame.result c.free_behind-free.result c.push.new.self.items c.walk-2.new.placed.items (entries c.from_placed-2.result)
-    c.requires.some c.requires.few c.class-class.ensures c.in_ok-table.ensures (omega (arith, first, c.if-index-lt-NOTHING.false)) by
-    (c.free_behind-free.ensures.free ∙ ap (λ n. free_behind c.window-window.result 0 0 n) c.area_of-area.ensures.area) old c.in_ok-walk-2.ensures c.from_placed-2.ensures)
+    (plan-behind c.window-window.result choices needs c.index-needs-0.result c.class-class.result
+    sums places c.lead_in-frame.result c.free_behind-free.result c.push.new.self.items
+    c.walk-2.new.placed.items (entries c.from_placed-2.result)
+    c.requires.some c.requires.few c.class-class.ensures c.in_ok-table.ensures
+    (omega (arith, first, c.if-index-lt-NOTHING.false)) by
+    (c.free_behind-free.ensures.free ∙ ap (λ n. free_behind c.window-window.result 0 0 n)
+    c.area_of-area.ensures.area) old c.in_ok-walk-2.ensures c.from_placed-2.ensures)

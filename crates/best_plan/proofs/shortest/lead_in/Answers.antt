@@ -1,27 +1,56 @@
 -- The slots of a lead-in are all slots, and with the largest a whole window is free.
-use Rattle.std.proofs.Common.{rules, ◌∙◌, ◌≤◌, false, All, length, refl, sym, ap, subst, arith}
-use Rattle.slot_plan.specs.Parts.{areas_with}
-use Rattle.slot_plan.proofs.AreaLaws.{Ascend, lead-ascend}
-use Rattle.best_plan.proofs.PlanLaws.{lead-ready, lead-within, lead-by}
+use Rattle.std.proofs.Common.{All, ap, arith, false, length, refl, rules, subst, sym, ◌∙◌, ◌≤◌}
+use Rattle.best_plan.proofs.PlanLaws.{lead-by, lead-ready, lead-within}
+use Rattle.slot_plan.{proofs.AreaLaws.{Ascend, lead-ascend}, specs.Parts.areas_with}
 use Rattle.best_plan.proofs.shortest.lead_in.Goals as goal
 
 pub best_choice-choice-requires-clause-row : goal.best_choice-choice-requires-clause-row
 best_choice-choice-requires-clause-row c =
-    let ascending = subst Ascend (sym (c.as_slice-2.ensures.value ∙ (c.areas_among-areas.ensures.areas ∙ ap (λ k. areas_with k false c.as_slice.result.now) c.new-lengths.ensures.class)))
-    (lead-ascend c.args.class c.as_slice.result.now (c.as_slice.ensures.value ∙ c.slots-slots.ensures.slots) (c.slots-slots.ensures.ascending false)) in
-    record { choices = record { narrow = search rules; most = search rules; few = search rules; ascending = ascending }; width = search rules }
+    let ascending =
+    subst Ascend (sym (c.as_slice-2.ensures.value ∙ (c.areas_among-areas.ensures.areas
+    ∙ ap (λ k. areas_with k false c.as_slice.result.now) c.new-lengths.ensures.class)))
+    (lead-ascend c.args.class c.as_slice.result.now (c.as_slice.ensures.value
+    ∙ c.slots-slots.ensures.slots) (c.slots-slots.ensures.ascending false)) in
+    record {
+      choices = record {
+        narrow = search rules;
+        most = search rules;
+        few = search rules;
+        ascending = ascending;
+      };
+      width = search rules;
+    }
 
 pub bounds-as_slice-choice : goal.bounds-as_slice-choice
 bounds-as_slice-choice c =
-    let ready = lead-ready c.args.window c.window-room.result c.args.class c.args.sums.now c.as_slice-2.result.now c.as_slice.result.now c.best_choice-choice.result.sum c.best_choice-choice.result.place
-    (c.window-room.ensures.window ∙ sym c.requires.window) (c.as_slice-2.ensures.value ∙ (c.areas_among-areas.ensures.areas ∙ ap (λ k. areas_with k false c.as_slice.result.now) c.new-lengths.ensures.class)) (c.as_slice.ensures.value ∙ c.slots-slots.ensures.slots)
-    c.window-room.ensures.spanned (subst (All (λ n. n ≤ 1441)) (sym c.as_slice-2.ensures.value) c.areas_among-areas.ensures.most) c.requires.some c.best_choice-choice.ensures in
-    omega (arith, lead-within c.args.class c.args.sums.now c.args.window c.best_choice-choice.result.sum c.best_choice-choice.result.place ready.0 ready.1, ap length (c.as_slice-3.ensures.value ∙ c.slots-slots.ensures.slots))
+    let ready = lead-ready c.args.window c.window-room.result c.args.class c.args.sums.now
+    c.as_slice-2.result.now c.as_slice.result.now c.best_choice-choice.result.sum
+    c.best_choice-choice.result.place
+    (c.window-room.ensures.window ∙ sym c.requires.window)
+    (c.as_slice-2.ensures.value ∙ (c.areas_among-areas.ensures.areas
+    ∙ ap (λ k. areas_with k false c.as_slice.result.now) c.new-lengths.ensures.class))
+    (c.as_slice.ensures.value ∙ c.slots-slots.ensures.slots)
+    c.window-room.ensures.spanned (subst (All (λ n. n ≤ 1441)) (sym c.as_slice-2.ensures.value)
+    c.areas_among-areas.ensures.most) c.requires.some c.best_choice-choice.ensures in
+    omega (
+      arith,
+      lead-within c.args.class c.args.sums.now c.args.window c.best_choice-choice.result.sum
+          c.best_choice-choice.result.place ready.0 ready.1,
+      ap length (c.as_slice-3.ensures.value ∙ c.slots-slots.ensures.slots),
+    )
 
 pub returns : goal.returns
 returns c =
-    let ready = lead-ready c.args.window c.window-room.result c.args.class c.args.sums.now c.as_slice-2.result.now c.as_slice.result.now c.best_choice-choice.result.sum c.best_choice-choice.result.place
-    (c.window-room.ensures.window ∙ sym c.requires.window) (c.as_slice-2.ensures.value ∙ (c.areas_among-areas.ensures.areas ∙ ap (λ k. areas_with k false c.as_slice.result.now) c.new-lengths.ensures.class)) (c.as_slice.ensures.value ∙ c.slots-slots.ensures.slots)
-    c.window-room.ensures.spanned (subst (All (λ n. n ≤ 1441)) (sym c.as_slice-2.ensures.value) c.areas_among-areas.ensures.most) c.requires.some c.best_choice-choice.ensures in
-    lead-by c.args.window c.args.class c.args.sums.now c.best_choice-choice.result.sum c.best_choice-choice.result.place c.as_slice-3.result.now c.index-as_slice-choice.result _
-    ready.0 ready.1 (c.as_slice-3.ensures.value ∙ c.slots-slots.ensures.slots) c.index-as_slice-choice.is (c.slots-slots.ensures.ascending _) refl refl refl
+    let ready = lead-ready c.args.window c.window-room.result c.args.class c.args.sums.now
+    c.as_slice-2.result.now c.as_slice.result.now c.best_choice-choice.result.sum
+    c.best_choice-choice.result.place
+    (c.window-room.ensures.window ∙ sym c.requires.window)
+    (c.as_slice-2.ensures.value ∙ (c.areas_among-areas.ensures.areas
+    ∙ ap (λ k. areas_with k false c.as_slice.result.now) c.new-lengths.ensures.class))
+    (c.as_slice.ensures.value ∙ c.slots-slots.ensures.slots)
+    c.window-room.ensures.spanned (subst (All (λ n. n ≤ 1441)) (sym c.as_slice-2.ensures.value)
+    c.areas_among-areas.ensures.most) c.requires.some c.best_choice-choice.ensures in
+    lead-by c.args.window c.args.class c.args.sums.now c.best_choice-choice.result.sum
+    c.best_choice-choice.result.place c.as_slice-3.result.now c.index-as_slice-choice.result _
+    ready.0 ready.1 (c.as_slice-3.ensures.value ∙ c.slots-slots.ensures.slots)
+    c.index-as_slice-choice.is (c.slots-slots.ensures.ascending _) refl refl refl

@@ -1,6 +1,5 @@
 -- One sum more, and all.
-use Rattle.std.proofs.Common.{◌∙◌, ◌+◌, length, get_or, refl, ap, arith}
-use Rattle.std.proofs.lemmas.List.{length_push}
+use Rattle.std.proofs.{Common.{ap, arith, get_or, length, refl, ◌+◌, ◌∙◌}, lemmas.List.length_push}
 use Rattle.best_plan.proofs.RowLaws.{zero-more}
 use Rattle.best_plan.proofs.table.no_areas.Goals as goal
 
@@ -12,8 +11,10 @@ loop-init c = record {
 
 pub loop-preserved : goal.loop-preserved
 loop-preserved c = record {
-  count = ap length c.in_ok-push.ensures.items ∙ length_push c.loop.sums.items 0 ∙ ap (λ n. n + 1) c.loop.invariant.count;
-  zeros = λ k. ap (λ l. get_or l k 0) c.in_ok-push.ensures.items ∙ zero-more c.loop.sums.items c.loop.invariant.zeros k;
+  count = ap length c.in_ok-push.ensures.items ∙ length_push c.loop.sums.items 0
+      ∙ ap (λ n. n + 1) c.loop.invariant.count;
+  zeros = λ k. ap (λ l. get_or l k 0) c.in_ok-push.ensures.items
+      ∙ zero-more c.loop.sums.items c.loop.invariant.zeros k;
 }
 
 pub returns : goal.returns

@@ -1,5 +1,5 @@
 -- The sums so far.
-use Rattle.std.proofs.Common.{◌≡◌, ℕ, length, get_or}
+use Rattle.std.proofs.Common.{get_or, length, ℕ, ◌≡◌}
 use Rattle.best_plan.proofs.table.no_areas.Given as goal
 
 abbrev pub invariant-loop : goal.invariant-loop

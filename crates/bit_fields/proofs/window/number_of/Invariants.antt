@@ -1,5 +1,5 @@
 -- The bytes so far, as one number.
-use Rattle.std.proofs.Common.{◌≡◌, take}
+use Rattle.std.proofs.Common.{take, ◌≡◌}
 use Rattle.bit_fields.specs.Bits.{bits, number}
 use Rattle.bit_fields.proofs.window.number_of.Given as goal
 

@@ -1,6 +1,6 @@
 -- One byte more, from the last to the first.
-use Rattle.std.proofs.Common.{◌≡◌, ◌<◌, ◌+◌, ◌-◌, arith, length, length-set}
-use Rattle.bit_fields.proofs.WindowLaws.{write_none, left_none, write_more, left_more}
+use Rattle.std.proofs.Common.{arith, length, length-set, ◌+◌, ◌-◌, ◌<◌, ◌≡◌}
+use Rattle.bit_fields.proofs.WindowLaws.{left_more, left_none, write_more, write_none}
 use Rattle.bit_fields.proofs.window.set_number.Goals as goal
 
 pub loop-i-init : goal.loop-i-init
@@ -16,6 +16,8 @@ loop-i-preserved c =
     let next : c.loop-i.i - 1 + 1 ≡ c.loop-i.i = omega arith in
     rw length-set
     (record {
-      written = write_more c.loop-i.bytes (c.loop-i.i - 1) c.args.window c.loop-i.rest within (rw next c.loop-i.invariant.written) (rw next c.loop-i.invariant.left);
-      left = left_more c.loop-i.bytes (c.loop-i.i - 1) c.args.window c.loop-i.rest within (rw next c.loop-i.invariant.left);
+      written = write_more c.loop-i.bytes (c.loop-i.i - 1) c.args.window c.loop-i.rest within
+          (rw next c.loop-i.invariant.written) (rw next c.loop-i.invariant.left);
+      left = left_more c.loop-i.bytes (c.loop-i.i - 1) c.args.window c.loop-i.rest within
+          (rw next c.loop-i.invariant.left);
     })

@@ -1,5 +1,5 @@
 -- The bytes from i on have the low bits of the number; the others are left.
-use Rattle.std.proofs.Common.{◌≡◌, ◌*◌, ◌-◌, ◌/◌, ◌^◌, length, drop}
+use Rattle.std.proofs.Common.{drop, length, ◌*◌, ◌-◌, ◌/◌, ◌^◌, ◌≡◌}
 use Rattle.bit_fields.specs.Bits.{bits, bits_of}
 use Rattle.bit_fields.proofs.window.set_number.Given as goal
 

@@ -1,8 +1,8 @@
 -- The number of eight bytes is the big-endian one.
-use Rattle.std.proofs.Common.{◌≡◌, ℕ, ◌+◌, ◌-◌, List, length, take, drop, sym, ap, ◌∙◌, arith, length-drop}
-use Rattle.std.proofs.lemmas.List.{length-take-le}
-use Rattle.bit_fields.specs.Bits.{bits, number}
-use Rattle.bit_fields.proofs.BitsLaws.{number-bits-be_bytes_8, AreBytes-from_places, AreBelow-take, AreBelow-drop}
+use Rattle.std.proofs.Common.{ap, arith, drop, length, length-drop, List, sym, take, ℕ, ◌+◌, ◌-◌}
+use Rattle.std.proofs.{Common.{◌∙◌, ◌≡◌}, lemmas.List.length-take-le}
+use Rattle.bit_fields.proofs.BitsLaws.{AreBelow-drop, AreBelow-take, AreBytes-from_places}
+use Rattle.bit_fields.{proofs.BitsLaws.number-bits-be_bytes_8, specs.Bits.{bits, number}}
 use Rattle.bit_fields.proofs.window.word_at.Goals as goal
 
 pub returns : goal.returns
@@ -11,7 +11,9 @@ returns c =
     let rest : List ℕ = drop c.args.first c.args.bytes.now in
     let count : ℕ = c.args.first + 8 - c.args.first in
     let eight : count ≡ 8 = omega arith in
-    let size : length (take count rest) ≡ 8 = length-take-le count rest (simp length-drop (omega arith)) ∙ eight in
+    let size : length (take count rest) ≡ 8 =
+    length-take-le count rest (simp length-drop (omega arith)) ∙ eight in
     c.from_be_bytes.ensures
-    ∙ sym (number-bits-be_bytes_8 (take count rest) size (AreBelow-take 256 count rest (AreBelow-drop 256 c.args.first c.args.bytes.now all)))
+    ∙ sym (number-bits-be_bytes_8 (take count rest) size
+    (AreBelow-take 256 count rest (AreBelow-drop 256 c.args.first c.args.bytes.now all)))
     ∙ ap (λ n. number (bits (take n rest))) eight

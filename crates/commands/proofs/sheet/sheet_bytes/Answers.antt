@@ -1,14 +1,15 @@
 -- All bytes of the sheet come, or the cause is that of the read.
-use Rattle.std.proofs.Common.{sym, subst, rules}
-use Rattle.outside.specs.Files.{Holds}
-use Rattle.commands.specs.declared.fault.EditFault.TheVariants.{Input}
-use Rattle.commands.specs.Sheet.{IsSheetFault, IsOfSheet}
+use Rattle.std.proofs.Common.{rules, subst, sym}
 use Rattle.commands.proofs.SheetLaws.{read-fault, read-number}
+use Rattle.commands.specs.Sheet.{IsOfSheet, IsSheetFault}
+use Rattle.commands.specs.declared.fault.EditFault.TheVariants.{Input}
+use Rattle.outside.specs.Files.{Holds}
 use Rattle.commands.proofs.sheet.sheet_bytes.Goals as goal
 
 pub read_exact-requires-clause-found : goal.read_exact-requires-clause-found
 read_exact-requires-clause-found g c = λ bytes holds.
-    sym (c.in_ok-length.ensures.length bytes (subst (λ f. Holds f c.args.sheet.now bytes) c.sheet_length.ensures.sheet.reads.files holds))
+    sym (c.in_ok-length.ensures.length bytes
+    (subst (λ f. Holds f c.args.sheet.now bytes) c.sheet_length.ensures.sheet.reads.files holds))
 
 pub returns-in-Err-clause-sheet : goal.returns-in-Err-clause-sheet
 returns-in-Err-clause-sheet g c =
@@ -16,12 +17,21 @@ returns-in-Err-clause-sheet g c =
     record {
       there = tt;
       refused =
-          subst (λ f. IsSheetFault c.args.sheet.now (seen c.args.folder.now) (seen c.read_exact.new.folder) (Input 1 f)) (sym c.into.ensures)
-          (read-fault c.args.sheet.now (seen c.args.folder.now).files (seen c.sheet_length.new.folder).files (seen c.read_exact.new.folder).files (seen c.args.folder.now).counts (seen c.sheet_length.new.folder).counts (seen c.read_exact.new.folder).counts c.in_ok-length.length
-          c.sheet_length.ensures.sheet.reads.files c.read_exact.ensures.files c.in_ok-length.ensures.sheet.reads.done c.in-Err.fault c.in-Err.ensures.cause);
+          subst (λ f. IsSheetFault c.args.sheet.now (seen c.args.folder.now)
+          (seen c.read_exact.new.folder) (Input 1 f)) (sym c.into.ensures)
+          (read-fault c.args.sheet.now (seen c.args.folder.now).files
+          (seen c.sheet_length.new.folder).files (seen c.read_exact.new.folder).files
+          (seen c.args.folder.now).counts (seen c.sheet_length.new.folder).counts
+          (seen c.read_exact.new.folder).counts c.in_ok-length.length
+          c.sheet_length.ensures.sheet.reads.files c.read_exact.ensures.files
+          c.in_ok-length.ensures.sheet.reads.done c.in-Err.fault c.in-Err.ensures.cause);
       numbers =
           subst (λ f. IsOfSheet (Input 1 f)) (sym c.into.ensures)
-          (read-number c.args.sheet.now (seen c.args.folder.now).files (seen c.sheet_length.new.folder).files (seen c.read_exact.new.folder).files (seen c.args.folder.now).counts (seen c.sheet_length.new.folder).counts (seen c.read_exact.new.folder).counts c.in_ok-length.length
-          c.sheet_length.ensures.sheet.reads.files c.read_exact.ensures.files c.in_ok-length.ensures.sheet.reads.done c.in-Err.fault c.in-Err.ensures.cause);
+          (read-number c.args.sheet.now (seen c.args.folder.now).files
+          (seen c.sheet_length.new.folder).files (seen c.read_exact.new.folder).files
+          (seen c.args.folder.now).counts (seen c.sheet_length.new.folder).counts
+          (seen c.read_exact.new.folder).counts c.in_ok-length.length
+          c.sheet_length.ensures.sheet.reads.files c.read_exact.ensures.files
+          c.in_ok-length.ensures.sheet.reads.done c.in-Err.fault c.in-Err.ensures.cause);
       reads = record { files = search rules; done = tt; counts = search rules };
     }

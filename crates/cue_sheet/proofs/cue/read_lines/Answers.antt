@@ -1,31 +1,45 @@
 -- A line more without a fault, a fault, and the end.
-use Rattle.std.proofs.Common.{sym, ◌∙◌, subst, arith, inr}
-use Rattle.std.proofs.lemmas.Bool.{eqb-true, eqb-false}
-use Rattle.cue_sheet.proofs.CuesLaws.{HaveRead, refused, goes_on, ends, are_starts, some_are, none_are}
-use Rattle.cue_sheet.specs.Cues.{entry_in, entries_from}
-use Rattle.cue_sheet.proofs.LinesLaws.{first_said}
-use Rattle.cue_sheet.proofs.StartsLaws.{starts-few}
+use Rattle.std.proofs.{Common.{arith, inr, subst, sym, ◌∙◌}, lemmas.Bool.{eqb-false, eqb-true}}
+use Rattle.cue_sheet.proofs.CuesLaws.{are_starts, ends, goes_on, HaveRead, none_are, refused}
+use Rattle.cue_sheet.proofs.{CuesLaws.some_are, LinesLaws.first_said, StartsLaws.starts-few}
+use Rattle.cue_sheet.specs.Cues.{entries_from, entry_in}
 use Rattle.cue_sheet.proofs.cue.read_lines.Goals as goal
 
 pub returns-in-Some-clause-cue : goal.returns-in-Some-clause-cue
 returns-in-Some-clause-cue c =
-    inr (refused c.args.text.now c.loop-at.at c.loop-at.seen c.loop-at.starts.items _ _ c.in-Some.fault c.loop-at.invariant.0 (first_said entry_in c.args.text.now c.loop-at.at c.line_at-line.result.next _ _ c.line_at-line.ensures.line c.read_entry-entry.ensures) (λ before seen. sym c.in-Some.is ∙ c.fault.ensures before seen))
+    inr (refused c.args.text.now c.loop-at.at c.loop-at.seen c.loop-at.starts.items _ _
+    c.in-Some.fault c.loop-at.invariant.0 (first_said entry_in c.args.text.now c.loop-at.at
+    c.line_at-line.result.next _ _ c.line_at-line.ensures.line c.read_entry-entry.ensures)
+    (λ before seen. sym c.in-Some.is ∙ c.fault.ensures before seen))
 
 pub loop-at-preserved : goal.loop-at-preserved
 loop-at-preserved c =
-    let line = first_said entry_in c.args.text.now c.loop-at.at c.line_at-line.result.next _ _ c.line_at-line.ensures.line c.read_entry-entry.ensures in
-    let read = goes_on c.args.text.now c.loop-at.at c.line_at-line.result.next c.loop-at.seen c.behind-seen.result c.loop-at.starts.items _ c.loop-at.invariant.0 line (λ before seen. sym c.in_default.is ∙ c.fault.ensures before seen) c.behind-seen.ensures.seen in
-    (subst (HaveRead c.args.text.now c.line_at-line.result.next c.behind-seen.result) (sym c.in-Ok.ensures.kept) read, c.line_at-line.ensures.within, omega (arith, c.behind-seen.ensures.lines, c.loop-at.invariant.2, c.line_at-line.ensures.on), c.behind-seen.ensures.tracks)
+    let line = first_said entry_in c.args.text.now c.loop-at.at c.line_at-line.result.next _ _
+    c.line_at-line.ensures.line c.read_entry-entry.ensures in
+    let read = goes_on c.args.text.now c.loop-at.at c.line_at-line.result.next c.loop-at.seen
+    c.behind-seen.result c.loop-at.starts.items _ c.loop-at.invariant.0 line
+    (λ before seen. sym c.in_default.is ∙ c.fault.ensures before seen)
+    c.behind-seen.ensures.seen in (
+      subst (HaveRead c.args.text.now c.line_at-line.result.next c.behind-seen.result)
+          (sym c.in-Ok.ensures.kept) read,
+      c.line_at-line.ensures.within,
+      omega (arith, c.behind-seen.ensures.lines, c.loop-at.invariant.2, c.line_at-line.ensures.on),
+      c.behind-seen.ensures.tracks,
+    )
 
 pub returns-then-is_empty-clause-cue : goal.returns-then-is_empty-clause-cue
 returns-then-is_empty-clause-cue c =
-    inr (ends c.args.text.now c.loop-at.at c.loop-at.seen c.loop-at.starts.items c.loop-at.invariant.0 c.loop-at-test.false ∙ none_are c.loop-at.starts.items (sym c.loop-at.starts.ok.0 ∙ eqb-true _ 0 (sym c.is_empty.ensures ∙ c.if-is_empty.true)))
+    inr (ends c.args.text.now c.loop-at.at c.loop-at.seen c.loop-at.starts.items
+    c.loop-at.invariant.0 c.loop-at-test.false ∙ none_are c.loop-at.starts.items
+    (sym c.loop-at.starts.ok.0 ∙ eqb-true _ 0 (sym c.is_empty.ensures ∙ c.if-is_empty.true)))
 
 pub returns : goal.returns
 returns c =
     let some = eqb-false _ 0 (sym c.is_empty.ensures ∙ c.if-is_empty.false) in
     let read = c.loop-at.invariant.0 in
-    let cue = ends c.args.text.now c.loop-at.at c.loop-at.seen c.loop-at.starts.items read c.loop-at-test.false ∙ some_are c.loop-at.starts.items (omega (arith, c.loop-at.starts.ok.0, some)) in
+    let cue = ends c.args.text.now c.loop-at.at c.loop-at.seen c.loop-at.starts.items read
+    c.loop-at-test.false
+    ∙ some_are c.loop-at.starts.items (omega (arith, c.loop-at.starts.ok.0, some)) in
     let few = starts-few (entries_from c.args.text.now 0) c.loop-at.starts.items cue in
     record {
       cue = cue;

@@ -1,7 +1,8 @@
 -- All bytes so far are digits, and the number that they spell.
-use Rattle.std.proofs.Common.{◌≡◌, ◌≤◌, length, take}
-use Rattle.std.specs.Str.Parse.{AllDigits, digits_value}
+use Rattle.std.{proofs.Common.{length, take, ◌≡◌, ◌≤◌}, specs.Str.Parse.{AllDigits, digits_value}}
 use Rattle.cue_sheet.proofs.digits.read_number.Given as goal
 
 abbrev pub invariant-loop-digit : goal.invariant-loop-digit
-invariant-loop-digit l = (l.least ≤ length l.digits) × (length l.digits ≤ l.most) × AllDigits 10 (take l.digit-index l.digits) × (l.number ≡ digits_value 10 (take l.digit-index l.digits))
+invariant-loop-digit l = (l.least ≤ length l.digits) × (length l.digits ≤ l.most)
+    × AllDigits 10 (take l.digit-index l.digits)
+    × (l.number ≡ digits_value 10 (take l.digit-index l.digits))

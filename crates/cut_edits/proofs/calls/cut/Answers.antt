@@ -1,7 +1,8 @@
 -- What the one body asks of the command.
-use Rattle.cut_edits.specs.declared.choice.Choice.TheVariants.{Between}
 use Rattle.cut_edits.proofs.ChosenLaws.{edit_proper}
+use Rattle.cut_edits.specs.declared.choice.Choice.TheVariants.{Between}
 use Rattle.cut_edits.proofs.calls.cut.Goals as goal
 
 pub make_one-requires-clause-proper : goal.make_one-requires-clause-proper
-make_one-requires-clause-proper g c = edit_proper (Between c.args.from c.args.to) c.args.least c.args.input.now
+make_one-requires-clause-proper g c =
+    edit_proper (Between c.args.from c.args.to) c.args.least c.args.input.now

@@ -1,19 +1,18 @@
 -- What the planner answers of the chosen frames is their led plan.
-use Rattle.std.proofs.Common.{◌≡◌, Bool, true, sym, subst, rules}
+use Rattle.std.proofs.{Common.{Bool, rules, subst, sym, true, ◌≡◌}, lemmas.Result.IfOk-weaker}
 use Rattle.std.specs.Prelude.{IfOk}
-use Rattle.std.proofs.lemmas.Result.{IfOk-weaker}
+use Rattle.cut_edits.{proofs.SpanLaws.{led-answer, led-can}, specs.Chosen.{chosen_in, needs_of}}
+use Rattle.cut_edits.specs.Exact.{plan_with}
 use Rattle.slot_plan.specs.Plans.{entries}
 use Rattle.sync_survey.specs.Faults.{tells}
-use Rattle.cut_edits.specs.Chosen.{chosen_in, needs_of}
-use Rattle.cut_edits.specs.Exact.{plan_with}
-use Rattle.cut_edits.proofs.SpanLaws.{led-answer, led-can}
 use Rattle.cut_edits.proofs.pieces.plan_piece.Goals as goal
 
 pub plan_led-requires-clause-planned : goal.plan_led-requires-clause-planned
 plan_led-requires-clause-planned c =
     let there = c.requires.there in
     rw (c.needs.ensures, c.in_ok-parts.ensures.parts)
-    (led-can (chosen_in c.args.chosen.now) (tells c.args.survey.now) there.laid.placed there.some there.within)
+    (led-can (chosen_in c.args.chosen.now)
+    (tells c.args.survey.now) there.laid.placed there.some there.within)
 
 pub returns-in_ok-parts : goal.returns-in_ok-parts
 returns-in_ok-parts c =
@@ -21,6 +20,8 @@ returns-in_ok-parts c =
     let s = tells c.args.survey.now in
     let needs = needs_of (chosen_in c.args.chosen.now) s in
     let on : c.args.led ≡ true = search rules in
-    subst (λ (b : Bool). IfOk c.plan_led.result (λ plan. entries plan ≡ plan_with b s.class needs)) (sym on)
-    (IfOk-weaker c.plan_led.result _ _ (λ plan is. led-answer (chosen_in c.args.chosen.now) s there.laid.placed there.some there.within (entries plan) is.plan)
+    subst (λ (b : Bool). IfOk c.plan_led.result (λ plan. entries plan ≡ plan_with b s.class needs))
+    (sym on)
+    (IfOk-weaker c.plan_led.result _ _ (λ plan is. led-answer (chosen_in c.args.chosen.now) s
+    there.laid.placed there.some there.within (entries plan) is.plan)
     (rw (c.needs.ensures, c.in_ok-parts.ensures.parts) at c.plan_led.ensures))

@@ -1,24 +1,28 @@
 -- The frames of the span have their plan, and a place at most more than they are.
-use Rattle.std.proofs.Common.{◌≡◌, List, Option, None, length, refl, sym, subst, ap, ap₂, ◌∙◌, arith}
-use Rattle.frame_header.specs.Fields.{ClassFields}
-use Rattle.frame_header.specs.Tables.{window_of}
-use Rattle.slot_plan.specs.declared.needs.Placed.{Placed}
-use Rattle.slot_plan.specs.Plans.{entries}
-use Rattle.laying.specs.Fits.{IsFitting}
-use Rattle.laying.specs.declared.info.Kept.{Kept}
-use Rattle.laying.specs.Laid.{Laid, laid_between}
-use Rattle.info_header.specs.declared.fields.Info.{Info}
-use Rattle.exact_span.specs.declared.span.Span.{Span}
-use Rattle.std.specs.Prelude.{option_copied}
-use Rattle.sync_survey.specs.Faults.{SurveyFields, tells}
-use Rattle.cut_edits.specs.Chosen.{needs_of}
-use Rattle.cut_edits.specs.Exact.{needs_in, plan_with, quality_of, numbered, laid_span, sealed_laid, piece_of}
-use Rattle.cut_edits.proofs.SpanLaws.{with-fitting, with-few, with-many, with-leads}
+use Rattle.std.proofs.Common.{ap, ap₂, arith, length, List, None, Option, refl, subst, sym, ◌∙◌}
+use Rattle.std.{proofs.Common.◌≡◌, specs.Prelude.option_copied}
 use Rattle.cut_edits.proofs.PieceLaws.{span_chosen}
+use Rattle.cut_edits.proofs.SpanLaws.{with-few, with-fitting, with-leads, with-many}
+use Rattle.cut_edits.specs.Chosen.{needs_of}
+use Rattle.cut_edits.specs.Exact.{laid_span, needs_in, numbered, piece_of, plan_with, quality_of}
+use Rattle.cut_edits.specs.Exact.{sealed_laid}
+use Rattle.exact_span.specs.declared.span.Span.{Span}
+use Rattle.frame_header.specs.{Fields.ClassFields, Tables.window_of}
+use Rattle.info_header.specs.declared.fields.Info.{Info}
+use Rattle.laying.specs.{Fits.IsFitting, Laid.{Laid, laid_between}, declared.info.Kept.Kept}
+use Rattle.slot_plan.specs.{Plans.entries, declared.needs.Placed.Placed}
+use Rattle.sync_survey.specs.Faults.{SurveyFields, tells}
 use Rattle.cut_edits.proofs.pieces.select_piece.Goals as goal
 
 pub plan_piece-requires : goal.plan_piece-requires
-plan_piece-requires c = record { there = record { laid = c.requires.laid; few = c.requires.few; some = c.requires.there.some; within = c.requires.there.within } }
+plan_piece-requires c = record {
+  there = record {
+    laid = c.requires.laid;
+    few = c.requires.few;
+    some = c.requires.there.some;
+    within = c.requires.there.within;
+  };
+}
 
 pub kept_of-kept-requires-clause-span : goal.kept_of-kept-requires-clause-span
 kept_of-kept-requires-clause-span c = rw (c.class.ensures) c.requires.there.is
@@ -28,14 +32,16 @@ kept_of-kept-requires-clause-leads c =
     let s = tells c.args.survey.now in
     let chosen = span_chosen None c.args.span.now in
     rw (c.placed.ensures, c.in_ok-plan.ensures)
-    (with-leads chosen s c.requires.laid.placed c.requires.there.some c.requires.there.within c.args.span.now refl refl)
+    (with-leads chosen s
+    c.requires.laid.placed c.requires.there.some c.requires.there.within c.args.span.now refl refl)
 
 pub kept_of-kept-requires-clause-many : goal.kept_of-kept-requires-clause-many
 kept_of-kept-requires-clause-many c =
     let s = tells c.args.survey.now in
     let chosen = span_chosen None c.args.span.now in
     rw (c.placed.ensures, c.in_ok-plan.ensures)
-    (with-many chosen s c.requires.laid.placed c.requires.there.some c.requires.there.within c.args.span.now.led)
+    (with-many chosen s
+    c.requires.laid.placed c.requires.there.some c.requires.there.within c.args.span.now.led)
 
 pub select_sealed-requires-clause-few : goal.select_sealed-requires-clause-few
 select_sealed-requires-clause-few c =
@@ -44,7 +50,8 @@ select_sealed-requires-clause-few c =
     omega (
       arith,
       ap length c.in_ok-plan.ensures,
-      with-few chosen s c.requires.laid.placed c.requires.there.some c.requires.there.within c.args.span.now.led,
+      with-few chosen s
+          c.requires.laid.placed c.requires.there.some c.requires.there.within c.args.span.now.led,
       c.requires.there.within,
       c.requires.few,
     )
@@ -54,14 +61,20 @@ select_sealed-requires-clause-fitting c =
     let s = tells c.args.survey.now in
     let chosen = span_chosen None c.args.span.now in
     subst (IsFitting (window_of s.class.version) (needs_of chosen s)) (sym c.in_ok-plan.ensures)
-    (with-fitting chosen s c.requires.laid.placed c.requires.there.some c.requires.there.within c.args.span.now.led)
+    (with-fitting chosen s
+    c.requires.laid.placed c.requires.there.some c.requires.there.within c.args.span.now.led)
 
-same_laid : (head : Option Info) (span : Span) (s : SurveyFields) (kept : Kept) (placed given : List Placed) (class : ClassFields) → kept ≡ record { quality = quality_of head; extension = numbered head class span given }
-    → class ≡ s.class → given ≡ placed → placed ≡ plan_with span.led s.class (needs_in span s) → laid_between span.first span.last kept placed ≡ laid_span head span s
+same_laid : (head : Option Info) (span : Span) (s : SurveyFields) (kept : Kept)
+    (placed given : List Placed) (class : ClassFields)
+    → kept ≡ record { quality = quality_of head; extension = numbered head class span given }
+    → class ≡ s.class → given ≡ placed → placed ≡ plan_with span.led s.class (needs_in span s)
+    → laid_between span.first span.last kept placed ≡ laid_span head span s
 same_laid head span s kept placed given class is same own planned =
     ap (λ (k : Kept). laid_between span.first span.last k placed) is
-    ∙ ap₂ (λ (c : ClassFields) (g : List Placed). laid_between span.first span.last (record { quality = quality_of head; extension = numbered head c span g }) placed) same own
-    ∙ ap (λ (p : List Placed). laid_between span.first span.last (record { quality = quality_of head; extension = numbered head s.class span p }) p) planned
+    ∙ ap₂ (λ (c : ClassFields) (g : List Placed). laid_between span.first span.last
+    (record { quality = quality_of head; extension = numbered head c span g }) placed) same own
+    ∙ ap (λ (p : List Placed). laid_between span.first span.last
+    (record { quality = quality_of head; extension = numbered head s.class span p }) p) planned
 
 pub returns-clause-laid : goal.returns-clause-laid
 unfolding piece_of
@@ -69,4 +82,6 @@ returns-clause-laid c = λ file has.
     let s = tells c.args.survey.now in
     c.select_sealed.ensures.laid file has
     ∙ ap (λ (l : Laid). sealed_laid l file s)
-    (same_laid (option_copied c.args.head) c.args.span.now s c.kept_of-kept.result (entries c.in_ok-plan.plan) c.placed.result.now c.class.result c.kept_of-kept.ensures c.class.ensures c.placed.ensures c.in_ok-plan.ensures)
+    (same_laid (option_copied c.args.head) c.args.span.now s
+    c.kept_of-kept.result (entries c.in_ok-plan.plan) c.placed.result.now c.class.result
+    c.kept_of-kept.ensures c.class.ensures c.placed.ensures c.in_ok-plan.ensures)

@@ -1,17 +1,14 @@
--- The extension that is kept is that of the sealed fields, so the bytes are those of the Info frame.
-use Rattle.std.proofs.Common.{ℕ, List, Option, map, take, drop, ◌+◌, sym, ap, ap₂, ◌∙◌, arith}
+-- The extension that is kept is that of the sealed
+-- fields, so the bytes are those of the Info frame.
+use Rattle.std.proofs.Common.{ap, ap₂, arith, drop, List, map, Option, sym, take, ℕ, ◌+◌, ◌∙◌}
+use Rattle.cut_edits.{proofs.SealedLaws.{for-whole, sealed-read}, specs.Exact.sealed_from}
+use Rattle.exact_span.specs.TagWord.{text_place}
 use Rattle.frame_header.specs.Fields.{ClassFields}
 use Rattle.info_header.specs.InfoFrame.{info_frame}
-use Rattle.exact_span.specs.TagWord.{text_place}
-use Rattle.slot_plan.specs.declared.needs.Placed.{Placed}
-use Rattle.slot_plan.specs.Plans.{entries}
-use Rattle.laying.specs.Laid.{laid_between, frames_laid, info_laid}
-use Rattle.laying.specs.Written.{info_for}
 use Rattle.laying.proofs.LaidLaws.{first-there, laid-slots}
-use Rattle.sync_survey.specs.Row.{Row}
-use Rattle.sync_survey.specs.Faults.{tells}
-use Rattle.cut_edits.specs.Exact.{sealed_from}
-use Rattle.cut_edits.proofs.SealedLaws.{for-whole, sealed-read}
+use Rattle.laying.specs.{Laid.{frames_laid, info_laid, laid_between}, Written.info_for}
+use Rattle.slot_plan.specs.{Plans.entries, declared.needs.Placed.Placed}
+use Rattle.sync_survey.specs.{Faults.tells, Row.Row}
 use Rattle.cut_edits.proofs.pieces.select_sealed.Goals as goal
 
 abbrev kept_at : ClassFields → List ℕ → List ℕ
@@ -21,15 +18,26 @@ pub returns-clause-laid : goal.returns-clause-laid
 returns-clause-laid c = λ file has.
     let s = tells c.args.survey.now in
     let plain = laid_between c.args.from c.args.to c.args.kept (entries c.args.plan) in
-    let there = first-there s.frames c.args.from (omega (arith, c.requires.some, c.requires.within)) in
+    let there =
+    first-there s.frames c.args.from (omega (arith, c.requires.some, c.requires.within)) in
     let first = there.0 in
-    let slots = laid-slots plain file s has c.requires.some c.requires.within c.requires.fitting ∙ sym (ap (map (λ (p : Placed). p.slot)) c.placed.ensures) in
+    let slots = laid-slots plain file s has c.requires.some c.requires.within c.requires.fitting
+    ∙ sym (ap (map (λ (p : Placed). p.slot)) c.placed.ensures) in
     let bytes = c.sealed_info-info.ensures.bytes first (frames_laid plain file s) there.1 slots in
-    let whole = for-whole s.class (frames_laid plain file s) plain.quality plain.extension c.has_all.ensures in
+    let whole =
+    for-whole s.class (frames_laid plain file s) plain.quality plain.extension c.has_all.ensures in
     let read =
     c.extension_in-extension.ensures ∙ ap₂ kept_at c.class.ensures c.as_slice.ensures.value
-    ∙ sealed-read s.class first.header (info_laid plain file s) c.sealed_info-info.result.items whole (c.requires.placed c.args.from first there.1).class_is bytes in
-    ap (λ (e : List ℕ). record { from = plain.from; to = plain.to; placed = plain.placed; quality = plain.quality; extension = e }) read
+    ∙ sealed-read s.class first.header (info_laid plain file s) c.sealed_info-info.result.items
+    whole (c.requires.placed c.args.from first there.1).class_is bytes in
+    ap (λ (e : List ℕ). record {
+      from = plain.from;
+      to = plain.to;
+      placed = plain.placed;
+      quality = plain.quality;
+      extension =
+          e;
+    }) read
     ∙ sym (ap (λ (o : Option Row). sealed_from o plain file s) there.1)
 
 pub returns-clause-writable : goal.returns-clause-writable
@@ -41,11 +49,14 @@ returns-clause-writable c = record {
       let s = tells c.args.survey.now in
       let plain = laid_between c.args.from c.args.to c.args.kept (entries c.args.plan) in
       let frames = frames_laid plain file s in
-      let slots = laid-slots plain file s has c.requires.some c.requires.within c.requires.fitting ∙ sym (ap (map (λ (p : Placed). p.slot)) c.placed.ensures) in
+      let slots = laid-slots plain file s has c.requires.some c.requires.within c.requires.fitting
+      ∙ sym (ap (map (λ (p : Placed). p.slot)) c.placed.ensures) in
       let bytes = c.sealed_info-info.ensures.bytes first frames found slots in
       let whole = for-whole s.class frames plain.quality plain.extension c.has_all.ensures in
       let read =
       c.extension_in-extension.ensures ∙ ap₂ kept_at c.class.ensures c.as_slice.ensures.value
-      ∙ sealed-read s.class first.header (info_laid plain file s) c.sealed_info-info.result.items whole (c.requires.placed c.args.from first found).class_is bytes in
-      bytes ∙ ap (λ (e : List ℕ). info_frame first.header (info_for s.class frames plain.quality e)) (sym read);
+      ∙ sealed-read s.class first.header (info_laid plain file s) c.sealed_info-info.result.items
+      whole (c.requires.placed c.args.from first found).class_is bytes in
+      bytes ∙ ap (λ (e : List ℕ). info_frame first.header (info_for s.class frames plain.quality e))
+      (sym read);
 }

@@ -1,45 +1,57 @@
--- The played positions are those of a file that isn't too long, and the frames of the span are there.
-use Rattle.std.proofs.Common.{◌≡◌, ℕ, Option, Result, Ok, Err, length, sym, ap, ap₂, ◌∙◌, arith}
-use Rattle.std.specs.Prelude.{option_copied, MatchResult, IfOk}
+-- The played positions are those of a file that isn't
+-- too long, and the frames of the span are there.
+use Rattle.std.proofs.Common.{ap, ap₂, arith, Err, length, Ok, Option, Result, sym, ℕ, ◌∙◌, ◌≡◌}
 use Rattle.std.proofs.lemmas.Result.{MatchResult-weaker}
+use Rattle.std.specs.Prelude.{IfOk, MatchResult, option_copied}
+use Rattle.commands.specs.declared.fault.EditFault.{EditFault}
+use Rattle.cut_edits.proofs.PieceLaws.{played-most, span-there}
+use Rattle.cut_edits.specs.Exact.{IsSpanIn, span_between, span_in}
+use Rattle.exact_span.specs.{PlayedPositions.played_of, declared.exact_place.ExactPlace.ExactPlace}
+use Rattle.exact_span.specs.declared.{played.Played.Played, span.Span.Span}
 use Rattle.frame_header.specs.Fields.{ClassFields}
 use Rattle.info_header.specs.declared.fields.Info.{Info}
-use Rattle.exact_span.specs.declared.exact_place.ExactPlace.{ExactPlace}
-use Rattle.exact_span.specs.declared.played.Played.{Played}
-use Rattle.exact_span.specs.declared.span.Span.{Span}
-use Rattle.exact_span.specs.PlayedPositions.{played_of}
 use Rattle.sync_survey.specs.Faults.{SurveyFields, tells}
-use Rattle.commands.specs.declared.fault.EditFault.{EditFault}
-use Rattle.cut_edits.specs.Exact.{span_between, span_in, IsSpanIn}
-use Rattle.cut_edits.proofs.PieceLaws.{played-most, span-there}
 use Rattle.cut_edits.proofs.spans.find_span.Goals as goal
 
-abbrev IsFound : ExactPlace → ExactPlace → Option Info → SurveyFields → Result Span EditFault → Type 0
-IsFound from to head s r = MatchResult r (λ span. span_in from to head s ≡ Ok span) (λ fault. span_in from to head s ≡ Err fault)
+abbrev IsFound : ExactPlace → ExactPlace → Option Info → SurveyFields → Result Span EditFault
+    → Type 0
+IsFound from to head s r = MatchResult r (λ span. span_in from to head s ≡ Ok span)
+    (λ fault. span_in from to head s ≡ Err fault)
 
-found : (from to : ExactPlace) (head : Option Info) (s : SurveyFields) (class : ClassFields) (played : Played) (n : ℕ) (r : Result Span EditFault) → class ≡ s.class → n ≡ length s.frames → played ≡ played_of head class n
-    → MatchResult r (λ span. span_between class played from to ≡ Ok span) (λ fault. span_between class played from to ≡ Err fault) → IsFound from to head s r
+found : (from to : ExactPlace) (head : Option Info) (s : SurveyFields) (class : ClassFields)
+    (played : Played) (n : ℕ) (r : Result Span EditFault) → class ≡ s.class → n ≡ length s.frames
+    → played ≡ played_of head class n → MatchResult r (λ span. span_between class played from to
+    ≡ Ok span) (λ fault. span_between class played from to ≡ Err fault) → IsFound from to head s r
 unfolding span_in
 found from to head s class played n r same count is clause =
-    let whole : span_between s.class (played_of head s.class (length s.frames)) from to ≡ span_between class played from to =
-    sym (ap₂ (λ (k : ClassFields) (p : Played). span_between k p from to) same (is ∙ ap₂ (played_of head) same count)) in
+    let whole : span_between s.class (played_of head s.class (length s.frames)) from to
+    ≡ span_between class played from to =
+    sym (ap₂ (λ (k : ClassFields) (p : Played). span_between k p from to) same
+    (is ∙ ap₂ (played_of head) same count)) in
     MatchResult-weaker r clause (λ span found. whole ∙ found) (λ fault found. whole ∙ found)
 
-there : (from to : ExactPlace) (head : Option Info) (s : SurveyFields) (r : Result Span EditFault) → IsFound from to head s r → IfOk r (IsSpanIn s)
+there : (from to : ExactPlace) (head : Option Info) (s : SurveyFields) (r : Result Span EditFault)
+    → IsFound from to head s r → IfOk r (IsSpanIn s)
 there from to head s (Ok span) is = span-there from to head s span is
 there from to head s (Err fault) is = tt
 
 pub span_between-requires-clause-most : goal.span_between-requires-clause-most
 span_between-requires-clause-most c =
-    rw (c.of-played.ensures) (played-most (option_copied c.args.head) c.class-class.result _ (omega (arith, ap length c.frames.ensures, c.requires.few)))
+    rw (c.of-played.ensures) (played-most (option_copied c.args.head) c.class-class.result _
+    (omega (arith, ap length c.frames.ensures, c.requires.few)))
 
 pub returns-clause-span : goal.returns-clause-span
 returns-clause-span c =
-    found c.args.from.now c.args.to.now (option_copied c.args.head) (tells c.args.survey.now) c.class-class.result c.of-played.result _ c.span_between.result c.class-class.ensures (omega (arith, ap length c.frames.ensures, c.requires.few)) c.of-played.ensures
+    found c.args.from.now c.args.to.now (option_copied c.args.head) (tells c.args.survey.now)
+    c.class-class.result c.of-played.result _ c.span_between.result c.class-class.ensures
+    (omega (arith, ap length c.frames.ensures, c.requires.few)) c.of-played.ensures
     c.span_between.ensures.span
 
 pub returns-clause-there : goal.returns-clause-there
 returns-clause-there c =
-    there c.args.from.now c.args.to.now (option_copied c.args.head) (tells c.args.survey.now) c.span_between.result
-    (found c.args.from.now c.args.to.now (option_copied c.args.head) (tells c.args.survey.now) c.class-class.result c.of-played.result _ c.span_between.result c.class-class.ensures (omega (arith, ap length c.frames.ensures, c.requires.few)) c.of-played.ensures
+    there c.args.from.now c.args.to.now (option_copied c.args.head)
+    (tells c.args.survey.now) c.span_between.result
+    (found c.args.from.now c.args.to.now (option_copied c.args.head) (tells c.args.survey.now)
+    c.class-class.result c.of-played.result _ c.span_between.result c.class-class.ensures
+    (omega (arith, ap length c.frames.ensures, c.requires.few)) c.of-played.ensures
     c.span_between.ensures.span)

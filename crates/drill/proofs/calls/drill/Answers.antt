@@ -1,17 +1,23 @@
 -- The line about both.
-use Rattle.std.proofs.Common.{List, ℕ, ap, ◌∙◌, subst}
-use Rattle.outside.specs.Files.{sent_more}
-use Rattle.outside.specs.Passed.{SentPrefix}
+use Rattle.std.proofs.Common.{ap, List, subst, ℕ, ◌∙◌}
 use Rattle.drill.proofs.PackedLaws.{text-of, told-all, told-part}
+use Rattle.outside.specs.{Files.sent_more, Passed.SentPrefix}
 use Rattle.drill.proofs.calls.drill.Goals as goal
 
 pub returns-in-Ok-clause-says : goal.returns-in-Ok-clause-says
 returns-in-Ok-clause-says g c files =
-    told-all c.args.seed c.args.count files (g.T.Sink.heard c.args.out.now) (g.T.Sink.heard c.send_summary.new.sink)
-    (c.in-Ok.ensures.sent ∙ ap (sent_more (g.T.Sink.heard c.args.out.now).sent) (text-of c.args.seed c.args.count c.in_ok-summary.summary c.in_ok-summary.ensures)) c.in-Ok.ensures.cause.done
+    told-all c.args.seed c.args.count files (g.T.Sink.heard c.args.out.now)
+    (g.T.Sink.heard c.send_summary.new.sink)
+    (c.in-Ok.ensures.sent ∙ ap (sent_more (g.T.Sink.heard c.args.out.now).sent)
+    (text-of c.args.seed c.args.count c.in_ok-summary.summary c.in_ok-summary.ensures))
+    c.in-Ok.ensures.cause.done
 
 pub returns-in-Err-clause-says : goal.returns-in-Err-clause-says
 returns-in-Err-clause-says g c files =
-    told-part c.args.seed c.args.count files (g.T.Sink.heard c.args.out.now) (g.T.Sink.heard c.send_summary.new.sink)
-    (subst (λ (text : List ℕ). SentPrefix text (g.T.Sink.heard c.args.out.now).sent (g.T.Sink.heard c.send_summary.new.sink).sent) (text-of c.args.seed c.args.count c.in_ok-summary.summary c.in_ok-summary.ensures) c.in-Err.ensures.prefix)
+    told-part c.args.seed c.args.count files (g.T.Sink.heard c.args.out.now)
+    (g.T.Sink.heard c.send_summary.new.sink)
+    (subst (λ (text : List ℕ). SentPrefix text
+    (g.T.Sink.heard c.args.out.now).sent (g.T.Sink.heard c.send_summary.new.sink).sent)
+    (text-of c.args.seed c.args.count c.in_ok-summary.summary c.in_ok-summary.ensures)
+    c.in-Err.ensures.prefix)
     c.in-Err.ensures.cause.failed

@@ -1,23 +1,32 @@
 -- What a survey tells of the packed file, and the length of the stream.
-use Rattle.std.proofs.Common.{◌≡◌, ◌<◌, ◌-◌, ◌*◌, length, ap, ◌∙◌, arith}
-use Rattle.sync_survey.specs.Faults.{tells}
-use Rattle.drill.specs.Drill.{drill_stream}
-use Rattle.drill.specs.Drilled.{packed_file, packed_plan, lead_ins_in}
+use Rattle.std.proofs.Common.{ap, arith, length, ◌*◌, ◌-◌, ◌<◌, ◌∙◌, ◌≡◌}
 use Rattle.drill.proofs.PackedLaws.{no-lead_ins, packed-frames, packed-length}
+use Rattle.drill.specs.{Drill.drill_stream, Drilled.{lead_ins_in, packed_file, packed_plan}}
+use Rattle.sync_survey.specs.Faults.{tells}
 use Rattle.drill.proofs.calls.summary_of.Goals as goal
 
 pub overflow_sub-result : goal.overflow_sub-result
 overflow_sub-result c =
     let some : 0 < c.args.count = omega (arith, c.requires.some) in
-    let found : length c.frames.result.now ≡ c.args.count = ap length c.frames.ensures ∙ packed-frames c.args.seed c.args.count some c.requires.few (tells c.in_ok-survey.survey) c.in_ok-survey.ensures in
+    let found : length c.frames.result.now ≡ c.args.count =
+    ap length c.frames.ensures ∙ packed-frames c.args.seed c.args.count some
+    c.requires.few (tells c.in_ok-survey.survey) c.in_ok-survey.ensures in
     omega (arith, found, c.from-frames.ensures)
 
 pub returns : goal.returns
 returns c =
     let some : 0 < c.args.count = omega (arith, c.requires.some) in
-    let found : length c.frames.result.now ≡ c.args.count = ap length c.frames.ensures ∙ packed-frames c.args.seed c.args.count some c.requires.few (tells c.in_ok-survey.survey) c.in_ok-survey.ensures in
-    let none : length c.frames.result.now - c.from-frames.result ≡ lead_ins_in (packed_plan c.args.seed c.args.count) =
-    omega (arith, found, c.from-frames.ensures, no-lead_ins c.args.seed c.args.count some c.requires.few) in
-    let long : 417 * c.from-frames.result ≡ length (drill_stream c.args.seed c.args.count) = omega (arith, c.from-frames.ensures, c.streams_are_long.ensures c.args.seed c.args.count) in
-    let size : c.length.result ≡ length (packed_file c.args.seed c.args.count) = c.length.ensures ∙ packed-length (packed_file c.args.seed c.args.count) (tells c.in_ok-survey.survey) c.in_ok-survey.ensures in
+    let found : length c.frames.result.now ≡ c.args.count =
+    ap length c.frames.ensures ∙ packed-frames c.args.seed c.args.count some
+    c.requires.few (tells c.in_ok-survey.survey) c.in_ok-survey.ensures in
+    let none : length c.frames.result.now - c.from-frames.result
+    ≡ lead_ins_in (packed_plan c.args.seed c.args.count) =
+    omega
+    (arith, found, c.from-frames.ensures, no-lead_ins c.args.seed c.args.count some c.requires.few)
+    in
+    let long : 417 * c.from-frames.result ≡ length (drill_stream c.args.seed c.args.count) =
+    omega (arith, c.from-frames.ensures, c.streams_are_long.ensures c.args.seed c.args.count) in
+    let size : c.length.result ≡ length (packed_file c.args.seed c.args.count) =
+    c.length.ensures ∙ packed-length (packed_file c.args.seed c.args.count)
+    (tells c.in_ok-survey.survey) c.in_ok-survey.ensures in
     cc

@@ -1,10 +1,10 @@
 -- The stream that was written, and the room that was reserved after it.
-use Rattle.std.proofs.Common.{◌≡◌, ◌+◌, ◌*◌, ◌∙◌, ℕ, List, Option, Some, max, refl, sym, ap, subst, arith, unwrap_or, bytes_eq}
-use Rattle.std.proofs.lemmas.Map.{update_same}
-use Rattle.outside.specs.Files.{Files, Contents, Holds, Told}
-use Rattle.outside.specs.Memory.{contents_of, rooms_of, room_of}
-use Rattle.outside.proofs.FilesLaws.{bytes_eq_same, written_holds}
+use Rattle.std.proofs.Common.{ap, arith, bytes_eq, List, max, Option, refl, Some, subst, sym}
+use Rattle.std.proofs.{Common.{unwrap_or, ℕ, ◌*◌, ◌+◌, ◌∙◌, ◌≡◌}, lemmas.Map.update_same}
 use Rattle.drill.specs.Drill.{drill_stream}
+use Rattle.outside.proofs.FilesLaws.{bytes_eq_same, written_holds}
+use Rattle.outside.specs.Files.{Contents, Files, Holds, Told}
+use Rattle.outside.specs.Memory.{contents_of, room_of, rooms_of}
 use Rattle.drill.proofs.folder.stream_folder.Goals as goal
 
 pub returns-clause-stream : goal.returns-clause-stream
@@ -12,7 +12,8 @@ returns-clause-stream c =
     let name = c.args.stream.now in
     let bytes = drill_stream c.args.seed c.args.count in
     let holds : contents_of c.write_stream.new.folder name ≡ Some bytes =
-    subst (λ (f : Files). Holds f name bytes) (sym c.in-Ok.ensures.written) (written_holds (Told (contents_of c.reserve.new.self)) name bytes refl) in
+    subst (λ (f : Files). Holds f name bytes) (sym c.in-Ok.ensures.written)
+    (written_holds (Told (contents_of c.reserve.new.self)) name bytes refl) in
     ap (λ (f : Contents). f name) c.reserve-2.ensures.contents ∙ holds
 
 pub returns-clause-room : goal.returns-clause-room
@@ -22,5 +23,6 @@ returns-clause-room c =
     let old = unwrap_or (rooms_of c.write_stream.new.folder name) 0 in
     let room : room_of c.reserve-2.new.self name ≡ max old bytes =
     ap (λ (f : List ℕ → Option ℕ). unwrap_or (f name) 0) c.in_ok-reserve-2.ensures.rooms
-    ∙ ap (λ (o : Option ℕ). unwrap_or o 0) (update_same bytes_eq (rooms_of c.write_stream.new.folder) name (Some (max old bytes)) name (bytes_eq_same name)) in
+    ∙ ap (λ (o : Option ℕ). unwrap_or o 0) (update_same bytes_eq
+    (rooms_of c.write_stream.new.folder) name (Some (max old bytes)) name (bytes_eq_same name)) in
     omega (arith, room, c.from-count_of.ensures)

@@ -1,10 +1,11 @@
 -- What is packed out of the whole window.
-use Rattle.std.proofs.Common.{◌-◌, [], length, arith}
+use Rattle.std.proofs.Common.{arith, length, [], ◌-◌}
 use Rattle.drill.proofs.DrawsLaws.{packed-first}
 use Rattle.drill.proofs.frames.pack.Goals as goal
 
 pub returns-clause-payload : goal.returns-clause-payload
 returns-clause-payload c =
     let octets = c.args.bytes.now in
-    packed-first c.main_data.result octets c.args.bits (length octets - length octets - 0) c.main_data.ensures.bytes (omega arith) c.requires.size
+    packed-first c.main_data.result octets c.args.bits (length octets - length octets - 0)
+    c.main_data.ensures.bytes (omega arith) c.requires.size
     (c.main_data.ensures.payload octets (c.push_area.ensures.main [] c.clear.ensures.main))

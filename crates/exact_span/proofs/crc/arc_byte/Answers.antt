@@ -1,6 +1,5 @@
 -- One bit more.
-use Rattle.std.proofs.Common.{◌≡◌, ℕ, ◌+◌, refl, sym, ap, ◌∙◌, add-one}
-use Rattle.std.specs.Prelude.{bit_xor}
+use Rattle.std.{proofs.Common.{add-one, ap, refl, sym, ℕ, ◌+◌, ◌∙◌, ◌≡◌}, specs.Prelude.bit_xor}
 use Rattle.exact_span.specs.TagWord.{arc_bit, arc_bits}
 use Rattle.exact_span.proofs.crc.arc_byte.Goals as goal
 
@@ -17,4 +16,5 @@ loop-init c = ap (bit_xor c.args.word) c.from.ensures ∙ no-bits (bit_xor c.arg
 
 pub loop-preserved : goal.loop-preserved
 loop-preserved c =
-    c.arc_bit-next.ensures ∙ ap arc_bit c.loop.invariant ∙ next-bit c.loop.counter (bit_xor c.args.word c.args.byte)
+    c.arc_bit-next.ensures ∙ ap arc_bit c.loop.invariant
+    ∙ next-bit c.loop.counter (bit_xor c.args.word c.args.byte)

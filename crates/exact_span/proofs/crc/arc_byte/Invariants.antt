@@ -1,6 +1,5 @@
 -- The bits so far.
-use Rattle.std.proofs.Common.{◌≡◌}
-use Rattle.std.specs.Prelude.{bit_xor}
+use Rattle.std.{proofs.Common.◌≡◌, specs.Prelude.bit_xor}
 use Rattle.exact_span.specs.TagWord.{arc_bits}
 use Rattle.exact_span.proofs.crc.arc_byte.Given as goal
 

@@ -1,6 +1,5 @@
 -- A fold over bytes after others.
-use Rattle.std.proofs.Common.{sym}
-use Rattle.std.proofs.lemmas.List.Sums.{fold-append}
+use Rattle.std.proofs.{Common.sym, lemmas.List.Sums.fold-append}
 use Rattle.exact_span.specs.TagWord.{arc_byte}
 use Rattle.exact_span.proofs.laws.words_go_on.Goals as goal
 

@@ -1,6 +1,7 @@
 -- The sum is no more than the greatest steps times all the frames.
-use Rattle.std.proofs.Common.{◌≡◌, ◌+◌, ◌-◌, ◌*◌, ◌≤◌, ◌<◌, ◌^◌, ◌*ℤ◌, ◌+ℤ◌, pos, int_div, unsigned_abs, sym, ap, subst, ◌∙◌, arith}
-use Rattle.fade_plan.proofs.StepsLaws.{weighted_sum, size_of_weighted, small_fits}
+use Rattle.std.proofs.Common.{ap, arith, int_div, pos, subst, sym, unsigned_abs, ◌*ℤ◌, ◌+ℤ◌, ◌*◌}
+use Rattle.std.proofs.Common.{◌+◌, ◌-◌, ◌<◌, ◌^◌, ◌∙◌, ◌≡◌, ◌≤◌}
+use Rattle.fade_plan.proofs.StepsLaws.{size_of_weighted, small_fits, weighted_sum}
 use Rattle.fade_plan.proofs.curve.steps_of_both.Goals as goal
 
 pub even-requires-clause-small : goal.even-requires-clause-small
@@ -9,12 +10,18 @@ even-requires-clause-small c =
     let q = c.args.behind.now in
     let left = q.frame - c.args.frame in
     let passed = c.args.frame - p.frame in
-    let all : passed + left ≡ q.frame - p.frame = omega (arith, c.requires.before, c.requires.behind) in
-    let few : left + passed < 2 ^ 48 = omega (arith, c.requires.before, c.requires.behind, c.requires.behind_kept.frame) in
+    let all : passed + left ≡ q.frame - p.frame =
+    omega (arith, c.requires.before, c.requires.behind) in
+    let few : left + passed < 2 ^ 48 =
+    omega (arith, c.requires.before, c.requires.behind, c.requires.behind_kept.frame) in
     let small = c.requires.kept.sound.1 in
     let other = c.requires.behind_kept.sound.1 in
-    subst (λ s. unsigned_abs s ≤ 255 * (q.frame - p.frame)) (sym (weighted_sum p.steps q.steps _ _ left passed small other (c.weighted-left.ensures ∙ ap (λ s. s *ℤ pos left) (small_fits p.steps small)) (c.weighted-passed.ensures ∙ ap (λ s. s *ℤ pos passed) (small_fits q.steps other)) few))
-    (subst (λ n. unsigned_abs ((p.steps *ℤ pos left) +ℤ (q.steps *ℤ pos passed)) ≤ 255 * n) all (size_of_weighted p.steps q.steps left passed small other))
+    subst (λ s. unsigned_abs s ≤ 255 * (q.frame - p.frame))
+    (sym (weighted_sum p.steps q.steps _ _ left passed small other
+    (c.weighted-left.ensures ∙ ap (λ s. s *ℤ pos left) (small_fits p.steps small))
+    (c.weighted-passed.ensures ∙ ap (λ s. s *ℤ pos passed) (small_fits q.steps other)) few))
+    (subst (λ n. unsigned_abs ((p.steps *ℤ pos left) +ℤ (q.steps *ℤ pos passed)) ≤ 255 * n) all
+    (size_of_weighted p.steps q.steps left passed small other))
 
 pub returns-clause-steps : goal.returns-clause-steps
 returns-clause-steps c =
@@ -22,9 +29,12 @@ returns-clause-steps c =
     let q = c.args.behind.now in
     let left = q.frame - c.args.frame in
     let passed = c.args.frame - p.frame in
-    let few : left + passed < 2 ^ 48 = omega (arith, c.requires.before, c.requires.behind, c.requires.behind_kept.frame) in
+    let few : left + passed < 2 ^ 48 =
+    omega (arith, c.requires.before, c.requires.behind, c.requires.behind_kept.frame) in
     let small = c.requires.kept.sound.1 in
     let other = c.requires.behind_kept.sound.1 in
     small_fits c.even.result c.even.ensures.most ∙ c.even.ensures.steps
     ∙ ap (λ n. int_div n (pos (q.frame - p.frame)))
-    (weighted_sum p.steps q.steps _ _ left passed small other (c.weighted-left.ensures ∙ ap (λ s. s *ℤ pos left) (small_fits p.steps small)) (c.weighted-passed.ensures ∙ ap (λ s. s *ℤ pos passed) (small_fits q.steps other)) few)
+    (weighted_sum p.steps q.steps _ _ left passed small other
+    (c.weighted-left.ensures ∙ ap (λ s. s *ℤ pos left) (small_fits p.steps small))
+    (c.weighted-passed.ensures ∙ ap (λ s. s *ℤ pos passed) (small_fits q.steps other)) few)

@@ -1,18 +1,20 @@
 -- What is before the area, and the area.
-use Rattle.std.proofs.Common.{rules, ◌≡◌, List, ℕ, ◌++◌, take, ap, ap₂}
+use Rattle.std.proofs.Common.{ap, ap₂, List, rules, take, ℕ, ◌++◌, ◌≡◌}
+use Rattle.frame_writer.proofs.WritingLaws.{err-map, ok-map, passed-two, prefix-piece, prefix-two}
+use Rattle.frame_writer.{proofs.frames.add_frame.Goals.In_ok-push_first, specs.Frames.area_in}
 use Rattle.outside.proofs.PassedLaws.{on_err, passed_there}
 use Rattle.side_info.specs.Frame.{front_of}
-use Rattle.frame_writer.specs.Frames.{area_in}
-use Rattle.frame_writer.proofs.WritingLaws.{ok-map, err-map, prefix-piece, passed-two, prefix-two}
 use Rattle.frame_writer.proofs.frames.add_frame.Given as given
 use Rattle.frame_writer.proofs.frames.add_frame.Goals as goal
-use Rattle.frame_writer.proofs.frames.add_frame.Goals.{In_ok-push_first}
 
 pub returns-in_err-push_first : goal.returns-in_err-push_first
 returns-in_err-push_first g c = record {
   passed = search rules;
   prefix = on_err c.from_residual.result
-      (prefix-piece c.args.name.now c.args.unsent.now _ _ (take (area_in c.args.first.now) c.args.areas.now.bytes) _ _ (ap (λ (xs : List ℕ). xs ++ take (area_in c.args.first.now) c.args.areas.now.bytes) c.put_in-size.ensures.front) c.in_err-push_first.ensures.prefix);
+      (prefix-piece c.args.name.now c.args.unsent.now _ _
+      (take (area_in c.args.first.now) c.args.areas.now.bytes) _ _
+      (ap (λ (xs : List ℕ). xs ++ take (area_in c.args.first.now) c.args.areas.now.bytes)
+      c.put_in-size.ensures.front) c.in_err-push_first.ensures.prefix);
   failed = search rules;
   done = search rules;
   counts = search rules;
@@ -23,16 +25,23 @@ add_first-requires-clause-there g c = passed_there c.in_ok-push_first.ensures.pa
 
 -- that and the area are the bytes of the frame
 both_are : (g : given.Over) (c : In_ok-push_first g) (n : ℕ) → n ≡ area_in c.args.first.now
-    → take c.put_in-size.result c.put_in-size.new.room ++ take n c.args.areas.now.bytes ≡ front_of c.args.first.now.header c.args.first.now.side ++ take (area_in c.args.first.now) c.args.areas.now.bytes
-both_are g c n is = ap₂ (λ (xs : List ℕ) m. xs ++ take m c.args.areas.now.bytes) c.put_in-size.ensures.front is
+    → take c.put_in-size.result c.put_in-size.new.room ++ take n c.args.areas.now.bytes
+    ≡ front_of c.args.first.now.header c.args.first.now.side
+    ++ take (area_in c.args.first.now) c.args.areas.now.bytes
+both_are g c n is =
+    ap₂ (λ (xs : List ℕ) m. xs ++ take m c.args.areas.now.bytes) c.put_in-size.ensures.front is
 
 pub returns : goal.returns
 returns g c = record {
   passed = ok-map c.add_first.result
-      (passed-two c.args.unsent.now (take c.put_in-size.result c.put_in-size.new.room) (take c.area.result c.args.areas.now.bytes) _ (both_are g (goal.at.returns g c).In_ok-push_first c.area.result c.area.ensures.area) c.in_ok-push_first.ensures.passed)
+      (passed-two c.args.unsent.now (take c.put_in-size.result c.put_in-size.new.room)
+      (take c.area.result c.args.areas.now.bytes) _ (both_are g (goal.at.returns g
+      c).In_ok-push_first c.area.result c.area.ensures.area) c.in_ok-push_first.ensures.passed)
       c.add_first.ensures.passed;
   prefix = err-map c.add_first.result
-      (prefix-two c.args.unsent.now (take c.put_in-size.result c.put_in-size.new.room) (take c.area.result c.args.areas.now.bytes) _ (both_are g (goal.at.returns g c).In_ok-push_first c.area.result c.area.ensures.area) c.in_ok-push_first.ensures.passed)
+      (prefix-two c.args.unsent.now (take c.put_in-size.result c.put_in-size.new.room)
+      (take c.area.result c.args.areas.now.bytes) _ (both_are g (goal.at.returns g
+      c).In_ok-push_first c.area.result c.area.ensures.area) c.in_ok-push_first.ensures.passed)
       c.add_first.ensures.prefix;
   failed = search rules;
   done = search rules;

@@ -1,6 +1,5 @@
 -- What the one body asks of the command.
-use Rattle.gain_edits.specs.declared.changes.Changes.TheVariants.{Move}
-use Rattle.gain_edits.proofs.Proper.{edit_proper}
+use Rattle.gain_edits.{proofs.Proper.edit_proper, specs.declared.changes.Changes.TheVariants.Move}
 use Rattle.gain_edits.proofs.calls.gain.Goals as goal
 
 pub make_one-requires-clause-proper : goal.make_one-requires-clause-proper

@@ -1,5 +1,5 @@
 -- None of the frames before is coded jointly.
-use Rattle.std.proofs.Common.{◌≡◌, drop}
+use Rattle.std.proofs.Common.{drop, ◌≡◌}
 use Rattle.gain_edits.specs.Channels.{joint_fault}
 use Rattle.gain_edits.proofs.channels.joint_fault.Given as goal
 

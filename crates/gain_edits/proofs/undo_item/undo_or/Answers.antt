@@ -1,10 +1,17 @@
 -- The item is within the tag, and the tag within the file.
-use Rattle.std.proofs.Common.{sym, ◌∙◌, arith}
-use Rattle.sync_survey.specs.Faults.{tells}
-use Rattle.moved_gains.proofs.TagEnds.{tag_end-most}
+use Rattle.std.proofs.Common.{arith, sym, ◌∙◌}
 use Rattle.gain_edits.proofs.Refusals.{bad_place}
+use Rattle.moved_gains.proofs.TagEnds.{tag_end-most}
+use Rattle.sync_survey.specs.Faults.{tells}
 use Rattle.gain_edits.proofs.undo_item.undo_or.Goals as goal
 
 pub overflow_add-at : goal.overflow_add-at
 overflow_add-at c =
-    omega (arith, tag_end-most (tells c.args.survey.now) c.requires, c.tag_place-at.ensures.offset, c.length.ensures.length, c.length.ensures.most, bad_place 32 c.args.tag.now.items c.in-Bad.place (sym c.undo.ensures ∙ c.in-Bad.is))
+    omega (
+      arith,
+      tag_end-most (tells c.args.survey.now) c.requires,
+      c.tag_place-at.ensures.offset,
+      c.length.ensures.length,
+      c.length.ensures.most,
+      bad_place 32 c.args.tag.now.items c.in-Bad.place (sym c.undo.ensures ∙ c.in-Bad.is),
+    )

@@ -4,4 +4,5 @@ use Rattle.info_header.proofs.InfoLaws.{place-set}
 use Rattle.info_header.proofs.fields.place_behind.Goals as goal
 
 pub returns-then-is_set-clause-place : goal.returns-then-is_set-clause-place
-returns-then-is_set-clause-place c = place-set c.args.flags c.args.field c.args.at c.requires.place (sym c.is_set.ensures ∙ c.if-is_set.true)
+returns-then-is_set-clause-place c = place-set c.args.flags c.args.field c.args.at c.requires.place
+    (sym c.is_set.ensures ∙ c.if-is_set.true)

@@ -1,9 +1,8 @@
 -- One entry more.
-use Rattle.std.proofs.Common.{◌≡◌, ◌+◌, ◌-◌, ◌*◌, ◌/◌, ◌≤◌, length, take, drop, ap, ◌∙◌, arith}
-use Rattle.std.proofs.lemmas.List.{length-take-le, length-drop, length-set}
-use Rattle.info_header.specs.Over.{bytes_of}
-use Rattle.info_header.specs.Info.{entry_of}
-use Rattle.info_header.proofs.OverLaws.{bytes-between, place-within, place-rises, entries-more}
+use Rattle.std.proofs.Common.{ap, arith, drop, length, take, ◌*◌, ◌+◌, ◌-◌, ◌/◌, ◌∙◌, ◌≡◌, ◌≤◌}
+use Rattle.std.proofs.lemmas.List.{length-drop, length-set, length-take-le}
+use Rattle.info_header.proofs.OverLaws.{bytes-between, entries-more, place-rises, place-within}
+use Rattle.info_header.specs.{Info.entry_of, Over.bytes_of}
 use Rattle.info_header.proofs.over.table_over.Goals as goal
 
 pub loop-i-preserved : goal.loop-i-preserved
@@ -15,16 +14,27 @@ loop-i-preserved g c =
     let next = i * length frames / 100 in
     let so_far = c.loop-i.invariant in
     let part = take (next - at) (drop at frames) in
-    let bytes : c.loop-i.offset + c.bytes_in-offset.result ≡ c.args.before + bytes_of c.args.class slot_of (take next frames) =
-    omega (arith, so_far.bytes, c.bytes_in-offset.ensures.bytes, bytes-between c.args.class slot_of frames at next so_far.early) in
-    let within : next ≤ length frames = place-within i (length frames) (omega (arith, c.loop-i-test.true)) in
-    let many : length part ≡ next - at = length-take-le (next - at) (drop at frames) (omega (arith, length-drop at frames, within, so_far.early)) in
+    let bytes : c.loop-i.offset + c.bytes_in-offset.result
+    ≡ c.args.before + bytes_of c.args.class slot_of (take next frames) =
+    omega (
+      arith,
+      so_far.bytes,
+      c.bytes_in-offset.ensures.bytes,
+      bytes-between c.args.class slot_of frames at next so_far.early,
+    ) in
+    let within : next ≤ length frames =
+    place-within i (length frames) (omega (arith, c.loop-i-test.true)) in
+    let many : length part ≡ next - at = length-take-le (next - at) (drop at frames)
+    (omega (arith, length-drop at frames, within, so_far.early)) in
     record {
       many = length-set c.loop-i.table i c.entry.result ∙ so_far.many;
       early = place-rises i (length frames);
       bytes = bytes;
       most = omega (arith, so_far.most, c.bytes_in-offset.ensures.most, many, so_far.early);
       entries =
-          entries-more (λ k. c.args.before + bytes_of c.args.class slot_of (take (k * length frames / 100) frames)) c.args.bytes i c.entry.result c.loop-i.table so_far.many
-          (omega (arith, c.loop-i-test.true)) (c.entry.ensures ∙ ap (λ n. entry_of n c.args.bytes) bytes) so_far.entries;
+          entries-more (λ k. c.args.before
+          + bytes_of c.args.class slot_of (take (k * length frames / 100) frames)) c.args.bytes i
+          c.entry.result c.loop-i.table so_far.many
+          (omega (arith, c.loop-i-test.true))
+          (c.entry.ensures ∙ ap (λ n. entry_of n c.args.bytes) bytes) so_far.entries;
     }

@@ -1,7 +1,6 @@
 -- The offset of the next frame that has an entry, and the entries so far.
-use Rattle.std.proofs.Common.{◌≡◌, ℕ, ◌+◌, ◌*◌, ◌/◌, ◌<◌, ◌≤◌, length, take, slice_index}
-use Rattle.info_header.specs.Info.{entry_of}
-use Rattle.info_header.specs.Over.{bytes_of}
+use Rattle.std.proofs.Common.{length, slice_index, take, ℕ, ◌*◌, ◌+◌, ◌/◌, ◌<◌, ◌≡◌, ◌≤◌}
+use Rattle.info_header.specs.{Info.entry_of, Over.bytes_of}
 use Rattle.info_header.proofs.over.table_over.Given as goal
 
 abbrev pub invariant-loop-i : goal.invariant-loop-i
@@ -10,5 +9,6 @@ invariant-loop-i g l = record {
   early : l.at ≤ l.i * length l.frames / 100;
   bytes : l.offset ≡ l.before + bytes_of l.class g.F.InSlot.slot_of (take l.at l.frames);
   most : l.offset ≤ l.before + 1441 * l.at;
-  entries : (k : ℕ) → k < l.i → slice_index l.table k ≡ entry_of (l.before + bytes_of l.class g.F.InSlot.slot_of (take (k * length l.frames / 100) l.frames)) l.bytes;
+  entries : (k : ℕ) → k < l.i → slice_index l.table k ≡ entry_of (l.before
+      + bytes_of l.class g.F.InSlot.slot_of (take (k * length l.frames / 100) l.frames)) l.bytes;
 }

@@ -1,5 +1,5 @@
 -- Past the end there is no text.
-use Rattle.std.proofs.Common.{◌⊎◌, ℕ, ◌+◌, ◌<◌, length, sym, inl, inr, arith}
+use Rattle.std.proofs.Common.{arith, inl, inr, length, sym, ℕ, ◌+◌, ◌<◌, ◌⊎◌}
 use Rattle.info_header.proofs.HeadTextLaws.{has_text-short}
 use Rattle.info_header.proofs.text.has_text.Goals as goal
 
@@ -8,4 +8,5 @@ past at end (inl none) = absurd (omega arith)
 past at end (inr short) = short
 
 pub returns-in-None-clause-text : goal.returns-in-None-clause-text
-returns-in-None-clause-text c = sym (has_text-short c.args.at c.args.frame.now (past c.args.at (length c.args.frame.now) c.in-None.ensures.lookup.0))
+returns-in-None-clause-text c = sym (has_text-short c.args.at c.args.frame.now
+    (past c.args.at (length c.args.frame.now) c.in-None.ensures.lookup.0))

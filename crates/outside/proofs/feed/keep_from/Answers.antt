@@ -1,5 +1,5 @@
 -- What is kept is what was held from an offset on, so it is what is there in the file.
-use Rattle.std.proofs.Common.{◌≡◌, ◌+◌, ◌-◌, take, drop, sym, ◌∙◌, ap, arith}
+use Rattle.std.proofs.Common.{ap, arith, drop, sym, take, ◌+◌, ◌-◌, ◌∙◌, ◌≡◌}
 use Rattle.std.proofs.lemmas.List.{drop-drop, drop-take}
 use Rattle.outside.proofs.FeedLaws.{moved_front}
 use Rattle.outside.proofs.feed.keep_from.Goals as goal

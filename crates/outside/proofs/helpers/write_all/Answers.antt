@@ -1,7 +1,6 @@
-use Rattle.std.proofs.Common.{◌≡◌, ◌+◌, take, refl, sym, ◌∙◌, subst, arith, length-drop}
-use Rattle.outside.specs.Files.{appended, IsThere}
+use Rattle.std.proofs.Common.{arith, length-drop, refl, subst, sym, take, ◌+◌, ◌∙◌, ◌≡◌}
 use Rattle.outside.proofs.FilesLaws.{appended_nothing, appended_there}
-use Rattle.outside.proofs.Pieces.{part_from, appended_then}
+use Rattle.outside.{proofs.Pieces.{appended_then, part_from}, specs.Files.{appended, IsThere}}
 use Rattle.outside.proofs.helpers.write_all.Goals as goal
 
 pub loop-done-init : goal.loop-done-init
@@ -17,10 +16,16 @@ loop-done-preserved g c =
     let seen = g.D.Folder.seen in
     let bytes = c.args.bytes.now in
     let name = c.args.name.now in
-    let written : (seen c.write.new.self).files ≡ appended (seen c.args.folder.now).files name (take (c.loop-done.done + c.in_ok-done.field-0) bytes) =
-    appended_then _ _ _ name bytes _ _ c.loop-done.invariant.written (rw part_from at c.in_ok-done.ensures.answer.written) in
+    let written : (seen c.write.new.self).files ≡ appended (seen c.args.folder.now).files name
+    (take (c.loop-done.done + c.in_ok-done.field-0) bytes) =
+    appended_then _ _ _ name bytes _ _
+    c.loop-done.invariant.written (rw part_from at c.in_ok-done.ensures.answer.written) in
     record {
-      in_range = omega (arith, rw part_from at c.in_ok-done.ensures.answer.bound, length-drop c.loop-done.done bytes);
+      in_range = omega (
+        arith,
+        rw part_from at c.in_ok-done.ensures.answer.bound,
+        length-drop c.loop-done.done bytes,
+      );
       written = written;
       there = subst (λ f. IsThere f name) (sym written) (appended_there _ name _);
       counts = c.in_ok-done.ensures.answer.done ∙ c.loop-done.invariant.counts;

@@ -8,7 +8,8 @@ returns-in_err-write_all g c = record {
   few = search rules;
   written = search rules;
   prefix = let h = c.in_err-write_all.ensures.front in
-      on_err c.from_residual.result (prefix_of_front _ (record { count = h.0; short = h.1; files = h.2 }));
+      on_err c.from_residual.result (prefix_of_front _
+      (record { count = h.0; short = h.1; files = h.2 }));
   failed = search rules;
   done = search rules;
   counts = search rules;

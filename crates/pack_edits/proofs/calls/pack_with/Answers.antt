@@ -1,6 +1,5 @@
 -- What the one body asks of the command.
-use Rattle.pack_edits.proofs.ModeLaws.{mode_proper}
-use Rattle.pack_edits.proofs.PackedLengths.{run-fewest}
+use Rattle.pack_edits.proofs.{ModeLaws.mode_proper, PackedLengths.run-fewest}
 use Rattle.pack_edits.proofs.calls.pack_with.Goals as goal
 
 pub make_one-requires-clause-proper : goal.make_one-requires-clause-proper
@@ -9,4 +8,5 @@ make_one-requires-clause-proper g c = mode_proper c.args.mode.now c.args.input.n
 pub returns-clause-fewest : goal.returns-clause-fewest
 returns-clause-fewest g c =
     let seen = g.D.Folder.seen in
-    run-fewest c.args.mode.now c.args.input.now c.args.output.now (seen c.args.folder.now) (seen c.make_one.new.folder) c.make_one.result c.make_one.ensures
+    run-fewest c.args.mode.now c.args.input.now c.args.output.now (seen c.args.folder.now)
+    (seen c.make_one.new.folder) c.make_one.result c.make_one.ensures

@@ -1,12 +1,10 @@
 -- Where the input has no fault with fewer frames allowed, it has none with more.
-use Rattle.std.proofs.Common.{◌≡◌, Ok, subst}
-use Rattle.std.proofs.lemmas.Result.{IfErr-weaker, IfOk-weaker}
-use Rattle.sync_survey.specs.Faults.{tells}
-use Rattle.sync_survey.specs.Survey.{survey_of}
-use Rattle.commands.specs.One.{most_frames, IsFileFault}
-use Rattle.pack_edits.specs.Modes.{allowed_by}
+use Rattle.std.proofs.{Common.{Ok, subst, ◌≡◌}, lemmas.Result.{IfErr-weaker, IfOk-weaker}}
+use Rattle.commands.specs.One.{IsFileFault, most_frames}
 use Rattle.pack_edits.proofs.LimitLaws.{survey_of-more}
 use Rattle.pack_edits.proofs.ModeLaws.{allowed-most, mode_survey, mode_survey_numbers}
+use Rattle.pack_edits.specs.Modes.{allowed_by}
+use Rattle.sync_survey.specs.{Faults.tells, Survey.survey_of}
 use Rattle.pack_edits.proofs.inputs.survey_packed.Goals as goal
 
 pub returns : goal.returns
@@ -17,7 +15,9 @@ returns g c =
       there = c.survey_at.ensures.there;
       surveyed =
           IfOk-weaker c.survey_at.result _ _
-          (λ s is bytes holds. survey_of-more bytes (allowed_by c.args.mode) most_frames (tells s) (allowed-most c.args.mode) (subst (λ n. survey_of bytes n ≡ Ok (tells s)) c.allowed.ensures (is bytes holds)))
+          (λ s is bytes holds. survey_of-more bytes (allowed_by c.args.mode) most_frames (tells s)
+          (allowed-most c.args.mode)
+          (subst (λ n. survey_of bytes n ≡ Ok (tells s)) c.allowed.ensures (is bytes holds)))
           c.survey_at.ensures.surveyed;
       limited = rw c.allowed.ensures at c.survey_at.ensures.surveyed;
       laid = c.survey_at.ensures.laid;
@@ -25,8 +25,10 @@ returns g c =
       octets = c.survey_at.ensures.octets;
       refused =
           IfErr-weaker c.survey_at.result _ _
-          (λ fault is. mode_survey c.args.mode c.args.name.now old new fault (subst (λ n. IsFileFault 0 n c.args.name.now old new fault) c.allowed.ensures is))
+          (λ fault is. mode_survey c.args.mode c.args.name.now old new fault
+          (subst (λ n. IsFileFault 0 n c.args.name.now old new fault) c.allowed.ensures is))
           c.survey_at.ensures.refused;
-      numbers = IfErr-weaker c.survey_at.result _ _ (λ fault is. mode_survey_numbers c.args.mode c.args.name.now fault is) c.survey_at.ensures.numbers;
+      numbers = IfErr-weaker c.survey_at.result _ _ (λ fault is.
+          mode_survey_numbers c.args.mode c.args.name.now fault is) c.survey_at.ensures.numbers;
       reads = c.survey_at.ensures.reads;
     }

@@ -1,5 +1,5 @@
 -- The slots so far that are allowed.
-use Rattle.std.proofs.Common.{◌≡◌, ◌≤◌, take, filter}
+use Rattle.std.proofs.Common.{filter, take, ◌≡◌, ◌≤◌}
 use Rattle.arrayvec.specs.ArrayVec.{array_vec_len}
 use Rattle.pack_edits.specs.Rates.{allows}
 use Rattle.pack_edits.proofs.menu.allowed_of.Given as goal

@@ -1,25 +1,35 @@
 -- By the plan the frames can be laid.
-use Rattle.std.proofs.Common.{Ok, sym, ◌∙◌, ap, arith}
-use Rattle.std.proofs.lemmas.List.{length-map}
-use Rattle.slot_plan.specs.Plans.{entries}
-use Rattle.laying.specs.Needs.{need_of}
-use Rattle.sync_survey.specs.Faults.{tells}
+use Rattle.std.proofs.{Common.{ap, arith, Ok, sym, ◌∙◌}, lemmas.List.length-map}
 use Rattle.commands.specs.Refusing.{then_made}
 use Rattle.cut_edits.specs.Chosen.{chosen_in, chosen_rows, laid_by}
-use Rattle.pack_edits.proofs.PlanLaws.{rows-few}
-use Rattle.pack_edits.proofs.ModeLaws.{allowed-most, mode-fitting}
+use Rattle.laying.specs.Needs.{need_of}
+use Rattle.pack_edits.proofs.{ModeLaws.{allowed-most, mode-fitting}, PlanLaws.rows-few}
+use Rattle.slot_plan.specs.Plans.{entries}
+use Rattle.sync_survey.specs.Faults.{tells}
 use Rattle.pack_edits.proofs.plans.plan_packed.Goals as goal
 
 pub new-requires-clause-few : goal.new-requires-clause-few
 new-requires-clause-few c =
     let s = tells c.args.survey.now in
     let chosen = chosen_in c.args.chosen.now in
-    let is = mode-fitting chosen s c.requires.laid.placed c.requires.some c.requires.within c.args.mode (entries c.in_ok-plan.plan) c.in_ok-plan.ensures in
-    omega (arith, is.few, length-map (chosen_rows chosen s) need_of, rows-few chosen s c.requires.laid.placed c.requires.some c.requires.within, c.requires.few, allowed-most c.args.mode)
+    let is = mode-fitting chosen s c.requires.laid.placed c.requires.some c.requires.within
+    c.args.mode (entries c.in_ok-plan.plan) c.in_ok-plan.ensures in
+    omega (
+      arith,
+      is.few,
+      length-map (chosen_rows chosen s) need_of,
+      rows-few chosen s c.requires.laid.placed c.requires.some c.requires.within,
+      c.requires.few,
+      allowed-most c.args.mode,
+    )
 
 pub new-requires-clause-fitting : goal.new-requires-clause-fitting
 new-requires-clause-fitting c =
-    (mode-fitting (chosen_in c.args.chosen.now) (tells c.args.survey.now) c.requires.laid.placed c.requires.some c.requires.within c.args.mode (entries c.in_ok-plan.plan) c.in_ok-plan.ensures).fitting
+    (mode-fitting (chosen_in c.args.chosen.now) (tells c.args.survey.now)
+    c.requires.laid.placed c.requires.some c.requires.within c.args.mode (entries c.in_ok-plan.plan)
+    c.in_ok-plan.ensures).fitting
 
 pub returns-clause-laid : goal.returns-clause-laid
-returns-clause-laid c = ap (λ r. then_made r (λ placed. Ok (laid_by (chosen_in c.args.chosen.now) placed))) c.in_ok-plan.ensures ∙ ap Ok (sym c.new.ensures.laid)
+returns-clause-laid c =
+    ap (λ r. then_made r (λ placed. Ok (laid_by (chosen_in c.args.chosen.now) placed)))
+    c.in_ok-plan.ensures ∙ ap Ok (sym c.new.ensures.laid)

@@ -1,12 +1,9 @@
 -- The frames are one part.
-use Rattle.std.proofs.Common.{false, map, sym, subst, arith}
+use Rattle.std.proofs.Common.{arith, false, map, subst, sym}
 use Rattle.frame_header.specs.Tables.{window_of}
-use Rattle.slot_plan.specs.Layouts.{IsFeasible}
-use Rattle.slot_plan.specs.Parts.{areas_with, AreOfClass}
-use Rattle.slot_plan.specs.Reserve.{greatest}
-use Rattle.rate_plan.specs.Menus.{IsMenuPlan}
-use Rattle.rate_plan.proofs.FitLaws.{top_frame, laid-feasible}
-use Rattle.rate_plan.proofs.PlacingLaws.{window-most, menu-part}
+use Rattle.rate_plan.proofs.FitLaws.{laid-feasible, top_frame}
+use Rattle.rate_plan.{proofs.PlacingLaws.{menu-part, window-most}, specs.Menus.IsMenuPlan}
+use Rattle.slot_plan.specs.{Layouts.IsFeasible, Parts.{areas_with, AreOfClass}, Reserve.greatest}
 use Rattle.rate_plan.proofs.planning.fit_plan.Goals as goal
 
 pub place_part-requires : goal.place_part-requires
@@ -16,14 +13,21 @@ place_part-requires c =
     let needs = c.args.needs.now in
     let frames = map (top_frame menu) needs in
     let same = sym c.in_ok-table.ensures.class_is in
-    let feasible = laid-feasible (window_of class.version) class menu needs c.requires.needs.class_is c.requires.needs.some c.requires.fits in
+    let feasible = laid-feasible (window_of class.version) class menu needs
+    c.requires.needs.class_is c.requires.needs.some c.requires.fits in
     record {
-      table = record { class = subst (λ k. AreOfClass k needs) same c.requires.needs.class_is; of_slots = c.in_ok-table.ensures.of_slots };
+      table = record {
+        class = subst (λ k. AreOfClass k needs) same c.requires.needs.class_is;
+        of_slots = c.in_ok-table.ensures.of_slots;
+      };
       part = record {
         some = omega (arith, c.requires.needs.some);
         most = omega (arith, c.window.ensures.window, window-most class.version);
-        feasible = subst (λ w. IsFeasible w (greatest (areas_with c.in_ok-table.table.lengths false menu)) frames) (sym c.window.ensures.window)
-            (subst (λ k. IsFeasible (window_of class.version) (greatest (areas_with k false menu)) frames) same feasible);
+        feasible =
+            subst (λ w. IsFeasible w (greatest (areas_with c.in_ok-table.table.lengths false menu))
+            frames) (sym c.window.ensures.window)
+            (subst (λ k. IsFeasible (window_of class.version)
+            (greatest (areas_with k false menu)) frames) same feasible);
       };
       free = omega arith;
     }
@@ -32,5 +36,8 @@ pub returns : goal.returns
 returns c =
     let needs = c.args.needs.now in
     let placed = c.place_part.new.placed.items in
-    subst (IsMenuPlan (window_of c.args.class.version) c.args.menu.now needs) (sym c.from_placed.ensures)
-    (subst (λ w. IsMenuPlan w c.args.menu.now needs placed) c.window.ensures.window (menu-part c.window.result c.args.menu.now needs _ c.in_ok-placed.placed.items placed c.in_ok-placed.ensures.items c.in_ok-place_part.ensures.placed))
+    subst (IsMenuPlan (window_of c.args.class.version) c.args.menu.now needs)
+    (sym c.from_placed.ensures)
+    (subst (λ w. IsMenuPlan w c.args.menu.now needs placed) c.window.ensures.window
+    (menu-part c.window.result c.args.menu.now needs _ c.in_ok-placed.placed.items placed
+    c.in_ok-placed.ensures.items c.in_ok-place_part.ensures.placed))

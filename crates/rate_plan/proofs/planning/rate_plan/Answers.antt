@@ -1,20 +1,21 @@
 -- The first unfit frame, or the plan.
 use Rattle.std.proofs.Common.{rules}
-use Rattle.slot_plan.proofs.PartLaws.{one-class}
 use Rattle.rate_plan.proofs.LeastMenuPlan.{plan-answered, unfit-answered}
-use Rattle.slot_plan.specs.Plans.{entries}
+use Rattle.slot_plan.{proofs.PartLaws.one-class, specs.Plans.entries}
 use Rattle.rate_plan.proofs.planning.rate_plan.Goals as goal
 
 pub first_unfit-requires-clause-needs : goal.first_unfit-requires-clause-needs
 first_unfit-requires-clause-needs c = record {
-  class_is = one-class c.class-class.result c.args.needs.now c.index-needs-0.result c.requires.class c.class-class.ensures;
+  class_is = one-class c.class-class.result c.args.needs.now c.index-needs-0.result c.requires.class
+      c.class-class.ensures;
   some = c.requires.some;
   few = c.requires.few;
 }
 
 pub fit_plan-requires-clause-needs : goal.fit_plan-requires-clause-needs
 fit_plan-requires-clause-needs c = record {
-  class_is = one-class c.class-class.result c.args.needs.now c.index-needs-0.result c.requires.class c.class-class.ensures;
+  class_is = one-class c.class-class.result c.args.needs.now c.index-needs-0.result c.requires.class
+      c.class-class.ensures;
   some = c.requires.some;
   few = c.requires.few;
 }
@@ -23,12 +24,16 @@ pub returns-in-Some : goal.returns-in-Some
 returns-in-Some c = record {
   plan = tt;
   refusal = search rules;
-  least = unfit-answered c.class-class.result c.args.menu.now c.args.needs.now c.index-needs-0.result c.requires.class c.requires.some c.class-class.ensures c.requires.ascending c.in-Some.i c.in-Some.ensures;
+  least = unfit-answered c.class-class.result c.args.menu.now c.args.needs.now
+      c.index-needs-0.result c.requires.class c.requires.some c.class-class.ensures
+      c.requires.ascending c.in-Some.i c.in-Some.ensures;
 }
 
 pub returns : goal.returns
 returns c = record {
   plan = search rules;
   refusal = tt;
-  least = plan-answered c.class-class.result c.args.menu.now c.args.needs.now c.index-needs-0.result c.requires.class c.requires.some c.class-class.ensures c.requires.ascending (entries c.in_ok-fit_plan.field-0) c.in_ok-fit_plan.ensures;
+  least = plan-answered c.class-class.result c.args.menu.now c.args.needs.now c.index-needs-0.result
+      c.requires.class c.requires.some c.class-class.ensures c.requires.ascending
+      (entries c.in_ok-fit_plan.field-0) c.in_ok-fit_plan.ensures;
 }

@@ -1,45 +1,61 @@
 -- One frame more, and the first that doesn't fit.
-use Rattle.std.proofs.Common.{◌≡◌, ◌∙◌, true, false, ap, subst, arith}
+use Rattle.std.proofs.Common.{ap, arith, false, subst, true, ◌∙◌, ◌≡◌}
+use Rattle.rate_plan.proofs.FitLaws.{area-at, most_area, to-all, to-begun, to-more, to-unfit}
+use Rattle.rate_plan.specs.{LargestAreas.largest_for, Menus.{CanBeLaidFrom, IsUnfit}}
 use Rattle.slot_plan.specs.Reserve.{free_behind}
-use Rattle.rate_plan.specs.LargestAreas.{largest_for}
-use Rattle.rate_plan.specs.Menus.{CanBeLaidFrom, IsUnfit}
-use Rattle.rate_plan.proofs.FitLaws.{most_area, area-at, to-begun, to-more, to-all, to-unfit}
 use Rattle.rate_plan.proofs.unfit.first_unfit.Goals as goal
 
 pub loop-i-init : goal.loop-i-init
 loop-i-init c = record {
   free = c.free_behind-free.ensures.within;
-  fit = to-begun c.window-window.result c.args.class c.args.menu.now c.args.needs.now c.free_behind-free.result
-      (c.free_behind-free.ensures.free ∙ ap (λ n. free_behind c.window-window.result 0 0 n) (c.area.ensures ∙ c.of_menu-largest.ensures.are false));
+  fit = to-begun c.window-window.result c.args.class c.args.menu.now c.args.needs.now
+      c.free_behind-free.result
+      (c.free_behind-free.ensures.free ∙ ap (λ n. free_behind c.window-window.result 0 0 n)
+      (c.area.ensures ∙ c.of_menu-largest.ensures.are false));
 }
 
 pub returns-then-need-free : goal.returns-then-need-free
 returns-then-need-free c =
     let need = c.index-needs-i.result in
     let area : c.area-area.result ≡ most_area c.args.menu.now need =
-    c.area-area.ensures ∙ ap (λ n. largest_for c.of_menu-largest.result n.header.protected) c.need.view_is
-    ∙ c.of_menu-largest.ensures.are need.header.protected ∙ area-at c.args.class c.args.menu.now c.args.needs.now c.loop-i.i need c.requires.needs.class_is c.loop-i-test.true c.index-needs-i.is in
-    subst (λ n. IsUnfit n c.args.menu.now c.args.needs.now c.loop-i.i) c.window-window.ensures.window
-    (to-unfit c.window-window.result c.args.class c.args.menu.now c.args.needs.now c.loop-i.i need c.loop-i.free c.loop-i-test.true c.index-needs-i.is
-    (omega (arith, c.if-need-free.true, area, ap (λ n. n.bytes) c.need.view_is)) c.requires.needs.class_is c.requires.menu.slots c.loop-i.invariant.fit)
+    c.area-area.ensures
+    ∙ ap (λ n. largest_for c.of_menu-largest.result n.header.protected) c.need.view_is
+    ∙ c.of_menu-largest.ensures.are need.header.protected
+    ∙ area-at c.args.class c.args.menu.now c.args.needs.now c.loop-i.i need
+    c.requires.needs.class_is c.loop-i-test.true c.index-needs-i.is in
+    subst (λ n. IsUnfit n c.args.menu.now c.args.needs.now c.loop-i.i)
+    c.window-window.ensures.window
+    (to-unfit c.window-window.result c.args.class c.args.menu.now c.args.needs.now c.loop-i.i need
+    c.loop-i.free c.loop-i-test.true c.index-needs-i.is
+    (omega (arith, c.if-need-free.true, area, ap (λ n. n.bytes) c.need.view_is))
+    c.requires.needs.class_is c.requires.menu.slots c.loop-i.invariant.fit)
 
 pub loop-i-preserved : goal.loop-i-preserved
 loop-i-preserved c =
     let need = c.index-needs-i.result in
     let area : c.area-area.result ≡ most_area c.args.menu.now need =
-    c.area-area.ensures ∙ ap (λ n. largest_for c.of_menu-largest.result n.header.protected) c.need.view_is
-    ∙ c.of_menu-largest.ensures.are need.header.protected ∙ area-at c.args.class c.args.menu.now c.args.needs.now c.loop-i.i need c.requires.needs.class_is c.loop-i-test.true c.index-needs-i.is in
+    c.area-area.ensures
+    ∙ ap (λ n. largest_for c.of_menu-largest.result n.header.protected) c.need.view_is
+    ∙ c.of_menu-largest.ensures.are need.header.protected
+    ∙ area-at c.args.class c.args.menu.now c.args.needs.now c.loop-i.i need
+    c.requires.needs.class_is c.loop-i-test.true c.index-needs-i.is in
     record {
       free = c.free_behind-free-in-loop-i.ensures.within;
-      fit = to-more c.window-window.result c.args.class c.args.menu.now c.args.needs.now c.loop-i.i need c.loop-i.free c.free_behind-free-in-loop-i.result c.loop-i-test.true c.index-needs-i.is
+      fit = to-more c.window-window.result c.args.class c.args.menu.now c.args.needs.now c.loop-i.i
+          need
+          c.loop-i.free c.free_behind-free-in-loop-i.result c.loop-i-test.true c.index-needs-i.is
           (omega (arith, c.if-need-free.false, area, ap (λ n. n.bytes) c.need.view_is))
           (c.free_behind-free-in-loop-i.ensures.free
-          ∙ ap (λ n. free_behind c.window-window.result c.loop-i.free n.bytes c.area-area.result) c.need.view_is
+          ∙ ap (λ n. free_behind c.window-window.result c.loop-i.free n.bytes c.area-area.result)
+          c.need.view_is
           ∙ ap (λ n. free_behind c.window-window.result c.loop-i.free need.bytes n) area)
           c.loop-i.invariant.fit;
     }
 
 pub returns : goal.returns
 returns c =
-    subst (λ n. CanBeLaidFrom n true c.args.menu.now c.args.needs.now) c.window-window.ensures.window
-    (to-all c.window-window.result c.args.class c.args.menu.now c.args.needs.now c.loop-i.i c.loop-i.free (omega (arith, c.loop-i-test.false)) c.requires.needs.class_is c.requires.needs.some c.requires.menu.slots c.loop-i.invariant.fit)
+    subst (λ n. CanBeLaidFrom n true c.args.menu.now c.args.needs.now)
+    c.window-window.ensures.window
+    (to-all c.window-window.result c.args.class c.args.menu.now c.args.needs.now c.loop-i.i
+    c.loop-i.free (omega (arith, c.loop-i-test.false))
+    c.requires.needs.class_is c.requires.needs.some c.requires.menu.slots c.loop-i.invariant.fit)

@@ -1,7 +1,8 @@
 -- Whether the name is these texts is whether the rest is those that are left.
-use Rattle.std.proofs.Common.{◌≡◌, drop, flat_map, bytes_eq}
+use Rattle.std.proofs.Common.{bytes_eq, drop, flat_map, ◌≡◌}
 use Rattle.requests.proofs.names.is_joined.Given as goal
 
 abbrev pub invariant-loop-part : goal.invariant-loop-part
 invariant-loop-part l =
-    bytes_eq l.name (flat_map (λ part. part.now) l.parts) ≡ bytes_eq l.rest (flat_map (λ part. part.now) (drop l.part-index l.parts))
+    bytes_eq l.name (flat_map (λ part. part.now) l.parts)
+    ≡ bytes_eq l.rest (flat_map (λ part. part.now) (drop l.part-index l.parts))

@@ -1,7 +1,8 @@
 -- None of the names before was this one.
-use Rattle.std.proofs.Common.{◌≡◌, ℕ, ◌+◌, ◌<◌, false, bytes_eq}
+use Rattle.std.proofs.Common.{bytes_eq, false, ℕ, ◌+◌, ◌<◌, ◌≡◌}
 use Rattle.requests.specs.Names.{piece_name}
 use Rattle.requests.proofs.names.is_piece_name.Given as goal
 
 abbrev pub invariant-loop-before : goal.invariant-loop-before
-invariant-loop-before l = (k : ℕ) → k < l.before → bytes_eq l.name (piece_name l.prefix (k + 1)) ≡ false
+invariant-loop-before l =
+    (k : ℕ) → k < l.before → bytes_eq l.name (piece_name l.prefix (k + 1)) ≡ false

@@ -1,5 +1,5 @@
 -- The prefix, the digits and the ending.
-use Rattle.std.proofs.Common.{refl, append-nil}
+use Rattle.std.proofs.Common.{append-nil, refl}
 use Rattle.requests.specs.Names.{piece_name}
 use Rattle.requests.proofs.names.name_parts.Goals as goal
 

@@ -1,20 +1,20 @@
 -- The frame is whole and usable, so it is the item that is read.
-use Rattle.std.proofs.Common.{◌≡◌, ◌<◌, ◌&&◌, Bool, true, Ok, refl, sym, ◌∙◌, ap, ap₂, arith}
-use Rattle.frame_header.specs.Fields.{HeaderFields, same_class}
+use Rattle.std.proofs.Common.{ap, ap₂, arith, Bool, Ok, refl, sym, true, ◌&&◌, ◌<◌, ◌∙◌, ◌≡◌}
+use Rattle.frame_header.{proofs.ClassLaws.some_of_class, specs.Fields.{HeaderFields, same_class}}
 use Rattle.frame_header.specs.Tables.{class_of, length_of}
-use Rattle.sync_survey.specs.declared.items.Item.TheVariants.{Frame}
-use Rattle.sync_survey.specs.declared.runs.Part.TheVariants.{Stream}
-use Rattle.sync_survey.specs.Items.{header_front, item_front, size_of}
-use Rattle.sync_survey.proofs.ItemsLaws.{frame_of_header, some_by}
-use Rattle.frame_header.proofs.ClassLaws.{some_of_class}
-use Rattle.salvage.specs.declared.usable.Role.TheVariants.{Later}
-use Rattle.salvage.specs.Steps.{admits_item}
-use Rattle.salvage.proofs.UsableLaws.{room_shown, step_whole, item_taken}
-use Rattle.salvage.proofs.later.later_frame.Goals as goal
+use Rattle.salvage.proofs.UsableLaws.{item_taken, room_shown, step_whole}
 use Rattle.salvage.proofs.later.later_frame.Goals.{After-from-size, Else-not-has_right_word}
+use Rattle.salvage.specs.{Steps.admits_item, declared.usable.Role.TheVariants.Later}
+use Rattle.sync_survey.proofs.ItemsLaws.{frame_of_header, some_by}
+use Rattle.sync_survey.specs.Items.{header_front, item_front, size_of}
+use Rattle.sync_survey.specs.declared.{items.Item.TheVariants.Frame, runs.Part.TheVariants.Stream}
+use Rattle.salvage.proofs.later.later_frame.Goals as goal
 
-header_is : (c : After-from-size) → (header_front c.args.front.now ≡ Ok c.in_ok-header.header) × (class_of c.in_ok-header.header ≡ c.args.class) × (same_class (class_of c.in_ok-header.header) c.args.class ≡ true)
-header_is c = some_of_class c.args.class _ c.in_ok-header.header (sym c.header_of_class.ensures ∙ c.in_ok-header.was)
+header_is : (c : After-from-size) → (header_front c.args.front.now ≡ Ok c.in_ok-header.header)
+    × (class_of c.in_ok-header.header ≡ c.args.class)
+    × (same_class (class_of c.in_ok-header.header) c.args.class ≡ true)
+header_is c = some_of_class c.args.class _
+    c.in_ok-header.header (sym c.header_of_class.ensures ∙ c.in_ok-header.was)
 
 heads : (c : After-from-size) → header_front c.args.front.now ≡ Ok c.in_ok-header.header
 heads c = (header_is c).0
@@ -30,26 +30,35 @@ size_is c =
     ∙ ap (λ d. length_of d c.in_ok-header.header.slot) (sym (header_is c).1)
 
 size_some : (c : After-from-size) → 0 < c.from-size.result
-size_some c = omega (arith, size_is c, some_by c.args.front.now Stream (Frame c.in_ok-header.header) (heads c) refl)
+size_some c = omega
+    (arith, size_is c, some_by c.args.front.now Stream (Frame c.in_ok-header.header) (heads c) refl)
 
-admits : (c : Else-not-has_right_word) → admits_item (Later c.args.class) c.args.at (Frame c.in_ok-header.header) c.args.front.now ≡ true
-admits c = ap₂ (λ (a b : Bool). a && b) (some_of_class c.args.class _ c.in_ok-header.header (sym c.header_of_class.ensures ∙ c.in_ok-header.was)).2 (sym c.if-not-has_right_word.ensures)
+admits : (c : Else-not-has_right_word)
+    → admits_item (Later c.args.class) c.args.at (Frame c.in_ok-header.header) c.args.front.now
+    ≡ true
+admits c = ap₂ (λ (a b : Bool). a && b) (some_of_class c.args.class _ c.in_ok-header.header
+    (sym c.header_of_class.ensures ∙ c.in_ok-header.was)).2 (sym c.if-not-has_right_word.ensures)
 
 pub has_right_word-requires-clause-own : goal.has_right_word-requires-clause-own
-has_right_word-requires-clause-own c = heads (goal.at.has_right_word-requires-clause-own c).After-from-size
+has_right_word-requires-clause-own c =
+    heads (goal.at.has_right_word-requires-clause-own c).After-from-size
 
 pub has_right_word-requires-clause-room : goal.has_right_word-requires-clause-room
 has_right_word-requires-clause-room c =
     let at = (goal.at.has_right_word-requires-clause-room c).After-from-size in
-    room_shown c.args.front.now c.in_ok-header.header c.args.left (sym (frame_is at)) (omega (arith, size_is at, c.if-size-left.false)) c.requires.many
+    room_shown c.args.front.now c.in_ok-header.header c.args.left (sym (frame_is at))
+    (omega (arith, size_is at, c.if-size-left.false)) c.requires.many
 
 pub returns-clause-read : goal.returns-clause-read
 returns-clause-read c =
     let at = (goal.at.returns-clause-read c).After-from-size in
     let item = Frame c.in_ok-header.header in
     λ file shows.
-    let here = step_whole file c.args.at c.args.front.now c.args.left shows item c.from-size.result (frame_is at) (λ _. size_is at) (size_some at) (omega (arith, size_is at)) c.if-size-left.false in
-    item_taken file c.args.at c.args.front.now c.args.left shows (Later c.args.class) item here (frame_is at) (admits c)
+    let here = step_whole file c.args.at c.args.front.now c.args.left shows item
+    c.from-size.result (frame_is at) (λ _. size_is at) (size_some at)
+    (omega (arith, size_is at)) c.if-size-left.false in
+    item_taken file c.args.at c.args.front.now c.args.left shows (Later c.args.class) item here
+    (frame_is at) (admits c)
 
 pub returns-clause-passes : goal.returns-clause-passes
 returns-clause-passes c =

@@ -1,10 +1,11 @@
 -- A frame more is an empty one, or stays.
-use Rattle.std.proofs.Common.{◌<◌, length, arith}
+use Rattle.std.proofs.Common.{arith, length, ◌<◌}
 use Rattle.salvage.proofs.MendedLaws.{mended_step}
 use Rattle.salvage.proofs.mended.mend_rows.Goals as goal
 
 pub loop-row-preserved : goal.loop-row-preserved
 loop-row-preserved c =
     let at = c.loop-row in
-    let within : at.row-index < length c.args.rows.now = omega (arith, c.loop-row-test.true, at.auto.rows) in
+    let within : at.row-index < length c.args.rows.now =
+    omega (arith, c.loop-row-test.true, at.auto.rows) in
     mended_step c.args.rows.now at.rows at.row-index _ _ within at.invariant c.mend_row.ensures

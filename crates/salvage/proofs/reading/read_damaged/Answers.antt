@@ -1,15 +1,16 @@
--- The file isn't found, or is too long; or what is read after that is read of files and counts that are the same.
-use Rattle.std.proofs.Common.{rules, sym, ◌∙◌, subst}
+-- The file isn't found, or is too long; or what is read
+-- after that is read of files and counts that are the same.
+use Rattle.std.proofs.Common.{rules, subst, sym, ◌∙◌}
 use Rattle.outside.proofs.PassedLaws.{err_at}
-use Rattle.sync_survey.specs.Survey.{HoldsOctets}
-use Rattle.salvage.specs.Answers.{DamagedAnswer}
+use Rattle.salvage.{proofs.ReadFaults.{find_refusal, seen_same}, specs.Answers.DamagedAnswer}
 use Rattle.salvage.specs.Progress.{IsBegun}
-use Rattle.salvage.proofs.ReadFaults.{find_refusal, seen_same}
+use Rattle.sync_survey.specs.Survey.{HoldsOctets}
 use Rattle.salvage.proofs.reading.read_damaged.Goals as goal
 
 pub returns-in_err-size : goal.returns-in_err-size
 returns-in_err-size g c =
-    let refusal = find_refusal _ _ _ _ _ (c.in_err-size.ensures.refused 0) c.in_err-size.ensures.length in
+    let refusal =
+    find_refusal _ _ _ _ _ (c.in_err-size.ensures.refused 0) c.in_err-size.ensures.length in
     record {
       exact = search rules;
       laid = search rules;
@@ -24,14 +25,18 @@ returns-in_err-size g c =
 
 pub read_on-requires-clause-begun : goal.read_on-requires-clause-begun
 read_on-requires-clause-begun g c =
-    subst (λ files. IsBegun files c.args.name.now c.in_ok-begun.begun) (sym c.in_ok-begun.ensures.reads.files) c.in_ok-begun.ensures.begun
+    subst (λ files. IsBegun files c.args.name.now c.in_ok-begun.begun)
+    (sym c.in_ok-begun.ensures.reads.files) c.in_ok-begun.ensures.begun
 
 pub read_on-requires-clause-octets : goal.read_on-requires-clause-octets
 read_on-requires-clause-octets g c =
-    subst (HoldsOctets c.args.name.now) (sym (c.in_ok-begun.ensures.reads.files ∙ c.in_ok-size.ensures.files)) c.in_ok-size.ensures.octets
+    subst (HoldsOctets c.args.name.now) (sym (c.in_ok-begun.ensures.reads.files
+    ∙ c.in_ok-size.ensures.files)) c.in_ok-size.ensures.octets
 
 pub returns : goal.returns
 returns g c =
-    subst (λ old. DamagedAnswer c.args.name.now old (g.D.Folder.seen c.read_on.new.folder) c.read_on.result)
-    (seen_same (c.in_ok-begun.ensures.reads.files ∙ c.in_ok-size.ensures.files) (c.in_ok-begun.ensures.reads.done ∙ c.in_ok-size.ensures.done))
+    subst (λ old. DamagedAnswer c.args.name.now old
+    (g.D.Folder.seen c.read_on.new.folder) c.read_on.result)
+    (seen_same (c.in_ok-begun.ensures.reads.files ∙ c.in_ok-size.ensures.files)
+    (c.in_ok-begun.ensures.reads.done ∙ c.in_ok-size.ensures.done))
     c.read_on.ensures

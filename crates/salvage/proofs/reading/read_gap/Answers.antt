@@ -1,19 +1,21 @@
 -- The gap ends at the next frame, or with the file.
-use Rattle.std.proofs.Common.{rules, ◌≡◌, ◌+◌, ◌<◌, ◌∙◌, ap, subst, arith}
+use Rattle.std.proofs.Common.{ap, arith, rules, subst, ◌+◌, ◌<◌, ◌∙◌, ◌≡◌}
+use Rattle.salvage.proofs.{ProgressLaws.{gap_laid, gap_read}, WalkLaws.gap_end-by}
+use Rattle.salvage.specs.{Judged.AddsGap, Progress.class_in, Usable.next_usable}
 use Rattle.salvage.specs.Walk.{end_by, gap_end}
-use Rattle.salvage.specs.Usable.{next_usable}
-use Rattle.salvage.specs.Judged.{AddsGap}
-use Rattle.salvage.specs.Progress.{class_in}
-use Rattle.salvage.proofs.WalkLaws.{gap_end-by}
-use Rattle.salvage.proofs.ProgressLaws.{gap_read, gap_laid}
 use Rattle.salvage.proofs.reading.read_gap.Goals as goal
 
 pub skip-requires : goal.skip-requires
-skip-requires g c = omega (arith, (c.end_of-end.ensures.within (c.args.found.now.at + 1) (omega (arith, c.requires.before)) c.in_ok-next.ensures.placed).0)
+skip-requires g c = omega (
+  arith,
+  (c.end_of-end.ensures.within (c.args.found.now.at + 1)
+      (omega (arith, c.requires.before)) c.in_ok-next.ensures.placed).0,
+)
 
 pub returns : goal.returns
 returns g c = record {
-  reading = let end_is = c.end_of-end.ensures.within (c.args.found.now.at + 1) (omega (arith, c.requires.before)) c.in_ok-next.ensures.placed in
+  reading = let end_is = c.end_of-end.ensures.within (c.args.found.now.at + 1)
+      (omega (arith, c.requires.before)) c.in_ok-next.ensures.placed in
       let some : c.args.found.now.at < c.end_of-end.result = omega (arith, end_is.0) in
       let old = c.args.found.now in
       let new = c.skip.new.self in
@@ -23,11 +25,15 @@ returns g c = record {
           told = λ bytes holds.
               let end : c.end_of-end.result ≡ gap_end bytes (class_in begun) old.at =
               c.end_of-end.ensures.told bytes (c.requires.begun.known.long bytes holds)
-              ∙ ap (end_by bytes) (c.in_ok-next.ensures.next bytes holds ∙ ap (λ r. next_usable bytes r (old.at + 1)) c.later_role-role.ensures)
+              ∙ ap (end_by bytes) (c.in_ok-next.ensures.next bytes holds
+              ∙ ap (λ r. next_usable bytes r (old.at + 1)) c.later_role-role.ensures)
               ∙ gap_end-by bytes (class_in begun) old.at in
-              gap_read bytes begun old new (c.requires.reading.told bytes holds) (omega (arith, c.requires.before, c.requires.begun.known.long bytes holds)) (c.requires.none bytes holds)
+              gap_read bytes begun old new (c.requires.reading.told bytes holds)
+              (omega (arith, c.requires.before, c.requires.begun.known.long bytes holds))
+              (c.requires.none bytes holds)
               (subst (λ n. AddsGap n old new) end c.in_ok-skip.ensures);
-          laid = gap_laid begun old new c.requires.reading.laid c.end_of-end.result some end_is.1 c.in_ok-skip.ensures;
+          laid = gap_laid begun old new c.requires.reading.laid c.end_of-end.result some
+              end_is.1 c.in_ok-skip.ensures;
         };
         on = omega (arith, some, c.in_ok-skip.ensures.at);
       };

@@ -1,25 +1,31 @@
 -- What was found up to the end is all that is read.
-use Rattle.std.proofs.Common.{rules, ◌≡◌, [], Ok, refl, sym, ◌∙◌, ap, subst, arith}
-use Rattle.sync_survey.specs.declared.survey_fault.SurveyFault.TheVariants.{NoFrame}
-use Rattle.sync_survey.specs.Kinds.{HasRightNumbers}
-use Rattle.sync_survey.specs.Survey.{BlocksAreLaid}
-use Rattle.salvage.specs.Damaged.{tells_of, IsReadFault}
-use Rattle.salvage.specs.Progress.{told_of, IsLaidOut}
+use Rattle.std.proofs.Common.{ap, arith, Ok, refl, rules, subst, sym, [], ◌∙◌, ◌≡◌}
 use Rattle.std.proofs.lemmas.Result.{IfErr-weaker}
-use Rattle.salvage.proofs.Results.{if_ok, on_ok}
-use Rattle.salvage.proofs.ReadFaults.{bytes_refusal}
-use Rattle.salvage.proofs.ProgressLaws.{IsFirst, begun_read, begun_laid, read_whole, all_read, no_frames, laid_out}
+use Rattle.salvage.proofs.ProgressLaws.{all_read, begun_laid, begun_read, IsFirst, laid_out}
+use Rattle.salvage.proofs.{ProgressLaws.{no_frames, read_whole}, ReadFaults.bytes_refusal}
+use Rattle.salvage.{proofs.Results.{if_ok, on_ok}, specs.Damaged.{IsReadFault, tells_of}}
+use Rattle.salvage.specs.Progress.{IsLaidOut, told_of}
+use Rattle.sync_survey.specs.{Kinds.HasRightNumbers, Survey.BlocksAreLaid}
+use Rattle.sync_survey.specs.declared.survey_fault.SurveyFault.TheVariants.{NoFrame}
 use Rattle.salvage.proofs.reading.read_on.Goals as goal
 
 pub read_things-requires-clause-reading : goal.read_things-requires-clause-reading
 read_things-requires-clause-reading g c =
     let begun = c.args.begun.now in
     let found = c.in-Ok.found in
-    let first : IsFirst begun found = record { rows = c.in-Ok.ensures.rows; gaps = c.in-Ok.ensures.gaps; before = c.in-Ok.ensures.before; at = c.in-Ok.ensures.at } in
+    let first : IsFirst begun found = record {
+      rows = c.in-Ok.ensures.rows;
+      gaps = c.in-Ok.ensures.gaps;
+      before = c.in-Ok.ensures.before;
+      at = c.in-Ok.ensures.at;
+    } in
     record {
-      told = λ bytes holds. begun_read bytes begun found (c.requires.begun.told bytes holds) first (c.in-Ok.ensures.pieces ∙ c.requires.blocks bytes holds);
+      told = λ bytes holds. begun_read bytes begun found (c.requires.begun.told bytes holds) first
+          (c.in-Ok.ensures.pieces ∙ c.requires.blocks bytes holds);
       laid =
-          begun_laid begun found first c.requires.begun.junk (subst (λ l. BlocksAreLaid 0 l begun.start.front_end) (sym c.in-Ok.ensures.pieces) c.requires.laid) c.in-Ok.ensures.low c.in-Ok.ensures.behind
+          begun_laid begun found first
+          c.requires.begun.junk (subst (λ l. BlocksAreLaid 0 l begun.start.front_end)
+          (sym c.in-Ok.ensures.pieces) c.requires.laid) c.in-Ok.ensures.low c.in-Ok.ensures.behind
           (omega (arith, c.in-Ok.ensures.within, c.requires.begun.whole));
     }
 
@@ -28,15 +34,22 @@ returns g c = record {
   exact = let begun = c.args.begun.now in
       let found = c.read_things.new.found in
       let reading = c.in_ok-read_things.ensures.reading in
-      if_ok c.damaged_by.result (λ d. tells_of d ≡ told_of begun found) _ (found.rows.items ≡ [] → ⊥) c.damaged_by.ensures.told c.damaged_by.ensures.some (λ d told some. λ bytes holds.
+      if_ok c.damaged_by.result (λ d. tells_of d ≡ told_of begun found) _ (found.rows.items ≡ []
+      → ⊥) c.damaged_by.ensures.told c.damaged_by.ensures.some (λ d told some. λ bytes holds.
       let known = c.requires.begun.known.long bytes holds in
-      all_read bytes begun found (c.requires.begun.told bytes holds) (omega (arith, known, c.requires.begun.known.few)) (sym known)
-      (read_whole bytes begun found (reading.told bytes holds) (omega (arith, known, c.in_ok-read_things.ensures.end))) some reading.laid.few
+      all_read bytes begun found (c.requires.begun.told bytes holds)
+      (omega (arith, known, c.requires.begun.known.few)) (sym known)
+      (read_whole bytes begun found (reading.told bytes holds)
+      (omega (arith, known, c.in_ok-read_things.ensures.end))) some reading.laid.few
       ∙ ap Ok (sym told));
   laid = let begun = c.args.begun.now in
       let found = c.read_things.new.found in
-      if_ok c.damaged_by.result (λ d. tells_of d ≡ told_of begun found) (λ d. IsLaidOut (tells_of d)) (found.rows.items ≡ [] → ⊥) c.damaged_by.ensures.told c.damaged_by.ensures.some (λ d told some.
-      subst IsLaidOut (sym told) (laid_out begun found c.requires.begun.junk c.requires.begun.whole c.requires.begun.same c.in_ok-read_things.ensures.reading.laid some c.requires.begun.known.few));
+      if_ok c.damaged_by.result (λ d. tells_of d ≡ told_of begun found)
+      (λ d. IsLaidOut (tells_of d)) (found.rows.items ≡ [] → ⊥)
+      c.damaged_by.ensures.told c.damaged_by.ensures.some (λ d told some.
+      subst IsLaidOut (sym told)
+      (laid_out begun found c.requires.begun.junk c.requires.begun.whole c.requires.begun.same
+      c.in_ok-read_things.ensures.reading.laid some c.requires.begun.known.few));
   there = on_ok c.damaged_by.result _ c.requires.begun.known.there;
   octets = on_ok c.damaged_by.result _ c.requires.octets;
   done = search rules;
@@ -46,14 +59,21 @@ returns g c = record {
       let files = (g.D.Folder.seen c.args.folder.now).files in
       let before = (g.D.Folder.seen c.args.folder.now).counts in
       let after = (g.D.Folder.seen c.read_things.new.folder).counts in
-      IfErr-weaker c.damaged_by.result (λ fault. (fault ≡ NoFrame begun.start.front_end) × (found.rows.items ≡ [])) (IsReadFault name files before after) (λ fault is.
+      IfErr-weaker c.damaged_by.result (λ fault. (fault ≡ NoFrame begun.start.front_end)
+      × (found.rows.items ≡ [])) (IsReadFault name files before after) (λ fault is.
       subst (IsReadFault name files before after) (sym is.0)
-      (bytes_refusal name files before after (NoFrame begun.start.front_end) begun.size c.requires.begun.known c.in_ok-read_things.ensures.done (refl, tt) (λ bytes holds.
+      (bytes_refusal name files before after (NoFrame begun.start.front_end)
+      begun.size c.requires.begun.known c.in_ok-read_things.ensures.done (refl, tt) (λ bytes holds.
       let known = c.requires.begun.known.long bytes holds in
-      no_frames bytes begun found (c.requires.begun.told bytes holds) (omega (arith, known, c.requires.begun.known.few))
-      (read_whole bytes begun found (c.in_ok-read_things.ensures.reading.told bytes holds) (omega (arith, known, c.in_ok-read_things.ensures.end))) is.1)).cause)
+      no_frames bytes begun found (c.requires.begun.told bytes holds)
+      (omega (arith, known, c.requires.begun.known.few))
+      (read_whole bytes begun found (c.in_ok-read_things.ensures.reading.told bytes holds)
+      (omega (arith, known, c.in_ok-read_things.ensures.end))) is.1)).cause)
       c.damaged_by.ensures.none;
-  numbers = IfErr-weaker c.damaged_by.result (λ fault. (fault ≡ NoFrame c.args.begun.now.start.front_end) × (c.read_things.new.found.rows.items ≡ [])) HasRightNumbers (λ fault is. subst HasRightNumbers (sym is.0) tt)
+  numbers =
+      IfErr-weaker c.damaged_by.result (λ fault. (fault ≡ NoFrame c.args.begun.now.start.front_end)
+      × (c.read_things.new.found.rows.items ≡ [])) HasRightNumbers
+      (λ fault is. subst HasRightNumbers (sym is.0) tt)
       c.damaged_by.ensures.none;
   files = search rules;
   counts = search rules;

@@ -1,5 +1,5 @@
 -- No usable anchored frame is at the places that were passed.
-use Rattle.std.proofs.Common.{◌-◌, ◌<◌, ◌≤◌, ℕ, max}
+use Rattle.std.proofs.Common.{max, ℕ, ◌-◌, ◌<◌, ◌≤◌}
 use Rattle.salvage.specs.Steps.{IsBare}
 use Rattle.salvage.proofs.search.bare.Given as goal
 

@@ -1,44 +1,55 @@
 -- The frame where the front ends, or the next one.
-use Rattle.std.proofs.Common.{ℕ, ◌+◌, Option, Some, None, sym, subst, arith, IfSome}
+use Rattle.std.proofs.Common.{arith, IfSome, None, Option, Some, subst, sym, ℕ, ◌+◌}
 use Rattle.std.proofs.lemmas.Result.{IfOk-weaker}
 use Rattle.outside.proofs.PassedLaws.{err_at}
+use Rattle.salvage.proofs.{ReadFaults.look_refusal, SearchLaws.{first_behind, first_here}}
+use Rattle.sync_survey.{proofs.FoldersLaws.none_read, specs.{Looks.Shows, Survey.IsWholeFrom}}
 use Rattle.sync_survey.specs.declared.places.PlacedFrame.{PlacedFrame}
-use Rattle.sync_survey.specs.Survey.{IsWholeFrom}
-use Rattle.sync_survey.specs.Looks.{Shows}
-use Rattle.sync_survey.proofs.FoldersLaws.{none_read}
-use Rattle.salvage.proofs.ReadFaults.{look_refusal}
-use Rattle.salvage.proofs.SearchLaws.{first_here, first_behind}
 use Rattle.salvage.proofs.search.first_frame.Goals as goal
 
 -- one that is whole from the next offset on is so from this one on
-whole_before : (from size : ℕ) (o : Option PlacedFrame) → IfSome o (IsWholeFrom (from + 1) size) → IfSome o (IsWholeFrom from size)
+whole_before : (from size : ℕ) (o : Option PlacedFrame) → IfSome o (IsWholeFrom (from + 1) size)
+    → IfSome o (IsWholeFrom from size)
 whole_before from size None is = tt
-whole_before from size (Some p) is = record { behind = omega (arith, is.behind); within = is.within }
+whole_before from size (Some p) is =
+    record { behind = omega (arith, is.behind); within = is.within }
 
 pub returns-in_err-left-clause-refused : goal.returns-in_err-left-clause-refused
 returns-in_err-left-clause-refused g c =
-    err_at _ _ c.from_residual.ensures.1 (look_refusal (none_read c.requires.fed) (c.in_err-left.ensures.refused 0) c.in_err-left.ensures.outside)
+    err_at _ _ c.from_residual.ensures.1 (look_refusal (none_read c.requires.fed)
+    (c.in_err-left.ensures.refused 0) c.in_err-left.ensures.outside)
 
 pub returns-in-Some-clause-first : goal.returns-in-Some-clause-first
 returns-in-Some-clause-first g c = λ bytes holds.
-    let seen = subst (λ front. Shows bytes c.args.front_end front c.in_ok-left.left) (sym c.bytes.ensures) (c.in_ok-left.ensures.shows bytes holds) in
-    sym (first_here bytes c.args.front_end c.in-Some.frame (sym (c.in-Some.ensures.frame bytes seen)))
+    let seen = subst (λ front. Shows bytes c.args.front_end front c.in_ok-left.left)
+    (sym c.bytes.ensures) (c.in_ok-left.ensures.shows bytes holds) in
+    sym
+    (first_here bytes c.args.front_end c.in-Some.frame (sym (c.in-Some.ensures.frame bytes seen)))
 
 pub returns-in-Some-clause-placed : goal.returns-in-Some-clause-placed
 returns-in-Some-clause-placed g c = record {
   behind = omega (arith, c.in-Some.ensures.offset);
-  within = omega (arith, c.in-Some.ensures.offset, c.in-Some.ensures.within, c.in_ok-left.ensures.left, c.requires.within);
+  within = omega (
+    arith,
+    c.in-Some.ensures.offset,
+    c.in-Some.ensures.within,
+    c.in_ok-left.ensures.left,
+    c.requires.within,
+  );
 }
 
 pub returns-clause-placed : goal.returns-clause-placed
 returns-clause-placed g c =
     let from = c.args.front_end in
     let size = c.args.size in
-    IfOk-weaker c.next_usable.result (λ o. IfSome o (IsWholeFrom (from + 1) size)) (λ o. IfSome o (IsWholeFrom from size)) (whole_before from size) c.next_usable.ensures.placed
+    IfOk-weaker c.next_usable.result (λ o. IfSome o (IsWholeFrom (from + 1) size))
+    (λ o. IfSome o (IsWholeFrom from size)) (whole_before from size) c.next_usable.ensures.placed
 
 pub returns-clause-first : goal.returns-clause-first
 returns-clause-first g c =
-    first_behind c.args.name.now (g.D.Folder.seen c.args.folder.now).files (g.D.Folder.seen c.look.new.folder).files c.args.front_end c.next_usable.result c.in_ok-left.ensures.reads.files
+    first_behind c.args.name.now (g.D.Folder.seen c.args.folder.now).files (g.D.Folder.seen
+    c.look.new.folder).files c.args.front_end c.next_usable.result c.in_ok-left.ensures.reads.files
     (λ bytes holds.
-    let seen = subst (λ front. Shows bytes c.args.front_end front c.in_ok-left.left) (sym c.bytes.ensures) (c.in_ok-left.ensures.shows bytes holds) in
+    let seen = subst (λ front. Shows bytes c.args.front_end front c.in_ok-left.left)
+    (sym c.bytes.ensures) (c.in_ok-left.ensures.shows bytes holds) in
     sym (c.in_default.ensures.frame bytes seen)) c.next_usable.ensures.next

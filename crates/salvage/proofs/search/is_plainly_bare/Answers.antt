@@ -1,12 +1,10 @@
 -- What is at the frame's end is no anchor, or its check word is wrong.
-use Rattle.std.proofs.Common.{◌-◌, length, take, drop, get_or, sym, ap, ◌∙◌, subst, arith}
+use Rattle.std.proofs.Common.{ap, arith, drop, get_or, length, subst, sym, take, ◌-◌, ◌∙◌}
 use Rattle.std.proofs.lemmas.List.{take_rest}
 use Rattle.frame_header.specs.Tables.{class_of}
-use Rattle.sync_survey.specs.Items.{header_front, item_front}
-use Rattle.sync_survey.specs.Start.{is_anchor}
-use Rattle.salvage.specs.Said.{length_said}
-use Rattle.salvage.specs.Steps.{IsUnusable}
 use Rattle.salvage.proofs.SaidLaws.{few_behind, plain_unanchored, plain_unusable}
+use Rattle.salvage.specs.{Said.length_said, Steps.IsUnusable}
+use Rattle.sync_survey.specs.{Items.{header_front, item_front}, Start.is_anchor}
 use Rattle.salvage.proofs.search.is_plainly_bare.Goals as goal
 
 pub returns-then-not-may_anchor : goal.returns-then-not-may_anchor
@@ -16,16 +14,21 @@ returns-then-not-may_anchor c = λ _.
     let size = c.length_said-size.result in
     let own = take (length front - place) (drop place front) in
     let rest = take_rest front place in
-    plain_unanchored front place size (few_behind front place (λ i. omega (arith, c.type_inv.front i)))
-    (c.length_said-size.ensures.length ∙ ap (λ l. length_said (get_or l 1 0) (get_or l 2 0)) rest) c.if-place-size-gt-REACH.false
+    plain_unanchored front place size
+    (few_behind front place (λ i. omega (arith, c.type_inv.front i)))
+    (c.length_said-size.ensures.length ∙ ap (λ l. length_said (get_or l 1 0) (get_or l 2 0)) rest)
+    c.if-place-size-gt-REACH.false
     (λ h is.
-    sym (ap (λ l. is_anchor (class_of h) (item_front l)) (take_rest own size ∙ ap (drop size) rest)) ∙ c.may_anchor.ensures c.if-not-may_anchor.true h (ap header_front rest ∙ is))
+    sym (ap (λ l. is_anchor (class_of h) (item_front l)) (take_rest own size ∙ ap (drop size) rest))
+    ∙ c.may_anchor.ensures c.if-not-may_anchor.true h (ap header_front rest ∙ is))
 
 pub returns-else-not-may_anchor : goal.returns-else-not-may_anchor
 returns-else-not-may_anchor c = λ told.
     let front = c.args.front.now in
     let place = c.args.place in
     let rest = take_rest front place in
-    plain_unusable front place c.length_said-size.result (few_behind front place (λ i. omega (arith, c.type_inv.front i)))
-    (c.length_said-size.ensures.length ∙ ap (λ l. length_said (get_or l 1 0) (get_or l 2 0)) rest) c.if-place-size-gt-REACH.false
+    plain_unusable front place
+    c.length_said-size.result (few_behind front place (λ i. omega (arith, c.type_inv.front i)))
+    (c.length_said-size.ensures.length ∙ ap (λ l. length_said (get_or l 1 0) (get_or l 2 0)) rest)
+    c.if-place-size-gt-REACH.false
     (subst (λ l. IsUnusable l) rest (c.has_wrong_word.ensures told))

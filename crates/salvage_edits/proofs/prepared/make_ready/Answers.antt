@@ -1,19 +1,25 @@
 -- All frames are chosen, and have their plan.
 use Rattle.std.proofs.Common.{arith}
-use Rattle.sync_survey.specs.Faults.{tells}
 use Rattle.commands.specs.One.{most_frames}
 use Rattle.cut_edits.specs.Chosen.{AreThere}
-use Rattle.salvage_edits.specs.Salvaged.{all_of}
-use Rattle.salvage_edits.proofs.CommandLaws.{ready-of}
+use Rattle.salvage_edits.{proofs.CommandLaws.ready-of, specs.Salvaged.all_of}
+use Rattle.sync_survey.specs.Faults.{tells}
 use Rattle.salvage_edits.proofs.prepared.make_ready.Goals as goal
 
 pub plan_file-requires : goal.plan_file-requires
 plan_file-requires c =
     let s = tells c.args.mended.survey in
-    let there : AreThere most_frames (all_of s) s = record { laid = c.requires.laid; few = c.requires.few; some = c.requires.laid.some; within = omega arith } in
+    let there : AreThere most_frames (all_of s) s = record {
+      laid = c.requires.laid;
+      few = c.requires.few;
+      some = c.requires.laid.some;
+      within = omega arith;
+    } in
     rw c.all_frames.ensures there
 
 pub returns : goal.returns
 returns c = λ input files mended there octets.
-    ready-of input files c.args.mended c.in_ok-selected.selected _ mended c.in_ok-laid.ensures there octets c.requires.laid (rw c.all_frames.ensures at c.in_ok-selected.ensures) c.in_ok-sending.ensures
+    ready-of input files c.args.mended c.in_ok-selected.selected _ mended c.in_ok-laid.ensures there
+    octets c.requires.laid (rw c.all_frames.ensures at c.in_ok-selected.ensures)
+    c.in_ok-sending.ensures
     (λ d emptied gaps. record { gaps = gaps; emptied = emptied })

@@ -5,12 +5,17 @@ use Rattle.salvage_edits.proofs.CommandLaws.{fault-on, memory-on}
 use Rattle.salvage_edits.proofs.prepared.prepare.Goals as goal
 
 pub returns-in_err-mended-clause-reads : goal.returns-in_err-mended-clause-reads
-returns-in_err-mended-clause-reads g c = fault-on c.args.input.now _ c.from_residual.ensures.1 c.in_err-mended.ensures.reads
+returns-in_err-mended-clause-reads g c =
+    fault-on c.args.input.now _ c.from_residual.ensures.1 c.in_err-mended.ensures.reads
 
 pub returns-in_err-work-clause-reads : goal.returns-in_err-work-clause-reads
 returns-in_err-work-clause-reads g c =
     let reads = c.in_ok-mended.ensures.reads in
-    memory-on c.args.input.now _ c.from_residual-in_err-work.ensures.1 c.in_ok-mended.mended c.in_ok-mended.ensures.there c.in_ok-mended.ensures.mended (ap₂ seen reads.files reads.done) reads
+    memory-on c.args.input.now _ c.from_residual-in_err-work.ensures.1 c.in_ok-mended.mended
+    c.in_ok-mended.ensures.there c.in_ok-mended.ensures.mended (ap₂ seen reads.files reads.done)
+    reads
 
 pub returns-clause-ready : goal.returns-clause-ready
-returns-clause-ready g c = c.in_ok-work.ensures c.args.input.now (g.D.Folder.seen c.args.folder.now).files c.in_ok-mended.ensures.mended c.in_ok-mended.ensures.there c.in_ok-mended.ensures.octets
+returns-clause-ready g c =
+    c.in_ok-work.ensures c.args.input.now (g.D.Folder.seen c.args.folder.now).files
+    c.in_ok-mended.ensures.mended c.in_ok-mended.ensures.there c.in_ok-mended.ensures.octets

@@ -1,13 +1,11 @@
 -- A fault of the reading is one of the only input; what was read is mended.
-use Rattle.std.proofs.Common.{length, sym, ap, subst, ap₂, arith}
-use Rattle.std.proofs.lemmas.List.{length-map}
-use Rattle.outside.specs.Seen.{seen}
-use Rattle.sync_survey.specs.Faults.{SurveyFields}
+use Rattle.std.proofs.{Common.{ap, ap₂, arith, length, subst, sym}, lemmas.List.length-map}
 use Rattle.commands.specs.One.{IsEarlyFault, IsOfInputs}
-use Rattle.salvage.specs.Damaged.{tells_of}
-use Rattle.salvage.specs.Mended.{mended_row}
+use Rattle.outside.specs.Seen.{seen}
+use Rattle.salvage.specs.{Damaged.tells_of, Mended.mended_row}
+use Rattle.salvage_edits.proofs.CommandLaws.{early-fault, early-memory, early-numbers}
 use Rattle.salvage_edits.specs.Salvaged.{salvage_task}
-use Rattle.salvage_edits.proofs.CommandLaws.{early-fault, early-numbers, early-memory}
+use Rattle.sync_survey.specs.Faults.{SurveyFields}
 use Rattle.salvage_edits.proofs.prepared.read_input.Goals as goal
 
 pub returns-in-Err-clause-reads : goal.returns-in-Err-clause-reads
@@ -15,9 +13,14 @@ returns-in-Err-clause-reads g c =
     let seen = g.D.Folder.seen in
     record {
       refused =
-          subst (IsEarlyFault (salvage_task c.args.input.now) (seen c.args.folder.now) (seen c.read_damaged.new.folder)) (sym c.into.ensures)
-          (early-fault c.args.input.now (seen c.args.folder.now).files (seen c.read_damaged.new.folder).files (seen c.args.folder.now).counts (seen c.read_damaged.new.folder).counts c.read_damaged.ensures.files c.in-Err.fault c.in-Err.ensures.refused);
-      numbers = subst (IsOfInputs (salvage_task c.args.input.now)) (sym c.into.ensures) (early-numbers c.args.input.now c.in-Err.fault c.in-Err.ensures.numbers);
+          subst (IsEarlyFault (salvage_task c.args.input.now) (seen c.args.folder.now)
+          (seen c.read_damaged.new.folder)) (sym c.into.ensures)
+          (early-fault c.args.input.now (seen c.args.folder.now).files
+          (seen c.read_damaged.new.folder).files (seen c.args.folder.now).counts
+          (seen c.read_damaged.new.folder).counts c.read_damaged.ensures.files c.in-Err.fault
+          c.in-Err.ensures.refused);
+      numbers = subst (IsOfInputs (salvage_task c.args.input.now)) (sym c.into.ensures)
+          (early-numbers c.args.input.now c.in-Err.fault c.in-Err.ensures.numbers);
       done = tt;
       files = c.read_damaged.ensures.files;
       counts = c.read_damaged.ensures.counts;
@@ -25,7 +28,8 @@ returns-in-Err-clause-reads g c =
 
 pub returns-in-Err-mend-clause-reads : goal.returns-in-Err-mend-clause-reads
 returns-in-Err-mend-clause-reads g c = record {
-  refused = early-memory c.args.input.now _ _ (tells_of c.in-Ok.damaged) c.in-Ok.ensures.there c.in-Ok.ensures.exact (ap₂ seen c.read_damaged.ensures.files c.in-Ok.ensures.done);
+  refused = early-memory c.args.input.now _ _ (tells_of c.in-Ok.damaged) c.in-Ok.ensures.there
+      c.in-Ok.ensures.exact (ap₂ seen c.read_damaged.ensures.files c.in-Ok.ensures.done);
   numbers = tt;
   done = tt;
   files = c.read_damaged.ensures.files;
@@ -36,4 +40,9 @@ returns-in-Err-mend-clause-reads g c = record {
 pub returns-in-Ok-mend-clause-few : goal.returns-in-Ok-mend-clause-few
 returns-in-Ok-mend-clause-few g c =
     let frames = (tells_of c.in-Ok.damaged).survey.frames in
-    omega (arith, ap (λ (s : SurveyFields). length s.frames) c.in-Ok-mend.ensures.survey, length-map frames mended_row, c.in-Ok.ensures.laid.few)
+    omega (
+      arith,
+      ap (λ (s : SurveyFields). length s.frames) c.in-Ok-mend.ensures.survey,
+      length-map frames mended_row,
+      c.in-Ok.ensures.laid.few,
+    )

@@ -1,11 +1,9 @@
 -- The lines so far wait or were sent, and no write failed.
-use Rattle.std.proofs.Common.{◌≡◌, List, length}
-use Rattle.sync_survey.specs.declared.merge.Merge.{Merge}
-use Rattle.sync_survey.specs.Merge.{left}
-use Rattle.salvage.specs.declared.gap.Gap.{Gap}
-use Rattle.salvage.specs.declared.mended.Emptied.{Emptied}
-use Rattle.salvage.specs.Text.{Line, line_text, lines_of}
+use Rattle.std.proofs.Common.{length, List, ◌≡◌}
 use Rattle.list_edits.proofs.ListingLaws.{IsSaidTo}
+use Rattle.salvage.specs.{Text.{Line, line_text, lines_of}, declared.gap.Gap.Gap}
+use Rattle.salvage.specs.declared.mended.Emptied.{Emptied}
+use Rattle.sync_survey.specs.{Merge.left, declared.merge.Merge.Merge}
 use Rattle.salvage_edits.proofs.report.send_report.Given as goal
 
 -- what isn't told yet
@@ -15,7 +13,8 @@ told-left = left (λ g. g.offset) (λ e. e.offset)
 abbrev pub invariant-loop-told : goal.invariant-loop-told
 invariant-loop-told g l = record {
   done : (g.T.Sink.heard l.out).faults ≡ (g.T.Sink.heard l.initial.out).faults;
-  said : IsSaidTo line_text (lines_of l.report.gaps.items l.report.emptied.items) (told-left l.lines) l.buffer (g.T.Sink.heard l.initial.out).sent (g.T.Sink.heard l.out).sent;
+  said : IsSaidTo line_text (lines_of l.report.gaps.items l.report.emptied.items)
+      (told-left l.lines) l.buffer (g.T.Sink.heard l.initial.out).sent (g.T.Sink.heard l.out).sent;
 }
 
 abbrev pub decreases-loop-told : goal.decreases-loop-told

@@ -1,39 +1,43 @@
 -- A clash of names, what was met before the output is created, and what follows.
-use Rattle.std.proofs.Common.{sym, ◌∙◌, ap₂, subst}
+use Rattle.std.proofs.Common.{ap₂, subst, sym, ◌∙◌}
+use Rattle.commands.{proofs.RefusingLaws.err_with, specs.{Runs.IsRunOf, Said.{fault_of, Says}}}
 use Rattle.outside.specs.Seen.{seen}
-use Rattle.commands.specs.Runs.{IsRunOf}
-use Rattle.commands.specs.Said.{Says, fault_of}
-use Rattle.commands.proofs.RefusingLaws.{err_with}
-use Rattle.salvage_edits.specs.Salvaged.{salvage_command}
-use Rattle.salvage_edits.specs.Ready.{IsReady}
 use Rattle.salvage_edits.proofs.CommandLaws.{left-clash, left-early, numbers-early}
+use Rattle.salvage_edits.proofs.salvage_file.salvage.Goals.{After-write_and_tell}
+use Rattle.salvage_edits.specs.{Ready.IsReady, Salvaged.salvage_command}
 use Rattle.salvage_edits.proofs.salvage_file.salvage.Given as given
 use Rattle.salvage_edits.proofs.salvage_file.salvage.Goals as goal
-use Rattle.salvage_edits.proofs.salvage_file.salvage.Goals.{After-write_and_tell}
 
 pub returns-in-Some-clause-left : goal.returns-in-Some-clause-left
-returns-in-Some-clause-left g c = left-clash c.args.input.now c.args.output.now c.in-Some.place (g.D.Folder.seen c.args.folder.now) (sym c.clash.ensures ∙ c.in-Some.is)
+returns-in-Some-clause-left g c = left-clash c.args.input.now c.args.output.now c.in-Some.place
+    (g.D.Folder.seen c.args.folder.now) (sym c.clash.ensures ∙ c.in-Some.is)
 
 pub returns-in_err-work-clause-left : goal.returns-in_err-work-clause-left
 returns-in_err-work-clause-left g c =
-    err_with _ _ c.from_residual.ensures.1 (left-early c.args.input.now c.args.output.now (sym c.clash.ensures ∙ c.in_default.is) _ _ _ c.in_err-work.ensures.reads.refused)
+    err_with _ _ c.from_residual.ensures.1 (left-early c.args.input.now c.args.output.now
+    (sym c.clash.ensures ∙ c.in_default.is) _ _ _ c.in_err-work.ensures.reads.refused)
 
 pub returns-in_err-work-clause-numbers : goal.returns-in_err-work-clause-numbers
 returns-in_err-work-clause-numbers g c =
-    err_with _ _ c.from_residual.ensures.1 (numbers-early c.args.input.now c.args.output.now _ c.in_err-work.ensures.reads.numbers)
+    err_with _ _ c.from_residual.ensures.1
+    (numbers-early c.args.input.now c.args.output.now _ c.in_err-work.ensures.reads.numbers)
 
 pub write_and_tell-requires-clause-free : goal.write_and_tell-requires-clause-free
 write_and_tell-requires-clause-free g c = sym c.clash.ensures ∙ c.in_default.is
 
 pub write_and_tell-requires-clause-ready : goal.write_and_tell-requires-clause-ready
-write_and_tell-requires-clause-ready g c = subst (λ f. IsReady c.args.input.now f c.in_ok-work.work) (sym c.prepare.ensures.reads.files) c.in_ok-work.ensures.ready
+write_and_tell-requires-clause-ready g c = subst (λ f. IsReady c.args.input.now f c.in_ok-work.work)
+    (sym c.prepare.ensures.reads.files) c.in_ok-work.ensures.ready
 
 -- it ran from the moment before
-ran : (g : given.Over) (c : After-write_and_tell g) → IsRunOf (salvage_command c.args.input.now c.args.output.now) (g.D.Folder.seen c.args.folder.now)
+ran : (g : given.Over) (c : After-write_and_tell g) → IsRunOf
+    (salvage_command c.args.input.now c.args.output.now) (g.D.Folder.seen c.args.folder.now)
     (g.D.Folder.seen c.write_and_tell.new.folder) c.write_and_tell.result
 ran g c =
     let new = g.D.Folder.seen c.write_and_tell.new.folder in
-    subst (λ old. IsRunOf (salvage_command c.args.input.now c.args.output.now) old new c.write_and_tell.result) (ap₂ seen c.prepare.ensures.reads.files c.in_ok-work.ensures.reads.done) c.write_and_tell.ensures.run
+    subst (λ old. IsRunOf (salvage_command c.args.input.now c.args.output.now) old new
+    c.write_and_tell.result) (ap₂ seen
+    c.prepare.ensures.reads.files c.in_ok-work.ensures.reads.done) c.write_and_tell.ensures.run
 
 pub returns-clause-done : goal.returns-clause-done
 returns-clause-done g c = (ran g (goal.at.returns-clause-done g c).After-write_and_tell).done
@@ -42,13 +46,15 @@ pub returns-clause-left : goal.returns-clause-left
 returns-clause-left g c = (ran g (goal.at.returns-clause-left g c).After-write_and_tell).left
 
 pub returns-clause-numbers : goal.returns-clause-numbers
-returns-clause-numbers g c = (ran g (goal.at.returns-clause-numbers g c).After-write_and_tell).numbers
+returns-clause-numbers g c =
+    (ran g (goal.at.returns-clause-numbers g c).After-write_and_tell).numbers
 
 pub returns-clause-names : goal.returns-clause-names
 returns-clause-names g c = (ran g (goal.at.returns-clause-names g c).After-write_and_tell).names
 
 pub returns-clause-streams : goal.returns-clause-streams
-returns-clause-streams g c = (ran g (goal.at.returns-clause-streams g c).After-write_and_tell).streams
+returns-clause-streams g c =
+    (ran g (goal.at.returns-clause-streams g c).After-write_and_tell).streams
 
 pub returns-clause-counts : goal.returns-clause-counts
 returns-clause-counts g c = (ran g (goal.at.returns-clause-counts g c).After-write_and_tell).counts
@@ -58,4 +64,5 @@ returns-clause-says g c =
     let sink = g.T.Sink in
     let old = sink.heard c.args.out.now in
     let new = sink.heard c.write_and_tell.new.out in
-    subst (λ f. Says (salvage_command c.args.input.now c.args.output.now) f old new (fault_of c.write_and_tell.result)) c.prepare.ensures.reads.files c.write_and_tell.ensures.says
+    subst (λ f. Says (salvage_command c.args.input.now c.args.output.now) f old new
+    (fault_of c.write_and_tell.result)) c.prepare.ensures.reads.files c.write_and_tell.ensures.says

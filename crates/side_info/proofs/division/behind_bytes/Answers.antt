@@ -1,8 +1,8 @@
 -- One byte more.
-use Rattle.std.proofs.Common.{sym, ap, ◌∙◌}
+use Rattle.std.proofs.Common.{ap, sym, ◌∙◌}
 use Rattle.bit_fields.proofs.BitsLaws.{bits-nil}
+use Rattle.side_info.proofs.DivisionLaws.{remainder-more, remainder-nil}
 use Rattle.side_info.specs.CheckWord.{remainder}
-use Rattle.side_info.proofs.DivisionLaws.{remainder-nil, remainder-more}
 use Rattle.side_info.proofs.division.behind_bytes.Goals as goal
 
 pub loop-byte-init : goal.loop-byte-init
@@ -10,5 +10,6 @@ loop-byte-init c = sym (ap (remainder c.args.word) bits-nil ∙ remainder-nil c.
 
 pub loop-byte-preserved : goal.loop-byte-preserved
 loop-byte-preserved c =
-    let e = remainder-more c.args.word c.args.bytes.now c.loop-byte.byte-index c.loop-byte-test.true in
+    let e =
+    remainder-more c.args.word c.args.bytes.now c.loop-byte.byte-index c.loop-byte-test.true in
     cc

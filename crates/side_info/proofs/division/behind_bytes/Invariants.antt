@@ -1,5 +1,5 @@
 -- The word after the bytes so far.
-use Rattle.std.proofs.Common.{◌≡◌, take}
+use Rattle.std.proofs.Common.{take, ◌≡◌}
 use Rattle.bit_fields.specs.Bits.{bits}
 use Rattle.side_info.specs.CheckWord.{remainder}
 use Rattle.side_info.proofs.division.behind_bytes.Given as goal

@@ -1,9 +1,8 @@
 -- Eight bytes more.
-use Rattle.std.proofs.Common.{◌≡◌, ◌+◌, ◌-◌, ◌*◌, take, drop, sym, ap, ap₂, ◌∙◌, arith}
-use Rattle.bit_fields.specs.Bits.{bits}
-use Rattle.bit_fields.proofs.BitsLaws.{bits-nil}
+use Rattle.std.proofs.Common.{ap, ap₂, arith, drop, sym, take, ◌*◌, ◌+◌, ◌-◌, ◌∙◌, ◌≡◌}
+use Rattle.bit_fields.{proofs.BitsLaws.bits-nil, specs.Bits.bits}
+use Rattle.side_info.proofs.DivisionLaws.{remainder-eight_more, remainder-nil}
 use Rattle.side_info.specs.CheckWord.{remainder}
-use Rattle.side_info.proofs.DivisionLaws.{remainder-nil, remainder-eight_more}
 use Rattle.side_info.proofs.division.behind_eights.Goals as goal
 
 pub loop-i-init : goal.loop-i-init

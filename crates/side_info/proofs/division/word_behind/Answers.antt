@@ -1,8 +1,8 @@
 -- The bytes after the last eight follow one at a time.
-use Rattle.std.proofs.Common.{◌-◌, ◌*◌, ◌/◌, length, take, drop, ap, ap₂, ◌∙◌, arith, take_all, length-drop, take-append-drop}
+use Rattle.std.proofs.Common.{ap, ap₂, arith, drop, length, length-drop, take, take-append-drop}
+use Rattle.std.proofs.Common.{take_all, ◌*◌, ◌-◌, ◌/◌, ◌∙◌}
 use Rattle.bit_fields.specs.Bits.{bits}
-use Rattle.side_info.specs.CheckWord.{remainder}
-use Rattle.side_info.proofs.DivisionLaws.{remainder-bits_append}
+use Rattle.side_info.{proofs.DivisionLaws.remainder-bits_append, specs.CheckWord.remainder}
 use Rattle.side_info.proofs.division.word_behind.Goals as goal
 
 pub returns : goal.returns
@@ -10,6 +10,7 @@ returns c =
     let xs = c.args.bytes.now in
     let k = 8 * (length xs / 8) in
     c.behind_bytes.ensures
-    ∙ ap₂ (λ w ys. remainder w (bits ys)) c.behind_eights.ensures (take_all (length xs - k) (drop k xs) (omega (arith, length-drop k xs)))
+    ∙ ap₂ (λ w ys. remainder w (bits ys))
+    c.behind_eights.ensures (take_all (length xs - k) (drop k xs) (omega (arith, length-drop k xs)))
     ∙ remainder-bits_append c.args.word (take k xs) (drop k xs)
     ∙ ap (λ ys. remainder c.args.word (bits ys)) (take-append-drop k xs)

@@ -1,7 +1,7 @@
 -- Two bytes are written over.
-use Rattle.std.proofs.Common.{ap₂, ◌∙◌, ◌++◌, take, arith}
-use borrow.Rule.Slice.PartMut.{Post-is}
+use Rattle.std.proofs.Common.{ap₂, arith, take, ◌++◌, ◌∙◌}
 use Rattle.side_info.proofs.FrameLaws.{bytes-word}
+use borrow.Rule.Slice.PartMut.{Post-is}
 use Rattle.side_info.proofs.frame.put_word.Goals as goal
 
 pub returns : goal.returns

@@ -1,5 +1,5 @@
 -- All eight groups are the same.
-use Rattle.std.proofs.lemmas.Bool.{and_parts, and_from}
+use Rattle.std.proofs.lemmas.Bool.{and_from, and_parts}
 use Rattle.side_info.proofs.frame_front.are_alike.Goals as goal
 
 pub returns : goal.returns
@@ -25,8 +25,12 @@ returns c = (
   (λ same.
       and_from _ _
       (and_from _ _
-      (and_from _ _ (and_from _ _ (c.same_group.ensures.1 same.version) (c.same_group-2.ensures.1 same.frequency))
-      (and_from _ _ (c.same_group-3.ensures.1 same.mode) (c.same_group-4.ensures.1 same.protection)))
-      (and_from _ _ (c.same_group-5.ensures.1 same.private) (c.same_group-6.ensures.1 same.copyright)))
-      (and_from _ _ (c.same_group-7.ensures.1 same.original) (c.same_group-8.ensures.1 same.emphasis))),
+      (and_from _ _
+      (and_from _ _ (c.same_group.ensures.1 same.version) (c.same_group-2.ensures.1 same.frequency))
+      (and_from _ _ (c.same_group-3.ensures.1 same.mode)
+      (c.same_group-4.ensures.1 same.protection)))
+      (and_from _ _ (c.same_group-5.ensures.1 same.private)
+      (c.same_group-6.ensures.1 same.copyright)))
+      (and_from _ _ (c.same_group-7.ensures.1 same.original)
+      (c.same_group-8.ensures.1 same.emphasis))),
 )

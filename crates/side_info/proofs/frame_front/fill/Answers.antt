@@ -1,5 +1,5 @@
 -- Of 32 zeros none is left.
-use Rattle.std.proofs.Common.{◌≡◌, ◌++◌, drop, length, replicate, sym, ◌∙◌, ap, append-nil, arith}
+use Rattle.std.proofs.Common.{ap, append-nil, arith, drop, length, replicate, sym, ◌++◌, ◌∙◌, ◌≡◌}
 use Rattle.side_info.specs.FrontBytes.{padded}
 use Rattle.side_info.proofs.frame_front.fill.Goals as goal
 
@@ -8,4 +8,5 @@ unfolding padded
 returns-then-part-eq-MOST c =
     let part = c.args.part.now in
     let long : length part ≡ 32 = omega (arith, c.if-part-eq-MOST.true) in
-    c.copy_from_slice.ensures.after ∙ sym (ap (λ n. part ++ drop n (replicate 32 0)) long ∙ append-nil part)
+    c.copy_from_slice.ensures.after
+    ∙ sym (ap (λ n. part ++ drop n (replicate 32 0)) long ∙ append-nil part)

@@ -1,10 +1,10 @@
 -- The shift and the remainder are the group.
-use Rattle.std.proofs.Common.{◌≡◌, ◌*◌, ◌%◌, ◌^◌, sym, arith}
-use Rattle.std.proofs.lemmas.Nat.{one_shl}
+use Rattle.std.proofs.{Common.{arith, sym, ◌%◌, ◌*◌, ◌^◌, ◌≡◌}, lemmas.Nat.one_shl}
 use Rattle.frame_header.proofs.HeaderLaws.{group-bits_of}
 use Rattle.side_info.proofs.frame_front.group_of.Goals as goal
 
 pub returns : goal.returns
 returns c =
-    let mask : 1 * 2 ^ c.args.n % 2 ^ 32 ≡ 2 ^ c.args.n = one_shl c.args.n 32 (omega (arith, c.requires.few)) in
+    let mask : 1 * 2 ^ c.args.n % 2 ^ 32 ≡ 2 ^ c.args.n =
+    one_shl c.args.n 32 (omega (arith, c.requires.few)) in
     rw mask (sym (group-bits_of 32 c.args.at c.args.n c.args.word c.requires.within))

@@ -1,8 +1,7 @@
 -- The first bits are put in place of others.
-use Rattle.std.proofs.Common.{◌≡◌, ◌⊎◌, inl, inr, ◌++◌, drop, ap, ◌∙◌, sym}
+use Rattle.std.proofs.Common.{ap, drop, inl, inr, sym, ◌++◌, ◌∙◌, ◌≡◌, ◌⊎◌}
 use Rattle.bit_fields.specs.Bits.{bits, bits_of}
-use Rattle.frame_header.specs.declared.version.Version.{Version}
-use Rattle.frame_header.specs.declared.version.Version.TheVariants.{Two, TwoFive}
+use Rattle.frame_header.specs.declared.version.Version.{Version, TheVariants.{Two, TwoFive}}
 use Rattle.side_info.specs.FrontBytes.{begin_width}
 use Rattle.side_info.proofs.frame_front.put_begin.Goals as goal
 
@@ -12,6 +11,7 @@ eight v (inr two_five) = sym (ap begin_width two_five)
 
 pub returns-in-Two : goal.returns-in-Two
 returns-in-Two c = record {
-  bits = c.put_first-in-Two.ensures.bits ∙ ap (λ width. bits_of width c.args.begin ++ drop width (bits c.args.part.now)) (eight c.args.version c.in-Two.is);
+  bits = c.put_first-in-Two.ensures.bits ∙ ap (λ width. bits_of width c.args.begin
+      ++ drop width (bits c.args.part.now)) (eight c.args.version c.in-Two.is);
   octets = c.put_first-in-Two.ensures.octets;
 }

@@ -1,8 +1,8 @@
 -- The bits that are written are those of bytes.
-use Rattle.std.proofs.Common.{arith, sym, ap, ◌∙◌}
-use Rattle.bit_fields.specs.Bits.{bytes}
-use Rattle.bit_fields.proofs.BitsLaws.{bytes-bits, AreBytes-from_places}
+use Rattle.std.proofs.Common.{ap, arith, sym, ◌∙◌}
+use Rattle.bit_fields.{proofs.BitsLaws.{AreBytes-from_places, bytes-bits}, specs.Bits.bytes}
 use Rattle.side_info.proofs.frame_front.write_side.Goals as goal
 
 pub returns-clause-written : goal.returns-clause-written
-returns-clause-written c = sym (bytes-bits c.write.new.bytes (AreBytes-from_places c.write.new.bytes (λ i. omega (arith, c.type_inv.room i)))) ∙ ap bytes c.write.ensures.written
+returns-clause-written c = sym (bytes-bits c.write.new.bytes (AreBytes-from_places c.write.new.bytes
+    (λ i. omega (arith, c.type_inv.room i)))) ∙ ap bytes c.write.ensures.written

@@ -1,44 +1,55 @@
 -- The gains of the granules in turn.
-use Rattle.std.proofs.Common.{rules, ◌≡◌, ◌+◌, ◌-◌, ◌*◌, ◌≤◌, [], length, get_or, ap, ap₂, subst, sym, ◌∙◌, arith}
-use Rattle.bit_fields.specs.Bits.{bits}
-use Rattle.bit_fields.proofs.BitsLaws.{AreBits-bits, length-bits}
-use Rattle.frame_header.specs.Fields.{IsClass}
-use Rattle.frame_header.specs.Tables.{side_size_of, granules_of}
-use Rattle.side_info.specs.Granule.{granule_size}
-use Rattle.side_info.specs.Parts.{class_with, front_size, pair_bits, second_bits, PutsPair}
-use Rattle.side_info.specs.Side.{side_at}
-use Rattle.side_info.proofs.SideLaws.{IsShaped, IsShaped-side_at, side_bits-side_at}
-use Rattle.side_info.proofs.ReadLaws.{parts_size, side_size-small, second_room}
+use Rattle.std.proofs.Common.{ap, ap₂, arith, get_or, length, rules, subst, sym, [], ◌*◌, ◌+◌, ◌-◌}
+use Rattle.std.proofs.Common.{◌∙◌, ◌≡◌, ◌≤◌}
+use Rattle.bit_fields.{proofs.BitsLaws.{AreBits-bits, length-bits}, specs.Bits.bits}
+use Rattle.frame_header.specs.{Fields.IsClass, Tables.{granules_of, side_size_of}}
 use Rattle.side_info.proofs.GainsLaws.{all_put_gains}
+use Rattle.side_info.proofs.ReadLaws.{parts_size, second_room, side_size-small}
+use Rattle.side_info.proofs.SideLaws.{IsShaped, IsShaped-side_at, side_bits-side_at}
+use Rattle.side_info.{proofs.gains.put_all.Goals.After-from, specs.Granule.granule_size}
+use Rattle.side_info.specs.Parts.{class_with, front_size, pair_bits, PutsPair, second_bits}
+use Rattle.side_info.specs.Side.{side_at}
 use Rattle.side_info.proofs.gains.put_all.Goals as goal
-use Rattle.side_info.proofs.gains.put_all.Goals.{After-from}
 
 -- the parts take all the bits
-size : (c : After-from) → 8 * length c.args.bytes.now ≡ front_size c.class.inside.version c.class.inside.channels + (c.class.inside.channels * granule_size c.class.inside.version + (granules_of c.class.inside.version - 1) * (c.class.inside.channels * granule_size c.class.inside.version))
+size : (c : After-from)
+    → 8 * length c.args.bytes.now ≡ front_size c.class.inside.version c.class.inside.channels
+    + (c.class.inside.channels * granule_size c.class.inside.version + (granules_of
+    c.class.inside.version - 1) * (c.class.inside.channels * granule_size c.class.inside.version))
 size c =
     ap (λ n. 8 * n) (c.requires.size ∙ sym (ap side_size_of c.class.view_is))
-    ∙ sym (parts_size (class_with c.class.inside.version c.class.inside.frequency_index c.class.inside.channels) c.class.invariant)
+    ∙ sym (parts_size (class_with c.class.inside.version c.class.inside.frequency_index
+    c.class.inside.channels) c.class.invariant)
 
 short : (c : After-from) → length c.args.bytes.now ≤ 32
 short c = omega (arith, c.requires.size, side_size-small c.args.class)
 
-next : (c : After-from) → c.front_size-begin.result + c.granule_width.result * c.from.result ≡ front_size c.class.inside.version c.class.inside.channels + c.class.inside.channels * granule_size c.class.inside.version
-next c = ap₂ (λ m n. m + n) c.front_size-begin.ensures (ap₂ (λ m n. m * n) c.granule_width.ensures c.from.ensures ∙ omega arith)
+next : (c : After-from) → c.front_size-begin.result + c.granule_width.result * c.from.result
+    ≡ front_size c.class.inside.version c.class.inside.channels
+    + c.class.inside.channels * granule_size c.class.inside.version
+next c = ap₂ (λ m n. m + n) c.front_size-begin.ensures
+    (ap₂ (λ m n. m * n) c.granule_width.ensures c.from.ensures ∙ omega arith)
 
 pub put_pair-requires-clause-room : goal.put_pair-requires-clause-room
-put_pair-requires-clause-room c = omega (arith, size (goal.at.put_pair-requires-clause-room c).After-from, c.front_size-begin.ensures)
+put_pair-requires-clause-room c = omega
+    (arith, size (goal.at.put_pair-requires-clause-room c).After-from, c.front_size-begin.ensures)
 
 pub put_pair-requires-clause-short : goal.put_pair-requires-clause-short
-put_pair-requires-clause-short c = omega (arith, short (goal.at.put_pair-requires-clause-short c).After-from)
+put_pair-requires-clause-short c =
+    omega (arith, short (goal.at.put_pair-requires-clause-short c).After-from)
 
 pub put_second-requires-clause-room : goal.put_second-requires-clause-room
 put_second-requires-clause-room c two =
     let at = (goal.at.put_second-requires-clause-room c).After-from in
-    let kept : 8 * length c.put_pair.new.bytes ≡ 8 * length c.args.bytes.now = omega (arith, c.put_pair.auto.bytes) in
-    second_room (granules_of c.class.inside.version) (front_size c.class.inside.version c.class.inside.channels) (c.class.inside.channels * granule_size c.class.inside.version) _ _ two (next at) (kept ∙ size at)
+    let kept : 8 * length c.put_pair.new.bytes ≡ 8 * length c.args.bytes.now =
+    omega (arith, c.put_pair.auto.bytes) in
+    second_room (granules_of c.class.inside.version)
+    (front_size c.class.inside.version c.class.inside.channels) (c.class.inside.channels
+    * granule_size c.class.inside.version) _ _ two (next at) (kept ∙ size at)
 
 pub put_second-requires-clause-short : goal.put_second-requires-clause-short
-put_second-requires-clause-short c = omega (arith, short (goal.at.put_second-requires-clause-short c).After-from, c.put_pair.auto.bytes)
+put_second-requires-clause-short c = omega
+    (arith, short (goal.at.put_second-requires-clause-short c).After-from, c.put_pair.auto.bytes)
 
 pub returns : goal.returns
 returns c = record {
@@ -46,14 +57,30 @@ returns c = record {
       let t = c.args.side.now in
       let old = bits c.args.bytes.now in
       let class : IsClass d = subst IsClass c.class.view_is c.class.invariant in
-      let shaped : IsShaped t = record { scfsi = omega arith; granules = omega arith; first = c.put_pair.ensures.two; second = c.put_second.ensures.two } in
-      let begin : c.front_size-begin.result ≡ front_size d.version d.channels = c.front_size-begin.ensures ∙ ap (λ k. front_size k.version k.channels) c.class.view_is in
-      let next_is : c.front_size-begin.result + c.granule_width.result * c.from.result ≡ front_size d.version d.channels + d.channels * granule_size d.version =
-      ap₂ (λ m n. m + n) c.front_size-begin.ensures (ap₂ (λ m n. m * n) c.granule_width.ensures c.from.ensures ∙ omega arith) ∙ ap (λ k. front_size k.version k.channels + k.channels * granule_size k.version) c.class.view_is in
-      all_put_gains d class t shaped old (bits c.put_pair.new.bytes) (bits c.put_second.new.bytes) c.front_size-begin.result _ begin next_is
-      (subst (λ k. PutsPair (pair_bits k.version k.channels) (get_or t.granules 0 []) c.front_size-begin.result old (bits c.put_pair.new.bytes)) c.class.view_is c.put_pair.ensures.put)
-      (subst (λ k. PutsPair (second_bits k.version k.channels) (get_or t.granules 1 []) (c.front_size-begin.result + c.granule_width.result * c.from.result) (bits c.put_pair.new.bytes) (bits c.put_second.new.bytes)) c.class.view_is c.put_second.ensures.put)
-      (side_at d old) (IsShaped-side_at d old) (sym (side_bits-side_at d class old (AreBits-bits c.args.bytes.now) (length-bits c.args.bytes.now ∙ ap (λ n. 8 * n) c.requires.size))) other;
+      let shaped : IsShaped t = record {
+        scfsi = omega arith;
+        granules = omega arith;
+        first = c.put_pair.ensures.two;
+        second = c.put_second.ensures.two;
+      } in
+      let begin : c.front_size-begin.result ≡ front_size d.version d.channels =
+      c.front_size-begin.ensures ∙ ap (λ k. front_size k.version k.channels) c.class.view_is in
+      let next_is : c.front_size-begin.result + c.granule_width.result * c.from.result
+      ≡ front_size d.version d.channels + d.channels * granule_size d.version =
+      ap₂ (λ m n. m + n) c.front_size-begin.ensures
+      (ap₂ (λ m n. m * n) c.granule_width.ensures c.from.ensures ∙ omega arith) ∙ ap (λ k.
+      front_size k.version k.channels + k.channels * granule_size k.version) c.class.view_is in
+      all_put_gains d class t shaped old (bits c.put_pair.new.bytes)
+      (bits c.put_second.new.bytes) c.front_size-begin.result _ begin next_is
+      (subst (λ k. PutsPair (pair_bits k.version k.channels)
+      (get_or t.granules 0 []) c.front_size-begin.result old (bits c.put_pair.new.bytes))
+      c.class.view_is c.put_pair.ensures.put)
+      (subst (λ k. PutsPair (second_bits k.version k.channels) (get_or t.granules 1 [])
+      (c.front_size-begin.result + c.granule_width.result * c.from.result) (bits
+      c.put_pair.new.bytes) (bits c.put_second.new.bytes)) c.class.view_is c.put_second.ensures.put)
+      (side_at d old) (IsShaped-side_at d old)
+      (sym (side_bits-side_at d class old (AreBits-bits c.args.bytes.now)
+      (length-bits c.args.bytes.now ∙ ap (λ n. 8 * n) c.requires.size))) other;
   first = search rules;
   second = search rules;
 }

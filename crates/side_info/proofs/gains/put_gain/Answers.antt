@@ -5,4 +5,5 @@ use Rattle.side_info.proofs.gains.put_gain.Goals as goal
 
 pub returns : goal.returns
 returns c version g before after l e =
-    gain_put version g c.args.gain c.args.at before after (bits c.args.bytes.now) (bits c.put_byte.new.bytes) c.put_byte.ensures l e
+    gain_put version g c.args.gain c.args.at before after (bits c.args.bytes.now)
+    (bits c.put_byte.new.bytes) c.put_byte.ensures l e

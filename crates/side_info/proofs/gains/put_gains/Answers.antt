@@ -1,36 +1,61 @@
 -- The side information and the check word, where there is one, are those of the other gains.
-use Rattle.std.proofs.Common.{rules, ◌≡◌, ℕ, ◌+◌, List, ◌++◌, take, drop, true, false, sym, ap, ap₂, ◌∙◌, subst, arith}
-use Rattle.std.proofs.lemmas.List.{drop-drop}
-use Rattle.bit_fields.specs.Bits.{bits, bits_of, bytes, AreBytes}
-use Rattle.side_info.specs.CheckWord.{check_word_of}
-use Rattle.bit_fields.proofs.BitsLaws.{AreBytes-from_places, AreBelow-drop}
+use Rattle.std.proofs.Common.{ap, ap₂, arith, drop, false, List, rules, subst, sym, take, true, ℕ}
+use Rattle.std.proofs.{Common.{◌++◌, ◌+◌, ◌∙◌, ◌≡◌}, lemmas.List.drop-drop}
+use Rattle.bit_fields.proofs.BitsLaws.{AreBelow-drop, AreBytes-from_places}
+use Rattle.bit_fields.specs.Bits.{AreBytes, bits, bits_of, bytes}
 use Rattle.frame_header.specs.Fields.{ClassFields, HeaderFields}
-use Rattle.frame_header.specs.Tables.{class_of, side_size_of, overhead_of}
-use Rattle.side_info.specs.Side.{side_at, side_bits, HasOtherGains}
-use Rattle.side_info.specs.Frame.{side_place, side_in, side_part}
+use Rattle.frame_header.specs.Tables.{class_of, overhead_of, side_size_of}
 use Rattle.side_info.proofs.FrameLaws.{overhead-protected, overhead-unprotected}
 use Rattle.side_info.proofs.GainsLaws.{gains-protected, gains-unprotected}
+use Rattle.side_info.specs.{CheckWord.check_word_of, Frame.{side_in, side_part, side_place}}
+use Rattle.side_info.specs.Side.{HasOtherGains, side_at, side_bits}
 use Rattle.side_info.proofs.gains.put_gains.Goals as goal
 
 pub put_at_place-requires : goal.put_at_place-requires
 put_at_place-requires c =
-    let is : c.args.front.now.header.protected ≡ true = sym c.protected.ensures ∙ c.if-protected.true in
-    record { room = omega (arith, c.requires.room, overhead-protected c.args.front.now.header is, ap side_size_of c.requires.class) }
+    let is : c.args.front.now.header.protected ≡ true =
+    sym c.protected.ensures ∙ c.if-protected.true in
+    record {
+      room = omega (
+        arith,
+        c.requires.room,
+        overhead-protected c.args.front.now.header is,
+        ap side_size_of c.requires.class,
+      );
+    }
 
 pub put_right_word-requires : goal.put_right_word-requires
 put_right_word-requires c =
-    let is : c.args.front.now.header.protected ≡ true = sym c.protected.ensures ∙ c.if-protected.true in
-    omega (arith, c.requires.room, overhead-protected c.args.front.now.header is, c.put_at_place.auto.frame, ap (λ h. side_size_of (class_of h)) c.header.ensures)
+    let is : c.args.front.now.header.protected ≡ true =
+    sym c.protected.ensures ∙ c.if-protected.true in
+    omega (
+      arith,
+      c.requires.room,
+      overhead-protected c.args.front.now.header is,
+      c.put_at_place.auto.frame,
+      ap (λ h. side_size_of (class_of h)) c.header.ensures,
+    )
 
 pub put_at_place-requires-else-protected : goal.put_at_place-requires-else-protected
 put_at_place-requires-else-protected c =
-    let is : c.args.front.now.header.protected ≡ false = sym c.protected.ensures ∙ c.if-protected.false in
-    record { room = omega (arith, c.requires.room, overhead-unprotected c.args.front.now.header is, ap side_size_of c.requires.class) }
+    let is : c.args.front.now.header.protected ≡ false =
+    sym c.protected.ensures ∙ c.if-protected.false in
+    record {
+      room = omega (
+        arith,
+        c.requires.room,
+        overhead-unprotected c.args.front.now.header is,
+        ap side_size_of c.requires.class,
+      );
+    }
 
 -- the side information of a frame, read at its place
-side_read : (h : HeaderFields) (d : ClassFields) (place : ℕ) (frame : List ℕ) → d ≡ class_of h → side_place h.protected ≡ place → side_in h frame ≡ side_at d (bits (take (side_size_of d) (drop place frame)))
+side_read : (h : HeaderFields) (d : ClassFields) (place : ℕ) (frame : List ℕ) → d ≡ class_of h
+    → side_place h.protected ≡ place
+    → side_in h frame ≡ side_at d (bits (take (side_size_of d) (drop place frame)))
 unfolding side_in side_part
-side_read h d place frame class at = ap₂ (λ (d : ClassFields) k. side_at d (bits (take (side_size_of d) (drop k frame)))) (sym class) at
+side_read h d place frame class at = ap₂ (λ (d : ClassFields) k. side_at d
+    (bits (take (side_size_of d) (drop k frame)))) (sym class) at
 
 pub returns-then-protected : goal.returns-then-protected
 returns-then-protected c = record {
@@ -48,7 +73,8 @@ returns-then-protected c = record {
       ∙ sym (drop-drop size 6 new)
       ∙ ap (drop size) c.put_right_word.ensures.behind
       ∙ drop-drop size 6 middle
-      ∙ subst (λ d. drop (6 + side_size_of d) middle ≡ drop (6 + side_size_of d) old) class c.put_at_place.ensures.behind
+      ∙ subst (λ d. drop (6 + side_size_of d) middle ≡ drop (6 + side_size_of d) old) class
+      c.put_at_place.ensures.behind
       ∙ sym (ap (λ n. drop n old) over);
   gains = λ other. let h = c.args.front.now.header in
       let t = c.args.side.now in
@@ -58,11 +84,18 @@ returns-then-protected c = record {
       let class = c.requires.class in
       let is : h.protected ≡ true = sym c.protected.ensures ∙ c.if-protected.true in
       let same = side_read h c.args.class 6 old class (ap side_place is) in
-      let side = subst (λ d. bits (take (side_size_of d) (drop 6 middle)) ≡ side_bits d t) class (c.put_at_place.ensures.side (subst (λ s. HasOtherGains s t) same other)) in
-      let all : AreBytes (drop 6 middle) = subst AreBytes c.put_right_word.ensures.behind (AreBelow-drop 256 6 new (AreBytes-from_places new (λ i. omega (arith, c.type_inv.frame i)))) in
+      let side = subst (λ d. bits (take (side_size_of d) (drop 6 middle)) ≡ side_bits d t) class
+      (c.put_at_place.ensures.side (subst (λ s. HasOtherGains s t) same other)) in
+      let all : AreBytes (drop 6 middle) =
+      subst AreBytes c.put_right_word.ensures.behind (AreBelow-drop 256 6 new
+      (AreBytes-from_places new (λ i. omega (arith, c.type_inv.frame i)))) in
       gains-protected h t old middle new is all c.put_at_place.ensures.before
-      (subst (λ d. drop (6 + side_size_of d) middle ≡ drop (6 + side_size_of d) old) class c.put_at_place.ensures.behind)
-      side (subst (λ k. bits (take (side_size_of (class_of k)) (drop 6 middle)) ≡ side_bits (class_of k) t → new ≡ take 4 middle ++ (bytes (bits_of 16 (check_word_of k t)) ++ drop 6 middle)) c.header.ensures (c.put_right_word.ensures.word t) side);
+      (subst (λ d. drop (6 + side_size_of d) middle ≡ drop (6 + side_size_of d) old) class
+      c.put_at_place.ensures.behind)
+      side (subst
+      (λ k. bits (take (side_size_of (class_of k)) (drop 6 middle)) ≡ side_bits (class_of k) t
+      → new ≡ take 4 middle ++ (bytes (bits_of 16 (check_word_of k t)) ++ drop 6 middle))
+      c.header.ensures (c.put_right_word.ensures.word t) side);
 }
 
 pub returns-else-protected : goal.returns-else-protected
@@ -73,9 +106,11 @@ returns-else-protected c = record {
       let old = c.args.frame.now in
       let new = c.put_at_place-else-protected.new.frame in
       let is : h.protected ≡ false = sym c.protected.ensures ∙ c.if-protected.false in
-      let over : overhead_of (class_of h) h.protected ≡ 4 + side_size_of (class_of h) = overhead-unprotected h is in
+      let over : overhead_of (class_of h) h.protected ≡ 4 + side_size_of (class_of h) =
+      overhead-unprotected h is in
       ap (λ n. drop n new) over
-      ∙ subst (λ d. drop (4 + side_size_of d) new ≡ drop (4 + side_size_of d) old) c.requires.class c.put_at_place-else-protected.ensures.behind
+      ∙ subst (λ d. drop (4 + side_size_of d) new ≡ drop (4 + side_size_of d) old)
+      c.requires.class c.put_at_place-else-protected.ensures.behind
       ∙ sym (ap (λ n. drop n old) over);
   gains = λ other. let h = c.args.front.now.header in
       let t = c.args.side.now in
@@ -86,6 +121,8 @@ returns-else-protected c = record {
       let same = side_read h c.args.class 4 old class (ap side_place is) in
       let all : AreBytes new = AreBytes-from_places new (λ i. omega (arith, c.type_inv.frame i)) in
       gains-unprotected h t old new is all c.put_at_place-else-protected.ensures.before
-      (subst (λ d. drop (4 + side_size_of d) new ≡ drop (4 + side_size_of d) old) class c.put_at_place-else-protected.ensures.behind)
-      (subst (λ d. bits (take (side_size_of d) (drop 4 new)) ≡ side_bits d t) class (c.put_at_place-else-protected.ensures.side (subst (λ s. HasOtherGains s t) same other)));
+      (subst (λ d. drop (4 + side_size_of d) new ≡ drop (4 + side_size_of d) old) class
+      c.put_at_place-else-protected.ensures.behind)
+      (subst (λ d. bits (take (side_size_of d) (drop 4 new)) ≡ side_bits d t) class
+      (c.put_at_place-else-protected.ensures.side (subst (λ s. HasOtherGains s t) same other)));
 }

@@ -1,14 +1,18 @@
 -- One channel, or the second after the first.
-use Rattle.std.proofs.Common.{◌+◌, arith, ap}
+use Rattle.std.proofs.Common.{ap, arith, ◌+◌}
 use Rattle.bit_fields.specs.Bits.{bits}
-use Rattle.side_info.proofs.GainsLaws.{one_put, both_put}
+use Rattle.side_info.proofs.GainsLaws.{both_put, one_put}
 use Rattle.side_info.proofs.gains.put_pair.Goals as goal
 
 pub returns-then-channels-eq1-clause-put : goal.returns-then-channels-eq1-clause-put
 returns-then-channels-eq1-clause-put c gs before after =
-    one_put c.args.version c.args.channels c.args.at gs c.args.pair.now before after (bits c.args.bytes.now) (bits c.put_gain.new.bytes) c.if-channels-eq1.true (omega arith) c.put_gain.ensures
+    one_put c.args.version c.args.channels c.args.at gs c.args.pair.now before after
+    (bits c.args.bytes.now)
+    (bits c.put_gain.new.bytes) c.if-channels-eq1.true (omega arith) c.put_gain.ensures
 
 pub returns-clause-put : goal.returns-clause-put
 returns-clause-put c gs before after =
-    both_put c.args.version c.args.channels c.args.at _ gs c.args.pair.now before after (bits c.args.bytes.now) (bits c.put_gain.new.bytes) (bits c.put_gain-2.new.bytes) (omega (arith, c.if-channels-eq1.false)) (omega arith)
+    both_put c.args.version c.args.channels c.args.at _ gs c.args.pair.now before after
+    (bits c.args.bytes.now) (bits c.put_gain.new.bytes) (bits c.put_gain-2.new.bytes)
+    (omega (arith, c.if-channels-eq1.false)) (omega arith)
     (ap (λ n. c.args.at + n) c.granule_width.ensures) c.put_gain.ensures c.put_gain-2.ensures

@@ -1,50 +1,68 @@
 -- The parts take all the bits in turn.
-use Rattle.std.proofs.Common.{◌≡◌, ◌+◌, ◌-◌, ◌*◌, ◌≤◌, length, take, drop, ap, ap₂, ◌∙◌, sym, arith, lit≤}
-use Rattle.std.proofs.lemmas.List.{take_all}
+use Rattle.std.proofs.Common.{ap, ap₂, arith, drop, length, lit≤, sym, take, ◌*◌, ◌+◌, ◌-◌, ◌∙◌}
+use Rattle.std.proofs.{Common.{◌≡◌, ◌≤◌}, lemmas.List.take_all}
 use Rattle.bit_fields.specs.Bits.{bits}
-use Rattle.frame_header.specs.Fields.{IsClass}
-use Rattle.frame_header.specs.Tables.{granules_of}
-use Rattle.side_info.specs.Granule.{granule_size}
-use Rattle.side_info.specs.Parts.{class_with, front_size, front_at, pair_at, second_at}
-use Rattle.side_info.proofs.ReadLaws.{parts_size, side_size-small, second_room, set_both, side_is}
+use Rattle.frame_header.specs.{Fields.IsClass, Tables.granules_of}
+use Rattle.side_info.proofs.ReadLaws.{parts_size, second_room, set_both, side_is, side_size-small}
+use Rattle.side_info.{proofs.side.read_parts.Goals.After-from, specs.Granule.granule_size}
+use Rattle.side_info.specs.Parts.{class_with, front_at, front_size, pair_at, second_at}
 use Rattle.side_info.proofs.side.read_parts.Goals as goal
-use Rattle.side_info.proofs.side.read_parts.Goals.{After-from}
 
 class : (c : After-from) → IsClass (class_with c.args.version 0 c.args.channels)
 class c = (lit≤ tt, c.requires.channels.some, c.requires.channels.few)
 
 -- all the bytes
 whole : (c : After-from) → take c.side_size.result c.args.bytes.now ≡ c.args.bytes.now
-whole c = take_all c.side_size.result c.args.bytes.now (omega (arith, c.requires.size, c.side_size.ensures))
+whole c = take_all c.side_size.result c.args.bytes.now
+    (omega (arith, c.requires.size, c.side_size.ensures))
 
-size : (c : After-from) → 8 * length (take c.side_size.result c.args.bytes.now) ≡ front_size c.args.version c.args.channels + (c.args.channels * granule_size c.args.version + (granules_of c.args.version - 1) * (c.args.channels * granule_size c.args.version))
-size c = ap (λ xs. 8 * length xs) (whole c) ∙ ap (λ n. 8 * n) c.requires.size ∙ sym (parts_size (class_with c.args.version 0 c.args.channels) (class c))
+size : (c : After-from) → 8 * length (take c.side_size.result c.args.bytes.now)
+    ≡ front_size c.args.version c.args.channels + (c.args.channels * granule_size c.args.version
+    + (granules_of c.args.version - 1) * (c.args.channels * granule_size c.args.version))
+size c = ap (λ xs. 8 * length xs) (whole c) ∙ ap (λ n. 8 * n) c.requires.size
+    ∙ sym (parts_size (class_with c.args.version 0 c.args.channels) (class c))
 
 short : (c : After-from) → length (take c.side_size.result c.args.bytes.now) ≤ 32
-short c = omega (arith, ap length (whole c), c.requires.size, side_size-small (class_with c.args.version 0 c.args.channels))
+short c = omega (
+  arith,
+  ap length (whole c),
+  c.requires.size,
+  side_size-small (class_with c.args.version 0 c.args.channels),
+)
 
 pub read_front-front-requires-clause-enough : goal.read_front-front-requires-clause-enough
-read_front-front-requires-clause-enough c = omega (arith, size (goal.at.read_front-front-requires-clause-enough c).After-from)
+read_front-front-requires-clause-enough c =
+    omega (arith, size (goal.at.read_front-front-requires-clause-enough c).After-from)
 
 pub read_front-front-requires-clause-short : goal.read_front-front-requires-clause-short
-read_front-front-requires-clause-short c = omega (arith, short (goal.at.read_front-front-requires-clause-short c).After-from)
+read_front-front-requires-clause-short c =
+    omega (arith, short (goal.at.read_front-front-requires-clause-short c).After-from)
 
 pub read_pair-requires-clause-enough : goal.read_pair-requires-clause-enough
-read_pair-requires-clause-enough c = omega (arith, size (goal.at.read_pair-requires-clause-enough c).After-from, c.front_size-begin.ensures)
+read_pair-requires-clause-enough c = omega (
+  arith,
+  size (goal.at.read_pair-requires-clause-enough c).After-from,
+  c.front_size-begin.ensures,
+)
 
 pub read_pair-requires-clause-short : goal.read_pair-requires-clause-short
-read_pair-requires-clause-short c = omega (arith, short (goal.at.read_pair-requires-clause-short c).After-from)
+read_pair-requires-clause-short c =
+    omega (arith, short (goal.at.read_pair-requires-clause-short c).After-from)
 
-next : (c : After-from) → c.front_size-begin.result + c.granule_width.result * c.from.result ≡ front_size c.args.version c.args.channels + c.args.channels * granule_size c.args.version
-next c = ap₂ (λ m n. m + n) c.front_size-begin.ensures (ap₂ (λ m n. m * n) c.granule_width.ensures c.from.ensures ∙ omega arith)
+next : (c : After-from) → c.front_size-begin.result + c.granule_width.result * c.from.result
+    ≡ front_size c.args.version c.args.channels + c.args.channels * granule_size c.args.version
+next c = ap₂ (λ m n. m + n) c.front_size-begin.ensures
+    (ap₂ (λ m n. m * n) c.granule_width.ensures c.from.ensures ∙ omega arith)
 
 pub read_second-requires-clause-enough : goal.read_second-requires-clause-enough
 read_second-requires-clause-enough c two =
     let at = (goal.at.read_second-requires-clause-enough c).After-from in
-    second_room (granules_of c.args.version) (front_size c.args.version c.args.channels) (c.args.channels * granule_size c.args.version) _ _ two (next at) (size at)
+    second_room (granules_of c.args.version) (front_size c.args.version c.args.channels)
+    (c.args.channels * granule_size c.args.version) _ _ two (next at) (size at)
 
 pub read_second-requires-clause-short : goal.read_second-requires-clause-short
-read_second-requires-clause-short c = omega (arith, short (goal.at.read_second-requires-clause-short c).After-from)
+read_second-requires-clause-short c =
+    omega (arith, short (goal.at.read_second-requires-clause-short c).After-from)
 
 pub returns : goal.returns
 returns c =
@@ -55,7 +73,11 @@ returns c =
       scfsi = c.read_front-front.result.scfsi;
       granules = granules;
     }) (set_both c.args.side.now.granules c.read_pair.new.pair c.read_second.new.pair (omega arith))
-    ∙ side_is (class_with c.args.version 0 c.args.channels) (bits c.args.bytes.now) c.read_front-front.result c.read_pair.new.pair c.read_second.new.pair
-    (c.read_front-front.ensures ∙ ap (λ xs. front_at c.args.version c.args.channels (bits xs)) (whole at))
-    (c.read_pair.ensures ∙ ap₂ (λ xs k. pair_at c.args.version c.args.channels (drop k (bits xs))) (whole at) c.front_size-begin.ensures)
-    (c.read_second.ensures ∙ ap₂ (λ xs k. second_at c.args.version c.args.channels (drop k (bits xs))) (whole at) (next at))
+    ∙ side_is (class_with c.args.version 0 c.args.channels)
+    (bits c.args.bytes.now) c.read_front-front.result c.read_pair.new.pair c.read_second.new.pair
+    (c.read_front-front.ensures
+    ∙ ap (λ xs. front_at c.args.version c.args.channels (bits xs)) (whole at))
+    (c.read_pair.ensures ∙ ap₂ (λ xs k. pair_at c.args.version c.args.channels (drop k (bits xs)))
+    (whole at) c.front_size-begin.ensures)
+    (c.read_second.ensures ∙ ap₂
+    (λ xs k. second_at c.args.version c.args.channels (drop k (bits xs))) (whole at) (next at))

@@ -1,36 +1,50 @@
 -- The fields are joined to one number.
-use Rattle.std.proofs.Common.{◌≡◌, ℕ, ◌+◌, ◌^◌, ◌<◌, [], ◌∷◌, get_or, subst, sym, ap, ◌∙◌, arith, rules, sum}
-use Rattle.bit_fields.specs.Bits.{bits_of}
-use Rattle.bit_fields.specs.Groups.{spelled}
-use Rattle.bit_fields.proofs.GroupsLaws.{joined}
-use Rattle.side_info.specs.Side.{front_widths_of}
+use Rattle.std.proofs.Common.{ap, arith, get_or, rules, subst, sum, sym, ℕ, [], ◌+◌, ◌<◌, ◌^◌, ◌∙◌}
+use Rattle.std.proofs.Common.{◌∷◌, ◌≡◌}
+use Rattle.bit_fields.{proofs.GroupsLaws.joined, specs.{Bits.bits_of, Groups.spelled}}
 use Rattle.side_info.proofs.WriteLaws.{front_of_one, front_of_two, front_spelled}
+use Rattle.side_info.{proofs.writing.front_word.Goals.After-from-second, specs.Side.front_widths_of}
 use Rattle.side_info.proofs.writing.front_word.Goals as goal
-use Rattle.side_info.proofs.writing.front_word.Goals.{After-from-second}
 
 -- the number that joins the fields by these widths has their bits
-word_of : (c : After-from-second) (begin private first second n : ℕ) → begin ∷ private ∷ first ∷ second ∷ [] ≡ front_widths_of c.args.version c.args.channels
-    → (c.from-first.result < 2 ^ first → c.from-second.result < 2 ^ second → n ≡ joined (begin ∷ private ∷ first ∷ second ∷ []) (c.from-begin.result ∷ c.from-private_bits.result ∷ c.from-first.result ∷ c.from-second.result ∷ []))
-    → bits_of (sum (front_widths_of c.args.version c.args.channels)) n ≡ spelled (front_widths_of c.args.version c.args.channels) (c.args.side.now.main_data_begin ∷ c.args.side.now.private_bits ∷ c.args.side.now.scfsi)
+word_of : (c : After-from-second) (begin private first second n : ℕ)
+    → begin ∷ private ∷ first ∷ second ∷ [] ≡ front_widths_of c.args.version c.args.channels
+    → (c.from-first.result < 2 ^ first → c.from-second.result < 2 ^ second
+    → n ≡ joined (begin ∷ private ∷ first ∷ second ∷ []) (c.from-begin.result
+    ∷ c.from-private_bits.result ∷ c.from-first.result ∷ c.from-second.result ∷ []))
+    → bits_of (sum (front_widths_of c.args.version c.args.channels)) n
+    ≡ spelled (front_widths_of c.args.version c.args.channels)
+    (c.args.side.now.main_data_begin ∷ c.args.side.now.private_bits ∷ c.args.side.now.scfsi)
 word_of c begin private first second n is joins =
     let side = c.args.side.now in
-    let scfsi = λ (k : ℕ). subst (λ vs. get_or side.scfsi k 0 < 2 ^ get_or vs (2 + k) 0) (sym is) (c.requires.scfsi k) in
-    front_spelled begin private first second (front_widths_of c.args.version c.args.channels) is side.main_data_begin side.private_bits side.scfsi n c.requires.begin c.requires.private_bits c.requires.scfsi (omega arith)
-    (joins (omega (arith, c.from-first.ensures, scfsi 0)) (omega (arith, c.from-second.ensures, scfsi 1))
-    ∙ (λ i. joined (begin ∷ private ∷ first ∷ second ∷ []) (c.from-begin.ensures i ∷ c.from-private_bits.ensures i ∷ c.from-first.ensures i ∷ c.from-second.ensures i ∷ [])))
+    let scfsi = λ (k : ℕ). subst (λ vs. get_or side.scfsi k 0 < 2 ^ get_or vs (2 + k) 0) (sym is)
+    (c.requires.scfsi k) in
+    front_spelled begin private first second (front_widths_of c.args.version c.args.channels) is
+    side.main_data_begin side.private_bits side.scfsi n
+    c.requires.begin c.requires.private_bits c.requires.scfsi (omega arith)
+    (joins (omega (arith, c.from-first.ensures, scfsi 0))
+    (omega (arith, c.from-second.ensures, scfsi 1))
+    ∙ (λ i. joined (begin ∷ private ∷ first ∷ second ∷ []) (c.from-begin.ensures i
+    ∷ c.from-private_bits.ensures i ∷ c.from-first.ensures i ∷ c.from-second.ensures i ∷ [])))
 
 pub returns-in-One-true : goal.returns-in-One-true
 unfolding joined
-returns-in-One-true c = word_of (goal.at.returns-in-One-true c).After-from-second 9 5 4 0 _ (ap (λ v. front_widths_of v 1) (sym c.in-One-true.is-0) ∙ front_of_one c.args.version c.args.channels c.in-One-true.is-1) (λ a b. omega (arith, a, b))
+returns-in-One-true c = word_of (goal.at.returns-in-One-true c).After-from-second 9 5 4 0 _
+    (ap (λ v. front_widths_of v 1) (sym c.in-One-true.is-0)
+    ∙ front_of_one c.args.version c.args.channels c.in-One-true.is-1) (λ a b. omega (arith, a, b))
 
 pub returns-in-One-false : goal.returns-in-One-false
 unfolding joined
-returns-in-One-false c = word_of (goal.at.returns-in-One-false c).After-from-second 9 3 4 4 _ (ap (λ v. front_widths_of v 2) (sym c.in-One-false.is-0) ∙ front_of_two c.args.version c.args.channels c.in-One-false.is-1) (λ a b. omega (arith, a, b))
+returns-in-One-false c = word_of (goal.at.returns-in-One-false c).After-from-second 9 3 4 4 _
+    (ap (λ v. front_widths_of v 2) (sym c.in-One-false.is-0)
+    ∙ front_of_two c.args.version c.args.channels c.in-One-false.is-1) (λ a b. omega (arith, a, b))
 
 pub returns-in-Two-true : goal.returns-in-Two-true
 unfolding joined
-returns-in-Two-true c = word_of (goal.at.returns-in-Two-true c).After-from-second 8 1 0 0 _ (search rules) (λ a b. omega (arith, a, b))
+returns-in-Two-true c = word_of (goal.at.returns-in-Two-true c).After-from-second 8 1 0 0 _
+    (search rules) (λ a b. omega (arith, a, b))
 
 pub returns-in-Two-false : goal.returns-in-Two-false
 unfolding joined
-returns-in-Two-false c = word_of (goal.at.returns-in-Two-false c).After-from-second 8 2 0 0 _ (search rules) (λ a b. omega (arith, a, b))
+returns-in-Two-false c = word_of (goal.at.returns-in-Two-false c).After-from-second 8 2 0 0 _
+    (search rules) (λ a b. omega (arith, a, b))

@@ -1,29 +1,65 @@
 -- The fields are joined to one number.
-use Rattle.std.proofs.Common.{◌≡◌, ◌+◌, ◌*◌, ◌%◌, ◌^◌, ◌<◌, arith}
-use Rattle.side_info.specs.Granule.{bit_of}
-use Rattle.side_info.proofs.WriteLaws.{bool_byte-is, upper_fits, word_below, word_fits, word_bits}
-use Rattle.side_info.proofs.writing.granule_word.Goals as goal
+use Rattle.std.proofs.Common.{arith, ◌%◌, ◌*◌, ◌+◌, ◌<◌, ◌^◌, ◌≡◌}
+use Rattle.side_info.proofs.WriteLaws.{bool_byte-is, upper_fits, word_below, word_bits, word_fits}
 use Rattle.side_info.proofs.writing.granule_word.Goals.{After-compress_width, After-preflag_width}
+use Rattle.side_info.specs.Granule.{bit_of}
+use Rattle.side_info.proofs.writing.granule_word.Goals as goal
 
-first : (c : After-preflag_width) → c.from.result * 131072 + c.from-2.result * 256 + c.from-3.result ≡ c.args.granule.now.part2_3_length * 131072 + c.args.granule.now.big_values * 256 + c.args.granule.now.global_gain
+first : (c : After-preflag_width) → c.from.result * 131072 + c.from-2.result * 256 + c.from-3.result
+    ≡ c.args.granule.now.part2_3_length * 131072 + c.args.granule.now.big_values * 256
+    + c.args.granule.now.global_gain
 first c = omega (arith, c.from.ensures, c.from-2.ensures, c.from-3.ensures)
 
-middle : (c : After-preflag_width) → c.from-4.result * 8388608 + c.from-5.result * 4194304 + c.from-6.result ≡ c.args.granule.now.scalefac_compress * 8388608 + bit_of c.args.granule.now.window_switching * 4194304 + c.args.granule.now.detail
-middle c = omega (arith, c.from-4.ensures, c.from-5.ensures, c.from-6.ensures, bool_byte-is c.args.granule.now.window_switching)
+middle : (c : After-preflag_width)
+    → c.from-4.result * 8388608 + c.from-5.result * 4194304 + c.from-6.result
+    ≡ c.args.granule.now.scalefac_compress * 8388608
+    + bit_of c.args.granule.now.window_switching * 4194304 + c.args.granule.now.detail
+middle c = omega (
+  arith,
+  c.from-4.ensures,
+  c.from-5.ensures,
+  c.from-6.ensures,
+  bool_byte-is c.args.granule.now.window_switching,
+)
 
-last : (c : After-preflag_width) → c.from-7.result * 4 + c.from-8.result * 2 + c.from-9.result ≡ bit_of c.args.granule.now.preflag * 4 + bit_of c.args.granule.now.scalefac_scale * 2 + bit_of c.args.granule.now.count1table_select
-last c = omega (arith, c.from-7.ensures, c.from-8.ensures, c.from-9.ensures, bool_byte-is c.args.granule.now.preflag, bool_byte-is c.args.granule.now.scalefac_scale, bool_byte-is c.args.granule.now.count1table_select)
+last : (c : After-preflag_width) → c.from-7.result * 4 + c.from-8.result * 2 + c.from-9.result
+    ≡ bit_of c.args.granule.now.preflag * 4 + bit_of c.args.granule.now.scalefac_scale * 2
+    + bit_of c.args.granule.now.count1table_select
+last c = omega (
+  arith,
+  c.from-7.ensures,
+  c.from-8.ensures,
+  c.from-9.ensures,
+  bool_byte-is c.args.granule.now.preflag,
+  bool_byte-is c.args.granule.now.scalefac_scale,
+  bool_byte-is c.args.granule.now.count1table_select,
+)
 
-fits : (c : After-preflag_width) → ((c.from.result * 131072 + c.from-2.result * 256 + c.from-3.result) * (1 * 2 ^ (c.compress_width.result + 23) % 18446744073709551616) + (c.from-4.result * 8388608 + c.from-5.result * 4194304 + c.from-6.result)) * (1 * 2 ^ (c.preflag_width.result + 2) % 18446744073709551616) + (c.from-7.result * 4 + c.from-8.result * 2 + c.from-9.result) < 2 ^ 64
-fits c = word_fits c.args.version c.args.granule.now c.requires.fits c.compress_width.result c.preflag_width.result _ _ _ c.compress_width.ensures.width c.preflag_width.ensures.width (first c) (middle c) (last c)
+fits : (c : After-preflag_width)
+    → ((c.from.result * 131072 + c.from-2.result * 256 + c.from-3.result)
+    * (1 * 2 ^ (c.compress_width.result + 23) % 18446744073709551616)
+    + (c.from-4.result * 8388608 + c.from-5.result * 4194304 + c.from-6.result))
+    * (1 * 2 ^ (c.preflag_width.result + 2) % 18446744073709551616)
+    + (c.from-7.result * 4 + c.from-8.result * 2 + c.from-9.result) < 2 ^ 64
+fits c = word_fits c.args.version c.args.granule.now c.requires.fits c.compress_width.result
+    c.preflag_width.result _ _ _
+    c.compress_width.ensures.width c.preflag_width.ensures.width (first c) (middle c) (last c)
 
 upper : (c : After-compress_width)
-    → (c.from.result * 131072 + c.from-2.result * 256 + c.from-3.result) * (1 * 2 ^ (c.compress_width.result + 23) % 18446744073709551616)
+    → (c.from.result * 131072 + c.from-2.result * 256 + c.from-3.result)
+    * (1 * 2 ^ (c.compress_width.result + 23) % 18446744073709551616)
     + (c.from-4.result * 8388608 + c.from-5.result * 4194304 + c.from-6.result) < 2 ^ 64
 upper c =
-    upper_fits c.args.version c.args.granule.now c.requires.fits c.compress_width.result _ _ c.compress_width.ensures.width
+    upper_fits c.args.version c.args.granule.now c.requires.fits c.compress_width.result _ _
+    c.compress_width.ensures.width
     (omega (arith, c.from.ensures, c.from-2.ensures, c.from-3.ensures))
-    (omega (arith, c.from-4.ensures, c.from-5.ensures, c.from-6.ensures, bool_byte-is c.args.granule.now.window_switching))
+    (omega (
+      arith,
+      c.from-4.ensures,
+      c.from-5.ensures,
+      c.from-6.ensures,
+      bool_byte-is c.args.granule.now.window_switching,
+    ))
 
 pub overflow_mul-upper : goal.overflow_mul-upper
 overflow_mul-upper c = omega (arith, upper (goal.at.overflow_mul-upper c).After-compress_width)
@@ -40,9 +76,13 @@ overflow_add-result-2 c = omega (arith, fits (goal.at.overflow_add-result-2 c).A
 pub returns-clause-word : goal.returns-clause-word
 returns-clause-word c =
     let at = (goal.at.returns-clause-word c).After-preflag_width in
-    word_bits c.args.version c.args.granule.now c.requires.fits c.compress_width.result c.preflag_width.result _ _ _ c.compress_width.ensures.width c.preflag_width.ensures.width (first at) (middle at) (last at)
+    word_bits c.args.version c.args.granule.now c.requires.fits c.compress_width.result
+    c.preflag_width.result _ _ _
+    c.compress_width.ensures.width c.preflag_width.ensures.width (first at) (middle at) (last at)
 
 pub returns-clause-below : goal.returns-clause-below
 returns-clause-below c =
     let at = (goal.at.returns-clause-below c).After-preflag_width in
-    word_below c.args.version c.args.granule.now c.requires.fits c.compress_width.result c.preflag_width.result _ _ _ c.compress_width.ensures.width c.preflag_width.ensures.width (first at) (middle at) (last at)
+    word_below c.args.version c.args.granule.now c.requires.fits c.compress_width.result
+    c.preflag_width.result _ _ _
+    c.compress_width.ensures.width c.preflag_width.ensures.width (first at) (middle at) (last at)

@@ -1,15 +1,17 @@
 -- Four words are put one after the other.
-use Rattle.std.proofs.Common.{◌*◌, get_or, ap, ◌∙◌, arith}
-use Rattle.bit_fields.specs.Bits.{bits, bits_of}
-use Rattle.bit_fields.proofs.BitsLaws.{length-bits}
-use Rattle.side_info.proofs.WriteLaws.{four_put, four_of}
+use Rattle.std.proofs.Common.{ap, arith, get_or, ◌*◌, ◌∙◌}
+use Rattle.bit_fields.{proofs.BitsLaws.length-bits, specs.Bits.{bits, bits_of}}
+use Rattle.side_info.proofs.WriteLaws.{four_of, four_put}
 use Rattle.side_info.proofs.writing.put_four.Goals as goal
 
 pub returns : goal.returns
 returns c =
     let gs = c.args.granules in
-    four_put (bits c.args.bytes.now) (bits c.set_word.new.bytes) (bits c.set_word-2.new.bytes) (bits c.set_word-3.new.bytes) (bits c.set_word-4.new.bytes)
-    c.args.front (get_or gs 0 0) (get_or gs 1 0) (get_or gs 2 0) (get_or gs 3 0) c.spanned.result c.spanned-2.result c.spanned-3.result c.spanned-4.result
+    four_put (bits c.args.bytes.now) (bits c.set_word.new.bytes) (bits c.set_word-2.new.bytes)
+    (bits c.set_word-3.new.bytes) (bits c.set_word-4.new.bytes)
+    c.args.front (get_or gs 0 0) (get_or gs 1 0) (get_or gs 2 0)
+    (get_or gs 3 0) c.spanned.result c.spanned-2.result c.spanned-3.result c.spanned-4.result
     (length-bits c.args.bytes.now ∙ ap (λ n. 8 * n) c.requires.room)
-    c.spanned.ensures c.spanned-2.ensures c.spanned-3.ensures c.spanned-4.ensures c.set_word.ensures c.set_word-2.ensures c.set_word-3.ensures c.set_word-4.ensures
+    c.spanned.ensures c.spanned-2.ensures c.spanned-3.ensures c.spanned-4.ensures c.set_word.ensures
+    c.set_word-2.ensures c.set_word-3.ensures c.set_word-4.ensures
     ∙ four_of gs (bits_of 20 c.args.front) (omega arith)

@@ -1,16 +1,23 @@
 -- One slot is the first that isn't too small, or the last is.
-use Rattle.std.proofs.Common.{◌-◌, length, arith}
-use Rattle.slot_plan.proofs.AreaLaws.{least-first, area-last}
+use Rattle.std.proofs.Common.{arith, length, ◌-◌}
+use Rattle.slot_plan.proofs.AreaLaws.{area-last, least-first}
 use Rattle.slot_plan.proofs.ascending.least_slot_among.Goals as goal
 
 pub returns-then-wanted-from : goal.returns-then-wanted-from
 returns-then-wanted-from c =
-    least-first c.args.wanted c.args.class c.args.protected c.args.slots.now c.loop-place.place c.index-slots-place.result (omega (arith, c.loop-place-test.true)) c.index-slots-place.is c.requires.rising.ascending
-    (λ k before. c.loop-place.invariant k c.index-slots-place.result before) (omega (arith, c.if-wanted-from.true, c.from.ensures, c.area_of.ensures.area))
+    least-first c.args.wanted c.args.class c.args.protected c.args.slots.now c.loop-place.place
+    c.index-slots-place.result (omega (arith, c.loop-place-test.true))
+    c.index-slots-place.is c.requires.rising.ascending
+    (λ k before. c.loop-place.invariant k c.index-slots-place.result before)
+    (omega (arith, c.if-wanted-from.true, c.from.ensures, c.area_of.ensures.area))
 
 pub returns : goal.returns
 returns c =
     let slot = c.index-slots-slots.result in
-    let last = area-last c.args.class c.args.protected c.args.slots.now slot slot c.requires.rising.some c.requires.rising.ascending c.index-slots-slots.is in
-    least-first c.args.wanted c.args.class c.args.protected c.args.slots.now (length c.args.slots.now - 1) slot (omega (arith, c.requires.rising.some)) c.index-slots-slots.is c.requires.rising.ascending
-    (λ k before. c.loop-place.invariant k slot (omega (arith, before, c.loop-place-test.false))) (omega (arith, c.requires.enough, last))
+    let last = area-last c.args.class c.args.protected c.args.slots.now slot slot
+    c.requires.rising.some c.requires.rising.ascending c.index-slots-slots.is in
+    least-first c.args.wanted c.args.class c.args.protected c.args.slots.now
+    (length c.args.slots.now - 1) slot
+    (omega (arith, c.requires.rising.some)) c.index-slots-slots.is c.requires.rising.ascending
+    (λ k before. c.loop-place.invariant k slot (omega (arith, before, c.loop-place-test.false)))
+    (omega (arith, c.requires.enough, last))

@@ -1,5 +1,5 @@
 -- The frames from here on want so many bytes.
-use Rattle.std.proofs.Common.{◌≡◌, drop}
+use Rattle.std.proofs.Common.{drop, ◌≡◌}
 use Rattle.slot_plan.proofs.BehindLaws.{own_needed}
 use Rattle.slot_plan.proofs.behind.wants.Given as goal
 

@@ -1,27 +1,38 @@
 -- The part is placed after its lead-in.
-use Rattle.std.proofs.Common.{false, [], map, refl, ap, ◌∙◌, subst, arith}
+use Rattle.std.proofs.Common.{ap, arith, false, map, refl, subst, [], ◌∙◌}
 use Rattle.std.proofs.lemmas.Result.{IfOk-weaker}
-use Rattle.slot_plan.specs.Parts.{item_of, areas_with}
-use Rattle.slot_plan.specs.Reserve.{greatest, free_behind, IsLeastSlot, PlacesOn}
-use Rattle.slot_plan.proofs.PartLaws.{needed-first}
-use Rattle.slot_plan.proofs.PlacedLaws.{led-of}
-use Rattle.slot_plan.proofs.TableLaws.{table-within}
+use Rattle.slot_plan.proofs.{PartLaws.needed-first, PlacedLaws.led-of, TableLaws.table-within}
+use Rattle.slot_plan.specs.Parts.{areas_with, item_of}
+use Rattle.slot_plan.specs.Reserve.{free_behind, greatest, IsLeastSlot, PlacesOn}
 use Rattle.slot_plan.proofs.placing.place_behind_lead_in.Goals as goal
 
 pub least_slot-slot-requires : goal.least_slot-slot-requires
 least_slot-slot-requires g c =
     let leads = g.O.Offer.lead_slots_of c.args.offer.now in
-    let before = needed-first c.args.room.window (greatest (areas_with c.args.table.now.lengths false leads)) (g.O.Offer.slots_of c.args.offer.now) (g.O.Offer.some_area_of c.args.offer.now) c.args.part.now c.requires.part.feasible c.requires.reserves.chosen in
-    record { within = table-within c.args.table.now leads false c.from.result c.requires.table.of_slots (omega (arith, before, c.requires.reserves.before, c.from.ensures)) }
+    let before =
+    needed-first c.args.room.window (greatest (areas_with c.args.table.now.lengths false leads))
+    (g.O.Offer.slots_of c.args.offer.now) (g.O.Offer.some_area_of c.args.offer.now)
+    c.args.part.now c.requires.part.feasible c.requires.reserves.chosen in
+    record {
+      within = table-within c.args.table.now leads false c.from.result c.requires.table.of_slots
+          (omega (arith, before, c.requires.reserves.before, c.from.ensures));
+    }
 
 pub returns-clause-placed : goal.returns-clause-placed
 returns-clause-placed g c =
     let leads = g.O.Offer.lead_slots_of c.args.offer.now in
     let choices = g.O.Offer.slots_of c.args.offer.now in
-    let least = subst (λ n. IsLeastSlot n c.args.table.now.lengths false leads c.least_slot-slot.result) (c.from.ensures ∙ c.requires.reserves.before) (c.least_slot-slot.ensures.least leads c.requires.table.of_slots) in
+    let least = subst (λ n. IsLeastSlot n c.args.table.now.lengths false leads
+    c.least_slot-slot.result) (c.from.ensures ∙ c.requires.reserves.before)
+    (c.least_slot-slot.ensures.least leads c.requires.table.of_slots) in
     IfOk-weaker c.place_frames.result _ _
-    (λ after places. led-of c.args.room.window leads choices (g.O.Offer.some_area_of c.args.offer.now) c.args.table.now.lengths c.args.part.now c.args.room.free c.free_behind-free.result after _ c.args.placed.now.items c.place_frames.new.placed.items
+    (λ after places. led-of c.args.room.window leads choices
+    (g.O.Offer.some_area_of c.args.offer.now)
+    c.args.table.now.lengths c.args.part.now c.args.room.free c.free_behind-free.result after _
+    c.args.placed.now.items c.place_frames.new.placed.items
     c.requires.part.some c.requires.table.class refl refl least
-    (c.free_behind-free.ensures.free ∙ ap (λ n. free_behind c.args.room.window c.args.room.free 0 n) c.area_of-area.ensures.area)
-    (subst (λ l. PlacesOn c.args.room.window c.free_behind-free.result after (map (item_of choices) c.args.part.now) [] l c.place_frames.new.placed.items) c.in_ok-push.ensures.items places))
+    (c.free_behind-free.ensures.free
+    ∙ ap (λ n. free_behind c.args.room.window c.args.room.free 0 n) c.area_of-area.ensures.area)
+    (subst (λ l. PlacesOn c.args.room.window c.free_behind-free.result after (map (item_of choices)
+    c.args.part.now) [] l c.place_frames.new.placed.items) c.in_ok-push.ensures.items places))
     c.place_frames.ensures.placed

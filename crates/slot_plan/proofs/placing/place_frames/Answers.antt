@@ -1,30 +1,37 @@
 -- One frame more.
-use Rattle.std.proofs.Common.{◌≡◌, ℕ, ◌+◌, map, drop, sym, ap, ◌∙◌, subst, arith}
+use Rattle.std.proofs.Common.{ap, arith, drop, map, subst, sym, ℕ, ◌+◌, ◌∙◌, ◌≡◌}
 use Rattle.std.proofs.lemmas.List.{length-drop}
-use Rattle.frame_header.specs.Tables.{class_of, area_of}
-use Rattle.slot_plan.specs.Parts.{item_of}
-use Rattle.slot_plan.specs.Reserve.{needed, free_behind, opens_in, PlacesOn}
-use Rattle.slot_plan.proofs.PlacedLaws.{places-begun, places-next}
-use Rattle.slot_plan.proofs.PartLaws.{same-class, area-in, next-wanted, next-needed, next-within}
+use Rattle.frame_header.specs.Tables.{area_of, class_of}
+use Rattle.slot_plan.proofs.PartLaws.{area-in, next-needed, next-wanted, next-within, same-class}
+use Rattle.slot_plan.{proofs.PlacedLaws.{places-begun, places-next}, specs.Parts.item_of}
+use Rattle.slot_plan.specs.Reserve.{free_behind, needed, opens_in, PlacesOn}
 use Rattle.slot_plan.proofs.placing.place_frames.Goals as goal
 
 pub place_frame-frame-requires-clause-enough : goal.place_frame-frame-requires-clause-enough
 place_frame-frame-requires-clause-enough g c =
     let choices = g.O.Offer.slots_of c.args.offer.now in
-    let all = next-needed choices c.args.part.now c.loop-need.need-index c.need-item.result c.loop-need-test.true c.need-item.is in
-    let here = (next-wanted choices c.args.part.now c.loop-need.need-index c.need-item.result c.loop-need.behind.items c.pop.new.self.items c.loop-need.behind.len c.pop.result c.unwrap_or-wanted.result
-    c.loop-need-test.true c.need-item.is c.loop-need.invariant.behind (omega arith) c.pop.ensures.items c.pop.ensures.value c.unwrap_or-wanted.ensures).0 in
+    let all = next-needed choices c.args.part.now c.loop-need.need-index c.need-item.result
+    c.loop-need-test.true c.need-item.is in
+    let here = (next-wanted choices
+    c.args.part.now c.loop-need.need-index c.need-item.result c.loop-need.behind.items
+    c.pop.new.self.items c.loop-need.behind.len c.pop.result c.unwrap_or-wanted.result
+    c.loop-need-test.true c.need-item.is c.loop-need.invariant.behind (omega arith)
+    c.pop.ensures.items c.pop.ensures.value c.unwrap_or-wanted.ensures).0 in
     omega (arith, all, here, c.loop-need.invariant.enough)
 
 pub place_frame-frame-requires-clause-table : goal.place_frame-frame-requires-clause-table
 place_frame-frame-requires-clause-table g c = record {
-  class_is = same-class c.args.table.now.lengths c.args.part.now c.loop-need.need-index c.need-item.result c.requires.table.class c.loop-need-test.true c.need-item.is;
+  class_is = same-class c.args.table.now.lengths c.args.part.now c.loop-need.need-index
+      c.need-item.result c.requires.table.class c.loop-need-test.true c.need-item.is;
   of_slots = c.requires.table.of_slots;
 }
 
 pub free_behind-free-requires-clause-fits : goal.free_behind-free-requires-clause-fits
 free_behind-free-requires-clause-fits g c =
-    let area = area-in c.args.table.now.lengths c.args.part.now c.loop-need.need-index c.area_of-area.result c.need-item.result _ c.place_frame-frame.result.slot c.requires.table.class c.loop-need-test.true c.need-item.is c.need.view_is c.area_of-area.ensures.area in
+    let area =
+    area-in c.args.table.now.lengths c.args.part.now c.loop-need.need-index c.area_of-area.result
+    c.need-item.result _ c.place_frame-frame.result.slot c.requires.table.class
+    c.loop-need-test.true c.need-item.is c.need.view_is c.area_of-area.ensures.area in
     omega (arith, c.place_frame-frame.ensures.least.enough, area, ap (λ n. n.bytes) c.need.view_is)
 
 pub loop-need-init : goal.loop-need-init
@@ -34,7 +41,8 @@ loop-need-init g c = record {
   enough = c.requires.ready.enough;
   within = c.requires.ready.within;
   behind = c.requires.ready.behind;
-  placed = places-begun c.args.room.window c.args.room.free (map (item_of (g.O.Offer.slots_of c.args.offer.now)) c.args.part.now) c.reserve.new.self.items;
+  placed = places-begun c.args.room.window c.args.room.free (map
+      (item_of (g.O.Offer.slots_of c.args.offer.now)) c.args.part.now) c.reserve.new.self.items;
 }
 
 pub loop-need-preserved : goal.loop-need-preserved
@@ -44,21 +52,44 @@ loop-need-preserved g c =
     let i = c.loop-need.need-index in
     let need = c.need-item.result in
     let slot = c.place_frame-frame.result.slot in
-    let next = next-wanted choices part i need c.loop-need.behind.items c.pop.new.self.items c.loop-need.behind.len c.pop.result c.unwrap_or-wanted.result
-    c.loop-need-test.true c.need-item.is c.loop-need.invariant.behind (omega arith) c.pop.ensures.items c.pop.ensures.value c.unwrap_or-wanted.ensures in
-    let within = next-within c.args.room.window choices part i need c.loop-need-test.true c.need-item.is c.loop-need.invariant.within in
-    let area = area-in c.args.table.now.lengths c.args.part.now c.loop-need.need-index c.area_of-area.result c.need-item.result _ c.place_frame-frame.result.slot c.requires.table.class c.loop-need-test.true c.need-item.is c.need.view_is c.area_of-area.ensures.area in
-    let free : c.free_behind-free.result ≡ free_behind c.args.room.window c.loop-need.free need.bytes (area_of (class_of need.header) slot need.header.protected) =
-    c.free_behind-free.ensures.free ∙ ap (λ n. free_behind c.args.room.window c.loop-need.free n.bytes c.area_of-area.result) c.need.view_is ∙ ap (λ n. free_behind c.args.room.window c.loop-need.free need.bytes n) area in
+    let next = next-wanted choices part i need c.loop-need.behind.items c.pop.new.self.items
+    c.loop-need.behind.len c.pop.result c.unwrap_or-wanted.result
+    c.loop-need-test.true c.need-item.is c.loop-need.invariant.behind (omega arith)
+    c.pop.ensures.items c.pop.ensures.value c.unwrap_or-wanted.ensures in
+    let within = next-within c.args.room.window choices part i need
+    c.loop-need-test.true c.need-item.is c.loop-need.invariant.within in
+    let area =
+    area-in c.args.table.now.lengths c.args.part.now c.loop-need.need-index c.area_of-area.result
+    c.need-item.result _ c.place_frame-frame.result.slot c.requires.table.class
+    c.loop-need-test.true c.need-item.is c.need.view_is c.area_of-area.ensures.area in
+    let free : c.free_behind-free.result ≡ free_behind c.args.room.window c.loop-need.free
+    need.bytes (area_of (class_of need.header) slot need.header.protected) =
+    c.free_behind-free.ensures.free
+    ∙ ap (λ n. free_behind c.args.room.window c.loop-need.free n.bytes c.area_of-area.result)
+    c.need.view_is ∙ ap (λ n. free_behind c.args.room.window c.loop-need.free need.bytes n) area in
     let left : ℕ = needed (opens_in choices (drop (i + 1) part)) in
     let least = c.place_frame-frame.ensures.least.enough in
     record {
-      room = omega (arith, c.loop-need-test.true, length-drop i part, length-drop (i + 1) part, c.loop-need.invariant.room, c.push_reserved.ensures.len, c.push_reserved.ensures.capacity);
+      room = omega (
+        arith,
+        c.loop-need-test.true,
+        length-drop i part,
+        length-drop (i + 1) part,
+        c.loop-need.invariant.room,
+        c.push_reserved.ensures.len,
+        c.push_reserved.ensures.capacity,
+      );
       free = c.free_behind-free.ensures.within;
       enough = omega (arith, free, next.0, within.0, least);
       within = within.1;
       behind = next.1;
-      placed = subst (λ l. PlacesOn c.args.room.window c.args.room.free c.free_behind-free.result (map (item_of choices) part) (map (item_of choices) (drop (i + 1) part)) c.reserve.new.self.items l) (sym (c.push_reserved.ensures.items))
-          (places-next c.args.room.window c.args.room.free c.loop-need.free c.free_behind-free.result choices part i need c.place_frame-frame.result c.unwrap_or-wanted.result c.reserve.new.self.items c.loop-need.placed.items
-          c.loop-need-test.true c.need-item.is next.0 c.place_frame-frame.ensures.frame c.place_frame-frame.ensures.begin c.place_frame-frame.ensures.least free c.loop-need.invariant.placed);
+      placed = subst (λ l. PlacesOn c.args.room.window c.args.room.free c.free_behind-free.result
+          (map (item_of choices) part) (map (item_of choices) (drop (i + 1) part))
+          c.reserve.new.self.items l) (sym (c.push_reserved.ensures.items))
+          (places-next c.args.room.window c.args.room.free c.loop-need.free
+          c.free_behind-free.result choices part i need c.place_frame-frame.result
+          c.unwrap_or-wanted.result c.reserve.new.self.items c.loop-need.placed.items
+          c.loop-need-test.true c.need-item.is next.0 c.place_frame-frame.ensures.frame
+          c.place_frame-frame.ensures.begin c.place_frame-frame.ensures.least free
+          c.loop-need.invariant.placed);
     }

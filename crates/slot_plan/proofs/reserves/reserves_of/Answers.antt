@@ -1,24 +1,32 @@
 -- One frame more, from the last to the first.
-use Rattle.std.proofs.Common.{◌≡◌, ◌+◌, ◌-◌, ◌<◌, ◌≤◌, ◌++◌, ◌∷◌, [], length, sym, subst, arith}
-use Rattle.slot_plan.proofs.PartLaws.{same-class, ReservesFrom, reserves-none, reserves-more, reserves-all}
-use Rattle.slot_plan.proofs.reserves.reserves_of.Given.{Over}
+use Rattle.std.proofs.Common.{arith, length, subst, sym, [], ◌++◌, ◌+◌, ◌-◌, ◌<◌, ◌∷◌, ◌≡◌, ◌≤◌}
+use Rattle.slot_plan.proofs.PartLaws.{reserves-all, reserves-more, reserves-none, ReservesFrom}
+use Rattle.slot_plan.proofs.{PartLaws.same-class, reserves.reserves_of.Given.Over}
 use Rattle.slot_plan.proofs.reserves.reserves_of.Goals as goal
 
 more : (g : Over) (c : goal.After-needed_before-before g)
-    → ReservesFrom c.args.window (g.O.Offer.slots_of c.args.offer.now) (g.O.Offer.some_area_of c.args.offer.now) c.args.part.now (c.loop-i.i - 1) (c.loop-i.behind.items ++ c.loop-i.before ∷ []) c.needed_before-before.result
+    → ReservesFrom c.args.window (g.O.Offer.slots_of c.args.offer.now)
+    (g.O.Offer.some_area_of c.args.offer.now) c.args.part.now (c.loop-i.i - 1)
+    (c.loop-i.behind.items ++ c.loop-i.before ∷ []) c.needed_before-before.result
 more g c =
-    let from = ReservesFrom c.args.window (g.O.Offer.slots_of c.args.offer.now) (g.O.Offer.some_area_of c.args.offer.now) c.args.part.now in
+    let from = ReservesFrom c.args.window (g.O.Offer.slots_of c.args.offer.now)
+    (g.O.Offer.some_area_of c.args.offer.now) c.args.part.now in
     let next : c.loop-i.i ≡ c.loop-i.i - 1 + 1 = omega (arith, c.loop-i-test.true) in
-    reserves-more c.args.window (g.O.Offer.slots_of c.args.offer.now) (g.O.Offer.some_area_of c.args.offer.now) c.args.part.now _ (c.loop-i.i - 1) c.loop-i.behind.items c.loop-i.before c.needed_before-before.result c.index-part-i.result
-    (omega (arith, c.loop-i-test.true, c.loop-i.auto.i)) c.index-part-i.is c.requires.part.feasible c.needed_before-before.ensures.has c.needed_before-before.ensures.needed
+    reserves-more c.args.window (g.O.Offer.slots_of c.args.offer.now)
+    (g.O.Offer.some_area_of c.args.offer.now) c.args.part.now _ (c.loop-i.i - 1)
+    c.loop-i.behind.items c.loop-i.before c.needed_before-before.result c.index-part-i.result
+    (omega (arith, c.loop-i-test.true, c.loop-i.auto.i)) c.index-part-i.is c.requires.part.feasible
+    c.needed_before-before.ensures.has c.needed_before-before.ensures.needed
     (subst (λ k. from k c.loop-i.behind.items c.loop-i.before) next c.loop-i.invariant.from)
 
 pub needed_before-before-requires : goal.needed_before-before-requires
 needed_before-before-requires g c =
-    let within : c.loop-i.i - 1 < length c.args.part.now = omega (arith, c.loop-i-test.true, c.loop-i.auto.i) in
+    let within : c.loop-i.i - 1 < length c.args.part.now =
+    omega (arith, c.loop-i-test.true, c.loop-i.auto.i) in
     record {
       table = record {
-        class_is = same-class c.args.table.now.lengths c.args.part.now (c.loop-i.i - 1) c.index-part-i.result c.requires.table.class within c.index-part-i.is;
+        class_is = same-class c.args.table.now.lengths c.args.part.now (c.loop-i.i - 1)
+            c.index-part-i.result c.requires.table.class within c.index-part-i.is;
         of_slots = c.requires.table.of_slots;
       };
     }
@@ -31,17 +39,30 @@ overflow_cast-before g c =
 pub loop-i-init : goal.loop-i-init
 loop-i-init g c = record {
   room = omega (arith, c.in_ok-behind.ensures.len, c.in_ok-behind.ensures.capacity);
-  from = subst (λ l. ReservesFrom c.args.window (g.O.Offer.slots_of c.args.offer.now) (g.O.Offer.some_area_of c.args.offer.now) c.args.part.now (length c.args.part.now) l 0) (sym c.in_ok-behind.ensures.items)
-      (reserves-none c.args.window (g.O.Offer.slots_of c.args.offer.now) (g.O.Offer.some_area_of c.args.offer.now) c.args.part.now);
+  from = subst (λ l. ReservesFrom c.args.window (g.O.Offer.slots_of c.args.offer.now)
+      (g.O.Offer.some_area_of c.args.offer.now) c.args.part.now (length c.args.part.now) l 0)
+      (sym c.in_ok-behind.ensures.items)
+      (reserves-none c.args.window (g.O.Offer.slots_of c.args.offer.now)
+      (g.O.Offer.some_area_of c.args.offer.now) c.args.part.now);
 }
 
 pub loop-i-preserved : goal.loop-i-preserved
 loop-i-preserved g c = record {
-  room = omega (arith, c.loop-i-test.true, c.loop-i.invariant.room, c.push_reserved.ensures.len, c.push_reserved.ensures.capacity);
-  from = subst (λ l. ReservesFrom c.args.window (g.O.Offer.slots_of c.args.offer.now) (g.O.Offer.some_area_of c.args.offer.now) c.args.part.now (c.loop-i.i - 1) l c.needed_before-before.result) (sym c.push_reserved.ensures.items)
+  room = omega (
+    arith,
+    c.loop-i-test.true,
+    c.loop-i.invariant.room,
+    c.push_reserved.ensures.len,
+    c.push_reserved.ensures.capacity,
+  );
+  from = subst (λ l. ReservesFrom c.args.window (g.O.Offer.slots_of c.args.offer.now)
+      (g.O.Offer.some_area_of c.args.offer.now) c.args.part.now (c.loop-i.i - 1) l
+      c.needed_before-before.result) (sym c.push_reserved.ensures.items)
       (more g c);
 }
 
 pub returns : goal.returns
 returns g c =
-    reserves-all c.args.window (g.O.Offer.slots_of c.args.offer.now) (g.O.Offer.some_area_of c.args.offer.now) c.args.part.now c.loop-i.i _ (omega (arith, c.loop-i-test.false)) c.loop-i.invariant.from
+    reserves-all c.args.window (g.O.Offer.slots_of c.args.offer.now)
+    (g.O.Offer.some_area_of c.args.offer.now) c.args.part.now c.loop-i.i _
+    (omega (arith, c.loop-i-test.false)) c.loop-i.invariant.from

@@ -1,5 +1,5 @@
 -- The positions before are places.
-use Rattle.std.proofs.Common.{◌≡◌, map, take}
+use Rattle.std.proofs.Common.{map, take, ◌≡◌}
 use Rattle.exact_span.specs.declared.exact_place.ExactPlace.TheVariants.{Place as Position}
 use Rattle.split_edits.proofs.exact_points.exact_places.Given as goal
 

@@ -1,13 +1,12 @@
 -- A piece more.
-use Rattle.std.proofs.Common.{◌≡◌, ◌+◌, ◌-◌, ◌∷◌, [], List, length, map, drop, take, sym, ◌∙◌, ap, subst, length-append, arith}
-use Rattle.std.proofs.lemmas.List.{map-append}
-use Rattle.std.proofs.lemmas.List.Elements.{All-take, All-drop}
-use Rattle.laying.specs.Laid.{Laid}
-use Rattle.laying.proofs.RelayLaws.{item-next}
+use Rattle.std.proofs.Common.{ap, arith, drop, length, length-append, List, map, subst, sym, take}
+use Rattle.std.proofs.{Common.{[], ◌+◌, ◌-◌, ◌∙◌, ◌∷◌, ◌≡◌}, lemmas.List.map-append}
+use Rattle.std.proofs.lemmas.List.Elements.{All-drop, All-take}
+use Rattle.laying.{proofs.RelayLaws.item-next, specs.Laid.Laid}
+use Rattle.split_edits.proofs.PiecesLaws.{fault-of-all, laid-is, laid_before, match_err}
+use Rattle.split_edits.proofs.PiecesLaws.{pieces-push, place-laid, place-refused, places-laid}
+use Rattle.split_edits.specs.{Cutting.laid_from, Steps.{ArePieces, laid_of}}
 use Rattle.sync_survey.specs.Faults.{tells}
-use Rattle.split_edits.specs.Cutting.{laid_from}
-use Rattle.split_edits.specs.Steps.{ArePieces, laid_of}
-use Rattle.split_edits.proofs.PiecesLaws.{laid_before, pieces-push, place-laid, place-refused, places-laid, laid-is, fault-of-all, match_err}
 use Rattle.split_edits.proofs.piece.make_pieces.Goals as goal
 
 pub loop-to-preserved : goal.loop-to-preserved
@@ -22,18 +21,32 @@ loop-to-preserved g c =
     let more = ap (map laid_of) items ∙ map-append laid_of at.pieces.items (piece ∷ []) in
     record {
       pieces = subst (ArePieces c.args.prefix.now (tells c.args.source.now.survey) 1) (sym items)
-          (pieces-push c.args.prefix.now (tells c.args.source.now.survey) 1 (at.number + 1) at.pieces.items piece at.invariant.pieces (omega (arith, at.invariant.many, at.invariant.number)) c.in_ok-piece.ensures.name c.in_ok-piece.ensures.writable);
-      many = omega (arith, at.invariant.many, ap length items, length-append at.pieces.items (piece ∷ []));
+          (pieces-push c.args.prefix.now (tells c.args.source.now.survey) 1
+          (at.number + 1) at.pieces.items piece
+          at.invariant.pieces (omega (arith, at.invariant.many, at.invariant.number))
+          c.in_ok-piece.ensures.name c.in_ok-piece.ensures.writable);
+      many = omega
+          (arith, at.invariant.many, ap length items, length-append at.pieces.items (piece ∷ []));
       number = omega (arith, at.invariant.number);
-      sound = subst g.C.Cut.IsSound (sym c.to-item.is) (All-take g.C.Cut.IsSound (length c.args.places.now - 1) (drop 1 c.args.places.now) (All-drop g.C.Cut.IsSound 1 c.args.places.now c.requires.places.0) at.to-index to (omega (arith, c.loop-to-test.true)));
+      sound = subst g.C.Cut.IsSound (sym c.to-item.is)
+          (All-take g.C.Cut.IsSound (length c.args.places.now - 1) (drop 1 c.args.places.now)
+          (All-drop g.C.Cut.IsSound 1 c.args.places.now c.requires.places.0) at.to-index to
+          (omega (arith, c.loop-to-test.true)));
       laid = λ file s is.
-          subst (λ (done : List Laid). laid_before done (laid_from cut file s to (drop (at.to-index + 1) rest)) ≡ laid_from cut file s c.index-places-0.result rest) (sym more)
-          (place-laid cut file s at.to-index at.from.now rest (map laid_of at.pieces.items) _ (at.invariant.laid file s is) to next (laid_of piece) (c.in_ok-piece.ensures.laid file s is));
+          subst (λ (done : List Laid).
+          laid_before done (laid_from cut file s to (drop (at.to-index + 1) rest))
+          ≡ laid_from cut file s c.index-places-0.result rest) (sym more)
+          (place-laid cut file s at.to-index at.from.now rest (map laid_of at.pieces.items) _
+          (at.invariant.laid file s is) to next (laid_of piece)
+          (c.in_ok-piece.ensures.laid file s is));
     }
 
 pub make_piece-requires-clause-to : goal.make_piece-requires-clause-to
 make_piece-requires-clause-to g c =
-    subst g.C.Cut.IsSound (sym c.to-item.is) (All-take g.C.Cut.IsSound (length c.args.places.now - 1) (drop 1 c.args.places.now) (All-drop g.C.Cut.IsSound 1 c.args.places.now c.requires.places.0) c.loop-to.to-index c.to-item.result (omega (arith, c.loop-to-test.true)))
+    subst g.C.Cut.IsSound (sym c.to-item.is)
+    (All-take g.C.Cut.IsSound (length c.args.places.now - 1) (drop 1 c.args.places.now)
+    (All-drop g.C.Cut.IsSound 1 c.args.places.now c.requires.places.0)
+    c.loop-to.to-index c.to-item.result (omega (arith, c.loop-to-test.true)))
 
 pub returns-in_err-piece-clause-laid : goal.returns-in_err-piece-clause-laid
 returns-in_err-piece-clause-laid g c =
@@ -45,8 +58,10 @@ returns-in_err-piece-clause-laid g c =
     match_err c.from_residual.result _ _ c.from_residual.ensures.1
     (fault-of-all
     (λ is file s known.
-    laid-is cut file s c.index-places-0.result c.args.places.now c.requires.places.1 c.index-places-0.is
-    ∙ place-refused cut file s at.to-index at.from.now rest (map laid_of at.pieces.items) _ (at.invariant.laid file s known) to next _ (is file s known))
+    laid-is cut file s
+    c.index-places-0.result c.args.places.now c.requires.places.1 c.index-places-0.is
+    ∙ place-refused cut file s at.to-index at.from.now rest (map laid_of at.pieces.items) _
+    (at.invariant.laid file s known) to next _ (is file s known))
     c.in_err-piece.ensures.laid)
 
 pub returns-clause-laid : goal.returns-clause-laid
@@ -54,5 +69,7 @@ returns-clause-laid g c = λ file s known.
     let at = c.loop-to in
     let cut = g.C.Cut.cutting c.args.cut.now in
     let rest = take (length c.args.places.now - 1) (drop 1 c.args.places.now) in
-    laid-is cut file s c.index-places-0.result c.args.places.now c.requires.places.1 c.index-places-0.is
-    ∙ places-laid cut file s at.to-index at.from.now rest (map laid_of at.pieces.items) _ (at.invariant.laid file s known) (omega (arith, c.loop-to-test.false))
+    laid-is cut file s
+    c.index-places-0.result c.args.places.now c.requires.places.1 c.index-places-0.is
+    ∙ places-laid cut file s at.to-index at.from.now rest (map laid_of at.pieces.items) _
+    (at.invariant.laid file s known) (omega (arith, c.loop-to-test.false))

@@ -1,36 +1,47 @@
 -- A clash of names, what was met before the first output is created, and the second pass.
-use Rattle.std.proofs.Common.{◌≡◌, ◌≤◌, ℕ, List, map, None, Ok, length, refl, sym, ◌∙◌, ap, ap₂, subst, arith, rules}
-use Rattle.std.proofs.lemmas.Result.{IfErr-weaker, on_ok_weaker}
-use Rattle.outside.specs.Counts.{NoneFell}
-use Rattle.outside.specs.Files.{Files, Holds}
-use Rattle.outside.proofs.CountsLaws.{none_fell_by_reads, none_fell_then, only_reads_then}
-use Rattle.outside.specs.Seen.{Seen, seen}
+use Rattle.std.proofs.Common.{ap, ap₂, arith, length, List, map, None, Ok, refl, rules, subst, sym}
+use Rattle.std.proofs.{Common.{ℕ, ◌∙◌, ◌≡◌, ◌≤◌}, lemmas.Result.{IfErr-weaker, on_ok_weaker}}
+use Rattle.commands.{proofs.MakeLaws.{names_free, no_clash, refused_run}, specs.Command.clash_of}
 use Rattle.frame_writer.proofs.WritingLaws.{ok-both}
 use Rattle.laying.specs.Surveys.{HasSurvey}
-use Rattle.sync_survey.specs.Faults.{SurveyFields, tells}
-use Rattle.commands.specs.Command.{clash_of}
-use Rattle.commands.proofs.MakeLaws.{no_clash, names_free, refused_run}
-use Rattle.split_edits.specs.Cutting.{laid_at, split_command}
-use Rattle.split_edits.specs.Steps.{Says, IsSource, ArePieces, laid_of}
-use Rattle.split_edits.proofs.CommandLaws.{clash-found, equal-left, input-left, head-left, places-left, memory-left, range-left, split-done, split-left, split-streams, places-numbers, survey-numbers, head-numbers, range-numbers, pieces-numbers}
+use Rattle.outside.proofs.CountsLaws.{none_fell_by_reads, none_fell_then, only_reads_then}
+use Rattle.outside.specs.{Counts.NoneFell, Files.{Files, Holds}, Seen.{Seen, seen}}
+use Rattle.split_edits.proofs.CommandLaws.{clash-found, equal-left, head-left, head-numbers}
+use Rattle.split_edits.proofs.CommandLaws.{input-left, memory-left, pieces-numbers, places-left}
+use Rattle.split_edits.proofs.CommandLaws.{places-numbers, range-left, range-numbers, split-done}
+use Rattle.split_edits.proofs.CommandLaws.{split-left, split-streams, survey-numbers}
 use Rattle.split_edits.proofs.PiecesLaws.{can-be-written, fault-of-all}
+use Rattle.split_edits.proofs.split_file.split_by.Goals.{After-as_slice, In_ok-pieces}
+use Rattle.split_edits.specs.Cutting.{laid_at, split_command}
+use Rattle.split_edits.specs.Steps.{ArePieces, IsSource, laid_of, Says}
+use Rattle.sync_survey.specs.Faults.{SurveyFields, tells}
 use Rattle.split_edits.proofs.split_file.split_by.Given as given
 use Rattle.split_edits.proofs.split_file.split_by.Goals as goal
-use Rattle.split_edits.proofs.split_file.split_by.Goals.{After-as_slice, In_ok-pieces}
 
 pub returns-in-Some : goal.returns-in-Some
 returns-in-Some g c =
     let cut = g.C.Cut.cutting c.args.cut.now in
-    let clash = clash-found cut c.args.input.now c.args.prefix.now _ _ _ c.sheet.ensures c.clash.ensures c.in-Some.is in
-    record { done = tt; left = equal-left cut c.requires.proper c.args.input.now c.args.prefix.now _ _ clash; numbers = clash; names = search rules; streams = tt; counts = search rules }
+    let clash = clash-found cut c.args.input.now c.args.prefix.now _ _ _
+    c.sheet.ensures c.clash.ensures c.in-Some.is in
+    record {
+      done = tt;
+      left = equal-left cut c.requires.proper c.args.input.now c.args.prefix.now _ _
+          clash;
+      numbers = clash;
+      names = search rules;
+      streams = tt;
+      counts = search rules;
+    }
 
 pub returns-in_err-survey : goal.returns-in_err-survey
 returns-in_err-survey g c =
     let cut = g.C.Cut.cutting c.args.cut.now in
     let input = c.args.input.now in
     let prefix = c.args.prefix.now in
-    let none = clash-found cut input prefix _ _ None c.sheet.ensures c.clash.ensures c.in_default.is in
-    refused_run _ _ _ _ _ none c.from_residual.ensures.1 (input-left cut c.requires.proper input prefix none _ _ _ c.in_err-survey.ensures.refused)
+    let none =
+    clash-found cut input prefix _ _ None c.sheet.ensures c.clash.ensures c.in_default.is in
+    refused_run _ _ _ _ _ none c.from_residual.ensures.1
+    (input-left cut c.requires.proper input prefix none _ _ _ c.in_err-survey.ensures.refused)
     (survey-numbers cut input prefix _ c.in_err-survey.ensures.numbers)
     (none_fell_by_reads _ _ c.survey_at.ensures.reads.counts)
 
@@ -39,25 +50,34 @@ returns-in_err-source g c =
     let cut = g.C.Cut.cutting c.args.cut.now in
     let input = c.args.input.now in
     let prefix = c.args.prefix.now in
-    let none = clash-found cut input prefix _ _ None c.sheet.ensures c.clash.ensures c.in_default.is in
+    let none =
+    clash-found cut input prefix _ _ None c.sheet.ensures c.clash.ensures c.in_default.is in
     refused_run _ _ _ _ _ none c.from_residual-in_err-source.ensures.1
-    (head-left cut c.requires.proper input prefix none (g.D.Folder.seen c.args.folder.now) (g.D.Folder.seen c.survey_at.new.folder) _ (ap₂ seen c.survey_at.ensures.reads.files c.in_ok-survey.ensures.reads.done) _ c.in_err-source.ensures.refused)
+    (head-left cut c.requires.proper input prefix none (g.D.Folder.seen c.args.folder.now)
+    (g.D.Folder.seen c.survey_at.new.folder) _ (ap₂ seen c.survey_at.ensures.reads.files
+    c.in_ok-survey.ensures.reads.done) _ c.in_err-source.ensures.refused)
     (head-numbers cut input prefix _ c.in_err-source.ensures.numbers)
-    (none_fell_by_reads _ _ (only_reads_then _ _ _ c.survey_at.ensures.reads.counts c.read.ensures.reads.counts))
+    (none_fell_by_reads _ _
+    (only_reads_then _ _ _ c.survey_at.ensures.reads.counts c.read.ensures.reads.counts))
 
 pub returns-in_err-places : goal.returns-in_err-places
 returns-in_err-places g c =
     let cut = g.C.Cut.cutting c.args.cut.now in
     let input = c.args.input.now in
     let prefix = c.args.prefix.now in
-    let none = clash-found cut input prefix _ _ None c.sheet.ensures c.clash.ensures c.in_default.is in
+    let none =
+    clash-found cut input prefix _ _ None c.sheet.ensures c.clash.ensures c.in_default.is in
     let old = g.D.Folder.seen c.args.folder.now in
     let mid = g.D.Folder.seen c.read.new.folder in
     refused_run _ _ _ _ _ none c.from_residual-in_err-places.ensures.1
-    (places-left cut c.requires.proper input prefix none (tells c.in_ok-survey.survey) old c.in_ok-survey.ensures.there c.in_ok-survey.ensures.surveyed mid _
-    (ap₂ seen (c.read.ensures.reads.files ∙ c.survey_at.ensures.reads.files) (c.in_ok-source.ensures.reads.done ∙ c.in_ok-survey.ensures.reads.done)) _ c.in_err-places.ensures.refused)
+    (places-left cut c.requires.proper input prefix none (tells c.in_ok-survey.survey) old
+    c.in_ok-survey.ensures.there c.in_ok-survey.ensures.surveyed mid _
+    (ap₂ seen (c.read.ensures.reads.files ∙ c.survey_at.ensures.reads.files)
+    (c.in_ok-source.ensures.reads.done ∙ c.in_ok-survey.ensures.reads.done)) _
+    c.in_err-places.ensures.refused)
     (places-numbers cut input prefix _ c.in_err-places.ensures.numbers)
-    (none_fell_by_reads _ _ (only_reads_then _ _ _ (only_reads_then _ _ _ c.survey_at.ensures.reads.counts c.read.ensures.reads.counts) c.places.ensures.reads.counts))
+    (none_fell_by_reads _ _ (only_reads_then _ _ _ (only_reads_then _ _ _
+    c.survey_at.ensures.reads.counts c.read.ensures.reads.counts) c.places.ensures.reads.counts))
 
 -- the places are those that the files from before say, and nothing changed
 module _ (g : given.Over) (c : After-as_slice g) where
@@ -67,38 +87,61 @@ module _ (g : given.Over) (c : After-as_slice g) where
   abbrev mid : Seen
   mid = g.D.Folder.seen c.places.new.folder
 
-  free : clash_of (split_command (g.C.Cut.cutting c.args.cut.now) c.args.input.now c.args.prefix.now) ≡ None
-  free = clash-found (g.C.Cut.cutting c.args.cut.now) c.args.input.now c.args.prefix.now _ _ None c.sheet.ensures c.clash.ensures c.in_default.is
+  free : clash_of
+      (split_command (g.C.Cut.cutting c.args.cut.now) c.args.input.now c.args.prefix.now) ≡ None
+  free = clash-found (g.C.Cut.cutting c.args.cut.now) c.args.input.now c.args.prefix.now _ _ None
+      c.sheet.ensures c.clash.ensures c.in_default.is
 
   said : Says (g.C.Cut.cutting c.args.cut.now) old.files (Ok c.as_slice.result.now)
-  said = subst (λ (files : Files). Says (g.C.Cut.cutting c.args.cut.now) files (Ok c.as_slice.result.now)) (c.read.ensures.reads.files ∙ c.survey_at.ensures.reads.files) (rw c.as_slice.ensures.value c.in_ok-places.ensures.places)
+  said = subst (λ (files : Files). Says (g.C.Cut.cutting c.args.cut.now) files
+      (Ok c.as_slice.result.now)) (c.read.ensures.reads.files ∙ c.survey_at.ensures.reads.files)
+      (rw c.as_slice.ensures.value c.in_ok-places.ensures.places)
 
   stays : mid ≡ old
-  stays = ap₂ seen (c.places.ensures.reads.files ∙ c.read.ensures.reads.files ∙ c.survey_at.ensures.reads.files) (c.in_ok-places.ensures.reads.done ∙ c.in_ok-source.ensures.reads.done ∙ c.in_ok-survey.ensures.reads.done)
+  stays = ap₂ seen (c.places.ensures.reads.files ∙ c.read.ensures.reads.files
+      ∙ c.survey_at.ensures.reads.files) (c.in_ok-places.ensures.reads.done
+      ∙ c.in_ok-source.ensures.reads.done ∙ c.in_ok-survey.ensures.reads.done)
 
   fell : NoneFell old.counts mid.counts
-  fell = none_fell_by_reads _ _ (only_reads_then _ _ _ (only_reads_then _ _ _ c.survey_at.ensures.reads.counts c.read.ensures.reads.counts) c.places.ensures.reads.counts)
+  fell = none_fell_by_reads _ _ (only_reads_then _ _ _ (only_reads_then _ _ _
+      c.survey_at.ensures.reads.counts c.read.ensures.reads.counts) c.places.ensures.reads.counts)
 
-  known : (bytes : List ℕ) → Holds old.files c.args.input.now bytes → IsSource (g.C.Cut.cutting c.args.cut.now) g.C.Cut.head c.in_ok-source.source bytes (tells c.in_ok-survey.survey)
-  known bytes holds = c.in_ok-source.ensures.source bytes (subst (λ (files : Files). Holds files c.args.input.now bytes) (sym c.survey_at.ensures.reads.files) holds)
+  known : (bytes : List ℕ) → Holds old.files c.args.input.now bytes
+      → IsSource (g.C.Cut.cutting c.args.cut.now) g.C.Cut.head c.in_ok-source.source bytes
+      (tells c.in_ok-survey.survey)
+  known bytes holds = c.in_ok-source.ensures.source bytes (subst (λ (files : Files). Holds files
+      c.args.input.now bytes) (sym c.survey_at.ensures.reads.files) holds)
 
 pub returns-in_err-pieces : goal.returns-in_err-pieces
 returns-in_err-pieces g c =
     let at = (goal.at.returns-in_err-pieces g c).After-as_slice in
     refused_run _ _ _ _ _ (free g at) c.from_residual-in_err-pieces.ensures.1
-    (range-left (g.C.Cut.cutting c.args.cut.now) c.requires.proper c.args.input.now c.args.prefix.now (free g at) (tells c.in_ok-survey.survey) (old g at) c.in_ok-survey.ensures.there c.in_ok-survey.ensures.surveyed _ _ (stays g at) c.as_slice.result.now (said g at) _ refl
-    (fault-of-all (λ is bytes holds. is bytes (tells c.in_ok-survey.survey) (known g at bytes holds)) c.in_err-pieces.ensures.laid))
-    (range-numbers (g.C.Cut.cutting c.args.cut.now) c.args.input.now c.args.prefix.now _ c.in_err-pieces.ensures.laid) (fell g at)
+    (range-left (g.C.Cut.cutting c.args.cut.now)
+    c.requires.proper c.args.input.now c.args.prefix.now (free g at) (tells c.in_ok-survey.survey)
+    (old g at) c.in_ok-survey.ensures.there c.in_ok-survey.ensures.surveyed _ _
+    (stays g at) c.as_slice.result.now (said g at) _ refl
+    (fault-of-all (λ is bytes holds. is bytes (tells c.in_ok-survey.survey)
+    (known g at bytes holds)) c.in_err-pieces.ensures.laid))
+    (range-numbers (g.C.Cut.cutting c.args.cut.now) c.args.input.now c.args.prefix.now _
+    c.in_err-pieces.ensures.laid) (fell g at)
 
 pub returns-in_err-buffers : goal.returns-in_err-buffers
 returns-in_err-buffers g c =
     let at = (goal.at.returns-in_err-buffers g c).After-as_slice in
     refused_run _ _ _ _ _ (free g at) c.from_residual-in_err-buffers.ensures.1
-    (memory-left (g.C.Cut.cutting c.args.cut.now) c.requires.proper c.args.input.now c.args.prefix.now (free g at) (tells c.in_ok-survey.survey) (old g at) c.in_ok-survey.ensures.there c.in_ok-survey.ensures.surveyed _ _ (stays g at) refl) tt (fell g at)
+    (memory-left (g.C.Cut.cutting c.args.cut.now)
+    c.requires.proper c.args.input.now c.args.prefix.now (free g at) (tells c.in_ok-survey.survey)
+    (old g at) c.in_ok-survey.ensures.there c.in_ok-survey.ensures.surveyed _ _ (stays g at) refl)
+    tt (fell g at)
 
 -- no more than there are names
 few : (g : given.Over) (c : In_ok-pieces g) → length c.in_ok-pieces.pieces.items ≤ 99
-few g c = omega (arith, c.in_ok-pieces.ensures.count, c.in_ok-places.ensures.sound.2, ap length c.as_slice.ensures.value)
+few g c = omega (
+  arith,
+  c.in_ok-pieces.ensures.count,
+  c.in_ok-places.ensures.sound.2,
+  ap length c.as_slice.ensures.value,
+)
 
 pub write_pieces-requires-clause-split : goal.write_pieces-requires-clause-split
 write_pieces-requires-clause-split g c =
@@ -109,11 +152,14 @@ write_pieces-requires-clause-split g c =
       there = rw same c.in_ok-survey.ensures.there;
       laid = c.in_ok-source.ensures.laid;
       has = λ bytes holds.
-          let is = known g at.After-as_slice bytes (subst (λ (now : Seen). Holds now.files c.args.input.now bytes) same holds) in
+          let is = known g at.After-as_slice bytes
+          (subst (λ (now : Seen). Holds now.files c.args.input.now bytes) same holds) in
           subst (HasSurvey bytes) (sym is.survey) is.has;
       few = omega (arith, some, ap length c.as_slice-2.ensures.value);
       ready = rw c.as_slice-2.ensures.value
-          (can-be-written c.args.prefix.now c.args.input.now (tells c.in_ok-source.source.survey) 1 _ (no_clash _ 0 _ (free g at.After-as_slice)).0 (omega arith) (omega (arith, some)) c.in_ok-pieces.ensures.pieces);
+          (can-be-written c.args.prefix.now c.args.input.now (tells c.in_ok-source.source.survey) 1
+          _ (no_clash _ 0 _ (free g at.After-as_slice)).0 (omega arith)
+          (omega (arith, some)) c.in_ok-pieces.ensures.pieces);
     }
 
 pub returns : goal.returns
@@ -127,21 +173,33 @@ returns g c =
     let by = c.in_ok-source.ensures.survey in
     let survey = c.in_ok-survey.ensures in
     let pieces = c.in_ok-pieces.pieces.items in
-    let named = subst (λ (t : SurveyFields). ArePieces prefix t 1 pieces) by c.in_ok-pieces.ensures.pieces in
-    let laid : (bytes : List ℕ) → Holds (old g at).files input bytes → laid_at (g.C.Cut.cutting c.args.cut.now) bytes s c.as_slice.result.now ≡ Ok (map laid_of pieces) = λ bytes holds. c.in_ok-pieces.ensures.laid bytes s (known g at bytes holds) in
+    let named =
+    subst (λ (t : SurveyFields). ArePieces prefix t 1 pieces) by c.in_ok-pieces.ensures.pieces in
+    let laid : (bytes : List ℕ) → Holds (old g at).files input bytes → laid_at
+    (g.C.Cut.cutting c.args.cut.now) bytes s c.as_slice.result.now ≡ Ok (map laid_of pieces) =
+    λ bytes holds. c.in_ok-pieces.ensures.laid bytes s (known g at bytes holds) in
     let touches = rw items at c.write_pieces.ensures.touches in
-    let numbers = IfErr-weaker c.write_pieces.result _ _ (λ fault. pieces-numbers (g.C.Cut.cutting c.args.cut.now) input prefix (length pieces) fault (omega (arith, most))) (rw items at c.write_pieces.ensures.numbers) in
+    let numbers = IfErr-weaker c.write_pieces.result _ _
+    (λ fault. pieces-numbers (g.C.Cut.cutting c.args.cut.now) input prefix (length pieces) fault
+    (omega (arith, most))) (rw items at c.write_pieces.ensures.numbers) in
     record {
       done = ok-both c.write_pieces.result
           (λ written done.
-          split-done (g.C.Cut.cutting c.args.cut.now) c.requires.proper input prefix (free g at) s (old g at) survey.there survey.surveyed (mid g at) _ (stays g at) c.as_slice.result.now (said g at) pieces named laid most written touches done)
+          split-done (g.C.Cut.cutting c.args.cut.now) c.requires.proper input prefix (free g at) s
+          (old g at) survey.there survey.surveyed (mid g at) _ (stays g at)
+          c.as_slice.result.now (said g at) pieces named laid most written touches done)
           (rw (items, by) at c.write_pieces.ensures.written) c.write_pieces.ensures.done;
       left = IfErr-weaker c.write_pieces.result _ _
-          (split-left (g.C.Cut.cutting c.args.cut.now) c.requires.proper input prefix (free g at) s (old g at) survey.there survey.surveyed (mid g at) _ (stays g at) c.as_slice.result.now (said g at) pieces named laid most touches)
+          (split-left (g.C.Cut.cutting c.args.cut.now) c.requires.proper input prefix (free g at) s
+          (old g at) survey.there survey.surveyed (mid g at) _
+          (stays g at) c.as_slice.result.now (said g at) pieces named laid most touches)
           (rw (items, by) at c.write_pieces.ensures.left);
       numbers = numbers;
-      names = names_free (split_command (g.C.Cut.cutting c.args.cut.now) input prefix) c.write_pieces.result (free g at) numbers;
+      names = names_free (split_command (g.C.Cut.cutting c.args.cut.now) input prefix)
+          c.write_pieces.result (free g at) numbers;
       streams = on_ok_weaker c.write_pieces.result
-          (λ done. split-streams (g.C.Cut.cutting c.args.cut.now) c.requires.proper input prefix (free g at) s (old g at) survey.there survey.surveyed c.as_slice.result.now (said g at) survey.octets) c.write_pieces.ensures.done;
+          (λ done. split-streams (g.C.Cut.cutting c.args.cut.now) c.requires.proper input prefix
+          (free g at) s (old g at) survey.there survey.surveyed c.as_slice.result.now (said g at)
+          survey.octets) c.write_pieces.ensures.done;
       counts = none_fell_then _ _ _ (fell g at) c.write_pieces.ensures.counts;
     }

@@ -1,35 +1,54 @@
 -- A piece more that is whole, or begun.
-use Rattle.std.proofs.Common.{◌≡◌, ◌≢◌, ◌+◌, ◌∷◌, [], length, take, drop, refl, ◌∙◌, sym, subst, string_bytes, arith, rules}
-use Rattle.std.proofs.lemmas.List.{length-take, take_all}
-use Rattle.outside.specs.declared.pass.PassFault.TheVariants.{Write}
-use Rattle.outside.proofs.FilesLaws.{emptied_held_other, fails_touches}
-use Rattle.laying.proofs.RelayLaws.{item-next}
-use Rattle.sync_survey.specs.Faults.{tells}
-use Rattle.commands.proofs.OutputLaws.{output_whole, touches_whole, touches_prefix, pass_fault, not_begun}
-use Rattle.laying.specs.Laid.{IsWritable}
+use Rattle.std.proofs.Common.{arith, drop, length, refl, rules, string_bytes, subst, sym, take, []}
+use Rattle.std.proofs.{Common.{◌+◌, ◌∙◌, ◌∷◌, ◌≡◌, ◌≢◌}, lemmas.List.{length-take, take_all}}
+use Rattle.commands.proofs.OutputLaws.{not_begun, output_whole, pass_fault, touches_prefix}
+use Rattle.commands.proofs.OutputLaws.{touches_whole}
 use Rattle.cut_edits.proofs.LaidPass.{relay-ready}
+use Rattle.laying.{proofs.RelayLaws.item-next, specs.Laid.IsWritable}
+use Rattle.outside.proofs.FilesLaws.{emptied_held_other, fails_touches}
+use Rattle.outside.specs.declared.pass.PassFault.TheVariants.{Write}
+use Rattle.split_edits.proofs.OutputsLaws.{all-touched, more-wrote, none-wrote, piece_made}
+use Rattle.split_edits.proofs.OutputsLaws.{pieces-fault, Wrote}
+use Rattle.split_edits.proofs.writing.write_pieces.Goals.{After-create, After-loop-piece}
 use Rattle.split_edits.specs.declared.piece.Piece.{Piece}
-use Rattle.split_edits.proofs.OutputsLaws.{Wrote, piece_made, none-wrote, more-wrote, all-touched, pieces-fault}
+use Rattle.sync_survey.specs.Faults.{tells}
 use Rattle.split_edits.proofs.writing.write_pieces.Given as given
 use Rattle.split_edits.proofs.writing.write_pieces.Goals as goal
-use Rattle.split_edits.proofs.writing.write_pieces.Goals.{After-create, After-loop-piece}
 
 pub loop-piece-init : goal.loop-piece-init
-loop-piece-init g c = record { wrote = none-wrote (tells c.args.survey.now) c.args.input.now (g.D.Folder.seen c.args.folder.now).files c.requires.split.there; place = refl; fed = c.requires.fed; unsent = c.requires.unsent; counts = refl }
+loop-piece-init g c = record {
+  wrote = none-wrote (tells c.args.survey.now)
+      c.args.input.now (g.D.Folder.seen c.args.folder.now).files c.requires.split.there;
+  place = refl;
+  fed = c.requires.fed;
+  unsent = c.requires.unsent;
+  counts = refl;
+}
 
 -- the next piece
 module _ (g : given.Over) (c : After-create g) where
   abbrev piece : Piece
   piece = c.piece-item.result
 
-  ready : (c.args.input.now ≢ string_bytes piece.name) × IsWritable (tells c.args.survey.now) piece.selected
-  ready = subst (λ (p : Piece). (c.args.input.now ≢ string_bytes p.name) × IsWritable (tells c.args.survey.now) p.selected) (sym c.piece-item.is) (c.requires.split.ready c.loop-piece.piece-index piece (omega (arith, c.loop-piece-test.true)))
+  ready : (c.args.input.now ≢ string_bytes piece.name)
+      × IsWritable (tells c.args.survey.now) piece.selected
+  ready = subst (λ (p : Piece). (c.args.input.now ≢ string_bytes p.name)
+      × IsWritable (tells c.args.survey.now) p.selected) (sym c.piece-item.is)
+      (c.requires.split.ready c.loop-piece.piece-index piece
+      (omega (arith, c.loop-piece-test.true)))
 
-  next : drop c.loop-piece.piece-index c.args.pieces.now ≡ piece ∷ drop (c.loop-piece.piece-index + 1) c.args.pieces.now
-  next = item-next c.args.pieces.now c.loop-piece.piece-index piece (omega (arith, c.loop-piece-test.true)) c.piece-item.is
+  next : drop c.loop-piece.piece-index c.args.pieces.now
+      ≡ piece ∷ drop (c.loop-piece.piece-index + 1) c.args.pieces.now
+  next = item-next c.args.pieces.now c.loop-piece.piece-index piece
+      (omega (arith, c.loop-piece-test.true)) c.piece-item.is
 
   place-is : c.loop-piece.place ≡ length (take c.loop-piece.piece-index c.args.pieces.now)
-  place-is = omega (arith, c.loop-piece.invariant.place, length-take c.loop-piece.piece-index c.args.pieces.now, c.loop-piece-test.true)
+  place-is = omega (
+    arith,
+    c.loop-piece.invariant.place,
+    length-take c.loop-piece.piece-index c.args.pieces.now,
+    c.loop-piece-test.true,
+  )
 
   apart : c.args.input.now ≢ c.as_str.result.now
   apart same = ready.0 (same ∙ c.as_str.ensures.value)
@@ -38,12 +57,18 @@ pub write-requires-clause-ready : goal.write-requires-clause-ready
 write-requires-clause-ready g c =
     let away = apart g (goal.at.write-requires-clause-ready g c).After-create in
     let stands = c.loop-piece.invariant.wrote.stands in
-    relay-ready _ (g.D.Folder.seen c.loop-piece.folder).files (g.D.Folder.seen c.create.new.self).files _ away stands.there c.requires.split.laid
-    (λ file holds. c.requires.split.has file (stands.before file holds)) c.length.ensures c.in-Ok.ensures.answer.created
-    (record { same = λ bytes holds. c.loop-piece.invariant.fed.same bytes (emptied_held_other _ _ c.args.input.now bytes away (rw c.in-Ok.ensures.answer.created at holds)) })
+    relay-ready _ (g.D.Folder.seen c.loop-piece.folder).files
+    (g.D.Folder.seen c.create.new.self).files _ away stands.there c.requires.split.laid
+    (λ file holds. c.requires.split.has file (stands.before file holds))
+    c.length.ensures c.in-Ok.ensures.answer.created
+    (record {
+      same = λ bytes holds. c.loop-piece.invariant.fed.same bytes (emptied_held_other _ _
+          c.args.input.now bytes away (rw c.in-Ok.ensures.answer.created at holds));
+    })
 
 pub write-requires-clause-writable : goal.write-requires-clause-writable
-write-requires-clause-writable g c = (ready g (goal.at.write-requires-clause-writable g c).After-create).1
+write-requires-clause-writable g c =
+    (ready g (goal.at.write-requires-clause-writable g c).After-create).1
 
 pub returns-in_default : goal.returns-in_default
 returns-in_default g c =
@@ -51,11 +76,21 @@ returns-in_default g c =
     let kept = rw c.as_str.ensures.value at c.in_default.ensures.answer.kept in
     record {
       written = tt;
-      touches = all-touched (tells c.args.survey.now) c.args.input.now c.args.pieces.now c.loop-piece.piece-index (piece g at) _ _ _ (next g at) c.loop-piece.invariant.wrote (fails_touches _ _ _ (rw c.as_str.ensures.value at c.in_default.ensures.answer.kept));
+      touches = all-touched (tells c.args.survey.now) c.args.input.now c.args.pieces.now
+          c.loop-piece.piece-index (piece g at) _ _ _ (next g at) c.loop-piece.invariant.wrote
+          (fails_touches _ _ _ (rw c.as_str.ensures.value at c.in_default.ensures.answer.kept));
       done = tt;
       left =
-          pieces-fault (tells c.args.survey.now) c.args.input.now c.args.pieces.now c.loop-piece.piece-index (piece g at) _ _ _ (next g at) c.loop-piece.invariant.wrote (fails_touches _ _ _ kept) Write c.loop-piece.place _ _ _ (place-is g at) c.loop-piece.invariant.counts
-          (refl, record { rose = rw c.as_str.ensures.value at c.in_default.ensures.answer.failed; files = not_begun _ _ _ _ _ kept });
+          pieces-fault (tells c.args.survey.now)
+          c.args.input.now c.args.pieces.now c.loop-piece.piece-index (piece g at) _ _ _ (next g at)
+          c.loop-piece.invariant.wrote (fails_touches _ _ _ kept) Write c.loop-piece.place _ _ _
+          (place-is g at) c.loop-piece.invariant.counts (
+            refl,
+            record {
+              rose = rw c.as_str.ensures.value at c.in_default.ensures.answer.failed;
+              files = not_begun _ _ _ _ _ kept;
+            },
+          );
       numbers = search rules;
       counts = search rules;
     }
@@ -64,16 +99,25 @@ pub returns-in-Err : goal.returns-in-Err
 returns-in-Err g c =
     let at = (goal.at.returns-in-Err g c).After-create in
     let made = piece_made (tells c.args.survey.now) (piece g at) in
-    let touches = touches_prefix made _ _ (apart g at) _ _ _ c.in-Ok.ensures.answer.created c.in-Err.ensures.prefix in
-    let fault = pass_fault made _ _ (apart g at) _ _ _ c.in-Ok.ensures.answer.created (c.args.input.now ∷ []) refl 0 c.in-Err.fault _ (g.D.Folder.seen c.loop-piece.folder).counts _ _ c.in-Ok.ensures.answer.done c.in-Err.ensures.prefix c.in-Err.ensures.cause in
-    let touches = touches_prefix _ _ _ (apart g at) _ _ _ c.in-Ok.ensures.answer.created c.in-Err.ensures.prefix in
+    let touches = touches_prefix made _ _
+    (apart g at) _ _ _ c.in-Ok.ensures.answer.created c.in-Err.ensures.prefix in
+    let fault = pass_fault made _ _ (apart g at) _ _ _ c.in-Ok.ensures.answer.created
+    (c.args.input.now ∷ []) refl 0 c.in-Err.fault _ (g.D.Folder.seen c.loop-piece.folder).counts _ _
+    c.in-Ok.ensures.answer.done c.in-Err.ensures.prefix c.in-Err.ensures.cause in
+    let touches = touches_prefix _ _ _
+    (apart g at) _ _ _ c.in-Ok.ensures.answer.created c.in-Err.ensures.prefix in
     record {
       written = tt;
-      touches = all-touched (tells c.args.survey.now) c.args.input.now c.args.pieces.now c.loop-piece.piece-index (piece g at) _ _ _ (next g at) c.loop-piece.invariant.wrote (rw c.as_str.ensures.value at touches);
+      touches = all-touched (tells c.args.survey.now)
+          c.args.input.now c.args.pieces.now c.loop-piece.piece-index (piece g at) _ _ _
+          (next g at) c.loop-piece.invariant.wrote (rw c.as_str.ensures.value at touches);
       done = tt;
       left =
           rw c.of_pass.ensures
-          (pieces-fault (tells c.args.survey.now) c.args.input.now c.args.pieces.now c.loop-piece.piece-index (piece g at) _ _ _ (next g at) c.loop-piece.invariant.wrote (rw c.as_str.ensures.value at touches) c.in-Err.fault c.loop-piece.place _ _ _ (place-is g at) c.loop-piece.invariant.counts
+          (pieces-fault (tells c.args.survey.now)
+          c.args.input.now c.args.pieces.now c.loop-piece.piece-index (piece g at) _ _ _
+          (next g at) c.loop-piece.invariant.wrote (rw c.as_str.ensures.value at touches)
+          c.in-Err.fault c.loop-piece.place _ _ _ (place-is g at) c.loop-piece.invariant.counts
           (rw c.as_str.ensures.value at fault));
       numbers = search rules;
       counts = search rules;
@@ -82,19 +126,28 @@ returns-in-Err g c =
 pub loop-piece-preserved : goal.loop-piece-preserved
 loop-piece-preserved g c =
     let at = (goal.at.loop-piece-preserved g c).After-create in
-    let touches = touches_whole _ _ _ (apart g at) _ _ _ c.in-Ok.ensures.answer.created c.in_default-write.ensures.written in
-    let whole = output_whole (piece_made (tells c.args.survey.now) (piece g at)) _ _ (apart g at) _ _ _ c.in-Ok.ensures.answer.created c.in_default-write.ensures.written in
+    let touches = touches_whole _ _ _
+    (apart g at) _ _ _ c.in-Ok.ensures.answer.created c.in_default-write.ensures.written in
+    let whole = output_whole (piece_made (tells c.args.survey.now) (piece g at)) _ _
+    (apart g at) _ _ _ c.in-Ok.ensures.answer.created c.in_default-write.ensures.written in
     record {
-      wrote = more-wrote (tells c.args.survey.now) c.args.input.now c.args.pieces.now c.loop-piece.piece-index (piece g at) _ _ _ (next g at) c.loop-piece.invariant.wrote (rw c.as_str.ensures.value at touches) (ready g at).0 (rw c.as_str.ensures.value at whole);
+      wrote = more-wrote (tells c.args.survey.now)
+          c.args.input.now c.args.pieces.now c.loop-piece.piece-index (piece g at) _ _ _
+          (next g at) c.loop-piece.invariant.wrote (rw c.as_str.ensures.value at touches)
+          (ready g at).0 (rw c.as_str.ensures.value at whole);
       place = omega (arith, c.loop-piece.invariant.place);
       fed = c.in_default-write.ensures.ready.pass.fed_from;
       unsent = c.in_default-write.ensures.none;
-      counts = c.in_default-write.ensures.done ∙ c.in-Ok.ensures.answer.done ∙ c.loop-piece.invariant.counts;
+      counts = c.in_default-write.ensures.done ∙ c.in-Ok.ensures.answer.done
+          ∙ c.loop-piece.invariant.counts;
     }
 
 -- all of them
-all-wrote : (g : given.Over) (c : After-loop-piece g) → Wrote (tells c.args.survey.now) c.args.input.now c.args.pieces.now (g.D.Folder.seen c.args.folder.now).files (g.D.Folder.seen c.loop-piece.folder).files
-all-wrote g c = rw (take_all c.loop-piece.piece-index c.args.pieces.now (omega (arith, c.loop-piece-test.false))) at c.loop-piece.invariant.wrote
+all-wrote : (g : given.Over) (c : After-loop-piece g)
+    → Wrote (tells c.args.survey.now) c.args.input.now c.args.pieces.now
+    (g.D.Folder.seen c.args.folder.now).files (g.D.Folder.seen c.loop-piece.folder).files
+all-wrote g c = rw (take_all c.loop-piece.piece-index c.args.pieces.now
+    (omega (arith, c.loop-piece-test.false))) at c.loop-piece.invariant.wrote
 
 pub returns : goal.returns
 returns g c =

@@ -1,32 +1,26 @@
 -- One item more is judged and kept, until the file ends.
-use Rattle.std.proofs.Common.{rules, ◌≡◌, ℕ, ◌+◌, ◌<◌, ◌≤◌, List, [], ◌∷◌, length, Ok, Err, Option, Some, None, refl, sym, ◌∙◌, ap, ap₂, subst, arith, vec_len, IfSome}
-use Rattle.std.proofs.lemmas.Bool.{true≢false, eq-eqb, eqb-true}
+use Rattle.std.proofs.Common.{ap, ap₂, arith, Err, IfSome, length, List, None, Ok, Option, refl}
+use Rattle.std.proofs.Common.{rules, Some, subst, sym, vec_len, ℕ, [], ◌+◌, ◌<◌, ◌∙◌, ◌∷◌, ◌≡◌, ◌≤◌}
+use Rattle.std.proofs.lemmas.Bool.{eq-eqb, eqb-true, true≢false}
 use Rattle.frame_header.specs.Tables.{class_of}
-use Rattle.outside.specs.Files.{Holds}
-use Rattle.outside.specs.Counts.{OnlyReads}
-use Rattle.outside.proofs.PassedLaws.{err_at}
-use Rattle.sync_survey.specs.declared.items.Item.TheVariants.{Frame}
-use Rattle.sync_survey.specs.declared.places.Head.{Head}
-use Rattle.sync_survey.specs.declared.places.Start.{Start}
-use Rattle.sync_survey.specs.Row.{Row}
-use Rattle.sync_survey.specs.declared.survey_fault.SurveyFault.TheVariants.{NoFrame}
-use Rattle.sync_survey.specs.Items.{item_front, size_of}
-use Rattle.sync_survey.specs.Walk.{fault_at, IsFrameOf}
-use Rattle.sync_survey.specs.MainData.{marked}
-use Rattle.sync_survey.specs.Faults.{class_from}
-use Rattle.sync_survey.specs.Looks.{Shows, PassesItem, IsNotPassed}
-use Rattle.sync_survey.specs.Survey.{AreLaid, IsWholeHead, HasLength}
-use Rattle.sync_survey.proofs.FrontLaws.{pieces_later}
+use Rattle.outside.{proofs.PassedLaws.err_at, specs.{Counts.OnlyReads, Files.Holds}}
 use Rattle.sync_survey.proofs.FaultsLaws.{marked-length, marked-none}
-use Rattle.sync_survey.proofs.SurveyLaws.{told_by}
-use Rattle.sync_survey.proofs.LooksLaws.{item_at-shown}
-use Rattle.sync_survey.proofs.FoldersLaws.{none_read, read_more, still_held, refusal_after, only_reads_equal, bytes_refusal, survey_of-short}
+use Rattle.sync_survey.proofs.FoldersLaws.{bytes_refusal, none_read, only_reads_equal, read_more}
+use Rattle.sync_survey.proofs.FoldersLaws.{refusal_after, still_held, survey_of-short}
+use Rattle.sync_survey.proofs.{FrontLaws.pieces_later, LooksLaws.item_at-shown}
 use Rattle.sync_survey.proofs.PlacedRows.{ArePlacedTo, placed_none}
-use Rattle.sync_survey.proofs.Progress.{IsBegun, IsSurveyedTo, surveyed_none, stopped_fault, no_frame, whole}
-use Rattle.sync_survey.proofs.StepLaws.{item_header, few_by, kept, refused, laid_more, laid_later, few_more, pass_refusal}
+use Rattle.sync_survey.proofs.Progress.{IsBegun, IsSurveyedTo, no_frame, stopped_fault}
+use Rattle.sync_survey.proofs.Progress.{surveyed_none, whole}
+use Rattle.sync_survey.proofs.StepLaws.{few_by, few_more, item_header, kept, laid_later, laid_more}
+use Rattle.sync_survey.proofs.{StepLaws.{pass_refusal, refused}, SurveyLaws.told_by}
+use Rattle.sync_survey.{proofs.folders.judge_frames.Goals.After-bytes, specs.Faults.class_from}
+use Rattle.sync_survey.specs.{Items.{item_front, size_of}, Looks.{IsNotPassed, PassesItem, Shows}}
+use Rattle.sync_survey.specs.{MainData.marked, Row.Row, Survey.{AreLaid, HasLength, IsWholeHead}}
+use Rattle.sync_survey.specs.{Walk.{fault_at, IsFrameOf}, declared.items.Item.TheVariants.Frame}
+use Rattle.sync_survey.specs.declared.places.{Head.Head, Start.Start}
+use Rattle.sync_survey.specs.declared.survey_fault.SurveyFault.TheVariants.{NoFrame}
 use Rattle.sync_survey.proofs.folders.judge_frames.Given as given
 use Rattle.sync_survey.proofs.folders.judge_frames.Goals as goal
-use Rattle.sync_survey.proofs.folders.judge_frames.Goals.{After-bytes}
 
 nothing_in : (rows : List Row) → length rows ≡ 0 → rows ≡ []
 nothing_in [] none = refl
@@ -36,7 +30,8 @@ some_of : (rows : List Row) → (length rows ≡ 0 → ⊥) → 0 < length rows
 some_of [] none = absurd (none refl)
 some_of (r ∷ rows) none = omega arith
 
-frames_count : (head : Option Head) (rows frames : List Row) → rows ≡ marked head frames → length rows ≡ length frames
+frames_count : (head : Option Head) (rows frames : List Row) → rows ≡ marked head frames
+    → length rows ≡ length frames
 frames_count head rows frames marks = ap length marks ∙ marked-length head frames
 
 pub loop-at-init : goal.loop-at-init
@@ -45,17 +40,26 @@ loop-at-init g c = record {
     frames = [];
     marks = c.new.ensures.items ∙ sym (marked-none c.args.walk.head);
     surveyed =
-        subst (IsSurveyedTo bytes c.args.walk.start c.args.walk.head c.args.allowed [] c.args.walk.pieces.items c.head_area.result 0) (sym c.numbered_from-at.ensures.at)
-        (surveyed_none bytes c.args.walk.start c.args.walk.head c.args.allowed (record { start_is = (c.requires.walk.told bytes holds).start; head_is = (c.requires.walk.told bytes holds).head }) c.args.walk.pieces.items c.head_area.result
+        subst (IsSurveyedTo bytes c.args.walk.start c.args.walk.head c.args.allowed []
+        c.args.walk.pieces.items c.head_area.result 0) (sym c.numbered_from-at.ensures.at)
+        (surveyed_none bytes c.args.walk.start c.args.walk.head c.args.allowed (record {
+          start_is = (c.requires.walk.told bytes holds).start;
+          head_is = (c.requires.walk.told bytes holds).head;
+        }) c.args.walk.pieces.items c.head_area.result
         (c.requires.walk.told bytes holds).kept c.head_area.ensures.area);
   };
   laid = record {
-    rows = subst (λ rows. AreLaid c.args.walk.start.first.offset rows c.numbered_from-at.result) (sym c.new.ensures.items) c.numbered_from-at.ensures.behind;
-    pieces = pieces_later 0 c.args.walk.pieces.items c.args.walk.start.front_end c.numbered_from-at.result c.requires.walk.laid (omega (arith, c.requires.walk.junk, c.numbered_from-at.ensures.behind));
+    rows = subst (λ rows. AreLaid c.args.walk.start.first.offset rows c.numbered_from-at.result)
+        (sym c.new.ensures.items) c.numbered_from-at.ensures.behind;
+    pieces = pieces_later 0 c.args.walk.pieces.items c.args.walk.start.front_end
+        c.numbered_from-at.result c.requires.walk.laid
+        (omega (arith, c.requires.walk.junk, c.numbered_from-at.ensures.behind));
     low = omega (arith, c.head_area.ensures.most);
     placed =
-        subst (λ rows. ArePlacedTo c.args.walk.head (class_from c.args.walk.start) rows c.head_area.result 0) (sym c.new.ensures.items)
-        (placed_none c.args.walk.head (class_from c.args.walk.start) c.head_area.result c.head_area.ensures.area);
+        subst (λ rows. ArePlacedTo c.args.walk.head (class_from c.args.walk.start) rows
+        c.head_area.result 0) (sym c.new.ensures.items)
+        (placed_none c.args.walk.head (class_from c.args.walk.start)
+        c.head_area.result c.head_area.ensures.area);
   };
   few = omega (arith, ap length c.new.ensures.items);
   within = omega (arith, c.numbered_from-at.ensures.within, c.requires.walk.whole);
@@ -63,20 +67,27 @@ loop-at-init g c = record {
 }
 
 pub look-requires-clause-known : goal.look-requires-clause-known
-look-requires-clause-known g c = subst (λ f. HasLength f c.args.name.now c.args.walk.size) (sym c.loop-at.invariant.read.files) c.requires.walk.known
+look-requires-clause-known g c = subst (λ f. HasLength f c.args.name.now c.args.walk.size)
+    (sym c.loop-at.invariant.read.files) c.requires.walk.known
 
 pub returns-in_err-left : goal.returns-in_err-left
 returns-in_err-left g c = record {
   surveyed = search rules;
   done = search rules;
-  refused = err_at _ _ c.from_residual.ensures.1 (refusal_after c.loop-at.invariant.read (c.in_err-left.ensures.refused c.args.allowed));
+  refused = err_at _ _ c.from_residual.ensures.1
+      (refusal_after c.loop-at.invariant.read (c.in_err-left.ensures.refused c.args.allowed));
   files = c.in_err-left.ensures.reads.files ∙ c.loop-at.invariant.read.files;
-  counts = subst (λ n. OnlyReads n (g.D.Folder.seen c.look.new.folder).counts) c.loop-at.invariant.read.counts c.in_err-left.ensures.reads.counts;
+  counts = subst (λ n. OnlyReads n (g.D.Folder.seen c.look.new.folder).counts)
+      c.loop-at.invariant.read.counts c.in_err-left.ensures.reads.counts;
 }
 
 -- what the look shows
-shown : (g : given.Over) (c : After-bytes g) (file : List ℕ) → Holds (g.D.Folder.seen c.args.folder.now).files c.args.name.now file → Shows file c.loop-at.at c.bytes.result.now c.in_ok-left.left
-shown g c file holds = subst (λ front. Shows file c.loop-at.at front c.in_ok-left.left) (sym c.bytes.ensures) (c.in_ok-left.ensures.shows file (still_held c.loop-at.invariant.read file holds))
+shown : (g : given.Over) (c : After-bytes g) (file : List ℕ)
+    → Holds (g.D.Folder.seen c.args.folder.now).files c.args.name.now file
+    → Shows file c.loop-at.at c.bytes.result.now c.in_ok-left.left
+shown g c file holds =
+    subst (λ front. Shows file c.loop-at.at front c.in_ok-left.left) (sym c.bytes.ensures)
+    (c.in_ok-left.ensures.shows file (still_held c.loop-at.invariant.read file holds))
 
 pub pass-requires-clause-many : goal.pass-requires-clause-many
 pass-requires-clause-many g c = ap length c.bytes.ensures ∙ c.in_ok-left.ensures.many
@@ -92,19 +103,30 @@ returns-in_err-at g c = record {
       let fault = c.in_err-at.field-0.0 in
       let start = c.args.walk.start in
       let seen = shown g (goal.at.returns-in_err-at g c).After-bytes in
-      let begun : (file : List ℕ) → Holds (g.D.Folder.seen c.args.folder.now).files c.args.name.now file → IsBegun file start c.args.walk.head =
-      λ file holds. record { start_is = (c.requires.walk.told file holds).start; head_is = (c.requires.walk.told file holds).head } in
+      let begun : (file : List ℕ) → Holds (g.D.Folder.seen c.args.folder.now).files c.args.name.now
+      file → IsBegun file start c.args.walk.head =
+      λ file holds. record {
+        start_is = (c.requires.walk.told file holds).start;
+        head_is = (c.requires.walk.told file holds).head;
+      } in
       err_at _ _ c.from_residual-in_err-at.ensures.1
-      (pass_refusal c.args.name.now (g.D.Folder.seen c.args.folder.now).files c.args.allowed (g.D.Folder.seen c.args.folder.now).counts (g.D.Folder.seen c.look.new.folder).counts c.args.walk.size fault (class_from start) at front left now c.requires.walk.known
+      (pass_refusal c.args.name.now (g.D.Folder.seen c.args.folder.now).files c.args.allowed
+      (g.D.Folder.seen c.args.folder.now).counts (g.D.Folder.seen c.look.new.folder).counts
+      c.args.walk.size fault (class_from start) at front left now c.requires.walk.known
       (c.in_ok-left.ensures.reads.done ∙ c.loop-at.invariant.read.counts)
       (λ file holds is.
-      refused file start c.args.walk.head c.args.allowed now at (c.loop-at.invariant.surveyed file holds) front left (seen file holds) (begun file holds) (item_front front) is.size fault (few_by front (item_front front) refl is.front.most)
+      refused file start c.args.walk.head c.args.allowed now at
+      (c.loop-at.invariant.surveyed file holds) front left (seen file holds) (begun file holds)
+      (item_front front) is.size fault (few_by front (item_front front) refl is.front.most)
       (is.passes file (seen file holds)) is.faulty)
       (λ file holds is.
       let so_far = c.loop-at.invariant.surveyed file holds in
-      stopped_fault file start c.args.walk.head c.args.allowed so_far.frames now.pieces.items now.before.place now.before.ended at so_far.surveyed (begun file holds) fault (is.none file (seen file holds))
+      stopped_fault file start c.args.walk.head c.args.allowed so_far.frames now.pieces.items
+      now.before.place now.before.ended at so_far.surveyed (begun file holds) fault
+      (is.none file (seen file holds))
       (ap (fault_at at) (sym (item_at-shown file at front left (seen file holds))) ∙ is.why))
-      (subst (λ class. IsNotPassed class c.args.allowed at front left now fault) c.class-class.ensures c.in_err-at.ensures));
+      (subst (λ class. IsNotPassed class c.args.allowed at front left now fault)
+      c.class-class.ensures c.in_err-at.ensures));
   files = c.in_ok-left.ensures.reads.files ∙ c.loop-at.invariant.read.files;
   counts = only_reads_equal (c.in_ok-left.ensures.reads.done ∙ c.loop-at.invariant.read.counts);
 }
@@ -115,16 +137,25 @@ loop-at-preserved g c =
     let front = c.bytes.result.now in
     let item = item_front front in
     let size = c.in_ok-at.field-0 in
-    let passed : PassesItem (class_from c.args.walk.start) c.args.allowed c.loop-at.at front c.in_ok-left.left now c.pass.new.self size =
-    subst (λ class. PassesItem class c.args.allowed c.loop-at.at front c.in_ok-left.left now c.pass.new.self size) c.class-class.ensures c.in_ok-at.ensures in
+    let passed : PassesItem (class_from c.args.walk.start) c.args.allowed c.loop-at.at front
+    c.in_ok-left.left now c.pass.new.self size =
+    subst (λ class. PassesItem class c.args.allowed c.loop-at.at front c.in_ok-left.left now
+    c.pass.new.self size) c.class-class.ensures c.in_ok-at.ensures in
     let seen = shown g (goal.at.loop-at-preserved g c).After-bytes in
     record {
       surveyed = λ file holds.
-          kept file c.args.walk.start c.args.walk.head c.args.allowed now c.loop-at.at (c.loop-at.invariant.surveyed file holds) front c.in_ok-left.left (seen file holds) item c.pass.new.self size (few_by front item refl passed.front.most)
+          kept file c.args.walk.start c.args.walk.head c.args.allowed now c.loop-at.at
+          (c.loop-at.invariant.surveyed file holds) front c.in_ok-left.left (seen file holds) item
+          c.pass.new.self size (few_by front item refl passed.front.most)
           (passed.passes file (seen file holds)) passed.keeps;
-      laid = laid_more c.args.walk.head c.args.walk.start.first.offset (class_from c.args.walk.start) c.args.allowed c.loop-at.at front now c.pass.new.self size c.loop-at.invariant.laid item (item_header front item refl) passed.front.least passed.keeps;
-      few = few_more (class_from c.args.walk.start) c.args.allowed c.loop-at.at front now c.pass.new.self item passed.keeps c.loop-at.invariant.few;
-      within = omega (arith, passed.front.within, c.in_ok-left.ensures.left, c.loop-at.invariant.within);
+      laid =
+          laid_more c.args.walk.head c.args.walk.start.first.offset (class_from c.args.walk.start)
+          c.args.allowed c.loop-at.at front now c.pass.new.self size c.loop-at.invariant.laid item
+          (item_header front item refl) passed.front.least passed.keeps;
+      few = few_more (class_from c.args.walk.start) c.args.allowed c.loop-at.at front now
+          c.pass.new.self item passed.keeps c.loop-at.invariant.few;
+      within =
+          omega (arith, passed.front.within, c.in_ok-left.ensures.left, c.loop-at.invariant.within);
       read = read_more c.loop-at.invariant.read c.in_ok-left.ensures.reads;
     }
 
@@ -132,21 +163,35 @@ pub returns-then-is_empty : goal.returns-then-is_empty
 returns-then-is_empty g c = record {
   surveyed = search rules;
   done = search rules;
-  refused = bytes_refusal c.args.name.now (g.D.Folder.seen c.args.folder.now).files c.args.allowed (g.D.Folder.seen c.args.folder.now).counts (g.D.Folder.seen c.loop-at.folder).counts c.args.walk.size (NoFrame c.args.walk.size) c.requires.walk.known c.loop-at.invariant.read.counts
+  refused = bytes_refusal c.args.name.now (g.D.Folder.seen c.args.folder.now).files c.args.allowed
+      (g.D.Folder.seen c.args.folder.now).counts
+      (g.D.Folder.seen c.loop-at.folder).counts c.args.walk.size (NoFrame c.args.walk.size)
+      c.requires.walk.known c.loop-at.invariant.read.counts
       (refl, tt) (λ bytes holds.
       let now = c.loop-at.found in
       let is_size = c.requires.walk.known.long bytes holds in
       let so_far = c.loop-at.invariant.surveyed bytes holds in
-      no_frame bytes c.args.walk.start c.args.walk.head c.args.allowed so_far.frames now.pieces.items now.before.place now.before.ended c.loop-at.at so_far.surveyed
-      (record { start_is = (c.requires.walk.told bytes holds).start; head_is = (c.requires.walk.told bytes holds).head }) (omega (arith, c.loop-at-test.false, is_size))
-      (nothing_in so_far.frames (omega (arith, eqb-true (vec_len now.rows) 0 (sym c.is_empty.ensures ∙ c.if-is_empty.true), now.rows.ok.0, frames_count c.args.walk.head now.rows.items so_far.frames so_far.marks)))
+      no_frame bytes c.args.walk.start c.args.walk.head c.args.allowed so_far.frames
+      now.pieces.items now.before.place now.before.ended c.loop-at.at so_far.surveyed
+      (record {
+        start_is = (c.requires.walk.told bytes holds).start;
+        head_is = (c.requires.walk.told bytes holds).head;
+      }) (omega (arith, c.loop-at-test.false, is_size))
+      (nothing_in so_far.frames (omega (
+        arith,
+        eqb-true (vec_len now.rows) 0 (sym c.is_empty.ensures ∙ c.if-is_empty.true),
+        now.rows.ok.0,
+        frames_count c.args.walk.head now.rows.items so_far.frames so_far.marks,
+      )))
       ∙ ap (λ n. Err (NoFrame n)) (sym is_size));
   files = search rules;
   counts = search rules;
 }
 
 -- the files stay, and only reads are counted
-head_within : (start : Start) (size : ℕ) → start.first.offset + size_of (Frame start.first.header) ≤ size → (head : Option Head) → IfSome head (IsFrameOf start.first) → IfSome head (IsWholeHead start.first.offset (class_from start) size)
+head_within : (start : Start) (size : ℕ) → start.first.offset + size_of (Frame start.first.header)
+    ≤ size → (head : Option Head) → IfSome head (IsFrameOf start.first)
+    → IfSome head (IsWholeHead start.first.offset (class_from start) size)
 head_within start size whole None same = tt
 head_within start size whole (Some head) same = record {
   place = same.0;
@@ -161,18 +206,35 @@ returns g c = record {
       let start = c.args.walk.start in record {
         exact = λ bytes holds.
             let so_far = c.loop-at.invariant.surveyed bytes holds in
-            survey_of-short bytes c.args.allowed (omega (arith, c.requires.walk.known.few, c.requires.walk.known.long bytes holds))
-            ∙ whole bytes c.args.walk.start c.args.walk.head c.args.allowed so_far.frames now.pieces.items now.before.place now.before.ended c.loop-at.at so_far.surveyed
-            (record { start_is = (c.requires.walk.told bytes holds).start; head_is = (c.requires.walk.told bytes holds).head }) (omega (arith, c.loop-at-test.false, c.requires.walk.known.long bytes holds))
-            (λ none. true≢false (sym (eq-eqb (vec_len now.rows) 0 (omega (arith, ap length none, now.rows.ok.0, frames_count c.args.walk.head now.rows.items so_far.frames so_far.marks))) ∙ sym c.is_empty.ensures ∙ c.if-is_empty.false))
-            ∙ ap₂ (λ (l : List Row) n. Ok (record (told_by bytes c.args.walk.start c.args.walk.head so_far.frames now.pieces.items) { frames = l; length = n })) (sym so_far.marks) (sym (c.requires.walk.known.long bytes holds));
+            survey_of-short bytes c.args.allowed
+            (omega (arith, c.requires.walk.known.few, c.requires.walk.known.long bytes holds))
+            ∙ whole bytes c.args.walk.start c.args.walk.head c.args.allowed so_far.frames
+            now.pieces.items now.before.place now.before.ended c.loop-at.at so_far.surveyed
+            (record {
+              start_is = (c.requires.walk.told bytes holds).start;
+              head_is = (c.requires.walk.told bytes holds).head;
+            }) (omega (arith, c.loop-at-test.false, c.requires.walk.known.long bytes holds))
+            (λ none. true≢false (sym (eq-eqb (vec_len now.rows) 0 (omega (
+              arith,
+              ap length none,
+              now.rows.ok.0,
+              frames_count c.args.walk.head now.rows.items so_far.frames so_far.marks,
+            ))) ∙ sym c.is_empty.ensures ∙ c.if-is_empty.false))
+            ∙ ap₂ (λ (l : List Row) n. Ok (record (told_by bytes c.args.walk.start c.args.walk.head
+            so_far.frames now.pieces.items) { frames = l; length = n })) (sym so_far.marks)
+            (sym (c.requires.walk.known.long bytes holds));
         laid = record {
           junk = c.requires.walk.junk;
           first = omega (arith, c.requires.walk.whole);
-          head = head_within start c.args.walk.size c.requires.walk.whole c.args.walk.head c.requires.walk.same;
-          some = some_of now.rows.items (λ none. true≢false (sym (eq-eqb (vec_len now.rows) 0 (omega (arith, none, now.rows.ok.0))) ∙ sym c.is_empty.ensures ∙ c.if-is_empty.false));
-          frames = laid_later start.first.offset now.rows.items c.loop-at.at c.args.walk.size laid.rows c.loop-at.invariant.within;
-          blocks = pieces_later 0 now.pieces.items c.loop-at.at c.args.walk.size laid.pieces c.loop-at.invariant.within;
+          head = head_within start
+              c.args.walk.size c.requires.walk.whole c.args.walk.head c.requires.walk.same;
+          some = some_of now.rows.items (λ none.
+              true≢false (sym (eq-eqb (vec_len now.rows) 0 (omega (arith, none, now.rows.ok.0)))
+              ∙ sym c.is_empty.ensures ∙ c.if-is_empty.false));
+          frames = laid_later start.first.offset now.rows.items c.loop-at.at c.args.walk.size
+              laid.rows c.loop-at.invariant.within;
+          blocks = pieces_later 0
+              now.pieces.items c.loop-at.at c.args.walk.size laid.pieces c.loop-at.invariant.within;
           few = c.requires.walk.known.few;
           placed = laid.placed.frames;
         };

@@ -1,9 +1,9 @@
 -- One item more, or none.
-use Rattle.std.proofs.Common.{sym, subst, arith}
+use Rattle.std.proofs.Common.{arith, subst, sym}
 use Rattle.outside.proofs.PassedLaws.{err_at}
-use Rattle.sync_survey.specs.Looks.{Shows}
-use Rattle.sync_survey.proofs.FoldersLaws.{none_read, read_more, still_held, refusal_after}
-use Rattle.sync_survey.proofs.FrontLaws.{passed_none, passed_more, passed_all, passed_end, blocks_none, blocks_more}
+use Rattle.sync_survey.proofs.FoldersLaws.{none_read, read_more, refusal_after, still_held}
+use Rattle.sync_survey.proofs.FrontLaws.{blocks_more, blocks_none, passed_all, passed_end}
+use Rattle.sync_survey.{proofs.FrontLaws.{passed_more, passed_none}, specs.Looks.Shows}
 use Rattle.sync_survey.proofs.fronts.pass_front.Goals as goal
 
 pub loop-at-init : goal.loop-at-init
@@ -16,35 +16,52 @@ loop-at-init g c = record {
 
 pub returns-in_err-left-clause-refused : goal.returns-in_err-left-clause-refused
 returns-in_err-left-clause-refused g c =
-    err_at _ _ c.from_residual.ensures.1 (λ allowed. refusal_after c.loop-at.invariant.read (c.in_err-left.ensures.refused allowed))
+    err_at _ _ c.from_residual.ensures.1
+    (λ allowed. refusal_after c.loop-at.invariant.read (c.in_err-left.ensures.refused allowed))
 
 pub returns-in_default-clause-front_end : goal.returns-in_default-clause-front_end
 returns-in_default-clause-front_end g c = λ bytes holds.
-    let shows = c.in_ok-left.ensures.shows bytes (still_held c.loop-at.invariant.read bytes holds) in
+    let shows =
+    c.in_ok-left.ensures.shows bytes (still_held c.loop-at.invariant.read bytes holds) in
     (passed_all bytes c.loop-at.pieces.items c.loop-at.at (c.loop-at.invariant.passed bytes holds)
-    (c.in_default.ensures.step bytes c.loop-at.at (subst (λ front. Shows bytes c.loop-at.at front c.in_ok-left.left) (sym c.bytes.ensures) shows))).end
+    (c.in_default.ensures.step bytes c.loop-at.at (subst
+    (λ front. Shows bytes c.loop-at.at front c.in_ok-left.left) (sym c.bytes.ensures) shows))).end
 
 pub returns-in_default-clause-blocks : goal.returns-in_default-clause-blocks
 returns-in_default-clause-blocks g c = λ bytes holds.
-    let shows = c.in_ok-left.ensures.shows bytes (still_held c.loop-at.invariant.read bytes holds) in
+    let shows =
+    c.in_ok-left.ensures.shows bytes (still_held c.loop-at.invariant.read bytes holds) in
     (passed_all bytes c.loop-at.pieces.items c.loop-at.at (c.loop-at.invariant.passed bytes holds)
-    (c.in_default.ensures.step bytes c.loop-at.at (subst (λ front. Shows bytes c.loop-at.at front c.in_ok-left.left) (sym c.bytes.ensures) shows))).pieces
+    (c.in_default.ensures.step bytes c.loop-at.at (subst (λ front. Shows bytes c.loop-at.at front
+    c.in_ok-left.left) (sym c.bytes.ensures) shows))).pieces
 
 pub loop-at-preserved : goal.loop-at-preserved
 loop-at-preserved g c = record {
   passed = λ bytes holds.
-      let shows = c.in_ok-left.ensures.shows bytes (still_held c.loop-at.invariant.read bytes holds) in
-      passed_more bytes c.loop-at.pieces.items c.keep_block.new.pieces.items c.loop-at.at c.in-Some.step.size c.in-Some.step.item (c.loop-at.invariant.passed bytes holds)
-      (c.in-Some.ensures.step bytes c.loop-at.at (subst (λ front. Shows bytes c.loop-at.at front c.in_ok-left.left) (sym c.bytes.ensures) shows)) c.in_ok-keep_block.ensures;
-  laid = blocks_more c.loop-at.pieces.items c.keep_block.new.pieces.items c.loop-at.at c.in-Some.step.size c.in-Some.step.item c.loop-at.invariant.laid c.in-Some.ensures.passes.least c.in_ok-keep_block.ensures;
-  within = omega (arith, c.in-Some.ensures.passes.within, c.in_ok-left.ensures.left, c.loop-at.invariant.within);
+      let shows =
+      c.in_ok-left.ensures.shows bytes (still_held c.loop-at.invariant.read bytes holds) in
+      passed_more bytes c.loop-at.pieces.items c.keep_block.new.pieces.items c.loop-at.at
+      c.in-Some.step.size c.in-Some.step.item (c.loop-at.invariant.passed bytes holds)
+      (c.in-Some.ensures.step bytes c.loop-at.at (subst (λ front. Shows bytes c.loop-at.at front
+      c.in_ok-left.left) (sym c.bytes.ensures) shows)) c.in_ok-keep_block.ensures;
+  laid = blocks_more c.loop-at.pieces.items c.keep_block.new.pieces.items c.loop-at.at
+      c.in-Some.step.size c.in-Some.step.item c.loop-at.invariant.laid
+      c.in-Some.ensures.passes.least c.in_ok-keep_block.ensures;
+  within = omega (
+    arith,
+    c.in-Some.ensures.passes.within,
+    c.in_ok-left.ensures.left,
+    c.loop-at.invariant.within,
+  );
   read = read_more c.loop-at.invariant.read c.in_ok-left.ensures.reads;
 }
 
 pub returns-clause-front_end : goal.returns-clause-front_end
 returns-clause-front_end g c = λ bytes holds.
-    (passed_end bytes c.loop-at.pieces.items c.loop-at.at c.args.size (c.requires.known.long bytes holds) c.loop-at-test.false (c.loop-at.invariant.passed bytes holds)).end
+    (passed_end bytes c.loop-at.pieces.items c.loop-at.at c.args.size (c.requires.known.long bytes
+    holds) c.loop-at-test.false (c.loop-at.invariant.passed bytes holds)).end
 
 pub returns-clause-blocks : goal.returns-clause-blocks
 returns-clause-blocks g c = λ bytes holds.
-    (passed_end bytes c.loop-at.pieces.items c.loop-at.at c.args.size (c.requires.known.long bytes holds) c.loop-at-test.false (c.loop-at.invariant.passed bytes holds)).pieces
+    (passed_end bytes c.loop-at.pieces.items c.loop-at.at c.args.size (c.requires.known.long bytes
+    holds) c.loop-at-test.false (c.loop-at.invariant.passed bytes holds)).pieces

@@ -1,10 +1,14 @@
 -- A run, without its recursion.
-use Rattle.sync_survey.specs.Runs.{run}
-use Rattle.sync_survey.proofs.RunsLaws.{run-ends, run-last, run-only, bytes-ends}
+use Rattle.sync_survey.{proofs.RunsLaws.{bytes-ends, run-ends, run-last, run-only}, specs.Runs.run}
 use Rattle.sync_survey.proofs.laws.runs_are_only.Goals as goal
 
 pub returns : goal.returns
 returns c = λ part file from.
     let r = run part file from in
     let ends = run-ends part file from in
-    record { items = ends; last = run-last part file from; bytes = bytes-ends part file from r.items r.stop ends; only = run-only part file from }
+    record {
+      items = ends;
+      last = run-last part file from;
+      bytes = bytes-ends part file from r.items r.stop ends;
+      only = run-only part file from;
+    }

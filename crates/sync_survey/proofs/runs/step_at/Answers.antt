@@ -1,27 +1,34 @@
 -- A whole item is passed, or none of the part is there whole.
-use Rattle.std.proofs.Common.{sym, ◌∙◌, arith}
-use Rattle.std.proofs.lemmas.Bool.{false≢true}
-use Rattle.sync_survey.proofs.LooksLaws.{sized, not_here, step_passes}
+use Rattle.std.proofs.{Common.{arith, sym, ◌∙◌}, lemmas.Bool.false≢true}
+use Rattle.sync_survey.proofs.LooksLaws.{not_here, sized, step_passes}
 use Rattle.sync_survey.proofs.runs.step_at.Goals as goal
 
 pub returns-then-not-belongs-clause-step : goal.returns-then-not-belongs-clause-step
 returns-then-not-belongs-clause-step c = λ file at shows.
-    not_here file at c.args.front.now c.args.left shows c.args.part c.item_front-item.result c.item_front-item.ensures
+    not_here file at c.args.front.now c.args.left shows
+    c.args.part c.item_front-item.result c.item_front-item.ensures
     (λ here. absurd (false≢true (sym c.if-not-belongs.true ∙ c.belongs.ensures ∙ here)))
 
 pub returns-then-own-left-clause-step : goal.returns-then-own-left-clause-step
 returns-then-own-left-clause-step c = λ file at shows.
-    not_here file at c.args.front.now c.args.left shows c.args.part c.item_front-item.result c.item_front-item.ensures (λ here. omega (arith, c.size-own.ensures.size, c.if-own-left.true))
+    not_here file at c.args.front.now c.args.left shows c.args.part c.item_front-item.result
+    c.item_front-item.ensures (λ here. omega (arith, c.size-own.ensures.size, c.if-own-left.true))
 
 pub returns-clause-step : goal.returns-clause-step
 returns-clause-step c = λ file at shows.
-    step_passes file at c.args.front.now c.args.left shows c.args.part c.passed-size.result c.item_front-item.result c.item_front-item.ensures (sym c.belongs.ensures ∙ c.if-not-belongs.false)
-    (omega (arith, c.size-own.ensures.size, c.if-own-left.false)) c.passed-size.ensures.zeros c.passed-size.ensures.size
+    step_passes file at c.args.front.now c.args.left shows
+    c.args.part c.passed-size.result c.item_front-item.result c.item_front-item.ensures
+    (sym c.belongs.ensures ∙ c.if-not-belongs.false)
+    (omega (arith, c.size-own.ensures.size, c.if-own-left.false))
+    c.passed-size.ensures.zeros c.passed-size.ensures.size
 
 pub returns-clause-passes : goal.returns-clause-passes
 returns-clause-passes c =
-    let is = sized c.args.part c.args.front.now c.args.left c.passed-size.result c.item_front-item.result c.item_front-item.ensures (sym c.belongs.ensures ∙ c.if-not-belongs.false)
-    (omega (arith, c.size-own.ensures.size, c.if-own-left.false)) c.requires c.passed-size.ensures.zeros c.passed-size.ensures.size in
+    let is =
+    sized c.args.part c.args.front.now c.args.left c.passed-size.result c.item_front-item.result
+    c.item_front-item.ensures (sym c.belongs.ensures ∙ c.if-not-belongs.false)
+    (omega (arith, c.size-own.ensures.size, c.if-own-left.false))
+    c.requires c.passed-size.ensures.zeros c.passed-size.ensures.size in
     record {
       item = c.item_front-item.ensures;
       zeros = c.passed-size.ensures.zeros;

@@ -1,55 +1,72 @@
 -- The start is by the item at which the front ends.
-use Rattle.std.proofs.Common.{◌≡◌, ℕ, List, refl, sym, ◌∙◌, ap, subst}
-use Rattle.outside.specs.Files.{Holds}
-use Rattle.outside.proofs.PassedLaws.{err_at}
-use Rattle.sync_survey.specs.Items.{item_front}
-use Rattle.sync_survey.specs.Start.{start_behind, start_at, front_end_of, start_of}
-use Rattle.sync_survey.specs.Looks.{Shows}
-use Rattle.sync_survey.proofs.LooksLaws.{item_at-shown}
-use Rattle.sync_survey.proofs.FoldersLaws.{none_read, read_more, refusal_after, start_ok, start_err, start_refusal}
-use Rattle.sync_survey.proofs.StartLaws.{start_is}
+use Rattle.std.proofs.Common.{ap, List, refl, subst, sym, ℕ, ◌∙◌, ◌≡◌}
+use Rattle.outside.{proofs.PassedLaws.err_at, specs.Files.Holds}
+use Rattle.sync_survey.proofs.FoldersLaws.{none_read, read_more, refusal_after, start_err, start_ok}
+use Rattle.sync_survey.proofs.{FoldersLaws.start_refusal, LooksLaws.item_at-shown}
+use Rattle.sync_survey.proofs.{StartLaws.start_is, starts.find_start.Goals.After-item_front}
+use Rattle.sync_survey.specs.{Items.item_front, Looks.Shows}
+use Rattle.sync_survey.specs.Start.{front_end_of, start_at, start_behind, start_of}
 use Rattle.sync_survey.proofs.starts.find_start.Given as given
 use Rattle.sync_survey.proofs.starts.find_start.Goals as goal
-use Rattle.sync_survey.proofs.starts.find_start.Goals.{After-item_front}
 
 -- so many bytes are left, and what is shown begins with this item
-started : (file front : List ℕ) (at left : ℕ) → at ≡ front_end_of file → Shows file at front left → start_of file ≡ start_at file at (item_front front)
-started file front at left end shows = start_is file at (item_front front) end (sym (item_at-shown file at front left shows))
+started : (file front : List ℕ) (at left : ℕ) → at ≡ front_end_of file → Shows file at front left
+    → start_of file ≡ start_at file at (item_front front)
+started file front at left end shows =
+    start_is file at (item_front front) end (sym (item_at-shown file at front left shows))
 
 -- so the start is by the item that was shown
 module _ (g : given.Over) (c : After-item_front g) where
-  left_is : (bytes : List ℕ) → Holds (g.D.Folder.seen c.args.folder.now).files c.args.name.now bytes → Shows bytes c.args.front_end c.look.new.feed.given c.in_ok-left.left
+  left_is : (bytes : List ℕ) → Holds (g.D.Folder.seen c.args.folder.now).files c.args.name.now bytes
+      → Shows bytes c.args.front_end c.look.new.feed.given c.in_ok-left.left
   left_is bytes holds = c.in_ok-left.ensures.shows bytes holds
 
-  begun : (bytes : List ℕ) → Holds (g.D.Folder.seen c.args.folder.now).files c.args.name.now bytes → start_of bytes ≡ start_at bytes c.args.front_end c.item_front.result
+  begun : (bytes : List ℕ) → Holds (g.D.Folder.seen c.args.folder.now).files c.args.name.now bytes
+      → start_of bytes ≡ start_at bytes c.args.front_end c.item_front.result
   begun bytes holds =
-      started bytes c.look.new.feed.given c.args.front_end c.in_ok-left.left (c.requires.front bytes holds) (left_is bytes holds) ∙ ap (start_at bytes c.args.front_end) (ap item_front (sym c.bytes.ensures) ∙ sym c.item_front.ensures)
+      started bytes c.look.new.feed.given c.args.front_end c.in_ok-left.left
+      (c.requires.front bytes holds) (left_is bytes holds) ∙ ap (start_at bytes c.args.front_end)
+      (ap item_front (sym c.bytes.ensures) ∙ sym c.item_front.ensures)
 
 pub returns-in-Some-clause-start : goal.returns-in-Some-clause-start
 returns-in-Some-clause-start g c =
     let at = (goal.at.returns-in-Some-clause-start g c).After-item_front in
-    start_ok c.in-Some.start (g.D.Folder.seen c.args.folder.now).files c.args.name.now (λ bytes holds. begun g at bytes holds ∙ c.in-Some.ensures.start bytes (left_is g at bytes holds).left_is)
+    start_ok c.in-Some.start (g.D.Folder.seen c.args.folder.now).files c.args.name.now
+    (λ bytes holds. begun g at bytes holds
+    ∙ c.in-Some.ensures.start bytes (left_is g at bytes holds).left_is)
 
 pub returns-in-Some-clause-refused : goal.returns-in-Some-clause-refused
 returns-in-Some-clause-refused g c =
     let at = (goal.at.returns-in-Some-clause-refused g c).After-item_front in
-    start_err c.in-Some.start c.args.name.now (g.D.Folder.seen c.args.folder.now).files (g.D.Folder.seen c.args.folder.now).counts (g.D.Folder.seen c.look.new.folder).counts c.args.size c.requires.known c.in_ok-left.ensures.reads.done
-    c.in-Some.ensures.refused (λ bytes holds. begun g at bytes holds ∙ c.in-Some.ensures.start bytes (left_is g at bytes holds).left_is)
+    start_err c.in-Some.start c.args.name.now (g.D.Folder.seen c.args.folder.now).files
+    (g.D.Folder.seen c.args.folder.now).counts (g.D.Folder.seen c.look.new.folder).counts
+    c.args.size c.requires.known c.in_ok-left.ensures.reads.done
+    c.in-Some.ensures.refused (λ bytes holds. begun g at bytes holds
+    ∙ c.in-Some.ensures.start bytes (left_is g at bytes holds).left_is)
 
 pub returns-in_err-first-clause-refused : goal.returns-in_err-first-clause-refused
 returns-in_err-first-clause-refused g c =
-    err_at _ _ c.from_residual-in_err-first.ensures.1 (λ allowed. refusal_after (read_more (none_read c.requires.fed) c.in_ok-left.ensures.reads) (c.in_err-first.ensures.refused allowed))
+    err_at _ _ c.from_residual-in_err-first.ensures.1 (λ allowed. refusal_after (read_more
+    (none_read c.requires.fed) c.in_ok-left.ensures.reads) (c.in_err-first.ensures.refused allowed))
 
 pub returns-in-Some-2-clause-start : goal.returns-in-Some-2-clause-start
 returns-in-Some-2-clause-start g c = λ bytes holds.
     let at = (goal.at.returns-in-Some-2-clause-start g c).After-item_front in
-    let there = subst (λ f. Holds f c.args.name.now bytes) (sym c.in_ok-left.ensures.reads.files) holds in
-    begun g at bytes holds ∙ c.in_default.ensures.start bytes (left_is g at bytes holds).left_is ∙ ap (start_behind c.args.front_end) (sym (c.in_ok-first.ensures.first bytes there) ∙ c.in-Some-2.is)
+    let there =
+    subst (λ f. Holds f c.args.name.now bytes) (sym c.in_ok-left.ensures.reads.files) holds in
+    begun g at bytes holds ∙ c.in_default.ensures.start bytes (left_is g at bytes holds).left_is
+    ∙ ap (start_behind c.args.front_end)
+    (sym (c.in_ok-first.ensures.first bytes there) ∙ c.in-Some-2.is)
 
 pub returns-in-None-clause-refused : goal.returns-in-None-clause-refused
 returns-in-None-clause-refused g c = λ allowed.
-    start_refusal c.args.name.now (g.D.Folder.seen c.args.folder.now).files allowed (g.D.Folder.seen c.args.folder.now).counts (g.D.Folder.seen c.first_anchored.new.folder).counts c.args.size _ c.requires.known
+    start_refusal c.args.name.now (g.D.Folder.seen c.args.folder.now).files allowed
+    (g.D.Folder.seen c.args.folder.now).counts
+    (g.D.Folder.seen c.first_anchored.new.folder).counts c.args.size _ c.requires.known
     (c.in_ok-first.ensures.reads.done ∙ c.in_ok-left.ensures.reads.done) (refl, tt) (λ bytes holds.
     let at = (goal.at.returns-in-None-clause-refused g c).After-item_front in
-    let there = subst (λ f. Holds f c.args.name.now bytes) (sym c.in_ok-left.ensures.reads.files) holds in
-    begun g at bytes holds ∙ c.in_default.ensures.start bytes (left_is g at bytes holds).left_is ∙ ap (start_behind c.args.front_end) (sym (c.in_ok-first.ensures.first bytes there) ∙ c.in-None.is))
+    let there =
+    subst (λ f. Holds f c.args.name.now bytes) (sym c.in_ok-left.ensures.reads.files) holds in
+    begun g at bytes holds ∙ c.in_default.ensures.start bytes (left_is g at bytes holds).left_is
+    ∙ ap (start_behind c.args.front_end)
+    (sym (c.in_ok-first.ensures.first bytes there) ∙ c.in-None.is))

@@ -1,5 +1,5 @@
 -- The length of the items so far.
-use Rattle.std.proofs.Common.{◌≡◌, take}
+use Rattle.std.proofs.Common.{take, ◌≡◌}
 use Rattle.tag_blocks.specs.Items.{items_length}
 use Rattle.tag_blocks.proofs.items.items_length.Given as goal
 

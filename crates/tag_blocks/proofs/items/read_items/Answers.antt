@@ -1,45 +1,74 @@
 -- One item more, until none comes next or all that are counted were read.
-use Rattle.std.proofs.Common.{◌≡◌, ◌-◌, false, ◌||◌, drop, Some, sym, ◌∙◌, ap, arith, length-drop}
+use Rattle.std.proofs.Common.{ap, arith, drop, false, length-drop, Some, sym, ◌-◌, ◌||◌, ◌∙◌, ◌≡◌}
 use Rattle.std.proofs.lemmas.List.{take_rest}
-use Rattle.tag_blocks.specs.Items.{is_undo, next_item, items_from}
-use Rattle.tag_blocks.proofs.ItemsLaws.{next_item-within, read_more, read_none, read_all}
-use Rattle.tag_blocks.proofs.items.read_items.Goals.{then-met, else-met, else-loop-test, then-loop-test+in_ok-item+in_default}
+use Rattle.tag_blocks.proofs.ItemsLaws.{next_item-within, read_all, read_more, read_none}
+use Rattle.tag_blocks.proofs.items.read_items.Goals.{else-loop-test, else-met}
+use Rattle.tag_blocks.proofs.items.read_items.Goals.{then-loop-test+in_ok-item+in_default, then-met}
+use Rattle.tag_blocks.specs.Items.{is_undo, items_from, next_item}
 use Rattle.tag_blocks.proofs.items.read_items.Goals as goal
 
 pub length-passed-requires : goal.length-passed-requires
 length-passed-requires c =
     let next : next_item c.loop.met (drop c.loop.passed c.args.bytes.now) ≡ Some c.in-Some.item =
-    ap (next_item c.loop.met) (sym (take_rest c.args.bytes.now c.loop.passed)) ∙ sym c.in_ok-item.ensures ∙ c.in-Some.is in
-    omega (arith, next_item-within c.loop.met (drop c.loop.passed c.args.bytes.now) c.in-Some.item next, length-drop c.loop.passed c.args.bytes.now, c.requires)
+    ap (next_item c.loop.met) (sym (take_rest c.args.bytes.now c.loop.passed))
+    ∙ sym c.in_ok-item.ensures ∙ c.in-Some.is in
+    omega (
+      arith,
+      next_item-within c.loop.met (drop c.loop.passed c.args.bytes.now) c.in-Some.item next,
+      length-drop c.loop.passed c.args.bytes.now,
+      c.requires,
+    )
 
 pub overflow_add-passed : goal.overflow_add-passed
 overflow_add-passed c =
     let next : next_item c.loop.met (drop c.loop.passed c.args.bytes.now) ≡ Some c.in-Some.item =
-    ap (next_item c.loop.met) (sym (take_rest c.args.bytes.now c.loop.passed)) ∙ sym c.in_ok-item.ensures ∙ c.in-Some.is in
-    omega (arith, next_item-within c.loop.met (drop c.loop.passed c.args.bytes.now) c.in-Some.item next, length-drop c.loop.passed c.args.bytes.now, c.requires, c.length-passed.ensures, c.loop.invariant.within)
+    ap (next_item c.loop.met) (sym (take_rest c.args.bytes.now c.loop.passed))
+    ∙ sym c.in_ok-item.ensures ∙ c.in-Some.is in
+    omega (
+      arith,
+      next_item-within c.loop.met (drop c.loop.passed c.args.bytes.now) c.in-Some.item next,
+      length-drop c.loop.passed c.args.bytes.now,
+      c.requires,
+      c.length-passed.ensures,
+      c.loop.invariant.within,
+    )
 
 pub loop-preserved : goal.loop-preserved
 loop-preserved c =
     let bytes = c.args.bytes.now in
     let item = c.in-Some.item in
-    let next : next_item c.loop.met (drop c.loop.passed bytes) ≡ Some item = ap (next_item c.loop.met) (sym (take_rest bytes c.loop.passed)) ∙ sym c.in_ok-item.ensures ∙ c.in-Some.is in
+    let next : next_item c.loop.met (drop c.loop.passed bytes) ≡ Some item =
+    ap (next_item c.loop.met) (sym (take_rest bytes c.loop.passed)) ∙ sym c.in_ok-item.ensures
+    ∙ c.in-Some.is in
     let met : c.if-met.met ≡ (c.loop.met || is_undo item) =
     elim c.if-met.branch [
       | then-met w ↦ w.met-is ∙ w.if-met.true ∙ sym (ap (λ m. m || is_undo item) w.if-met.true)
-      | else-met w ↦ w.met-is ∙ w.is_undo-met.ensures ∙ sym (ap (λ m. m || is_undo item) w.if-met.false)
+      | else-met w ↦
+          w.met-is ∙ w.is_undo-met.ensures ∙ sym (ap (λ m. m || is_undo item) w.if-met.false)
     ] in
     rw (met, c.length-passed.ensures, c.in_ok-push.ensures.items)
     record {
-      read = read_more (items_from c.args.count false bytes) c.loop.items.items c.args.count c.loop.counter c.loop.passed c.loop.met bytes item c.loop-test.true c.loop.invariant.read next;
-      within = omega (arith, next_item-within c.loop.met (drop c.loop.passed bytes) item next, length-drop c.loop.passed bytes, c.loop.invariant.within);
+      read = read_more (items_from c.args.count false bytes)
+          c.loop.items.items c.args.count c.loop.counter c.loop.passed c.loop.met bytes item
+          c.loop-test.true c.loop.invariant.read next;
+      within = omega (
+        arith,
+        next_item-within c.loop.met (drop c.loop.passed bytes) item next,
+        length-drop c.loop.passed bytes,
+        c.loop.invariant.within,
+      );
     }
 
 pub returns : goal.returns
 returns c =
     let bytes = c.args.bytes.now in
     elim c.loop-test.branch [
-      | else-loop-test w ↦ read_all (items_from c.args.count false bytes) c.loop.items.items c.args.count c.loop.counter c.loop.met (drop c.loop.passed bytes) w.loop-test.false c.loop.invariant.read
+      | else-loop-test w ↦ read_all (items_from c.args.count false bytes)
+          c.loop.items.items c.args.count c.loop.counter c.loop.met (drop c.loop.passed bytes)
+          w.loop-test.false c.loop.invariant.read
       | then-loop-test+in_ok-item+in_default w ↦
-          read_none (items_from c.args.count false bytes) c.loop.items.items (c.args.count - c.loop.counter) c.loop.met (drop c.loop.passed bytes) c.loop.invariant.read
-          (ap (next_item c.loop.met) (sym (take_rest bytes c.loop.passed)) ∙ sym w.in_ok-item.ensures ∙ w.in_default.is)
+          read_none (items_from c.args.count false bytes) c.loop.items.items (c.args.count
+          - c.loop.counter) c.loop.met (drop c.loop.passed bytes) c.loop.invariant.read
+          (ap (next_item c.loop.met) (sym (take_rest bytes c.loop.passed))
+          ∙ sym w.in_ok-item.ensures ∙ w.in_default.is)
     ]

@@ -1,18 +1,26 @@
 -- The items follow end to end, no other that may be there is after them, and no other items are so.
-use Rattle.std.proofs.Common.{ℕ, false, List, drop, subst, arith}
-use Rattle.tag_blocks.specs.Items.{items_length, items_from}
-use Rattle.tag_blocks.specs.Laws.{AreOctets, AreItemsOf}
-use Rattle.tag_blocks.proofs.ItemsLaws.{items_from-read, items_from-stopped, items_from-only}
+use Rattle.std.proofs.Common.{arith, drop, false, List, subst, ℕ}
+use Rattle.tag_blocks.proofs.ItemsLaws.{items_from-only, items_from-read, items_from-stopped}
+use Rattle.tag_blocks.specs.{Items.{items_from, items_length}, Laws.{AreItemsOf, AreOctets}}
 use Rattle.tag_blocks.proofs.laws.items_are_all.Goals as goal
 
-are_items : (most : ℕ) (bytes : List ℕ) → AreOctets bytes → AreItemsOf most bytes (items_from most false bytes)
+are_items : (most : ℕ) (bytes : List ℕ) → AreOctets bytes
+    → AreItemsOf most bytes (items_from most false bytes)
 are_items most bytes octets =
     let read = items_from-read most false bytes octets in
     let stopped = items_from-stopped most false bytes in
-    record { all = read.all; few = stopped.few; one = omega (arith, read.few); front = read.front; last = stopped.last }
+    record {
+      all = read.all;
+      few = stopped.few;
+      one = omega (arith, read.few);
+      front = read.front;
+      last =
+          stopped.last;
+    }
 
 pub returns : goal.returns
 returns c = λ most bytes items octets. (
-  (λ are. items_from-only most false items bytes (drop (items_length items) bytes) are.all are.few (omega (arith, are.one)) are.front are.last),
+  (λ are. items_from-only most false items bytes (drop (items_length items) bytes)
+      are.all are.few (omega (arith, are.one)) are.front are.last),
   (λ is. subst (AreItemsOf most bytes) is (are_items most bytes octets)),
 )

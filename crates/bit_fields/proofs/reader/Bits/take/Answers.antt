@@ -1,19 +1,20 @@
 -- Enough bits are left, and the value is that of the first of them.
-use Rattle.std.proofs.Common.{rules, ◌≡◌, ◌≤◌, ◌+◌, ◌-◌, ◌*◌, arith, length}
+use Rattle.std.proofs.Common.{arith, length, rules, ◌*◌, ◌+◌, ◌-◌, ◌≡◌, ◌≤◌}
 use Rattle.std.proofs.lemmas.Grind.{common_steps}
+use Rattle.bit_fields.proofs.{BitsLaws.length-left, reader.Bits.take.Goals.Else-left-n}
 use Rattle.bit_fields.specs.Groups.{group}
-use Rattle.bit_fields.proofs.BitsLaws.{length-left}
 use Rattle.bit_fields.proofs.reader.Bits.take.Goals as goal
-use Rattle.bit_fields.proofs.reader.Bits.take.Goals.{Else-left-n}
 
 enough : (c : Else-left-n) → c.self.inside.place + c.args.n ≤ 8 * length c.self.inside.bytes.now
 enough c =
-    let left : c.left.result ≡ 8 * length c.self.inside.bytes.now - c.self.inside.place = rw (← c.self.view_is, length-left) at c.left.ensures in
+    let left : c.left.result ≡ 8 * length c.self.inside.bytes.now - c.self.inside.place =
+    rw (← c.self.view_is, length-left) at c.left.ensures in
     let inside = c.self.invariant.1 in
     omega arith
 
 pub number_at-value-requires-clause-room : goal.number_at-value-requires-clause-room
-number_at-value-requires-clause-room c = enough (goal.at.number_at-value-requires-clause-room c).Else-left-n
+number_at-value-requires-clause-room c =
+    enough (goal.at.number_at-value-requires-clause-room c).Else-left-n
 
 pub invariant_of-self : goal.invariant_of-self
 invariant_of-self c = (c.self.invariant.0, enough (goal.at.invariant_of-self c).Else-left-n)

@@ -1,35 +1,65 @@
 -- What each kind of line adds.
-use Rattle.std.proofs.Common.{◌+◌, inl, inr, true, false, Some, refl}
-use Rattle.cue_sheet.specs.declared.entry.Entry.TheVariants.{Passed, File, Track, Index, Start, Broken}
-use Rattle.cue_sheet.specs.declared.seen.Seen.{Seen}
-use Rattle.cue_sheet.proofs.CuesLaws.{seen_with, no_more}
+use Rattle.std.proofs.Common.{false, inl, inr, refl, Some, true, ◌+◌}
+use Rattle.cue_sheet.proofs.CuesLaws.{no_more, seen_with}
+use Rattle.cue_sheet.specs.declared.entry.Entry.TheVariants.{Broken, File, Index, Passed, Start}
+use Rattle.cue_sheet.specs.declared.{entry.Entry.TheVariants.Track, seen.Seen.Seen}
 use Rattle.cue_sheet.proofs.seen.Seen.behind.Goals as goal
 
 abbrev counted : Seen → Seen
-counted s = record { lines = s.lines + 1; file = s.file; tracks = s.tracks; started = s.started; last = s.last }
+counted s = record {
+  lines = s.lines + 1;
+  file = s.file;
+  tracks = s.tracks;
+  started = s.started;
+  last = s.last;
+}
 
 pub returns-in-Passed-clause-seen : goal.returns-in-Passed-clause-seen
 returns-in-Passed-clause-seen c before is =
     let s = c.args.self in
     elim c.in-Passed.is [
-      | inl passed ↦ seen_with before c.args.entry Passed s (counted s) passed is refl refl (no_more s.tracks) refl refl
+      | inl passed ↦ seen_with before c.args.entry Passed s (counted s) passed is refl refl
+          (no_more s.tracks) refl refl
       | inr other ↦ elim other [
-        | inl index ↦ seen_with before c.args.entry Index s (counted s) index is refl refl (no_more s.tracks) refl refl
-        | inr broken ↦ seen_with before c.args.entry Broken s (counted s) broken is refl refl (no_more s.tracks) refl refl
+        | inl index ↦ seen_with before c.args.entry Index s (counted s) index is refl refl
+            (no_more s.tracks) refl refl
+        | inr broken ↦ seen_with before c.args.entry Broken s (counted s) broken is refl refl
+            (no_more s.tracks) refl refl
       ]
     ]
 
 pub returns-in-File-clause-seen : goal.returns-in-File-clause-seen
 returns-in-File-clause-seen c before is =
     let s = c.args.self in
-    seen_with before c.args.entry File s (record { lines = s.lines + 1; file = true; tracks = s.tracks; started = s.started; last = s.last }) c.in-File.is is refl refl (no_more s.tracks) refl refl
+    seen_with before c.args.entry File s (record {
+      lines = s.lines + 1;
+      file = true;
+      tracks = s.tracks;
+      started = s.started;
+      last = s.last;
+    })
+    c.in-File.is is refl refl (no_more s.tracks) refl refl
 
 pub returns-in-Track-clause-seen : goal.returns-in-Track-clause-seen
 returns-in-Track-clause-seen c before is =
     let s = c.args.self in
-    seen_with before c.args.entry Track s (record { lines = s.lines + 1; file = s.file; tracks = s.tracks + 1; started = false; last = s.last }) c.in-Track.is is refl refl refl refl refl
+    seen_with before c.args.entry Track s (record {
+      lines = s.lines + 1;
+      file = s.file;
+      tracks = s.tracks + 1;
+      started = false;
+      last = s.last;
+    })
+    c.in-Track.is is refl refl refl refl refl
 
 pub returns-in-Start-clause-seen : goal.returns-in-Start-clause-seen
 returns-in-Start-clause-seen c before is =
     let s = c.args.self in
-    seen_with before c.args.entry (Start c.in-Start.time) s (record { lines = s.lines + 1; file = s.file; tracks = s.tracks; started = true; last = Some c.in-Start.time }) c.in-Start.is is refl refl (no_more s.tracks) refl refl
+    seen_with before c.args.entry (Start c.in-Start.time) s (record {
+      lines = s.lines + 1;
+      file = s.file;
+      tracks = s.tracks;
+      started = true;
+      last =
+          Some c.in-Start.time;
+    }) c.in-Start.is is refl refl (no_more s.tracks) refl refl

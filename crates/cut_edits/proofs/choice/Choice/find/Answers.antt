@@ -1,35 +1,40 @@
 -- What a cut chooses is decided by the survey alone.
-use Rattle.std.proofs.Common.{◌≡◌, ℕ, List, Result, Ok, Err, refl}
+use Rattle.std.proofs.Common.{Err, List, Ok, refl, Result, ℕ, ◌≡◌}
+use Rattle.std.proofs.lemmas.Result.{IfErr-weaker, MatchResult-weaker}
 use Rattle.std.specs.Prelude.{IfErr, MatchResult}
-use Rattle.std.proofs.lemmas.Result.{MatchResult-weaker, IfErr-weaker}
-use Rattle.outside.specs.Files.{Holds, IsThere}
-use Rattle.outside.specs.Seen.{Seen}
-use Rattle.sync_survey.specs.Faults.{SurveyFields, tells}
-use Rattle.sync_survey.specs.Survey.{survey_of}
-use Rattle.commands.specs.declared.fault.EditFault.{EditFault}
-use Rattle.commands.specs.Left.{IsRefusal}
-use Rattle.commands.specs.One.{most_frames, IsInputFault}
-use Rattle.commands.proofs.InputLaws.{refused_is_input}
-use Rattle.cut_edits.specs.declared.chosen.Chosen.{Chosen as CodeChosen}
-use Rattle.cut_edits.specs.Chosen.{Choosing, Planning, chosen_in, laying_with, cut_choice, cut_refuses}
-use Rattle.cut_edits.specs.Choices.{choosing_by}
-use Rattle.cut_edits.proofs.ChosenLaws.{refused-laid}
+use Rattle.commands.{proofs.InputLaws.refused_is_input, specs.Left.IsRefusal}
+use Rattle.commands.specs.{One.{IsInputFault, most_frames}, declared.fault.EditFault.EditFault}
+use Rattle.cut_edits.{proofs.ChosenLaws.refused-laid, specs.Choices.choosing_by}
+use Rattle.cut_edits.specs.Chosen.{Choosing, chosen_in, cut_choice, cut_refuses, laying_with}
+use Rattle.cut_edits.specs.{Chosen.Planning, declared.chosen.Chosen.Chosen as CodeChosen}
+use Rattle.outside.specs.{Files.{Holds, IsThere}, Seen.Seen}
+use Rattle.sync_survey.specs.{Faults.{SurveyFields, tells}, Survey.survey_of}
 use Rattle.cut_edits.proofs.choice.Choice.find.Goals as goal
 
-cut_refused : (choose : Choosing) (name : List ℕ) (s : SurveyFields) (now : Seen) → IsThere now.files name → ((bytes : List ℕ) → Holds now.files name bytes → survey_of bytes most_frames ≡ Ok s) → (r : Result CodeChosen EditFault)
-    → MatchResult r (λ chosen. (file : List ℕ) → choose file s ≡ Ok (chosen_in chosen)) (λ fault. (file : List ℕ) → choose file s ≡ Err fault) → IfErr r (IsRefusal cut_refuses)
-    → IfErr r (λ fault. (plan : Planning) → IsInputFault (laying_with choose plan) name now now fault)
+cut_refused : (choose : Choosing) (name : List ℕ) (s : SurveyFields) (now : Seen)
+    → IsThere now.files name
+    → ((bytes : List ℕ) → Holds now.files name bytes → survey_of bytes most_frames ≡ Ok s)
+    → (r : Result CodeChosen EditFault) → MatchResult r (λ chosen. (file : List ℕ)
+    → choose file s ≡ Ok (chosen_in chosen)) (λ fault. (file : List ℕ) → choose file s ≡ Err fault)
+    → IfErr r (IsRefusal cut_refuses) → IfErr r
+    (λ fault. (plan : Planning) → IsInputFault (laying_with choose plan) name now now fault)
 cut_refused choose name s now there surveyed (Ok chosen) is kind = tt
-cut_refused choose name s now there surveyed (Err fault) is kind = λ plan. refused_is_input (laying_with choose plan) name now now s cut_refuses fault kind there surveyed (λ bytes holds. refused-laid choose plan bytes s fault (is bytes)) refl
+cut_refused choose name s now there surveyed (Err fault) is kind =
+    λ plan. refused_is_input (laying_with choose plan) name now now s cut_refuses fault kind there
+    surveyed (λ bytes holds. refused-laid choose plan bytes s fault (is bytes)) refl
 
 pub returns-in-Between-clause-chosen : goal.returns-in-Between-clause-chosen
-returns-in-Between-clause-chosen g c = rw c.in-Between.is (MatchResult-weaker c.cut_choice.result c.cut_choice.ensures.chosen (λ chosen is bytes holds. is bytes) (λ fault is. tt))
+returns-in-Between-clause-chosen g c = rw c.in-Between.is (MatchResult-weaker c.cut_choice.result
+    c.cut_choice.ensures.chosen (λ chosen is bytes holds. is bytes) (λ fault is. tt))
 
 pub returns-in-Between-clause-refused : goal.returns-in-Between-clause-refused
 returns-in-Between-clause-refused g c =
     rw c.in-Between.is
-    (cut_refused (cut_choice c.in-Between.from.now c.in-Between.to.now) c.args.name.now (tells c.args.survey.now) (g.D.Folder.seen c.args.folder.now) c.requires.there c.requires.surveyed c.cut_choice.result c.cut_choice.ensures.chosen c.cut_choice.ensures.refusal)
+    (cut_refused (cut_choice c.in-Between.from.now c.in-Between.to.now) c.args.name.now (tells
+    c.args.survey.now) (g.D.Folder.seen c.args.folder.now) c.requires.there c.requires.surveyed
+    c.cut_choice.result c.cut_choice.ensures.chosen c.cut_choice.ensures.refusal)
 
 -- all frames are chosen whatever a command makes of them
 pub returns-in-All-clause-refused : goal.returns-in-All-clause-refused
-returns-in-All-clause-refused g c = IfErr-weaker c.all_choice.result _ _ (λ fault is plan. is (laying_with (choosing_by c.args.self.now) plan)) c.all_choice.ensures.refused
+returns-in-All-clause-refused g c = IfErr-weaker c.all_choice.result _ _ (λ fault is plan.
+    is (laying_with (choosing_by c.args.self.now) plan)) c.all_choice.ensures.refused

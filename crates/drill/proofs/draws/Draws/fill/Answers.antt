@@ -1,21 +1,26 @@
 -- One byte more.
-use Rattle.std.proofs.Common.{◌≡◌, ◌+◌, ◌%◌, ◌<◌, ◌∙◌, sym, ap, suc, length, set, arith}
+use Rattle.std.proofs.Common.{ap, arith, length, set, suc, sym, ◌%◌, ◌+◌, ◌<◌, ◌∙◌, ◌≡◌}
+use Rattle.drill.proofs.DrawsLaws.{behind-more, behind-none, byte-more, no-byte}
 use Rattle.drill.specs.Draws.{drawn, next_state, state_behind}
-use Rattle.drill.proofs.DrawsLaws.{behind-none, behind-more, no-byte, byte-more}
 use Rattle.drill.proofs.draws.Draws.fill.Goals as goal
 
 pub loop-byte-init : goal.loop-byte-init
-loop-byte-init c = record { bytes = no-byte c.args.self.now.state c.args.bytes.now; state = sym (behind-none c.args.self.now.state) }
+loop-byte-init c = record {
+  bytes = no-byte c.args.self.now.state c.args.bytes.now;
+  state = sym (behind-none c.args.self.now.state);
+}
 
 pub loop-byte-preserved : goal.loop-byte-preserved
 loop-byte-preserved c =
     let at = c.loop-byte in
     let i = at.byte-index in
     let seed = c.args.self.now.state in
-    let within : i < length c.args.bytes.now = omega (arith, c.loop-byte-test.true, at.auto.bytes) in
+    let within : i < length c.args.bytes.now =
+    omega (arith, c.loop-byte-test.true, at.auto.bytes) in
     let state = c.draw.ensures.state ∙ ap next_state at.invariant.state in
     let one : suc i ≡ i + 1 = omega arith in
     record {
-      bytes = ap (λ n. set at.bytes i (n % 64)) (c.draw.ensures.drawn ∙ ap drawn state) ∙ byte-more c.args.bytes.now at.bytes i seed within at.invariant.bytes;
+      bytes = ap (λ n. set at.bytes i (n % 64)) (c.draw.ensures.drawn ∙ ap drawn state)
+          ∙ byte-more c.args.bytes.now at.bytes i seed within at.invariant.bytes;
       state = state ∙ sym (behind-more i seed) ∙ ap (λ n. state_behind n seed) one;
     }

@@ -1,7 +1,6 @@
 -- The bytes so far were drawn.
-use Rattle.std.proofs.Common.{◌≡◌, ◌++◌, drop}
-use Rattle.drill.specs.Draws.{state_behind}
-use Rattle.drill.specs.Drill.{drawn_bytes}
+use Rattle.std.proofs.Common.{drop, ◌++◌, ◌≡◌}
+use Rattle.drill.specs.{Draws.state_behind, Drill.drawn_bytes}
 use Rattle.drill.proofs.draws.Draws.fill.Given as goal
 
 abbrev pub invariant-loop-byte : goal.invariant-loop-byte

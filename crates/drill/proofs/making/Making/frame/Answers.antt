@@ -1,50 +1,65 @@
 -- The main data fit into the room for them.
-use Rattle.std.proofs.Common.{◌≡◌, ◌+◌, ◌/◌, ◌≤◌, ◌∙◌, sym, subst, ap, length, arith}
-use Rattle.frame_header.specs.Fields.{HeaderFields}
-use Rattle.frame_header.specs.Tables.{class_of, area_of}
-use Rattle.side_info.specs.declared.side.Side.{Side}
-use Rattle.side_info.specs.Side.{payload_bits}
-use Rattle.side_info.specs.FrameFields.{FrameFields}
-use Rattle.frame_writer.specs.Frames.{Frame, frame_of, EndsInArea}
-use Rattle.drill.specs.Draws.{state_behind}
+use Rattle.std.proofs.Common.{ap, arith, length, subst, sym, ◌+◌, ◌/◌, ◌∙◌, ◌≡◌, ◌≤◌}
+use Rattle.drill.proofs.DrawnSide.{drawn_side-begin, drawn_side-fits, drawn_side-room}
+use Rattle.drill.proofs.{DrawsLaws.behind-sum, MakingLaws.{area-is, reach-most}}
+use Rattle.drill.{proofs.making.Making.frame.Goals.After-new-frame, specs.Draws.state_behind}
 use Rattle.drill.specs.Drill.{drawn_side}
-use Rattle.drill.proofs.DrawsLaws.{behind-sum}
-use Rattle.drill.proofs.DrawnSide.{drawn_side-fits, drawn_side-room, drawn_side-begin}
-use Rattle.drill.proofs.MakingLaws.{area-is, reach-most}
+use Rattle.frame_header.specs.{Fields.HeaderFields, Tables.{area_of, class_of}}
+use Rattle.frame_writer.specs.Frames.{EndsInArea, Frame, frame_of}
+use Rattle.side_info.specs.{FrameFields.FrameFields, Side.payload_bits, declared.side.Side.Side}
 use Rattle.drill.proofs.making.Making.frame.Given as given
 use Rattle.drill.proofs.making.Making.frame.Goals as goal
-use Rattle.drill.proofs.making.Making.frame.Goals.{After-new-frame}
 
 pub draw_payload-payload-requires : goal.draw_payload-payload-requires
 draw_payload-payload-requires g c =
     let m = c.args.self.now in
     let begin = c.reach.result in
     record {
-      few = omega (arith, c.bits.ensures, ap payload_bits c.draw_side-side.ensures.side, drawn_side-room begin m.draws.state, c.reach.ensures, reach-most m.writer c.requires.next.class);
+      few = omega (
+        arith,
+        c.bits.ensures,
+        ap payload_bits c.draw_side-side.ensures.side,
+        drawn_side-room begin m.draws.state,
+        c.reach.ensures,
+        reach-most m.writer c.requires.next.class,
+      );
     }
 
 pub new-front-requires : goal.new-front-requires
 new-front-requires g c =
     let m = c.args.self.now in
     let begin = c.reach.result in
-    rw (c.drill_header.ensures, c.draw_side-side.ensures.side) (drawn_side-fits begin m.draws.state (omega (arith, c.reach.ensures, reach-most m.writer c.requires.next.class)))
+    rw (c.drill_header.ensures, c.draw_side-side.ensures.side) (drawn_side-fits begin
+    m.draws.state (omega (arith, c.reach.ensures, reach-most m.writer c.requires.next.class)))
 
 -- the frame that the writer gets
-frame_is : (g : given.Over) (c : After-new-frame g) → c.new-frame.result ≡ frame_of c.drill_header.result c.draw_side-side.result c.draw_payload-payload.result
-frame_is g c = c.new-frame.ensures ∙ ap {A = FrameFields} {B = Frame} (λ k. record { kept = k; payload = c.draw_payload-payload.result }) c.new-front.ensures
+frame_is : (g : given.Over) (c : After-new-frame g) → c.new-frame.result
+    ≡ frame_of c.drill_header.result c.draw_side-side.result c.draw_payload-payload.result
+frame_is g c = c.new-frame.ensures ∙ ap {A = FrameFields} {B =
+    Frame} (λ k. record { kept = k; payload = c.draw_payload-payload.result }) c.new-front.ensures
 
 pub frame-requires-clause-start : goal.frame-requires-clause-start
 frame-requires-clause-start g c =
     let is = frame_is g (goal.at.frame-requires-clause-start g c).After-new-frame in
-    omega (arith, ap (λ (f : Frame). f.kept.side.main_data_begin) is, ap (λ (s : Side). s.main_data_begin) c.draw_side-side.ensures.side, drawn_side-begin c.reach.result c.args.self.now.draws.state, c.reach.ensures)
+    omega (
+      arith,
+      ap (λ (f : Frame). f.kept.side.main_data_begin) is,
+      ap (λ (s : Side). s.main_data_begin) c.draw_side-side.ensures.side,
+      drawn_side-begin c.reach.result c.args.self.now.draws.state,
+      c.reach.ensures,
+    )
 
 pub frame-requires-clause-within : goal.frame-requires-clause-within
 frame-requires-clause-within g c =
     let m = c.args.self.now in
     let begin = c.reach.result in
-    let area : area_of (class_of c.drill_header.result) c.drill_header.result.slot c.drill_header.result.protected ≡ 381 =
-    ap (λ (h : HeaderFields). area_of (class_of h) h.slot h.protected) c.drill_header.ensures ∙ area-is in
-    let size : length c.draw_payload-payload.result ≤ c.draw_side-side.result.main_data_begin + area_of (class_of c.drill_header.result) c.drill_header.result.slot c.drill_header.result.protected =
+    let area : area_of (class_of c.drill_header.result)
+    c.drill_header.result.slot c.drill_header.result.protected ≡ 381 =
+    ap (λ (h : HeaderFields). area_of (class_of h) h.slot h.protected) c.drill_header.ensures
+    ∙ area-is in
+    let size : length c.draw_payload-payload.result
+    ≤ c.draw_side-side.result.main_data_begin + area_of (class_of c.drill_header.result)
+    c.drill_header.result.slot c.drill_header.result.protected =
     omega (
       arith,
       area,
@@ -55,14 +70,24 @@ frame-requires-clause-within g c =
       ap (λ (s : Side). s.main_data_begin) c.draw_side-side.ensures.side,
       drawn_side-begin begin m.draws.state,
     ) in
-    subst EndsInArea (sym (frame_is g (goal.at.frame-requires-clause-within g c).After-new-frame)) size
+    subst EndsInArea
+    (sym (frame_is g (goal.at.frame-requires-clause-within g c).After-new-frame)) size
 
 pub frame-requires-clause-few : goal.frame-requires-clause-few
 frame-requires-clause-few g c =
     let m = c.args.self.now in
     let begin = c.reach.result in
     let is = frame_is g (goal.at.frame-requires-clause-few g c).After-new-frame in
-    omega (arith, ap (λ (f : Frame). length f.payload) is, c.draw_payload-payload.ensures.size, c.bits.ensures, ap payload_bits c.draw_side-side.ensures.side, drawn_side-room begin m.draws.state, c.reach.ensures, reach-most m.writer c.requires.next.class)
+    omega (
+      arith,
+      ap (λ (f : Frame). length f.payload) is,
+      c.draw_payload-payload.ensures.size,
+      c.bits.ensures,
+      ap payload_bits c.draw_side-side.ensures.side,
+      drawn_side-room begin m.draws.state,
+      c.reach.ensures,
+      reach-most m.writer c.requires.next.class,
+    )
 
 pub returns-clause-state : goal.returns-clause-state
 returns-clause-state g c =

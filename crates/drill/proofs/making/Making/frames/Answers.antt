@@ -1,11 +1,8 @@
 -- One frame after another.
-use Rattle.std.proofs.Common.{◌≡◌, ◌+◌, ◌∙◌, suc, refl, sym, subst, arith}
-use Rattle.outside.proofs.PassedLaws.{on_err}
-use Rattle.outside.proofs.FilesLaws.{appended_there}
-use Rattle.outside.specs.Files.{IsThere}
-use Rattle.drill.specs.Drill.{drill_frames}
-use Rattle.drill.specs.Making.{writing_in, IsBefore, HasMade}
-use Rattle.drill.proofs.MakingLaws.{before-first, before-more, made-none, made-more, made-part}
+use Rattle.std.proofs.Common.{arith, refl, subst, suc, sym, ◌+◌, ◌∙◌, ◌≡◌}
+use Rattle.drill.proofs.MakingLaws.{before-first, before-more, made-more, made-none, made-part}
+use Rattle.drill.specs.{Drill.drill_frames, Making.{HasMade, IsBefore, writing_in}}
+use Rattle.outside.{proofs.{FilesLaws.appended_there, PassedLaws.on_err}, specs.Files.IsThere}
 use Rattle.drill.proofs.making.Making.frames.Goals as goal
 
 pub loop-i-init : goal.loop-i-init
@@ -13,14 +10,16 @@ loop-i-init g c =
     let m = c.args.self.now in
     record {
       next = before-first m.draws.state m refl c.requires.new;
-      made = made-none c.args.name.now m.draws.state m (g.D.Folder.seen c.args.folder.now).files c.requires.there c.requires.new c.requires.none;
+      made = made-none c.args.name.now m.draws.state m
+          (g.D.Folder.seen c.args.folder.now).files c.requires.there c.requires.new c.requires.none;
       counts = refl;
     }
 
 pub frame-requires-clause-there : goal.frame-requires-clause-there
 frame-requires-clause-there g c =
     let made = c.loop-i.invariant.made in
-    subst (λ f. IsThere f c.args.name.now) (sym made.files) (appended_there (g.D.Folder.seen c.args.folder.now).files c.args.name.now made.passed)
+    subst (λ f. IsThere f c.args.name.now) (sym made.files)
+    (appended_there (g.D.Folder.seen c.args.folder.now).files c.args.name.now made.passed)
 
 pub frame-requires-clause-next : goal.frame-requires-clause-next
 frame-requires-clause-next g c = c.loop-i.invariant.next.next
@@ -30,8 +29,10 @@ returns-in_err-frame-clause-prefix g c =
     let seen = g.D.Folder.seen in
     let inv = c.loop-i.invariant in
     on_err c.from_residual.result
-    (made-part c.args.name.now c.args.self.now.draws.state c.loop-i._i c.loop-i.self inv.next (seen c.args.folder.now).files (seen c.loop-i.folder).files inv.made
-    c.args.count _ (seen c.frame.new.folder).files c.loop-i-test.true c.frame.ensures.reach c.in_err-frame.ensures.part)
+    (made-part c.args.name.now c.args.self.now.draws.state c.loop-i._i c.loop-i.self inv.next
+    (seen c.args.folder.now).files (seen c.loop-i.folder).files inv.made
+    c.args.count _ (seen c.frame.new.folder).files c.loop-i-test.true c.frame.ensures.reach
+    c.in_err-frame.ensures.part)
 
 pub loop-i-preserved : goal.loop-i-preserved
 loop-i-preserved g c =
@@ -41,8 +42,13 @@ loop-i-preserved g c =
     let i = c.loop-i._i in
     let one : suc i ≡ i + 1 = omega arith in
     record {
-      next = subst (λ n. IsBefore seed n c.frame.new.self) one (before-more seed i c.loop-i.self inv.next c.frame.new.self c.in_ok-frame.ensures.next c.frame.ensures.state c.frame.ensures.reach);
-      made = subst (λ n. HasMade c.args.name.now (writing_in c.frame.new.self) (drill_frames seed n) (seen c.args.folder.now).files (seen c.frame.new.folder).files) one
-          (made-more c.args.name.now seed i c.loop-i.self inv.next (seen c.args.folder.now).files (seen c.loop-i.folder).files inv.made (writing_in c.frame.new.self) (seen c.frame.new.folder).files c.in_ok-frame.ensures.written);
+      next = subst (λ n. IsBefore seed n c.frame.new.self) one
+          (before-more seed i c.loop-i.self inv.next c.frame.new.self c.in_ok-frame.ensures.next
+          c.frame.ensures.state c.frame.ensures.reach);
+      made = subst (λ n. HasMade c.args.name.now (writing_in c.frame.new.self) (drill_frames seed n)
+          (seen c.args.folder.now).files (seen c.frame.new.folder).files) one
+          (made-more c.args.name.now seed i c.loop-i.self inv.next (seen c.args.folder.now).files
+          (seen c.loop-i.folder).files inv.made (writing_in c.frame.new.self)
+          (seen c.frame.new.folder).files c.in_ok-frame.ensures.written);
       counts = c.in_ok-frame.ensures.done ∙ inv.counts;
     }

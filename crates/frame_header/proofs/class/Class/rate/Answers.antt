@@ -1,8 +1,7 @@
 -- The bit rate is within the bounds of the tables.
-use Rattle.std.proofs.Common.{◌≡◌, ◌≤◌, subst, sym, rules}
+use Rattle.std.proofs.Common.{rules, subst, sym, ◌≡◌, ◌≤◌}
+use Rattle.frame_header.{proofs.Lengths.{rate-least, rate-most}, specs.Fields.IsSlot}
 use Rattle.frame_header.specs.Tables.{rate_of}
-use Rattle.frame_header.specs.Fields.{IsSlot}
-use Rattle.frame_header.proofs.Lengths.{rate-least, rate-most}
 use Rattle.frame_header.proofs.class.Class.rate.Goals as goal
 
 pub returns-clause-least : goal.returns-clause-least

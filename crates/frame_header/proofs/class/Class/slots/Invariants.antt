@@ -1,5 +1,5 @@
 -- The slots of the bit rate indexes so far.
-use Rattle.std.proofs.Common.{◌≡◌, ◌-◌, ◌*◌}
+use Rattle.std.proofs.Common.{◌*◌, ◌-◌, ◌≡◌}
 use Rattle.arrayvec.specs.ArrayVec.{array_vec_len}
 use Rattle.frame_header.specs.Slots.{slots_to}
 use Rattle.frame_header.proofs.class.Class.slots.Given as goal

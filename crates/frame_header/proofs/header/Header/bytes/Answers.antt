@@ -1,22 +1,27 @@
 -- The bits of the four bytes are those of the number.
-use Rattle.std.proofs.Common.{sym, ap, subst, ◌∙◌, arith}
-use Rattle.bit_fields.specs.Bits.{bits, AreBytes}
-use Rattle.frame_header.specs.Reading.{header_at, header_in}
-use Rattle.frame_header.proofs.HeaderLaws.{bits-to_be_bytes, AreBytes-to_be_bytes, header_bytes-same}
+use Rattle.std.proofs.Common.{ap, arith, subst, sym, ◌∙◌}
+use Rattle.bit_fields.specs.Bits.{AreBytes, bits}
+use Rattle.frame_header.proofs.HeaderLaws.{AreBytes-to_be_bytes, bits-to_be_bytes}
+use Rattle.frame_header.{proofs.HeaderLaws.header_bytes-same, specs.Reading.{header_at, header_in}}
 use Rattle.frame_header.proofs.header.Header.bytes.Goals as goal
 
 pub returns-clause-bits : goal.returns-clause-bits
-returns-clause-bits c = ap bits c.to_be_bytes.ensures ∙ bits-to_be_bytes c.word_of.result (omega arith) ∙ c.word_of.ensures.bits
+returns-clause-bits c = ap bits c.to_be_bytes.ensures
+    ∙ bits-to_be_bytes c.word_of.result (omega arith) ∙ c.word_of.ensures.bits
 
 pub returns-clause-back : goal.returns-clause-back
 unfolding header_at
-returns-clause-back c = ap header_in (ap bits c.to_be_bytes.ensures ∙ bits-to_be_bytes c.word_of.result (omega arith)) ∙ c.word_of.ensures.back
+returns-clause-back c =
+    ap header_in (ap bits c.to_be_bytes.ensures ∙ bits-to_be_bytes c.word_of.result (omega arith))
+    ∙ c.word_of.ensures.back
 
 pub returns-clause-same : goal.returns-clause-same
 returns-clause-same c four all l is =
     header_bytes-same c.to_be_bytes.result four c.args.self.now
-    (ap bits c.to_be_bytes.ensures ∙ bits-to_be_bytes c.word_of.result (omega arith) ∙ c.word_of.ensures.bits)
+    (ap bits c.to_be_bytes.ensures ∙ bits-to_be_bytes c.word_of.result (omega arith)
+    ∙ c.word_of.ensures.bits)
     (subst AreBytes (sym c.to_be_bytes.ensures) (AreBytes-to_be_bytes c.word_of.result)) all l is
 
 pub returns-clause-octets : goal.returns-clause-octets
-returns-clause-octets c = subst AreBytes (sym c.to_be_bytes.ensures) (AreBytes-to_be_bytes c.word_of.result)
+returns-clause-octets c =
+    subst AreBytes (sym c.to_be_bytes.ensures) (AreBytes-to_be_bytes c.word_of.result)

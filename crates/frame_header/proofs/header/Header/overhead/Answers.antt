@@ -1,9 +1,8 @@
 -- What is before the area is shorter than any frame of the class.
-use Rattle.std.proofs.Common.{◌≡◌, rules, subst, ap, arith}
+use Rattle.std.proofs.Common.{ap, arith, rules, subst, ◌≡◌}
+use Rattle.frame_header.proofs.{HeaderLaws.IsClass-class_of, Lengths.area_some}
 use Rattle.frame_header.specs.Fields.{IsHeader}
-use Rattle.frame_header.specs.Tables.{class_of, side_size_of, overhead_of, area_of}
-use Rattle.frame_header.proofs.HeaderLaws.{IsClass-class_of}
-use Rattle.frame_header.proofs.Lengths.{area_some}
+use Rattle.frame_header.specs.Tables.{area_of, class_of, overhead_of, side_size_of}
 use Rattle.frame_header.proofs.header.Header.overhead.Goals as goal
 
 pub returns-clause-whole : goal.returns-clause-whole
@@ -12,4 +11,10 @@ returns-clause-whole c =
     let h = c.args.self.now in
     let is = subst IsHeader c.self.view_is c.self.invariant in
     let over : c.overhead.result ≡ overhead_of (class_of h) h.protected = search rules in
-    omega (arith, over, c.overhead.ensures.within, ap side_size_of c.class.ensures, area_some (class_of h) h.slot (IsClass-class_of h is) is.slot)
+    omega (
+      arith,
+      over,
+      c.overhead.ensures.within,
+      ap side_size_of c.class.ensures,
+      area_some (class_of h) h.slot (IsClass-class_of h is) is.slot,
+    )

@@ -1,5 +1,5 @@
 -- The bits of the four bytes are those of their number.
-use Rattle.std.proofs.Common.{sym, ◌∙◌, ap}
+use Rattle.std.proofs.Common.{ap, sym, ◌∙◌}
 use Rattle.frame_header.specs.Reading.{header_at, header_in}
 use Rattle.frame_header.proofs.header.Header.read.Goals as goal
 

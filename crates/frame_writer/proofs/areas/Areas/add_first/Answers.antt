@@ -1,20 +1,23 @@
 -- What is stored of them, and zeros where it ends.
-use Rattle.std.proofs.Common.{rules, ◌≡◌, ℕ, List, ◌++◌, ◌-◌, take, ap, ◌∙◌}
-use Rattle.outside.proofs.PassedLaws.{on_err, passed_there}
-use Rattle.frame_writer.specs.Laid.{Waiting, zeros}
+use Rattle.std.proofs.Common.{ap, List, rules, take, ℕ, ◌++◌, ◌-◌, ◌∙◌, ◌≡◌}
 use Rattle.frame_writer.proofs.LaidLaws.{first-parts}
-use Rattle.frame_writer.proofs.WritingLaws.{ok-map, err-map, prefix-piece, passed-two, prefix-two}
+use Rattle.frame_writer.proofs.WritingLaws.{err-map, ok-map, passed-two, prefix-piece, prefix-two}
+use Rattle.frame_writer.proofs.areas.Areas.add_first.Goals.{After-add_zeros}
+use Rattle.frame_writer.specs.Laid.{Waiting, zeros}
+use Rattle.outside.proofs.PassedLaws.{on_err, passed_there}
 use Rattle.frame_writer.proofs.areas.Areas.add_first.Given as given
 use Rattle.frame_writer.proofs.areas.Areas.add_first.Goals as goal
-use Rattle.frame_writer.proofs.areas.Areas.add_first.Goals.{After-add_zeros}
 
 pub returns-in_err-push : goal.returns-in_err-push
 returns-in_err-push g c = record {
   passed = search rules;
   prefix = let bytes = c.bytes-bytes.result.now in
-      let all = first-parts c.args.count c.self.inside.free c.min-stored.result bytes c.args.self.now.bytes
-      (ap (λ (xs : List ℕ). xs ++ zeros c.self.inside.free) c.bytes-bytes.ensures ∙ ap (λ (w : Waiting). w.bytes) c.self.view_is) c.requires.within c.min-stored.ensures in
-      on_err c.from_residual.result (prefix-piece c.args.name.now c.args.unsent.now _ _ _ _ _ all c.in_err-push.ensures.prefix);
+      let all =
+      first-parts c.args.count c.self.inside.free c.min-stored.result bytes c.args.self.now.bytes
+      (ap (λ (xs : List ℕ). xs ++ zeros c.self.inside.free) c.bytes-bytes.ensures
+      ∙ ap (λ (w : Waiting). w.bytes) c.self.view_is) c.requires.within c.min-stored.ensures in
+      on_err c.from_residual.result
+      (prefix-piece c.args.name.now c.args.unsent.now _ _ _ _ _ all c.in_err-push.ensures.prefix);
   failed = search rules;
   done = search rules;
   counts = search rules;
@@ -24,18 +27,24 @@ pub add_zeros-requires-clause-there : goal.add_zeros-requires-clause-there
 add_zeros-requires-clause-there g c = passed_there c.in_ok-push.ensures.passed
 
 -- what is stored of the first bytes, and zeros after it
-first_are : (g : given.Over) (c : After-add_zeros g) → take c.min-stored.result c.bytes-bytes.result.now ++ zeros (c.args.count - c.min-stored.result) ≡ take c.args.count c.args.self.now.bytes
+first_are : (g : given.Over) (c : After-add_zeros g)
+    → take c.min-stored.result c.bytes-bytes.result.now
+    ++ zeros (c.args.count - c.min-stored.result) ≡ take c.args.count c.args.self.now.bytes
 first_are g c =
-    first-parts c.args.count c.self.inside.free c.min-stored.result c.bytes-bytes.result.now c.args.self.now.bytes
-    (ap (λ (xs : List ℕ). xs ++ zeros c.self.inside.free) c.bytes-bytes.ensures ∙ ap (λ (w : Waiting). w.bytes) c.self.view_is) c.requires.within c.min-stored.ensures
+    first-parts c.args.count c.self.inside.free c.min-stored.result c.bytes-bytes.result.now
+    c.args.self.now.bytes
+    (ap (λ (xs : List ℕ). xs ++ zeros c.self.inside.free) c.bytes-bytes.ensures
+    ∙ ap (λ (w : Waiting). w.bytes) c.self.view_is) c.requires.within c.min-stored.ensures
 
 pub returns : goal.returns
 returns g c = record {
   passed = ok-map c.add_zeros.result
-      (passed-two c.args.unsent.now (take c.min-stored.result c.bytes-bytes.result.now) (zeros (c.args.count - c.min-stored.result)) _ (first_are g c) c.in_ok-push.ensures.passed)
+      (passed-two c.args.unsent.now (take c.min-stored.result c.bytes-bytes.result.now)
+      (zeros (c.args.count - c.min-stored.result)) _ (first_are g c) c.in_ok-push.ensures.passed)
       c.add_zeros.ensures.passed;
   prefix = err-map c.add_zeros.result
-      (prefix-two c.args.unsent.now (take c.min-stored.result c.bytes-bytes.result.now) (zeros (c.args.count - c.min-stored.result)) _ (first_are g c) c.in_ok-push.ensures.passed)
+      (prefix-two c.args.unsent.now (take c.min-stored.result c.bytes-bytes.result.now)
+      (zeros (c.args.count - c.min-stored.result)) _ (first_are g c) c.in_ok-push.ensures.passed)
       c.add_zeros.ensures.prefix;
   failed = search rules;
   done = search rules;

@@ -1,12 +1,15 @@
 -- The zeros up to the main data, and these, after what is in the queue.
-use Rattle.std.proofs.Common.{◌≡◌, ℕ, List, [], ◌∷◌, ◌+◌, ◌-◌, ◌++◌, append_assoc, length, refl, sym, subst, ap, ◌∙◌, arith}
-use Rattle.frame_writer.specs.Laid.{Waiting, zeros, put_at, AreLaid}
-use Rattle.frame_writer.proofs.LaidLaws.{waits, more-put, more-laid}
+use Rattle.std.proofs.Common.{ap, append_assoc, arith, length, List, refl, subst, sym, ℕ, [], ◌++◌}
+use Rattle.std.proofs.Common.{◌+◌, ◌-◌, ◌∙◌, ◌∷◌, ◌≡◌}
+use Rattle.frame_writer.proofs.LaidLaws.{more-laid, more-put, waits}
+use Rattle.frame_writer.specs.Laid.{AreLaid, put_at, Waiting, zeros}
 use Rattle.frame_writer.proofs.areas.Areas.push.Goals as goal
 
 -- zeros and then these bytes were added
-added : (old mid new more bytes : List ℕ) → mid ≡ old ++ more → new ≡ mid ++ bytes → new ≡ old ++ (more ++ bytes)
-added old mid new more bytes pushed appended = appended ∙ ap (λ (xs : List ℕ). xs ++ bytes) pushed ∙ append_assoc old more bytes
+added : (old mid new more bytes : List ℕ) → mid ≡ old ++ more → new ≡ mid ++ bytes
+    → new ≡ old ++ (more ++ bytes)
+added old mid new more bytes pushed appended =
+    appended ∙ ap (λ (xs : List ℕ). xs ++ bytes) pushed ∙ append_assoc old more bytes
 
 pub returns-clause-put : goal.returns-clause-put
 returns-clause-put c =
@@ -14,10 +17,16 @@ returns-clause-put c =
     let free = c.self.inside.free in
     let payload = c.args.payload.now in
     let rest = begin + c.args.area - c.len.result in
-    let is = added c.self.inside.queue _ c.push_payload.new.queue (zeros (free - begin)) payload c.push_zeros.ensures c.push_payload.ensures in
+    let is = added c.self.inside.queue _ c.push_payload.new.queue (zeros (free - begin)) payload
+    c.push_zeros.ensures c.push_payload.ensures in
     ap (λ (xs : List ℕ). xs ++ zeros rest) is
-    ∙ more-put c.self.inside.queue payload begin free (free - begin) rest c.args.area (omega (arith, c.requires.start, ap (λ (w : Waiting). w.free) c.self.view_is)) refl c.requires.within (ap (λ k. begin + c.args.area - k) c.len.ensures)
-    ∙ ap (λ (w : Waiting). put_at (length w.bytes - begin) payload (w.bytes ++ zeros c.args.area)) c.self.view_is
+    ∙ more-put c.self.inside.queue payload begin free (free - begin) rest c.args.area (omega (
+      arith,
+      c.requires.start,
+      ap (λ (w : Waiting). w.free) c.self.view_is,
+    )) refl c.requires.within (ap (λ k. begin + c.args.area - k) c.len.ensures)
+    ∙ ap (λ (w : Waiting). put_at (length w.bytes - begin) payload (w.bytes ++ zeros c.args.area))
+    c.self.view_is
 
 pub returns-clause-laid : goal.returns-clause-laid
 returns-clause-laid c = λ given ps are.
@@ -25,7 +34,11 @@ returns-clause-laid c = λ given ps are.
     let free = c.self.inside.free in
     let payload = c.args.payload.now in
     let rest = begin + c.args.area - c.len.result in
-    let is = added c.self.inside.queue _ c.push_payload.new.queue (zeros (free - begin)) payload c.push_zeros.ensures c.push_payload.ensures in
-    subst (λ (xs : List ℕ). AreLaid given (waits xs rest) (ps ++ record { payload = payload; begin = begin; area = c.args.area } ∷ [])) (sym is)
-    (more-laid given c.self.inside.queue payload begin free (free - begin) rest c.args.area ps (omega (arith, c.requires.start, ap (λ (w : Waiting). w.free) c.self.view_is)) refl c.requires.within (ap (λ k. begin + c.args.area - k) c.len.ensures)
+    let is = added c.self.inside.queue _ c.push_payload.new.queue (zeros (free - begin)) payload
+    c.push_zeros.ensures c.push_payload.ensures in
+    subst (λ (xs : List ℕ). AreLaid given (waits xs rest)
+    (ps ++ record { payload = payload; begin = begin; area = c.args.area } ∷ [])) (sym is)
+    (more-laid given c.self.inside.queue payload begin free (free - begin) rest c.args.area ps
+    (omega (arith, c.requires.start, ap (λ (w : Waiting). w.free) c.self.view_is)) refl
+    c.requires.within (ap (λ k. begin + c.args.area - k) c.len.ensures)
     (subst (λ w. AreLaid given w ps) (sym c.self.view_is) are))

@@ -1,5 +1,5 @@
 -- The bytes are after those that were there.
-use Rattle.std.proofs.Common.{refl, ap, ◌∙◌, ◌-◌, ◌+◌, take, drop, length, arith, List, ℕ}
+use Rattle.std.proofs.Common.{ap, arith, drop, length, List, refl, take, ℕ, ◌+◌, ◌-◌, ◌∙◌}
 use Rattle.std.proofs.lemmas.List.{with_items_is}
 use Rattle.frame_writer.proofs.BytesLaws.{put-behind}
 use Rattle.frame_writer.proofs.bytes.ByteQueue.push.Goals as goal
@@ -11,5 +11,7 @@ returns c =
     let h = q.to - q.from in
     let l = length c.args.bytes.now in
     ap (λ (xs : List ℕ). take (n + h + l - n) (drop n xs)) (with_items_is q.room _ (omega arith))
-    ∙ put-behind n h l c.make_room-from.new.room _ c.copy_from_slice.new.self c.args.bytes.now c.args.self.now (omega arith)
-    (c.make_room-from.ensures.same ∙ ap (λ (xs : List ℕ). take h (drop q.from xs)) c.as_mut_slice-room.ensures.value ∙ c.self.view_is) c.copy_from_slice.ensures.after refl
+    ∙ put-behind n h l c.make_room-from.new.room _
+    c.copy_from_slice.new.self c.args.bytes.now c.args.self.now (omega arith)
+    (c.make_room-from.ensures.same ∙ ap (λ (xs : List ℕ). take h (drop q.from xs))
+    c.as_mut_slice-room.ensures.value ∙ c.self.view_is) c.copy_from_slice.ensures.after refl

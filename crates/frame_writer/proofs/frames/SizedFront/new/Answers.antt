@@ -1,7 +1,8 @@
 -- The area is short.
-use Rattle.std.proofs.Common.{◌∙◌, arith}
+use Rattle.std.proofs.Common.{arith}
 use Rattle.frame_writer.proofs.FrameLaws.{area-range}
 use Rattle.frame_writer.proofs.frames.SizedFront.new.Goals as goal
 
 pub overflow_cast-result : goal.overflow_cast-result
-overflow_cast-result c = omega (arith, c.requires, (area-range c.args.front.now c.class.ensures.known).1)
+overflow_cast-result c =
+    omega (arith, c.requires, (area-range c.args.front.now c.class.ensures.known).1)

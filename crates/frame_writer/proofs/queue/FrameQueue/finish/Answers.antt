@@ -1,15 +1,15 @@
 -- One frame after another.
-use Rattle.std.proofs.Common.{rules, ◌≡◌, List, ℕ, length, refl, ◌∙◌, subst, arith}
-use Rattle.outside.specs.Passed.{PassedOn}
-use Rattle.outside.proofs.PassedLaws.{on_err, passed_nothing, passed_then, passed_then_prefix, passed_there}
+use Rattle.std.proofs.Common.{arith, length, List, refl, rules, subst, ℕ, ◌∙◌, ◌≡◌}
 use Rattle.std.proofs.lemmas.Grind.{common_steps}
-use Rattle.frame_writer.specs.Writing.{writing, waiting_bytes}
-use Rattle.frame_writer.proofs.WritingLaws.{none-left}
+use Rattle.frame_writer.{proofs.WritingLaws.none-left, specs.Writing.{waiting_bytes, writing}}
+use Rattle.outside.proofs.PassedLaws.{on_err, passed_nothing, passed_then, passed_then_prefix}
+use Rattle.outside.{proofs.PassedLaws.passed_there, specs.Passed.PassedOn}
 use Rattle.frame_writer.proofs.queue.FrameQueue.finish.Goals as goal
 
 pub loop-self-init : goal.loop-self-init
 loop-self-init g c = record {
-  passed = passed_nothing (g.D.Folder.seen c.args.folder.now).files c.args.name.now (waiting_bytes (writing c.args.self.now c.args.unsent.now)) c.requires.there;
+  passed = passed_nothing (g.D.Folder.seen c.args.folder.now).files c.args.name.now
+      (waiting_bytes (writing c.args.self.now c.args.unsent.now)) c.requires.there;
   there = c.requires.there;
   counts = refl;
 }
@@ -25,7 +25,8 @@ pub returns-in_err-take_first : goal.returns-in_err-take_first
 returns-in_err-take_first g c = record {
   passed = search rules;
   none = search rules;
-  prefix = on_err c.from_residual.result (passed_then_prefix c.loop-self.invariant.passed c.in_err-take_first.ensures.prefix);
+  prefix = on_err c.from_residual.result
+      (passed_then_prefix c.loop-self.invariant.passed c.in_err-take_first.ensures.prefix);
   failed = search rules;
   done = search rules;
   counts = search rules;
@@ -33,8 +34,11 @@ returns-in_err-take_first g c = record {
 
 pub returns : goal.returns
 returns g c = record {
-  passed = let none : length c.loop-self.self.kept ≡ 0 = omega (arith, c.count.ensures.count, c.loop-self-test.false) in
-      subst (λ (xs : List ℕ). PassedOn c.args.name.now (waiting_bytes (writing c.args.self.now c.args.unsent.now)) xs (g.D.Folder.seen c.args.folder.now).files (g.D.Folder.seen c.loop-self.folder).files)
+  passed = let none : length c.loop-self.self.kept ≡ 0 =
+      omega (arith, c.count.ensures.count, c.loop-self-test.false) in
+      subst (λ (xs : List ℕ).
+      PassedOn c.args.name.now (waiting_bytes (writing c.args.self.now c.args.unsent.now)) xs
+      (g.D.Folder.seen c.args.folder.now).files (g.D.Folder.seen c.loop-self.folder).files)
       (none-left c.loop-self.self c.loop-self.unsent none) c.loop-self.invariant.passed;
   none = grind (arith, common_steps);
   prefix = search rules;

@@ -1,13 +1,15 @@
 -- One frame after another.
-use Rattle.std.proofs.Common.{rules, refl, ◌∙◌}
-use Rattle.outside.proofs.PassedLaws.{on_err, passed_nothing, passed_then, passed_then_prefix, passed_there}
-use Rattle.frame_writer.specs.Writing.{writing, waiting_bytes}
+use Rattle.std.proofs.Common.{refl, rules, ◌∙◌}
 use Rattle.frame_writer.proofs.WritingLaws.{handed-none, handed-then, part-then}
+use Rattle.frame_writer.specs.Writing.{waiting_bytes, writing}
+use Rattle.outside.proofs.PassedLaws.{on_err, passed_nothing, passed_then, passed_then_prefix}
+use Rattle.outside.proofs.PassedLaws.{passed_there}
 use Rattle.frame_writer.proofs.queue.FrameQueue.hand_on.Goals as goal
 
 pub loop-self-init : goal.loop-self-init
 loop-self-init g c = record {
-  passed = passed_nothing (g.D.Folder.seen c.args.folder.now).files c.args.name.now (waiting_bytes (writing c.args.self.now c.args.unsent.now)) c.requires.there;
+  passed = passed_nothing (g.D.Folder.seen c.args.folder.now).files c.args.name.now
+      (waiting_bytes (writing c.args.self.now c.args.unsent.now)) c.requires.there;
   moved = handed-none c.args.self.now;
   class = refl;
   reach = refl;
@@ -20,7 +22,8 @@ loop-self-preserved g c = record {
   passed = passed_then c.loop-self.invariant.passed c.in_ok-take_first.ensures.passed;
   moved = handed-then c.loop-self.invariant.moved c.in_ok-take_first.ensures.moved;
   class = c.in_ok-take_first.ensures.class ∙ c.loop-self.invariant.class;
-  reach = c.in_ok-take_first.ensures.reach (c.loop-self-test.ensures.0 refl) ∙ c.loop-self.invariant.reach;
+  reach = c.in_ok-take_first.ensures.reach (c.loop-self-test.ensures.0 refl)
+      ∙ c.loop-self.invariant.reach;
   there = passed_there c.in_ok-take_first.ensures.passed;
   counts = c.in_ok-take_first.ensures.done ∙ c.loop-self.invariant.counts;
 }
@@ -30,12 +33,15 @@ returns-in_err-take_first g c = record {
   passed = search rules;
   moved = search rules;
   part = on_err c.from_residual.result
-      (part-then c.args.name.now (writing c.args.self.now c.args.unsent.now) (writing c.loop-self.self c.loop-self.unsent) c.take_first.new.self _ _ _
+      (part-then c.args.name.now (writing c.args.self.now c.args.unsent.now)
+      (writing c.loop-self.self c.loop-self.unsent) c.take_first.new.self _ _ _
       c.loop-self.invariant.passed c.loop-self.invariant.moved c.in_err-take_first.ensures.part);
   class = search rules;
-  reach = c.take_first.ensures.reach (c.loop-self-test.ensures.0 refl) ∙ c.loop-self.invariant.reach;
+  reach =
+      c.take_first.ensures.reach (c.loop-self-test.ensures.0 refl) ∙ c.loop-self.invariant.reach;
   unsettled = search rules;
-  prefix = on_err c.from_residual.result (passed_then_prefix c.loop-self.invariant.passed c.in_err-take_first.ensures.prefix);
+  prefix = on_err c.from_residual.result
+      (passed_then_prefix c.loop-self.invariant.passed c.in_err-take_first.ensures.prefix);
   failed = search rules;
   done = search rules;
   counts = search rules;

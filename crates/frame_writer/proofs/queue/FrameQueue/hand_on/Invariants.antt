@@ -1,13 +1,13 @@
 -- What waited when the call began was passed on, or waits.
-use Rattle.std.proofs.Common.{◌≡◌, length}
+use Rattle.std.proofs.Common.{length, ◌≡◌}
+use Rattle.frame_writer.specs.{Frames.reach_of, Writing.{GoesOn, HandedOn, writing}}
 use Rattle.outside.specs.Files.{IsThere}
-use Rattle.frame_writer.specs.Frames.{reach_of}
-use Rattle.frame_writer.specs.Writing.{writing, GoesOn, HandedOn}
 use Rattle.frame_writer.proofs.queue.FrameQueue.hand_on.Given as goal
 
 abbrev pub invariant-loop-self : goal.invariant-loop-self
 invariant-loop-self g l = record {
-  passed : GoesOn l.name (writing l.initial.self l.initial.unsent) (writing l.self l.unsent) (g.D.Folder.seen l.initial.folder).files (g.D.Folder.seen l.folder).files;
+  passed : GoesOn l.name (writing l.initial.self l.initial.unsent) (writing l.self l.unsent)
+      (g.D.Folder.seen l.initial.folder).files (g.D.Folder.seen l.folder).files;
   moved : HandedOn l.initial.self l.self;
   class : l.self.class ≡ l.initial.self.class;
   reach : reach_of l.self ≡ reach_of l.initial.self;

@@ -1,67 +1,111 @@
 -- There is room, and what is pushed keeps what the queues hold together.
-use Rattle.std.proofs.Common.{◌≡◌, ◌+◌, List, [], ◌∷◌, ◌++◌, length, sym, subst, ap, ◌∙◌, arith, length-append, OnOk}
+use Rattle.std.proofs.Common.{ap, arith, length, length-append, List, OnOk, subst, sym, [], ◌++◌}
+use Rattle.std.proofs.Common.{◌+◌, ◌∙◌, ◌∷◌, ◌≡◌}
 use Rattle.circular_buffer.specs.Buffer.{buffer}
-use Rattle.frame_header.specs.Fields.{ClassFields, IsHeader}
-use Rattle.frame_header.specs.Tables.{class_of}
-use Rattle.side_info.specs.Side.{SideFits}
-use Rattle.side_info.specs.FrameFields.{FrameFields}
-use Rattle.frame_writer.specs.Laid.{AreLaid}
-use Rattle.frame_writer.specs.Frames.{Held, Frame, area_in, areas_in, AreOf, IsNextSettled, AreWritten}
-use Rattle.frame_writer.specs.Laws.{HaveRoom}
-use Rattle.frame_writer.proofs.FrameLaws.{few-wait, pushed-kept, areas_in-pushed, AreOf-more, more-written}
+use Rattle.frame_header.specs.{Fields.{ClassFields, IsHeader}, Tables.class_of}
+use Rattle.frame_writer.proofs.FrameLaws.{areas_in-pushed, AreOf-more, few-wait, more-written}
+use Rattle.frame_writer.proofs.FrameLaws.{pushed-kept}
+use Rattle.frame_writer.specs.Frames.{area_in, areas_in, AreOf, AreWritten, Frame, Held}
+use Rattle.frame_writer.specs.{Frames.IsNextSettled, Laid.AreLaid, Laws.HaveRoom}
+use Rattle.side_info.specs.{FrameFields.FrameFields, Side.SideFits}
 use Rattle.frame_writer.proofs.queue.FrameQueue.push.Goals as goal
 
 -- another frame may wait
-room_of : (held old : Held) → held ≡ old → AreOf held.class held.kept → areas_in held.kept ≡ length held.waiting.bytes → (IsNextSettled old → ⊥) → HaveRoom held
-room_of held old view are same unsettled = few-wait held are same (subst (λ (h : Held). IsNextSettled h → ⊥) (sym view) unsettled)
+room_of : (held old : Held) → held ≡ old → AreOf held.class held.kept
+    → areas_in held.kept ≡ length held.waiting.bytes → (IsNextSettled old → ⊥) → HaveRoom held
+room_of held old view are same unsettled =
+    few-wait held are same (subst (λ (h : Held). IsNextSettled h → ⊥) (sym view) unsettled)
 
 pub push-requires-clause-room : goal.push-requires-clause-room
 push-requires-clause-room c =
-    let room = room_of (record { class = c.self.inside.class; kept = c.self.inside.kept.items; waiting = c.self.inside.areas }) c.args.self.now c.self.view_is c.self.invariant.3 c.self.invariant.2 c.requires.unsettled in
+    let room = room_of (record {
+      class = c.self.inside.class;
+      kept = c.self.inside.kept.items;
+      waiting = c.self.inside.areas;
+    }) c.args.self.now c.self.view_is c.self.invariant.3 c.self.invariant.2 c.requires.unsettled in
     omega (arith, room.room, c.area-area.ensures.most)
 
 pub invariant_of-self : goal.invariant_of-self
 invariant_of-self c =
-    let room = room_of (record { class = c.self.inside.class; kept = c.self.inside.kept.items; waiting = c.self.inside.areas }) c.args.self.now c.self.view_is c.self.invariant.3 c.self.invariant.2 c.requires.unsettled in
+    let room = room_of (record {
+      class = c.self.inside.class;
+      kept = c.self.inside.kept.items;
+      waiting = c.self.inside.areas;
+    }) c.args.self.now c.self.view_is c.self.invariant.3 c.self.invariant.2 c.requires.unsettled in
     let k : FrameFields = c.args.frame.now.kept in
     let queue = c.self.inside.kept in
-    let pushed = pushed-kept queue c.try_push_back.new.self k c.try_push_back.result c.self.invariant.0 room.few c.try_push_back.ensures.variant
-    (subst (λ (k : FrameFields). OnOk c.try_push_back.result (c.try_push_back.new.self ≡ buffer (queue.items ++ k ∷ []) queue.capacity)) c.front-front.ensures c.try_push_back.ensures.ok) in
-    let class : class_of c.args.frame.now.kept.header ≡ c.self.inside.class = c.requires.class ∙ sym (ap (λ (h : Held). h.class) c.self.view_is) in
+    let pushed = pushed-kept queue c.try_push_back.new.self k
+    c.try_push_back.result c.self.invariant.0 room.few c.try_push_back.ensures.variant
+    (subst (λ (k : FrameFields). OnOk c.try_push_back.result (c.try_push_back.new.self ≡ buffer
+    (queue.items ++ k ∷ []) queue.capacity)) c.front-front.ensures c.try_push_back.ensures.ok) in
+    let class : class_of c.args.frame.now.kept.header ≡ c.self.inside.class =
+    c.requires.class ∙ sym (ap (λ (h : Held). h.class) c.self.view_is) in
     let fits : SideFits c.self.inside.class c.args.frame.now.kept.side =
-    subst (λ (d : ClassFields). SideFits d c.args.frame.now.kept.side) class (subst (λ (k : FrameFields). SideFits (class_of k.header) k.side) c.front-front.ensures c.begin_in-begin.ensures.fits) in
-    let is : IsHeader c.args.frame.now.kept.header = subst (λ (k : FrameFields). IsHeader k.header) c.front-front.ensures c.area-area.ensures.header in
+    subst (λ (d : ClassFields). SideFits d c.args.frame.now.kept.side) class
+    (subst (λ (k : FrameFields). SideFits (class_of k.header) k.side)
+    c.front-front.ensures c.begin_in-begin.ensures.fits) in
+    let is : IsHeader c.args.frame.now.kept.header = subst (λ (k : FrameFields). IsHeader k.header)
+    c.front-front.ensures c.area-area.ensures.header in
     let bytes = c.self.inside.areas.bytes in
-    let long : length c.push.new.self.bytes ≡ length bytes + area_in k = c.push.ensures.long ∙ ap (λ n. length bytes + n) (c.area-area.ensures.area ∙ ap area_in c.front-front.ensures) in (
+    let long : length c.push.new.self.bytes ≡ length bytes + area_in k = c.push.ensures.long
+    ∙ ap (λ n. length bytes + n) (c.area-area.ensures.area ∙ ap area_in c.front-front.ensures) in (
       pushed.0,
       omega (arith, ap length pushed.1, length-append queue.items (k ∷ []), room.few),
       ap (λ (ks : List FrameFields). areas_in ks) pushed.1
           ∙ areas_in-pushed queue.items k bytes c.push.new.self.bytes c.self.invariant.2 long,
-      subst (AreOf c.self.inside.class) (sym pushed.1) (AreOf-more c.self.inside.class queue.items k c.self.invariant.3 is class fits),
+      subst (AreOf c.self.inside.class) (sym pushed.1)
+          (AreOf-more c.self.inside.class queue.items k c.self.invariant.3 is class fits),
     )
 
 pub returns-clause-kept : goal.returns-clause-kept
 returns-clause-kept c =
-    let room = room_of (record { class = c.self.inside.class; kept = c.self.inside.kept.items; waiting = c.self.inside.areas }) c.args.self.now c.self.view_is c.self.invariant.3 c.self.invariant.2 c.requires.unsettled in
+    let room = room_of (record {
+      class = c.self.inside.class;
+      kept = c.self.inside.kept.items;
+      waiting = c.self.inside.areas;
+    }) c.args.self.now c.self.view_is c.self.invariant.3 c.self.invariant.2 c.requires.unsettled in
     let queue = c.self.inside.kept in
-    (pushed-kept queue c.try_push_back.new.self c.args.frame.now.kept c.try_push_back.result c.self.invariant.0 room.few c.try_push_back.ensures.variant
-    (subst (λ (k : FrameFields). OnOk c.try_push_back.result (c.try_push_back.new.self ≡ buffer (queue.items ++ k ∷ []) queue.capacity)) c.front-front.ensures c.try_push_back.ensures.ok)).1
+    (pushed-kept queue c.try_push_back.new.self c.args.frame.now.kept c.try_push_back.result
+    c.self.invariant.0 room.few c.try_push_back.ensures.variant
+    (subst (λ (k : FrameFields). OnOk c.try_push_back.result (c.try_push_back.new.self ≡ buffer
+    (queue.items ++ k ∷ []) queue.capacity)) c.front-front.ensures c.try_push_back.ensures.ok)).1
     ∙ ap (λ (h : Held). h.kept ++ c.args.frame.now.kept ∷ []) c.self.view_is
 
 pub returns-clause-written : goal.returns-clause-written
 returns-clause-written c = λ taken fs are.
-    let room = room_of (record { class = c.self.inside.class; kept = c.self.inside.kept.items; waiting = c.self.inside.areas }) c.args.self.now c.self.view_is c.self.invariant.3 c.self.invariant.2 c.requires.unsettled in
+    let room = room_of (record {
+      class = c.self.inside.class;
+      kept = c.self.inside.kept.items;
+      waiting = c.self.inside.areas;
+    }) c.args.self.now c.self.view_is c.self.invariant.3 c.self.invariant.2 c.requires.unsettled in
     let k : FrameFields = c.args.frame.now.kept in
     let queue = c.self.inside.kept in
-    let pushed = pushed-kept queue c.try_push_back.new.self k c.try_push_back.result c.self.invariant.0 room.few c.try_push_back.ensures.variant
-    (subst (λ (k : FrameFields). OnOk c.try_push_back.result (c.try_push_back.new.self ≡ buffer (queue.items ++ k ∷ []) queue.capacity)) c.front-front.ensures c.try_push_back.ensures.ok) in
+    let pushed = pushed-kept queue c.try_push_back.new.self k
+    c.try_push_back.result c.self.invariant.0 room.few c.try_push_back.ensures.variant
+    (subst (λ (k : FrameFields). OnOk c.try_push_back.result (c.try_push_back.new.self ≡ buffer
+    (queue.items ++ k ∷ []) queue.capacity)) c.front-front.ensures c.try_push_back.ensures.ok) in
     let f : Frame = record { kept = c.front-front.result; payload = c.frame.inside.payload } in
-    let is : f ≡ c.args.frame.now = λ i. record { kept = c.front-front.ensures i; payload = ap (λ (x : Frame). x.payload) c.frame.view_is i } in
-    subst (λ (ks : List FrameFields). AreWritten taken (record { class = c.self.inside.class; kept = ks; waiting = c.push.new.self }) (fs ++ c.args.frame.now ∷ [])) (sym pushed.1)
-    (subst (λ (f : Frame). AreWritten taken (record { class = c.self.inside.class; kept = queue.items ++ f.kept ∷ []; waiting = c.push.new.self }) (fs ++ f ∷ [])) is
+    let is : f ≡ c.args.frame.now = λ i. record {
+      kept = c.front-front.ensures i;
+      payload = ap (λ (x : Frame). x.payload) c.frame.view_is i;
+    } in
+    subst (λ (ks : List FrameFields). AreWritten taken
+    (record { class = c.self.inside.class; kept = ks; waiting = c.push.new.self })
+    (fs ++ c.args.frame.now ∷ [])) (sym pushed.1)
+    (subst (λ (f : Frame). AreWritten taken (record {
+      class = c.self.inside.class;
+      kept = queue.items ++ f.kept ∷ [];
+      waiting = c.push.new.self;
+    }) (fs ++ f ∷ [])) is
     (more-written taken c.self.inside.class queue.items c.self.inside.areas c.push.new.self fs f
     (λ given ps laid.
-    subst (λ n. AreLaid given c.push.new.self (ps ++ record { payload = f.payload; begin = n; area = area_in f.kept } ∷ [])) (c.from.ensures ∙ c.begin_in-begin.ensures.begin)
-    (subst (λ n. AreLaid given c.push.new.self (ps ++ record { payload = f.payload; begin = c.from.result; area = n } ∷ [])) c.area-area.ensures.area
+    subst (λ n. AreLaid given
+    c.push.new.self (ps ++ record { payload = f.payload; begin = n; area = area_in f.kept } ∷ []))
+    (c.from.ensures ∙ c.begin_in-begin.ensures.begin)
+    (subst (λ n. AreLaid given c.push.new.self (ps ++ record {
+      payload = f.payload;
+      begin = c.from.result;
+      area = n;
+    } ∷ [])) c.area-area.ensures.area
     (c.push.ensures.laid given ps laid)))
     (subst (λ h. AreWritten taken h fs) (sym c.self.view_is) are)))

@@ -1,55 +1,79 @@
 -- The front of the first frame that waits, and after it the first bytes of the areas.
-use Rattle.std.proofs.Common.{rules, ◌≡◌, ◌<◌, ◌≤◌, ℕ, List, ◌∷◌, ◌++◌, length, take, drop, sym, subst, ap, ◌∙◌, arith, option_copied}
+use Rattle.std.proofs.Common.{ap, arith, drop, length, List, option_copied, rules, subst, sym, take}
+use Rattle.std.proofs.{Common.{ℕ, ◌++◌, ◌<◌, ◌∙◌, ◌∷◌, ◌≡◌, ◌≤◌}, lemmas.Grind.common_steps}
 use Rattle.circular_buffer.specs.Buffer.{Buffer}
+use Rattle.frame_writer.proofs.FrameLaws.{first-framed, first-kept}
+use Rattle.frame_writer.proofs.WritingLaws.{err-map, first-handed, first-part, prefix-piece}
+use Rattle.frame_writer.proofs.queue.FrameQueue.take_first.Goals.{After-drop_first}
+use Rattle.frame_writer.proofs.queue.FrameQueue.take_first.Goals.{After-unwrap-first}
+use Rattle.frame_writer.specs.Frames.{area_in, areas_in, AreOf, first_bytes, framed, Held}
+use Rattle.frame_writer.specs.{Frames.held_bytes, Laid.{AreLaid, Piece}}
 use Rattle.side_info.specs.FrameFields.{FrameFields}
-use Rattle.std.proofs.lemmas.Grind.{common_steps}
-use Rattle.frame_writer.specs.Laid.{Piece, AreLaid}
-use Rattle.frame_writer.specs.Frames.{area_in, areas_in, AreOf, Held, first_bytes, framed, held_bytes}
-use Rattle.frame_writer.proofs.FrameLaws.{first-kept, first-framed}
-use Rattle.frame_writer.proofs.WritingLaws.{err-map, prefix-piece, first-handed, first-part}
 use Rattle.frame_writer.proofs.queue.FrameQueue.take_first.Given as given
 use Rattle.frame_writer.proofs.queue.FrameQueue.take_first.Goals as goal
-use Rattle.frame_writer.proofs.queue.FrameQueue.take_first.Goals.{After-unwrap-first, After-drop_first}
 
 -- the first frame that waits, and the others
-first : (g : given.Over) (c : After-unwrap-first g) → c.self.inside.kept.items ≡ c.unwrap-first.result.now ∷ drop 1 c.self.inside.kept.items
+first : (g : given.Over) (c : After-unwrap-first g)
+    → c.self.inside.kept.items ≡ c.unwrap-first.result.now ∷ drop 1 c.self.inside.kept.items
 first g c =
-    first-kept c.self.inside.kept.items c.unwrap-first.result.now (subst (λ (h : Held). 0 < length h.kept) (sym c.self.view_is) c.requires.some) (sym c.front.ensures ∙ ap option_copied c.unwrap-first.ensures)
+    first-kept c.self.inside.kept.items c.unwrap-first.result.now
+    (subst (λ (h : Held). 0 < length h.kept) (sym c.self.view_is) c.requires.some)
+    (sym c.front.ensures ∙ ap option_copied c.unwrap-first.ensures)
 
 pub add_frame-added-requires-clause-class : goal.add_frame-added-requires-clause-class
 add_frame-added-requires-clause-class g c =
-    sym (subst (AreOf c.self.inside.class) (first g (goal.at.add_frame-added-requires-clause-class g c).After-unwrap-first) c.self.invariant.3).1
+    sym (subst (AreOf c.self.inside.class) (first g
+    (goal.at.add_frame-added-requires-clause-class g c).After-unwrap-first) c.self.invariant.3).1
 
 -- its area is there, and is dropped
-within : (g : given.Over) (c : After-unwrap-first g) → area_in c.unwrap-first.result.now ≤ length c.self.inside.areas.bytes
+within : (g : given.Over) (c : After-unwrap-first g)
+    → area_in c.unwrap-first.result.now ≤ length c.self.inside.areas.bytes
 within g c =
-    let all : areas_in (c.unwrap-first.result.now ∷ drop 1 c.self.inside.kept.items) ≡ length c.self.inside.areas.bytes = ap (λ (js : List FrameFields). areas_in js) (sym (first g c)) ∙ c.self.invariant.2 in
+    let all : areas_in (c.unwrap-first.result.now ∷ drop 1 c.self.inside.kept.items)
+    ≡ length c.self.inside.areas.bytes =
+    ap (λ (js : List FrameFields). areas_in js) (sym (first g c)) ∙ c.self.invariant.2 in
     omega (arith, all)
 
 pub add_frame-added-requires-clause-within : goal.add_frame-added-requires-clause-within
-add_frame-added-requires-clause-within g c = within g (goal.at.add_frame-added-requires-clause-within g c).After-unwrap-first
+add_frame-added-requires-clause-within g c =
+    within g (goal.at.add_frame-added-requires-clause-within g c).After-unwrap-first
 
-drops : (g : given.Over) (c : After-drop_first g) → c.drop_first.new.self.bytes ≡ drop (area_in c.unwrap-first.result.now) c.self.inside.areas.bytes
-drops g c = c.drop_first.ensures.left ∙ ap (λ n. drop n c.self.inside.areas.bytes) c.area-area.ensures.area
+drops : (g : given.Over) (c : After-drop_first g) → c.drop_first.new.self.bytes
+    ≡ drop (area_in c.unwrap-first.result.now) c.self.inside.areas.bytes
+drops g c =
+    c.drop_first.ensures.left ∙ ap (λ n. drop n c.self.inside.areas.bytes) c.area-area.ensures.area
 
-step : (g : given.Over) (c : After-drop_first g) (given : List ℕ) (ps : List Piece) → AreLaid given c.self.inside.areas ps → AreLaid (given ++ take (area_in c.unwrap-first.result.now) c.self.inside.areas.bytes) c.drop_first.new.self ps
-step g c = subst (λ n. (given : List ℕ) (ps : List Piece) → AreLaid given c.self.inside.areas ps → AreLaid (given ++ take n c.self.inside.areas.bytes) c.drop_first.new.self ps) c.area-area.ensures.area c.drop_first.ensures.laid
+step : (g : given.Over) (c : After-drop_first g) (given : List ℕ) (ps : List Piece)
+    → AreLaid given c.self.inside.areas ps → AreLaid (given
+    ++ take (area_in c.unwrap-first.result.now) c.self.inside.areas.bytes) c.drop_first.new.self ps
+step g c = subst (λ n. (given : List ℕ) (ps : List Piece) → AreLaid given c.self.inside.areas ps
+    → AreLaid (given ++ take n c.self.inside.areas.bytes) c.drop_first.new.self ps)
+    c.area-area.ensures.area c.drop_first.ensures.laid
 
 pub returns : goal.returns
 returns g c = record {
   passed = grind (arith, common_steps);
-  moved = first-handed c.args.self.now c.self.inside.class c.unwrap-first.result.now c.self.inside.kept.items c.pop_front.new.self.items c.self.inside.areas c.drop_first.new.self c.self.view_is (first g (goal.at.returns g c).After-unwrap-first)
-      (ap (λ (b : Buffer FrameFields). b.items) c.pop_front.ensures.items) (drops g c) (step g c) (within g (goal.at.returns g c).After-unwrap-first);
+  moved = first-handed c.args.self.now c.self.inside.class c.unwrap-first.result.now
+      c.self.inside.kept.items c.pop_front.new.self.items c.self.inside.areas c.drop_first.new.self
+      c.self.view_is (first g (goal.at.returns g c).After-unwrap-first)
+      (ap (λ (b : Buffer FrameFields). b.items) c.pop_front.ensures.items) (drops g c) (step g c)
+      (within g (goal.at.returns g c).After-unwrap-first);
   part = err-map c.add_frame-added.result
-      (first-part c.args.name.now c.args.unsent.now c.args.self.now c.self.inside.class c.unwrap-first.result.now c.self.inside.kept.items c.pop_front.new.self.items c.self.inside.areas c.drop_first.new.self _ _ c.self.view_is (first g (goal.at.returns g c).After-unwrap-first)
-      (ap (λ (b : Buffer FrameFields). b.items) c.pop_front.ensures.items) (drops g c) (step g c) (within g (goal.at.returns g c).After-unwrap-first))
+      (first-part c.args.name.now c.args.unsent.now c.args.self.now c.self.inside.class
+      c.unwrap-first.result.now c.self.inside.kept.items c.pop_front.new.self.items
+      c.self.inside.areas c.drop_first.new.self _ _
+      c.self.view_is (first g (goal.at.returns g c).After-unwrap-first)
+      (ap (λ (b : Buffer FrameFields). b.items) c.pop_front.ensures.items) (drops g c) (step g c)
+      (within g (goal.at.returns g c).After-unwrap-first))
       c.add_frame-added.ensures.prefix;
   prefix = let k = c.unwrap-first.result.now in
       let items = c.self.inside.kept.items in
       let bytes = c.self.inside.areas.bytes in
       err-map c.add_frame-added.result
-      (prefix-piece c.args.name.now c.args.unsent.now (first_bytes k bytes) _ (framed (drop 1 items) (drop (area_in k) bytes)) _ _
-      (first-framed k (drop 1 items) bytes ∙ ap (λ (js : List FrameFields). framed js bytes) (sym (first g (goal.at.returns g c).After-unwrap-first)) ∙ ap held_bytes c.self.view_is))
+      (prefix-piece c.args.name.now c.args.unsent.now (first_bytes k bytes) _
+      (framed (drop 1 items) (drop (area_in k) bytes)) _ _
+      (first-framed k (drop 1 items) bytes ∙ ap (λ (js : List FrameFields). framed js bytes)
+      (sym (first g (goal.at.returns g c).After-unwrap-first)) ∙ ap held_bytes c.self.view_is))
       c.add_frame-added.ensures.prefix;
   class = search rules;
   kept = search rules;

@@ -1,17 +1,15 @@
 -- What waits goes into the buffer, and the buffer to the file.
-use Rattle.std.proofs.Common.{rules, ◌≡◌, List, ℕ, ◌++◌, subst, ap, ap₂, ◌∙◌}
-use Rattle.outside.specs.Files.{appended}
-use Rattle.outside.specs.Passed.{AppendedPrefix}
-use Rattle.outside.proofs.PassedLaws.{on_err, passed_there, passed_then_all, passed_then_prefix}
-use Rattle.frame_writer.specs.Frames.{Held, held_bytes}
-use Rattle.frame_writer.specs.Writer.{Writer, IsSettled}
-use Rattle.frame_writer.specs.declared.writer.State.{State}
-use Rattle.frame_writer.proofs.WritingLaws.{is-open}
+use Rattle.std.proofs.Common.{ap, ap₂, List, rules, subst, ℕ, ◌++◌, ◌∙◌, ◌≡◌}
+use Rattle.frame_writer.{proofs.WritingLaws.is-open, specs.Frames.{Held, held_bytes}}
+use Rattle.frame_writer.specs.{Writer.{IsSettled, Writer}, declared.writer.State.State}
+use Rattle.outside.proofs.PassedLaws.{on_err, passed_then_all, passed_then_prefix, passed_there}
+use Rattle.outside.specs.{Files.appended, Passed.AppendedPrefix}
 use Rattle.frame_writer.proofs.writer.Writer.finish.Goals as goal
 
 -- all that waits of an open writer are the frames
 all : (held : Held) (unsent : List ℕ) (state : State) (now : Writer) → IsSettled state held unsent →
-    record { held = held; state = state } ≡ now → now.state ≡ State.Open → unsent ++ held_bytes held ≡ held_bytes now.held
+    record { held = held; state = state } ≡ now → now.state ≡ State.Open
+    → unsent ++ held_bytes held ≡ held_bytes now.held
 all held unsent state now settled view opened =
     ap₂ (λ (xs : List ℕ) (h : Held). xs ++ held_bytes h)
     (is-open state held unsent settled (ap (λ (w : Writer). w.state) view ∙ opened)).0
@@ -26,8 +24,10 @@ returns-in_err-finish-2 g c = record {
   none = search rules;
   finished = search rules;
   prefix = on_err c.from_residual-in_err-finish-2.result
-      (subst (λ (xs : List ℕ). AppendedPrefix c.args.name.now xs (g.D.Folder.seen c.args.folder.now).files (g.D.Folder.seen c.finish-2.new.folder).files)
-      (all c.self.inside.queue c.self.inside.unsent c.self.inside.state c.args.self.now c.self.invariant c.self.view_is c.requires.ready)
+      (subst (λ (xs : List ℕ). AppendedPrefix c.args.name.now xs
+      (g.D.Folder.seen c.args.folder.now).files (g.D.Folder.seen c.finish-2.new.folder).files)
+      (all c.self.inside.queue c.self.inside.unsent c.self.inside.state c.args.self.now
+      c.self.invariant c.self.view_is c.requires.ready)
       (passed_then_prefix c.in_ok-finish.ensures.passed c.in_err-finish-2.ensures.prefix));
   ended = search rules;
   failed = search rules;
@@ -39,7 +39,8 @@ pub returns : goal.returns
 returns g c = record {
   appended = passed_then_all c.in_ok-finish.ensures.passed c.in_ok-finish-2.ensures.appended
       ∙ ap (appended (g.D.Folder.seen c.args.folder.now).files c.args.name.now)
-      (all c.self.inside.queue c.self.inside.unsent c.self.inside.state c.args.self.now c.self.invariant c.self.view_is c.requires.ready);
+      (all c.self.inside.queue c.self.inside.unsent c.self.inside.state c.args.self.now
+      c.self.invariant c.self.view_is c.requires.ready);
   none = search rules;
   finished = search rules;
   prefix = search rules;

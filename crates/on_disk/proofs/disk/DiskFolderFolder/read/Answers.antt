@@ -1,4 +1,4 @@
-use Rattle.std.proofs.Common.{rules, ◌≡◌, ◌<◌, ◌⊎◌, sym, ◌∙◌, subst}
+use Rattle.std.proofs.Common.{rules, subst, sym, ◌<◌, ◌∙◌, ◌≡◌, ◌⊎◌}
 use Rattle.on_disk.proofs.disk.DiskFolderFolder.read.Goals as goal
 
 pub returns-clause-answer : goal.returns-clause-answer
@@ -11,7 +11,8 @@ returns-clause-answer g c = record {
   ended = search rules;
   failed = search rules;
   files = search rules;
-  got = λ more. c.count_read.ensures.got (subst (λ room. (0 < c.in-Ok.count) ⊎ (room ≡ 0)) (sym c.read_there.auto.into) more) ∙ c.in-Ok.ensures.aside.tally;
+  got = λ more. c.count_read.ensures.got (subst (λ room. (0 < c.in-Ok.count) ⊎ (room ≡ 0))
+      (sym c.read_there.auto.into) more) ∙ c.in-Ok.ensures.aside.tally;
   done = search rules;
   counts = search rules;
 }

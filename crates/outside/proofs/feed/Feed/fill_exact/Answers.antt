@@ -1,5 +1,6 @@
 -- Where the files are told, all bytes come.
-use Rattle.std.proofs.Common.{rules, ◌≡◌, ◌<◌, drop, length, refl, arith, ap, length-take, length-drop}
+use Rattle.std.proofs.Common.{ap, arith, drop, length, length-drop, length-take, refl, rules, ◌<◌}
+use Rattle.std.proofs.Common.{◌≡◌}
 use Rattle.outside.proofs.FilesLaws.{nothing_told}
 use Rattle.outside.proofs.feed.Feed.fill_exact.Goals as goal
 
@@ -11,7 +12,16 @@ returns-in-Ok g c = record {
   cause = let few : c.in-Ok.got < c.args.n = omega (arith, c.if-got-n.true) in
       let size : length c.fill.new.self.given ≡ c.in-Ok.got = c.in-Ok.ensures.given in (
         nothing_told (g.D.Folder.seen c.args.folder.now).files c.args.name.now c.requires.there
-            (λ bytes holds. omega (arith, ap length (c.in-Ok.ensures.bytes bytes holds), length-take c.args.n (drop c.args.at bytes), length-drop c.args.at bytes, size, few, c.requires.found bytes holds, c.requires.within)),
+            (λ bytes holds. omega (
+              arith,
+              ap length (c.in-Ok.ensures.bytes bytes holds),
+              length-take c.args.n (drop c.args.at bytes),
+              length-drop c.args.at bytes,
+              size,
+              few,
+              c.requires.found bytes holds,
+              c.requires.within,
+            )),
         refl,
         omega (arith, few, c.requires.within),
         c.in-Ok.ensures.ended few,

@@ -1,47 +1,74 @@
-use Rattle.std.proofs.Common.{rules, ◌≡◌, ℕ, ◌-◌, List, ◌++◌, take, drop, length, min, sym, subst, ◌∙◌, ap, arith, length-drop}
-use Rattle.std.proofs.lemmas.List.{length-take-le}
-use Rattle.outside.specs.Files.{Holds}
-use Rattle.outside.specs.Feed.{Fed}
-use Rattle.outside.proofs.FeedLaws.{fills, within_filled, fed_by, fed_front, given_is}
-use Rattle.outside.proofs.feed.Feed.refill.Given.{Over}
+use Rattle.std.proofs.Common.{ap, arith, drop, length, length-drop, List, min, rules, subst, sym}
+use Rattle.std.proofs.{Common.{take, ℕ, ◌++◌, ◌-◌, ◌∙◌, ◌≡◌}, lemmas.List.length-take-le}
+use Rattle.outside.proofs.FeedLaws.{fed_by, fed_front, fills, given_is, within_filled}
+use Rattle.outside.{proofs.feed.Feed.refill.Given.Over, specs.{Feed.Fed, Files.Holds}}
 use Rattle.outside.proofs.feed.Feed.refill.Goals as goal
 
 -- the buffer is what was read into it
-room_is : (g : Over) (c : goal.After-self-3-1 g) → take c.self.inside.room.len (c.read_on.new.into ++ drop (length c.read_on.new.into) c.self.inside.room.items) ≡ c.read_on.new.into
-room_is g c = fills c.self.inside.room.len c.read_on.new.into _ (omega (arith, c.read_on.auto.into, c.keep_from-kept.auto.room, c.as_mut_slice-room.ensures.len))
+room_is : (g : Over) (c : goal.After-self-3-1 g) → take c.self.inside.room.len (c.read_on.new.into
+    ++ drop (length c.read_on.new.into) c.self.inside.room.items) ≡ c.read_on.new.into
+room_is g c = fills c.self.inside.room.len c.read_on.new.into _ (omega
+    (arith, c.read_on.auto.into, c.keep_from-kept.auto.room, c.as_mut_slice-room.ensures.len))
 
-read : (g : Over) (c : goal.After-self-3-1 g) (bytes : List ℕ) → Holds (g.D.Folder.seen c.args.folder.now).files c.args.name.now bytes → take c.in_ok-self-inside.field-0 c.read_on.new.into ≡ take c.in_ok-self-inside.field-0 (drop c.args.at bytes)
+read : (g : Over) (c : goal.After-self-3-1 g) (bytes : List ℕ)
+    → Holds (g.D.Folder.seen c.args.folder.now).files c.args.name.now bytes
+    → take c.in_ok-self-inside.field-0 c.read_on.new.into
+    ≡ take c.in_ok-self-inside.field-0 (drop c.args.at bytes)
 read g c bytes holds =
-    let held = subst (λ (fed : Fed). take (length fed.held) (drop fed.place bytes) ≡ fed.held) (sym c.self.view_is) (c.requires.fed.same bytes holds) in
-    let front = fed_front c.self.inside.held c.self.inside.place c.self.inside.room.items bytes (omega arith) held in
+    let held = subst (λ (fed : Fed). take (length fed.held) (drop fed.place bytes) ≡ fed.held)
+    (sym c.self.view_is) (c.requires.fed.same bytes holds) in
+    let front = fed_front c.self.inside.held c.self.inside.place c.self.inside.room.items bytes
+    (omega arith) held in
     let whole : c.self.inside.held ≡ c.self.inside.held - 0 = omega arith in
     c.in_ok-self-inside.ensures.bytes bytes holds
-    (c.keep_from-kept.ensures.kept bytes (subst (λ n. take n (drop c.self.inside.place bytes) ≡ take n c.as_mut_slice-room.result.now) whole (front ∙ ap (take c.self.inside.held) (sym c.as_mut_slice-room.ensures.value))))
+    (c.keep_from-kept.ensures.kept bytes
+    (subst (λ n. take n (drop c.self.inside.place bytes) ≡ take n c.as_mut_slice-room.result.now)
+    whole (front ∙ ap (take c.self.inside.held) (sym c.as_mut_slice-room.ensures.value))))
 
 pub invariant_of-self : goal.invariant_of-self
 invariant_of-self g c =
-    within_filled c.self.inside.room.len c.args.at 0 0 c.read_on.new.into _ (omega (arith, c.read_on.auto.into, c.keep_from-kept.auto.room, c.as_mut_slice-room.ensures.len))
-    (omega (arith, c.as_mut_slice-room.ensures.len, ap length c.as_mut_slice-room.ensures.value, c.self.invariant.size)) (omega arith) (omega arith) (omega (arith, c.requires.short))
+    within_filled c.self.inside.room.len c.args.at 0 0 c.read_on.new.into _ (omega
+    (arith, c.read_on.auto.into, c.keep_from-kept.auto.room, c.as_mut_slice-room.ensures.len))
+    (omega (
+      arith,
+      c.as_mut_slice-room.ensures.len,
+      ap length c.as_mut_slice-room.ensures.value,
+      c.self.invariant.size,
+    )) (omega arith) (omega arith) (omega (arith, c.requires.short))
 
 pub invariant_of-self-2 : goal.invariant_of-self-2
 invariant_of-self-2 g c =
-    let size : length c.keep_from-kept.new.room ≡ 65536 = omega (arith, c.keep_from-kept.auto.room, ap length c.as_mut_slice-room.ensures.value, c.self.invariant.size) in
-    within_filled c.self.inside.room.len c.args.at c.in_ok-self-inside.field-0 c.min-self-inside.result c.read_on.new.into _
-    (omega (arith, c.read_on.auto.into, c.keep_from-kept.auto.room, c.as_mut_slice-room.ensures.len)) (omega (arith, size, c.keep_from-kept.auto.room, c.as_mut_slice-room.ensures.len))
-    (omega (arith, size, c.in_ok-self-inside.ensures.bound)) (omega (arith, c.min-self-inside.ensures)) (omega (arith, c.requires.short))
+    let size : length c.keep_from-kept.new.room ≡ 65536 = omega (
+      arith,
+      c.keep_from-kept.auto.room,
+      ap length c.as_mut_slice-room.ensures.value,
+      c.self.invariant.size,
+    ) in
+    within_filled c.self.inside.room.len c.args.at c.in_ok-self-inside.field-0
+    c.min-self-inside.result c.read_on.new.into _
+    (omega
+    (arith, c.read_on.auto.into, c.keep_from-kept.auto.room, c.as_mut_slice-room.ensures.len))
+    (omega (arith, size, c.keep_from-kept.auto.room, c.as_mut_slice-room.ensures.len))
+    (omega (arith, size, c.in_ok-self-inside.ensures.bound))
+    (omega (arith, c.min-self-inside.ensures)) (omega (arith, c.requires.short))
 
 pub returns : goal.returns
 returns g c = record {
   bound = search rules;
   given = ap (λ (room : List ℕ). length (take (c.min-self-inside.result - 0) room)) (room_is g c)
-      ∙ length-take-le _ c.read_on.new.into (omega (arith, c.min-self-inside.ensures, c.in_ok-self-inside.ensures.bound, c.read_on.auto.into))
+      ∙ length-take-le _ c.read_on.new.into (omega
+      (arith, c.min-self-inside.ensures, c.in_ok-self-inside.ensures.bound, c.read_on.auto.into))
       ∙ omega arith;
   bytes = λ bytes holds.
       let k = c.in_ok-self-inside.field-0 in
-      let count : c.min-self-inside.result - 0 ≡ min c.args.n k = omega (arith, c.min-self-inside.ensures) in
-      ap (λ n. take n (take c.self.inside.room.len (c.read_on.new.into ++ drop (length c.read_on.new.into) c.self.inside.room.items))) count
+      let count : c.min-self-inside.result - 0 ≡ min c.args.n k =
+      omega (arith, c.min-self-inside.ensures) in
+      ap (λ n. take n (take c.self.inside.room.len (c.read_on.new.into
+      ++ drop (length c.read_on.new.into) c.self.inside.room.items))) count
       ∙ ap (take (min c.args.n k)) (room_is g c)
-      ∙ given_is c.args.n k c.read_on.new.into (drop c.args.at bytes) (read g c bytes holds) (λ short. omega (arith, length-drop c.args.at bytes, c.in_ok-self-inside.ensures.end bytes holds short));
+      ∙ given_is c.args.n k c.read_on.new.into (drop c.args.at bytes) (read g c bytes holds)
+      (λ short. omega
+      (arith, length-drop c.args.at bytes, c.in_ok-self-inside.ensures.end bytes holds short));
   whole = search rules;
   ended = search rules;
   failed = search rules;
@@ -49,11 +76,13 @@ returns g c = record {
   fed = record {
     same = λ bytes holds.
         let k = c.in_ok-self-inside.field-0 in
-        let old = subst (λ f. Holds f c.args.name.now bytes) c.in_ok-self-inside.ensures.files holds in
+        let old =
+        subst (λ f. Holds f c.args.name.now bytes) c.in_ok-self-inside.ensures.files holds in
         subst
         (λ (room : List ℕ). take (length (take k room)) (drop c.args.at bytes) ≡ take k room)
         (sym (room_is g c))
-        (fed_by k c.args.at c.read_on.new.into bytes (omega (arith, c.read_on.auto.into, c.in_ok-self-inside.ensures.bound)) (read g c bytes old));
+        (fed_by k c.args.at c.read_on.new.into bytes (omega
+        (arith, c.read_on.auto.into, c.in_ok-self-inside.ensures.bound)) (read g c bytes old));
   };
   files = search rules;
   done = search rules;

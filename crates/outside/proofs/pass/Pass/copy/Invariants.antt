@@ -5,7 +5,8 @@ use Rattle.outside.proofs.pass.Pass.copy.Given as goal
 
 abbrev pub invariant-loop-at : goal.invariant-loop-at
 invariant-loop-at g l =
-    CopiesUpTo l.self l.fn.from l.at l.fn.to l.fn.waiting l.waiting l.feed (g.D.Folder.seen l.fn.folder) (g.D.Folder.seen l.folder)
+    CopiesUpTo l.self l.fn.from l.at l.fn.to l.fn.waiting l.waiting l.feed
+    (g.D.Folder.seen l.fn.folder) (g.D.Folder.seen l.folder)
 
 abbrev pub decreases-loop-at : goal.decreases-loop-at
 decreases-loop-at g l = l.to - l.at

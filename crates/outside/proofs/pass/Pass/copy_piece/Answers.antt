@@ -1,16 +1,17 @@
 use Rattle.std.proofs.Common.{rules}
 -- A piece that was read goes on, and all is ready for the next.
 use Rattle.std.proofs.lemmas.Result.{on_ok_weaker}
+use Rattle.outside.proofs.{PassLaws.{passed_ready, prefix_nothing}, PassedLaws.err_at}
 use Rattle.outside.specs.Pass.{bytes_at}
-use Rattle.outside.proofs.PassedLaws.{err_at}
-use Rattle.outside.proofs.PassLaws.{prefix_nothing, passed_ready}
 use Rattle.outside.proofs.pass.Pass.copy_piece.Goals as goal
 
 pub returns-in_err-fill : goal.returns-in_err-fill
 returns-in_err-fill g c = record {
   written = search rules;
   prefix = err_at c.from_residual.result _ c.from_residual.ensures.1
-      (prefix_nothing c.args.self.now (bytes_at c.args.at c.args.n) c.args.waiting.now (g.D.Folder.seen c.args.folder.now).files _ c.in_err-fill.ensures.read c.in_err-fill.ensures.files c.requires.ready.target);
+      (prefix_nothing c.args.self.now (bytes_at c.args.at c.args.n)
+      c.args.waiting.now (g.D.Folder.seen c.args.folder.now).files _
+      c.in_err-fill.ensures.read c.in_err-fill.ensures.files c.requires.ready.target);
   done = search rules;
   cause = search rules;
   ready = search rules;

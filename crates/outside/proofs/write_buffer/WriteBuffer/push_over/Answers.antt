@@ -1,10 +1,9 @@
-use Rattle.std.proofs.Common.{rules, ◌≡◌, ◌++◌, ◌+◌, ◌-◌, List, ℕ, length, take, drop, sym, subst, ◌∙◌, ap}
-use Rattle.std.proofs.lemmas.List.{drop-drop}
-use Rattle.outside.specs.Files.{IsThere}
-use Rattle.outside.specs.Passed.{PassedOn}
+use Rattle.std.proofs.Common.{ap, drop, length, List, rules, subst, sym, take, ℕ, ◌++◌, ◌+◌, ◌-◌}
+use Rattle.std.proofs.{Common.{◌∙◌, ◌≡◌}, lemmas.List.drop-drop}
 use Rattle.outside.proofs.FilesLaws.{appended_there}
-use Rattle.outside.proofs.Pieces.{part_from}
-use Rattle.outside.proofs.PassedLaws.{on_err, passed_waiting, passed_front, passed_then, passed_then_prefix, prefix_waiting}
+use Rattle.outside.proofs.PassedLaws.{on_err, passed_front, passed_then, passed_then_prefix}
+use Rattle.outside.proofs.{PassedLaws.{passed_waiting, prefix_waiting}, Pieces.part_from}
+use Rattle.outside.specs.{Files.IsThere, Passed.PassedOn}
 use Rattle.outside.proofs.write_buffer.WriteBuffer.push_over.Goals as goal
 
 pub returns-in_err-finish : goal.returns-in_err-finish
@@ -12,7 +11,8 @@ returns-in_err-finish g c = record {
   passed = search rules;
   prefix = on_err
       c.from_residual.result
-      (prefix_waiting c.args.name.now c.args.self.now c.args.piece.now _ _ _ (rw (c.add.ensures, c.self.view_is) at c.in_err-finish.ensures.prefix));
+      (prefix_waiting c.args.name.now c.args.self.now c.args.piece.now _ _ _
+      (rw (c.add.ensures, c.self.view_is) at c.in_err-finish.ensures.prefix));
   none = search rules;
   few = search rules;
   failed = search rules;
@@ -21,7 +21,8 @@ returns-in_err-finish g c = record {
 }
 
 pub write_whole-requires : goal.write_whole-requires
-write_whole-requires g c = subst (λ f. IsThere f c.args.name.now) (sym c.in_ok-finish.ensures.appended) (appended_there _ c.args.name.now _)
+write_whole-requires g c = subst (λ f. IsThere f c.args.name.now)
+    (sym c.in_ok-finish.ensures.appended) (appended_there _ c.args.name.now _)
 
 pub returns-in_err-done : goal.returns-in_err-done
 returns-in_err-done g c = record {
@@ -30,7 +31,8 @@ returns-in_err-done g c = record {
       on_err
       c.from_residual-in_err-done.result
       (passed_then_prefix
-      (passed_waiting c.args.name.now c.args.self.now c.args.piece.now free _ _ (rw (c.add.ensures, c.self.view_is) at c.in_ok-finish.ensures.appended))
+      (passed_waiting c.args.name.now c.args.self.now c.args.piece.now free _ _
+      (rw (c.add.ensures, c.self.view_is) at c.in_ok-finish.ensures.appended))
       (rw part_from at c.in_err-done.ensures.prefix));
   none = search rules;
   few = search rules;
@@ -46,15 +48,19 @@ returns g c = record {
       let done = c.in_ok-done.done in
       let rest_is : c.add-2.new.self ≡ drop done (drop free piece) =
       c.add-2.ensures
-      ∙ ap (λ (front : List ℕ). front ++ take (length piece - (free + done)) (drop (free + done) piece)) (c.self-2.view_is ∙ c.in_ok-finish.ensures.none)
+      ∙ ap (λ (front : List ℕ). front ++ take (length piece - (free + done))
+      (drop (free + done) piece)) (c.self-2.view_is ∙ c.in_ok-finish.ensures.none)
       ∙ part_from (free + done) piece
       ∙ sym (drop-drop done free piece) in
       subst
-      (λ (after : List ℕ). PassedOn c.args.name.now (c.args.self.now ++ piece) after (g.D.Folder.seen c.args.folder.now).files (g.D.Folder.seen c.write_whole.new.folder).files)
+      (λ (after : List ℕ). PassedOn c.args.name.now (c.args.self.now ++ piece) after
+      (g.D.Folder.seen c.args.folder.now).files (g.D.Folder.seen c.write_whole.new.folder).files)
       (sym rest_is)
       (passed_then
-      (passed_waiting c.args.name.now c.args.self.now piece free _ _ (rw (c.add.ensures, c.self.view_is) at c.in_ok-finish.ensures.appended))
-      (passed_front c.args.name.now (drop free piece) done _ _ (rw part_from at c.in_ok-done.ensures.written)));
+      (passed_waiting c.args.name.now c.args.self.now piece free _ _
+      (rw (c.add.ensures, c.self.view_is) at c.in_ok-finish.ensures.appended))
+      (passed_front c.args.name.now (drop free piece) done _ _
+      (rw part_from at c.in_ok-done.ensures.written)));
   prefix = search rules;
   none = search rules;
   few = search rules;

@@ -1,6 +1,5 @@
 -- What is held is the file's, of which nothing is told.
-use Rattle.outside.specs.Files.{untold}
-use Rattle.outside.specs.Feed.{IsFedFrom}
+use Rattle.outside.specs.{Feed.IsFedFrom, Files.untold}
 use Rattle.outside_tests.proofs.folders.buffers.expect_each.Given as goal
 
 abbrev pub invariant-loop-case : goal.invariant-loop-case

@@ -4,4 +4,5 @@ use Rattle.slot_plan.specs.Parts.{ArePartsFeasible, parts_of}
 use Rattle.plan_tests.proofs.tests.checked.all_fit.Given as goal
 
 abbrev pub invariant-loop-at : goal.invariant-loop-at
-invariant-loop-at l = ArePartsFeasible l.window (parts_of l.needs (drop l.at l.parts)) → ArePartsFeasible l.window (parts_of l.needs l.parts)
+invariant-loop-at l = ArePartsFeasible l.window (parts_of l.needs (drop l.at l.parts))
+    → ArePartsFeasible l.window (parts_of l.needs l.parts)

@@ -1,5 +1,5 @@
 -- The places before are within.
-use Rattle.std.proofs.Common.{ℕ, ◌<◌, get_or}
+use Rattle.std.proofs.Common.{get_or, ℕ, ◌<◌}
 use Rattle.plan_tests.proofs.tests.checked.are_within.Given as goal
 
 abbrev pub invariant-loop-place : goal.invariant-loop-place

@@ -1,5 +1,5 @@
 -- The numbers before ascend.
-use Rattle.std.proofs.Common.{ℕ, ◌+◌, ◌<◌, get_or}
+use Rattle.std.proofs.Common.{get_or, ℕ, ◌+◌, ◌<◌}
 use Rattle.plan_tests.proofs.tests.checked.ascend.Given as goal
 
 abbrev pub invariant-loop-at : goal.invariant-loop-at

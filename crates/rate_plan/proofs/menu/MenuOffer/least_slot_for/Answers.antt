@@ -1,9 +1,7 @@
 -- The table has what the largest slot has.
-use Rattle.std.proofs.Common.{◌+◌, ◌<◌, ◌≤◌, length, sym, ap, subst}
+use Rattle.std.proofs.Common.{ap, length, subst, sym, ◌+◌, ◌<◌, ◌≤◌}
 use Rattle.frame_header.specs.Tables.{overhead_of}
-use Rattle.slot_plan.specs.Parts.{areas_with}
-use Rattle.slot_plan.specs.Reserve.{greatest}
-use Rattle.slot_plan.proofs.TableLaws.{table-within}
+use Rattle.slot_plan.{proofs.TableLaws.table-within, specs.{Parts.areas_with, Reserve.greatest}}
 use Rattle.rate_plan.proofs.menu.MenuOffer.least_slot_for.Goals as goal
 
 pub least_slot-requires : goal.least_slot-requires
@@ -11,6 +9,11 @@ least_slot-requires c =
     let table = c.args.table.now in
     let menu = c.args.self.now.slots.now in
     let protected = c.args.header.now.protected in
-    let enough = subst (λ k. c.args.wanted ≤ greatest (areas_with k protected menu)) (sym c.requires.table.class_is) c.requires.enough in
+    let enough = subst (λ k. c.args.wanted ≤ greatest (areas_with k protected menu))
+    (sym c.requires.table.class_is) c.requires.enough in
     let within = table-within table menu protected c.args.wanted c.requires.table.of_slots enough in
-    record { within = subst (λ p. c.args.wanted + overhead_of table.lengths p < length table.by_length.items) (ap (λ h. h.protected) (sym c.header.view_is)) within }
+    record {
+      within =
+          subst (λ p. c.args.wanted + overhead_of table.lengths p < length table.by_length.items)
+          (ap (λ h. h.protected) (sym c.header.view_is)) within;
+    }

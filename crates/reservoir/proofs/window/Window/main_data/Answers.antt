@@ -1,7 +1,6 @@
 -- The area is held with what is before it.
-use Rattle.std.proofs.Common.{◌≡◌, ◌-◌, ◌+◌, List, ℕ, length, subst, arith, append-nil}
-use Rattle.reservoir.specs.Window.{ArePacked, main_bits}
-use Rattle.reservoir.proofs.WindowLaws.{window-last}
+use Rattle.std.proofs.Common.{append-nil, arith, length, List, subst, ℕ, ◌+◌, ◌-◌, ◌≡◌}
+use Rattle.reservoir.{proofs.WindowLaws.window-last, specs.Window.{ArePacked, main_bits}}
 use Rattle.reservoir.proofs.window.Window.main_data.Goals as goal
 
 pub returns-clause-payload : goal.returns-clause-payload
@@ -10,5 +9,6 @@ returns-clause-payload c = λ main over.
     let reach = c.args.area + c.args.begin in
     let most : length main + 0 - reach ≡ length main - c.args.area - c.args.begin = omega arith in
     subst (λ k. ArePacked c.main_data_with.result n (main_bits main k n)) most
-    (subst (λ (xs : List ℕ). ArePacked c.main_data_with.result n (main_bits xs (length main + 0 - reach) n)) (append-nil main)
+    (subst (λ (xs : List ℕ). ArePacked c.main_data_with.result n
+    (main_bits xs (length main + 0 - reach) n)) (append-nil main)
     (c.main_data_with.ensures.payload main (window-last c.args.self.now main over)))

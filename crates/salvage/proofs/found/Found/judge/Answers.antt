@@ -1,20 +1,21 @@
 -- The row that is kept is that of the frame's bytes, marked.
-use Rattle.std.proofs.Common.{◌≡◌, List, [], ◌∷◌, ◌++◌, length, get_or, slice_set, sym, ◌∙◌, ap, ap₂, arith, append-nil}
-use Rattle.sync_survey.specs.Row.{Row}
-use Rattle.sync_survey.specs.MainData.{row_in}
-use Rattle.sync_survey.proofs.FaultsLaws.{get_last, set_last}
-use Rattle.salvage.specs.Judged.{judged_by, before_next}
-use Rattle.salvage.proofs.found.Found.judge.Goals as goal
+use Rattle.std.proofs.Common.{ap, append-nil, ap₂, arith, get_or, length, List, slice_set, sym, []}
+use Rattle.std.proofs.Common.{◌++◌, ◌∙◌, ◌∷◌, ◌≡◌}
 use Rattle.salvage.proofs.found.Found.judge.Goals.{After-index_mut-row}
+use Rattle.salvage.specs.Judged.{before_next, judged_by}
+use Rattle.sync_survey.{proofs.FaultsLaws.{get_last, set_last}, specs.{MainData.row_in, Row.Row}}
+use Rattle.salvage.proofs.found.Found.judge.Goals as goal
 
 count_is : (c : After-index_mut-row) → c.len-count.result ≡ length c.args.self.now.rows.items
 count_is c = omega (arith, c.len-count.ensures, c.args.self.now.rows.ok.0)
 
 -- the row that is judged is the one that was pushed
-pushed : (c : After-index_mut-row) → c.index_mut-row.result.now ≡ row_in c.args.self.now.at c.args.header c.args.bytes.now
+pushed : (c : After-index_mut-row)
+    → c.index_mut-row.result.now ≡ row_in c.args.self.now.at c.args.header c.args.bytes.now
 pushed c =
     c.index_mut-row.ensures.value
-    ∙ ap₂ (λ (l : List Row) n. get_or l n c.index_mut-row.result.now) c.in_ok-push.ensures.items (count_is c)
+    ∙ ap₂ (λ (l : List Row) n. get_or l n c.index_mut-row.result.now)
+    c.in_ok-push.ensures.items (count_is c)
     ∙ get_last c.args.self.now.rows.items c.read.result c.index_mut-row.result.now
     ∙ c.read.ensures.row
 
@@ -25,9 +26,11 @@ returns-clause-kept c =
     let row = pushed at in
     record {
       rows =
-          ap₂ (λ (l : List Row) n. slice_set l n c.mark-self.new.row) c.in_ok-push.ensures.items (count_is at)
+          ap₂ (λ (l : List Row) n. slice_set l n c.mark-self.new.row)
+          c.in_ok-push.ensures.items (count_is at)
           ∙ set_last now.rows.items c.read.result c.mark-self.new.row
-          ∙ ap (λ (q : Row). now.rows.items ++ q ∷ []) (c.mark-self.ensures.row ∙ ap (judged_by now.before) row);
+          ∙ ap (λ (q : Row). now.rows.items ++ q ∷ [])
+          (c.mark-self.ensures.row ∙ ap (judged_by now.before) row);
       pieces = sym (append-nil now.pieces.items);
       gaps = sym (append-nil now.gaps.items);
       before = c.mark-self.ensures.before ∙ ap (before_next now.before) row;

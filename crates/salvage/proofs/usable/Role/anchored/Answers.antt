@@ -1,24 +1,29 @@
 -- The anchored frame, if it is usable.
 use Rattle.std.proofs.Common.{sym, ◌∙◌}
-use Rattle.salvage.proofs.UsableLaws.{room_shown, none_anchored, frame_anchored, frame_refused}
 use Rattle.salvage.proofs.SearchLaws.{header_of}
+use Rattle.salvage.proofs.UsableLaws.{frame_anchored, frame_refused, none_anchored, room_shown}
 use Rattle.salvage.proofs.usable.Role.anchored.Goals as goal
 
 pub returns-in_default-clause-frame : goal.returns-in_default-clause-frame
-returns-in_default-clause-frame c = λ file shows. none_anchored file c.args.at c.args.front.now c.args.left shows c.args.self.now (sym c.in_default.is ∙ c.anchored_frame.ensures.frame file shows)
+returns-in_default-clause-frame c =
+    λ file shows. none_anchored file c.args.at c.args.front.now c.args.left shows
+    c.args.self.now (sym c.in_default.is ∙ c.anchored_frame.ensures.frame file shows)
 
 pub admits-requires : goal.admits-requires
 admits-requires c = record {
   own = header_of c.args.front.now c.in-Some.frame.header c.in-Some.ensures.header;
-  room = room_shown c.args.front.now c.in-Some.frame.header c.args.left c.in-Some.ensures.header c.in-Some.ensures.within c.requires.many;
+  room = room_shown c.args.front.now c.in-Some.frame.header c.args.left c.in-Some.ensures.header
+      c.in-Some.ensures.within c.requires.many;
 }
 
 pub returns-then-admits-clause-frame : goal.returns-then-admits-clause-frame
 returns-then-admits-clause-frame c = λ file shows.
-    frame_anchored file c.args.at c.args.front.now c.args.left shows c.args.self.now c.in-Some.frame (c.in-Some.ensures.frame file shows) c.in-Some.ensures.offset c.in-Some.ensures.header
+    frame_anchored file c.args.at c.args.front.now c.args.left shows c.args.self.now c.in-Some.frame
+    (c.in-Some.ensures.frame file shows) c.in-Some.ensures.offset c.in-Some.ensures.header
     (sym c.admits.ensures ∙ c.if-admits.true)
 
 pub returns-else-admits-clause-frame : goal.returns-else-admits-clause-frame
 returns-else-admits-clause-frame c = λ file shows.
-    frame_refused file c.args.at c.args.front.now c.args.left shows c.args.self.now c.in-Some.frame (c.in-Some.ensures.frame file shows) c.in-Some.ensures.offset c.in-Some.ensures.header
+    frame_refused file c.args.at c.args.front.now c.args.left shows c.args.self.now c.in-Some.frame
+    (c.in-Some.ensures.frame file shows) c.in-Some.ensures.offset c.in-Some.ensures.header
     (sym c.admits.ensures ∙ c.if-admits.false)

@@ -1,5 +1,5 @@
 -- The header, and the check word after it.
-use Rattle.std.proofs.Common.{rules, sym, ◌∙◌, drop}
+use Rattle.std.proofs.Common.{drop, rules, sym, ◌∙◌}
 use Rattle.side_info.proofs.FrontLaws.{head-alone, head-word}
 use Rattle.side_info.proofs.frame_front.FrameFront.put_head.Goals as goal
 
@@ -7,7 +7,9 @@ pub returns-then-protected : goal.returns-then-protected
 returns-then-protected c = record {
   place = search rules;
   head = let f = c.args.self.now in
-      head-word f.header f.side c.right_word.result c.copy_from_slice.new.self c.args.room.now c.put_word.new.frame (c.copy_from_slice.ensures.after ∙ c.four.ensures) (sym c.protected.ensures ∙ c.if-protected.true) c.right_word.ensures
+      head-word f.header f.side c.right_word.result c.copy_from_slice.new.self c.args.room.now
+      c.put_word.new.frame (c.copy_from_slice.ensures.after ∙ c.four.ensures)
+      (sym c.protected.ensures ∙ c.if-protected.true) c.right_word.ensures
       c.put_word.ensures;
 }
 
@@ -15,5 +17,7 @@ pub returns-else-protected : goal.returns-else-protected
 returns-else-protected c = record {
   place = search rules;
   head = let f = c.args.self.now in
-      head-alone f.header f.side c.copy_from_slice.new.self (drop 4 c.args.room.now) (c.copy_from_slice.ensures.after ∙ c.four.ensures) (sym c.protected.ensures ∙ c.if-protected.false);
+      head-alone f.header f.side c.copy_from_slice.new.self (drop 4 c.args.room.now)
+      (c.copy_from_slice.ensures.after ∙ c.four.ensures)
+      (sym c.protected.ensures ∙ c.if-protected.false);
 }

@@ -1,11 +1,10 @@
 -- The 32 bytes begin with the side information.
-use Rattle.std.proofs.Common.{◌≡◌, ℕ, List, ◌+◌, ◌++◌, length, take, drop, subst, ap, ◌∙◌, arith}
+use Rattle.std.proofs.Common.{ap, arith, drop, length, List, subst, take, ℕ, ◌++◌, ◌+◌, ◌∙◌, ◌≡◌}
 use Rattle.std.proofs.lemmas.List.{length-take-le}
 use Rattle.bit_fields.specs.Bits.{bytes}
 use Rattle.frame_header.specs.Tables.{class_of, side_size_of}
-use Rattle.side_info.specs.FrameFields.{FrameFields}
-use Rattle.side_info.specs.Side.{side_bits}
-use Rattle.side_info.proofs.FrontLaws.{put-first, room-is, part-size}
+use Rattle.side_info.proofs.FrontLaws.{part-size, put-first, room-is}
+use Rattle.side_info.specs.{FrameFields.FrameFields, Side.side_bits}
 use Rattle.side_info.proofs.frame_front.FrameFront.put_room.Goals as goal
 
 pub returns : goal.returns
@@ -14,7 +13,10 @@ returns c =
     let place = c.args.place in
     let room = c.args.room.now in
     let new = c.put_bytes.new.frame in
-    subst (λ (f : FrameFields). take (place + side_size_of (class_of f.header)) new ≡ take place room ++ bytes (side_bits (class_of f.header) f.side)) c.self.view_is
+    subst (λ (f : FrameFields). take (place + side_size_of (class_of f.header)) new
+    ≡ take place room ++ bytes (side_bits (class_of f.header) f.side)) c.self.view_is
     (put-first _ (take place room) _ _ (drop (place + length a.side) room) new
-    (c.put_bytes.ensures ∙ ap (λ (xs : List ℕ). take place room ++ (xs ++ drop (place + length a.side) room)) (room-is a c.self.invariant))
-    (omega (arith, length-take-le place room (omega (arith, c.requires)), part-size a c.self.invariant)))
+    (c.put_bytes.ensures ∙ ap (λ (xs : List ℕ). take place room
+    ++ (xs ++ drop (place + length a.side) room)) (room-is a c.self.invariant))
+    (omega
+    (arith, length-take-le place room (omega (arith, c.requires)), part-size a c.self.invariant)))

@@ -1,23 +1,20 @@
 -- The first four bytes are the header's, and the part is the side information.
-use Rattle.std.proofs.Common.{◌≡◌, ℕ, List, ◌≤◌, length, take, drop, arith, subst, sym, ap, ◌∙◌, length-drop}
-use Rattle.std.proofs.lemmas.List.{length-take-le}
-use Rattle.bit_fields.specs.Bits.{bits}
-use Rattle.bit_fields.proofs.BitsLaws.{AreBits-bits}
-use Rattle.frame_header.specs.Fields.{HeaderFields, IsHeader}
-use Rattle.frame_header.specs.Tables.{class_of, side_size_of, overhead_of}
-use Rattle.frame_header.specs.HeaderBits.{header_bits}
-use Rattle.frame_header.proofs.HeaderLaws.{IsHeader-header_at, header_bits-header_at, IsClass-class_of}
-use Rattle.side_info.specs.FrameFields.{FrameFields}
-use Rattle.side_info.specs.Side.{SideFits}
-use Rattle.side_info.specs.Frame.{side_place, side_part, side_in}
-use Rattle.side_info.specs.FrontBytes.{fields_of}
-use Rattle.side_info.proofs.FrameLaws.{overhead-least, overhead-is}
-use Rattle.side_info.proofs.SideLaws.{SideFits-side_at}
-use Rattle.side_info.proofs.FrontLaws.{are_written, written_fields}
-use Rattle.side_info.proofs.frame_front.FrameFront.read_in.Goals as goal
+use Rattle.std.proofs.Common.{ap, arith, drop, length, length-drop, List, subst, sym, take, ℕ, ◌∙◌}
+use Rattle.std.proofs.{Common.{◌≡◌, ◌≤◌}, lemmas.List.length-take-le}
+use Rattle.bit_fields.{proofs.BitsLaws.AreBits-bits, specs.Bits.bits}
+use Rattle.frame_header.proofs.HeaderLaws.{header_bits-header_at, IsClass-class_of}
+use Rattle.frame_header.proofs.HeaderLaws.{IsHeader-header_at}
+use Rattle.frame_header.specs.{Fields.{HeaderFields, IsHeader}, HeaderBits.header_bits}
+use Rattle.frame_header.specs.Tables.{class_of, overhead_of, side_size_of}
+use Rattle.side_info.proofs.FrameLaws.{overhead-is, overhead-least}
+use Rattle.side_info.proofs.{FrontLaws.{are_written, written_fields}, SideLaws.SideFits-side_at}
 use Rattle.side_info.proofs.frame_front.FrameFront.read_in.Goals.{After-room_of_frame}
+use Rattle.side_info.specs.{Frame.{side_in, side_part, side_place}, FrameFields.FrameFields}
+use Rattle.side_info.specs.{FrontBytes.fields_of, Side.SideFits}
+use Rattle.side_info.proofs.frame_front.FrameFront.read_in.Goals as goal
 
-least : (h : HeaderFields) (frame : List ℕ) → overhead_of (class_of h) h.protected ≤ length frame → 4 ≤ length frame
+least : (h : HeaderFields) (frame : List ℕ) → overhead_of (class_of h) h.protected ≤ length frame
+    → 4 ≤ length frame
 least h frame room = omega (arith, room, overhead-least (class_of h) h.protected)
 
 pub first_four-requires : goal.first_four-requires
@@ -29,20 +26,31 @@ known c = IsHeader-header_at (take 4 c.args.frame.now) c.args.header.now c.requi
 head : (c : After-room_of_frame) → bits c.first_four.result ≡ header_bits c.args.header.now
 head c =
     ap bits c.first_four.ensures.four
-    ∙ sym (header_bits-header_at (take 4 c.args.frame.now) c.args.header.now (length-take-le 4 c.args.frame.now (least c.args.header.now c.args.frame.now c.requires.room)) c.requires.heads)
+    ∙ sym (header_bits-header_at (take 4 c.args.frame.now) c.args.header.now (length-take-le 4
+    c.args.frame.now (least c.args.header.now c.args.frame.now c.requires.room)) c.requires.heads)
 
-size : (h : HeaderFields) (frame : List ℕ) → overhead_of (class_of h) h.protected ≤ length frame → length (side_part h frame) ≡ side_size_of (class_of h)
+size : (h : HeaderFields) (frame : List ℕ) → overhead_of (class_of h) h.protected ≤ length frame
+    → length (side_part h frame) ≡ side_size_of (class_of h)
 unfolding side_part
-size h frame room = length-take-le (side_size_of (class_of h)) (drop (side_place h.protected) frame) (simp length-drop (omega (arith, room, overhead-is (class_of h) h.protected)))
+size h frame room = length-take-le (side_size_of (class_of h)) (drop (side_place h.protected) frame)
+    (simp length-drop (omega (arith, room, overhead-is (class_of h) h.protected)))
 
-fields : (c : After-room_of_frame) → fields_of (record { header = c.first_four.result; side = c.room_of_frame.result }) ≡ record { header = c.args.header.now; side = side_in c.args.header.now c.args.frame.now }
+fields : (c : After-room_of_frame)
+    → fields_of (record { header = c.first_four.result; side = c.room_of_frame.result })
+    ≡ record { header = c.args.header.now; side = side_in c.args.header.now c.args.frame.now }
 unfolding side_in
-fields c = written_fields c.args.header.now (known c) c.first_four.result (side_part c.args.header.now c.args.frame.now) c.room_of_frame.result (head c) c.first_four.ensures.octets (size c.args.header.now c.args.frame.now c.requires.room) c.room_of_frame.ensures.octets c.room_of_frame.ensures.room
+fields c = written_fields c.args.header.now (known c) c.first_four.result
+    (side_part c.args.header.now c.args.frame.now) c.room_of_frame.result (head c)
+    c.first_four.ensures.octets (size c.args.header.now c.args.frame.now c.requires.room)
+    c.room_of_frame.ensures.octets c.room_of_frame.ensures.room
 
 pub invariant_of-result : goal.invariant_of-result
 invariant_of-result c =
     let at = (goal.at.invariant_of-result c).After-room_of_frame in
-    are_written c.args.header.now (known at) c.first_four.result (side_part c.args.header.now c.args.frame.now) c.room_of_frame.result (head at) c.first_four.ensures.octets (size c.args.header.now c.args.frame.now c.requires.room) c.room_of_frame.ensures.octets c.room_of_frame.ensures.room
+    are_written c.args.header.now (known at) c.first_four.result
+    (side_part c.args.header.now c.args.frame.now) c.room_of_frame.result (head at)
+    c.first_four.ensures.octets (size c.args.header.now c.args.frame.now c.requires.room)
+    c.room_of_frame.ensures.octets c.room_of_frame.ensures.room
 
 pub returns : goal.returns
 unfolding side_in
@@ -50,5 +58,7 @@ returns c = record {
   front = fields (goal.at.returns c).After-room_of_frame;
   fits = let at = (goal.at.returns c).After-room_of_frame in
       let h = c.args.header.now in
-      subst (λ (f : FrameFields). SideFits (class_of h) f.side) (sym (fields at)) (SideFits-side_at (class_of h) (IsClass-class_of h (known at)) (bits (side_part h c.args.frame.now)) (AreBits-bits (side_part h c.args.frame.now)));
+      subst (λ (f : FrameFields). SideFits (class_of h) f.side) (sym (fields at))
+      (SideFits-side_at (class_of h) (IsClass-class_of h (known at))
+      (bits (side_part h c.args.frame.now)) (AreBits-bits (side_part h c.args.frame.now)));
 }

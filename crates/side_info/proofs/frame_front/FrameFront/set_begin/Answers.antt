@@ -1,52 +1,71 @@
 -- Other first bits of the side information.
-use Rattle.std.proofs.Common.{◌≡◌, ℕ, List, ◌<◌, ◌^◌, ◌++◌, length, take, drop, arith, subst, sym, ap, ap₂, ◌∙◌}
+use Rattle.std.proofs.Common.{ap, ap₂, arith, drop, length, List, subst, sym, take, ℕ, ◌++◌, ◌<◌}
+use Rattle.std.proofs.Common.{◌^◌, ◌∙◌, ◌≡◌}
 use Rattle.bit_fields.specs.Bits.{bits, bits_of}
 use Rattle.frame_header.specs.Tables.{class_of, side_size_of}
-use Rattle.side_info.specs.declared.side.Side.{Side}
-use Rattle.side_info.specs.FrameFields.{FrameFields}
-use Rattle.side_info.specs.Side.{side_at, front_width}
-use Rattle.side_info.specs.FrontBytes.{begin_width, header_of, side_of, own_side, fields_of, AreWritten}
-use Rattle.side_info.proofs.FrontLaws.{written, written_size, fits, shaped, begin_width-is, side_at-begin, side_written, side_fields-written, front_with}
-use Rattle.side_info.proofs.frame_front.FrameFront.set_begin.Goals as goal
+use Rattle.side_info.proofs.FrontLaws.{begin_width-is, fits, front_with, shaped, side_at-begin}
+use Rattle.side_info.proofs.FrontLaws.{side_fields-written, side_written, written, written_size}
 use Rattle.side_info.proofs.frame_front.FrameFront.set_begin.Goals.{After-side_size-size}
+use Rattle.side_info.specs.FrameFields.{FrameFields}
+use Rattle.side_info.specs.FrontBytes.{AreWritten, begin_width, fields_of, header_of, own_side}
+use Rattle.side_info.specs.{FrontBytes.side_of, Side.{front_width, side_at}}
+use Rattle.side_info.specs.declared.side.Side.{Side}
+use Rattle.side_info.proofs.frame_front.FrameFront.set_begin.Goals as goal
 
 class : (c : After-side_size-size) → c.class-class.result ≡ class_of (header_of c.self.inside)
 class c = c.class-class.ensures.class ∙ ap class_of (sym (ap (λ f. f.header) c.self.view_is))
 
-size : (c : After-side_size-size) → c.side_size-size.result ≡ side_size_of (class_of (header_of c.self.inside))
+size : (c : After-side_size-size)
+    → c.side_size-size.result ≡ side_size_of (class_of (header_of c.self.inside))
 size c = c.side_size-size.ensures.size ∙ ap side_size_of (class c)
 
-long : (c : After-side_size-size) → length (take c.side_size-size.result c.self.inside.side) ≡ c.side_size-size.result
-long c = subst (λ n. length (take n c.self.inside.side) ≡ n) (sym (size c)) (written_size c.self.inside c.self.invariant)
+long : (c : After-side_size-size)
+    → length (take c.side_size-size.result c.self.inside.side) ≡ c.side_size-size.result
+long c = subst (λ n. length (take n c.self.inside.side) ≡ n) (sym (size c))
+    (written_size c.self.inside c.self.invariant)
 
-version : (c : After-side_size-size) → c.class.inside.version ≡ (class_of (header_of c.self.inside)).version
+version : (c : After-side_size-size)
+    → c.class.inside.version ≡ (class_of (header_of c.self.inside)).version
 version c = ap (λ d. d.version) (c.class.view_is ∙ class c)
 
-small : (c : After-side_size-size) → c.args.begin < 2 ^ front_width (class_of (header_of c.self.inside)) 0
-small c = subst (λ f. c.args.begin < 2 ^ front_width (class_of f.header) 0) (sym c.self.view_is) c.requires
+small : (c : After-side_size-size)
+    → c.args.begin < 2 ^ front_width (class_of (header_of c.self.inside)) 0
+small c = subst (λ f. c.args.begin < 2 ^ front_width (class_of f.header) 0)
+    (sym c.self.view_is) c.requires
 
 pub put_begin-requires-clause-fits : goal.put_begin-requires-clause-fits
 put_begin-requires-clause-fits c =
     let at = (goal.at.put_begin-requires-clause-fits c).After-side_size-size in
     subst (λ n. c.args.begin < 2 ^ n)
-    (sym (begin_width-is (class_of (header_of c.self.inside)) (written c.self.inside c.self.invariant).class) ∙ ap begin_width (sym (version at)))
+    (sym (begin_width-is (class_of (header_of c.self.inside))
+    (written c.self.inside c.self.invariant).class) ∙ ap begin_width (sym (version at)))
     (small at)
 
 pub put_begin-requires-clause-room : goal.put_begin-requires-clause-room
-put_begin-requires-clause-room c = omega (arith, long (goal.at.put_begin-requires-clause-room c).After-side_size-size, c.side_size-size.ensures.least)
+put_begin-requires-clause-room c = omega (
+  arith,
+  long (goal.at.put_begin-requires-clause-room c).After-side_size-size,
+  c.side_size-size.ensures.least,
+)
 
-part_size : (at : After-side_size-size) (part : List ℕ) → length part ≡ length (take at.side_size-size.result at.self.inside.side) → length part ≡ side_size_of (class_of (header_of at.self.inside))
+part_size : (at : After-side_size-size) (part : List ℕ)
+    → length part ≡ length (take at.side_size-size.result at.self.inside.side)
+    → length part ≡ side_size_of (class_of (header_of at.self.inside))
 part_size at part same = same ∙ long at ∙ size at
 
 -- what comes after the side information, as it is counted here
-counted : (at : After-side_size-size) (part : List ℕ) → front_with at.self.inside.header (part ++ drop (side_size_of (class_of (header_of at.self.inside))) at.self.inside.side) ≡ front_with at.self.inside.header (part ++ drop at.side_size-size.result at.self.inside.side)
-counted at part = ap (λ n. front_with at.self.inside.header (part ++ drop n at.self.inside.side)) (sym (size at))
+counted : (at : After-side_size-size) (part : List ℕ) → front_with at.self.inside.header (part
+    ++ drop (side_size_of (class_of (header_of at.self.inside))) at.self.inside.side)
+    ≡ front_with at.self.inside.header (part ++ drop at.side_size-size.result at.self.inside.side)
+counted at part =
+    ap (λ n. front_with at.self.inside.header (part ++ drop n at.self.inside.side)) (sym (size at))
 
 pub invariant_of-self : goal.invariant_of-self
 invariant_of-self c =
     let at = (goal.at.invariant_of-self c).After-side_size-size in
     let part = c.put_begin.new.part in
-    subst AreWritten (counted at part) (side_written c.self.inside c.self.invariant part (part_size at part (omega (arith, c.put_begin.auto.part))) c.put_begin.ensures.octets)
+    subst AreWritten (counted at part) (side_written c.self.inside c.self.invariant part
+    (part_size at part (omega (arith, c.put_begin.auto.part))) c.put_begin.ensures.octets)
 
 pub returns : goal.returns
 unfolding own_side
@@ -55,12 +74,21 @@ returns c =
     let a = c.self.inside in
     let d = class_of (header_of a) in
     let part = c.put_begin.new.part in
-    let own : take c.side_size-size.result a.side ≡ take (side_size_of d) a.side = ap (λ n. take n a.side) (size at) in
-    let first : bits part ≡ bits_of (begin_width d.version) c.args.begin ++ drop (begin_width d.version) (bits (take (side_size_of d) a.side)) =
-    c.put_begin.ensures.bits ∙ ap₂ (λ v xs. bits_of (begin_width v) c.args.begin ++ drop (begin_width v) (bits xs)) (version at) own in
+    let own : take c.side_size-size.result a.side ≡ take (side_size_of d) a.side =
+    ap (λ n. take n a.side) (size at) in
+    let first : bits part ≡ bits_of (begin_width d.version) c.args.begin
+    ++ drop (begin_width d.version) (bits (take (side_size_of d) a.side)) =
+    c.put_begin.ensures.bits ∙ ap₂ (λ v xs. bits_of (begin_width v) c.args.begin
+    ++ drop (begin_width v) (bits xs)) (version at) own in
     let side : side_at d (bits part) ≡ record (side_of a) { main_data_begin = c.args.begin } =
-    side_at-begin d (written a c.self.invariant).class (side_of a) c.args.begin (bits (take (side_size_of d) a.side)) (bits part) (shaped a) (fits a c.self.invariant) (small at) (written a c.self.invariant).side first in
+    side_at-begin d (written a c.self.invariant).class (side_of a)
+    c.args.begin (bits (take (side_size_of d) a.side)) (bits part) (shaped a)
+    (fits a c.self.invariant) (small at) (written a c.self.invariant).side first in
     ap fields_of (sym (counted at part))
-    ∙ side_fields-written a c.self.invariant part (part_size at part (omega (arith, c.put_begin.auto.part))) c.put_begin.ensures.octets
+    ∙ side_fields-written a c.self.invariant part
+    (part_size at part (omega (arith, c.put_begin.auto.part))) c.put_begin.ensures.octets
     ∙ ap {A = Side} {B = FrameFields} (λ s. record { header = header_of a; side = s }) side
-    ∙ ap {A = FrameFields} {B = FrameFields} (λ f. record { header = f.header; side = record f.side { main_data_begin = c.args.begin } }) c.self.view_is
+    ∙ ap {A = FrameFields} {B = FrameFields} (λ f. record {
+      header = f.header;
+      side = record f.side { main_data_begin = c.args.begin };
+    }) c.self.view_is

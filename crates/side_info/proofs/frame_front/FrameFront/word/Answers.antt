@@ -1,7 +1,7 @@
 -- The four bytes are those of the header.
 use Rattle.std.proofs.Common.{ap, ◌∙◌}
 use Rattle.frame_header.specs.HeaderBits.{header_bits}
-use Rattle.side_info.proofs.FrontLaws.{written, word_bits, word_fields}
+use Rattle.side_info.proofs.FrontLaws.{word_bits, word_fields, written}
 use Rattle.side_info.proofs.frame_front.FrameFront.word.Goals as goal
 
 pub returns-clause-bits : goal.returns-clause-bits
@@ -11,4 +11,6 @@ returns-clause-bits c =
     ∙ ap (λ f. header_bits f.header) c.self.view_is
 
 pub returns-clause-fields : goal.returns-clause-fields
-returns-clause-fields c = word_fields c.self.inside c.self.invariant c.from_be_bytes.result c.from_be_bytes.ensures ∙ ap (λ f. f.header) c.self.view_is
+returns-clause-fields c =
+    word_fields c.self.inside c.self.invariant c.from_be_bytes.result c.from_be_bytes.ensures
+    ∙ ap (λ f. f.header) c.self.view_is

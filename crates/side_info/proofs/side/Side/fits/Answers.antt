@@ -1,9 +1,8 @@
 -- The parts are all that has to fit.
-use Rattle.std.proofs.Common.{arith, sym, ◌∙◌}
-use Rattle.std.specs.Bool.{IsTrue}
+use Rattle.std.{proofs.Common.{arith, sym, ◌∙◌}, specs.Bool.IsTrue}
 use Rattle.side_info.proofs.SideLaws.{SideFits-from_parts}
+use Rattle.side_info.proofs.side.Side.fits.Goals.{else-front_fits, then-front_fits}
 use Rattle.side_info.proofs.side.Side.fits.Goals as goal
-use Rattle.side_info.proofs.side.Side.fits.Goals.{then-front_fits, else-front_fits}
 
 pub returns-then-pair_fits : goal.returns-then-pair_fits
 returns-then-pair_fits c =
@@ -12,9 +11,16 @@ returns-then-pair_fits c =
           let front : IsTrue c.front_fits.result = w.if-front_fits.true in
           let first : IsTrue w.pair_fits.result = sym w.value-is ∙ c.if-pair_fits.true in (
             λ second. SideFits-from_parts c.args.class c.args.self.now
-                (record { scfsi = omega arith; granules = omega arith; first = w.pair_fits.ensures.two; second = c.pair_fits-then-pair_fits.ensures.two })
-                (c.front_fits.ensures.0 front) (w.pair_fits.ensures.fits.0 first) (c.pair_fits-then-pair_fits.ensures.fits.0 second),
-            λ fits. c.pair_fits-then-pair_fits.ensures.fits.1 (fits.granules 1 0, fits.granules 1 1),
+                (record {
+                  scfsi = omega arith;
+                  granules = omega arith;
+                  first = w.pair_fits.ensures.two;
+                  second = c.pair_fits-then-pair_fits.ensures.two;
+                })
+                (c.front_fits.ensures.0 front) (w.pair_fits.ensures.fits.0 first)
+                (c.pair_fits-then-pair_fits.ensures.fits.0 second),
+            λ fits.
+                c.pair_fits-then-pair_fits.ensures.fits.1 (fits.granules 1 0, fits.granules 1 1),
           )
       | else-front_fits w ↦ absurd cc
     ]

@@ -1,10 +1,9 @@
 -- Rounded up.
-use Rattle.std.proofs.Common.{ap, ◌∙◌}
-use Rattle.side_info.specs.Side.{payload_bits, payload_bytes}
-use Rattle.std.specs.Int.{div_ceil}
-use Rattle.side_info.proofs.SideLaws.{div_ceil-eight}
+use Rattle.std.{proofs.Common.{ap, ◌∙◌}, specs.Int.div_ceil}
+use Rattle.side_info.{proofs.SideLaws.div_ceil-eight, specs.Side.{payload_bits, payload_bytes}}
 use Rattle.side_info.proofs.side.Side.payload_bytes.Goals as goal
 
 pub returns : goal.returns
 unfolding payload_bytes
-returns c = c.div_ceil.ensures ∙ ap (λ n. div_ceil n 8) c.all_bits.ensures.bits ∙ div_ceil-eight (payload_bits c.args.self.now)
+returns c = c.div_ceil.ensures ∙ ap (λ n. div_ceil n 8) c.all_bits.ensures.bits
+    ∙ div_ceil-eight (payload_bits c.args.self.now)

@@ -1,20 +1,21 @@
 -- The fields before the granules and the granules are the side information.
-use Rattle.std.proofs.Common.{◌≡◌, [], ◌++◌, get_or, subst, sym, ap, ◌∙◌, arith}
+use Rattle.std.proofs.Common.{ap, arith, get_or, subst, sym, [], ◌++◌, ◌∙◌, ◌≡◌}
 use Rattle.bit_fields.specs.Bits.{bits}
-use Rattle.frame_header.specs.Fields.{IsClass}
-use Rattle.frame_header.specs.Tables.{side_size_of}
-use Rattle.side_info.specs.Parts.{class_with, pair_bits, second_bits}
-use Rattle.side_info.specs.Side.{side_at, side_bits}
-use Rattle.side_info.proofs.SideLaws.{side_at-side_bits}
-use Rattle.side_info.proofs.WriteLaws.{side_bits-parts}
-use Rattle.side_info.proofs.side.Side.write.Goals as goal
+use Rattle.frame_header.specs.{Fields.IsClass, Tables.side_size_of}
+use Rattle.side_info.proofs.{SideLaws.side_at-side_bits, WriteLaws.side_bits-parts}
 use Rattle.side_info.proofs.side.Side.write.Goals.{After-write_granules}
+use Rattle.side_info.specs.{Parts.{class_with, pair_bits, second_bits}, Side.{side_at, side_bits}}
+use Rattle.side_info.proofs.side.Side.write.Goals as goal
 
-written : (c : After-write_granules) → bits c.write_granules.new.bytes ≡ side_bits c.args.class c.args.self.now
+written : (c : After-write_granules)
+    → bits c.write_granules.new.bytes ≡ side_bits c.args.class c.args.self.now
 written c =
     c.write_granules.ensures.written
-    ∙ ap (λ bs. (bs ++ pair_bits c.class.inside.version c.class.inside.channels (get_or c.args.self.now.granules 0 [])) ++ second_bits c.class.inside.version c.class.inside.channels (get_or c.args.self.now.granules 1 [])) c.front_word-front.ensures
-    ∙ sym (side_bits-parts (class_with c.class.inside.version c.class.inside.frequency_index c.class.inside.channels) c.args.self.now (omega arith))
+    ∙ ap (λ bs. (bs ++ pair_bits c.class.inside.version c.class.inside.channels
+    (get_or c.args.self.now.granules 0 [])) ++ second_bits c.class.inside.version
+    c.class.inside.channels (get_or c.args.self.now.granules 1 [])) c.front_word-front.ensures
+    ∙ sym (side_bits-parts (class_with c.class.inside.version c.class.inside.frequency_index
+    c.class.inside.channels) c.args.self.now (omega arith))
     ∙ ap (λ d. side_bits d c.args.self.now) c.class.view_is
 
 pub write_granules-requires-clause-size : goal.write_granules-requires-clause-size
@@ -27,6 +28,12 @@ returns-clause-written c = written (goal.at.returns-clause-written c).After-writ
 pub returns-clause-back : goal.returns-clause-back
 returns-clause-back c =
     ap (side_at c.args.class) (written (goal.at.returns-clause-back c).After-write_granules)
-    ∙ side_at-side_bits c.args.class (subst IsClass c.class.view_is c.class.invariant) c.args.self.now
-    (record { scfsi = omega arith; granules = omega arith; first = c.write_granules.ensures.two; second = c.write_granules.ensures.second_two })
+    ∙ side_at-side_bits c.args.class (subst IsClass c.class.view_is c.class.invariant)
+    c.args.self.now
+    (record {
+      scfsi = omega arith;
+      granules = omega arith;
+      first = c.write_granules.ensures.two;
+      second = c.write_granules.ensures.second_two;
+    })
     c.requires.fits

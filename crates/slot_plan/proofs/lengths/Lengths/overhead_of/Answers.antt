@@ -1,10 +1,12 @@
 -- No overhead has more bytes.
-use Rattle.std.proofs.Common.{true, false, arith}
+use Rattle.std.proofs.Common.{arith, false, true}
 use Rattle.slot_plan.proofs.LengthLaws.{overhead-most}
 use Rattle.slot_plan.proofs.lengths.Lengths.overhead_of.Goals as goal
 
 pub returns-then-protected-clause-most : goal.returns-then-protected-clause-most
-returns-then-protected-clause-most c = omega (arith, c.self.invariant.checked, overhead-most c.self.inside.class true)
+returns-then-protected-clause-most c =
+    omega (arith, c.self.invariant.checked, overhead-most c.self.inside.class true)
 
 pub returns-else-protected-clause-most : goal.returns-else-protected-clause-most
-returns-else-protected-clause-most c = omega (arith, c.self.invariant.without, overhead-most c.self.inside.class false)
+returns-else-protected-clause-most c =
+    omega (arith, c.self.invariant.without, overhead-most c.self.inside.class false)

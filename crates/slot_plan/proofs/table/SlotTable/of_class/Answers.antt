@@ -8,5 +8,6 @@ new-requires c =
     let all = c.as_slice.ensures.value ∙ c.slots-slots.ensures.slots in
     record {
       some = lead-any c.as_slice.result.now all;
-      ascending = lead-ascend c.args.class c.as_slice.result.now all (c.slots-slots.ensures.ascending false);
+      ascending = lead-ascend c.args.class c.as_slice.result.now all
+          (c.slots-slots.ensures.ascending false);
     }

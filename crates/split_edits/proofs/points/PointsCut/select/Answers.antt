@@ -1,17 +1,23 @@
 -- The chosen frames in their own slots, by the survey that is known.
 use Rattle.std.proofs.Common.{inr}
-use Rattle.laying.specs.Laid.{laid_in}
-use Rattle.sync_survey.specs.Faults.{tells}
 use Rattle.cut_edits.specs.Chosen.{chosen_in}
-use Rattle.split_edits.proofs.CutLaws.{points-refusal, frames-laid, frames-refused}
+use Rattle.laying.specs.Laid.{laid_in}
+use Rattle.split_edits.proofs.CutLaws.{frames-laid, frames-refused, points-refusal}
 use Rattle.split_edits.proofs.PiecesLaws.{match_err}
+use Rattle.sync_survey.specs.Faults.{tells}
 use Rattle.split_edits.proofs.points.PointsCut.select.Goals as goal
 
 pub returns-in_err-chosen-clause-laid : goal.returns-in_err-chosen-clause-laid
 returns-in_err-chosen-clause-laid c =
     match_err c.from_residual.result _ _ c.from_residual.ensures.1
-    (inr (points-refusal c.args.self.now _ c.in_err-chosen.ensures.refusal, λ file s is. frames-refused c.args.from.now c.args.to.now file s (tells c.args.source.now.survey) is.survey _ (c.in_err-chosen.ensures.chosen file)))
+    (inr (
+      points-refusal c.args.self.now _ c.in_err-chosen.ensures.refusal,
+      λ file s is. frames-refused c.args.from.now c.args.to.now file s
+          (tells c.args.source.now.survey) is.survey _ (c.in_err-chosen.ensures.chosen file),
+    ))
 
 pub returns-clause-laid : goal.returns-clause-laid
 returns-clause-laid c = λ file s is.
-    frames-laid c.args.from.now c.args.to.now file s (tells c.args.source.now.survey) is.survey (chosen_in c.in_ok-chosen.chosen) (laid_in c.in_ok-selected.selected) (c.in_ok-chosen.ensures.chosen file) c.in_ok-selected.ensures.laid
+    frames-laid c.args.from.now c.args.to.now file s (tells c.args.source.now.survey)
+    is.survey (chosen_in c.in_ok-chosen.chosen) (laid_in c.in_ok-selected.selected)
+    (c.in_ok-chosen.ensures.chosen file) c.in_ok-selected.ensures.laid

@@ -1,20 +1,21 @@
 -- A block has a header and a footer, and the place of a fault is in it.
-use Rattle.std.proofs.Common.{◌≡◌, ℕ, ◌≤◌, List, length, Ok, Err, ◌⊎◌, inl, inr, rules}
-use Rattle.std.specs.Prelude.{Result, MatchResult, IfErr}
-use Rattle.tag_blocks.specs.declared.tag_fault.TagFault.{TagFault}
-use Rattle.tag_blocks.specs.declared.tag_fault.TagFault.TheVariants.{BadTag, Memory}
-use Rattle.tag_blocks.specs.Tags.{TagFields, tag_of, IsPlaceIn}
-use Rattle.tag_blocks.specs.Laws.{AreOctets}
-use Rattle.tag_blocks.proofs.TagsLaws.{block-long, place-within}
+use Rattle.std.proofs.Common.{Err, inl, inr, length, List, Ok, rules, ℕ, ◌≡◌, ◌≤◌, ◌⊎◌}
+use Rattle.std.specs.Prelude.{IfErr, MatchResult, Result}
+use Rattle.tag_blocks.{proofs.TagsLaws.{block-long, place-within}, specs.Laws.AreOctets}
+use Rattle.tag_blocks.specs.Tags.{IsPlaceIn, tag_of, TagFields}
+use Rattle.tag_blocks.specs.declared.tag_fault.TagFault.{TagFault, TheVariants.{BadTag, Memory}}
 use Rattle.tag_blocks.proofs.tag.Tag.read.Goals as goal
 
 pub read_block-requires-clause-long : goal.read_block-requires-clause-long
 read_block-requires-clause-long c = block-long c.args.block.now c.requires.block
 
-within_cases : (block : List ℕ) → AreOctets block → 64 ≤ length block → (r : Result TagFields TagFault) → MatchResult r (λ tag. tag_of block ≡ Ok tag) (λ fault. (fault ≡ Memory) ⊎ (tag_of block ≡ Err fault)) → IfErr r (IsPlaceIn block)
+within_cases : (block : List ℕ) → AreOctets block → 64 ≤ length block
+    → (r : Result TagFields TagFault) → MatchResult r (λ tag. tag_of block ≡ Ok tag)
+    (λ fault. (fault ≡ Memory) ⊎ (tag_of block ≡ Err fault)) → IfErr r (IsPlaceIn block)
 within_cases block octets long (Err (BadTag place)) (inl e) = absurd cc
 within_cases block octets long (Err (BadTag place)) (inr e) = place-within block place octets long e
 within_cases block octets long _ h = tt
 
 pub returns-clause-within : goal.returns-clause-within
-returns-clause-within c = within_cases c.args.block.now (search rules) (block-long c.args.block.now c.requires.block) c.read_block.result c.read_block.ensures.tag
+returns-clause-within c = within_cases c.args.block.now (search rules)
+    (block-long c.args.block.now c.requires.block) c.read_block.result c.read_block.ensures.tag

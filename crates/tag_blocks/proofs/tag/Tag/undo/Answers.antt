@@ -1,16 +1,31 @@
 -- The places stay within the tag.
-use Rattle.std.proofs.Common.{ap, arith}
-use Rattle.std.proofs.lemmas.List.Sums.{sum_by-drop_more}
-use Rattle.tag_blocks.specs.Items.{item_length, items_length}
-use Rattle.tag_blocks.proofs.TagsLaws.{items_length-most}
+use Rattle.std.proofs.{Common.{ap, arith}, lemmas.List.Sums.sum_by-drop_more}
+use Rattle.tag_blocks.{proofs.TagsLaws.items_length-most, specs.Items.{item_length, items_length}}
 use Rattle.tag_blocks.proofs.tag.Tag.undo.Goals as goal
 
 pub length-requires : goal.length-requires
 length-requires c =
-    let more = sum_by-drop_more item_length c.deref-item-items.result.now c.loop-item.item-index c.item-item.result c.loop-item-test.true in
-    omega (arith, ap item_length c.item-item.is, more, c.loop-item.invariant.place, ap items_length c.deref-item-items.ensures.value, items_length-most _ c.self.invariant)
+    let more = sum_by-drop_more item_length
+    c.deref-item-items.result.now c.loop-item.item-index c.item-item.result c.loop-item-test.true in
+    omega (
+      arith,
+      ap item_length c.item-item.is,
+      more,
+      c.loop-item.invariant.place,
+      ap items_length c.deref-item-items.ensures.value,
+      items_length-most _ c.self.invariant,
+    )
 
 pub overflow_add-place : goal.overflow_add-place
 overflow_add-place c =
-    let more = sum_by-drop_more item_length c.deref-item-items.result.now c.loop-item.item-index c.item-item.result c.loop-item-test.true in
-    omega (arith, ap item_length c.item-item.is, more, c.loop-item.invariant.place, ap items_length c.deref-item-items.ensures.value, items_length-most _ c.self.invariant, c.length.ensures)
+    let more = sum_by-drop_more item_length
+    c.deref-item-items.result.now c.loop-item.item-index c.item-item.result c.loop-item-test.true in
+    omega (
+      arith,
+      ap item_length c.item-item.is,
+      more,
+      c.loop-item.invariant.place,
+      ap items_length c.deref-item-items.ensures.value,
+      items_length-most _ c.self.invariant,
+      c.length.ensures,
+    )

@@ -1,7 +1,6 @@
 -- What the items from here on say is what all say; so many bytes are before them.
-use Rattle.std.proofs.Common.{◌≡◌, ◌+◌, drop}
-use Rattle.tag_blocks.specs.Items.{items_length}
-use Rattle.tag_blocks.specs.UndoItems.{undo_from}
+use Rattle.std.proofs.Common.{drop, ◌+◌, ◌≡◌}
+use Rattle.tag_blocks.specs.{Items.items_length, UndoItems.undo_from}
 use Rattle.tag_blocks.proofs.tag.Tag.undo.Given as goal
 
 abbrev pub invariant-loop-item : goal.invariant-loop-item

@@ -1,9 +1,6 @@
-use Rattle.std.proofs.Common.{◌≡◌, sym, ◌∙◌}
-use Rattle.std.specs.Prelude.{Result, Ok, Err, OnOk, OnErr}
-use Rattle.std.proofs.lemmas.Result.{on_ok_weaker}
-use Rattle.outside.specs.Memory.{contents_of}
-use Rattle.outside.specs.Slots.{content_of}
-use Rattle.outside.proofs.FilesLaws.{update_held}
+use Rattle.std.proofs.{Common.{sym, ◌∙◌, ◌≡◌}, lemmas.Result.on_ok_weaker}
+use Rattle.std.specs.Prelude.{Err, Ok, OnErr, OnOk, Result}
+use Rattle.outside.{proofs.FilesLaws.update_held, specs.{Memory.contents_of, Slots.content_of}}
 use Rattle.outside.proofs.memory.folder.MemFolder.reserve.Goals as goal
 
 either_way : {T E P : Type 0} (r : Result T E) → OnOk r P → OnErr r P → P
@@ -13,5 +10,7 @@ either_way (Err e) ok err = err
 pub returns-clause-contents : goal.returns-clause-contents
 returns-clause-contents c =
     let old = contents_of c.args.self.now in
-    let same : content_of c.in_ok-slot.slot ≡ old c.args.name.now = c.in_ok-slot.ensures.content ∙ c.content.ensures in
-    either_way c.set.result (on_ok_weaker c.set.result (λ set. set ∙ update_held old c.args.name.now _ (sym same)) c.set.ensures.contents) c.set.ensures.contents_kept
+    let same : content_of c.in_ok-slot.slot ≡ old c.args.name.now =
+    c.in_ok-slot.ensures.content ∙ c.content.ensures in
+    either_way c.set.result (on_ok_weaker c.set.result (λ set. set ∙ update_held old
+    c.args.name.now _ (sym same)) c.set.ensures.contents) c.set.ensures.contents_kept

@@ -1,11 +1,11 @@
 use Rattle.std.proofs.Common.{rules}
-use Rattle.outside.proofs.FilesLaws.{emptied_is}
-use Rattle.outside.specs.Memory.{contents_of}
+use Rattle.outside.{proofs.FilesLaws.emptied_is, specs.Memory.contents_of}
 use Rattle.outside.proofs.memory.folder.MemFolderFolder.create.Goals as goal
 
 pub returns-clause-answer : goal.returns-clause-answer
 returns-clause-answer c = record {
-  created = emptied_is (contents_of c.args.self.now) _ c.args.name.now (rw c.if-not-create.false at c.create.ensures.contents);
+  created = emptied_is (contents_of c.args.self.now) _
+      c.args.name.now (rw c.if-not-create.false at c.create.ensures.contents);
   kept = search rules;
   failed = search rules;
   done = search rules;

@@ -1,15 +1,17 @@
 -- One area more, and all.
-use Rattle.std.proofs.Common.{◌≡◌, ℕ, ◌+◌, ◌-◌, ◌<◌, Bool, List, length, get_or, inl, inr, sym, ap, ◌∙◌, arith}
-use Rattle.std.proofs.lemmas.Bool.{cases_lt}
-use Rattle.std.proofs.lemmas.List.{get_or-map, length-map}
-use Rattle.std.proofs.lemmas.List.Kept.{AllPairs-from_increasing}
-use Rattle.frame_header.specs.Fields.{SlotFields, ClassFields}
-use Rattle.frame_header.specs.Tables.{area_of}
+use Rattle.std.proofs.Common.{ap, arith, Bool, get_or, inl, inr, length, List, sym, ℕ, ◌+◌, ◌-◌}
+use Rattle.std.proofs.{Common.{◌<◌, ◌∙◌, ◌≡◌}, lemmas.Bool.cases_lt}
+use Rattle.std.proofs.lemmas.List.{get_or-map, length-map, Kept.AllPairs-from_increasing}
+use Rattle.frame_header.specs.{Fields.{ClassFields, SlotFields}, Tables.area_of}
 use Rattle.slot_plan.specs.Parts.{areas_with}
 use Rattle.plan_tests.proofs.tests.menus.planned.ascend.Goals as goal
 
-area-here : (class : ClassFields) (protected : Bool) (menu : List SlotFields) (i : ℕ) (slot : SlotFields) → i < length menu → slot ≡ get_or menu i slot → get_or (areas_with class protected menu) i 0 ≡ area_of class slot protected
-area-here class protected menu i slot within is = get_or-map (λ s. area_of class s protected) menu i slot 0 within ∙ ap (λ s. area_of class s protected) (sym is)
+area-here : (class : ClassFields) (protected : Bool) (menu : List SlotFields) (i : ℕ)
+    (slot : SlotFields) → i < length menu → slot ≡ get_or menu i slot
+    → get_or (areas_with class protected menu) i 0 ≡ area_of class slot protected
+area-here class protected menu i slot within is =
+    get_or-map (λ s. area_of class s protected) menu i slot 0 within
+    ∙ ap (λ s. area_of class s protected) (sym is)
 
 pub loop-i-preserved : goal.loop-i-preserved
 loop-i-preserved c = λ k before.
@@ -20,13 +22,30 @@ loop-i-preserved c = λ k before.
       | inr last ↦
           let one : k ≡ i - 1 = omega (arith, before, last) in
           let two : k + 1 ≡ i = omega (arith, before, last) in
-          let first = area-here c.args.class c.args.protected c.args.menu.now (i - 1) c.index-menu-i.result (omega (arith, c.loop-i-test.true)) c.index-menu-i.is in
-          let second = area-here c.args.class c.args.protected c.args.menu.now i c.index-menu-i-in-loop-i.result (omega (arith, c.loop-i-test.true)) c.index-menu-i-in-loop-i.is in
-          omega (arith, ap (λ n. get_or areas n 0) one, ap (λ n. get_or areas n 0) two, first, second, c.area_of.ensures.area, c.area_of-in-loop-i.ensures.area, c.if-area_of.false)
+          let first = area-here c.args.class c.args.protected c.args.menu.now (i - 1)
+          c.index-menu-i.result (omega (arith, c.loop-i-test.true)) c.index-menu-i.is in
+          let second = area-here c.args.class c.args.protected c.args.menu.now i
+          c.index-menu-i-in-loop-i.result (omega (arith, c.loop-i-test.true))
+          c.index-menu-i-in-loop-i.is in
+          omega (
+            arith,
+            ap (λ n. get_or areas n 0) one,
+            ap (λ n. get_or areas n 0) two,
+            first,
+            second,
+            c.area_of.ensures.area,
+            c.area_of-in-loop-i.ensures.area,
+            c.if-area_of.false,
+          )
     ]
 
 pub returns : goal.returns
 returns c = λ is.
     let areas : List ℕ = areas_with c.args.class c.args.protected c.args.menu.now in
     AllPairs-from_increasing areas
-    (λ k before. c.loop-i.invariant k (omega (arith, before, length-map c.args.menu.now (λ s. area_of c.args.class s c.args.protected), c.loop-i-test.false)))
+    (λ k before. c.loop-i.invariant k (omega (
+      arith,
+      before,
+      length-map c.args.menu.now (λ s. area_of c.args.class s c.args.protected),
+      c.loop-i-test.false,
+    )))
