@@ -1,61 +1,88 @@
 -- The digits of a number are those before the last two or four, and these.
-use Rattle.std.proofs.Common.{◌≡◌, ℕ, ◌+◌, ◌*◌, ◌/◌, ◌%◌, ◌<◌, ◌^◌, ◌-◌, ◌++◌, List, arith, append_assoc, length, length-append, ◌≤◌, ap, ◌∙◌, refl}
+use Rattle.std.proofs.Common.{ap, append_assoc, arith, length, length-append, List, refl, ℕ, ◌%◌}
+use Rattle.std.proofs.Common.{◌*◌, ◌++◌, ◌+◌, ◌-◌, ◌/◌, ◌<◌, ◌^◌, ◌∙◌, ◌≡◌, ◌≤◌}
+use Rattle.std.proofs.lemmas.Fmt.{decimal_digit, decimal_step, length-decimal-le}
 use Rattle.std.specs.Prelude.{decimal}
-use Rattle.std.proofs.lemmas.Fmt.{decimal_step, decimal_digit, length-decimal-le}
-use Rattle.list_edits.specs.Decimals.{two_digits, four_digits}
+use Rattle.list_edits.specs.Decimals.{four_digits, two_digits}
 
-pub decimal_hundreds : (q k : ℕ) → 0 < q → k < 100 → q * 100 + k < 2 ^ 64 → decimal (q * 100 + k) ≡ decimal q ++ two_digits k
+-- the digits of hundreds and a number below 100 are those of the one and two of the other
+pub decimal_hundreds : (q k : ℕ) → 0 < q → k < 100 → q * 100 + k < 2 ^ 64
+    → decimal (q * 100 + k) ≡ decimal q ++ two_digits k
 decimal_hundreds q k some two few =
     let n : ℕ = q * 100 + k in
     let a : n / 10 / 10 ≡ q = omega arith in
     let b : n / 10 % 10 ≡ k / 10 % 10 = omega arith in
     let d : n % 10 ≡ k % 10 = omega arith in
-    rw (decimal_step n (omega arith) few, decimal_step (n / 10) (omega arith) (omega arith), append_assoc, a, b, d) refl
+    rw (
+      decimal_step n (omega arith) few,
+      decimal_step (n / 10) (omega arith) (omega arith),
+      append_assoc,
+      a,
+      b,
+      d,
+    ) refl
 
-pub decimal_myriads : (q k : ℕ) → 0 < q → k < 10000 → q * 10000 + k < 2 ^ 64 → decimal (q * 10000 + k) ≡ decimal q ++ four_digits k
+-- the digits of ten thousands and a number below 10,000 are those of the one and four of the other
+pub decimal_myriads : (q k : ℕ) → 0 < q → k < 10000 → q * 10000 + k < 2 ^ 64
+    → decimal (q * 10000 + k) ≡ decimal q ++ four_digits k
 decimal_myriads q k some four few =
     let a : q * 10000 + k ≡ (q * 100 + k / 100) * 100 + k % 100 = omega arith in
     ap decimal a
     ∙ decimal_hundreds (q * 100 + k / 100) (k % 100) (omega arith) (omega arith) (omega arith)
-    ∙ ap (λ ds. ds ++ two_digits (k % 100)) (decimal_hundreds q (k / 100) some (omega arith) (omega arith))
+    ∙ ap (λ ds. ds ++ two_digits (k % 100))
+    (decimal_hundreds q (k / 100) some (omega arith) (omega arith))
     ∙ append_assoc (decimal q) (two_digits (k / 100)) (two_digits (k % 100))
 
 -- ---- a number whose first digits are kept, by how far it is behind them
 
-pub kept_hundreds : (q n : ℕ) → 0 < q → q < 10 ^ 14 → n < 2 ^ 64 → (n + (2 ^ 64 - q * 100)) % 2 ^ 64 < 100 → decimal n ≡ decimal q ++ two_digits ((n + (2 ^ 64 - q * 100)) % 2 ^ 64)
+-- so they are where the hundreds are kept and the rest is found by one difference
+pub kept_hundreds : (q n : ℕ) → 0 < q → q < 10 ^ 14 → n < 2 ^ 64 → (n + (2 ^ 64 - q * 100)) % 2 ^ 64
+    < 100 → decimal n ≡ decimal q ++ two_digits ((n + (2 ^ 64 - q * 100)) % 2 ^ 64)
 kept_hundreds q n some fits small near =
     let k : ℕ = (n + (2 ^ 64 - q * 100)) % 2 ^ 64 in
     let e : n ≡ q * 100 + k = omega arith in
     ap decimal e ∙ decimal_hundreds q k some near (omega arith)
 
-pub kept_myriads : (q n : ℕ) → 0 < q → q < 10 ^ 14 → n < 2 ^ 64 → (n + (2 ^ 64 - q * 10000)) % 2 ^ 64 < 10000 → decimal n ≡ decimal q ++ four_digits ((n + (2 ^ 64 - q * 10000)) % 2 ^ 64)
+-- the same of ten thousands
+pub kept_myriads : (q n : ℕ) → 0 < q → q < 10 ^ 14 → n < 2 ^ 64
+    → (n + (2 ^ 64 - q * 10000)) % 2 ^ 64 < 10000
+    → decimal n ≡ decimal q ++ four_digits ((n + (2 ^ 64 - q * 10000)) % 2 ^ 64)
 kept_myriads q n some fits small near =
     let k : ℕ = (n + (2 ^ 64 - q * 10000)) % 2 ^ 64 in
     let e : n ≡ q * 10000 + k = omega arith in
     ap decimal e ∙ decimal_myriads q k some near (omega arith)
 
 -- the digits that are kept, before those behind them, before a line
-pub put_behind : (kept q : ℕ) (ds line : List ℕ) {before whole new : List ℕ} → kept ≡ q → before ≡ ds ++ line → new ≡ decimal kept ++ before → whole ≡ decimal q ++ ds → new ≡ whole ++ line
+pub put_behind : (kept q : ℕ) (ds line : List ℕ) {before whole new : List ℕ} → kept ≡ q → before
+    ≡ ds ++ line → new ≡ decimal kept ++ before → whole ≡ decimal q ++ ds → new ≡ whole ++ line
 put_behind kept q ds line same first then is = rw (then, first, is, same, append_assoc) refl
 
 -- ---- a number below 10,000
 
+-- a number from 10 to 99 has two digits
 pub decimal_two : (n : ℕ) → 10 ≤ n → n < 100 → decimal n ≡ two_digits n
 decimal_two n lo hi =
     let a : n / 10 % 10 ≡ n / 10 = omega arith in
     rw (decimal_step n lo (omega arith), decimal_digit (n / 10) (omega arith), a) refl
 
-pub decimal_split : (n : ℕ) → 100 ≤ n → n < 10000 → decimal n ≡ decimal (n / 100) ++ two_digits (n % 100)
+-- a number of three or four digits has those of its hundreds, and two more
+pub decimal_split : (n : ℕ) → 100 ≤ n → n < 10000
+    → decimal n ≡ decimal (n / 100) ++ two_digits (n % 100)
 decimal_split n lo hi =
     let e : n ≡ n / 100 * 100 + n % 100 = omega arith in
     ap decimal e ∙ decimal_hundreds (n / 100) (n % 100) (omega arith) (omega arith) (omega arith)
 
 -- a number before a line, which has at most 20 digits
-pub few_before : (n : ℕ) (line : List ℕ) {new : List ℕ} → n < 2 ^ 64 → new ≡ decimal n ++ line → length new ≤ length line + 20
+pub few_before : (n : ℕ) (line : List ℕ) {new : List ℕ} → n < 2 ^ 64 → new ≡ decimal n ++ line
+    → length new ≤ length line + 20
 few_before n line small is =
-    let few : length (decimal n) ≤ 20 = length-decimal-le 20 n (omega arith) (omega arith) (omega arith) in
+    let few : length (decimal n) ≤ 20 =
+    length-decimal-le 20 n (omega arith) (omega arith) (omega arith) in
     omega (arith, few, ap length is, length-append (decimal n) line)
 
 -- a number below 10,000 before a line, whose hundreds are put last
-pub put_split : (n hundreds rest : ℕ) (line : List ℕ) {before new : List ℕ} → 100 ≤ n → n < 10000 → hundreds ≡ n / 100 → rest ≡ n % 100 → before ≡ two_digits rest ++ line → new ≡ decimal hundreds ++ before → new ≡ decimal n ++ line
-put_split n hundreds rest line lo hi high low first then = rw (then, first, high, low, decimal_split n lo hi, append_assoc) refl
+pub put_split : (n hundreds rest : ℕ) (line : List ℕ) {before new : List ℕ} → 100 ≤ n → n < 10000
+    → hundreds ≡ n / 100 → rest ≡ n % 100 → before ≡ two_digits rest ++ line
+    → new ≡ decimal hundreds ++ before → new ≡ decimal n ++ line
+put_split n hundreds rest line lo hi high low first then =
+    rw (then, first, high, low, decimal_split n lo hi, append_assoc) refl

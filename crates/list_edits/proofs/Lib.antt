@@ -6,3 +6,4 @@ pub mod ThingsLaws
 pub mod ListingLaws
 pub mod TextLaws
 pub mod InfoLaws
+pub mod TotalsLaws

@@ -1,25 +1,32 @@
--- The lines of a text, one after another, and what is sent of them: those of entries, and a last one.
-use Rattle.std.proofs.Common.{◌≡◌, ℕ, List, [], ◌∷◌, ◌++◌, sym, ◌∙◌, ap, subst, append_assoc, append-nil}
-use Rattle.std.specs.Prelude.{Result, Ok, Err, OnOk, OnErr, flat_map}
-use Rattle.outside.specs.Files.{Sent, sent_more}
-use Rattle.outside.specs.Passed.{SentOn, SentPrefix}
-use Rattle.outside.proofs.SentLaws.{sent_none, sent_more_on, sent_more_prefix, sent_then_all, sent_then_prefix, sent_prefix_of}
+-- The lines of a text, one after another, and what
+-- is sent of them: those of entries, and a last one.
+use Rattle.std.proofs.Common.{ap, append-nil, append_assoc, List, subst, sym, ℕ, [], ◌++◌, ◌∙◌, ◌∷◌}
+use Rattle.std.{proofs.Common.◌≡◌, specs.Prelude.{Err, flat_map, Ok, OnErr, OnOk, Result}}
+use Rattle.outside.proofs.SentLaws.{sent_more_on, sent_more_prefix, sent_none, sent_prefix_of}
+use Rattle.outside.proofs.SentLaws.{sent_then_all, sent_then_prefix}
+use Rattle.outside.specs.{Files.{Sent, sent_more}, Passed.{SentOn, SentPrefix}}
 
 -- the lines so far, of which some wait, and those that are left, of all before the last
-pub record IsSaidTo {A : Type 0} (line : A → List ℕ) (all left : List A) (waits : List ℕ) (old now : Sent) : Type 0 where
+pub record IsSaidTo {A : Type 0} (line : A → List ℕ) (all left : List A) (waits : List ℕ)
+    (old now : Sent) : Type 0 where
   pub done : List ℕ
   pub lines : flat_map line all ≡ done ++ flat_map line left
   pub sent : SentOn done waits old now
 
 module _ {A : Type 0} (line : A → List ℕ) (all : List A) where
+  -- before the first entry nothing was said
   pub said_none : (left : List A) (sent : Sent) → left ≡ all → IsSaidTo line all left [] sent sent
-  said_none left sent is = record { done = []; lines = ap (flat_map line) (sym is); sent = sent_none sent [] }
+  said_none left sent is =
+      record { done = []; lines = ap (flat_map line) (sym is); sent = sent_none sent [] }
 
-  lines_split : (left rest : List A) (t : A) (done : List ℕ) → left ≡ t ∷ rest → flat_map line all ≡ done ++ flat_map line left
-      → flat_map line all ≡ (done ++ line t) ++ flat_map line rest
-  lines_split left rest t done is lines = lines ∙ ap (λ ts. done ++ flat_map line ts) is ∙ sym (append_assoc done (line t) (flat_map line rest))
+  lines_split : (left rest : List A) (t : A) (done : List ℕ) → left ≡ t ∷ rest → flat_map line all
+      ≡ done ++ flat_map line left → flat_map line all ≡ (done ++ line t) ++ flat_map line rest
+  lines_split left rest t done is lines = lines ∙ ap (λ ts. done ++ flat_map line ts) is
+      ∙ sym (append_assoc done (line t) (flat_map line rest))
 
-  pub said_more : (left rest : List A) (t : A) (waits after : List ℕ) (old now new : Sent) → IsSaidTo line all left waits old now → left ≡ t ∷ rest
+  -- an entry whose line was sent is one said more
+  pub said_more : (left rest : List A) (t : A) (waits after : List ℕ) (old now new : Sent)
+      → IsSaidTo line all left waits old now → left ≡ t ∷ rest
       → SentOn (waits ++ line t) after now new → IsSaidTo line all rest after old new
   said_more left rest t waits after old now new h is more = record {
     done = h.done ++ line t;
@@ -28,48 +35,69 @@ module _ {A : Type 0} (line : A → List ℕ) (all : List A) where
   }
 
   -- nothing is left
-  pub all_lines : (left : List A) (waits : List ℕ) (old now : Sent) → IsSaidTo line all left waits old now → left ≡ [] → SentOn (flat_map line all) waits old now
+  pub all_lines : (left : List A) (waits : List ℕ) (old now : Sent)
+      → IsSaidTo line all left waits old now → left ≡ [] → SentOn (flat_map line all) waits old now
   all_lines left waits old now h is =
-      subst (λ text. SentOn text waits old now) (sym (h.lines ∙ ap (λ ts. h.done ++ flat_map line ts) is ∙ append-nil h.done)) h.sent
+      subst (λ text. SentOn text waits old now)
+      (sym (h.lines ∙ ap (λ ts. h.done ++ flat_map line ts) is ∙ append-nil h.done)) h.sent
 
-  -- a line that failed
-  pub line_failed : (left rest : List A) (t : A) (waits : List ℕ) (old now new : Sent) → IsSaidTo line all left waits old now → left ≡ t ∷ rest
+  -- if a line failed, a prefix of all lines was sent
+  pub line_failed : (left rest : List A) (t : A) (waits : List ℕ) (old now new : Sent)
+      → IsSaidTo line all left waits old now → left ≡ t ∷ rest
       → SentPrefix (waits ++ line t) now new → SentPrefix (flat_map line all) old new
   line_failed left rest t waits old now new h is part =
-      subst (λ text. SentPrefix text old new) (sym (lines_split left rest t h.done is h.lines)) (sent_prefix_of (flat_map line rest) (sent_more_prefix (line t) h.sent part))
+      subst (λ text. SentPrefix text old new) (sym (lines_split left rest t h.done is h.lines))
+      (sent_prefix_of (flat_map line rest) (sent_more_prefix (line t) h.sent part))
 
   module _ (last : List ℕ) where
-    text_is : (done : List ℕ) (left : List A) → flat_map line all ≡ done ++ flat_map line left → flat_map line all ++ last ≡ done ++ (flat_map line left ++ last)
-    text_is done left is = ap (λ front. front ++ last) is ∙ append_assoc done (flat_map line left) last
+    text_is : (done : List ℕ) (left : List A) → flat_map line all ≡ done ++ flat_map line left
+        → flat_map line all ++ last ≡ done ++ (flat_map line left ++ last)
+    text_is done left is =
+        ap (λ front. front ++ last) is ∙ append_assoc done (flat_map line left) last
 
-    -- a line that failed
-    pub said_failed : (left rest : List A) (t : A) (waits : List ℕ) (old now new : Sent) → IsSaidTo line all left waits old now → left ≡ t ∷ rest
+    -- and so a prefix of the text
+    pub said_failed : (left rest : List A) (t : A) (waits : List ℕ) (old now new : Sent)
+        → IsSaidTo line all left waits old now → left ≡ t ∷ rest
         → SentPrefix (waits ++ line t) now new → SentPrefix (flat_map line all ++ last) old new
-    said_failed left rest t waits old now new h is part = sent_prefix_of last (line_failed left rest t waits old now new h is part)
+    said_failed left rest t waits old now new h is part =
+        sent_prefix_of last (line_failed left rest t waits old now new h is part)
 
     -- nothing is left but the last line
-    all_said : (left : List A) (waits : List ℕ) (old now : Sent) → IsSaidTo line all left waits old now → left ≡ []
+    all_said : (left : List A) (waits : List ℕ) (old now : Sent)
+        → IsSaidTo line all left waits old now → left ≡ []
         → (done : List ℕ) × (flat_map line all ++ last ≡ done ++ last) × SentOn done waits old now
-    all_said left waits old now h is =
-        (h.done, text_is h.done left h.lines ∙ ap (λ ts. h.done ++ (flat_map line ts ++ last)) is, h.sent)
+    all_said left waits old now h is = (
+      h.done,
+      text_is h.done left h.lines ∙ ap (λ ts. h.done ++ (flat_map line ts ++ last)) is,
+      h.sent,
+    )
 
-    pub last_failed : (left : List A) (waits : List ℕ) (old now new : Sent) → IsSaidTo line all left waits old now → left ≡ []
-        → SentPrefix (waits ++ last) now new → SentPrefix (flat_map line all ++ last) old new
+    -- if the last line failed, a prefix of the text was sent
+    pub last_failed : (left : List A) (waits : List ℕ) (old now new : Sent)
+        → IsSaidTo line all left waits old now → left ≡ [] → SentPrefix (waits ++ last) now new
+        → SentPrefix (flat_map line all ++ last) old new
     last_failed left waits old now new h is part =
         let said = all_said left waits old now h is in
         subst (λ text. SentPrefix text old new) (sym said.1) (sent_more_prefix last said.2 part)
 
-    pub last_more : (left : List A) (waits after : List ℕ) (old now new : Sent) → IsSaidTo line all left waits old now → left ≡ []
-        → SentOn (waits ++ last) after now new → SentOn (flat_map line all ++ last) after old new
+    -- with the last line the whole text was
+    pub last_more : (left : List A) (waits after : List ℕ) (old now new : Sent)
+        → IsSaidTo line all left waits old now → left ≡ [] → SentOn (waits ++ last) after now new
+        → SentOn (flat_map line all ++ last) after old new
     last_more left waits after old now new h is more =
         let said = all_said left waits old now h is in
         subst (λ text. SentOn text after old new) (sym said.1) (sent_more_on last said.2 more)
 
 -- all that waited was sent
-pub sent_behind : {T E : Type 0} (r : Result T E) {text waits : List ℕ} {old now : Sent} (new : Sent) → SentOn text waits old now → OnOk r (new ≡ sent_more now waits) → OnOk r (new ≡ sent_more old text)
+pub sent_behind : {T E : Type 0} (r : Result T E) {text waits : List ℕ} {old now : Sent}
+    (new : Sent) → SentOn text waits old now → OnOk r (new ≡ sent_more now waits)
+    → OnOk r (new ≡ sent_more old text)
 sent_behind (Ok x) new so_far all = sent_then_all so_far all
 sent_behind (Err e) new so_far all = tt
 
-pub prefix_behind : {T E : Type 0} (r : Result T E) {text waits : List ℕ} {old now : Sent} (new : Sent) → SentOn text waits old now → OnErr r (SentPrefix waits now new) → OnErr r (SentPrefix text old new)
+-- after what was sent a prefix of what waits is a prefix of the text
+pub prefix_behind : {T E : Type 0} (r : Result T E) {text waits : List ℕ} {old now : Sent}
+    (new : Sent) → SentOn text waits old now → OnErr r (SentPrefix waits now new)
+    → OnErr r (SentPrefix text old new)
 prefix_behind (Ok x) new so_far part = tt
 prefix_behind (Err e) new so_far part = sent_then_prefix so_far part

@@ -1,103 +1,148 @@
 -- The things of a file are two lists that each are in order of their offsets.
-use Rattle.std.proofs.Common.{◌≡◌, ℕ, ◌+◌, ◌-◌, ◌≤◌, true, false, cond, List, [], ◌∷◌, ◌++◌, map, Option, Some, None, ltb, arith, refl, sym, ◌∙◌, ap, ap₂, subst}
+use Rattle.std.proofs.Common.{ap, ap₂, arith, cond, false, List, ltb, map, None, Option, refl, Some}
+use Rattle.std.proofs.Common.{subst, sym, true, ℕ, [], ◌++◌, ◌+◌, ◌-◌, ◌∙◌, ◌∷◌, ◌≡◌, ◌≤◌}
 use Rattle.std.specs.Prelude.{is_some, MatchOption}
 use Rattle.frame_header.specs.Tables.{class_of, length_of}
-use Rattle.sync_survey.specs.declared.merge.Merge.{Merge}
-use Rattle.sync_survey.specs.Order.{RisesBy, IsAfter, IsFrom, merged_by}
-use Rattle.sync_survey.specs.Merge.{firsts_left, seconds_left, PassesFirst, PassesSecond}
-use Rattle.sync_survey.proofs.OrderLaws.{rises_from, ordered_both, merged_own, merged_other, after_map}
-use Rattle.sync_survey.specs.declared.places.Head.{Head}
-use Rattle.sync_survey.specs.declared.places.Piece.{Piece}
-use Rattle.sync_survey.specs.Row.{Row}
-use Rattle.sync_survey.specs.Faults.{SurveyFields}
-use Rattle.sync_survey.specs.Survey.{AreLaid, BlocksAreLaid, IsLaidOut}
-use Rattle.list_edits.specs.declared.things.Thing.{Thing}
-use Rattle.list_edits.specs.declared.things.Thing.TheVariants.{Block, Junk, Frame}
+use Rattle.list_edits.specs.Things.{frames_from, frames_left, head_of, in_order, IsLeadingOffset}
+use Rattle.list_edits.specs.Things.{leading, left, offset_of, stream_things, things_of}
+use Rattle.list_edits.specs.declared.things.Thing.{Thing, TheVariants.{Block, Frame, Junk}}
 use Rattle.list_edits.specs.declared.things.Things.{Things}
-use Rattle.list_edits.specs.Things.{offset_of, head_of, frames_from, stream_things, things_of, in_order, leading, IsLeadingOffset, frames_left, left}
+use Rattle.sync_survey.proofs.OrderLaws.{after_map, merged_other, merged_own, ordered_both}
+use Rattle.sync_survey.{proofs.OrderLaws.rises_from, specs.Faults.SurveyFields}
+use Rattle.sync_survey.specs.Merge.{firsts_left, PassesFirst, PassesSecond, seconds_left}
+use Rattle.sync_survey.specs.{Order.{IsAfter, IsFrom, merged_by, RisesBy}, Row.Row}
+use Rattle.sync_survey.specs.Survey.{AreLaid, BlocksAreLaid, IsLaidOut}
+use Rattle.sync_survey.specs.declared.{merge.Merge.Merge, places.{Head.Head, Piece.Piece}}
 
-pub blocks_rise : (from to : ℕ) (blocks : List Piece) → BlocksAreLaid from blocks to → RisesBy offset_of from (map Block blocks)
+-- the blocks of a file are in order of their offsets
+pub blocks_rise : (from to : ℕ) (blocks : List Piece) → BlocksAreLaid from blocks to
+    → RisesBy offset_of from (map Block blocks)
 blocks_rise from to [] laid = tt
-blocks_rise from to (b ∷ blocks) laid = (laid.0, rises_from offset_of b.offset (b.offset + b.block.length) (map Block blocks) (omega arith) (blocks_rise (b.offset + b.block.length) to blocks laid.1))
+blocks_rise from to (b ∷ blocks) laid = (
+  laid.0,
+  rises_from offset_of b.offset (b.offset + b.block.length) (map Block blocks) (omega arith)
+      (blocks_rise (b.offset + b.block.length) to blocks laid.1),
+)
 
-frames_rise : (from to number : ℕ) (rows : List Row) → AreLaid from rows to → RisesBy offset_of from (frames_from number rows)
+frames_rise : (from to number : ℕ) (rows : List Row) → AreLaid from rows to
+    → RisesBy offset_of from (frames_from number rows)
 frames_rise from to number [] laid = tt
 frames_rise from to number (r ∷ rows) laid =
-    let size = length_of (class_of r.header) r.header.slot in
-    (laid.0, rises_from offset_of r.offset (r.offset + size) (frames_from (number + 1) rows) (omega arith) (frames_rise (r.offset + size) to (number + 1) rows laid.2))
+    let size = length_of (class_of r.header) r.header.slot in (
+      laid.0,
+      rises_from offset_of r.offset (r.offset + size) (frames_from (number + 1) rows) (omega arith)
+          (frames_rise (r.offset + size) to (number + 1) rows laid.2),
+    )
 
-head_rises : (first : ℕ) (head : Option Head) (ts : List Thing) → RisesBy offset_of first ts → RisesBy offset_of first (head_of first head ++ ts)
+head_rises : (first : ℕ) (head : Option Head) (ts : List Thing) → RisesBy offset_of first ts
+    → RisesBy offset_of first (head_of first head ++ ts)
 head_rises first None ts rises = rises
 head_rises first (Some head) ts rises = (omega arith, rises)
 
+-- so are the other things
 pub stream_rises : (s : SurveyFields) → IsLaidOut s → RisesBy offset_of s.junk (stream_things s)
 stream_rises s laid =
     let rest : List Thing = head_of s.first s.head ++ frames_from 0 s.frames in
-    let behind = head_rises s.first s.head (frames_from 0 s.frames) (frames_rise s.first s.length 0 s.frames laid.frames) in
-    elim (ltb s.junk s.first) as (λ b. RisesBy offset_of s.junk (cond b (Junk s.junk (s.first - s.junk) ∷ []) [] ++ rest)) [
+    let behind = head_rises s.first s.head (frames_from 0 s.frames)
+    (frames_rise s.first s.length 0 s.frames laid.frames) in
+    elim (ltb s.junk s.first)
+    as (λ b. RisesBy offset_of s.junk (cond b (Junk s.junk (s.first - s.junk) ∷ []) [] ++ rest)) [
       | true ↦ (omega arith, rises_from offset_of s.junk s.first rest laid.junk behind)
       | false ↦ rises_from offset_of s.junk s.first rest laid.junk behind
     ]
 
-pub things_in_order : (s : SurveyFields) → IsLaidOut s → in_order (things_of s) ≡ merged_by offset_of (map Block s.blocks) (stream_things s)
+-- in order, the things are the blocks merged with the others
+pub things_in_order : (s : SurveyFields) → IsLaidOut s
+    → in_order (things_of s) ≡ merged_by offset_of (map Block s.blocks) (stream_things s)
 unfolding things_of
-things_in_order s laid = ordered_both offset_of (map Block s.blocks) (stream_things s) 0 s.junk (blocks_rise 0 s.length s.blocks laid.blocks) (stream_rises s laid)
+things_in_order s laid = ordered_both offset_of (map Block s.blocks)
+    (stream_things s) 0 s.junk (blocks_rise 0 s.length s.blocks laid.blocks) (stream_rises s laid)
 
 -- ---- the walk
 
-from_frames : (at number : ℕ) (rows : List Row) → IsFrom (λ (r : Row). r.offset) at rows → IsFrom offset_of at (frames_from number rows)
+from_frames : (at number : ℕ) (rows : List Row) → IsFrom (λ (r : Row). r.offset) at rows
+    → IsFrom offset_of at (frames_from number rows)
 from_frames at number [] from = tt
 from_frames at number (r ∷ rows) from = from
 
-from_leading : (at least : ℕ) (ts us : List Thing) → IsLeadingOffset (Some at) ts → least ≤ at → IsFrom offset_of least (ts ++ us)
+from_leading : (at least : ℕ) (ts us : List Thing) → IsLeadingOffset (Some at) ts → least ≤ at
+    → IsFrom offset_of least (ts ++ us)
 from_leading at least [] us is le = absurd is
 from_leading at least (t ∷ ts) us is le = subst (λ n. least ≤ n) is le
 
 module _ (old new : Things) where
   -- a block is met
-  block_first : (piece : Piece) → leading new ≡ leading old → PassesFirst piece old.others new.others → IsFrom offset_of piece.offset (leading old ++ frames_left old) → left old ≡ Block piece ∷ left new
+  block_first : (piece : Piece) → leading new ≡ leading old
+      → PassesFirst piece old.others new.others
+      → IsFrom offset_of piece.offset (leading old ++ frames_left old)
+      → left old ≡ Block piece ∷ left new
   unfolding left
   block_first piece same passes from =
       let blocks : List Thing = map Block (firsts_left new.others) in
       ap (λ bs. merged_by offset_of (map Block bs) (leading old ++ frames_left old)) passes.firsts
       ∙ merged_own offset_of (Block piece) blocks (leading old ++ frames_left old) from
-      ∙ ap (λ us. Block piece ∷ merged_by offset_of blocks us) (sym (ap₂ (λ ls fs. ls ++ fs) same (ap₂ frames_from passes.number passes.seconds)))
+      ∙ ap (λ us. Block piece ∷ merged_by offset_of blocks us)
+      (sym (ap₂ (λ ls fs. ls ++ fs) same (ap₂ frames_from passes.number passes.seconds)))
 
   -- where the junk or the head is left
-  pub block_met : (piece : Piece) (at : ℕ) → leading new ≡ leading old → PassesFirst piece old.others new.others → IsLeadingOffset (Some at) (leading old) → piece.offset ≤ at → left old ≡ Block piece ∷ left new
-  block_met piece at same passes is le = block_first piece same passes (from_leading at piece.offset (leading old) (frames_left old) is le)
+  pub block_met : (piece : Piece) (at : ℕ) → leading new ≡ leading old
+      → PassesFirst piece old.others new.others → IsLeadingOffset (Some at) (leading old)
+      → piece.offset ≤ at → left old ≡ Block piece ∷ left new
+  block_met piece at same passes is le = block_first piece same passes
+      (from_leading at piece.offset (leading old) (frames_left old) is le)
 
   -- the junk or the head is met
-  pub leading_met : (result : Option Thing) (at : ℕ) → IsLeadingOffset (Some at) (leading old) → IsAfter (λ (p : Piece). p.offset) at (firsts_left old.others) → new.others ≡ old.others
-      → MatchOption result (leading old ≡ []) (λ t. leading old ≡ t ∷ leading new) → MatchOption result (left old ≡ []) (λ t. left old ≡ t ∷ left new)
+  pub leading_met : (result : Option Thing) (at : ℕ) → IsLeadingOffset (Some at) (leading old)
+      → IsAfter (λ (p : Piece). p.offset) at (firsts_left old.others) → new.others ≡ old.others
+      → MatchOption result (leading old ≡ []) (λ t. leading old ≡ t ∷ leading new)
+      → MatchOption result (left old ≡ []) (λ t. left old ≡ t ∷ left new)
   unfolding left
   leading_met None at is after same none = absurd (subst (IsLeadingOffset (Some at)) none is)
   leading_met (Some t) at is after same first =
       let at_is : at ≡ offset_of t = subst (IsLeadingOffset (Some at)) first is in
-      ap (λ ls. merged_by offset_of (map Block (firsts_left old.others)) (ls ++ frames_left old)) first
-      ∙ merged_other offset_of (map Block (firsts_left old.others)) t (leading new ++ frames_left old) (subst (λ n. IsAfter offset_of n (map Block (firsts_left old.others))) at_is (after_map offset_of Block at (firsts_left old.others) after))
-      ∙ ap (λ (o : Merge Piece Row). t ∷ merged_by offset_of (map Block (firsts_left o)) (leading new ++ frames_from o.next_second (seconds_left o))) (sym same)
+      ap (λ ls. merged_by offset_of (map Block (firsts_left old.others)) (ls ++ frames_left old))
+      first
+      ∙ merged_other offset_of (map Block (firsts_left old.others)) t (leading new
+      ++ frames_left old) (subst (λ n. IsAfter offset_of n (map Block (firsts_left old.others)))
+      at_is (after_map offset_of Block at (firsts_left old.others) after))
+      ∙ ap (λ (o : Merge Piece Row). t ∷ merged_by offset_of (map Block (firsts_left o))
+      (leading new ++ frames_from o.next_second (seconds_left o))) (sym same)
 
   module _ (none : leading old ≡ []) (none_now : leading new ≡ []) where
     -- a frame is met
-    pub frame_met : (row : Row) → PassesSecond row old.others new.others → IsAfter (λ (p : Piece). p.offset) row.offset (firsts_left old.others) → left old ≡ Frame old.others.next_second row ∷ left new
+    pub frame_met : (row : Row) → PassesSecond row old.others new.others
+        → IsAfter (λ (p : Piece). p.offset) row.offset (firsts_left old.others)
+        → left old ≡ Frame old.others.next_second row ∷ left new
     unfolding left
     frame_met row passes after =
         let number : ℕ = old.others.next_second in
-        let frames : frames_left old ≡ Frame number row ∷ frames_left new = ap (frames_from number) passes.seconds ∙ ap (λ n. Frame number row ∷ frames_from n (seconds_left new.others)) (sym passes.number) in
-        ap₂ (λ ls fs. merged_by offset_of (map Block (firsts_left old.others)) (ls ++ fs)) none frames
-        ∙ merged_other offset_of (map Block (firsts_left old.others)) (Frame number row) (frames_left new) (after_map offset_of Block row.offset (firsts_left old.others) after)
-        ∙ ap₂ (λ bs ls. Frame number row ∷ merged_by offset_of (map Block bs) (ls ++ frames_left new)) (sym passes.firsts) (sym none_now)
+        let frames : frames_left old ≡ Frame number row ∷ frames_left new =
+        ap (frames_from number) passes.seconds
+        ∙ ap (λ n. Frame number row ∷ frames_from n (seconds_left new.others)) (sym passes.number)
+        in
+        ap₂ (λ ls fs. merged_by offset_of (map Block (firsts_left old.others)) (ls ++ fs)) none
+        frames
+        ∙ merged_other offset_of (map Block (firsts_left old.others)) (Frame number row)
+        (frames_left new) (after_map offset_of Block row.offset (firsts_left old.others) after)
+        ∙ ap₂ (λ bs ls. Frame number row ∷ merged_by offset_of (map Block bs)
+        (ls ++ frames_left new)) (sym passes.firsts) (sym none_now)
 
-    pub block_alone : (piece : Piece) → PassesFirst piece old.others new.others → IsFrom (λ (r : Row). r.offset) piece.offset (seconds_left old.others) → left old ≡ Block piece ∷ left new
+    -- a block up to which no other thing comes is the next
+    pub block_alone : (piece : Piece) → PassesFirst piece old.others new.others
+        → IsFrom (λ (r : Row). r.offset) piece.offset (seconds_left old.others)
+        → left old ≡ Block piece ∷ left new
     block_alone piece passes from =
         block_first piece (none_now ∙ sym none) passes
-        (subst (λ ls. IsFrom offset_of piece.offset (ls ++ frames_left old)) (sym none) (from_frames piece.offset old.others.next_second (seconds_left old.others) from))
+        (subst (λ ls. IsFrom offset_of piece.offset (ls ++ frames_left old)) (sym none)
+        (from_frames piece.offset old.others.next_second (seconds_left old.others) from))
 
-pub none_met : (t : Things) → leading t ≡ [] → firsts_left t.others ≡ [] → seconds_left t.others ≡ [] → left t ≡ []
+-- where nothing leads and both lists are at their ends, nothing is left
+pub none_met : (t : Things) → leading t ≡ [] → firsts_left t.others ≡ []
+    → seconds_left t.others ≡ [] → left t ≡ []
 unfolding left merged_by
 none_met t none blocks frames = rw (none, blocks, frames) refl
 
+-- without junk and without a head nothing leads
 pub none_leading : (t : Things) → is_some t.junk ≡ false → is_some t.head ≡ false → leading t ≡ []
 none_leading t junk head = rw (none_left t.junk junk, none_left t.head head) refl
   where

@@ -1,21 +1,19 @@
 -- The info command: in a few lines, what a file is, whether frames are missing, and by how many
 -- steps its gains can move.
-use Rattle.std.specs.Prelude.{ℕ, ◌-◌, ◌==◌, ◌&&◌, if◌then◌else◌, Bool, true, List, [], ◌∷◌, ◌++◌, length, flat_map, codes, decimal, Option, Some, None}
-use Rattle.frame_header.specs.Fields.{ClassFields}
-use Rattle.info_header.specs.declared.fields.Info.{Info}
-use Rattle.info_header.specs.Info.{text_of}
-use Rattle.exact_span.specs.declared.extensions.Counts.{Counts}
-use Rattle.exact_span.specs.Extensions.{counts_of}
-use Rattle.exact_span.specs.PlayedPositions.{played_of, length_of_played}
-use Rattle.sync_survey.specs.Row.{Row}
-use Rattle.sync_survey.specs.Faults.{SurveyFields}
-use Rattle.moved_gains.specs.declared.gain_extremes.Gains.{Gains}
-use Rattle.moved_gains.specs.GainExtremes.{extremes_of, extremes_of_both}
-use Rattle.laying.specs.KeptFields.{fields_of_head}
+use Rattle.std.specs.Prelude.{Bool, codes, decimal, flat_map, if◌then◌else◌, length, List, None}
+use Rattle.std.specs.Prelude.{Option, Some, true, ℕ, [], ◌&&◌, ◌++◌, ◌-◌, ◌==◌, ◌∷◌}
 use Rattle.commands.specs.Command.{Command}
-use Rattle.list_edits.specs.Listing.{class_text, time_text, hundredths}
-use Rattle.list_edits.specs.TextCommand.{text_command}
-use Rattle.list_edits.specs.Totals.{lost_in, least_rate, greatest_rate, main_data_in, areas_in, stream_length}
+use Rattle.exact_span.specs.{Extensions.counts_of, PlayedPositions.{length_of_played, played_of}}
+use Rattle.exact_span.specs.declared.extensions.Counts.{Counts}
+use Rattle.frame_header.specs.Fields.{ClassFields}
+use Rattle.info_header.specs.{Info.text_of, declared.fields.Info.Info}
+use Rattle.laying.specs.KeptFields.{fields_of_head}
+use Rattle.list_edits.specs.{Listing.{class_text, hundredths, time_text}, TextCommand.text_command}
+use Rattle.list_edits.specs.Totals.{areas_in, greatest_rate, least_rate, lost_in, main_data_in}
+use Rattle.list_edits.specs.Totals.{stream_length}
+use Rattle.moved_gains.specs.GainExtremes.{extremes_of, extremes_of_both}
+use Rattle.moved_gains.specs.declared.gain_extremes.Gains.{Gains}
+use Rattle.sync_survey.specs.Faults.{SurveyFields}
 
 -- ---- the frames
 
@@ -24,24 +22,23 @@ abbrev pub class_line : ClassFields → List ℕ
 class_line class = class_text class ++ codes "\n"
 
 -- how many there are, how many of them are lost, and how long they sound
-abbrev pub frames_line : ClassFields → List Row → List ℕ
-frames_line class rows =
-    decimal (length rows) ++ (codes " frames, " ++ (decimal (lost_in rows) ++ (codes " lost, "
-    ++ (time_text (hundredths class (length rows)) ++ codes "\n"))))
+abbrev pub frames_line : ClassFields → ℕ → ℕ → List ℕ
+frames_line class count lost =
+    decimal count ++ (codes " frames, " ++ (decimal lost ++ (codes " lost, "
+    ++ (time_text (hundredths class count) ++ codes "\n"))))
 
+-- what is after the least of two numbers: the greatest, where it is another
 abbrev pub up_to : ℕ → ℕ → List ℕ
 up_to least greatest = if least == greatest then [] else codes " to " ++ decimal greatest
 
 -- the least and the greatest bit rate, in kbit/s, or the only one
-abbrev pub rates_line : List Row → List ℕ
-rates_line rows =
-    decimal (least_rate rows) ++ (up_to (least_rate rows) (greatest_rate rows) ++ codes " kbit/s\n")
+abbrev pub rates_line : ℕ → ℕ → List ℕ
+rates_line least greatest = decimal least ++ (up_to least greatest ++ codes " kbit/s\n")
 
 -- how many bytes of main data there are, and how many there could be
-abbrev pub main_data_line : SurveyFields → List ℕ
-main_data_line s =
-    decimal (main_data_in s.frames) ++ (codes " of "
-    ++ (decimal (areas_in s) ++ codes " bytes are main data\n"))
+abbrev pub main_data_line : ℕ → ℕ → List ℕ
+main_data_line bytes areas =
+    decimal bytes ++ (codes " of " ++ (decimal areas ++ codes " bytes are main data\n"))
 
 -- ---- the head
 
@@ -62,10 +59,12 @@ abbrev pub agrees : Option ℕ → ℕ → Bool
 agrees None n = true
 agrees (Some said) n = said == n
 
+-- neither number is another than the head has
 abbrev pub is_as_said : Option Info → ℕ → ℕ → Bool
 is_as_said None frames bytes = true
 is_as_said (Some info) frames bytes = agrees info.frames frames && agrees info.bytes bytes
 
+-- the line that says how many frames and bytes are here
 abbrev pub but_line : ℕ → ℕ → List ℕ
 but_line frames bytes =
     codes "but " ++ (decimal frames ++ (codes " frames, "
@@ -112,29 +111,36 @@ both_text None = codes "no gains\n"
 both_text (Some g) = steps_text g
 
 -- of the one channel
-abbrev pub mono_lines : List Row → List (List ℕ)
-mono_lines rows = (codes "mono: " ++ gains_text (extremes_of 0 rows)) ∷ []
+abbrev pub mono_lines : Option Gains → List (List ℕ)
+mono_lines gains = (codes "mono: " ++ gains_text gains) ∷ []
 
 -- of each of two, and of both
-abbrev pub stereo_lines : List Row → List (List ℕ)
-stereo_lines rows =
-    (codes "left: " ++ gains_text (extremes_of 0 rows))
-    ∷ (codes "right: " ++ gains_text (extremes_of 1 rows))
-    ∷ (codes "both: " ++ both_text (extremes_of_both rows)) ∷ []
+abbrev pub stereo_lines : Option Gains → Option Gains → Option Gains → List (List ℕ)
+stereo_lines left right both =
+    (codes "left: " ++ gains_text left) ∷ (codes "right: " ++ gains_text right)
+    ∷ (codes "both: " ++ both_text both) ∷ []
 
-abbrev pub gain_lines : ℕ → List Row → List (List ℕ)
-gain_lines channels rows = if channels == 1 then mono_lines rows else stereo_lines rows
+-- the lines of the gains, by the number of channels
+abbrev pub gain_lines : ℕ → Option Gains → Option Gains → Option Gains → List (List ℕ)
+gain_lines channels left right both =
+    if channels == 1 then mono_lines left else stereo_lines left right both
 
 -- ---- the command
 
 -- the 7 to 10 lines of a file with this head
 unfoldable pub info_lines : Option Info → SurveyFields → List (List ℕ)
 info_lines head s =
-    let count = length s.frames in
-    class_line s.class ∷ frames_line s.class s.frames ∷ rates_line s.frames ∷ main_data_line s
+    let rows = s.frames in
+    let count = length rows in
+    class_line s.class ∷ frames_line s.class count (lost_in rows)
+    ∷ rates_line (least_rate rows) (greatest_rate rows)
+    ∷ main_data_line (main_data_in rows) (areas_in s)
     ∷ head_line head ∷ (here_lines head count (stream_length s)
-    ++ (played_line head s.class count ∷ gain_lines s.class.channels s.frames))
+    ++ (played_line head s.class count
+    ∷ gain_lines s.class.channels (extremes_of 0 rows) (extremes_of 1 rows)
+    (extremes_of_both rows)))
 
+-- the text of a file with this head
 abbrev pub info_text : Option Info → SurveyFields → List ℕ
 info_text head s = flat_map (λ line. line) (info_lines head s)
 
@@ -142,5 +148,6 @@ info_text head s = flat_map (λ line. line) (info_lines head s)
 abbrev pub info_of : List ℕ → SurveyFields → List ℕ
 info_of file s = info_text (fields_of_head file s.head) s
 
+-- the command sends the text of its input
 abbrev pub info_command : List ℕ → Command
 info_command = text_command info_of

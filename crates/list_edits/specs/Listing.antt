@@ -1,23 +1,20 @@
 -- The list command: a line for each thing of a file, in order of the offsets, and a summary.
-use Rattle.std.specs.Prelude.{◌≡◌, ℕ, ◌*◌, ◌/◌, ◌%◌, Bool, if◌then◌else◌, List, [], ◌∷◌, ◌++◌, length, flat_map, codes, decimal}
-use Rattle.frame_header.specs.declared.version.Version.{Version}
-use Rattle.frame_header.specs.declared.version.Version.TheVariants.{One, Two, TwoFive}
-use Rattle.frame_header.specs.Fields.{ClassFields}
-use Rattle.frame_header.specs.Tables.{class_of, rate_of, length_of, frequency_of, samples_of}
-use Rattle.side_info.specs.Side.{payload_bits}
-use Rattle.tag_blocks.specs.declared.block.Kind.{Kind}
-use Rattle.tag_blocks.specs.declared.block.Kind.TheVariants.{Id3v2, Id3v1, Ape}
-use Rattle.sync_survey.specs.Row.{Row}
-use Rattle.sync_survey.specs.Faults.{SurveyFields}
-use Rattle.list_edits.specs.declared.things.Thing.{Thing}
-use Rattle.list_edits.specs.declared.things.Thing.TheVariants.{Block, Junk, FirstHead, Frame}
+use Rattle.std.specs.Prelude.{Bool, codes, decimal, flat_map, if◌then◌else◌, length, List, ℕ, []}
+use Rattle.std.specs.Prelude.{◌%◌, ◌*◌, ◌++◌, ◌/◌, ◌∷◌, ◌≡◌}
 use Rattle.commands.specs.Command.{Command}
-use Rattle.list_edits.specs.Decimals.{two_digits}
-use Rattle.list_edits.specs.Things.{things_of, in_order}
-use Rattle.list_edits.specs.TextCommand.{text_command}
+use Rattle.frame_header.specs.Fields.{ClassFields}
+use Rattle.frame_header.specs.Tables.{class_of, frequency_of, length_of, rate_of, samples_of}
+use Rattle.frame_header.specs.declared.version.Version.{Version, TheVariants.{One, Two, TwoFive}}
+use Rattle.list_edits.specs.{Decimals.two_digits, TextCommand.text_command}
+use Rattle.list_edits.specs.{Things.{in_order, things_of}, declared.things.Thing.Thing}
+use Rattle.list_edits.specs.declared.things.Thing.TheVariants.{Block, FirstHead, Frame, Junk}
+use Rattle.side_info.specs.Side.{payload_bits}
+use Rattle.sync_survey.specs.{Faults.SurveyFields, Row.Row}
+use Rattle.tag_blocks.specs.declared.block.Kind.{Kind, TheVariants.{Ape, Id3v1, Id3v2}}
 
 -- ---- the line of each thing
 
+-- the name of a block's kind
 abbrev pub kind_name : Kind → List ℕ
 kind_name Id3v2 = codes "ID3v2"
 kind_name Id3v1 = codes "ID3v1"
@@ -31,6 +28,7 @@ extent at size = codes " at " ++ (decimal at ++ (codes ": " ++ (decimal size ++ 
 abbrev pub rate_text : ℕ → List ℕ
 rate_text rate = codes ": " ++ (decimal rate ++ codes " kbit/s")
 
+-- a word where the frame is padded
 abbrev pub padding_text : Bool → List ℕ
 padding_text padding = if padding then codes " padded" else []
 
@@ -38,15 +36,21 @@ padding_text padding = if padding then codes " padded" else []
 abbrev pub lost_text : Bool → List ℕ
 lost_text lost = if lost then codes ", lost" else []
 
--- number and offset of a frame, its bit rate in kbit/s, its main_data_begin in bytes, and how many bits its main data are
+-- number and offset of a frame, its bit rate in kbit/s, its
+-- main_data_begin in bytes, and how many bits its main data are
 abbrev pub frame_line : ℕ → Row → List ℕ
 frame_line number row =
-    codes "frame " ++ (decimal number ++ (codes " at " ++ (decimal row.offset ++ (codes ": " ++ (decimal (rate_of (class_of row.header) row.header.slot)
-    ++ (codes " kbit/s" ++ (padding_text row.header.slot.padding ++ (codes ", begin " ++ (decimal row.side.main_data_begin ++ (codes ", bits " ++ (decimal (payload_bits row.side)
+    codes "frame " ++ (decimal number ++ (codes " at " ++ (decimal row.offset
+    ++ (codes ": " ++ (decimal (rate_of (class_of row.header) row.header.slot)
+    ++ (codes " kbit/s" ++ (padding_text row.header.slot.padding ++ (codes ", begin "
+    ++ (decimal row.side.main_data_begin ++ (codes ", bits " ++ (decimal (payload_bits row.side)
     ++ (lost_text row.lost ++ codes "\n"))))))))))))
 
+-- the line of a thing: its kind, its offset and its length in bytes; of a frame what `frame_line`
+-- says
 unfoldable pub line_of : Thing → List ℕ
-line_of (Block piece) = codes "block " ++ (kind_name piece.block.kind ++ extent piece.offset piece.block.length)
+line_of (Block piece) =
+    codes "block " ++ (kind_name piece.block.kind ++ extent piece.offset piece.block.length)
 line_of (Junk at size) = codes "junk" ++ extent at size
 line_of (FirstHead at header) = codes "head" ++ extent at (length_of (class_of header) header.slot)
 line_of (Frame number row) = frame_line number row
@@ -59,6 +63,7 @@ pub record IsNextLine (things rest : List Thing) (text : List ℕ) : Type 0 wher
 
 -- ---- the summary
 
+-- the name of a version
 abbrev pub version_name : Version → List ℕ
 version_name One = codes "MPEG-1"
 version_name Two = codes "MPEG-2"
@@ -70,20 +75,24 @@ hundredths class count = (count * samples_of class.version * 100) / frequency_of
 
 -- a time in hundredths of a second as minutes, seconds and hundredths, with dots between them
 abbrev pub time_text : ℕ → List ℕ
-time_text time = decimal (time / 6000) ++ (codes "." ++ (two_digits (time / 100 % 60) ++ (codes "." ++ two_digits (time % 100))))
+time_text time = decimal (time / 6000)
+    ++ (codes "." ++ (two_digits (time / 100 % 60) ++ (codes "." ++ two_digits (time % 100))))
 
 -- what the frames of a class share: the version, the sampling frequency, and the number of channels
 abbrev pub class_text : ClassFields → List ℕ
 class_text class =
-    version_name class.version ++ (codes ", " ++ (decimal (frequency_of class) ++ (codes " Hz, " ++ (decimal class.channels ++ codes " channels"))))
+    version_name class.version ++ (codes ", " ++ (decimal (frequency_of class)
+    ++ (codes " Hz, " ++ (decimal class.channels ++ codes " channels"))))
 
 -- how many frames there are, what they share, and how long they sound
 unfoldable pub summary : ClassFields → ℕ → List ℕ
 summary class count =
-    decimal count ++ (codes " frames, " ++ (class_text class ++ (codes ", " ++ (time_text (hundredths class count) ++ codes "\n"))))
+    decimal count ++ (codes " frames, "
+    ++ (class_text class ++ (codes ", " ++ (time_text (hundredths class count) ++ codes "\n"))))
 
 -- ---- the command
 
+-- the lines of these things
 abbrev pub lines_of : List Thing → List ℕ
 lines_of ts = flat_map line_of ts
 

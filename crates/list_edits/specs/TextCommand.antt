@@ -1,16 +1,16 @@
 -- A command that reads one file and sends a text of it. It writes no file.
-use Rattle.std.specs.Prelude.{ℕ, List, [], ◌∷◌, Option, Some, None, Result, Ok, Err, false}
-use Rattle.sync_survey.specs.declared.survey_fault.SurveyFault.{SurveyFault}
-use Rattle.sync_survey.specs.declared.survey_fault.SurveyFault.TheVariants.{Absent}
-use Rattle.sync_survey.specs.Faults.{SurveyFields}
-use Rattle.sync_survey.specs.Survey.{survey_of}
-use Rattle.commands.specs.declared.fault.EditFault.{EditFault}
-use Rattle.commands.specs.declared.fault.EditFault.TheVariants.{Input}
-use Rattle.commands.specs.One.{most_frames}
-use Rattle.commands.specs.Command.{Made, Command}
+use Rattle.std.specs.Prelude.{Err, false, IfErr, List, None, Ok, OnOk, Option, Result, Some, ℕ, []}
+use Rattle.std.specs.Prelude.{◌∷◌, ◌≡◌}
+use Rattle.commands.specs.{Command.{Command, HoldsStreams, Made}, Left.{HasNumbers, IsDone, Leaves}}
+use Rattle.commands.specs.{One.most_frames, Said.{fault_of, Says}}
+use Rattle.commands.specs.declared.fault.EditFault.{EditFault, TheVariants.Input}
+use Rattle.outside.specs.{Counts.OnlyReads, Seen.{Heard, Seen}}
+use Rattle.sync_survey.specs.{Faults.SurveyFields, Survey.survey_of}
+use Rattle.sync_survey.specs.declared.survey_fault.SurveyFault.{SurveyFault, TheVariants.Absent}
 
 -- the text of a survey, or its fault
-abbrev pub text_by : (SurveyFields → List ℕ) → Result SurveyFields SurveyFault → Result Made EditFault
+abbrev pub text_by : (SurveyFields → List ℕ) → Result SurveyFields SurveyFault
+    → Result Made EditFault
 text_by text (Err fault) = Err (Input 0 fault)
 text_by text (Ok s) = Ok (record { outputs = []; text = text s })
 
@@ -30,3 +30,17 @@ text_command text input = record {
   streams = λ files. [];
   refuses = λ refusal. false;
 }
+
+-- What the call of such a command says, whatever its answer.
+pub record IsTextRun (command : Command) (old new : Seen) (heard now : Heard)
+    (answer : Result (Unit {0}) EditFault) : Type 0 where
+  pub done : OnOk answer (IsDone command old new)
+  pub left : IfErr answer (Leaves command old new)
+  -- the text, of which a prefix was sent where a write failed
+  pub says : Says command old.files heard now (fault_of answer)
+  -- the fault is right over a folder that tells nothing too
+  pub numbers : IfErr answer (HasNumbers command)
+  -- the input is well-formed
+  pub streams : OnOk answer (HoldsStreams command old.files)
+  pub files : new.files ≡ old.files
+  pub counts : OnlyReads old.counts new.counts

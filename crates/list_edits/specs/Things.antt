@@ -1,15 +1,14 @@
 -- What is in a file, in order of the offsets.
-use Rattle.std.specs.Prelude.{ℕ, ◌-◌, nat_lt, if◌then◌else◌, List, [], ◌∷◌, ◌++◌, map, Option, Some, None, option_to_list, ◌≡◌}
 use Rattle.std.specs.List.{enumerate_from}
-use Rattle.sync_survey.specs.Order.{ordered_by, merged_by}
-use Rattle.sync_survey.specs.Merge.{firsts_left, seconds_left}
-use Rattle.sync_survey.specs.declared.places.Head.{Head}
-use Rattle.sync_survey.specs.Row.{Row}
-use Rattle.sync_survey.specs.Faults.{SurveyFields}
+use Rattle.std.specs.Prelude.{if◌then◌else◌, List, map, nat_lt, None, Option, option_to_list, Some}
+use Rattle.std.specs.Prelude.{ℕ, [], ◌++◌, ◌-◌, ◌∷◌, ◌≡◌}
 use Rattle.list_edits.specs.declared.things.Thing.{Thing}
-use Rattle.list_edits.specs.declared.things.Thing.TheVariants.{Block, Junk, FirstHead, Frame}
+use Rattle.list_edits.specs.declared.things.Thing.TheVariants.{Block, FirstHead, Frame, Junk}
 use Rattle.list_edits.specs.declared.things.Things.{Things}
+use Rattle.sync_survey.specs.{Faults.SurveyFields, Merge.{firsts_left, seconds_left}}
+use Rattle.sync_survey.specs.{Order.{merged_by, ordered_by}, Row.Row, declared.places.Head.Head}
 
+-- the offset of a thing
 abbrev pub offset_of : Thing → ℕ
 offset_of (Block piece) = piece.offset
 offset_of (Junk at length) = at
@@ -31,17 +30,21 @@ head_of first (Some head) = FirstHead first head.header ∷ []
 abbrev pub frames_from : ℕ → List Row → List Thing
 frames_from number rows = map (λ (p : ℕ × Row). Frame p.0 p.1) (enumerate_from number rows)
 
+-- the junk, the head and the frames of a file
 abbrev pub stream_things : SurveyFields → List Thing
 stream_things s = junk_of s ++ (head_of s.first s.head ++ frames_from 0 s.frames)
 
+-- all things of a file
 unfoldable pub things_of : SurveyFields → List Thing
 things_of s = map Block s.blocks ++ stream_things s
 
+-- the things in order of their offsets
 abbrev pub in_order : List Thing → List Thing
 in_order = ordered_by offset_of
 
 -- ---- what a walk over them hasn't met yet
 
+-- the junk and the head, where the walk hasn't met them yet
 abbrev pub leading : Things → List Thing
 leading t = option_to_list t.junk ++ option_to_list t.head
 
@@ -51,8 +54,10 @@ IsLeadingOffset None ts = ts ≡ []
 IsLeadingOffset (Some at) [] = ⊥
 IsLeadingOffset (Some at) (t ∷ ts) = at ≡ offset_of t
 
+-- the frames that the walk hasn't met yet
 abbrev pub frames_left : Things → List Thing
 frames_left t = frames_from t.others.next_second (seconds_left t.others)
 
+-- all that the walk hasn't met yet, in order
 unfoldable pub left : Things → List Thing
 left t = merged_by offset_of (map Block (firsts_left t.others)) (leading t ++ frames_left t)

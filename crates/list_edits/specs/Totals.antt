@@ -1,13 +1,16 @@
 -- What the frames of a file are together.
-use Rattle.std.specs.Prelude.{ℕ, ◌+◌, if◌then◌else◌, List, length, map, sum_by, unwrap_or, min, max, Option, Some, None}
 use Rattle.std.specs.List.{filter, reduce}
-use Rattle.frame_header.specs.Fields.{HeaderFields}
-use Rattle.frame_header.specs.Tables.{class_of, rate_of, length_of}
+use Rattle.std.specs.Prelude.{if◌then◌else◌, length, List, map, max, min, None, Option, Some}
+use Rattle.std.specs.Prelude.{sum_by, unwrap_or, ℕ, ◌*◌, ◌+◌, ◌≡◌, ◌≤◌}
+use Rattle.frame_header.specs.{Fields.HeaderFields, Tables.{class_of, length_of, rate_of}}
+use Rattle.list_edits.specs.declared.totals.{HeaderTotals.HeaderTotals, SideTotals.SideTotals}
+use Rattle.list_edits.specs.declared.totals.Totals.{Totals}
+use Rattle.moved_gains.specs.GainExtremes.{extremes, extremes_of, gains_at, joined}
 use Rattle.side_info.specs.Side.{payload_bytes}
+use Rattle.sync_survey.specs.{Faults.SurveyFields, MainData.{head_area, own_area}, Row.Row}
 use Rattle.sync_survey.specs.declared.places.Head.{Head}
-use Rattle.sync_survey.specs.Row.{Row}
-use Rattle.sync_survey.specs.MainData.{own_area, head_area}
-use Rattle.sync_survey.specs.Faults.{SurveyFields}
+
+-- ---- frames and their main data
 
 -- how many of these frames are lost
 abbrev pub lost_in : List Row → ℕ
@@ -15,24 +18,31 @@ lost_in rows = length (filter (λ (r : Row). r.lost) rows)
 
 -- ---- bit rates in kbit/s
 
+-- the bit rate of a frame in kbit/s
 abbrev pub rate_in : Row → ℕ
 rate_in r = rate_of (class_of r.header) r.header.slot
 
+-- those of these frames
 abbrev pub rates_in : List Row → List ℕ
 rates_in rows = map rate_in rows
 
--- the least and the greatest of the frames, of which there is one at least
+-- the least of the frames, of which there is one at least
 abbrev pub least_rate : List Row → ℕ
 least_rate rows = unwrap_or (reduce min (rates_in rows)) 0
 
+-- the greatest of them
 abbrev pub greatest_rate : List Row → ℕ
 greatest_rate rows = unwrap_or (reduce max (rates_in rows)) 0
 
 -- ---- bytes
 
--- the main data of the frames that aren't lost
+-- the main data of a frame; a lost one has none
+abbrev pub main_data_at : Row → ℕ
+main_data_at r = if r.lost then 0 else payload_bytes r.side
+
+-- those of all these frames
 abbrev pub main_data_in : List Row → ℕ
-main_data_in rows = sum_by (λ (r : Row). if r.lost then 0 else payload_bytes r.side) rows
+main_data_in rows = sum_by main_data_at rows
 
 -- the areas of frames
 abbrev pub row_areas : List Row → ℕ
@@ -46,13 +56,56 @@ areas_in s = head_area s.head + row_areas s.frames
 abbrev pub frame_length : HeaderFields → ℕ
 frame_length h = length_of (class_of h) h.slot
 
+-- the length of the head in bytes
 abbrev pub head_length : Option Head → ℕ
 head_length None = 0
 head_length (Some head) = frame_length head.header
 
+-- the length of these frames together in bytes
 abbrev pub row_lengths : List Row → ℕ
 row_lengths rows = sum_by (λ (r : Row). frame_length r.header) rows
 
--- the head and all frames
+-- the length of the head and all frames in bytes
 abbrev pub stream_length : SurveyFields → ℕ
 stream_length s = head_length s.head + row_lengths s.frames
+
+-- ---- the totals of a walk over frames
+
+-- before the first frame, which has this bit rate
+abbrev pub no_headers : ℕ → HeaderTotals
+no_headers rate = record { areas = 0; lengths = 0; least_rate = rate; greatest_rate = rate }
+
+-- and by its side information
+abbrev pub no_sides : SideTotals
+no_sides = record { lost = 0; main_data = 0; left = None; right = None }
+
+-- and with a frame more
+abbrev pub with_header : HeaderFields → HeaderTotals → HeaderTotals
+with_header h t = record {
+  areas = t.areas + own_area h;
+  lengths = t.lengths + frame_length h;
+  least_rate = min t.least_rate (rate_of (class_of h) h.slot);
+  greatest_rate = max t.greatest_rate (rate_of (class_of h) h.slot);
+}
+
+-- and what it adds by its side information
+abbrev pub with_side : Row → SideTotals → SideTotals
+with_side r t = record {
+  lost = t.lost + (if r.lost then 1 else 0);
+  main_data = t.main_data + main_data_at r;
+  left = joined t.left (extremes (gains_at 0 r));
+  right = joined t.right (extremes (gains_at 1 r));
+}
+
+-- they are those of these frames
+pub record AreTotals (rows : List Row) (t : Totals) : Type 0 where
+  pub areas : t.headers.areas ≡ row_areas rows
+  pub few_areas : t.headers.areas ≤ 1441 * length rows
+  pub lengths : t.headers.lengths ≡ row_lengths rows
+  pub few_lengths : t.headers.lengths ≤ 1441 * length rows
+  pub least_rate : t.headers.least_rate ≡ least_rate rows
+  pub greatest_rate : t.headers.greatest_rate ≡ greatest_rate rows
+  pub lost : t.sides.lost ≡ lost_in rows
+  pub main_data : t.sides.main_data ≡ main_data_in rows
+  pub left : t.sides.left ≡ extremes_of 0 rows
+  pub right : t.sides.right ≡ extremes_of 1 rows

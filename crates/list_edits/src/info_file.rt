@@ -1,53 +1,23 @@
 //! The info command over a folder.
-ghost use Rattle.std.specs.Prelude.{◌≡◌, ◌≤◌, [], Ok, IfOk, OnOk, OnErr, IfErr, length, flat_map, option_copied};
-ghost use Rattle.outside.specs.Files.{sent_more, IsThere};
+ghost use Rattle.std.specs.Prelude.{◌≡◌, ◌≤◌, [], OnOk, OnErr, length, flat_map, option_copied};
+ghost use Rattle.outside.specs.Files.{sent_more};
 ghost use Rattle.outside.specs.Passed.{SentPrefix};
-ghost use Rattle.outside.specs.Counts.{HasCause, OnlyReads};
-ghost use Rattle.outside.specs.Seen.{OnFile, OnlyRead};
+ghost use Rattle.outside.specs.Counts.{HasCause};
 ghost use Rattle.sync_survey.specs.Faults.{tells};
-ghost use Rattle.sync_survey.specs.Survey.{survey_of, IsLaidOut};
-ghost use Rattle.laying.specs.KeptFields.{fields_of_head};
-ghost use Rattle.commands.specs.Command.{HoldsStreams};
-ghost use Rattle.commands.specs.Left.{IsDone, Leaves, HasNumbers, IsOfSurvey};
-ghost use Rattle.commands.specs.One.{most_frames, IsFileFault};
-ghost use Rattle.commands.specs.Said.{Says, fault_of};
-ghost use Rattle.list_edits.specs.InfoText.{info_text, info_command};
+ghost use Rattle.sync_survey.specs.Survey.{IsLaidOut};
+ghost use Rattle.commands.specs.One.{most_frames};
+ghost use Rattle.list_edits.specs.InfoText.{info_text, info_of, info_command};
+ghost use Rattle.list_edits.specs.TextCommand.{IsTextRun};
 
+use crate::file_text::{FileText, send_text};
 use crate::info_lines::info_lines;
 use crate::line::Line;
-use commands::{EditFault, MOST_FRAMES, survey_at};
+use commands::EditFault;
 use info_header::Info;
 use laying::head_fields;
 use outside::{Failed, Folder, SendBuffer, Sink};
 use std::alloc::Global;
 use sync_survey::Survey;
-
-/// The fields of the head of the input, if it has one. The files stay.
-///
-/// # Errors
-/// `Input(0, ..)` with `Read` and `Shrunk` where the frame of the head could not be read.
-fn read_head<D: Folder>(
-    folder: &mut D,
-    input: &str,
-    survey: &Survey,
-) -> Result<Option<Info>, EditFault>
-    requires there { IsThere (D.seen folder.old).files input.now }
-    requires laid { IsLaidOut (tells survey.now) }
-    requires surveyed { OnFile (D.seen folder.old) input.now
-        (λ bytes. survey_of bytes most_frames ≡ Ok (tells survey.now)) }
-    ensures head { IfOk result (λ head. OnFile (D.seen folder.old) input.now
-        (λ bytes. head ≡ fields_of_head bytes (tells survey.now).head)) }
-    ensures refused { IfErr result (IsFileFault 0 most_frames input.now
-        (D.seen folder.old)
-        (D.seen folder.new)) }
-    ensures numbers { IfErr result (IsOfSurvey 0) }
-    ensures reads { OnlyRead result (D.seen folder.old) (D.seen folder.new) }
-{
-    match head_fields(folder, input, survey) {
-        Ok(head) => Ok(head),
-        Err(fault) => Err(EditFault::of_pass(0, 0, fault)),
-    }
-}
 
 /// Sends some lines. It takes no memory.
 ///
@@ -67,16 +37,16 @@ fn send_lines<T: Sink>(lines: &[Line], mut buffer: SendBuffer, out: &mut T) -> R
     buffer.finish(out)
 }
 
-/// The last step of the command: sends the lines of the file with this head. All memory was taken before.
+/// Sends the lines of the file with this head. It takes no memory.
 ///
 /// # Errors
-/// `Sent` where a write failed. Then a prefix of the text was sent.
-fn tell_info<T: Sink>(
+/// Where a write failed. Then a prefix of the text was sent.
+fn send_info<T: Sink>(
     survey: &Survey,
     head: Option<&Info>,
     buffer: SendBuffer,
     out: &mut T,
-) -> Result<(), EditFault>
+) -> Result<(), Failed>
     requires laid { IsLaidOut (tells survey.now) }
     requires few { length (tells survey.now).frames ≤ most_frames }
     requires empty { buffer ≡ [] }
@@ -85,11 +55,35 @@ fn tell_info<T: Sink>(
     ensures prefix { OnErr result (SentPrefix (info_text (option_copied head.entry)
         (tells survey.now)) (T.heard out.old).sent (T.heard out.new).sent) }
     ensures cause { HasCause (T.heard out.old).faults (T.heard out.new).faults result }
-    ensures fault { IfErr result (λ fault. fault ≡ EditFault.Sent) }
 {
-    match send_lines(&info_lines(survey, head), buffer, out) {
-        Ok(()) => Ok(()),
-        Err(Failed) => Err(EditFault::Sent),
+    send_lines(&info_lines(survey, head), buffer, out)
+}
+
+/// The text of `info`, which needs the fields of the head, if the file has one.
+#[derive(Drop)]
+struct FileInfo {
+    head: Option<Info>,
+}
+
+impl FileText for FileInfo {
+    ghost text = { info_of };
+
+    ghost said = { λ it. info_text it.head };
+
+    fn read<D: Folder>(folder: &mut D, input: &str, survey: &Survey) -> Result<Self, EditFault> {
+        match head_fields(folder, input, survey) {
+            Ok(head) => Ok(FileInfo { head }),
+            Err(fault) => Err(EditFault::of_pass(0, 0, fault)),
+        }
+    }
+
+    fn send<T: Sink>(
+        &self,
+        survey: &Survey,
+        buffer: SendBuffer,
+        out: &mut T,
+    ) -> Result<(), Failed> {
+        send_info(survey, self.head.as_ref(), buffer, out)
     }
 }
 
@@ -121,26 +115,11 @@ pub fn info<D: Folder, T: Sink>(
     input: &str,
     out: &mut T,
 ) -> Result<(), EditFault>
-    ensures done { OnOk result (IsDone (info_command input.now)
+    ensures { IsTextRun (info_command input.now)
         (D.seen folder.old)
-        (D.seen folder.new)) }
-    ensures left { IfErr result (Leaves (info_command input.now)
-        (D.seen folder.old)
-        (D.seen folder.new)) }
-    // The text, of which a prefix was sent where a write failed.
-    ensures says { Says (info_command input.now) (D.seen folder.old).files
+        (D.seen folder.new)
         (T.heard out.old) (T.heard out.new)
-        (fault_of result) }
-    // Over a folder that tells nothing too.
-    ensures numbers { IfErr result (HasNumbers (info_command input.now)) }
-    // The input is well-formed.
-    ensures streams { OnOk result (HoldsStreams (info_command input.now)
-        (D.seen folder.old).files) }
-    ensures files { (D.seen folder.new).files ≡ (D.seen folder.old).files }
-    ensures counts { OnlyReads (D.seen folder.old).counts (D.seen folder.new).counts }
+        result }
 {
-    let survey = survey_at(alloc, folder, input, 0, MOST_FRAMES)?;
-    let head = read_head(folder, input, &survey)?;
-    let buffer = SendBuffer::new(alloc)?;
-    tell_info(&survey, head.as_ref(), buffer, out)
+    send_text::<FileInfo, D, T>(alloc, folder, input, out)
 }

@@ -3,17 +3,17 @@ ghost use Rattle.std.specs.Prelude.{◌≡◌, ◌+◌, ◌≤◌, if◌then◌e
 ghost use Rattle.sync_survey.specs.Faults.{tells};
 ghost use Rattle.sync_survey.specs.Survey.{IsLaidOut};
 ghost use Rattle.commands.specs.One.{most_frames};
-ghost use Rattle.moved_gains.specs.GainExtremes.{HasChannel};
+ghost use Rattle.moved_gains.specs.GainExtremes.{joined as joined_lem};
 ghost use Rattle.list_edits.specs.InfoText.{class_line as class_line_lem, frames_line as frames_line_lem, rates_line as rates_line_lem, main_data_line as main_data_line_lem, number_text, head_line as head_line_lem, agrees as agrees_lem, is_as_said as is_as_said_lem, but_line, counts_text, played_line as played_line_lem, steps_text, gains_text, both_text, mono_lines as mono_lines_lem, stereo_lines as stereo_lines_lem, gain_lines as gain_lines_lem, info_text};
 
 use crate::line::Line;
 use crate::lines::{put_class, set_duration};
-use crate::totals::{Rates, areas_in, lost_in, main_data_in, rates_in, stream_length};
+use crate::totals::{Totals, areas_in, stream_length, totals_in};
 use exact_span::{Counts, Played, counts_of};
 use frame_header::Class;
 use info_header::Info;
-use moved_gains::{Gains, gains_of, joined};
-use sync_survey::{Row, Survey};
+use moved_gains::{Gains, joined};
+use sync_survey::Survey;
 
 /// What all frames share.
 fn class_line(class: Class) -> Line
@@ -26,22 +26,20 @@ fn class_line(class: Class) -> Line
 }
 
 /// How many frames there are, how many of them are lost, and how long they sound.
-fn frames_line(class: Class, rows: &[Row]) -> Line
-    ensures { result ≡ frames_line_lem class rows.now }
+fn frames_line(class: Class, count: u64, lost: u64) -> Line
+    ensures { result ≡ frames_line_lem class count lost }
 {
-    let count = rows.len() as u64;
     let mut line = Line::new();
     set_duration(&mut line, class, count);
-    line.put_counted(lost_in(rows), b" lost, ");
+    line.put_counted(lost, b" lost, ");
     line.put_counted(count, b" frames, ");
     line
 }
 
-/// The least and the greatest bit rate, or the only one.
-fn rates_line(rows: &[Row]) -> Line
-    ensures { result ≡ rates_line_lem rows.now }
+/// The least and the greatest bit rate in kbit/s, or the only one.
+fn rates_line(least: u32, greatest: u32) -> Line
+    ensures { result ≡ rates_line_lem least greatest }
 {
-    let Rates { least, greatest } = rates_in(rows);
     let mut line = Line::new();
     line.put(b" kbit/s\n");
     if least != greatest {
@@ -53,13 +51,12 @@ fn rates_line(rows: &[Row]) -> Line
 }
 
 /// How many bytes of main data there are, and how many there could be.
-fn main_data_line(survey: &Survey) -> Line
-    requires { length (tells survey.now).frames ≤ most_frames }
-    ensures { result ≡ main_data_line_lem (tells survey.now) }
+fn main_data_line(bytes: u64, areas: u64) -> Line
+    ensures { result ≡ main_data_line_lem bytes areas }
 {
     let mut line = Line::new();
-    line.put_counted(areas_in(survey), b" bytes are main data\n");
-    line.put_counted(main_data_in(survey.frames()), b" of ");
+    line.put_counted(areas, b" bytes are main data\n");
+    line.put_counted(bytes, b" of ");
     line
 }
 
@@ -198,56 +195,36 @@ fn both_line(gains: Option<Gains>) -> Line
     line
 }
 
-/// The line of the one channel, and two empty ones.
-fn mono_lines(rows: &[Row]) -> (Line, Line, Line)
-    requires { HasChannel 0 rows.now }
+/// The line of the one channel, which has these gains, and two empty ones.
+fn mono_lines(gains: Option<Gains>) -> (Line, Line, Line)
     ensures { result.0 ++ (result.1 ++ (result.2 ++ [])) ≡ flat_map (λ line. line)
-        (mono_lines_lem rows.now) }
+        (mono_lines_lem gains) }
 {
-    let gains = gains_of(rows, 0);
     (channel_line(b"mono: ", gains), Line::new(), Line::new())
 }
 
-/// The lines of the two channels, and that of both.
-fn stereo_lines(rows: &[Row]) -> (Line, Line, Line)
-    requires left { HasChannel 0 rows.now }
-    requires right { HasChannel 1 rows.now }
+/// The lines of the two channels, which have these gains, and that of both.
+fn stereo_lines(left: Option<Gains>, right: Option<Gains>) -> (Line, Line, Line)
     ensures { result.0 ++ (result.1 ++ (result.2 ++ [])) ≡ flat_map (λ line. line)
-        (stereo_lines_lem rows.now) }
+        (stereo_lines_lem left right (joined_lem left right)) }
 {
-    let left = gains_of(rows, 0);
-    let right = gains_of(rows, 1);
-    let both = joined(left, right);
     (
         channel_line(b"left: ", left),
         channel_line(b"right: ", right),
-        both_line(both),
+        both_line(joined(left, right)),
     )
 }
 
-/// The lines of so many channels.
-fn channel_lines(channels: u8, rows: &[Row]) -> (Line, Line, Line)
-    requires left { HasChannel 0 rows.now }
-    requires right { (channels ≡ 1 → ⊥) → HasChannel 1 rows.now }
+/// The lines of so many channels. If there is one, `left` has its gains.
+fn gain_lines(channels: u8, left: Option<Gains>, right: Option<Gains>) -> (Line, Line, Line)
     ensures { result.0 ++ (result.1 ++ (result.2 ++ [])) ≡ flat_map (λ line. line)
-        (gain_lines_lem channels rows.now) }
+        (gain_lines_lem channels left right (joined_lem left right)) }
 {
     if channels == 1 {
-        mono_lines(rows)
+        mono_lines(left)
     } else {
-        stereo_lines(rows)
+        stereo_lines(left, right)
     }
-}
-
-/// The lines of the channels of a surveyed file, and that of both.
-fn gain_lines(survey: &Survey) -> (Line, Line, Line)
-    requires { IsLaidOut (tells survey.now) }
-    ensures { result.0 ++ (result.1 ++ (result.2 ++ [])) ≡ flat_map (λ line. line)
-        (gain_lines_lem (tells survey.now).class.channels (tells survey.now).frames) }
-{
-    let class = survey.class();
-    let rows = survey.frames();
-    channel_lines(class.channels, rows)
 }
 
 /// All lines of a surveyed file with this head, at most 10. The others are empty.
@@ -258,16 +235,18 @@ pub(crate) fn info_lines(survey: &Survey, head: Option<&Info>) -> [Line; 10]
         (tells survey.now) }
 {
     let class = survey.class();
-    let rows = survey.frames();
-    let (left, right, both) = gain_lines(survey);
+    let count = survey.frames().len();
+    let totals = totals_in(survey);
+    let Totals { headers, sides } = totals;
+    let (left, right, both) = gain_lines(class.channels, sides.left, sides.right);
     [
         class_line(class),
-        frames_line(class, rows),
-        rates_line(rows),
-        main_data_line(survey),
+        frames_line(class, count as u64, sides.lost),
+        rates_line(headers.least_rate, headers.greatest_rate),
+        main_data_line(sides.main_data, areas_in(survey, &totals)),
         head_line(head),
-        here_line(head, rows.len() as u64, stream_length(survey)),
-        played_line(head, class, rows.len() as u32),
+        here_line(head, count as u64, stream_length(survey, &totals)),
+        played_line(head, class, count as u32),
         left,
         right,
         both,

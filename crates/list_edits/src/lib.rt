@@ -1,6 +1,7 @@
 //! The commands that send a text of one file: `list`, what it holds, and `info`, what it is in a few lines.
 #![tactic(auto)]
 
+mod file_text;
 mod info_file;
 mod info_lines;
 mod leading_digits;

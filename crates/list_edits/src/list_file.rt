@@ -1,19 +1,18 @@
 //! The list command over a folder.
-ghost use Rattle.std.specs.Prelude.{◌≡◌, [], OnOk, OnErr, IfErr};
+ghost use Rattle.std.specs.Prelude.{◌≡◌, [], OnOk, OnErr};
 ghost use Rattle.outside.specs.Files.{sent_more};
 ghost use Rattle.outside.specs.Passed.{SentPrefix};
-ghost use Rattle.outside.specs.Counts.{HasCause, OnlyReads};
+ghost use Rattle.outside.specs.Counts.{HasCause};
 ghost use Rattle.sync_survey.specs.Faults.{tells};
 ghost use Rattle.sync_survey.specs.Survey.{IsLaidOut};
-ghost use Rattle.commands.specs.Command.{HoldsStreams};
-ghost use Rattle.commands.specs.Left.{IsDone, Leaves, HasNumbers};
 ghost use Rattle.list_edits.specs.Listing.{listing, list_command};
-ghost use Rattle.commands.specs.Said.{Says, fault_of};
+ghost use Rattle.list_edits.specs.TextCommand.{IsTextRun};
 
+use crate::file_text::{FileText, send_text};
 use crate::line::Line;
 use crate::lines::{Common, set_next_line, set_summary};
 use crate::things::Things;
-use commands::{EditFault, MOST_FRAMES, survey_at};
+use commands::EditFault;
 use outside::{Failed, Folder, SendBuffer, Sink};
 use std::alloc::Global;
 use sync_survey::Survey;
@@ -43,23 +42,26 @@ fn send_listing<T: Sink>(survey: &Survey, mut buffer: SendBuffer, out: &mut T) -
     buffer.finish(out)
 }
 
-/// The last step of the command: sends the lines of the file and its summary. All memory was taken before.
-///
-/// # Errors
-/// `Sent` where a write failed. Then a prefix of the text was sent.
-fn tell<T: Sink>(survey: &Survey, buffer: SendBuffer, out: &mut T) -> Result<(), EditFault>
-    requires laid { IsLaidOut (tells survey.now) }
-    requires empty { buffer ≡ [] }
-    ensures sent { OnOk result ((T.heard out.new).sent ≡ sent_more (T.heard out.old).sent
-        (listing (tells survey.now))) }
-    ensures prefix { OnErr result (SentPrefix (listing (tells survey.now)) (T.heard out.old).sent
-        (T.heard out.new).sent) }
-    ensures cause { HasCause (T.heard out.old).faults (T.heard out.new).faults result }
-    ensures fault { IfErr result (λ fault. fault ≡ EditFault.Sent) }
-{
-    match send_listing(survey, buffer, out) {
-        Ok(()) => Ok(()),
-        Err(Failed) => Err(EditFault::Sent),
+/// The text of `list`, which needs nothing but the survey.
+#[derive(Drop)]
+struct FileList;
+
+impl FileText for FileList {
+    ghost text = { λ file. listing };
+
+    ghost said = { λ it. listing };
+
+    fn read<D: Folder>(_folder: &mut D, _input: &str, _survey: &Survey) -> Result<Self, EditFault> {
+        Ok(FileList)
+    }
+
+    fn send<T: Sink>(
+        &self,
+        survey: &Survey,
+        buffer: SendBuffer,
+        out: &mut T,
+    ) -> Result<(), Failed> {
+        send_listing(survey, buffer, out)
     }
 }
 
@@ -89,25 +91,11 @@ pub fn list<D: Folder, T: Sink>(
     input: &str,
     out: &mut T,
 ) -> Result<(), EditFault>
-    ensures done { OnOk result (IsDone (list_command input.now)
+    ensures { IsTextRun (list_command input.now)
         (D.seen folder.old)
-        (D.seen folder.new)) }
-    ensures left { IfErr result (Leaves (list_command input.now)
-        (D.seen folder.old)
-        (D.seen folder.new)) }
-    // The text, of which a prefix was sent where a write failed.
-    ensures says { Says (list_command input.now) (D.seen folder.old).files
+        (D.seen folder.new)
         (T.heard out.old) (T.heard out.new)
-        (fault_of result) }
-    // Over a folder that tells nothing too.
-    ensures numbers { IfErr result (HasNumbers (list_command input.now)) }
-    // The input is well-formed.
-    ensures streams { OnOk result (HoldsStreams (list_command input.now)
-        (D.seen folder.old).files) }
-    ensures files { (D.seen folder.new).files ≡ (D.seen folder.old).files }
-    ensures counts { OnlyReads (D.seen folder.old).counts (D.seen folder.new).counts }
+        result }
 {
-    let survey = survey_at(alloc, folder, input, 0, MOST_FRAMES)?;
-    let buffer = SendBuffer::new(alloc)?;
-    tell(&survey, buffer, out)
+    send_text::<FileList, D, T>(alloc, folder, input, out)
 }

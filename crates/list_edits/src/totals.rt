@@ -1,95 +1,150 @@
-//! What the frames of a file are together.
-ghost use Rattle.std.specs.Prelude.{◌≡◌, ◌≤◌, ◌*◌, length, min, max};
-ghost use Rattle.frame_header.specs.Tables.{class_of, rate_of};
+//! What the frames of a file are together, by one walk over them.
+ghost use Rattle.std.specs.Prelude.{◌≡◌, ◌+◌, ◌*◌, ◌^◌, ◌<◌, ◌≤◌, length};
+ghost use Rattle.frame_header.specs.Tables.{class_of};
 ghost use Rattle.sync_survey.specs.MainData.{head_area as head_area_lem};
 ghost use Rattle.sync_survey.specs.Faults.{tells};
+ghost use Rattle.sync_survey.specs.Survey.{IsLaidOut};
 ghost use Rattle.commands.specs.One.{most_frames};
-ghost use Rattle.list_edits.specs.Totals.{lost_in as lost_in_lem, least_rate, greatest_rate, main_data_in as main_data_in_lem, row_areas as row_areas_lem, areas_in as areas_in_lem, head_length as head_length_lem, row_lengths as row_lengths_lem, stream_length as stream_length_lem};
+ghost use Rattle.moved_gains.specs.Moving.{AreOfClass};
+ghost use Rattle.list_edits.specs.Totals.{areas_in as areas_in_lem, head_length as head_length_lem, stream_length as stream_length_lem, rate_in, with_header, with_side, no_sides, no_headers, AreTotals};
 
+use frame_header::{Class, Version};
+use moved_gains::{Gains, gains_in, joined};
 use sync_survey::{Head, Row, Survey};
 
-/// How many of the frames are lost.
-pub(crate) fn lost_in(rows: &[Row]) -> u64
-    ensures { result ≡ lost_in_lem rows.now }
-{
-    rows.iter().filter(|row| row.lost()).count() as u64
-}
-
-/// The bit rate of a frame in kbit/s.
-fn rate(row: &Row) -> u32
-    ensures { result ≡ rate_of (class_of row.now.header) row.now.header.slot }
-{
-    let front = row.front();
-    front.class().rate(front.slot())
-}
-
-/// The least and the greatest of some bit rates, in kbit/s.
+/// What the headers of some frames tell: the least and the greatest bit rate in kbit/s, and how many bytes the areas and the
+/// frames have.
 #[derive(Clone, Copy)]
-pub(crate) struct Rates {
-    pub(crate) least: u32,
-    pub(crate) greatest: u32,
+pub(crate) struct HeaderTotals {
+    pub(crate) areas: u64,
+    pub(crate) lengths: u64,
+    pub(crate) least_rate: u32,
+    pub(crate) greatest_rate: u32,
 }
 
-/// Those of one rate more.
-fn and_rate(rates: Rates, rate: u32) -> Rates
-    ensures least { result.least ≡ min rates.least rate }
-    ensures greatest { result.greatest ≡ max rates.greatest rate }
-{
-    Rates {
-        least: rates.least.min(rate),
-        greatest: rates.greatest.max(rate),
-    }
+/// What the side information of some frames tells: how many frames are lost, how many bytes of main data the others have, and
+/// the least and the greatest gain of each channel that move.
+#[derive(Clone, Copy)]
+pub(crate) struct SideTotals {
+    pub(crate) lost: u64,
+    pub(crate) main_data: u64,
+    pub(crate) left: Option<Gains>,
+    pub(crate) right: Option<Gains>,
 }
 
-/// Those of the frames; 0 where there is no frame.
-pub(crate) fn rates_in(rows: &[Row]) -> Rates
-    ensures least { result.least ≡ least_rate rows.now }
-    ensures greatest { result.greatest ≡ greatest_rate rows.now }
-{
-    let Some(first) = rows.first() else {
-        return Rates {
-            least: 0,
-            greatest: 0,
-        };
-    };
-    let start = rate(first);
-    let mut rates = Rates {
-        least: start,
-        greatest: start,
-    };
-    for row in rows {
-        let next = rate(row);
-        rates = and_rate(rates, next);
-    }
-    rates
+/// What some frames are together.
+#[derive(Clone, Copy)]
+pub(crate) struct Totals {
+    pub(crate) headers: HeaderTotals,
+    pub(crate) sides: SideTotals,
 }
 
-/// How many bytes of main data the frames have that aren't lost.
-pub(crate) fn main_data_in(rows: &[Row]) -> u64
-    requires { length rows.now ≤ most_frames }
-    ensures { result ≡ main_data_in_lem rows.now }
+/// The bit rate of a frame of this class, in kbit/s.
+#[inline(always)]
+fn bit_rate(class: Class, row: &Row) -> u32
+    requires { class_of row.now.header ≡ class }
+    ensures { result ≡ rate_in row.now }
 {
-    let mut bytes = 0;
-    for row in rows {
-        if !row.lost() {
-            bytes += u64::from(row.front().payload_bytes());
+    class.rate(row.front().slot())
+}
+
+impl HeaderTotals {
+    /// Those of no frame, where the first one has this bit rate.
+    fn before(rate: u32) -> HeaderTotals
+        ensures { result ≡ no_headers rate }
+    {
+        HeaderTotals {
+            areas: 0,
+            lengths: 0,
+            least_rate: rate,
+            greatest_rate: rate,
         }
     }
-    bytes
+
+    /// Adds a frame of this class.
+    #[inline(always)]
+    fn add(&mut self, class: Class, row: &Row)
+        requires class { class_of row.now.header ≡ class }
+        requires areas { self.old.areas ≤ 2 ^ 62 }
+        requires lengths { self.old.lengths ≤ 2 ^ 62 }
+        ensures with { self.new ≡ with_header row.now.header self.old }
+        ensures areas { self.new.areas ≤ self.old.areas + 1441 }
+        ensures lengths { self.new.lengths ≤ self.old.lengths + 1441 }
+    {
+        let front = row.front();
+        let slot = front.slot();
+        let rate = bit_rate(class, row);
+        self.areas += u64::from(class.area_of(slot, front.protected()));
+        self.lengths += u64::from(class.length_of(slot));
+        self.least_rate = self.least_rate.min(rate);
+        self.greatest_rate = self.greatest_rate.max(rate);
+    }
 }
 
-/// How many bytes the areas of the frames have.
-fn row_areas(rows: &[Row]) -> u64
-    requires { length rows.now ≤ most_frames }
-    ensures areas { result ≡ row_areas_lem rows.now }
-    ensures few { result ≤ 1441 * most_frames }
-{
-    let mut bytes = 0;
-    for row in rows {
-        let front = row.front();
-        bytes += u64::from(front.class().area_of(front.slot(), front.protected()));
+impl SideTotals {
+    /// Those of no frame.
+    fn none() -> SideTotals
+        ensures { result ≡ no_sides }
+    {
+        SideTotals {
+            lost: 0,
+            main_data: 0,
+            left: None,
+            right: None,
+        }
     }
-    bytes
+
+    /// Adds a frame of this class.
+    #[inline(always)]
+    fn add(&mut self, class: Class, row: &Row)
+        requires class { class_of row.now.header ≡ class }
+        requires lost { self.old.lost ≤ 2 ^ 62 }
+        requires main_data { self.old.main_data ≤ 2 ^ 62 }
+        ensures with { self.new ≡ with_side row.now self.old }
+        ensures lost { self.new.lost ≤ self.old.lost + 1 }
+        ensures main_data { self.new.main_data ≤ self.old.main_data + 2 ^ 32 }
+    {
+        if row.lost() {
+            self.lost += 1;
+            return;
+        }
+        let side = row.front().side_in(class);
+        self.main_data += u64::from(side.payload_bytes());
+        self.left = joined(self.left, gains_in(&side, 0));
+        self.right = joined(self.right, gains_in(&side, 1));
+    }
+}
+
+/// The totals of frames of this class.
+#[inline(always)]
+fn totals_of(class: Class, rows: &[Row]) -> Totals
+    requires classed { AreOfClass class rows.now }
+    requires some { 0 < length rows.now }
+    requires few { length rows.now ≤ most_frames }
+    ensures { AreTotals rows.now result }
+{
+    let mut headers = HeaderTotals::before(bit_rate(class, &rows[0]));
+    let mut sides = SideTotals::none();
+    for row in rows {
+        headers.add(class, row);
+        sides.add(class, row);
+    }
+    Totals { headers, sides }
+}
+
+/// The totals of the frames of a surveyed file. In MPEG-1 with two channels, the most frequent class, the compiler knows the
+/// places of all fields. It takes no memory.
+pub(crate) fn totals_in(survey: &Survey) -> Totals
+    requires laid { IsLaidOut (tells survey.now) }
+    requires few { length (tells survey.now).frames ≤ most_frames }
+    ensures { AreTotals (tells survey.now).frames result }
+{
+    let class = survey.class();
+    let rows = survey.frames();
+    match (class.version, class.channels) {
+        (Version::One, 2) => totals_of(class.known_stereo(), rows),
+        _ => totals_of(class, rows),
+    }
 }
 
 /// How many bytes the head's area has, if there is a head.
@@ -103,26 +158,13 @@ fn head_area(head: Option<Head>) -> u64
     }
 }
 
-/// How many bytes the areas of the head and of all frames have.
-pub(crate) fn areas_in(survey: &Survey) -> u64
-    requires { length (tells survey.now).frames ≤ most_frames }
+/// How many bytes the areas of the head and of all frames have, of which these are the totals.
+pub(crate) fn areas_in(survey: &Survey, totals: &Totals) -> u64
+    requires totals { AreTotals (tells survey.now).frames totals.now }
+    requires few { length (tells survey.now).frames ≤ most_frames }
     ensures { result ≡ areas_in_lem (tells survey.now) }
 {
-    head_area(survey.head()) + row_areas(survey.frames())
-}
-
-/// How many bytes the frames have.
-fn row_lengths(rows: &[Row]) -> u64
-    requires { length rows.now ≤ most_frames }
-    ensures lengths { result ≡ row_lengths_lem rows.now }
-    ensures few { result ≤ 1441 * most_frames }
-{
-    let mut bytes = 0;
-    for row in rows {
-        let front = row.front();
-        bytes += u64::from(front.class().length_of(front.slot()));
-    }
-    bytes
+    head_area(survey.head()) + totals.headers.areas
 }
 
 /// How many bytes the head has, if there is one.
@@ -136,10 +178,11 @@ fn head_length(head: Option<Head>) -> u64
     }
 }
 
-/// How many bytes the head and all frames have.
-pub(crate) fn stream_length(survey: &Survey) -> u64
-    requires { length (tells survey.now).frames ≤ most_frames }
+/// How many bytes the head and all frames have, of which these are the totals.
+pub(crate) fn stream_length(survey: &Survey, totals: &Totals) -> u64
+    requires totals { AreTotals (tells survey.now).frames totals.now }
+    requires few { length (tells survey.now).frames ≤ most_frames }
     ensures { result ≡ stream_length_lem (tells survey.now) }
 {
-    head_length(survey.head()) + row_lengths(survey.frames())
+    head_length(survey.head()) + totals.headers.lengths
 }

@@ -1,15 +1,14 @@
 -- The least and the greatest of gains: of two lists together, and that they are two of the gains.
-use Rattle.std.proofs.Common.{◌≡◌, ℕ, zero, suc, ◌+◌, ◌<◌, ◌≤◌, min, max, List, [], ◌∷◌, ◌++◌, length, get_or, drop, fold, Contains, Option, Some, None, inl, inr, refl, sym, ◌∙◌, ap, ap₂, subst, arith}
-use Rattle.std.specs.Prelude.{slice_index_or, slice_get, IfSome, IfNone}
-use Rattle.std.proofs.lemmas.Bool.{cases_lt}
-use Rattle.std.proofs.lemmas.List.{append-nil, drop_all, drop_more}
-use Rattle.std.proofs.lemmas.List.Sums.{fold-append}
-use Rattle.sync_survey.specs.Row.{Row}
-use Rattle.sync_survey.specs.Faults.{SurveyFields}
-use Rattle.sync_survey.specs.Survey.{IsLaidOut}
-use Rattle.moved_gains.specs.declared.gain_extremes.Gains.{Gains}
-use Rattle.moved_gains.specs.GainExtremes.{gains_at, moving_gains, extremes, extremes_of, joined, AreExtremes, HasChannel}
+use Rattle.std.proofs.Common.{ap, ap₂, arith, Contains, drop, fold, get_or, inl, inr, length, List}
+use Rattle.std.proofs.Common.{max, min, None, Option, refl, Some, subst, suc, sym, zero, ℕ, []}
+use Rattle.std.proofs.{Common.{◌++◌, ◌+◌, ◌<◌, ◌∙◌, ◌∷◌, ◌≡◌, ◌≤◌}, lemmas.Bool.cases_lt}
+use Rattle.std.proofs.lemmas.List.{append-nil, drop_all, drop_more, Sums.fold-append}
+use Rattle.std.specs.Prelude.{IfNone, IfSome, slice_get, slice_index_or}
 use Rattle.moved_gains.proofs.CourseLaws.{out_classed}
+use Rattle.moved_gains.specs.GainExtremes.{AreExtremes, extremes, extremes_of, gains_at, HasChannel}
+use Rattle.moved_gains.specs.GainExtremes.{joined, moving_gains}
+use Rattle.moved_gains.specs.declared.gain_extremes.Gains.{Gains}
+use Rattle.sync_survey.specs.{Faults.SurveyFields, Row.Row, Survey.IsLaidOut}
 
 -- ---- of two lists together
 
@@ -41,8 +40,10 @@ joined-assoc None g h = refl
 joined-assoc (Some f) None h = refl
 joined-assoc (Some f) (Some g) None = refl
 joined-assoc (Some f) (Some g) (Some h) =
-    let least : min (min f.least g.least) h.least ≡ min f.least (min g.least h.least) = omega arith in
-    let greatest : max (max f.greatest g.greatest) h.greatest ≡ max f.greatest (max g.greatest h.greatest) = omega arith in
+    let least : min (min f.least g.least) h.least ≡ min f.least (min g.least h.least) =
+    omega arith in
+    let greatest : max (max f.greatest g.greatest) h.greatest
+    ≡ max f.greatest (max g.greatest h.greatest) = omega arith in
     ap₂ (λ (a b : ℕ). Some (record { least = a; greatest = b })) least greatest
 
 -- none beside them change nothing
@@ -58,7 +59,8 @@ unfolding moving_gains
 moving-nil channel = refl
 
 -- the gains of frames are those of the first and those of the others
-pub moving-cons : (channel : ℕ) (row : Row) (rows : List Row) → moving_gains channel (row ∷ rows) ≡ gains_at channel row ++ moving_gains channel rows
+pub moving-cons : (channel : ℕ) (row : Row) (rows : List Row)
+    → moving_gains channel (row ∷ rows) ≡ gains_at channel row ++ moving_gains channel rows
 unfolding moving_gains
 moving-cons channel row rows = refl
 
@@ -68,8 +70,10 @@ unfolding extremes
 extremes-nil = refl
 
 -- and so are the least and the greatest of them
-pub extremes-cons : (channel : ℕ) (row : Row) (rows : List Row) → extremes_of channel (row ∷ rows) ≡ joined (extremes (gains_at channel row)) (extremes_of channel rows)
-extremes-cons channel row rows = ap extremes (moving-cons channel row rows) ∙ sym (joined-extremes (gains_at channel row) (moving_gains channel rows))
+pub extremes-cons : (channel : ℕ) (row : Row) (rows : List Row) → extremes_of channel (row ∷ rows)
+    ≡ joined (extremes (gains_at channel row)) (extremes_of channel rows)
+extremes-cons channel row rows = ap extremes (moving-cons channel row rows)
+    ∙ sym (joined-extremes (gains_at channel row) (moving_gains channel rows))
 
 -- ---- what they are
 
@@ -79,7 +83,8 @@ unfolding extremes
 extremes-None [] e = refl
 extremes-None (x ∷ xs) e = absurd cc
 
-min_there : (a x : ℕ) (xs : List ℕ) (n k : ℕ) → k < length (min a x ∷ xs) → slice_index_or (min a x ∷ xs) k n ≡ n → Contains (a ∷ x ∷ xs) n
+min_there : (a x : ℕ) (xs : List ℕ) (n k : ℕ) → k < length (min a x ∷ xs)
+    → slice_index_or (min a x ∷ xs) k n ≡ n → Contains (a ∷ x ∷ xs) n
 min_there a x xs n zero lt is =
     elim (cases_lt a x) as (λ _. Contains (a ∷ x ∷ xs) n) [
       | inl less ↦ (0, omega arith, omega (arith, less, is))
@@ -87,7 +92,8 @@ min_there a x xs n zero lt is =
     ]
 min_there a x xs n (suc k) lt is = (suc (suc k), omega (arith, lt), is)
 
-max_there : (a x : ℕ) (xs : List ℕ) (n k : ℕ) → k < length (max a x ∷ xs) → slice_index_or (max a x ∷ xs) k n ≡ n → Contains (a ∷ x ∷ xs) n
+max_there : (a x : ℕ) (xs : List ℕ) (n k : ℕ) → k < length (max a x ∷ xs)
+    → slice_index_or (max a x ∷ xs) k n ≡ n → Contains (a ∷ x ∷ xs) n
 max_there a x xs n zero lt is =
     elim (cases_lt a x) as (λ _. Contains (a ∷ x ∷ xs) n) [
       | inl less ↦ (1, omega arith, omega (arith, less, is))
@@ -115,15 +121,18 @@ greatest_first : (a : ℕ) (xs : List ℕ) → a ≤ fold max a xs
 greatest_first a [] = omega arith
 greatest_first a (x ∷ xs) = omega (arith, greatest_first (max a x) xs)
 
-between : (a : ℕ) (xs : List ℕ) (k d : ℕ) → k < length (a ∷ xs) → (fold min a xs ≤ slice_index_or (a ∷ xs) k d) × (slice_index_or (a ∷ xs) k d ≤ fold max a xs)
+between : (a : ℕ) (xs : List ℕ) (k d : ℕ) → k < length (a ∷ xs)
+    → (fold min a xs ≤ slice_index_or (a ∷ xs) k d) × (slice_index_or (a ∷ xs) k d ≤ fold max a xs)
 between a xs zero d lt = (least_first a xs, greatest_first a xs)
 between a [] (suc k) d lt = absurd (omega (arith, lt))
-between a (x ∷ xs) (suc zero) d lt = (omega (arith, least_first (min a x) xs), omega (arith, greatest_first (max a x) xs))
+between a (x ∷ xs) (suc zero) d lt =
+    (omega (arith, least_first (min a x) xs), omega (arith, greatest_first (max a x) xs))
 between a (x ∷ xs) (suc (suc k)) d lt =
     let less : suc k < suc (length xs) = omega (arith, lt) in
     ((between (min a x) xs (suc k) d less).0, (between (max a x) xs (suc k) d less).1)
 
-are_extremes : (a : ℕ) (xs : List ℕ) → AreExtremes (a ∷ xs) (record { least = fold min a xs; greatest = fold max a xs })
+are_extremes : (a : ℕ) (xs : List ℕ)
+    → AreExtremes (a ∷ xs) (record { least = fold min a xs; greatest = fold max a xs })
 are_extremes a xs = record {
   least = least_there a xs;
   greatest = greatest_there a xs;
@@ -138,12 +147,12 @@ extremes-Some (x ∷ xs) g e =
     let same : record { least = fold min x xs; greatest = fold max x xs } ≡ g = cc in
     subst (AreExtremes (x ∷ xs)) same (are_extremes x xs)
 
--- the same of what a call answers
+-- so are the two that a call answers
 pub some_extremes : (xs : List ℕ) (o : Option Gains) → o ≡ extremes xs → IfSome o (AreExtremes xs)
 some_extremes xs None is = tt
 some_extremes xs (Some g) is = extremes-Some xs g (sym is)
 
--- and where it answers none
+-- where it answers none there are no gains
 pub no_extremes : (xs : List ℕ) (o : Option Gains) → o ≡ extremes xs → IfNone o (xs ≡ [])
 no_extremes xs None is = extremes-None xs (sym is)
 no_extremes xs (Some g) is = tt
@@ -156,22 +165,30 @@ no_first [] is = refl
 no_first (row ∷ rows) is = absurd cc
 
 -- there is none without a frame
-pub extremes-empty : (channel : ℕ) (rows : List Row) → None ≡ slice_get rows 0 → None ≡ extremes_of channel rows
-extremes-empty channel rows is = sym (ap (extremes_of channel) (no_first rows is) ∙ ap extremes (moving-nil channel) ∙ extremes-nil)
+pub extremes-empty : (channel : ℕ) (rows : List Row) → None ≡ slice_get rows 0
+    → None ≡ extremes_of channel rows
+extremes-empty channel rows is = sym (ap (extremes_of channel) (no_first rows is)
+    ∙ ap extremes (moving-nil channel) ∙ extremes-nil)
 
 -- those of the frames from one on are that one's and those of the frames behind it
-pub extremes-from : (channel : ℕ) (rows : List Row) (i : ℕ) (row : Row) → i < length rows → row ≡ get_or rows i row
-    → extremes_of channel (drop i rows) ≡ joined (extremes (gains_at channel row)) (extremes_of channel (drop (i + 1) rows))
+pub extremes-from : (channel : ℕ) (rows : List Row) (i : ℕ) (row : Row) → i < length rows
+    → row ≡ get_or rows i row → extremes_of channel (drop i rows)
+    ≡ joined (extremes (gains_at channel row)) (extremes_of channel (drop (i + 1) rows))
 extremes-from channel rows i row lt is =
-    ap (extremes_of channel) (drop_more rows i row lt ∙ ap (λ (r : Row). r ∷ drop (i + 1) rows) (sym is))
+    ap (extremes_of channel)
+    (drop_more rows i row lt ∙ ap (λ (r : Row). r ∷ drop (i + 1) rows) (sym is))
     ∙ extremes-cons channel row (drop (i + 1) rows)
 
 -- behind the last frame there are none
-pub extremes-behind : (channel : ℕ) (rows : List Row) (i : ℕ) → length rows ≤ i → extremes_of channel (drop i rows) ≡ None
-extremes-behind channel rows i end = ap (extremes_of channel) (drop_all i rows end) ∙ ap extremes (moving-nil channel) ∙ extremes-nil
+pub extremes-behind : (channel : ℕ) (rows : List Row) (i : ℕ) → length rows ≤ i
+    → extremes_of channel (drop i rows) ≡ None
+extremes-behind channel rows i end =
+    ap (extremes_of channel) (drop_all i rows end) ∙ ap extremes (moving-nil channel) ∙ extremes-nil
 
 -- ---- the channels of frames
 
 -- those of a survey are of its class
-pub has_channel : (channel : ℕ) (s : SurveyFields) → IsLaidOut s → channel < s.class.channels → HasChannel channel s.frames
-has_channel channel s laid below = record { class = s.class; same = out_classed s laid; below = below }
+pub has_channel : (channel : ℕ) (s : SurveyFields) → IsLaidOut s → channel < s.class.channels
+    → HasChannel channel s.frames
+has_channel channel s laid below =
+    record { class = s.class; same = out_classed s laid; below = below }

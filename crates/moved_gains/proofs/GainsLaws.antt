@@ -1,23 +1,22 @@
 -- Side information with moved gains still fits its class.
-use Rattle.std.proofs.Common.{◌≡◌, ◌<◌, Bool, true, false, cond, ap, arith, ℤ, pos, negsuc, ◌+ℤ◌, MatchBool, unsigned_abs}
-use Rattle.std.specs.Int.{int_rem_euclid}
-use Rattle.frame_header.specs.declared.version.Version.{Version}
-use Rattle.frame_header.specs.Fields.{ClassFields}
-use Rattle.side_info.specs.declared.granule.Granule.{Granule}
-use Rattle.side_info.specs.declared.side.Side.{Side}
-use Rattle.side_info.specs.Granule.{no_granule, GranuleFits}
-use Rattle.side_info.specs.Side.{granule_in, has_granule, SideFits}
-use Rattle.side_info.proofs.SideLaws.{granules_fit}
+use Rattle.std.proofs.Common.{ap, arith, Bool, cond, false, MatchBool, negsuc, pos, true}
+use Rattle.std.{proofs.Common.{unsigned_abs, ℤ, ◌+ℤ◌, ◌<◌, ◌≡◌}, specs.Int.int_rem_euclid}
+use Rattle.frame_header.specs.{Fields.ClassFields, declared.version.Version.Version}
+use Rattle.moved_gains.specs.Gains.{is_silent_granule, moved, moved_gain, moved_side}
 use Rattle.requests.specs.declared.shift.Steps.{Steps}
-use Rattle.moved_gains.specs.Gains.{is_silent_granule, moved_gain, moved, moved_side}
+use Rattle.side_info.{proofs.SideLaws.granules_fit, specs.Granule.{GranuleFits, no_granule}}
+use Rattle.side_info.specs.Side.{granule_in, has_granule, SideFits}
+use Rattle.side_info.specs.declared.{granule.Granule.Granule, side.Side.Side}
 
 below : (sum : ℤ) → unsigned_abs (int_rem_euclid sum (pos 256)) < 256
 below (pos n) = omega arith
 below (negsuc n) = omega arith
 
-moved-fits : (version : Version) (steps : ℤ) (g : Granule) → GranuleFits version g → GranuleFits version (moved steps g)
+moved-fits : (version : Version) (steps : ℤ) (g : Granule) → GranuleFits version g
+    → GranuleFits version (moved steps g)
 moved-fits version steps g fits =
-    elim (is_silent_granule g) as (λ b. GranuleFits version (cond b g (record g { global_gain = moved_gain steps g.global_gain }))) [
+    elim (is_silent_granule g) as (λ b. GranuleFits version
+    (cond b g (record g { global_gain = moved_gain steps g.global_gain }))) [
       | true ↦ fits
       | false ↦ record {
         part2_3_length = fits.part2_3_length;
@@ -30,11 +29,15 @@ moved-fits version steps g fits =
     ]
 
 -- a granule that the class lacks stays
-moved_at : (version : Version) (has : Bool) (steps : ℤ) (g : Granule) → MatchBool has (GranuleFits version g) (g ≡ no_granule) → MatchBool has (GranuleFits version (moved steps g)) (moved steps g ≡ no_granule)
+moved_at : (version : Version) (has : Bool) (steps : ℤ) (g : Granule)
+    → MatchBool has (GranuleFits version g) (g ≡ no_granule)
+    → MatchBool has (GranuleFits version (moved steps g)) (moved steps g ≡ no_granule)
 moved_at version true steps g fits = moved-fits version steps g fits
 moved_at version false steps g none = ap (moved steps) none
 
-pub SideFits-moved_side : (c : ClassFields) (steps : Steps) (s : Side) → SideFits c s → SideFits c (moved_side steps s)
+-- side information with moved gains still has its fields within their bits
+pub SideFits-moved_side : (c : ClassFields) (steps : Steps) (s : Side) → SideFits c s
+    → SideFits c (moved_side steps s)
 unfolding moved_side
 SideFits-moved_side c steps s fits = record {
   main_data_begin = fits.main_data_begin;

@@ -1,38 +1,41 @@
 -- A changed file differs from what it was in gains, check words, the tag and junk that is left out.
-use Rattle.std.proofs.Common.{◌≡◌, ℕ, zero, suc, ◌+◌, ◌-◌, ◌<◌, ◌≤◌, List, [], ◌∷◌, ◌++◌, take, drop, map, Option, Some, None, Ok, refl, sym, ◌∙◌, ap, ap₂, subst, arith, inl, inr, append_assoc, take-append-drop, ◌⊎◌, slice_get}
-use Rattle.std.proofs.lemmas.List.{drop-drop}
-use Rattle.std.proofs.Math.Seq.{take-add}
+use Rattle.std.proofs.Common.{ap, append_assoc, ap₂, arith, drop, inl, inr, List, map, None, Ok}
+use Rattle.std.proofs.Common.{Option, refl, slice_get, Some, subst, suc, sym, take}
+use Rattle.std.proofs.Common.{take-append-drop, zero, ℕ, [], ◌++◌, ◌+◌, ◌-◌, ◌<◌, ◌∙◌, ◌∷◌, ◌≡◌}
+use Rattle.std.proofs.{Common.{◌≤◌, ◌⊎◌}, Math.Seq.take-add, lemmas.List.drop-drop}
 use Rattle.bit_fields.specs.Bits.{AreBytes}
-use Rattle.sync_survey.specs.Row.{Row}
-use Rattle.sync_survey.specs.Faults.{SurveyFields, surveyed}
+use Rattle.moved_gains.proofs.FramesThere.{AreFramesOf, frames_there, IsFrameOf}
+use Rattle.moved_gains.proofs.{KeptFrame.row_differs, LostOffsets.EndBy}
+use Rattle.moved_gains.proofs.MovingLaws.{moved_from, moved_from-nil, moved_to, written-edited}
+use Rattle.moved_gains.proofs.Rows.{Each, each_before, each_behind}
+use Rattle.moved_gains.proofs.TagPlaces.{IsApart, IsInFront, stands_apart, stands_somewhere}
+use Rattle.moved_gains.proofs.{TagPlaces.StandsSomewhere, WrittenLaws.append_three}
+use Rattle.moved_gains.proofs.WrittenTag.{parted_among, parted_front}
+use Rattle.moved_gains.specs.{Change.{changed, retag}, Edited.edited}
+use Rattle.moved_gains.specs.Kept.{AreAllowed, AreInOrder, BeginsAfter, ChangesKeepAll, KeepsAll}
+use Rattle.moved_gains.specs.Kept.{LeavesJunk, MayBecome, MovesFrame, Patch, patched, ReplacesTag}
+use Rattle.moved_gains.specs.{Moving.{moved_row_bytes, row_end, row_length}, Streams.moved_survey}
 use Rattle.moved_gains.specs.TagPlace.{tag_at, tag_length, with_tag}
 use Rattle.outside.specs.Pass.{bytes_between}
 use Rattle.requests.specs.declared.shift.Steps.{Steps}
-use Rattle.moved_gains.specs.Edited.{edited}
-use Rattle.moved_gains.specs.Moving.{row_length, row_end, moved_row_bytes}
-use Rattle.moved_gains.specs.Streams.{moved_survey}
-use Rattle.moved_gains.specs.Change.{retag, changed}
-use Rattle.moved_gains.specs.Kept.{Patch, patched, BeginsAfter, AreInOrder, LeavesJunk, ReplacesTag, MovesFrame, MayBecome, AreAllowed, KeepsAll, ChangesKeepAll}
-use Rattle.moved_gains.proofs.MovingLaws.{moved_to, moved_from, moved_from-nil, written-edited}
-use Rattle.moved_gains.proofs.WrittenLaws.{append_three}
-use Rattle.moved_gains.proofs.LostOffsets.{EndBy}
-use Rattle.moved_gains.proofs.TagPlaces.{IsApart, IsInFront, StandsSomewhere, stands_somewhere, stands_apart}
-use Rattle.moved_gains.proofs.Rows.{Each, each_before, each_behind}
-use Rattle.moved_gains.proofs.WrittenTag.{parted_front, parted_among}
-use Rattle.moved_gains.proofs.FramesThere.{IsFrameOf, AreFramesOf, frames_there}
-use Rattle.moved_gains.proofs.KeptFrame.{row_differs}
+use Rattle.sync_survey.specs.{Faults.{surveyed, SurveyFields}, Row.Row}
 
 -- ---- patches in order
 
 -- from an earlier offset on there are more bytes before the first patch
-ordered_earlier : (at to : ℕ) (patches : List Patch) → at ≤ to → AreInOrder to patches → AreInOrder at patches
+ordered_earlier : (at to : ℕ) (patches : List Patch) → at ≤ to → AreInOrder to patches
+    → AreInOrder at patches
 ordered_earlier at to [] low order = tt
-ordered_earlier at to (patch ∷ patches) low order = (omega (arith, low, order.0), order.1, order.2, order.3)
+ordered_earlier at to (patch ∷ patches) low order =
+    (omega (arith, low, order.0), order.1, order.2, order.3)
 
-patches_earlier : (file : List ℕ) (at to : ℕ) (patches : List Patch) → at ≤ to → AreInOrder to patches → patched file at patches ≡ bytes_between file at to ++ patched file to patches
+patches_earlier : (file : List ℕ) (at to : ℕ) (patches : List Patch) → at ≤ to
+    → AreInOrder to patches
+    → patched file at patches ≡ bytes_between file at to ++ patched file to patches
 patches_earlier file at to [] low order =
     let sum : to - at + at ≡ to = omega (arith, low) in
-    sym (take-append-drop (to - at) (drop at file)) ∙ ap (λ (l : List ℕ). bytes_between file at to ++ l) (drop-drop (to - at) at file ∙ ap (λ n. drop n file) (omega (arith, low)))
+    sym (take-append-drop (to - at) (drop at file)) ∙ ap (λ (l : List ℕ). bytes_between file at to
+    ++ l) (drop-drop (to - at) at file ∙ ap (λ n. drop n file) (omega (arith, low)))
 patches_earlier file at to (patch ∷ patches) low order =
     let rest = patch.now ++ patched file patch.to patches in
     let sum : patch.from - at ≡ (to - at) + (patch.from - to) = omega (arith, low, order.0) in
@@ -40,10 +43,12 @@ patches_earlier file at to (patch ∷ patches) low order =
     ap (λ n. take n (drop at file) ++ rest) sum
     ∙ ap (λ (l : List ℕ). l ++ rest)
     (take-add (to - at) (patch.from - to) (drop at file)
-    ∙ ap (λ (l : List ℕ). bytes_between file at to ++ take (patch.from - to) l) (drop-drop (to - at) at file ∙ ap (λ n. drop n file) there))
+    ∙ ap (λ (l : List ℕ). bytes_between file at to ++ take (patch.from - to) l)
+    (drop-drop (to - at) at file ∙ ap (λ n. drop n file) there))
     ∙ append_assoc (bytes_between file at to) (bytes_between file to patch.from) rest
 
-begins_later : (at to : ℕ) (patches : List Patch) → at < to → AreInOrder to patches → BeginsAfter at patches
+begins_later : (at to : ℕ) (patches : List Patch) → at < to → AreInOrder to patches
+    → BeginsAfter at patches
 begins_later at to [] low order = tt
 begins_later at to (patch ∷ patches) low order = omega (arith, low, order.0)
 
@@ -51,7 +56,11 @@ module _ (T : List ℕ → Type 0) (steps : ℕ → Steps) (file : List ℕ) (s 
   -- ---- the patches of frames
 
   abbrev row_patch : Row → Patch
-  row_patch row = record { from = row.offset; to = row_end row; now = moved_row_bytes (steps row.offset) file row }
+  row_patch row = record {
+    from = row.offset;
+    to = row_end row;
+    now = moved_row_bytes (steps row.offset) file row;
+  }
 
   abbrev row_patches : List Row → List Patch
   row_patches rows = map row_patch rows
@@ -62,7 +71,8 @@ module _ (T : List ℕ → Type 0) (steps : ℕ → Steps) (file : List ℕ) (s 
   abbrev AllMove : List Row → Type 0
   AllMove rows = Each Moves rows
 
-  moves : (i : ℕ) (row : Row) → slice_get s.frames i ≡ Some row → IsFrameOf file row → MovesFrame file s (row_patch row)
+  moves : (i : ℕ) (row : Row) → slice_get s.frames i ≡ Some row → IsFrameOf file row
+      → MovesFrame file s (row_patch row)
   moves i row there here =
       let size : row_end row - row.offset ≡ row_length row = omega arith in
       record {
@@ -71,42 +81,61 @@ module _ (T : List ℕ → Type 0) (steps : ℕ → Steps) (file : List ℕ) (s 
         there = there;
         from = refl;
         to = refl;
-        now = subst (λ n. MayBecome row (take n (drop row.offset file)) (moved_row_bytes (steps row.offset) file row)) (sym size) (row_differs (steps row.offset) file row here);
+        now = subst (λ n. MayBecome row (take n (drop row.offset file))
+            (moved_row_bytes (steps row.offset) file row)) (sym size)
+            (row_differs (steps row.offset) file row here);
       }
 
-  all_move : (n : ℕ) (rows : List Row) → ((i : ℕ) (row : Row) → slice_get rows i ≡ Some row → slice_get s.frames (n + i) ≡ Some row) → AreFramesOf file rows → AllMove rows
+  all_move : (n : ℕ) (rows : List Row)
+      → ((i : ℕ) (row : Row) → slice_get rows i ≡ Some row → slice_get s.frames (n + i) ≡ Some row)
+      → AreFramesOf file rows → AllMove rows
   all_move n [] there here = tt
   all_move n (row ∷ rows) there here = (
     moves (n + 0) row (there 0 row refl) here.0,
-    all_move (n + 1) rows (λ i r is. ap (slice_get s.frames) (omega arith) ∙ there (suc i) r is) here.1,
+    all_move (n + 1) rows
+        (λ i r is. ap (slice_get s.frames) (omega arith) ∙ there (suc i) r is) here.1,
   )
 
-  rows_allowed : (rows : List Row) (patches : List Patch) → AllMove rows → AreAllowed T file s patches → AreAllowed T file s (row_patches rows ++ patches)
+  rows_allowed : (rows : List Row) (patches : List Patch) → AllMove rows
+      → AreAllowed T file s patches → AreAllowed T file s (row_patches rows ++ patches)
   rows_allowed [] patches all later = later
-  rows_allowed (row ∷ rows) patches all later = (inr (inr all.0), rows_allowed rows patches all.1 later)
+  rows_allowed (row ∷ rows) patches all later =
+      (inr (inr all.0), rows_allowed rows patches all.1 later)
 
   -- frames up to an offset, and patches from it on
-  rows_begin : (at : ℕ) (rows : List Row) (patches : List Patch) (to : ℕ) → EndBy at rows to → AreInOrder to patches → (x : ℕ) → x < at → BeginsAfter x (row_patches rows ++ patches)
-  rows_begin at [] patches to ends order x low = begins_later x to patches (omega (arith, low, ends)) order
+  rows_begin : (at : ℕ) (rows : List Row) (patches : List Patch) (to : ℕ) → EndBy at rows to
+      → AreInOrder to patches → (x : ℕ) → x < at → BeginsAfter x (row_patches rows ++ patches)
+  rows_begin at [] patches to ends order x low =
+      begins_later x to patches (omega (arith, low, ends)) order
   rows_begin at (row ∷ rows) patches to ends order x low = omega (arith, low, ends.0)
 
-  rows_ordered : (at : ℕ) (rows : List Row) (patches : List Patch) (to : ℕ) → EndBy at rows to → AreInOrder to patches → AreInOrder at (row_patches rows ++ patches)
+  rows_ordered : (at : ℕ) (rows : List Row) (patches : List Patch) (to : ℕ) → EndBy at rows to
+      → AreInOrder to patches → AreInOrder at (row_patches rows ++ patches)
   rows_ordered at [] patches to ends order = ordered_earlier at to patches ends order
-  rows_ordered at (row ∷ rows) patches to ends order =
-      (ends.0, omega (arith, ends.1), rows_begin (row_end row) rows patches to ends.2 order row.offset ends.1, rows_ordered (row_end row) rows patches to ends.2 order)
+  rows_ordered at (row ∷ rows) patches to ends order = (
+    ends.0,
+    omega (arith, ends.1),
+    rows_begin (row_end row) rows patches to ends.2 order row.offset ends.1,
+    rows_ordered (row_end row) rows patches to ends.2 order,
+  )
 
-  patches-moved : (at : ℕ) (rows : List Row) → patched file at (row_patches rows ++ []) ≡ moved_from steps file at rows
+  patches-moved : (at : ℕ) (rows : List Row)
+      → patched file at (row_patches rows ++ []) ≡ moved_from steps file at rows
   patches-moved at [] = sym (moved_from-nil steps file at)
   patches-moved at (row ∷ rows) =
-      ap (λ (l : List ℕ). bytes_between file at row.offset ++ (moved_row_bytes (steps row.offset) file row ++ l)) (patches-moved (row_end row) rows)
+      ap (λ (l : List ℕ). bytes_between file at row.offset
+      ++ (moved_row_bytes (steps row.offset) file row ++ l)) (patches-moved (row_end row) rows)
 
   patches-before : (at : ℕ) (rows : List Row) (patch : Patch) (patches : List Patch)
-      → patched file at (row_patches rows ++ (patch ∷ patches)) ≡ moved_to steps file at patch.from rows ++ (patch.now ++ patched file patch.to patches)
+      → patched file at (row_patches rows ++ (patch ∷ patches))
+      ≡ moved_to steps file at patch.from rows ++ (patch.now ++ patched file patch.to patches)
   patches-before at [] patch patches = refl
   patches-before at (row ∷ rows) patch patches =
       let own = moved_row_bytes (steps row.offset) file row in
-      ap (λ (l : List ℕ). bytes_between file at row.offset ++ (own ++ l)) (patches-before (row_end row) rows patch patches)
-      ∙ sym (append_three (bytes_between file at row.offset) own (moved_to steps file (row_end row) patch.from rows) (patch.now ++ patched file patch.to patches))
+      ap (λ (l : List ℕ). bytes_between file at row.offset ++ (own ++ l))
+      (patches-before (row_end row) rows patch patches)
+      ∙ sym (append_three (bytes_between file at row.offset) own (moved_to steps file
+      (row_end row) patch.from rows) (patch.now ++ patched file patch.to patches))
 
   -- ---- the junk
 
@@ -121,7 +150,8 @@ module _ (T : List ℕ → Type 0) (steps : ℕ → Steps) (file : List ℕ) (s 
     pub begins : (x : ℕ) → x < s.junk → BeginsAfter x all
     pub written : patched file at all ≡ bytes_between file at s.junk ++ patched file s.first patches
 
-  after_junk : (at : ℕ) (patches : List Patch) → at ≤ s.junk → s.junk ≤ s.first → AreInOrder s.first patches → AreAllowed T file s patches → Joined at patches
+  after_junk : (at : ℕ) (patches : List Patch) → at ≤ s.junk → s.junk ≤ s.first
+      → AreInOrder s.first patches → AreAllowed T file s patches → Joined at patches
   after_junk at patches low up order allowed = by_junk (s.first - s.junk) refl
     where
       by_junk : (n : ℕ) → s.first - s.junk ≡ n → Joined at patches
@@ -133,7 +163,8 @@ module _ (T : List ℕ → Type 0) (steps : ℕ → Steps) (file : List ℕ) (s 
             in_order = ordered_earlier at s.junk patches low order;
             allowed = allowed;
             begins = λ x less. begins_later x s.junk patches less order;
-            written = patches_earlier file at s.junk patches low order ∙ ap (λ n. bytes_between file at s.junk ++ patched file n patches) (sym same);
+            written = patches_earlier file at s.junk patches low order
+                ∙ ap (λ n. bytes_between file at s.junk ++ patched file n patches) (sym same);
           }
       by_junk (suc n) is = record {
         all = junk_patch ∷ patches;
@@ -145,12 +176,14 @@ module _ (T : List ℕ → Type 0) (steps : ℕ → Steps) (file : List ℕ) (s 
 
 -- ---- the changed file
 
-module _ (file : List ℕ) (allowed : ℕ) (s : SurveyFields) (all : AreBytes file) (is : surveyed file allowed ≡ Ok s) (steps : ℕ → Steps) where
+module _ (file : List ℕ) (allowed : ℕ) (s : SurveyFields) (all : AreBytes file)
+    (is : surveyed file allowed ≡ Ok s) (steps : ℕ → Steps) where
   known : StandsSomewhere steps file s
   known = stands_somewhere steps file allowed s is
 
   each_moves : (T : List ℕ → Type 0) → AllMove T steps file s s.frames
-  each_moves T = all_move T steps file s 0 s.frames (λ i row there. ap (slice_get s.frames) (omega arith) ∙ there) (frames_there file allowed s all is)
+  each_moves T = all_move T steps file s 0 s.frames (λ i row there.
+      ap (slice_get s.frames) (omega arith) ∙ there) (frames_there file allowed s all is)
 
   none : s.junk - 0 ≡ s.junk
   none = omega arith
@@ -161,7 +194,8 @@ module _ (file : List ℕ) (allowed : ℕ) (s : SurveyFields) (all : AreBytes fi
       let T : List ℕ → Type 0 = λ tag. None ≡ Some tag in
       let patches = row_patches T steps file s s.frames ++ [] in
       let order = rows_ordered T steps file s s.first s.frames [] s.length known.ends tt in
-      let may : AreAllowed T file s patches = rows_allowed T steps file s s.frames [] (each_moves T) tt in
+      let may : AreAllowed T file s patches =
+      rows_allowed T steps file s s.frames [] (each_moves T) tt in
       let joined = after_junk T steps file s 0 patches (omega arith) known.junk order may in
       record {
         patches = joined.all;
@@ -169,7 +203,8 @@ module _ (file : List ℕ) (allowed : ℕ) (s : SurveyFields) (all : AreBytes fi
         allowed = joined.allowed;
         written =
             sym (written-edited steps file allowed s is)
-            ∙ ap₂ (λ n (l : List ℕ). take n file ++ l) (sym none) (sym (patches-moved T steps file s s.first s.frames))
+            ∙ ap₂ (λ n (l : List ℕ). take n file ++ l) (sym none)
+            (sym (patches-moved T steps file s s.first s.frames))
             ∙ sym joined.written;
       }
 
@@ -200,16 +235,25 @@ module _ (file : List ℕ) (allowed : ℕ) (s : SurveyFields) (all : AreBytes fi
     keeps_front : IsInFront s → KeepsAll MayBe file s with_new
     keeps_front front =
         let order = rows_ordered MayBe steps file s s.first s.frames [] s.length known.ends tt in
-        let may : AreAllowed MayBe file s rows = rows_allowed MayBe steps file s s.frames [] (each_moves MayBe) tt in
-        let joined = after_junk MayBe steps file s (a + size) rows front.before known.junk order may in
+        let may : AreAllowed MayBe file s rows =
+        rows_allowed MayBe steps file s s.frames [] (each_moves MayBe) tt in
+        let joined =
+        after_junk MayBe steps file s (a + size) rows front.before known.junk order may in
         let zero_less : a - 0 ≡ a = omega arith in
         record {
           patches = tag_patch ∷ joined.all;
-          in_order = (omega arith, omega arith, joined.begins a (omega (arith, front.some, front.before)), joined.in_order);
+          in_order = (
+            omega arith,
+            omega arith,
+            joined.begins a (omega (arith, front.some, front.before)),
+            joined.in_order,
+          );
           allowed = (inr (inl tag_allowed), joined.allowed);
           written =
               (parted_front steps file allowed s is front).tagged bytes
-              ∙ ap₂ (λ n (l : List ℕ). take n file ++ (bytes ++ (bytes_between file (a + size) s.junk ++ l))) (sym zero_less) (sym (patches-moved MayBe steps file s s.first s.frames))
+              ∙ ap₂ (λ n (l : List ℕ). take n file
+              ++ (bytes ++ (bytes_between file (a + size) s.junk ++ l))) (sym zero_less)
+              (sym (patches-moved MayBe steps file s s.first s.frames))
               ∙ ap (λ (l : List ℕ). bytes_between file 0 a ++ (bytes ++ l)) (sym joined.written);
         }
 
@@ -218,28 +262,41 @@ module _ (file : List ℕ) (allowed : ℕ) (s : SurveyFields) (all : AreBytes fi
         let among = apart.among in
         let before = row_patches MayBe steps file s among.before in
         let behind = row_patches MayBe steps file s among.behind ++ [] in
-        let parts : AllMove MayBe steps file s (among.before ++ among.behind) = subst (AllMove MayBe steps file s) among.all (each_moves MayBe) in
+        let parts : AllMove MayBe steps file s (among.before ++ among.behind) =
+        subst (AllMove MayBe steps file s) among.all (each_moves MayBe) in
         let before_moves = each_before (Moves MayBe steps file s) among.before among.behind parts in
         let behind_moves = each_behind (Moves MayBe steps file s) among.before among.behind parts in
-        let behind_allowed : AreAllowed MayBe file s behind = rows_allowed MayBe steps file s among.behind [] behind_moves tt in
-        let behind_order = rows_ordered MayBe steps file s (a + size) among.behind [] s.length among.rest tt in
-        let all_allowed : AreAllowed MayBe file s (before ++ (tag_patch ∷ behind)) = rows_allowed MayBe steps file s among.before (tag_patch ∷ behind) before_moves (inr (inl tag_allowed), behind_allowed) in
-        let tag_order : AreInOrder a (tag_patch ∷ behind) = (omega arith, omega arith, tag_begins among.behind among.rest apart.apart, behind_order) in
-        let order : AreInOrder s.first (before ++ (tag_patch ∷ behind)) = rows_ordered MayBe steps file s s.first among.before (tag_patch ∷ behind) a among.front tag_order in
-        let joined = after_junk MayBe steps file s 0 (before ++ (tag_patch ∷ behind)) (omega arith) known.junk order all_allowed in
+        let behind_allowed : AreAllowed MayBe file s behind =
+        rows_allowed MayBe steps file s among.behind [] behind_moves tt in
+        let behind_order =
+        rows_ordered MayBe steps file s (a + size) among.behind [] s.length among.rest tt in
+        let all_allowed : AreAllowed MayBe file s (before ++ (tag_patch ∷ behind)) =
+        rows_allowed MayBe steps file s among.before (tag_patch ∷ behind) before_moves
+        (inr (inl tag_allowed), behind_allowed) in
+        let tag_order : AreInOrder a (tag_patch ∷ behind) =
+        (omega arith, omega arith, tag_begins among.behind among.rest apart.apart, behind_order) in
+        let order : AreInOrder s.first (before ++ (tag_patch ∷ behind)) = rows_ordered MayBe steps
+        file s s.first among.before (tag_patch ∷ behind) a among.front tag_order in
+        let joined = after_junk MayBe steps file s 0 (before ++ (tag_patch ∷ behind))
+        (omega arith) known.junk order all_allowed in
         record {
           patches = joined.all;
           in_order = joined.in_order;
           allowed = joined.allowed;
           written =
               (parted_among steps file allowed s is among).tagged bytes
-              ∙ append_assoc (take s.junk file) (moved_to steps file s.first a among.before) (bytes ++ moved_from steps file (a + size) among.behind)
-              ∙ ap₂ (λ n (l : List ℕ). take n file ++ (moved_to steps file s.first a among.before ++ (bytes ++ l))) (sym none) (sym (patches-moved MayBe steps file s (a + size) among.behind))
-              ∙ ap (λ (l : List ℕ). bytes_between file 0 s.junk ++ l) (sym (patches-before MayBe steps file s s.first among.before tag_patch behind))
+              ∙ append_assoc (take s.junk file) (moved_to steps file s.first a among.before)
+              (bytes ++ moved_from steps file (a + size) among.behind)
+              ∙ ap₂ (λ n (l : List ℕ). take n file
+              ++ (moved_to steps file s.first a among.before ++ (bytes ++ l))) (sym none)
+              (sym (patches-moved MayBe steps file s (a + size) among.behind))
+              ∙ ap (λ (l : List ℕ). bytes_between file 0 s.junk ++ l)
+              (sym (patches-before MayBe steps file s s.first among.before tag_patch behind))
               ∙ sym joined.written;
         }
       where
-        tag_begins : (behind : List Row) → EndBy (a + size) behind s.length → (behind ≡ []) ⊎ (0 < size) → BeginsAfter a (row_patches MayBe steps file s behind ++ [])
+        tag_begins : (behind : List Row) → EndBy (a + size) behind s.length → (behind ≡ [])
+            ⊎ (0 < size) → BeginsAfter a (row_patches MayBe steps file s behind ++ [])
         tag_begins [] ends apart = tt
         tag_begins (row ∷ behind) ends (inl none) = absurd cc
         tag_begins (row ∷ behind) ends (inr some) = omega (arith, ends.0, some)
@@ -251,27 +308,35 @@ module _ (file : List ℕ) (allowed : ℕ) (s : SurveyFields) (all : AreBytes fi
         by_place (inl front) = keeps_front front
         by_place (inr apart) = keeps_among apart
 
+-- only gains, check words, the tag and junk change
 pub changes_kept : ChangesKeepAll
 unfolding changed
 changes_kept change file allowed s all is = by_tag change.tag
   where
-    by_tag : (o : Option (List ℕ)) → KeepsAll (λ tag. o ≡ Some tag) file s (retag o (moved_survey change.steps s) (edited change.steps file s))
+    by_tag : (o : Option (List ℕ)) → KeepsAll (λ tag. o ≡ Some tag) file s
+        (retag o (moved_survey change.steps s) (edited change.steps file s))
     by_tag None = keeps_none file allowed s all is change.steps
     by_tag (Some bytes) = keeps_tag file allowed s all is change.steps bytes
 
 -- ---- what may be the tag
 
-allowed_weaker : (T U : List ℕ → Type 0) → ((tag : List ℕ) → T tag → U tag) → (file : List ℕ) (s : SurveyFields) (patches : List Patch) → AreAllowed T file s patches → AreAllowed U file s patches
+allowed_weaker : (T U : List ℕ → Type 0) → ((tag : List ℕ) → T tag → U tag)
+    → (file : List ℕ) (s : SurveyFields) (patches : List Patch) → AreAllowed T file s patches
+    → AreAllowed U file s patches
 allowed_weaker T U weaker file s [] may = tt
-allowed_weaker T U weaker file s (patch ∷ patches) may = (one may.0, allowed_weaker T U weaker file s patches may.1)
+allowed_weaker T U weaker file s (patch ∷ patches) may =
+    (one may.0, allowed_weaker T U weaker file s patches may.1)
   where
-    one : LeavesJunk s patch ⊎ (ReplacesTag T s patch ⊎ MovesFrame file s patch) → LeavesJunk s patch ⊎ (ReplacesTag U s patch ⊎ MovesFrame file s patch)
+    one : LeavesJunk s patch ⊎ (ReplacesTag T s patch ⊎ MovesFrame file s patch)
+        → LeavesJunk s patch ⊎ (ReplacesTag U s patch ⊎ MovesFrame file s patch)
     one (inl junk) = inl junk
-    one (inr (inl tag)) = inr (inl (record { from = tag.from; to = tag.to; now = weaker patch.now tag.now }))
+    one (inr (inl tag)) =
+        inr (inl (record { from = tag.from; to = tag.to; now = weaker patch.now tag.now }))
     one (inr (inr frame)) = inr (inr frame)
 
 -- more may be the tag
-pub keeps_weaker : (T U : List ℕ → Type 0) → ((tag : List ℕ) → T tag → U tag) → (file : List ℕ) (s : SurveyFields) (new : List ℕ) → KeepsAll T file s new → KeepsAll U file s new
+pub keeps_weaker : (T U : List ℕ → Type 0) → ((tag : List ℕ) → T tag → U tag) → (file : List ℕ)
+    (s : SurveyFields) (new : List ℕ) → KeepsAll T file s new → KeepsAll U file s new
 keeps_weaker T U weaker file s new keeps = record {
   patches = keeps.patches;
   in_order = keeps.in_order;

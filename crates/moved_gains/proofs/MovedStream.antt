@@ -1,57 +1,61 @@
 -- The stream of the edited file is that of the file, with the gains of each frame moved.
-use Rattle.std.proofs.Common.{◌≡◌, ℕ, ◌+◌, ◌-◌, ◌*◌, ◌≤◌, Bool, true, false, cond, List, [], ◌∷◌, ◌++◌, take, drop, map, Option, option_map, Ok, refl, sym, ◌∙◌, ap, ap₂, subst, arith, flat_map}
-use Rattle.std.specs.List.{enumerate_from}
-use Rattle.bit_fields.specs.Bits.{bits, AreBytes}
+use Rattle.std.proofs.Common.{ap, ap₂, arith, Bool, cond, drop, false, flat_map, List, map, Ok}
+use Rattle.std.proofs.Common.{Option, option_map, refl, subst, sym, take, true, ℕ, [], ◌*◌, ◌++◌}
+use Rattle.std.{proofs.Common.{◌+◌, ◌-◌, ◌∙◌, ◌∷◌, ◌≡◌, ◌≤◌}, specs.List.enumerate_from}
+use Rattle.bit_fields.specs.Bits.{AreBytes, bits}
 use Rattle.frame_header.specs.Tables.{class_of, length_of, overhead_of}
-use Rattle.side_info.specs.declared.side.Side.{Side}
-use Rattle.side_info.specs.Side.{no_side, payload_bits}
-use Rattle.side_info.proofs.SideLaws.{IsShaped}
-use Rattle.side_info.proofs.FrameLaws.{shaped-side_in}
-use Rattle.sync_survey.specs.declared.places.PlacedFrame.{PlacedFrame}
-use Rattle.sync_survey.specs.declared.places.Head.{Head}
-use Rattle.sync_survey.specs.declared.places.Start.{Start}
-use Rattle.sync_survey.specs.Row.{Row}
-use Rattle.sync_survey.specs.Walk.{frame_bytes, head_of}
-use Rattle.sync_survey.specs.MainData.{area_bytes, head_bytes, main_bytes, parts_of, part_lengths, StreamFrame, side_of, stream_frame, stream_frames}
-use Rattle.sync_survey.specs.Faults.{SurveyFields, surveyed, stream_of_survey}
-use Rattle.sync_survey.proofs.ItemLists.{nearer_frame}
-use Rattle.sync_survey.proofs.HeadSame.{head_bytes-nearer, area-frame}
-use Rattle.sync_survey.proofs.SurveyParts.{frames_from, told_from, IsRead, surveyed-parts}
-use Rattle.requests.specs.declared.shift.Steps.{Steps}
-use Rattle.moved_gains.specs.Gains.{moved_side, moved_unless}
-use Rattle.moved_gains.specs.Edited.{edited}
-use Rattle.moved_gains.specs.Streams.{moved_row, moved_head, moved_survey, moved_stream_frame, moved_stream_of}
-use Rattle.moved_gains.proofs.MovedGains.{payload_bits-moved, lengths-moved}
+use Rattle.moved_gains.proofs.EditedItems.{AreMovedAt, IsMovedAt}
+use Rattle.moved_gains.proofs.EditedRuns.{first_frame, frames-moved, gap_of, lost_from, new-area}
+use Rattle.moved_gains.proofs.{EditedRuns.new_file, LostOffsets.{marked-by, rows_by, walk_rising}}
 use Rattle.moved_gains.proofs.MovedFrame.{whole_room}
-use Rattle.moved_gains.proofs.EditedItems.{IsMovedAt, AreMovedAt}
-use Rattle.moved_gains.proofs.LostOffsets.{rows_by, marked-by, walk_rising}
-use Rattle.moved_gains.proofs.EditedRuns.{gap_of, lost_from, new_file, frames-moved, first_frame, new-area}
-use Rattle.moved_gains.proofs.MovedSurvey.{to, frame_there, AreShaped, start-moved}
+use Rattle.moved_gains.proofs.MovedGains.{lengths-moved, payload_bits-moved}
+use Rattle.moved_gains.proofs.MovedSurvey.{AreShaped, frame_there, start-moved, to}
+use Rattle.moved_gains.specs.{Edited.edited, Gains.{moved_side, moved_unless}}
+use Rattle.moved_gains.specs.Streams.{moved_head, moved_row, moved_stream_frame, moved_stream_of}
+use Rattle.moved_gains.specs.Streams.{moved_survey}
+use Rattle.requests.specs.declared.shift.Steps.{Steps}
+use Rattle.side_info.proofs.{FrameLaws.shaped-side_in, SideLaws.IsShaped}
+use Rattle.side_info.specs.{Side.{no_side, payload_bits}, declared.side.Side.Side}
+use Rattle.sync_survey.proofs.{HeadSame.{area-frame, head_bytes-nearer}, ItemLists.nearer_frame}
+use Rattle.sync_survey.proofs.SurveyParts.{frames_from, IsRead, surveyed-parts, told_from}
+use Rattle.sync_survey.specs.Faults.{stream_of_survey, surveyed, SurveyFields}
+use Rattle.sync_survey.specs.MainData.{area_bytes, head_bytes, main_bytes, part_lengths, parts_of}
+use Rattle.sync_survey.specs.{MainData.{side_of, stream_frame, stream_frames, StreamFrame}, Row.Row}
+use Rattle.sync_survey.specs.{Walk.{frame_bytes, head_of}, declared.places.Head.Head}
+use Rattle.sync_survey.specs.declared.places.{PlacedFrame.PlacedFrame, Start.Start}
 
 -- ---- the main data
 
-area-moved : (steps : ℕ → Steps) (lost : ℕ → Bool) (file new : List ℕ) (gap : ℕ) (p : PlacedFrame) → IsMovedAt steps lost file new gap p → area_bytes new (p.offset - gap) p.header ≡ area_bytes file p.offset p.header
+area-moved : (steps : ℕ → Steps) (lost : ℕ → Bool) (file new : List ℕ) (gap : ℕ) (p : PlacedFrame)
+    → IsMovedAt steps lost file new gap p
+    → area_bytes new (p.offset - gap) p.header ≡ area_bytes file p.offset p.header
 area-moved steps lost file new gap p at =
     let over = overhead_of (class_of p.header) p.header.protected in
-    let room : over ≤ length_of (class_of p.header) p.header.slot = omega (arith, (whole_room p.header (frame_bytes file p) at.whole).0, at.whole.size) in
+    let room : over ≤ length_of (class_of p.header) p.header.slot =
+    omega (arith, (whole_room p.header (frame_bytes file p) at.whole).0, at.whole.size) in
     area-frame new (nearer_frame gap p) room
     ∙ ap (drop over) (frame_there steps lost file new gap p at)
     ∙ (to steps lost file new gap p at).same_area
     ∙ sym (area-frame file p room)
 
-areas-moved : (steps : ℕ → Steps) (lost : ℕ → Bool) (file new : List ℕ) (gap : ℕ) (ps : List PlacedFrame) → AreMovedAt steps lost file new gap ps
-    → flat_map (λ (r : Row). area_bytes new r.offset r.header) (map (moved_row steps gap) (rows_by lost file ps)) ≡ flat_map (λ (r : Row). area_bytes file r.offset r.header) (rows_by lost file ps)
+areas-moved : (steps : ℕ → Steps) (lost : ℕ → Bool) (file new : List ℕ) (gap : ℕ)
+    (ps : List PlacedFrame) → AreMovedAt steps lost file new gap ps → flat_map (λ (r : Row).
+    area_bytes new r.offset r.header) (map (moved_row steps gap) (rows_by lost file ps))
+    ≡ flat_map (λ (r : Row). area_bytes file r.offset r.header) (rows_by lost file ps)
 areas-moved steps lost file new gap [] at = refl
-areas-moved steps lost file new gap (p ∷ ps) at = ap₂ (λ (a b : List ℕ). a ++ b) (area-moved steps lost file new gap p at.0) (areas-moved steps lost file new gap ps at.1)
+areas-moved steps lost file new gap (p ∷ ps) at = ap₂ (λ (a b : List ℕ). a ++ b)
+    (area-moved steps lost file new gap p at.0) (areas-moved steps lost file new gap ps at.1)
 
 -- ---- a frame of the stream
 
-side-moved : (steps : Steps) (s : Side) → record (moved_side steps s) { main_data_begin = 0 } ≡ moved_side steps (record s { main_data_begin = 0 })
+side-moved : (steps : Steps) (s : Side) → record (moved_side steps s) { main_data_begin = 0 }
+    ≡ moved_side steps (record s { main_data_begin = 0 })
 unfolding moved_side
 side-moved steps s = refl
 
 -- the side information that matters; a lost frame has none
-counts-moved : (steps : Steps) (lost : Bool) (s : Side) → cond lost no_side (moved_unless lost steps s) ≡ moved_side steps (cond lost no_side s)
+counts-moved : (steps : Steps) (lost : Bool) (s : Side)
+    → cond lost no_side (moved_unless lost steps s) ≡ moved_side steps (cond lost no_side s)
 unfolding moved_side
 counts-moved steps true s = refl
 counts-moved steps false s = refl
@@ -59,43 +63,59 @@ counts-moved steps false s = refl
 none_shaped : IsShaped no_side
 none_shaped = record { scfsi = refl; granules = refl; first = refl; second = refl }
 
+-- the side information has lists as long as the arrays, whether or not the frame was lost
 pub counts_shaped : (lost : Bool) (s : Side) → IsShaped s → IsShaped (cond lost no_side s)
 counts_shaped true s shaped = none_shaped
 counts_shaped false s shaped = shaped
 
-by_shaped : (lost : ℕ → Bool) (file : List ℕ) (ps : List PlacedFrame) → AreShaped (rows_by lost file ps)
+by_shaped : (lost : ℕ → Bool) (file : List ℕ) (ps : List PlacedFrame)
+    → AreShaped (rows_by lost file ps)
 by_shaped lost file [] = tt
-by_shaped lost file (p ∷ ps) = (shaped-side_in p.header (drop p.offset file), by_shaped lost file ps)
+by_shaped lost file (p ∷ ps) =
+    (shaped-side_in p.header (drop p.offset file), by_shaped lost file ps)
 
-frame-moved : (steps : ℕ → Steps) (gap : ℕ) (main : List ℕ) (o : Option Head) (rows : List Row) (i : ℕ) (r : Row) → IsShaped r.side
-    → stream_frame main (option_map (moved_head gap) o) (map (moved_row steps gap) rows) i (moved_row steps gap r) ≡ moved_stream_frame (steps r.offset) (stream_frame main o rows i r)
+frame-moved : (steps : ℕ → Steps) (gap : ℕ) (main : List ℕ) (o : Option Head) (rows : List Row)
+    (i : ℕ) (r : Row) → IsShaped r.side
+    → stream_frame main (option_map (moved_head gap) o) (map (moved_row steps gap) rows) i
+    (moved_row steps gap r) ≡ moved_stream_frame (steps r.offset) (stream_frame main o rows i r)
 frame-moved steps gap main o rows i r shaped =
     let begin = start-moved steps gap o rows i r in
-    let counts : side_of (moved_row steps gap r) ≡ moved_side (steps r.offset) (side_of r) = counts-moved (steps r.offset) r.lost r.side in
+    let counts : side_of (moved_row steps gap r) ≡ moved_side (steps r.offset) (side_of r) =
+    counts-moved (steps r.offset) r.lost r.side in
     let well = counts_shaped r.lost r.side shaped in
-    let side = ap (λ (s : Side). record s { main_data_begin = 0 }) counts ∙ side-moved (steps r.offset) (side_of r) in
-    let lengths = ap (part_lengths r.header) counts ∙ lengths-moved (steps r.offset) r.header (side_of r) well in
+    let side = ap (λ (s : Side). record s { main_data_begin = 0 }) counts
+    ∙ side-moved (steps r.offset) (side_of r) in
+    let lengths =
+    ap (part_lengths r.header) counts ∙ lengths-moved (steps r.offset) r.header (side_of r) well in
     let payload = ap payload_bits counts ∙ payload_bits-moved (steps r.offset) (side_of r) well in
     λ j. record (stream_frame main o rows i r) {
       side = side j;
       payload = parts_of (lengths j) (take (payload j) (drop (8 * begin j) (bits main)));
     }
 
-frames_moved : (steps : ℕ → Steps) (gap : ℕ) (main : List ℕ) (o : Option Head) (rows : List Row) (n : ℕ) (more : List Row) → AreShaped more
-    → map (λ (p : ℕ × Row). stream_frame main (option_map (moved_head gap) o) (map (moved_row steps gap) rows) p.0 p.1) (enumerate_from n (map (moved_row steps gap) more))
-    ≡ map (λ (p : ℕ × Row). moved_stream_frame (steps p.1.offset) (stream_frame main o rows p.0 p.1)) (enumerate_from n more)
+frames_moved : (steps : ℕ → Steps) (gap : ℕ) (main : List ℕ) (o : Option Head) (rows : List Row)
+    (n : ℕ) (more : List Row) → AreShaped more
+    → map (λ (p : ℕ × Row). stream_frame main (option_map (moved_head gap) o)
+    (map (moved_row steps gap) rows) p.0 p.1) (enumerate_from n (map (moved_row steps gap) more))
+    ≡ map (λ (p : ℕ × Row). moved_stream_frame (steps p.1.offset)
+    (stream_frame main o rows p.0 p.1)) (enumerate_from n more)
 frames_moved steps gap main o rows n [] shaped = refl
 frames_moved steps gap main o rows n (r ∷ more) shaped =
-    ap₂ (λ (f : StreamFrame) (fs : List StreamFrame). f ∷ fs) (frame-moved steps gap main o rows n r shaped.0) (frames_moved steps gap main o rows (n + 1) more shaped.1)
+    ap₂ (λ (f : StreamFrame) (fs : List StreamFrame). f ∷ fs) (frame-moved steps gap main o rows n r
+    shaped.0) (frames_moved steps gap main o rows (n + 1) more shaped.1)
 
-all_moved : (steps : ℕ → Steps) (gap : ℕ) (main : List ℕ) (o : Option Head) (rows : List Row) → AreShaped rows
-    → stream_frames main (option_map (moved_head gap) o) (map (moved_row steps gap) rows) ≡ map (λ (p : ℕ × Row). moved_stream_frame (steps p.1.offset) (stream_frame main o rows p.0 p.1)) (enumerate_from 0 rows)
+all_moved : (steps : ℕ → Steps) (gap : ℕ) (main : List ℕ) (o : Option Head) (rows : List Row)
+    → AreShaped rows
+    → stream_frames main (option_map (moved_head gap) o) (map (moved_row steps gap) rows)
+    ≡ map (λ (p : ℕ × Row). moved_stream_frame (steps p.1.offset)
+    (stream_frame main o rows p.0 p.1)) (enumerate_from 0 rows)
 unfolding stream_frames
 all_moved steps gap main o rows shaped = frames_moved steps gap main o rows 0 rows shaped
 
 -- ---- the stream
 
-module _ (steps : ℕ → Steps) (file : List ℕ) (allowed : ℕ) (start : Start) (all : AreBytes file) (read : IsRead file allowed start) where
+module _ (steps : ℕ → Steps) (file : List ℕ) (allowed : ℕ) (start : Start) (all : AreBytes file)
+    (read : IsRead file allowed start) where
   abbrev new : List ℕ
   new = new_file steps file allowed start all read
 
@@ -112,38 +132,49 @@ module _ (steps : ℕ → Steps) (file : List ℕ) (allowed : ℕ) (start : Star
   rows = rows_by lost file (frames_from file start)
 
   rows_told : (told_from file start).frames ≡ rows
-  rows_told = marked-by file head start.first.offset (frames_from file start) (walk_rising file start head)
+  rows_told =
+      marked-by file head start.first.offset (frames_from file start) (walk_rising file start head)
 
   head_same : head_bytes new new_head ≡ head_bytes file head
   head_same =
       let h = start.first.header in
       let frame = first_frame steps file allowed start all read in
-      let room : overhead_of (class_of h) h.protected ≤ length_of (class_of h) h.slot = omega (arith, (whole_room h (frame_bytes file start.first) frame).0, frame.size) in
+      let room : overhead_of (class_of h) h.protected ≤ length_of (class_of h) h.slot =
+      omega (arith, (whole_room h (frame_bytes file start.first) frame).0, frame.size) in
       head_bytes-nearer file new (gap_of start) start.first
-      (area-frame new (nearer_frame (gap_of start) start.first) room ∙ new-area steps file allowed start all read ∙ sym (area-frame file start.first room))
+      (area-frame new (nearer_frame (gap_of start) start.first) room
+      ∙ new-area steps file allowed start all read ∙ sym (area-frame file start.first room))
 
   -- no byte of the main data changes
-  main_same : main_bytes new new_head (map (moved_row steps (gap_of start)) rows) ≡ main_bytes file head rows
+  main_same : main_bytes new new_head (map (moved_row steps (gap_of start)) rows)
+      ≡ main_bytes file head rows
   unfolding main_bytes
-  main_same = ap₂ (λ (a b : List ℕ). a ++ b) head_same (areas-moved steps lost file new (gap_of start) (frames_from file start) (frames-moved steps file allowed start all read))
+  main_same = ap₂ (λ (a b : List ℕ). a ++ b) head_same (areas-moved steps lost file new
+      (gap_of start) (frames_from file start) (frames-moved steps file allowed start all read))
 
   abbrev IsMovedBy : List Row → Type 0
   IsMovedBy rs =
-      stream_frames (main_bytes new new_head (map (moved_row steps (gap_of start)) rs)) new_head (map (moved_row steps (gap_of start)) rs)
-      ≡ map (λ (p : ℕ × Row). moved_stream_frame (steps p.1.offset) (stream_frame (main_bytes file head rs) head rs p.0 p.1)) (enumerate_from 0 rs)
+      stream_frames (main_bytes new new_head (map (moved_row steps (gap_of start)) rs)) new_head
+      (map (moved_row steps (gap_of start)) rs)
+      ≡ map (λ (p : ℕ × Row). moved_stream_frame (steps p.1.offset)
+      (stream_frame (main_bytes file head rs) head rs p.0 p.1)) (enumerate_from 0 rs)
 
   rows_moved : IsMovedBy rows
   rows_moved =
       ap (λ main. stream_frames main new_head (map (moved_row steps (gap_of start)) rows)) main_same
-      ∙ all_moved steps (gap_of start) (main_bytes file head rows) head rows (by_shaped lost file (frames_from file start))
+      ∙ all_moved steps (gap_of start) (main_bytes file head rows) head rows
+      (by_shaped lost file (frames_from file start))
 
-  stream-from : stream_of_survey new (moved_survey steps (told_from file start)) ≡ moved_stream_of steps file (told_from file start)
+  stream-from : stream_of_survey new (moved_survey steps (told_from file start))
+      ≡ moved_stream_of steps file (told_from file start)
   unfolding stream_of_survey moved_survey moved_stream_of
   stream-from = subst IsMovedBy (sym rows_told) rows_moved
 
 -- The stream of the edited file: each frame with its gains moved, and all else as it was.
-pub stream-edited : (steps : ℕ → Steps) (file : List ℕ) (allowed : ℕ) (s : SurveyFields) → AreBytes file → surveyed file allowed ≡ Ok s
+pub stream-edited : (steps : ℕ → Steps) (file : List ℕ) (allowed : ℕ) (s : SurveyFields)
+    → AreBytes file → surveyed file allowed ≡ Ok s
     → stream_of_survey (edited steps file s) (moved_survey steps s) ≡ moved_stream_of steps file s
 stream-edited steps file allowed s all e =
     let parts = surveyed-parts file allowed s e in
-    subst (λ t. stream_of_survey (edited steps file t) (moved_survey steps t) ≡ moved_stream_of steps file t) parts.2 (stream-from steps file allowed parts.0 all parts.1)
+    subst (λ t. stream_of_survey (edited steps file t) (moved_survey steps t)
+    ≡ moved_stream_of steps file t) parts.2 (stream-from steps file allowed parts.0 all parts.1)

@@ -1,15 +1,19 @@
 -- What holds of each row.
-use Rattle.std.proofs.Common.{◌+◌, List, [], ◌∷◌, ◌++◌}
+use Rattle.std.proofs.Common.{List, [], ◌++◌, ◌∷◌}
 use Rattle.sync_survey.specs.Row.{Row}
 
 abbrev pub Each : (Row → Type 0) → List Row → Type 0
 Each P [] = Unit {0}
 Each P (row ∷ rows) = P row × Each P rows
 
-pub each_before : (P : Row → Type 0) (before behind : List Row) → Each P (before ++ behind) → Each P before
+-- what holds of all rows holds of the first
+pub each_before : (P : Row → Type 0) (before behind : List Row) → Each P (before ++ behind)
+    → Each P before
 each_before P [] behind each = tt
 each_before P (row ∷ before) behind each = (each.0, each_before P before behind each.1)
 
-pub each_behind : (P : Row → Type 0) (before behind : List Row) → Each P (before ++ behind) → Each P behind
+-- and of those behind them
+pub each_behind : (P : Row → Type 0) (before behind : List Row) → Each P (before ++ behind)
+    → Each P behind
 each_behind P [] behind each = each
 each_behind P (row ∷ before) behind each = each_behind P before behind each.1

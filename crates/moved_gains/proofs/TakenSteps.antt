@@ -1,31 +1,28 @@
--- The steps that gains take: where no gain of a list leaves the range, the least and the greatest don't, and the other way round.
-use Rattle.std.proofs.Common.{◌≡◌, ℕ, zero, suc, ◌+◌, ◌-◌, ◌<◌, ◌≤◌, ltb, leb, min, max, Bool, true, false, not, ◌&&◌, ◌||◌, cond, List, [], ◌∷◌, ◌++◌, Option, Some, None, is_some, ℤ, pos, negsuc, ◌+ℤ◌, neg_ℤ, refl, sym, ◌∙◌, ap, ap₂, arith}
-use Rattle.std.specs.Prelude.{int_le, MatchBool}
-use Rattle.std.specs.Cmp.{both_ways}
-use Rattle.std.specs.Option.{option_or}
-use Rattle.std.proofs.Math.IntN.{+ℤ_idr}
-use Rattle.std.proofs.lemmas.Bool.{ltb-true, ltb-false, leb-true, lt-ltb, le-ltb, le-leb, lt-leb, and_parts, and_from}
-use Rattle.std.proofs.lemmas.List.{append-nil}
+-- The steps that gains take: where no gain of a list leaves the
+-- range, the least and the greatest don't, and the other way round.
+use Rattle.std.proofs.Common.{ap, ap₂, arith, Bool, cond, false, is_some, leb, List, ltb, max, min}
+use Rattle.std.proofs.Common.{neg_ℤ, negsuc, None, not, Option, pos, refl, Some, suc, sym, true}
+use Rattle.std.proofs.Common.{zero, ℕ, ℤ, ◌+ℤ◌, [], ◌&&◌, ◌++◌, ◌+◌, ◌-◌, ◌<◌, ◌||◌, ◌∙◌, ◌∷◌, ◌≡◌}
+use Rattle.std.proofs.{Common.◌≤◌, Math.IntN.+ℤ_idr}
+use Rattle.std.proofs.lemmas.Bool.{and_from, and_parts, le-leb, le-ltb, leb-true, lt-leb, lt-ltb}
+use Rattle.std.{proofs.lemmas.{Bool.{ltb-false, ltb-true}, List.append-nil}, specs.Cmp.both_ways}
+use Rattle.std.specs.{Option.option_or, Prelude.{int_le, MatchBool}}
+use Rattle.frame_header.specs.{Fields.ClassFields, Tables.{class_of, granules_of}}
 use Rattle.frame_header.specs.declared.version.Version.{Version}
-use Rattle.frame_header.specs.Fields.{ClassFields}
-use Rattle.frame_header.specs.Tables.{class_of, granules_of}
-use Rattle.side_info.specs.declared.granule.Granule.{Granule}
-use Rattle.side_info.specs.declared.side.Side.{Side}
-use Rattle.side_info.specs.Granule.{no_granule, GranuleFits}
-use Rattle.side_info.specs.Side.{granule_in, has_granule, SideFits}
-use Rattle.sync_survey.specs.Row.{Row}
-use Rattle.requests.specs.declared.shift.Steps.{Steps}
-use Rattle.moved_gains.specs.declared.gains.Stuck.{Stuck}
-use Rattle.moved_gains.specs.declared.gain_extremes.Gains.{Gains}
-use Rattle.moved_gains.specs.Gains.{is_silent_granule, is_outside, stuck_at, stuck_in}
-use Rattle.moved_gains.specs.Course.{even, alike}
-use Rattle.moved_gains.specs.Edited.{stuck_of}
+use Rattle.moved_gains.proofs.ExtremesLaws.{joined-extremes, moving-cons, moving-nil}
+use Rattle.moved_gains.proofs.{MovedFrame.gain_fits, MovedGains.{is_stuck, wrapped-free}}
+use Rattle.moved_gains.specs.{Course.{alike, even}, Edited.stuck_of}
+use Rattle.moved_gains.specs.GainExtremes.{extremes, extremes_of_both, gain_that_moves, gains_at}
+use Rattle.moved_gains.specs.GainExtremes.{gains_in, joined, moving_gains, takes}
+use Rattle.moved_gains.specs.Gains.{is_outside, is_silent_granule, stuck_at, stuck_in}
 use Rattle.moved_gains.specs.Moving.{AreOfClass}
-use Rattle.moved_gains.specs.GainExtremes.{gain_that_moves, gains_in, gains_at, moving_gains, extremes, joined, extremes_of_both, takes}
-use Rattle.moved_gains.specs.StepLaws.{AreFitting, some_stuck, apart, TakeSteps}
-use Rattle.moved_gains.proofs.MovedGains.{is_stuck, wrapped-free}
-use Rattle.moved_gains.proofs.MovedFrame.{gain_fits}
-use Rattle.moved_gains.proofs.ExtremesLaws.{joined-extremes, moving-nil, moving-cons}
+use Rattle.moved_gains.specs.StepLaws.{apart, AreFitting, some_stuck, TakeSteps}
+use Rattle.moved_gains.specs.declared.{gain_extremes.Gains.Gains, gains.Stuck.Stuck}
+use Rattle.requests.specs.declared.shift.Steps.{Steps}
+use Rattle.side_info.specs.Granule.{GranuleFits, no_granule}
+use Rattle.side_info.specs.Side.{granule_in, has_granule, SideFits}
+use Rattle.side_info.specs.declared.{granule.Granule.Granule, side.Side.Side}
+use Rattle.sync_survey.specs.Row.{Row}
 
 -- ---- tests
 
@@ -36,14 +33,18 @@ and_true false = refl
 leb-min : (n a b : ℕ) → leb n (min a b) ≡ (leb n a && leb n b)
 leb-min n a b =
     both_ways (leb n (min a b)) (leb n a && leb n b)
-    (λ is. let within : n ≤ min a b = leb-true n (min a b) is in and_from (leb n a) (leb n b) (le-leb n a (omega (arith, within))) (le-leb n b (omega (arith, within))))
-    (λ is. let both = and_parts (leb n a) (leb n b) is in le-leb n (min a b) (omega (arith, leb-true n a both.0, leb-true n b both.1)))
+    (λ is. let within : n ≤ min a b = leb-true n (min a b) is in and_from (leb n a) (leb n b)
+    (le-leb n a (omega (arith, within))) (le-leb n b (omega (arith, within))))
+    (λ is. let both = and_parts (leb n a) (leb n b) is in
+    le-leb n (min a b) (omega (arith, leb-true n a both.0, leb-true n b both.1)))
 
 ltb-min : (n a b : ℕ) → ltb n (min a b) ≡ (ltb n a && ltb n b)
 ltb-min n a b =
     both_ways (ltb n (min a b)) (ltb n a && ltb n b)
-    (λ is. let within : n < min a b = ltb-true n (min a b) is in and_from (ltb n a) (ltb n b) (lt-ltb n a (omega (arith, within))) (lt-ltb n b (omega (arith, within))))
-    (λ is. let both = and_parts (ltb n a) (ltb n b) is in lt-ltb n (min a b) (omega (arith, ltb-true n a both.0, ltb-true n b both.1)))
+    (λ is. let within : n < min a b = ltb-true n (min a b) is in and_from (ltb n a) (ltb n b)
+    (lt-ltb n a (omega (arith, within))) (lt-ltb n b (omega (arith, within))))
+    (λ is. let both = and_parts (ltb n a) (ltb n b) is in
+    lt-ltb n (min a b) (omega (arith, ltb-true n a both.0, ltb-true n b both.1)))
 
 -- ---- one gain
 
@@ -64,7 +65,8 @@ AreSmall (gain ∷ gains) = (gain < 256) × AreSmall gains
 takes_up : (g : Gains) (n : ℕ) → takes (Some g) (pos n) ≡ leb n (255 - g.greatest)
 takes_up g n = by_least g.least
   where
-    by_least : (a : ℕ) → (int_le (neg_ℤ (pos a)) (pos n) && leb n (255 - g.greatest)) ≡ leb n (255 - g.greatest)
+    by_least : (a : ℕ)
+        → (int_le (neg_ℤ (pos a)) (pos n) && leb n (255 - g.greatest)) ≡ leb n (255 - g.greatest)
     by_least zero = ap (λ b. b && leb n (255 - g.greatest)) (le-leb 0 n (omega arith))
     by_least (suc a) = refl
 
@@ -80,7 +82,8 @@ takes_down g n = by_least g.least
         (λ is. le-leb n a (omega (arith, ltb-true n (suc a) is)))
 
 -- one gain takes steps exactly where it doesn't leave the range by them
-pub takes-one : (gain : ℕ) (steps : ℤ) → gain < 256 → takes (Some (record { least = gain; greatest = gain })) steps ≡ inside steps gain
+pub takes-one : (gain : ℕ) (steps : ℤ) → gain < 256
+    → takes (Some (record { least = gain; greatest = gain })) steps ≡ inside steps gain
 takes-one gain (pos n) small =
     takes_up (record { least = gain; greatest = gain }) n
     ∙ (elim (ltb 255 (gain + n)) as (λ b. ltb 255 (gain + n) ≡ b → leb n (255 - gain) ≡ not b) [
@@ -89,19 +92,23 @@ takes-one gain (pos n) small =
     ] refl)
 takes-one gain (negsuc n) small =
     takes_down (record { least = gain; greatest = gain }) n
-    ∙ (elim (ltb gain (suc n)) as (λ b. ltb gain (suc n) ≡ b → ltb n gain ≡ not (is_outside (cond b (negsuc (suc n - suc gain)) (pos (gain - suc n))))) [
+    ∙ (elim (ltb gain (suc n)) as (λ b. ltb gain (suc n) ≡ b
+    → ltb n gain ≡ not (is_outside (cond b (negsuc (suc n - suc gain)) (pos (gain - suc n))))) [
       | true ↦ λ is. le-ltb n gain (omega (arith, ltb-true gain (suc n) is))
-      | false ↦ λ is. lt-ltb n gain (omega (arith, ltb-false gain (suc n) is)) ∙ sym (ap not (le-ltb 255 (gain - suc n) (omega (arith, small))))
+      | false ↦ λ is. lt-ltb n gain (omega (arith, ltb-false gain (suc n) is))
+          ∙ sym (ap not (le-ltb 255 (gain - suc n) (omega (arith, small))))
     ] refl)
 
 -- ---- many gains
 
 -- the gains of two lists together take what those of each do
-pub takes-joined : (f g : Option Gains) (steps : ℤ) → takes (joined f g) steps ≡ (takes f steps && takes g steps)
+pub takes-joined : (f g : Option Gains) (steps : ℤ)
+    → takes (joined f g) steps ≡ (takes f steps && takes g steps)
 takes-joined None g steps = refl
 takes-joined (Some f) None steps = and_true (takes (Some f) steps)
 takes-joined (Some f) (Some g) (pos n) =
-    let least : 255 - max f.greatest g.greatest ≡ min (255 - f.greatest) (255 - g.greatest) = omega arith in
+    let least : 255 - max f.greatest g.greatest ≡ min (255 - f.greatest) (255 - g.greatest) =
+    omega arith in
     takes_up (record { least = min f.least g.least; greatest = max f.greatest g.greatest }) n
     ∙ ap (leb n) least ∙ leb-min n (255 - f.greatest) (255 - g.greatest)
     ∙ sym (ap₂ (λ (a b : Bool). a && b) (takes_up f n) (takes_up g n))
@@ -118,22 +125,27 @@ takes-nil : (steps : ℤ) → takes (extremes []) steps ≡ true
 unfolding extremes
 takes-nil steps = refl
 
--- the least and the greatest of gains take steps exactly where none of the gains leaves the range by them
-pub takes-all : (gains : List ℕ) (steps : ℤ) → AreSmall gains → takes (extremes gains) steps ≡ all_inside steps gains
+-- the least and the greatest of gains take steps exactly
+-- where none of the gains leaves the range by them
+pub takes-all : (gains : List ℕ) (steps : ℤ) → AreSmall gains
+    → takes (extremes gains) steps ≡ all_inside steps gains
 takes-all [] steps small = takes-nil steps
 takes-all (gain ∷ gains) steps small =
     ap (λ g. takes g steps) (sym (joined-extremes (gain ∷ []) gains))
     ∙ takes-joined (extremes (gain ∷ [])) (extremes gains) steps
-    ∙ ap₂ (λ (a b : Bool). a && b) (ap (λ g. takes g steps) (extremes-one gain) ∙ takes-one gain steps small.0) (takes-all gains steps small.1)
+    ∙ ap₂ (λ (a b : Bool). a && b) (ap (λ g. takes g steps) (extremes-one gain)
+    ∙ takes-one gain steps small.0) (takes-all gains steps small.1)
 
 and_assoc : (a b c : Bool) → (a && (b && c)) ≡ ((a && b) && c)
 and_assoc true b c = refl
 and_assoc false b c = refl
 
 -- none of two lists leaves the range where none of the one does and none of the other
-pub inside-append : (steps : ℤ) (xs ys : List ℕ) → all_inside steps (xs ++ ys) ≡ (all_inside steps xs && all_inside steps ys)
+pub inside-append : (steps : ℤ) (xs ys : List ℕ)
+    → all_inside steps (xs ++ ys) ≡ (all_inside steps xs && all_inside steps ys)
 inside-append steps [] ys = refl
-inside-append steps (x ∷ xs) ys = ap (λ b. inside steps x && b) (inside-append steps xs ys) ∙ and_assoc (inside steps x) (all_inside steps xs) (all_inside steps ys)
+inside-append steps (x ∷ xs) ys = ap (λ b. inside steps x && b) (inside-append steps xs ys)
+    ∙ and_assoc (inside steps x) (all_inside steps xs) (all_inside steps ys)
 
 small-append : (xs ys : List ℕ) → AreSmall xs → AreSmall ys → AreSmall (xs ++ ys)
 small-append [] ys first second = second
@@ -144,7 +156,8 @@ inside-none : (gains : List ℕ) → AreSmall gains → all_inside (pos 0) gains
 inside-none [] small = refl
 inside-none (gain ∷ gains) small =
     and_from (inside (pos 0) gain) (all_inside (pos 0) gains)
-    (ap (λ z. not (is_outside z)) (+ℤ_idr (pos gain)) ∙ ap not (le-ltb 255 gain (omega (arith, small.0))))
+    (ap (λ z. not (is_outside z)) (+ℤ_idr (pos gain))
+    ∙ ap not (le-ltb 255 gain (omega (arith, small.0))))
     (inside-none gains small.1)
 
 -- ---- one frame
@@ -157,20 +170,30 @@ some_if : (b : Bool) (x : Stuck) → is_some (cond b (Some x) None) ≡ b
 some_if true x = refl
 some_if false x = refl
 
-some_at : (steps : ℤ) (s : Side) (granule channel : ℕ) → is_some (stuck_at steps s granule channel) ≡ is_stuck steps (granule_in s granule channel)
-some_at steps s granule channel = some_if (is_stuck steps (granule_in s granule channel)) (record { granule = granule; channel = channel; gain = (granule_in s granule channel).global_gain })
+some_at : (steps : ℤ) (s : Side) (granule channel : ℕ)
+    → is_some (stuck_at steps s granule channel) ≡ is_stuck steps (granule_in s granule channel)
+some_at steps s granule channel = some_if (is_stuck steps (granule_in s granule channel)) (record {
+  granule = granule;
+  channel = channel;
+  gain = (granule_in s granule channel).global_gain;
+})
 
-moves_inside : (steps : ℤ) (g : Granule) → all_inside steps (gain_that_moves g) ≡ not (is_stuck steps g)
+moves_inside : (steps : ℤ) (g : Granule)
+    → all_inside steps (gain_that_moves g) ≡ not (is_stuck steps g)
 moves_inside steps g =
-    elim (is_silent_granule g) as (λ b. all_inside steps (cond b [] (g.global_gain ∷ [])) ≡ not (not b && is_outside (pos g.global_gain +ℤ steps))) [
+    elim (is_silent_granule g) as (λ b. all_inside steps (cond b [] (g.global_gain ∷ []))
+    ≡ not (not b && is_outside (pos g.global_gain +ℤ steps))) [
       | true ↦ refl
       | false ↦ sym (and_true (inside steps g.global_gain))
     ]
 
-gains_inside : (steps : ℤ) (s : Side) (channel : ℕ) → all_inside steps (gains_in channel s) ≡ (not (is_stuck steps (granule_in s 0 channel)) && not (is_stuck steps (granule_in s 1 channel)))
+gains_inside : (steps : ℤ) (s : Side) (channel : ℕ) → all_inside steps (gains_in channel s) ≡
+    (not (is_stuck steps (granule_in s 0 channel)) && not (is_stuck steps (granule_in s 1 channel)))
 gains_inside steps s channel =
-    inside-append steps (gain_that_moves (granule_in s 0 channel)) (gain_that_moves (granule_in s 1 channel))
-    ∙ ap₂ (λ (a b : Bool). a && b) (moves_inside steps (granule_in s 0 channel)) (moves_inside steps (granule_in s 1 channel))
+    inside-append steps (gain_that_moves (granule_in s 0 channel))
+    (gain_that_moves (granule_in s 1 channel))
+    ∙ ap₂ (λ (a b : Bool). a && b) (moves_inside steps (granule_in s 0 channel))
+    (moves_inside steps (granule_in s 1 channel))
 
 one_of_four : (a b c d : Bool) → (a || (b || (c || d))) ≡ not ((not a && not c) && (not b && not d))
 one_of_four true b c d = refl
@@ -180,27 +203,33 @@ one_of_four false false true d = refl
 one_of_four false false false true = refl
 one_of_four false false false false = refl
 
-some_of_four : (o p q r : Option Stuck) → is_some (option_or o (option_or p (option_or q r))) ≡ (is_some o || (is_some p || (is_some q || is_some r)))
+some_of_four : (o p q r : Option Stuck) → is_some (option_or o (option_or p (option_or q r)))
+    ≡ (is_some o || (is_some p || (is_some q || is_some r)))
 some_of_four o p q r =
     some_or o (option_or p (option_or q r))
     ∙ ap (λ b. is_some o || b) (some_or p (option_or q r) ∙ ap (λ b. is_some p || b) (some_or q r))
 
--- a gain of a frame leaves the range exactly where one of the left channel does by the steps to the left, or one of the right by those
--- to the right
-side_stuck : (left right : ℤ) (s : Side) → is_some (stuck_in (apart left right) s) ≡ not (all_inside left (gains_in 0 s) && all_inside right (gains_in 1 s))
+-- a gain of a frame leaves the range exactly where one of the left channel
+-- does by the steps to the left, or one of the right by those to the right
+side_stuck : (left right : ℤ) (s : Side) → is_some (stuck_in (apart left right) s)
+    ≡ not (all_inside left (gains_in 0 s) && all_inside right (gains_in 1 s))
 unfolding stuck_in
 side_stuck left right s =
-    some_of_four (stuck_at left s 0 0) (stuck_at right s 0 1) (stuck_at left s 1 0) (stuck_at right s 1 1)
+    some_of_four (stuck_at left s 0 0) (stuck_at right s 0 1) (stuck_at left s 1 0)
+    (stuck_at right s 1 1)
     ∙ ap₂ (λ (a b : Bool). a || b) (some_at left s 0 0)
     (ap₂ (λ (a b : Bool). a || b) (some_at right s 0 1)
     (ap₂ (λ (a b : Bool). a || b) (some_at left s 1 0) (some_at right s 1 1)))
-    ∙ one_of_four (is_stuck left (granule_in s 0 0)) (is_stuck right (granule_in s 0 1)) (is_stuck left (granule_in s 1 0)) (is_stuck right (granule_in s 1 1))
+    ∙ one_of_four (is_stuck left (granule_in s 0 0)) (is_stuck right (granule_in s 0 1))
+    (is_stuck left (granule_in s 1 0)) (is_stuck right (granule_in s 1 1))
     ∙ sym (ap₂ (λ (a b : Bool). not (a && b)) (gains_inside left s 0) (gains_inside right s 1))
 
-row_stuck : (left right : ℤ) (row : Row) → is_some (stuck_of (apart left right) row) ≡ not (all_inside left (gains_at 0 row) && all_inside right (gains_at 1 row))
+row_stuck : (left right : ℤ) (row : Row) → is_some (stuck_of (apart left right) row)
+    ≡ not (all_inside left (gains_at 0 row) && all_inside right (gains_at 1 row))
 row_stuck left right row =
     elim row.lost as (λ b. is_some (cond b None (stuck_in (apart left right) row.side))
-    ≡ not (all_inside left (cond b [] (gains_in 0 row.side)) && all_inside right (cond b [] (gains_in 1 row.side)))) [
+    ≡ not (all_inside left (cond b [] (gains_in 0 row.side))
+    && all_inside right (cond b [] (gains_in 1 row.side)))) [
       | true ↦ refl
       | false ↦ side_stuck left right row.side
     ]
@@ -213,7 +242,8 @@ unfolding some_stuck
 stuck-nil steps = refl
 
 -- a gain of frames leaves it where one of the first frame does or one of the others
-pub stuck-cons : (steps : ℕ → Steps) (row : Row) (rows : List Row) → some_stuck steps (row ∷ rows) ≡ (is_some (stuck_of (steps row.offset) row) || some_stuck steps rows)
+pub stuck-cons : (steps : ℕ → Steps) (row : Row) (rows : List Row) → some_stuck steps (row ∷ rows)
+    ≡ (is_some (stuck_of (steps row.offset) row) || some_stuck steps rows)
 unfolding some_stuck
 stuck-cons steps row rows = refl
 
@@ -227,34 +257,48 @@ first_or_other true true false q = refl
 inside-nil : (channel : ℕ) (steps : ℤ) → all_inside steps (moving_gains channel []) ≡ true
 inside-nil channel steps = ap (all_inside steps) (moving-nil channel)
 
-inside-cons : (channel : ℕ) (steps : ℤ) (row : Row) (rows : List Row) → all_inside steps (moving_gains channel (row ∷ rows)) ≡ (all_inside steps (gains_at channel row) && all_inside steps (moving_gains channel rows))
-inside-cons channel steps row rows = ap (all_inside steps) (moving-cons channel row rows) ∙ inside-append steps (gains_at channel row) (moving_gains channel rows)
+inside-cons : (channel : ℕ) (steps : ℤ) (row : Row) (rows : List Row)
+    → all_inside steps (moving_gains channel (row ∷ rows))
+    ≡ (all_inside steps (gains_at channel row) && all_inside steps (moving_gains channel rows))
+inside-cons channel steps row rows = ap (all_inside steps) (moving-cons channel row rows)
+    ∙ inside-append steps (gains_at channel row) (moving_gains channel rows)
 
-rows_stuck : (left right : ℤ) (rows : List Row) → some_stuck (even (apart left right)) rows ≡ not (all_inside left (moving_gains 0 rows) && all_inside right (moving_gains 1 rows))
-rows_stuck left right [] = stuck-nil (even (apart left right)) ∙ sym (ap₂ (λ (a b : Bool). not (a && b)) (inside-nil 0 left) (inside-nil 1 right))
+rows_stuck : (left right : ℤ) (rows : List Row) → some_stuck (even (apart left right)) rows
+    ≡ not (all_inside left (moving_gains 0 rows) && all_inside right (moving_gains 1 rows))
+rows_stuck left right [] = stuck-nil (even (apart left right))
+    ∙ sym (ap₂ (λ (a b : Bool). not (a && b)) (inside-nil 0 left) (inside-nil 1 right))
 rows_stuck left right (row ∷ rows) =
     stuck-cons (even (apart left right)) row rows
     ∙ ap₂ (λ (a b : Bool). a || b) (row_stuck left right row) (rows_stuck left right rows)
-    ∙ first_or_other (all_inside left (gains_at 0 row)) (all_inside right (gains_at 1 row)) (all_inside left (moving_gains 0 rows)) (all_inside right (moving_gains 1 rows))
-    ∙ sym (ap₂ (λ (a b : Bool). not (a && b)) (inside-cons 0 left row rows) (inside-cons 1 right row rows))
+    ∙ first_or_other (all_inside left (gains_at 0 row)) (all_inside right (gains_at 1 row))
+    (all_inside left (moving_gains 0 rows)) (all_inside right (moving_gains 1 rows))
+    ∙ sym (ap₂ (λ (a b : Bool). not (a && b)) (inside-cons 0 left row rows)
+    (inside-cons 1 right row rows))
 
 each_stuck : (steps : ℕ → ℤ) (rows : List Row)
-    → ((at : ℕ) → (all_inside (steps at) (moving_gains 0 rows) ≡ true) × (all_inside (steps at) (moving_gains 1 rows) ≡ true))
+    → ((at : ℕ) → (all_inside (steps at) (moving_gains 0 rows) ≡ true)
+    × (all_inside (steps at) (moving_gains 1 rows) ≡ true))
     → some_stuck (λ at. alike (steps at)) rows ≡ false
 each_stuck steps [] free = stuck-nil (λ at. alike (steps at))
 each_stuck steps (row ∷ rows) free =
-    let parts : (channel at : ℕ) → all_inside (steps at) (moving_gains channel (row ∷ rows)) ≡ true → (all_inside (steps at) (gains_at channel row) ≡ true) × (all_inside (steps at) (moving_gains channel rows) ≡ true) =
-    λ channel at is. and_parts (all_inside (steps at) (gains_at channel row)) (all_inside (steps at) (moving_gains channel rows)) (sym (inside-cons channel (steps at) row rows) ∙ is) in
+    let parts : (channel at : ℕ) → all_inside (steps at) (moving_gains channel (row ∷ rows)) ≡ true
+    → (all_inside (steps at) (gains_at channel row) ≡ true)
+    × (all_inside (steps at) (moving_gains channel rows) ≡ true) =
+    λ channel at is. and_parts (all_inside (steps at) (gains_at channel row)) (all_inside (steps at)
+    (moving_gains channel rows)) (sym (inside-cons channel (steps at) row rows) ∙ is) in
     stuck-cons (λ at. alike (steps at)) row rows
     ∙ ap₂ (λ (a b : Bool). a || b)
     (row_stuck (steps row.offset) (steps row.offset) row
-    ∙ ap₂ (λ (a b : Bool). not (a && b)) (parts 0 row.offset (free row.offset).0).0 (parts 1 row.offset (free row.offset).1).0)
+    ∙ ap₂ (λ (a b : Bool). not (a && b))
+    (parts 0 row.offset (free row.offset).0).0 (parts 1 row.offset (free row.offset).1).0)
     (each_stuck steps rows (λ at. ((parts 0 at (free at).0).1, (parts 1 at (free at).1).1)))
 
-wrap_stuck : (steps : ℕ → Steps) (rows : List Row) → ((at : ℕ) → (steps at).wrap ≡ true) → some_stuck steps rows ≡ false
+wrap_stuck : (steps : ℕ → Steps) (rows : List Row) → ((at : ℕ) → (steps at).wrap ≡ true)
+    → some_stuck steps rows ≡ false
 wrap_stuck steps [] wraps = stuck-nil steps
 wrap_stuck steps (row ∷ rows) wraps =
-    stuck-cons steps row rows ∙ ap₂ (λ (a b : Bool). a || b) (ap is_some (free row.lost)) (wrap_stuck steps rows wraps)
+    stuck-cons steps row rows
+    ∙ ap₂ (λ (a b : Bool). a || b) (ap is_some (free row.lost)) (wrap_stuck steps rows wraps)
   where
     free : (lost : Bool) → cond lost None (stuck_in (steps row.offset) row.side) ≡ None
     free true = refl
@@ -269,24 +313,30 @@ small_gain g small =
       | false ↦ (small, tt)
     ]
 
-small_at : (channel : ℕ) (row : Row) → SideFits (class_of row.header) row.side → AreSmall (gains_at channel row)
+small_at : (channel : ℕ) (row : Row) → SideFits (class_of row.header) row.side
+    → AreSmall (gains_at channel row)
 small_at channel row fits =
     let c = class_of row.header in
     let gain : (granule : ℕ) → AreSmall (gain_that_moves (granule_in row.side granule channel)) =
-    λ granule. small_gain (granule_in row.side granule channel) (gain_fits c (has_granule c granule channel) (granule_in row.side granule channel) (fits.granules granule channel)) in
+    λ granule. small_gain (granule_in row.side granule channel) (gain_fits c (has_granule c granule
+    channel) (granule_in row.side granule channel) (fits.granules granule channel)) in
     elim row.lost as (λ b. AreSmall (cond b [] (gains_in channel row.side))) [
       | true ↦ tt
-      | false ↦ small-append (gain_that_moves (granule_in row.side 0 channel)) (gain_that_moves (granule_in row.side 1 channel)) (gain 0) (gain 1)
+      | false ↦ small-append (gain_that_moves (granule_in row.side 0 channel))
+          (gain_that_moves (granule_in row.side 1 channel)) (gain 0) (gain 1)
     ]
 
-small_moving : (channel : ℕ) (rows : List Row) → AreFitting rows → AreSmall (moving_gains channel rows)
+small_moving : (channel : ℕ) (rows : List Row) → AreFitting rows
+    → AreSmall (moving_gains channel rows)
 unfolding moving_gains
 small_moving channel [] fits = tt
-small_moving channel (row ∷ rows) fits = small-append (gains_at channel row) (moving_gains channel rows) (small_at channel row fits.0) (small_moving channel rows fits.1)
+small_moving channel (row ∷ rows) fits = small-append (gains_at channel row)
+    (moving_gains channel rows) (small_at channel row fits.0) (small_moving channel rows fits.1)
 
 -- ---- one channel
 
-lacks : (has : Bool) (version : Version) (g : Granule) → has ≡ false → MatchBool has (GranuleFits version g) (g ≡ no_granule) → g ≡ no_granule
+lacks : (has : Bool) (version : Version) (g : Granule) → has ≡ false
+    → MatchBool has (GranuleFits version g) (g ≡ no_granule) → g ≡ no_granule
 lacks true version g none fits = absurd cc
 lacks false version g none fits = fits
 
@@ -300,39 +350,51 @@ no_second c granule one = by_granule (ltb granule (granules_of c.version))
     by_granule true = few
     by_granule false = refl
 
-mono_at : (class : ClassFields) (row : Row) → class_of row.header ≡ class → class.channels ≡ 1 → SideFits (class_of row.header) row.side → gains_at 1 row ≡ []
+mono_at : (class : ClassFields) (row : Row) → class_of row.header ≡ class → class.channels ≡ 1
+    → SideFits (class_of row.header) row.side → gains_at 1 row ≡ []
 mono_at class row same one fits =
     let c = class_of row.header in
     let lone : c.channels ≡ 1 = ap (λ (c : ClassFields). c.channels) same ∙ one in
     let none : (granule : ℕ) → gain_that_moves (granule_in row.side granule 1) ≡ [] =
-    λ granule. ap gain_that_moves (lacks (has_granule c granule 1) c.version (granule_in row.side granule 1) (no_second c granule lone) (fits.granules granule 1)) in
+    λ granule. ap gain_that_moves (lacks (has_granule c granule 1) c.version
+    (granule_in row.side granule 1) (no_second c granule lone) (fits.granules granule 1)) in
     elim row.lost as (λ b. cond b [] (gains_in 1 row.side) ≡ []) [
       | true ↦ refl
       | false ↦ ap₂ (λ (a b : List ℕ). a ++ b) (none 0) (none 1)
     ]
 
-mono_moving : (class : ClassFields) (rows : List Row) → AreOfClass class rows → class.channels ≡ 1 → AreFitting rows → moving_gains 1 rows ≡ []
+mono_moving : (class : ClassFields) (rows : List Row) → AreOfClass class rows → class.channels ≡ 1
+    → AreFitting rows → moving_gains 1 rows ≡ []
 mono_moving class [] same one fits = moving-nil 1
 mono_moving class (row ∷ rows) same one fits =
     moving-cons 1 row rows
-    ∙ ap₂ (λ (a b : List ℕ). a ++ b) (mono_at class row (same 0 row refl) one fits.0) (mono_moving class rows (λ i r is. same (suc i) r is) one fits.1)
+    ∙ ap₂ (λ (a b : List ℕ). a ++ b) (mono_at class row (same 0 row refl) one fits.0)
+    (mono_moving class rows (λ i r is. same (suc i) r is) one fits.1)
 
 -- ---- the law
 
 -- when a gain of frames that fit leaves the range
 pub take_steps : (rows : List Row) → AreFitting rows → TakeSteps rows
 take_steps rows fits = record {
-  apart_is = λ left right. rows_stuck left right rows ∙ sym (ap₂ (λ (a b : Bool). not (a && b)) (takes-all (moving_gains 0 rows) left left_small) (takes-all (moving_gains 1 rows) right right_small));
+  apart_is = λ left right. rows_stuck left right rows
+      ∙ sym (ap₂ (λ (a b : Bool). not (a && b)) (takes-all (moving_gains 0 rows) left left_small)
+      (takes-all (moving_gains 1 rows) right right_small));
   both = λ steps. rows_stuck steps steps rows ∙ ap not (sym (on_both steps));
   left = λ steps. rows_stuck steps (pos 0) rows
-      ∙ ap (λ b. not (all_inside steps (moving_gains 0 rows) && b)) (inside-none (moving_gains 1 rows) right_small)
-      ∙ ap not (sym (and_true (all_inside steps (moving_gains 0 rows))) ∙ sym (takes-all (moving_gains 0 rows) steps left_small));
+      ∙ ap (λ b. not (all_inside steps (moving_gains 0 rows) && b))
+      (inside-none (moving_gains 1 rows) right_small)
+      ∙ ap not (sym (and_true (all_inside steps (moving_gains 0 rows)))
+      ∙ sym (takes-all (moving_gains 0 rows) steps left_small));
   right = λ steps. rows_stuck (pos 0) steps rows
-      ∙ ap (λ b. not (b && all_inside steps (moving_gains 1 rows))) (inside-none (moving_gains 0 rows) left_small)
+      ∙ ap (λ b. not (b && all_inside steps (moving_gains 1 rows)))
+      (inside-none (moving_gains 0 rows) left_small)
       ∙ ap not (sym (takes-all (moving_gains 1 rows) steps right_small));
-  each = λ steps takes_all. each_stuck steps rows (λ at. and_parts (all_inside (steps at) (moving_gains 0 rows)) (all_inside (steps at) (moving_gains 1 rows)) (sym (on_both (steps at)) ∙ takes_all at));
+  each = λ steps takes_all. each_stuck steps rows
+      (λ at. and_parts (all_inside (steps at) (moving_gains 0 rows))
+      (all_inside (steps at) (moving_gains 1 rows)) (sym (on_both (steps at)) ∙ takes_all at));
   wrap = λ steps wraps. wrap_stuck steps rows wraps;
-  mono = λ class same one. ap (λ gains. extremes (moving_gains 0 rows ++ gains)) (mono_moving class rows same one fits) ∙ ap extremes (append-nil (moving_gains 0 rows));
+  mono = λ class same one. ap (λ gains. extremes (moving_gains 0 rows ++ gains))
+      (mono_moving class rows same one fits) ∙ ap extremes (append-nil (moving_gains 0 rows));
 }
   where
     left_small : AreSmall (moving_gains 0 rows)
@@ -341,7 +403,9 @@ take_steps rows fits = record {
     right_small : AreSmall (moving_gains 1 rows)
     right_small = small_moving 1 rows fits
 
-    on_both : (steps : ℤ) → takes (extremes_of_both rows) steps ≡ (all_inside steps (moving_gains 0 rows) && all_inside steps (moving_gains 1 rows))
+    on_both : (steps : ℤ) → takes (extremes_of_both rows) steps
+        ≡ (all_inside steps (moving_gains 0 rows) && all_inside steps (moving_gains 1 rows))
     on_both steps =
-        takes-all (moving_gains 0 rows ++ moving_gains 1 rows) steps (small-append (moving_gains 0 rows) (moving_gains 1 rows) left_small right_small)
+        takes-all (moving_gains 0 rows ++ moving_gains 1 rows) steps
+        (small-append (moving_gains 0 rows) (moving_gains 1 rows) left_small right_small)
         ∙ inside-append steps (moving_gains 0 rows) (moving_gains 1 rows)

@@ -1,10 +1,10 @@
 -- By how many steps the gains of each frame of a file move.
-use Rattle.std.specs.Prelude.{◌≡◌, ℕ, suc, false, slice_get, Some, nat_lt, if◌then◌else◌, List, [], ◌∷◌, ℤ}
+use Rattle.std.specs.Prelude.{false, if◌then◌else◌, List, nat_lt, slice_get, Some, suc, ℕ, ℤ, []}
+use Rattle.std.specs.Prelude.{◌∷◌, ◌≡◌}
 use Rattle.fade_plan.specs.Curves.{steps_at, steps_back}
-use Rattle.sync_survey.specs.Row.{Row}
-use Rattle.moved_gains.specs.declared.course.Course.{Course}
-use Rattle.moved_gains.specs.declared.course.Course.TheVariants.{Even, Along}
+use Rattle.moved_gains.specs.declared.course.Course.{Course, TheVariants.{Along, Even}}
 use Rattle.requests.specs.declared.shift.Steps.{Steps}
+use Rattle.sync_survey.specs.Row.{Row}
 
 -- every frame by the same steps
 abbrev pub even : Steps → ℕ → Steps
@@ -22,7 +22,8 @@ steps_in (Along curve back) frame = alike (steps_back back (steps_at curve frame
 -- how many of these frames are before an offset: the number of the one that is there
 abbrev pub number_at : List Row → ℕ → ℕ
 number_at [] at = 0
-number_at (row ∷ rows) at = if nat_lt row.offset at then suc (number_at rows at) else number_at rows at
+number_at (row ∷ rows) at =
+    if nat_lt row.offset at then suc (number_at rows at) else number_at rows at
 
 -- frame i of these is the one of number i at its offset
 abbrev pub AreNumbered : List Row → Type 0

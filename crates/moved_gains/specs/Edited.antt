@@ -1,21 +1,21 @@
 -- A file with the gains of its frames moved.
-use Rattle.std.specs.Prelude.{ℕ, ◌==◌, ◌&&◌, ◌||◌, Bool, false, List, [], ◌∷◌, ◌++◌, take, drop, Option, Some, None, if◌then◌else◌, flat_map}
+use Rattle.std.specs.Prelude.{Bool, drop, false, flat_map, if◌then◌else◌, List, None, Option, Some}
+use Rattle.std.specs.Prelude.{take, ℕ, [], ◌&&◌, ◌++◌, ◌==◌, ◌||◌, ◌∷◌}
 use Rattle.frame_header.specs.Fields.{HeaderFields}
-use Rattle.side_info.specs.Frame.{side_in, frame_with}
-use Rattle.sync_survey.specs.declared.items.Item.{Item}
-use Rattle.sync_survey.specs.declared.items.Item.TheVariants.{Frame, Free, Block, Zero, End, Nothing}
-use Rattle.sync_survey.specs.declared.places.Head.{Head}
-use Rattle.sync_survey.specs.Row.{Row}
-use Rattle.sync_survey.specs.declared.runs.Part.TheVariants.{Front, Stream}
-use Rattle.sync_survey.specs.Runs.{Placed, run, bytes_in, bytes_of_items}
-use Rattle.sync_survey.specs.Faults.{SurveyFields}
-use Rattle.moved_gains.specs.declared.gains.Stuck.{Stuck}
+use Rattle.moved_gains.specs.{Gains.{moved_side, stuck_in}, declared.gains.Stuck.Stuck}
 use Rattle.requests.specs.declared.shift.Steps.{Steps}
-use Rattle.moved_gains.specs.Gains.{moved_side, stuck_in}
+use Rattle.side_info.specs.Frame.{frame_with, side_in}
+use Rattle.sync_survey.specs.{Faults.SurveyFields, Row.Row}
+use Rattle.sync_survey.specs.Runs.{bytes_in, bytes_of_items, Placed, run}
+use Rattle.sync_survey.specs.declared.items.Item.{Item}
+use Rattle.sync_survey.specs.declared.items.Item.TheVariants.{Block, End, Frame, Free, Nothing}
+use Rattle.sync_survey.specs.declared.{items.Item.TheVariants.Zero, places.Head.Head}
+use Rattle.sync_survey.specs.declared.runs.Part.TheVariants.{Front, Stream}
 
 -- ---- the bytes
 
--- a frame with this header and moved gains: the check word of a protected frame is right for them, and all other bytes stay
+-- a frame with this header and moved gains: the check word of a
+-- protected frame is right for them, and all other bytes stay
 abbrev pub moved_frame : Steps → HeaderFields → List ℕ → List ℕ
 moved_frame steps h frame = frame_with h (moved_side steps (side_in h frame)) frame
 
@@ -32,24 +32,29 @@ moved_item steps lost Zero bytes = bytes
 moved_item steps lost End bytes = bytes
 moved_item steps lost Nothing bytes = bytes
 
--- the same of items of a file, one after the other; a frame at an offset moves by the steps there, and the frames at these offsets are lost
+-- the same of items of a file, one after the other; a frame at an offset
+-- moves by the steps there, and the frames at these offsets are lost
 unfoldable pub moved_items : (ℕ → Steps) → (ℕ → Bool) → List ℕ → List Placed → List ℕ
-moved_items steps lost file ps = flat_map (λ (p : Placed). moved_item (steps p.offset) (lost p.offset) p.item (bytes_in file p)) ps
+moved_items steps lost file ps = flat_map (λ (p : Placed). moved_item (steps p.offset)
+    (lost p.offset) p.item (bytes_in file p)) ps
 
 -- the items from the first frame on; a head is the first of them, and stays
 abbrev pub moved_stream : (ℕ → Steps) → (ℕ → Bool) → List ℕ → Option Head → List Placed → List ℕ
 moved_stream steps lost file None ps = moved_items steps lost file ps
-moved_stream steps lost file (Some head) ps = bytes_of_items file (take 1 ps) ++ moved_items steps lost file (drop 1 ps)
+moved_stream steps lost file (Some head) ps =
+    bytes_of_items file (take 1 ps) ++ moved_items steps lost file (drop 1 ps)
 
 -- a lost frame of these is at the offset
 abbrev pub is_lost_at : List Row → ℕ → Bool
 is_lost_at [] at = false
 is_lost_at (row ∷ rows) at = (row.lost && row.offset == at) || is_lost_at rows at
 
--- all items of a file in their order, with the gains of its frames moved, each by the steps at its offset; junk is dropped
+-- all items of a file in their order, with the gains of its
+-- frames moved, each by the steps at its offset; junk is dropped
 unfoldable pub edited : (ℕ → Steps) → List ℕ → SurveyFields → List ℕ
 edited steps file s =
-    bytes_of_items file (run Front file 0).items ++ moved_stream steps (is_lost_at s.frames) file s.head (run Stream file s.first).items
+    bytes_of_items file (run Front file 0).items
+    ++ moved_stream steps (is_lost_at s.frames) file s.head (run Stream file s.first).items
 
 -- ---- the range
 

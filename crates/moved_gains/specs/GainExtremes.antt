@@ -1,16 +1,12 @@
 -- The gains of a file that move, the least and the greatest of them, and the steps that they take.
-use Rattle.std.specs.Prelude.{ℕ, ◌-◌, ◌<◌, ◌≤◌, min, max, Bool, true, ◌&&◌, if◌then◌else◌}
-use Rattle.std.specs.Prelude.{List, [], ◌∷◌, ◌++◌, flat_map, fold, All, Contains, Option, Some}
-use Rattle.std.specs.Prelude.{None}
-use Rattle.std.specs.Prelude.{ℤ, pos, neg_ℤ, int_le}
+use Rattle.std.specs.Prelude.{All, Bool, Contains, flat_map, fold, if◌then◌else◌, int_le, List, max}
+use Rattle.std.specs.Prelude.{min, neg_ℤ, None, Option, pos, Some, true, ℕ, ℤ, [], ◌&&◌, ◌++◌, ◌-◌}
+use Rattle.std.specs.Prelude.{◌<◌, ◌∷◌, ◌≤◌}
 use Rattle.frame_header.specs.Fields.{ClassFields}
-use Rattle.side_info.specs.declared.granule.Granule.{Granule}
-use Rattle.side_info.specs.declared.side.Side.{Side}
-use Rattle.side_info.specs.Side.{granule_in}
-use Rattle.sync_survey.specs.Row.{Row}
+use Rattle.moved_gains.specs.{Gains.is_silent_granule, Moving.AreOfClass}
 use Rattle.moved_gains.specs.declared.gain_extremes.Gains.{Gains}
-use Rattle.moved_gains.specs.Gains.{is_silent_granule}
-use Rattle.moved_gains.specs.Moving.{AreOfClass}
+use Rattle.side_info.specs.{Side.granule_in, declared.{granule.Granule.Granule, side.Side.Side}}
+use Rattle.sync_survey.specs.Row.{Row}
 
 -- ---- the gains that move
 
@@ -75,8 +71,7 @@ joined (Some g) (Some h) =
 -- no gain leaves the range from 0 to 255 by so many steps: by any where no gain moves
 abbrev pub takes : Option Gains → ℤ → Bool
 takes None steps = true
-takes (Some g) steps =
-    int_le (neg_ℤ (pos g.least)) steps && int_le steps (pos (255 - g.greatest))
+takes (Some g) steps = int_le (neg_ℤ (pos g.least)) steps && int_le steps (pos (255 - g.greatest))
 
 -- nor by as many the other way
 abbrev pub takes_back : Option Gains → ℤ → Bool

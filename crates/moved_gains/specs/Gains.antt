@@ -1,16 +1,12 @@
--- Moved gains (global_gain of ISO/IEC 11172-3, 2.4.2.7, in steps of 1.5 dB). The rules for moving them are this project's: a lost frame and
--- a silent granule stay as they are, and without wrap a gain that would leave the range from 0 to 255 refuses the whole file.
-use Rattle.std.specs.Prelude.{ℕ, ◌==◌, ◌&&◌, not, nat_lt, if◌then◌else◌, Bool, true, List, [], ◌∷◌, Option, Some, None, ℤ, pos, negsuc, ◌+ℤ◌, unsigned_abs}
-use Rattle.std.specs.Int.{int_rem_euclid}
-use Rattle.std.specs.Option.{option_or}
-use Rattle.side_info.specs.declared.granule.Granule.{Granule}
-use Rattle.side_info.specs.declared.side.Side.{Side}
-use Rattle.side_info.specs.Side.{granule_in}
+-- Moved gains (global_gain of ISO/IEC 11172-3, 2.4.2.7, in steps of 1.5 dB). The rules for
+-- moving them are this project's: a lost frame and a silent granule stay as they are, and
+-- without wrap a gain that would leave the range from 0 to 255 refuses the whole file.
+use Rattle.std.specs.{Int.int_rem_euclid, Option.option_or}
+use Rattle.std.specs.Prelude.{Bool, if◌then◌else◌, List, nat_lt, negsuc, None, not, Option, pos}
+use Rattle.std.specs.Prelude.{Some, true, unsigned_abs, ℕ, ℤ, ◌+ℤ◌, [], ◌&&◌, ◌==◌, ◌∷◌}
 use Rattle.moved_gains.specs.declared.gains.Stuck.{Stuck}
-use Rattle.requests.specs.declared.shift.Shift.{Shift}
 use Rattle.requests.specs.declared.shift.Steps.{Steps}
-use Rattle.requests.specs.declared.shift.Channels.{Channels}
-use Rattle.requests.specs.declared.shift.Channels.TheVariants.{Both, Left, Right}
+use Rattle.side_info.specs.{Side.granule_in, declared.{granule.Granule.Granule, side.Side.Side}}
 
 -- silent: no main data, so that the gain doesn't matter
 abbrev pub is_silent_granule : Granule → Bool
@@ -20,8 +16,10 @@ is_silent_granule g = g.part2_3_length == 0
 abbrev pub moved_gain : ℤ → ℕ → ℕ
 moved_gain steps gain = unsigned_abs (int_rem_euclid (pos gain +ℤ steps) (pos 256))
 
+-- a granule with its gain moved; a silent one stays
 abbrev pub moved : ℤ → Granule → Granule
-moved steps g = if is_silent_granule g then g else record g { global_gain = moved_gain steps g.global_gain }
+moved steps g =
+    if is_silent_granule g then g else record g { global_gain = moved_gain steps g.global_gain }
 
 -- a granule with channel 0 moved by the steps of the left and channel 1 by those of the right
 abbrev pub moved_channels : Steps → Side → ℕ → List Granule
@@ -30,7 +28,8 @@ moved_channels steps s granule =
 
 -- all other side fields stay
 unfoldable pub moved_side : Steps → Side → Side
-moved_side steps s = record s { granules = moved_channels steps s 0 ∷ moved_channels steps s 1 ∷ [] }
+moved_side steps s =
+    record s { granules = moved_channels steps s 0 ∷ moved_channels steps s 1 ∷ [] }
 
 -- so does a frame that is lost, whole
 abbrev pub moved_unless : Bool → Steps → Side → Side
@@ -38,6 +37,7 @@ moved_unless lost steps s = if lost then s else moved_side steps s
 
 -- ---- the range
 
+-- the number isn't from 0 to 255
 abbrev pub is_outside : ℤ → Bool
 is_outside (pos n) = nat_lt 255 n
 is_outside (negsuc n) = true
@@ -48,7 +48,8 @@ stuck_at steps s granule channel = let g = granule_in s granule channel in
     if not (is_silent_granule g) && is_outside (pos g.global_gain +ℤ steps)
     then Some (record { granule = granule; channel = channel; gain = g.global_gain }) else None
 
--- the first gain of a frame that would leave the range, in order of granules and channels; none with wrap
+-- the first gain of a frame that would leave the range,
+-- in order of granules and channels; none with wrap
 unfoldable pub stuck_in : Steps → Side → Option Stuck
 stuck_in steps s =
     if steps.wrap then None

@@ -1,26 +1,18 @@
--- What stays of a file whose gains are moved: what is written differs from it in gains, in check
--- words, in the tag, and in junk that is left out. It is said of the bytes of both files, whatever was
--- done to get from the one to the other.
-use Rattle.std.specs.Prelude.{◌≡◌, ◌⊎◌, ℕ, ◌+◌, ◌<◌, ◌≤◌, not, if◌then◌else◌, Bool, true, false}
-use Rattle.std.specs.Prelude.{List, [], ◌∷◌, ◌++◌, length, take, drop, map, flat_map, slice_get}
-use Rattle.std.specs.Prelude.{Some, Ok, MatchBool}
-use Rattle.bit_fields.specs.Bits.{bits, AreBytes}
+-- What stays of a file whose gains are moved: what is written differs from it in
+-- gains, in check words, in the tag, and in junk that is left out. It is said of
+-- the bytes of both files, whatever was done to get from the one to the other.
+use Rattle.std.specs.Prelude.{Bool, drop, false, flat_map, if◌then◌else◌, length, List, map}
+use Rattle.std.specs.Prelude.{MatchBool, not, Ok, slice_get, Some, take, true, ℕ, [], ◌++◌, ◌+◌}
+use Rattle.std.specs.Prelude.{◌<◌, ◌∷◌, ◌≡◌, ◌≤◌, ◌⊎◌}
+use Rattle.bit_fields.specs.Bits.{AreBytes, bits}
+use Rattle.frame_header.specs.{Fields.HeaderFields, HeaderBits.header_widths, Tables.class_of}
 use Rattle.frame_header.specs.declared.version.Version.{Version}
-use Rattle.frame_header.specs.Fields.{HeaderFields}
-use Rattle.frame_header.specs.Tables.{class_of}
-use Rattle.frame_header.specs.HeaderBits.{header_widths}
-use Rattle.side_info.specs.declared.granule.Granule.{Granule}
-use Rattle.side_info.specs.declared.side.Side.{Side}
-use Rattle.side_info.specs.Granule.{granule_widths}
-use Rattle.side_info.specs.Side.{front_widths, granules_in}
-use Rattle.side_info.specs.Frame.{side_in}
-use Rattle.sync_survey.specs.Row.{Row}
-use Rattle.sync_survey.specs.Faults.{SurveyFields, surveyed}
+use Rattle.moved_gains.specs.{Change.{Change, changed}, Gains.is_silent_granule, Moving.row_end}
 use Rattle.moved_gains.specs.TagPlace.{tag_at, tag_length}
 use Rattle.outside.specs.Pass.{bytes_between}
-use Rattle.moved_gains.specs.Gains.{is_silent_granule}
-use Rattle.moved_gains.specs.Moving.{row_end}
-use Rattle.moved_gains.specs.Change.{Change, changed}
+use Rattle.side_info.specs.{Frame.side_in, Granule.granule_widths, Side.{front_widths, granules_in}}
+use Rattle.side_info.specs.declared.{granule.Granule.Granule, side.Side.Side}
+use Rattle.sync_survey.specs.{Faults.{surveyed, SurveyFields}, Row.Row}
 
 -- ---- a frame
 
@@ -129,9 +121,9 @@ AreAllowed MayBeTag file s (p ∷ ps) =
     (LeavesJunk s p ⊎ (ReplacesTag MayBeTag s p ⊎ MovesFrame file s p))
     × AreAllowed MayBeTag file s ps
 
--- What is written is the file with patches that leave out its junk, put what may be a tag in the place
--- of its tag, and move the gains of its frames. So every other byte stays, and all stay in their order:
--- blocks, zero bytes, the head, and of each frame all but gains and check word.
+-- What is written is the file with patches that leave out its junk, put what may be a tag in the
+-- place of its tag, and move the gains of its frames. So every other byte stays, and all stay in
+-- their order: blocks, zero bytes, the head, and of each frame all but gains and check word.
 pub record KeepsAll (MayBeTag : List ℕ → Type 0) (file : List ℕ) (s : SurveyFields)
     (new : List ℕ) : Type 0 where
   pub patches : List Patch

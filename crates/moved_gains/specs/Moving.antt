@@ -1,21 +1,20 @@
--- A file that is read once from its beginning to its end and written with moved gains and with another tag.
-use Rattle.std.specs.Prelude.{◌≡◌, ℕ, ◌+◌, ◌&&◌, nat_le, slice_get, if◌then◌else◌, Option, Some, None, length, List, [], ◌∷◌, ◌++◌, take, drop}
-use Rattle.frame_header.specs.Fields.{ClassFields}
-use Rattle.frame_header.specs.Tables.{class_of, length_of, overhead_of}
-use Rattle.side_info.specs.Frame.{side_in, frame_with}
-use Rattle.sync_survey.specs.Row.{Row}
-use Rattle.moved_gains.specs.TagPlace.{tag_at, tag_length}
-use Rattle.sync_survey.specs.Faults.{SurveyFields}
-use Rattle.outside.specs.Pass.{bytes_between}
+-- A file that is read once from its beginning to its end
+-- and written with moved gains and with another tag.
+use Rattle.std.specs.Prelude.{drop, if◌then◌else◌, length, List, nat_le, None, Option, slice_get}
+use Rattle.std.specs.Prelude.{Some, take, ℕ, [], ◌&&◌, ◌++◌, ◌+◌, ◌∷◌, ◌≡◌}
+use Rattle.frame_header.specs.{Fields.ClassFields, Tables.{class_of, length_of, overhead_of}}
+use Rattle.moved_gains.specs.{Change.Change, Gains.moved_side, TagPlace.{tag_at, tag_length}}
 use Rattle.moved_gains.specs.declared.moving.NewTag.{NewTag}
+use Rattle.outside.specs.Pass.{bytes_between}
 use Rattle.requests.specs.declared.shift.Steps.{Steps}
-use Rattle.moved_gains.specs.Gains.{moved_side}
-use Rattle.moved_gains.specs.Change.{Change}
+use Rattle.side_info.specs.Frame.{frame_with, side_in}
+use Rattle.sync_survey.specs.{Faults.SurveyFields, Row.Row}
 
--- the length of a frame in bytes, and the offset at which it ends
+-- the length of a frame in bytes
 abbrev pub row_length : Row → ℕ
 row_length row = length_of (class_of row.header) row.header.slot
 
+-- the offset at which a frame ends
 abbrev pub row_end : Row → ℕ
 row_end row = row.offset + row_length row
 
@@ -27,47 +26,59 @@ row_overhead row = overhead_of (class_of row.header) row.header.protected
 abbrev pub IsRowOf : List ℕ → Row → Type 0
 IsRowOf file row = side_in row.header (drop row.offset file) ≡ row.side
 
+-- so is that of each of these
 abbrev pub AreRowsOf : List ℕ → List Row → Type 0
 AreRowsOf file [] = Unit {0}
 AreRowsOf file (row ∷ rows) = IsRowOf file row × AreRowsOf file rows
 
 -- the rows are of frames of this class
 abbrev pub AreOfClass : ClassFields → List Row → Type 0
-AreOfClass class rows = (i : ℕ) (row : Row) → slice_get rows i ≡ Some row → class_of row.header ≡ class
+AreOfClass class rows =
+    (i : ℕ) (row : Row) → slice_get rows i ≡ Some row → class_of row.header ≡ class
 
--- the bytes of a frame, or the first of them up to its area, with its gains moved; a lost frame stays
+-- the bytes of a frame, or the first of them up to
+-- its area, with its gains moved; a lost frame stays
 abbrev pub moved_bytes : Steps → Row → List ℕ → List ℕ
-moved_bytes steps row bytes = if row.lost then bytes else frame_with row.header (moved_side steps row.side) bytes
+moved_bytes steps row bytes =
+    if row.lost then bytes else frame_with row.header (moved_side steps row.side) bytes
 
--- a frame of the file, and the same with its gains moved
+-- the bytes of a frame of the file
 abbrev pub row_bytes : List ℕ → Row → List ℕ
 row_bytes file row = take (row_length row) (drop row.offset file)
 
+-- the same with its gains moved
 abbrev pub moved_row_bytes : Steps → List ℕ → Row → List ℕ
 moved_row_bytes steps file row = moved_bytes steps row (row_bytes file row)
 
--- the bytes of the file from one offset to another, with the new tag between them in place of what it replaces
+-- the bytes of the file from one offset to another, with
+-- the new tag between them in place of what it replaces
 abbrev pub bytes_around : NewTag → ℕ → ℕ → List ℕ → List ℕ
-bytes_around tag from to file = bytes_between file from tag.at ++ (tag.bytes.now ++ bytes_between file tag.end to)
+bytes_around tag from to file =
+    bytes_between file from tag.at ++ (tag.bytes.now ++ bytes_between file tag.end to)
 
 -- the bytes from one offset to another, with the new tag if what it replaces is among them
 abbrev pub copied : Option NewTag → List ℕ → ℕ → ℕ → List ℕ
 copied None file from to = bytes_between file from to
 copied (Some tag) file from to =
-    if nat_le from tag.at && (nat_le tag.at tag.end && nat_le tag.end to) then bytes_around tag from to file else bytes_between file from to
+    if nat_le from tag.at && (nat_le tag.at tag.end && nat_le tag.end to)
+    then bytes_around tag from to file else bytes_between file from to
 
--- The bytes of the file from an offset on, with the gains of these frames moved, which are after it in their order, each by the steps at
+-- The bytes of the file from an offset on, with the gains of these
+-- frames moved, which are after it in their order, each by the steps at
 -- its offset; and with the new tag, if what it replaces is between them.
 unfoldable pub written_from : (ℕ → Steps) → Option NewTag → List ℕ → ℕ → List Row → List ℕ
 written_from steps tag file at [] = copied tag file at (length file)
 written_from steps tag file at (row ∷ rows) =
-    copied tag file at row.offset ++ (moved_row_bytes (steps row.offset) file row ++ written_from steps tag file (row_end row) rows)
+    copied tag file at row.offset ++ (moved_row_bytes (steps row.offset) file row
+    ++ written_from steps tag file (row_end row) rows)
 
 -- the new tag of a change is in place of the file's
 abbrev pub IsTagOf : SurveyFields → Option (List ℕ) → Option NewTag → Type 0
 IsTagOf s None None = Unit {0}
-IsTagOf s (Some bytes) (Some tag) = (tag.at ≡ tag_at s) × (tag.end ≡ tag_at s + tag_length s) × (tag.bytes.now ≡ bytes)
+IsTagOf s (Some bytes) (Some tag) =
+    (tag.at ≡ tag_at s) × (tag.end ≡ tag_at s + tag_length s) × (tag.bytes.now ≡ bytes)
 IsTagOf s _ _ = ⊥
 
+-- the new tag of this change is in place of the file's
 abbrev pub IsNewTag : SurveyFields → Change → Option NewTag → Type 0
 IsNewTag s change tag = IsTagOf s change.tag tag

@@ -1,12 +1,10 @@
 -- What the buffer of a pass shows.
-use Rattle.std.specs.Prelude.{◌≡◌, ℕ, ◌^◌, ◌≤◌, List, [], length, take, drop, Result, IfOk, IfErr, OnOk}
-use Rattle.outside.specs.declared.pass.Pass.{Pass}
-use Rattle.outside.specs.declared.pass.PassFault.{PassFault}
-use Rattle.outside.specs.Seen.{Seen, OnFile}
-use Rattle.outside.specs.Passed.{PassedOn}
-use Rattle.outside.specs.Feed.{Fed, buffer_size}
-use Rattle.outside.specs.Pass.{IsReady, WritesPrefix, route_of, HasPassCause, IsOfRead, Writes, Appends, AppendsPrefix, Route}
-use Rattle.outside.specs.Files.{IsThere}
+use Rattle.std.specs.Prelude.{drop, IfErr, IfOk, length, List, OnOk, Result, take, ℕ, [], ◌^◌, ◌≡◌}
+use Rattle.std.specs.Prelude.{◌≤◌}
+use Rattle.outside.specs.{Feed.{buffer_size, Fed}, Files.IsThere}
+use Rattle.outside.specs.Pass.{Appends, AppendsPrefix, HasPassCause, IsOfRead, IsReady, Route}
+use Rattle.outside.specs.{Pass.{route_of, Writes, WritesPrefix}, Passed.PassedOn}
+use Rattle.outside.specs.{Seen.{OnFile, Seen}, declared.pass.{Pass.Pass, PassFault.PassFault}}
 
 -- the bytes of the input that are held, and what waits for the output
 pub record Passing : Type 0 where
@@ -20,8 +18,10 @@ pub record IsWithin (room : List ℕ) (place done end : ℕ) : Type 0 where
   pub few : end ≤ buffer_size
   pub early : place ≤ 2 ^ 32
 
--- At least so many bytes of the input from an offset on are held, after what waits, or a call failed.
-pub record BuffersFill (pass : Pass) (at n : ℕ) (was now : Passing) (old new : Seen) (result : Result (Unit {0}) PassFault) : Type 0 where
+-- At least so many bytes of the input from an offset
+-- on are held, after what waits, or a call failed.
+pub record BuffersFill (pass : Pass) (at n : ℕ) (was now : Passing) (old new : Seen)
+    (result : Result (Unit {0}) PassFault) : Type 0 where
   pub passed : OnOk result (PassedOn pass.output.now was.waiting now.waiting old.files new.files)
   pub place : OnOk result (now.feed.place ≡ at)
   pub enough : OnOk result (n ≤ length now.feed.held)
@@ -36,18 +36,22 @@ pub record HasInput (pass : Pass) (old : Seen) : Type 0 where
   pub found : OnFile old pass.input.now (λ file. length file ≡ pass.length)
   pub short : pass.length ≤ 2 ^ 32
 
--- The input was read on, after what was kept of it, until so many bytes are there, or a read failed.
-pub record ReadBehind (pass : Pass) (at kept n : ℕ) (before after : List ℕ) (old new : Seen) (result : Result ℕ PassFault) : Type 0 where
+-- The input was read on, after what was kept of it,
+-- until so many bytes are there, or a read failed.
+pub record ReadBehind (pass : Pass) (at kept n : ℕ) (before after : List ℕ) (old new : Seen)
+    (result : Result ℕ PassFault) : Type 0 where
   pub enough : IfOk result (λ end. n ≤ end)
   pub most : IfOk result (λ end. end ≤ buffer_size)
-  pub bytes : IfOk result (λ end. OnFile old pass.input.now (λ file. take kept before ≡ take kept (drop at file) → take end after ≡ take end (drop at file)))
+  pub bytes : IfOk result (λ end. OnFile old pass.input.now (λ file.
+      take kept before ≡ take kept (drop at file) → take end after ≡ take end (drop at file)))
   pub done : OnOk result (new.counts ≡ old.counts)
   pub cause : IfErr result (HasPassCause (route_of pass) old.files old.counts new.counts)
   pub read : IfErr result IsOfRead
   pub files : new.files ≡ old.files
 
 -- A frame was written with its gains moved, or a call failed.
-pub record MoveAnswer (pass : Pass) (made : List ℕ → List ℕ) (stop : ℕ) (was now : Passing) (old new : Seen) (result : Result ℕ PassFault) : Type 0 where
+pub record MoveAnswer (pass : Pass) (made : List ℕ → List ℕ) (stop : ℕ) (was now : Passing)
+    (old new : Seen) (result : Result ℕ PassFault) : Type 0 where
   pub written : OnOk result (Writes pass made was.waiting now.waiting old.files new.files)
   pub prefix : IfErr result (WritesPrefix pass made was.waiting old.files new.files)
   pub end : IfOk result (λ end. end ≡ stop)
@@ -56,14 +60,16 @@ pub record MoveAnswer (pass : Pass) (made : List ℕ → List ℕ) (stop : ℕ) 
   pub ready : OnOk result (IsReady pass new.files now.feed)
 
 -- Frames were written with their gains moved, and what is between them, or a call failed.
-pub record MovesAnswer (pass : Pass) (made : List ℕ → List ℕ) (was now : Passing) (old new : Seen) (result : Result (Unit {0}) PassFault) : Type 0 where
+pub record MovesAnswer (pass : Pass) (made : List ℕ → List ℕ) (was now : Passing) (old new : Seen)
+    (result : Result (Unit {0}) PassFault) : Type 0 where
   pub written : OnOk result (Writes pass made was.waiting now.waiting old.files new.files)
   pub prefix : IfErr result (WritesPrefix pass made was.waiting old.files new.files)
   pub done : OnOk result (new.counts ≡ old.counts)
   pub cause : IfErr result (HasPassCause (route_of pass) old.files old.counts new.counts)
 
 -- A file was appended with its change, or a prefix of that where a call failed.
-pub record ChangedAnswer (way : Route) (made : List ℕ → List ℕ) (old new : Seen) (result : Result (Unit {0}) PassFault) : Type 0 where
+pub record ChangedAnswer (way : Route) (made : List ℕ → List ℕ) (old new : Seen)
+    (result : Result (Unit {0}) PassFault) : Type 0 where
   pub written : OnOk result (Appends way.input way.output made old.files new.files)
   pub prefix : IfErr result (AppendsPrefix way.input way.output made old.files new.files)
   pub done : OnOk result (new.counts ≡ old.counts)

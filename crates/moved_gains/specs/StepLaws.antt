@@ -1,16 +1,14 @@
 -- Which steps the gains of frames take without leaving the range from 0 to 255: this is told by the
 -- least and the greatest that move.
-use Rattle.std.specs.Prelude.{◌≡◌, ℕ, Bool, true, false, not, ◌&&◌, ◌||◌, IsTrue, List, [], ◌∷◌}
-use Rattle.std.specs.Prelude.{is_some, ℤ, pos}
-use Rattle.frame_header.specs.Fields.{ClassFields}
-use Rattle.frame_header.specs.Tables.{class_of}
-use Rattle.side_info.specs.Side.{SideFits}
-use Rattle.sync_survey.specs.Row.{Row}
-use Rattle.requests.specs.declared.shift.Steps.{Steps}
-use Rattle.moved_gains.specs.Course.{even, alike}
-use Rattle.moved_gains.specs.Edited.{stuck_of}
+use Rattle.std.specs.Prelude.{Bool, false, is_some, IsTrue, List, not, pos, true, ℕ, ℤ, [], ◌&&◌}
+use Rattle.std.specs.Prelude.{◌||◌, ◌∷◌, ◌≡◌}
+use Rattle.frame_header.specs.{Fields.ClassFields, Tables.class_of}
+use Rattle.moved_gains.specs.{Course.{alike, even}, Edited.stuck_of}
 use Rattle.moved_gains.specs.GainExtremes.{extremes_of, extremes_of_both, takes}
 use Rattle.moved_gains.specs.Moving.{AreOfClass}
+use Rattle.requests.specs.declared.shift.Steps.{Steps}
+use Rattle.side_info.specs.Side.{SideFits}
+use Rattle.sync_survey.specs.Row.{Row}
 
 -- each field of their side information is within its bits
 abbrev pub AreFitting : List Row → Type 0

@@ -1,14 +1,13 @@
 -- What a change of gains makes of the survey of a file, and of the stream that the file holds.
 pub use Rattle.sync_survey.specs.Faults.{HoldsStream, stream_by, stream_of as stream_in}
 use Rattle.std.specs.List.{enumerate_from}
-use Rattle.std.specs.Prelude.{◌≡◌, ℕ, ◌-◌, nat_lt, if◌then◌else◌, List, ◌++◌, take, drop, map, option_map}
-use Rattle.sync_survey.specs.declared.places.Head.{Head}
-use Rattle.sync_survey.specs.declared.places.Piece.{Piece}
-use Rattle.sync_survey.specs.Row.{Row}
-use Rattle.sync_survey.specs.MainData.{StreamFrame, main_bytes, stream_frame}
-use Rattle.sync_survey.specs.Faults.{SurveyFields, IsWellFormed, stream_of_survey}
-use Rattle.requests.specs.declared.shift.Steps.{Steps}
+use Rattle.std.specs.Prelude.{drop, if◌then◌else◌, List, map, nat_lt, option_map, take, ℕ, ◌++◌}
+use Rattle.std.specs.Prelude.{◌-◌, ◌≡◌}
 use Rattle.moved_gains.specs.Gains.{moved_side, moved_unless}
+use Rattle.requests.specs.declared.shift.Steps.{Steps}
+use Rattle.sync_survey.specs.Faults.{IsWellFormed, stream_of_survey, SurveyFields}
+use Rattle.sync_survey.specs.{MainData.{main_bytes, stream_frame, StreamFrame}, Row.Row}
+use Rattle.sync_survey.specs.declared.places.{Head.Head, Piece.Piece}
 
 -- ---- the survey of the edited file
 
@@ -16,20 +15,26 @@ use Rattle.moved_gains.specs.Gains.{moved_side, moved_unless}
 abbrev pub junk_length : SurveyFields → ℕ
 junk_length s = s.first - s.junk
 
--- a frame that isn't lost has its gains moved by the steps at its offset, and each is so many bytes nearer to the beginning of the file
+-- a frame that isn't lost has its gains moved by the steps at its
+-- offset, and each is so many bytes nearer to the beginning of the file
 abbrev pub moved_row : (ℕ → Steps) → ℕ → Row → Row
-moved_row steps gap row = record row { offset = row.offset - gap; side = moved_unless row.lost (steps row.offset) row.side }
+moved_row steps gap row = record row {
+  offset = row.offset - gap;
+  side = moved_unless row.lost (steps row.offset) row.side;
+}
 
 -- a head is so many bytes nearer to the beginning, and stays as it is
 abbrev pub moved_head : ℕ → Head → Head
 moved_head gap head = record head { offset = head.offset - gap }
 
--- a block before the first frame stays where it is, and one after it is so many bytes nearer to the beginning
+-- a block before the first frame stays where it is, and
+-- one after it is so many bytes nearer to the beginning
 abbrev pub moved_block : ℕ → ℕ → Piece → Piece
-moved_block first gap piece = if nat_lt piece.offset first then piece else record piece { offset = piece.offset - gap }
+moved_block first gap piece =
+    if nat_lt piece.offset first then piece else record piece { offset = piece.offset - gap }
 
--- What a survey tells of the edited file: the same frames with moved gains, blocks, head and class, at their offsets without the junk.
--- The first frame begins where the junk began.
+-- What a survey tells of the edited file: the same frames with moved gains, blocks, head and
+-- class, at their offsets without the junk. The first frame begins where the junk began.
 unfoldable pub moved_survey : (ℕ → Steps) → SurveyFields → SurveyFields
 moved_survey steps s = record {
   frames = map (moved_row steps (junk_length s)) s.frames;
@@ -47,17 +52,21 @@ without_junk s file = take s.junk file ++ drop s.first file
 
 -- ---- the stream
 
--- a frame of a stream with moved gains: its header and its main data stay; a lost one has no gains there
+-- a frame of a stream with moved gains: its header and
+-- its main data stay; a lost one has no gains there
 abbrev pub moved_stream_frame : Steps → StreamFrame → StreamFrame
 moved_stream_frame steps frame = record frame { side = moved_side steps frame.side }
 
 -- the stream of a surveyed file, with the gains of each frame moved by the steps at its offset
 unfoldable pub moved_stream_of : (ℕ → Steps) → List ℕ → SurveyFields → List StreamFrame
 moved_stream_of steps file s =
-    map (λ (p : ℕ × Row). moved_stream_frame (steps p.1.offset) (stream_frame (main_bytes file s.head s.frames) s.head s.frames p.0 p.1)) (enumerate_from 0 s.frames)
+    map (λ (p : ℕ × Row). moved_stream_frame (steps p.1.offset)
+    (stream_frame (main_bytes file s.head s.frames) s.head s.frames p.0 p.1))
+    (enumerate_from 0 s.frames)
 
--- Both files are well-formed, and the stream of the new one is that of the file with the gains of each frame moved: as many frames in
--- the same order, with the same headers, the same main data, and the same side information except the gains.
+-- Both files are well-formed, and the stream of the new one is that of the file
+-- with the gains of each frame moved: as many frames in the same order, with the
+-- same headers, the same main data, and the same side information except the gains.
 pub record IsStreamMoved (steps : ℕ → Steps) (file new : List ℕ) : Type 0 where
   pub before : IsWellFormed file
   pub after : IsWellFormed new

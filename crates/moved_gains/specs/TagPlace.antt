@@ -1,14 +1,14 @@
--- Where the tag of a file is, and the file with another tag in its place.
-use Rattle.std.specs.Prelude.{◌≡◌, ◌⊎◌, ℕ, ◌+◌, ◌-◌, ◌==◌, nat_le, nat_lt, if◌then◌else◌, Bool, true, false, List, [], ◌∷◌, ◌++◌, length, take, drop, map, filter, slice_get, Option, Some, None, option_map}
+-- Where the tag of a file is, which is its first APEv2 block, and the file with another tag in its
+-- place.
 use Rattle.std.specs.List.{find}
+use Rattle.std.specs.Prelude.{Bool, drop, false, filter, if◌then◌else◌, length, List, map, nat_le}
+use Rattle.std.specs.Prelude.{nat_lt, None, Option, option_map, slice_get, Some, take, true, ℕ, []}
+use Rattle.std.specs.Prelude.{◌++◌, ◌+◌, ◌-◌, ◌==◌, ◌∷◌, ◌≡◌, ◌⊎◌}
 use Rattle.frame_header.specs.Tables.{class_of, length_of}
-use Rattle.tag_blocks.specs.declared.block.Kind.{Kind}
-use Rattle.tag_blocks.specs.declared.block.Kind.TheVariants.{Id3v2, Id3v1, Ape}
-use Rattle.tag_blocks.specs.Blocks.{block_front}
+use Rattle.sync_survey.specs.{Faults.SurveyFields, Row.Row, declared.places.Head.Head}
 use Rattle.sync_survey.specs.declared.places.Piece.{Piece}
-use Rattle.sync_survey.specs.declared.places.Head.{Head}
-use Rattle.sync_survey.specs.Row.{Row}
-use Rattle.sync_survey.specs.Faults.{SurveyFields}
+use Rattle.tag_blocks.specs.{Blocks.block_front, declared.block.Kind.Kind}
+use Rattle.tag_blocks.specs.declared.block.Kind.TheVariants.{Ape, Id3v1, Id3v2}
 
 -- ---- where the tag is
 
@@ -57,7 +57,8 @@ tag_length s = length_in (tag_block s)
 
 -- no bytes, or those of one APEv2 block
 abbrev pub IsTagBytes : List ℕ → Type 0
-IsTagBytes bytes = (bytes ≡ []) ⊎ (block_front bytes ≡ Some (record { kind = Ape; length = length bytes }))
+IsTagBytes bytes =
+    (bytes ≡ []) ⊎ (block_front bytes ≡ Some (record { kind = Ape; length = length bytes }))
 
 -- the file with these bytes in the place of its tag
 unfoldable pub with_tag : List ℕ → SurveyFields → List ℕ → List ℕ
@@ -65,36 +66,43 @@ with_tag bytes s file = take (tag_at s) file ++ (bytes ++ drop (tag_at s + tag_l
 
 -- ---- what a survey tells of that file
 
--- where what is at an offset of the file is then, if the new tag has n bytes: what was after the tag follows the new one
+-- where what is at an offset of the file is then, if the new
+-- tag has n bytes: what was after the tag follows the new one
 abbrev pub moved_at : ℕ → SurveyFields → ℕ → ℕ
 moved_at n s at = if nat_lt at (tag_at s) then at else at - tag_length s + n
 
+-- a frame at the offset where it is then
 abbrev pub moved_row : ℕ → SurveyFields → Row → Row
 moved_row n s r = record r { offset = moved_at n s r.offset }
 
+-- a head at the offset where it is then
 abbrev pub moved_head : ℕ → SurveyFields → Head → Head
 moved_head n s head = record head { offset = moved_at n s head.offset }
 
+-- a block at the offset where it is then
 abbrev pub moved_piece : ℕ → SurveyFields → Piece → Piece
 moved_piece n s piece = record piece { offset = moved_at n s piece.offset }
 
 -- the block of the new tag, if it has bytes
 abbrev pub new_blocks : ℕ → SurveyFields → List Piece
-new_blocks n s = if n == 0 then [] else record { offset = tag_at s; block = record { kind = Ape; length = n } } ∷ []
+new_blocks n s = if n == 0 then []
+    else record { offset = tag_at s; block = record { kind = Ape; length = n } } ∷ []
 
--- the block is before the tag, or after it
+-- the block is before the tag
 abbrev pub stands_before : SurveyFields → Piece → Bool
 stands_before s piece = nat_lt piece.offset (tag_at s)
 
+-- the block is after the tag
 abbrev pub stands_behind : SurveyFields → Piece → Bool
 stands_behind s piece = nat_le (tag_at s + tag_length s) piece.offset
 
--- What a survey tells of the file once its tag has n bytes: the same frames, head and blocks, at the offsets at which they are then, and
--- the new block among the others where the old one was.
+-- What a survey tells of the file once its tag has n bytes: the same frames, head and blocks, at
+-- the offsets at which they are then, and the new block among the others where the old one was.
 unfoldable pub retagged : ℕ → SurveyFields → SurveyFields
 retagged n s = record {
   frames = map (moved_row n s) s.frames;
-  blocks = filter (stands_before s) s.blocks ++ (new_blocks n s ++ map (moved_piece n s) (filter (stands_behind s) s.blocks));
+  blocks = filter (stands_before s) s.blocks
+      ++ (new_blocks n s ++ map (moved_piece n s) (filter (stands_behind s) s.blocks));
   head = option_map (moved_head n s) s.head;
   junk = moved_at n s s.junk;
   first = moved_at n s s.first;

@@ -1,19 +1,16 @@
 -- The tag of a file, and why it isn't read.
-use Rattle.std.specs.Prelude.{◌≡◌, ℕ, ◌+◌, ◌≤◌, ◌<◌, nat_lt, if◌then◌else◌, List, [], length, take, drop, Option, Some, None, Result, Ok, Err}
-use Rattle.tag_blocks.specs.declared.block.Kind.TheVariants.{Ape}
-use Rattle.tag_blocks.specs.Blocks.{block_front}
-use Rattle.tag_blocks.specs.declared.tag_fault.TagFault.{TagFault}
-use Rattle.tag_blocks.specs.declared.tag_fault.TagFault.TheVariants.{BadTag, Memory as NoMemory}
-use Rattle.tag_blocks.specs.Tags.{TagFields, tag_of}
-use Rattle.outside.specs.Files.{Files, Holds, IsThere}
-use Rattle.outside.specs.Counts.{Counts}
-use Rattle.outside.specs.Exact.{HasReadCause}
-use Rattle.sync_survey.specs.declared.places.Piece.{Piece}
-use Rattle.sync_survey.specs.Faults.{SurveyFields}
-use Rattle.sync_survey.specs.Survey.{survey_of, IsLaidOut}
+use Rattle.std.specs.Prelude.{drop, Err, if◌then◌else◌, length, List, nat_lt, None, Ok, Option}
+use Rattle.std.specs.Prelude.{Result, Some, take, ℕ, [], ◌+◌, ◌<◌, ◌≡◌, ◌≤◌}
+use Rattle.moved_gains.specs.TagPlace.{tag_at, tag_block, tag_length}
 use Rattle.moved_gains.specs.declared.tag_fault.FileTagFault.{FileTagFault}
-use Rattle.moved_gains.specs.declared.tag_fault.FileTagFault.TheVariants.{TooLarge, Bad, Read, Memory}
-use Rattle.moved_gains.specs.TagPlace.{tag_block, tag_at, tag_length}
+use Rattle.moved_gains.specs.declared.tag_fault.FileTagFault.TheVariants.{Bad, Memory, Read}
+use Rattle.moved_gains.specs.declared.tag_fault.FileTagFault.TheVariants.{TooLarge}
+use Rattle.outside.specs.{Counts.Counts, Exact.HasReadCause, Files.{Files, Holds, IsThere}}
+use Rattle.sync_survey.specs.{Faults.SurveyFields, Survey.{IsLaidOut, survey_of}}
+use Rattle.sync_survey.specs.declared.places.Piece.{Piece}
+use Rattle.tag_blocks.specs.{Blocks.block_front, Tags.{tag_of, TagFields}}
+use Rattle.tag_blocks.specs.declared.{block.Kind.TheVariants.Ape, tag_fault.TagFault.TagFault}
+use Rattle.tag_blocks.specs.declared.tag_fault.TagFault.TheVariants.{BadTag, Memory as NoMemory}
 
 -- the greatest length of a tag that is read, in bytes
 abbrev pub longest_tag : ℕ
@@ -23,15 +20,18 @@ longest_tag = 1048576
 abbrev pub empty_tag : TagFields
 empty_tag = record { header_flags = 0xa0000000; footer_flags = 0x80000000; items = [] }
 
--- the same tag, or its fault, by the offset of the block in the file
+-- the same tag, or its fault with the offset counted from the file's first byte, by the offset of
+-- the block in the file
 abbrev pub in_file : ℕ → Result TagFields TagFault → Result TagFields FileTagFault
 in_file at (Ok tag) = Ok tag
 in_file at (Err (BadTag inside)) = Err (Bad (at + inside))
 in_file at (Err NoMemory) = Err Memory
 
--- the tag of a block that is at an offset of a file, or why it isn't read: it is too long, or else at fault
+-- the tag of a block that is at an offset of a file, or
+-- why it isn't read: it is too long, or else at fault
 abbrev pub tag_of_block : ℕ → List ℕ → Result TagFields FileTagFault
-tag_of_block at block = if nat_lt longest_tag (length block) then Err (TooLarge (length block)) else in_file at (tag_of block)
+tag_of_block at block = if nat_lt longest_tag (length block) then Err (TooLarge (length block))
+    else in_file at (tag_of block)
 
 -- the tag of a file
 unfoldable pub file_tag : List ℕ → SurveyFields → Result TagFields FileTagFault
@@ -58,21 +58,27 @@ pub record HasTagBlock (name : List ℕ) (files : Files) (s : SurveyFields) (b :
 
 -- where the bytes of the file are told, its tag is refused with this fault
 abbrev pub RefusesTag : List ℕ → Files → SurveyFields → FileTagFault → Type 0
-RefusesTag name files s fault = (bytes : List ℕ) → Holds files name bytes → file_tag bytes s ≡ Err fault
+RefusesTag name files s fault =
+    (bytes : List ℕ) → Holds files name bytes → file_tag bytes s ≡ Err fault
 
--- Why the tag isn't read: it is too long, or at fault at one of its bytes; or a call failed; or a file of which nothing is told had the
--- survey's length, and a read before it gave no byte; or there is no memory. All counts stay, except those of a failed call and of an early
--- end.
+-- Why the tag isn't read: it is too long, or at fault at one of its bytes; or a call failed; or
+-- a file of which nothing is told had the survey's length, and a read before it gave no byte;
+-- or there is no memory. All counts stay, except those of a failed call and of an early end.
 abbrev pub IsTagCause : List ℕ → Files → SurveyFields → Counts → Counts → FileTagFault → Type 0
-IsTagCause name files s before after (TooLarge size) = RefusesTag name files s (TooLarge size) × (size ≡ tag_length s) × (longest_tag < size) × (after ≡ before)
-IsTagCause name files s before after (Bad at) = RefusesTag name files s (Bad at) × (tag_at s ≤ at) × (0 < tag_length s → at < tag_at s + tag_length s) × (after ≡ before)
-IsTagCause name files s before after (Read fault) = HasReadCause name s.length files before after fault
+IsTagCause name files s before after (TooLarge size) = RefusesTag name files s (TooLarge size)
+    × (size ≡ tag_length s) × (longest_tag < size) × (after ≡ before)
+IsTagCause name files s before after (Bad at) = RefusesTag name files s (Bad at) × (tag_at s ≤ at)
+    × (0 < tag_length s → at < tag_at s + tag_length s) × (after ≡ before)
+IsTagCause name files s before after (Read fault) =
+    HasReadCause name s.length files before after fault
 IsTagCause name files s before after Memory = after ≡ before
 
--- Why there is no tag of a block at this offset: its tag is refused with this fault, or no block of its length begins with its bytes; or
--- there is no memory.
+-- Why there is no tag of a block at this offset: its tag is refused with this
+-- fault, or no block of its length begins with its bytes; or there is no memory.
 abbrev pub IsBlockCause : ℕ → List ℕ → FileTagFault → Type 0
 IsBlockCause offset block (Bad at) =
-    (block_front block ≡ Some (record { kind = Ape; length = length block }) → tag_of_block offset block ≡ Err (Bad at)) × (offset ≤ at) × (0 < length block → at < offset + length block)
+    (block_front block ≡ Some (record { kind = Ape; length = length block })
+    → tag_of_block offset block ≡ Err (Bad at)) × (offset ≤ at)
+    × (0 < length block → at < offset + length block)
 IsBlockCause offset block Memory = Unit {0}
 IsBlockCause offset block _ = ⊥

@@ -51,9 +51,10 @@ fn gain_of(side: &Side, granule: u8, channel: u8) -> Option<Gains>
     })
 }
 
-/// Those of a channel in both granules.
+/// The least and the greatest gain of a channel, counted from 0, in a frame that isn't lost and has this side information.
+/// `None` where the channel is silent in both granules, as one is that the class lacks.
 #[inline(always)]
-fn gains_in(side: &Side, channel: u8) -> Option<Gains>
+pub fn gains_in(side: &Side, channel: u8) -> Option<Gains>
     requires { channel < 2 }
     ensures { result ≡ extremes (gains_in_lem channel side.now) }
 {

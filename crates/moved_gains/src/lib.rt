@@ -20,7 +20,7 @@ mod tag_reading;
 pub use buffers::Buffers;
 pub use change::Change;
 pub use course::Course;
-pub use gain_extremes::{Gains, gains_of, joined};
+pub use gain_extremes::{Gains, gains_in, gains_of, joined};
 pub use gains::{Stuck, stuck_in};
 pub use laws::{changes_keep_all, gains_take_steps};
 pub use moving::write_changed;

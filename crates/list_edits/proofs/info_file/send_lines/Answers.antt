@@ -1,16 +1,16 @@
 -- One line after another, then what waits.
-use Rattle.std.proofs.Common.{◌+◌, ◌++◌, drop, refl, ◌∙◌, subst, arith}
-use Rattle.std.proofs.lemmas.List.{drop_all}
-use Rattle.outside.specs.Passed.{SentOn, SentPrefix}
-use Rattle.outside.proofs.PassedLaws.{on_err}
-use Rattle.list_edits.proofs.ListingLaws.{said_none, said_more, line_failed, all_lines, sent_behind, prefix_behind}
+use Rattle.std.proofs.{Common.{arith, drop, refl, subst, ◌++◌, ◌+◌, ◌∙◌}, lemmas.List.drop_all}
 use Rattle.list_edits.proofs.InfoLaws.{line-at}
+use Rattle.list_edits.proofs.ListingLaws.{all_lines, line_failed, prefix_behind, said_more}
+use Rattle.list_edits.proofs.ListingLaws.{said_none, sent_behind}
+use Rattle.outside.{proofs.PassedLaws.on_err, specs.Passed.{SentOn, SentPrefix}}
 use Rattle.list_edits.proofs.info_file.send_lines.Goals as goal
 
 pub loop-line-init : goal.loop-line-init
 loop-line-init g c = record {
   done = refl;
-  said = rw c.requires.empty (said_none (λ line. line) c.args.lines.now c.args.lines.now (g.T.Sink.heard c.args.out.now).sent refl);
+  said = rw c.requires.empty (said_none (λ line. line)
+      c.args.lines.now c.args.lines.now (g.T.Sink.heard c.args.out.now).sent refl);
 }
 
 pub loop-line-preserved : goal.loop-line-preserved
@@ -20,9 +20,13 @@ loop-line-preserved g c =
     let line = c.line-item.result in
     record {
       done = c.in_ok-push.ensures.cause.done ∙ c.loop-line.invariant.done;
-      said = said_more (λ l. l) lines (drop i lines) (drop (i + 1) lines) line c.loop-line.buffer c.push.new.self _ _ _
-          c.loop-line.invariant.said (line-at lines i line (omega (arith, c.loop-line-test.true)) c.line-item.is)
-          (subst (λ l. SentOn (c.loop-line.buffer ++ l) c.push.new.self (g.T.Sink.heard c.loop-line.out).sent (g.T.Sink.heard c.push.new.sink).sent) c.bytes.ensures c.in_ok-push.ensures.passed);
+      said = said_more (λ l. l) lines (drop i lines)
+          (drop (i + 1) lines) line c.loop-line.buffer c.push.new.self _ _ _
+          c.loop-line.invariant.said (line-at lines i line
+          (omega (arith, c.loop-line-test.true)) c.line-item.is)
+          (subst (λ l. SentOn (c.loop-line.buffer ++ l) c.push.new.self
+          (g.T.Sink.heard c.loop-line.out).sent (g.T.Sink.heard c.push.new.sink).sent)
+          c.bytes.ensures c.in_ok-push.ensures.passed);
     }
 
 pub returns-in_err-push-clause-prefix : goal.returns-in_err-push-clause-prefix
@@ -32,15 +36,21 @@ returns-in_err-push-clause-prefix g c =
     let line = c.line-item.result in
     on_err c.from_residual.result
     (line_failed (λ l. l) lines (drop i lines) (drop (i + 1) lines) line c.loop-line.buffer _ _ _
-    c.loop-line.invariant.said (line-at lines i line (omega (arith, c.loop-line-test.true)) c.line-item.is)
-    (subst (λ l. SentPrefix (c.loop-line.buffer ++ l) (g.T.Sink.heard c.loop-line.out).sent (g.T.Sink.heard c.push.new.sink).sent) c.bytes.ensures c.in_err-push.ensures.prefix))
+    c.loop-line.invariant.said (line-at lines i line
+    (omega (arith, c.loop-line-test.true)) c.line-item.is)
+    (subst (λ l. SentPrefix (c.loop-line.buffer ++ l) (g.T.Sink.heard c.loop-line.out).sent
+    (g.T.Sink.heard c.push.new.sink).sent) c.bytes.ensures c.in_err-push.ensures.prefix))
 
 pub returns-clause-sent : goal.returns-clause-sent
 returns-clause-sent g c =
-    sent_behind c.finish.result _ (all_lines (λ l. l) c.args.lines.now (drop c.loop-line.line-index c.args.lines.now) c.loop-line.buffer _ _ c.loop-line.invariant.said
-    (drop_all c.loop-line.line-index c.args.lines.now (omega (arith, c.loop-line-test.false)))) c.finish.ensures.sent
+    sent_behind c.finish.result _ (all_lines (λ l. l) c.args.lines.now
+    (drop c.loop-line.line-index c.args.lines.now) c.loop-line.buffer _ _ c.loop-line.invariant.said
+    (drop_all c.loop-line.line-index c.args.lines.now (omega (arith, c.loop-line-test.false))))
+    c.finish.ensures.sent
 
 pub returns-clause-prefix : goal.returns-clause-prefix
 returns-clause-prefix g c =
-    prefix_behind c.finish.result _ (all_lines (λ l. l) c.args.lines.now (drop c.loop-line.line-index c.args.lines.now) c.loop-line.buffer _ _ c.loop-line.invariant.said
-    (drop_all c.loop-line.line-index c.args.lines.now (omega (arith, c.loop-line-test.false)))) c.finish.ensures.prefix
+    prefix_behind c.finish.result _ (all_lines (λ l. l) c.args.lines.now
+    (drop c.loop-line.line-index c.args.lines.now) c.loop-line.buffer _ _ c.loop-line.invariant.said
+    (drop_all c.loop-line.line-index c.args.lines.now (omega (arith, c.loop-line-test.false))))
+    c.finish.ensures.prefix

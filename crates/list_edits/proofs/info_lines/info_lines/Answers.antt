@@ -1,26 +1,40 @@
 -- Each line is that of the survey.
-use Rattle.std.proofs.Common.{◌∙◌, ap, ap₂, length, []}
+use Rattle.std.{proofs.Common.{ap, ap₂, length, refl, [], ◌∙◌}, specs.Option.option_copied}
 use Rattle.std.specs.Prelude.{if◌then◌else◌}
-use Rattle.std.specs.Option.{option_copied}
-use Rattle.sync_survey.specs.Faults.{tells}
+use Rattle.frame_header.specs.Fields.{ClassFields}
+use Rattle.list_edits.proofs.InfoLaws.{all-lines, gains-said}
+use Rattle.list_edits.specs.InfoText.{but_line, class_line, frames_line, gain_lines, head_line}
+use Rattle.list_edits.specs.InfoText.{info_lines, is_as_said, main_data_line, played_line}
+use Rattle.list_edits.specs.InfoText.{rates_line}
+use Rattle.list_edits.specs.Totals.{areas_in, greatest_rate, least_rate, lost_in, main_data_in}
 use Rattle.list_edits.specs.Totals.{stream_length}
-use Rattle.list_edits.specs.InfoText.{class_line, frames_line, rates_line, main_data_line, head_line, is_as_said, but_line, played_line, gain_lines, info_lines}
-use Rattle.list_edits.proofs.InfoLaws.{all-lines}
+use Rattle.moved_gains.specs.GainExtremes.{extremes_of, extremes_of_both}
+use Rattle.sync_survey.specs.Faults.{tells}
 use Rattle.list_edits.proofs.info_lines.info_lines.Goals as goal
 
 pub returns : goal.returns
 unfolding info_lines
 returns c =
     let s = tells c.args.survey.now in
+    let rows = s.frames in
     let head = option_copied c.args.head in
-    let count = length s.frames in
-    all-lines (class_line s.class) (frames_line s.class s.frames) (rates_line s.frames) (main_data_line s) (head_line head)
-    (is_as_said head count (stream_length s)) (but_line count (stream_length s)) (played_line head s.class count) (gain_lines s.class.channels s.frames)
+    let count = length rows in
+    let totals = c.totals_in-totals.ensures in
+    let counted = ap length c.frames-count.ensures in
+    let bytes = stream_length s in
+    let channels = ap (λ (k : ClassFields). k.channels) (c.class.view_is ∙ c.class-class.ensures) in
+    all-lines (class_line s.class) (frames_line s.class count (lost_in rows))
+    (rates_line (least_rate rows) (greatest_rate rows))
+    (main_data_line (main_data_in rows) (areas_in s)) (head_line head)
+    (is_as_said head count bytes) (but_line count bytes) (played_line head s.class count)
+    (gain_lines s.class.channels (extremes_of 0 rows) (extremes_of 1 rows) (extremes_of_both rows))
     (c.class_line.ensures ∙ ap class_line c.class-class.ensures)
-    (c.frames_line.ensures ∙ ap₂ frames_line c.class-class.ensures c.frames-rows.ensures)
-    (c.rates_line.ensures ∙ ap rates_line c.frames-rows.ensures)
-    c.main_data_line.ensures
+    (c.frames_line.ensures ∙ rw (c.class-class.ensures, counted, totals.lost) refl)
+    (c.rates_line.ensures ∙ ap₂ rates_line totals.least_rate totals.greatest_rate)
+    (c.main_data_line.ensures ∙ ap₂ main_data_line totals.main_data c.areas_in.ensures)
     c.head_line.ensures
-    (c.here_line.ensures ∙ ap₂ (λ n e. if is_as_said head n e then [] else but_line n e) (ap length c.frames-rows.ensures) c.stream_length.ensures)
-    (c.played_line.ensures ∙ ap₂ (λ k n. played_line head k n) c.class-class.ensures (ap length c.frames-rows.ensures))
-    c.gain_lines-left.ensures
+    (c.here_line.ensures
+    ∙ ap₂ (λ n e. if is_as_said head n e then [] else but_line n e) counted c.stream_length.ensures)
+    (c.played_line.ensures ∙ ap₂ (λ k n. played_line head k n) c.class-class.ensures counted)
+    (c.gain_lines-left.ensures
+    ∙ gains-said rows _ _ _ _ channels totals.left totals.right)

@@ -1,10 +1,8 @@
 -- Moved side information differs from what is in the frame in gains alone.
-use Rattle.std.proofs.Common.{◌≡◌, sym, ◌∙◌, ap, subst}
+use Rattle.std.proofs.Common.{ap, subst, sym, ◌∙◌, ◌≡◌}
+use Rattle.moved_gains.{proofs.MovedFrame.other_gains, specs.Gains.moved_side}
+use Rattle.side_info.{proofs.FrameLaws.shaped-side_in, specs.Frame.{frame_with, side_in}}
 use Rattle.side_info.specs.Side.{HasOtherGains}
-use Rattle.side_info.specs.Frame.{side_in, frame_with}
-use Rattle.side_info.proofs.FrameLaws.{shaped-side_in}
-use Rattle.moved_gains.specs.Gains.{moved_side}
-use Rattle.moved_gains.proofs.MovedFrame.{other_gains}
 use Rattle.moved_gains.proofs.front.move_in_class.Goals as goal
 
 pub returns : goal.returns
@@ -13,8 +11,12 @@ returns c is =
     let h = row.header in
     let steps = c.args.steps.now in
     let old = c.args.front.now in
-    let moved : c.moved_side.result ≡ moved_side steps row.side = c.moved_side.ensures ∙ ap (moved_side steps) (c.side_in.ensures.side ∙ ap (λ f. f.side) c.front-own.ensures) in
+    let moved : c.moved_side.result ≡ moved_side steps row.side = c.moved_side.ensures
+    ∙ ap (moved_side steps) (c.side_in.ensures.side ∙ ap (λ f. f.side) c.front-own.ensures) in
     let other : HasOtherGains (side_in h old) c.moved_side.result =
-    subst (HasOtherGains (side_in h old)) (ap (moved_side steps) is ∙ sym moved) (other_gains steps (side_in h old) (shaped-side_in h old)) in
-    subst (λ k. HasOtherGains (side_in k old) c.moved_side.result → c.put_gains.new.frame ≡ frame_with k c.moved_side.result old) (ap (λ f. f.header) c.front-own.ensures) c.put_gains.ensures.gains other
+    subst (HasOtherGains (side_in h old)) (ap (moved_side steps) is ∙ sym moved)
+    (other_gains steps (side_in h old) (shaped-side_in h old)) in
+    subst (λ k. HasOtherGains (side_in k old) c.moved_side.result
+    → c.put_gains.new.frame ≡ frame_with k c.moved_side.result old)
+    (ap (λ f. f.header) c.front-own.ensures) c.put_gains.ensures.gains other
     ∙ ap (λ s. frame_with h s old) moved

@@ -1,27 +1,35 @@
--- The frames before are passed one by one, and what is found is the least and the greatest of the list.
-use Rattle.std.proofs.Common.{◌+◌, length, drop, refl, sym, ◌∙◌, ap, arith}
-use Rattle.std.specs.Option.{option_copied}
-use Rattle.std.proofs.lemmas.Option.{slice_get_read}
+-- The frames before are passed one by one, and what
+-- is found is the least and the greatest of the list.
+use Rattle.std.proofs.Common.{ap, arith, drop, length, refl, sym, ◌+◌, ◌∙◌}
+use Rattle.std.{proofs.lemmas.Option.slice_get_read, specs.Option.option_copied}
 use Rattle.frame_header.specs.Tables.{class_of}
+use Rattle.moved_gains.proofs.ExtremesLaws.{extremes-behind, extremes-empty, extremes-from}
+use Rattle.moved_gains.proofs.ExtremesLaws.{joined-assoc, joined-None, moving-nil, no_extremes}
+use Rattle.moved_gains.proofs.ExtremesLaws.{no_first, some_extremes}
+use Rattle.moved_gains.specs.GainExtremes.{extremes, extremes_of, gains_at, joined, moving_gains}
 use Rattle.side_info.specs.FrameFields.{FrameFields}
-use Rattle.moved_gains.specs.GainExtremes.{gains_at, moving_gains, extremes, extremes_of, joined}
-use Rattle.moved_gains.proofs.ExtremesLaws.{joined-assoc, joined-None, extremes-from, extremes-behind, extremes-empty, no_first, moving-nil, some_extremes, no_extremes}
 use Rattle.moved_gains.proofs.gain_extremes.gains_of.Goals as goal
 
 pub returns-in_default-clause-value : goal.returns-in_default-clause-value
-returns-in_default-clause-value c = extremes-empty c.args.channel c.args.rows.now (sym (ap option_copied c.in_default.is) ∙ c.first.ensures.value)
+returns-in_default-clause-value c = extremes-empty c.args.channel c.args.rows.now
+    (sym (ap option_copied c.in_default.is) ∙ c.first.ensures.value)
 
 pub returns-in_default-clause-none : goal.returns-in_default-clause-none
 returns-in_default-clause-none c =
-    ap (moving_gains c.args.channel) (no_first c.args.rows.now (sym (ap option_copied c.in_default.is) ∙ c.first.ensures.value)) ∙ moving-nil c.args.channel
+    ap (moving_gains c.args.channel)
+    (no_first c.args.rows.now (sym (ap option_copied c.in_default.is) ∙ c.first.ensures.value))
+    ∙ moving-nil c.args.channel
 
 pub gains_at-requires-clause-class : goal.gains_at-requires-clause-class
 gains_at-requires-clause-class c =
     let rows = c.args.rows.now in
     let row = c.row-item.result in
-    c.requires.same c.loop-row.row-index row (slice_get_read rows (length rows) c.loop-row.row-index row refl (omega (arith, c.loop-row-test.true)) c.row-item.is)
-    ∙ sym (c.requires.same 0 c.in-Some.first.now (sym (sym (ap option_copied c.in-Some.is) ∙ c.first.ensures.value)))
-    ∙ sym (c.class-class.ensures.class ∙ ap (λ (f : FrameFields). class_of f.header) c.front.ensures)
+    c.requires.same c.loop-row.row-index row (slice_get_read rows
+    (length rows) c.loop-row.row-index row refl (omega (arith, c.loop-row-test.true)) c.row-item.is)
+    ∙ sym (c.requires.same 0
+    c.in-Some.first.now (sym (sym (ap option_copied c.in-Some.is) ∙ c.first.ensures.value)))
+    ∙ sym (c.class-class.ensures.class
+    ∙ ap (λ (f : FrameFields). class_of f.header) c.front.ensures)
 
 pub loop-row-preserved : goal.loop-row-preserved
 loop-row-preserved c =
@@ -30,26 +38,31 @@ loop-row-preserved c =
     let row = c.row-item.result in
     let rest = extremes_of c.args.channel (drop (i + 1) rows) in
     c.loop-row.invariant
-    ∙ ap (joined c.loop-row.gains) (extremes-from c.args.channel rows i row (omega (arith, c.loop-row-test.true)) c.row-item.is)
+    ∙ ap (joined c.loop-row.gains)
+    (extremes-from c.args.channel rows i row (omega (arith, c.loop-row-test.true)) c.row-item.is)
     ∙ sym (joined-assoc c.loop-row.gains (extremes (gains_at c.args.channel row)) rest)
-    ∙ sym (ap (λ g. joined g rest) (c.joined-gains.ensures ∙ ap (joined c.loop-row.gains) c.gains_at.ensures))
+    ∙ sym (ap (λ g. joined g rest)
+    (c.joined-gains.ensures ∙ ap (joined c.loop-row.gains) c.gains_at.ensures))
 
 pub returns-clause-value : goal.returns-clause-value
 returns-clause-value c =
     sym (c.loop-row.invariant
-    ∙ ap (joined c.loop-row.gains) (extremes-behind c.args.channel c.args.rows.now c.loop-row.row-index (omega (arith, c.loop-row-test.false)))
+    ∙ ap (joined c.loop-row.gains) (extremes-behind c.args.channel c.args.rows.now
+    c.loop-row.row-index (omega (arith, c.loop-row-test.false)))
     ∙ joined-None c.loop-row.gains)
 
 pub returns-clause-some : goal.returns-clause-some
 returns-clause-some c =
     some_extremes (moving_gains c.args.channel c.args.rows.now) c.loop-row.gains
     (sym (c.loop-row.invariant
-    ∙ ap (joined c.loop-row.gains) (extremes-behind c.args.channel c.args.rows.now c.loop-row.row-index (omega (arith, c.loop-row-test.false)))
+    ∙ ap (joined c.loop-row.gains) (extremes-behind c.args.channel c.args.rows.now
+    c.loop-row.row-index (omega (arith, c.loop-row-test.false)))
     ∙ joined-None c.loop-row.gains))
 
 pub returns-clause-none : goal.returns-clause-none
 returns-clause-none c =
     no_extremes (moving_gains c.args.channel c.args.rows.now) c.loop-row.gains
     (sym (c.loop-row.invariant
-    ∙ ap (joined c.loop-row.gains) (extremes-behind c.args.channel c.args.rows.now c.loop-row.row-index (omega (arith, c.loop-row-test.false)))
+    ∙ ap (joined c.loop-row.gains) (extremes-behind c.args.channel c.args.rows.now
+    c.loop-row.row-index (omega (arith, c.loop-row-test.false)))
     ∙ joined-None c.loop-row.gains))

@@ -1,8 +1,13 @@
 -- The tag is within the file.
 use Rattle.std.proofs.Common.{arith}
-use Rattle.sync_survey.specs.Faults.{tells}
 use Rattle.moved_gains.proofs.TagEnds.{tag_end-most}
+use Rattle.sync_survey.specs.Faults.{tells}
 use Rattle.moved_gains.proofs.moving.new_tag.Goals as goal
 
 pub overflow_add-result : goal.overflow_add-result
-overflow_add-result c = omega (arith, c.tag_place-place.ensures.offset, c.tag_place-place.ensures.length, tag_end-most (tells c.args.survey.now) c.requires)
+overflow_add-result c = omega (
+  arith,
+  c.tag_place-place.ensures.offset,
+  c.tag_place-place.ensures.length,
+  tag_end-most (tells c.args.survey.now) c.requires,
+)

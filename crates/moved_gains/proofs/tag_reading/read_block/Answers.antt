@@ -1,24 +1,34 @@
 -- The block is within the file.
-use Rattle.std.proofs.Common.{◌∙◌, sym, subst, arith}
-use Rattle.outside.specs.Exact.{HasReadCause}
-use Rattle.outside.proofs.PassedLaws.{err_at}
+use Rattle.std.proofs.Common.{arith, subst, sym, ◌∙◌}
+use Rattle.moved_gains.proofs.{FoundTag.tag-within, TagReadingLaws.told-length}
+use Rattle.outside.{proofs.PassedLaws.err_at, specs.Exact.HasReadCause}
 use Rattle.sync_survey.specs.Faults.{tells}
-use Rattle.moved_gains.proofs.FoundTag.{tag-within}
-use Rattle.moved_gains.proofs.TagReadingLaws.{told-length}
 use Rattle.moved_gains.proofs.tag_reading.read_block.Goals as goal
 
 pub read_exact-requires-clause-found : goal.read_exact-requires-clause-found
 read_exact-requires-clause-found g c = λ bytes holds.
-    told-length c.args.name.now (g.D.Folder.seen c.args.folder.now).files (tells c.args.survey.now) c.requires.found.known.surveyed c.args.piece.now c.requires.found.tag bytes holds ∙ sym c.length.ensures
+    told-length c.args.name.now (g.D.Folder.seen c.args.folder.now).files (tells c.args.survey.now)
+    c.requires.found.known.surveyed c.args.piece.now c.requires.found.tag bytes holds
+    ∙ sym c.length.ensures
 
 pub read_exact-requires-clause-within : goal.read_exact-requires-clause-within
 read_exact-requires-clause-within g c =
-    omega (arith, tag-within (tells c.args.survey.now) c.args.piece.now c.requires.found.known.laid c.requires.found.tag, c.length.ensures, c.deref_mut.ensures.len, c.in_ok-block.ensures.len)
+    omega (
+      arith,
+      tag-within (tells c.args.survey.now)
+          c.args.piece.now c.requires.found.known.laid c.requires.found.tag,
+      c.length.ensures,
+      c.deref_mut.ensures.len,
+      c.in_ok-block.ensures.len,
+    )
 
 pub read_exact-requires-clause-few : goal.read_exact-requires-clause-few
-read_exact-requires-clause-few g c = omega (arith, c.requires.found.known.laid.few, c.length.ensures)
+read_exact-requires-clause-few g c =
+    omega (arith, c.requires.found.known.laid.few, c.length.ensures)
 
 pub returns-in_err-read_exact-clause-cause : goal.returns-in_err-read_exact-clause-cause
 returns-in_err-read_exact-clause-cause g c =
     err_at _ _ c.from_residual-in_err-read_exact.ensures.1
-    (subst (λ n. HasReadCause c.args.name.now n (g.D.Folder.seen c.args.folder.now).files (g.D.Folder.seen c.args.folder.now).counts (g.D.Folder.seen c.read_exact.new.folder).counts c.in_err-read_exact.field-0.0) c.length.ensures c.in_err-read_exact.ensures.cause)
+    (subst (λ n. HasReadCause c.args.name.now n (g.D.Folder.seen c.args.folder.now).files
+    (g.D.Folder.seen c.args.folder.now).counts (g.D.Folder.seen c.read_exact.new.folder).counts
+    c.in_err-read_exact.field-0.0) c.length.ensures c.in_err-read_exact.ensures.cause)

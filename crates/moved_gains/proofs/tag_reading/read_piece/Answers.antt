@@ -1,16 +1,19 @@
 -- The tag of the file is that of the block's bytes.
-use Rattle.std.proofs.Common.{◌≡◌, length, refl, sym, ◌∙◌, ap, arith}
-use Rattle.std.proofs.lemmas.Result.{IfOk-weaker, IfErr-weaker}
-use Rattle.sync_survey.specs.Faults.{tells}
+use Rattle.std.proofs.Common.{ap, arith, length, refl, sym, ◌∙◌, ◌≡◌}
+use Rattle.std.proofs.lemmas.Result.{IfErr-weaker, IfOk-weaker}
 use Rattle.moved_gains.proofs.FoundTag.{tag-within}
-use Rattle.moved_gains.proofs.TagReadingLaws.{place-some, too_large-refused, block-tag, block-cause}
+use Rattle.moved_gains.proofs.TagReadingLaws.{block-cause, block-tag, place-some, too_large-refused}
+use Rattle.sync_survey.specs.Faults.{tells}
 use Rattle.moved_gains.proofs.tag_reading.read_piece.Goals as goal
 
-pub returns-then-piece-gt-LONGEST_TAG-clause-cause : goal.returns-then-piece-gt-LONGEST_TAG-clause-cause
+pub returns-then-piece-gt-LONGEST_TAG-clause-cause :
+    goal.returns-then-piece-gt-LONGEST_TAG-clause-cause
 returns-then-piece-gt-LONGEST_TAG-clause-cause g c =
     let s = tells c.args.survey.now in
     let b = c.args.piece.now in (
-      too_large-refused c.args.name.now (g.D.Folder.seen c.args.folder.now).files s c.requires.known.surveyed b c.requires.tag (omega (arith, c.if-piece-gt-LONGEST_TAG.true)),
+      too_large-refused c.args.name.now (g.D.Folder.seen c.args.folder.now).files s
+          c.requires.known.surveyed b
+          c.requires.tag (omega (arith, c.if-piece-gt-LONGEST_TAG.true)),
       sym (place-some s b c.requires.tag).1,
       omega (arith, c.if-piece-gt-LONGEST_TAG.true),
       refl,
@@ -18,14 +21,22 @@ returns-then-piece-gt-LONGEST_TAG-clause-cause g c =
 
 pub tag_at_offset-requires-clause-place : goal.tag_at_offset-requires-clause-place
 tag_at_offset-requires-clause-place g c =
-    omega (arith, tag-within (tells c.args.survey.now) c.args.piece.now c.requires.known.laid c.requires.tag, c.requires.known.laid.few, c.deref.ensures.len, c.in_ok-block.ensures.length)
+    omega (
+      arith,
+      tag-within (tells c.args.survey.now) c.args.piece.now c.requires.known.laid c.requires.tag,
+      c.requires.known.laid.few,
+      c.deref.ensures.len,
+      c.in_ok-block.ensures.length,
+    )
 
 pub returns-clause-exact : goal.returns-clause-exact
 returns-clause-exact g c =
     let own = c.deref.result.now in
     let same : own ≡ c.in_ok-block.block.items = c.deref.ensures.value in
     IfOk-weaker c.tag_at_offset.result _ _
-    (block-tag c.args.name.now (g.D.Folder.seen c.args.folder.now).files (tells c.args.survey.now) c.requires.known.surveyed c.args.piece.now c.requires.tag own (λ bytes holds. same ∙ c.in_ok-block.ensures.bytes bytes holds) (ap length same ∙ c.in_ok-block.ensures.length))
+    (block-tag c.args.name.now (g.D.Folder.seen c.args.folder.now).files (tells c.args.survey.now)
+    c.requires.known.surveyed c.args.piece.now c.requires.tag own (λ bytes holds. same
+    ∙ c.in_ok-block.ensures.bytes bytes holds) (ap length same ∙ c.in_ok-block.ensures.length))
     c.tag_at_offset.ensures.tag
 
 pub returns-clause-cause : goal.returns-clause-cause
@@ -33,6 +44,9 @@ returns-clause-cause g c =
     let same : c.deref.result.now ≡ c.in_ok-block.block.items = c.deref.ensures.value in
     IfErr-weaker c.tag_at_offset.result _ _
     (λ fault cause.
-    block-cause c.args.name.now (g.D.Folder.seen c.args.folder.now).files (tells c.args.survey.now) c.requires.known.surveyed c.args.piece.now c.requires.tag c.deref.result.now (λ bytes holds. same ∙ c.in_ok-block.ensures.bytes bytes holds)
-    (ap length same ∙ c.in_ok-block.ensures.length) (g.D.Folder.seen c.args.folder.now).counts (g.D.Folder.seen c.read_block.new.folder).counts fault c.in_ok-block.ensures.done cause)
+    block-cause c.args.name.now (g.D.Folder.seen c.args.folder.now).files (tells c.args.survey.now)
+    c.requires.known.surveyed c.args.piece.now c.requires.tag c.deref.result.now
+    (λ bytes holds. same ∙ c.in_ok-block.ensures.bytes bytes holds)
+    (ap length same ∙ c.in_ok-block.ensures.length) (g.D.Folder.seen c.args.folder.now).counts
+    (g.D.Folder.seen c.read_block.new.folder).counts fault c.in_ok-block.ensures.done cause)
     c.tag_at_offset.ensures.cause

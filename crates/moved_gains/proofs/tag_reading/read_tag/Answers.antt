@@ -1,8 +1,9 @@
 -- A file without a tag has the empty one.
-use Rattle.std.proofs.Common.{sym, ◌∙◌, ap, Ok}
-use Rattle.sync_survey.specs.Faults.{tells}
+use Rattle.std.proofs.Common.{ap, Ok, sym, ◌∙◌}
 use Rattle.moved_gains.proofs.TagReadingLaws.{file_tag-none}
+use Rattle.sync_survey.specs.Faults.{tells}
 use Rattle.moved_gains.proofs.tag_reading.read_tag.Goals as goal
 
 pub returns-in-None-clause-exact : goal.returns-in-None-clause-exact
-returns-in-None-clause-exact g c = λ bytes holds. file_tag-none bytes (tells c.args.survey.now) (sym c.first_tag.ensures ∙ c.in-None.is) ∙ ap Ok (sym c.new.ensures)
+returns-in-None-clause-exact g c = λ bytes holds. file_tag-none bytes (tells c.args.survey.now)
+    (sym c.first_tag.ensures ∙ c.in-None.is) ∙ ap Ok (sym c.new.ensures)

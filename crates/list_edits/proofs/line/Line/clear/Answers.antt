@@ -1,6 +1,5 @@
 -- Nothing is after the end.
-use Rattle.std.proofs.Common.{arith}
-use Rattle.std.proofs.lemmas.List.{drop_all}
+use Rattle.std.proofs.{Common.arith, lemmas.List.drop_all}
 use Rattle.list_edits.proofs.line.Line.clear.Goals as goal
 
 pub returns : goal.returns

@@ -1,6 +1,5 @@
 -- A digit is its own text.
-use Rattle.std.proofs.Common.{refl}
-use Rattle.std.proofs.lemmas.Fmt.{decimal_digit}
+use Rattle.std.proofs.{Common.refl, lemmas.Fmt.decimal_digit}
 use Rattle.list_edits.proofs.line.Line.put_digit.Goals as goal
 
 pub returns : goal.returns

@@ -1,16 +1,24 @@
 -- All things of the file are left, in order.
-use Rattle.std.proofs.Common.{sym, ◌∙◌, ap, map, append_assoc}
-use Rattle.sync_survey.specs.Order.{merged_by}
-use Rattle.sync_survey.specs.Faults.{tells}
-use Rattle.list_edits.specs.declared.things.Thing.TheVariants.{Block}
-use Rattle.list_edits.specs.Things.{offset_of, junk_of, head_of, frames_from, left}
+use Rattle.std.proofs.Common.{ap, append_assoc, map, sym, ◌∙◌}
 use Rattle.list_edits.proofs.ThingsLaws.{things_in_order}
+use Rattle.list_edits.specs.Things.{frames_from, head_of, junk_of, left, offset_of}
+use Rattle.list_edits.specs.declared.things.Thing.TheVariants.{Block}
+use Rattle.sync_survey.specs.{Faults.tells, Order.merged_by}
 use Rattle.list_edits.proofs.things.Things.of.Goals as goal
 
 pub returns : goal.returns
 unfolding left
 returns c =
     let s = tells c.args.survey.now in
-    rw (c.new.ensures.firsts, c.new.ensures.seconds, c.new.ensures.number, c.blocks-2.ensures, c.frames.ensures, c.junk_of.ensures, c.head_of.ensures)
-    (ap (merged_by offset_of (map Block s.blocks)) (append_assoc (junk_of s) (head_of s.first s.head) (frames_from 0 s.frames)))
+    rw (
+      c.new.ensures.firsts,
+      c.new.ensures.seconds,
+      c.new.ensures.number,
+      c.blocks-2.ensures,
+      c.frames.ensures,
+      c.junk_of.ensures,
+      c.head_of.ensures,
+    )
+    (ap (merged_by offset_of (map Block s.blocks))
+    (append_assoc (junk_of s) (head_of s.first s.head) (frames_from 0 s.frames)))
     ∙ sym (things_in_order s c.requires)

@@ -1,49 +1,55 @@
 -- One frame more, and what is before it, goes on.
-use Rattle.std.proofs.Common.{rules, ◌≡◌, ◌+◌, ◌<◌, ◌≤◌, ◌++◌, ◌∷◌, List, ℕ, Option, length, get_or, drop, refl, sym, ◌∙◌, ap, ap₂, subst, arith}
-use Rattle.std.proofs.lemmas.List.{drop_all, drop_more}
-use Rattle.std.proofs.lemmas.Option.{slice_get_read}
+use Rattle.std.proofs.Common.{ap, ap₂, arith, drop, get_or, length, List, Option, refl, rules}
+use Rattle.std.proofs.Common.{subst, sym, ℕ, ◌++◌, ◌+◌, ◌<◌, ◌∙◌, ◌∷◌, ◌≡◌, ◌≤◌}
+use Rattle.std.proofs.lemmas.{List.{drop_all, drop_more}, Option.slice_get_read}
 use Rattle.std.proofs.lemmas.Result.{err_from_is_err_and, on_ok_weaker}
 use Rattle.frame_header.specs.Tables.{class_of}
-use Rattle.outside.specs.Files.{Holds}
-use Rattle.outside.proofs.PassedLaws.{err_at, err_by}
-use Rattle.outside.proofs.PassLaws.{up_to_begun, up_to_held, up_to_more, up_to_prefix, up_to_last, up_to_last_prefix, cause_behind, causes_behind}
-use Rattle.sync_survey.specs.Row.{Row}
-use Rattle.sync_survey.specs.Survey.{AreLaid}
-use Rattle.sync_survey.proofs.StepLaws.{laid_end}
-use Rattle.moved_gains.specs.declared.moving.NewTag.{NewTag}
-use Rattle.requests.specs.declared.shift.Steps.{Steps}
+use Rattle.moved_gains.proofs.{CourseLaws.frame_steps, WrittenLaws.{left_at, left_behind}}
+use Rattle.moved_gains.proofs.moving.GainPass.move_frames.Goals.{After-copy-2, After-from}
 use Rattle.moved_gains.specs.Course.{steps_in, steps_over}
-use Rattle.moved_gains.specs.Moving.{row_end, AreRowsOf, moved_row_bytes, copied, written_from}
-use Rattle.moved_gains.proofs.CourseLaws.{frame_steps}
-use Rattle.moved_gains.proofs.WrittenLaws.{left_at, left_behind}
+use Rattle.moved_gains.specs.Moving.{AreRowsOf, copied, moved_row_bytes, row_end, written_from}
+use Rattle.moved_gains.specs.declared.moving.NewTag.{NewTag}
+use Rattle.outside.proofs.PassLaws.{cause_behind, causes_behind, up_to_begun, up_to_held}
+use Rattle.outside.proofs.PassLaws.{up_to_last, up_to_last_prefix, up_to_more, up_to_prefix}
+use Rattle.outside.{proofs.PassedLaws.{err_at, err_by}, specs.Files.Holds}
+use Rattle.requests.specs.declared.shift.Steps.{Steps}
+use Rattle.sync_survey.{proofs.StepLaws.laid_end, specs.{Row.Row, Survey.AreLaid}}
 use Rattle.moved_gains.proofs.moving.GainPass.move_frames.Given as given
 use Rattle.moved_gains.proofs.moving.GainPass.move_frames.Goals as goal
-use Rattle.moved_gains.proofs.moving.GainPass.move_frames.Goals.{After-from, After-copy-2}
 
 -- the frame at i, and those after it
-here : (rows : List Row) (i : ℕ) (row : Row) → i < length rows → row ≡ get_or rows i row → drop i rows ≡ row ∷ drop (i + 1) rows
+here : (rows : List Row) (i : ℕ) (row : Row) → i < length rows → row ≡ get_or rows i row
+    → drop i rows ≡ row ∷ drop (i + 1) rows
 here rows i row lt is = drop_more rows i row lt ∙ ap (λ r. r ∷ drop (i + 1) rows) (sym is)
 
-laid : (at size : ℕ) (rows : List Row) (i : ℕ) (row : Row) → drop i rows ≡ row ∷ drop (i + 1) rows → AreLaid at (drop i rows) size → AreLaid at (row ∷ drop (i + 1) rows) size
+laid : (at size : ℕ) (rows : List Row) (i : ℕ) (row : Row) → drop i rows ≡ row ∷ drop (i + 1) rows
+    → AreLaid at (drop i rows) size → AreLaid at (row ∷ drop (i + 1) rows) size
 laid at size rows i row is before = subst (λ l. AreLaid at l size) is before
 
-told : (file : List ℕ) (rows : List Row) (i : ℕ) (row : Row) → drop i rows ≡ row ∷ drop (i + 1) rows → AreRowsOf file (drop i rows) → AreRowsOf file (row ∷ drop (i + 1) rows)
+told : (file : List ℕ) (rows : List Row) (i : ℕ) (row : Row) → drop i rows ≡ row ∷ drop (i + 1) rows
+    → AreRowsOf file (drop i rows) → AreRowsOf file (row ∷ drop (i + 1) rows)
 told file rows i row is all = subst (AreRowsOf file) is all
 
 -- what is left after the bytes before the frame
 abbrev left : (ℕ → Steps) → Option NewTag → List Row → ℕ → Row → List ℕ → List ℕ
-left steps tag rows i row file = moved_row_bytes (steps row.offset) file row ++ written_from steps tag file (row_end row) (drop (i + 1) rows)
+left steps tag rows i row file = moved_row_bytes (steps row.offset) file row
+    ++ written_from steps tag file (row_end row) (drop (i + 1) rows)
 
 -- what is left from an offset on, with the bytes up to the frame by the number that its offset is
-left_up_to : (steps : ℕ → Steps) (tag : Option NewTag) (file : List ℕ) (at to : ℕ) (rows : List Row) (i : ℕ) (row : Row) → drop i rows ≡ row ∷ drop (i + 1) rows → to ≡ row.offset
-    → written_from steps tag file at (drop i rows) ≡ copied tag file at to ++ left steps tag rows i row file
-left_up_to steps tag file at to rows i row is offset = left_at steps tag file at rows i row is ∙ ap (λ n. copied tag file at n ++ left steps tag rows i row file) (sym offset)
+left_up_to : (steps : ℕ → Steps) (tag : Option NewTag) (file : List ℕ) (at to : ℕ) (rows : List Row)
+    (i : ℕ) (row : Row) → drop i rows ≡ row ∷ drop (i + 1) rows → to ≡ row.offset
+    → written_from steps tag file at (drop i rows)
+    ≡ copied tag file at to ++ left steps tag rows i row file
+left_up_to steps tag file at to rows i row is offset = left_at steps tag file at rows i row is
+    ∙ ap (λ n. copied tag file at n ++ left steps tag rows i row file) (sym offset)
 
 pub loop-frame-init : goal.loop-frame-init
 loop-frame-init g c = record {
   laid = c.requires.laid;
   told = c.requires.told;
-  up_to = up_to_begun c.args.self.now.pass (λ file. written_from (steps_over c.args.self.now.course.now c.args.rows.now) c.args.self.now.tag file c.args.from c.args.rows.now) c.args.buffers.now.waiting
+  up_to = up_to_begun c.args.self.now.pass
+      (λ file. written_from (steps_over c.args.self.now.course.now c.args.rows.now)
+      c.args.self.now.tag file c.args.from c.args.rows.now) c.args.buffers.now.waiting
       (g.D.Folder.seen c.args.folder.now).files c.requires.ready.target;
   ready = c.requires.ready;
   counts = refl;
@@ -67,7 +73,8 @@ module _ (g : given.Over) (c : After-from g) where
   is = here rows i row (omega (arith, c.loop-frame-test.true)) c.index-rows-frame.is
 
   all_laid : AreLaid c.loop-frame.at (row ∷ drop (i + 1) rows) c.args.self.now.pass.length
-  all_laid = laid c.loop-frame.at c.args.self.now.pass.length rows i row is c.loop-frame.invariant.laid
+  all_laid =
+      laid c.loop-frame.at c.args.self.now.pass.length rows i row is c.loop-frame.invariant.laid
 
   within : row_end row ≤ c.args.self.now.pass.length
   within = laid_end (row_end row) (drop (i + 1) rows) c.args.self.now.pass.length all_laid.2
@@ -78,39 +85,54 @@ module _ (g : given.Over) (c : After-from g) where
   abbrev later : List ℕ → List ℕ
   later file = left steps c.args.self.now.tag rows i row file
 
-  next : (file : List ℕ) → Holds (g.D.Folder.seen c.args.folder.now).files c.args.self.now.pass.input.now file → written_from steps c.args.self.now.tag file c.loop-frame.at (drop i rows) ≡ up_to_row file ++ later file
-  next file holds = left_up_to steps c.args.self.now.tag file c.loop-frame.at c.from.result rows i row is (c.from.ensures ∙ c.offset.ensures)
+  next : (file : List ℕ)
+      → Holds (g.D.Folder.seen c.args.folder.now).files c.args.self.now.pass.input.now file
+      → written_from steps c.args.self.now.tag file c.loop-frame.at (drop i rows)
+      ≡ up_to_row file ++ later file
+  next file holds = left_up_to steps c.args.self.now.tag file c.loop-frame.at c.from.result rows i
+      row is (c.from.ensures ∙ c.offset.ensures)
 
   own : steps row.offset ≡ steps_in c.args.self.now.course.now i
-  own = frame_steps c.args.self.now.course.now rows i row c.requires.numbered (omega (arith, c.loop-frame-test.true)) c.index-rows-frame.is
+  own = frame_steps c.args.self.now.course.now rows i row
+      c.requires.numbered (omega (arith, c.loop-frame-test.true)) c.index-rows-frame.is
 
   class : class_of row.header ≡ c.args.self.now.class
-  class = c.requires.classed i row (slice_get_read rows (length rows) i row refl (omega (arith, c.loop-frame-test.true)) c.index-rows-frame.is)
+  class = c.requires.classed i row (slice_get_read rows (length rows) i row refl
+      (omega (arith, c.loop-frame-test.true)) c.index-rows-frame.is)
 
 pub copy-requires-clause-within : goal.copy-requires-clause-within
-copy-requires-clause-within g c = omega (arith, within g (goal.at.copy-requires-clause-within g c).After-from)
+copy-requires-clause-within g c =
+    omega (arith, within g (goal.at.copy-requires-clause-within g c).After-from)
 
 pub returns-in_err-copy : goal.returns-in_err-copy
 returns-in_err-copy g c = record {
   written = search rules;
   prefix = let at = (goal.at.returns-in_err-copy g c).After-from in
-      err_at c.from_residual.result _ c.from_residual.ensures.1 (up_to_prefix c.args.self.now.pass c.requires.ready.apart c.loop-frame.invariant.up_to (up_to_row g at) (later g at) (next g at) c.in_err-copy.ensures.prefix);
+      err_at c.from_residual.result _ c.from_residual.ensures.1
+      (up_to_prefix c.args.self.now.pass c.requires.ready.apart c.loop-frame.invariant.up_to
+      (up_to_row g at) (later g at) (next g at) c.in_err-copy.ensures.prefix);
   done = search rules;
   cause = let p = err_from_is_err_and c.from_residual.result c.from_residual.ensures.1 in
-      rw (p.1, p.2) (cause_behind c.loop-frame.invariant.up_to.written _ _ _ _ c.loop-frame.invariant.counts _ c.in_err-copy.ensures.cause);
+      rw (p.1, p.2) (cause_behind c.loop-frame.invariant.up_to.written _ _ _ _
+      c.loop-frame.invariant.counts _ c.in_err-copy.ensures.cause);
 }
 
 pub move_frame-requires-clause-class : goal.move_frame-requires-clause-class
-move_frame-requires-clause-class g c = class g (goal.at.move_frame-requires-clause-class g c).After-from
+move_frame-requires-clause-class g c =
+    class g (goal.at.move_frame-requires-clause-class g c).After-from
 
 pub move_frame-requires-clause-within : goal.move_frame-requires-clause-within
-move_frame-requires-clause-within g c = within g (goal.at.move_frame-requires-clause-within g c).After-from
+move_frame-requires-clause-within g c =
+    within g (goal.at.move_frame-requires-clause-within g c).After-from
 
 pub move_frame-requires-clause-told : goal.move_frame-requires-clause-told
 move_frame-requires-clause-told g c file holds =
     let at = (goal.at.move_frame-requires-clause-told g c).After-from in
-    let before = up_to_more c.args.self.now.pass c.requires.ready.apart c.loop-frame.invariant.up_to (up_to_row g at) (later g at) (next g at) c.in_ok-copy.ensures.written in
-    (told file c.args.rows.now c.loop-frame.frame c.index-rows-frame.result (is g at) (c.loop-frame.invariant.told file (up_to_held c.args.self.now.pass c.requires.ready.apart before file holds))).0
+    let before = up_to_more c.args.self.now.pass c.requires.ready.apart c.loop-frame.invariant.up_to
+    (up_to_row g at) (later g at) (next g at) c.in_ok-copy.ensures.written in
+    (told file c.args.rows.now c.loop-frame.frame c.index-rows-frame.result (is g at)
+    (c.loop-frame.invariant.told file
+    (up_to_held c.args.self.now.pass c.requires.ready.apart before file holds))).0
 
 pub returns-in_err-at : goal.returns-in_err-at
 returns-in_err-at g c = record {
@@ -118,16 +140,22 @@ returns-in_err-at g c = record {
   prefix = let at = (goal.at.returns-in_err-at g c).After-from in
       let self = c.args.self.now in
       let row = c.index-rows-frame.result in
-      let before = up_to_more self.pass c.requires.ready.apart c.loop-frame.invariant.up_to (up_to_row g at) (later g at) (next g at) c.in_ok-copy.ensures.written in
+      let before = up_to_more self.pass c.requires.ready.apart c.loop-frame.invariant.up_to
+      (up_to_row g at) (later g at) (next g at) c.in_ok-copy.ensures.written in
       err_at c.from_residual-in_err-at.result _ c.from_residual-in_err-at.ensures.1
       (up_to_prefix self.pass c.requires.ready.apart before
-      (λ file. moved_row_bytes c.steps-steps.result file row) (λ file. written_from (steps g at) self.tag file (row_end row) (drop (c.loop-frame.frame + 1) c.args.rows.now))
-      (λ file holds. ap (λ s. moved_row_bytes s file row ++ written_from (steps g at) self.tag file (row_end row) (drop (c.loop-frame.frame + 1) c.args.rows.now)) (own g at ∙ sym c.steps-steps.ensures)) c.in_err-at.ensures.prefix);
+      (λ file. moved_row_bytes c.steps-steps.result file row) (λ file. written_from (steps g at)
+      self.tag file (row_end row) (drop (c.loop-frame.frame + 1) c.args.rows.now))
+      (λ file holds. ap (λ s. moved_row_bytes s file row ++ written_from (steps g at) self.tag file
+      (row_end row) (drop (c.loop-frame.frame + 1) c.args.rows.now))
+      (own g at ∙ sym c.steps-steps.ensures)) c.in_err-at.ensures.prefix);
   done = search rules;
-  cause = let p = err_from_is_err_and c.from_residual-in_err-at.result c.from_residual-in_err-at.ensures.1 in
+  cause = let p =
+      err_from_is_err_and c.from_residual-in_err-at.result c.from_residual-in_err-at.ensures.1 in
       rw (p.1, p.2)
       (cause_behind c.loop-frame.invariant.up_to.written _ _ _ _ c.loop-frame.invariant.counts _
-      (cause_behind c.in_ok-copy.ensures.written _ _ _ _ c.in_ok-copy.ensures.done _ c.in_err-at.ensures.cause));
+      (cause_behind c.in_ok-copy.ensures.written _ _ _ _ c.in_ok-copy.ensures.done _
+      c.in_err-at.ensures.cause));
 }
 
 pub loop-frame-preserved : goal.loop-frame-preserved
@@ -138,13 +166,18 @@ loop-frame-preserved g c =
     let behind = drop (c.loop-frame.frame + 1) c.args.rows.now in
     let end = c.in_ok-at.at in
     let end_is : row_end row ≡ end = sym c.in_ok-at.ensures.end in
-    let before = up_to_more self.pass c.requires.ready.apart c.loop-frame.invariant.up_to (up_to_row g at) (later g at) (next g at) c.in_ok-copy.ensures.written in
+    let before = up_to_more self.pass c.requires.ready.apart c.loop-frame.invariant.up_to
+    (up_to_row g at) (later g at) (next g at) c.in_ok-copy.ensures.written in
     record {
       laid = subst (λ n. AreLaid n behind self.pass.length) end_is (all_laid g at).2;
-      told = λ file holds. (told file c.args.rows.now c.loop-frame.frame row (is g at) (c.loop-frame.invariant.told file holds)).1;
+      told = λ file holds. (told file c.args.rows.now c.loop-frame.frame row (is g at)
+          (c.loop-frame.invariant.told file holds)).1;
       up_to = up_to_more self.pass c.requires.ready.apart before
-          (λ file. moved_row_bytes c.steps-steps.result file row) (λ file. written_from (steps g at) self.tag file end behind)
-          (λ file holds. ap₂ (λ s n. moved_row_bytes s file row ++ written_from (steps g at) self.tag file n behind) (own g at ∙ sym c.steps-steps.ensures) end_is) c.in_ok-at.ensures.written;
+          (λ file. moved_row_bytes c.steps-steps.result file row)
+          (λ file. written_from (steps g at) self.tag file end behind)
+          (λ file holds. ap₂ (λ s n. moved_row_bytes s file row
+          ++ written_from (steps g at) self.tag file n behind)
+          (own g at ∙ sym c.steps-steps.ensures) end_is) c.in_ok-at.ensures.written;
       ready = c.in_ok-at.ensures.ready;
       counts = c.in_ok-at.ensures.done ∙ c.in_ok-copy.ensures.done ∙ c.loop-frame.invariant.counts;
     }
@@ -154,15 +187,25 @@ module _ (g : given.Over) (c : After-copy-2 g) where
   abbrev rest : List ℕ → List ℕ
   rest file = copied c.args.self.now.tag file c.loop-frame.at c.args.self.now.pass.length
 
-  last : (file : List ℕ) → Holds (g.D.Folder.seen c.args.folder.now).files c.args.self.now.pass.input.now file → written_from (steps_over c.args.self.now.course.now c.args.rows.now) c.args.self.now.tag file c.loop-frame.at (drop c.loop-frame.frame c.args.rows.now) ≡ rest file
+  last : (file : List ℕ)
+      → Holds (g.D.Folder.seen c.args.folder.now).files c.args.self.now.pass.input.now file
+      → written_from (steps_over c.args.self.now.course.now c.args.rows.now)
+      c.args.self.now.tag file c.loop-frame.at (drop c.loop-frame.frame c.args.rows.now) ≡ rest file
   last file holds =
-      left_behind (steps_over c.args.self.now.course.now c.args.rows.now) c.args.self.now.tag file c.loop-frame.at c.args.self.now.pass.length (drop c.loop-frame.frame c.args.rows.now)
-      (drop_all c.loop-frame.frame c.args.rows.now (omega (arith, c.loop-frame-test.false))) (c.requires.ready.length_is file holds)
+      left_behind (steps_over c.args.self.now.course.now c.args.rows.now) c.args.self.now.tag file
+      c.loop-frame.at c.args.self.now.pass.length (drop c.loop-frame.frame c.args.rows.now)
+      (drop_all c.loop-frame.frame c.args.rows.now (omega (arith, c.loop-frame-test.false)))
+      (c.requires.ready.length_is file holds)
 
 pub returns : goal.returns
 returns g c = record {
-  written = on_ok_weaker c.copy-2.result (up_to_last c.args.self.now.pass c.requires.ready.apart c.loop-frame.invariant.up_to _ (last g (goal.at.returns g c).After-copy-2)) c.copy-2.ensures.written;
-  prefix = err_by c.copy-2.result (λ fault. up_to_last_prefix c.args.self.now.pass c.requires.ready.apart c.loop-frame.invariant.up_to _ (last g (goal.at.returns g c).After-copy-2)) c.copy-2.ensures.prefix;
+  written = on_ok_weaker c.copy-2.result
+      (up_to_last c.args.self.now.pass c.requires.ready.apart c.loop-frame.invariant.up_to _
+      (last g (goal.at.returns g c).After-copy-2)) c.copy-2.ensures.written;
+  prefix = err_by c.copy-2.result (λ fault.
+      up_to_last_prefix c.args.self.now.pass c.requires.ready.apart c.loop-frame.invariant.up_to _
+      (last g (goal.at.returns g c).After-copy-2)) c.copy-2.ensures.prefix;
   done = search rules;
-  cause = causes_behind c.loop-frame.invariant.up_to.written _ _ _ _ c.loop-frame.invariant.counts c.copy-2.result c.copy-2.ensures.cause;
+  cause = causes_behind c.loop-frame.invariant.up_to.written _ _ _ _
+      c.loop-frame.invariant.counts c.copy-2.result c.copy-2.ensures.cause;
 }

@@ -1,0 +1,108 @@
+-- What the call leaves, by the survey, what was read beside it, and what was sent of the text.
+use Rattle.std.{proofs.Common.{ap₂, List, subst, sym, ℕ, ◌∙◌, ◌≡◌}, specs.Prelude.{IfErr, OnOk}}
+use Rattle.commands.specs.{Command.HoldsStreams, Left.{HasNumbers, IsDone, Leaves}}
+use Rattle.commands.specs.One.{IsFileFault, most_frames}
+use Rattle.list_edits.proofs.TextLaws.{holds_streams, is_done, no_room, refused_run, says}
+use Rattle.list_edits.proofs.TextLaws.{survey_left, told_by, unsent}
+use Rattle.list_edits.{proofs.file_text.send_text.Goals.In_ok-text, specs.TextCommand.text_command}
+use Rattle.outside.{proofs.CountsLaws.only_reads_same, specs.Counts.{Counts, OnlyReads}}
+use Rattle.outside.specs.{Files.Holds, Seen.seen}
+use Rattle.sync_survey.specs.Faults.{tells}
+use Rattle.list_edits.proofs.file_text.send_text.Given as given
+use Rattle.list_edits.proofs.file_text.send_text.Goals as goal
+
+pub returns-in_err-survey : goal.returns-in_err-survey
+returns-in_err-survey g c =
+    let text = g.K.FileText.text in
+    let left = survey_left text c.args.input.now _ _ _ c.in_err-survey.ensures.refused in
+    let reads = c.survey_at.ensures.reads in
+    refused_run text c.args.input.now _ _ _ c.from_residual.result _ c.from_residual.ensures.1 left
+    c.in_err-survey.ensures.numbers reads.files reads.counts
+
+pub returns-in_err-text : goal.returns-in_err-text
+returns-in_err-text g c =
+    let text = g.K.FileText.text in
+    let input = c.args.input.now in
+    let new = g.D.Folder.seen c.read.new.folder in
+    let fault = c.in_err-text.field-0.0 in
+    let files = c.survey_at.ensures.reads.files in
+    let counts = c.in_ok-survey.ensures.reads.done in
+    let refused = subst (λ old. IsFileFault 0 most_frames input old new fault)
+    (ap₂ seen files counts) c.in_err-text.ensures.refused in
+    let end = c.from_residual-in_err-text in
+    refused_run text input _ _ _ end.result _ end.ensures.1
+    (survey_left text input _ _ _ refused) c.in_err-text.ensures.numbers
+    (c.read.ensures.reads.files ∙ files)
+    (subst (λ (n : Counts). OnlyReads n new.counts) counts c.read.ensures.reads.counts)
+
+-- the text of the input's bytes, where they are told, is the one by what was read
+text_is : (g : given.Over) (c : In_ok-text g) (bytes : List ℕ)
+    → Holds (g.D.Folder.seen c.args.folder.now).files c.args.input.now bytes
+    → g.K.FileText.text bytes (tells c.in_ok-survey.survey)
+    ≡ g.K.FileText.said c.in_ok-text.text (tells c.in_ok-survey.survey)
+text_is g c bytes holds =
+    let files = c.survey_at.ensures.reads.files in
+    c.in_ok-text.ensures.text bytes
+    (subst (λ f. Holds f c.args.input.now bytes) (sym files) holds)
+
+-- neither files nor counts moved
+files_stay : (g : given.Over) (c : In_ok-text g)
+    → (g.D.Folder.seen c.read.new.folder).files ≡ (g.D.Folder.seen c.args.folder.now).files
+files_stay g c = c.read.ensures.reads.files ∙ c.survey_at.ensures.reads.files
+
+counts_stay : (g : given.Over) (c : In_ok-text g)
+    → (g.D.Folder.seen c.read.new.folder).counts ≡ (g.D.Folder.seen c.args.folder.now).counts
+counts_stay g c = c.in_ok-text.ensures.reads.done ∙ c.in_ok-survey.ensures.reads.done
+
+only_read : (g : given.Over) (c : In_ok-text g) → OnlyReads
+    (g.D.Folder.seen c.args.folder.now).counts (g.D.Folder.seen c.read.new.folder).counts
+only_read g c =
+    let old = (g.D.Folder.seen c.args.folder.now).counts in
+    subst (λ (counts : Counts). OnlyReads old counts) (sym (counts_stay g c)) (only_reads_same old)
+
+pub returns-in_err-buffer : goal.returns-in_err-buffer
+returns-in_err-buffer g c =
+    let known = c.in_ok-survey.ensures in
+    let text = g.K.FileText.text in
+    let s = tells c.in_ok-survey.survey in
+    let said = g.K.FileText.said c.in_ok-text.text s in
+    let h = (goal.at.returns-in_err-buffer g c).In_ok-text in
+    let input = c.args.input.now in
+    let old = g.D.Folder.seen c.args.folder.now in
+    let end = c.from_residual-in_err-buffer in
+    refused_run text input _ _ _ end.result _ end.ensures.1
+    (no_room text input old.files s said known.there known.surveyed (text_is g h) _ _ _
+    (files_stay g h) (counts_stay g h))
+    tt (files_stay g h) (only_read g h)
+
+pub returns : goal.returns
+returns g c =
+    let known = c.in_ok-survey.ensures in
+    let text = g.K.FileText.text in
+    let input = c.args.input.now in
+    let s = tells c.in_ok-survey.survey in
+    let said = g.K.FileText.said c.in_ok-text.text s in
+    let h = (goal.at.returns g c).In_ok-text in
+    let command = text_command text input in
+    let old = g.D.Folder.seen c.args.folder.now in
+    let new = g.D.Folder.seen c.read.new.folder in
+    let sink = g.T.Sink in
+    let fault = c.tell.ensures.fault in
+    record {
+      done = told_by (λ r. OnOk r (IsDone command old new))
+          (λ x. is_done text input old.files s said known.there known.surveyed (text_is g h) _ _ _
+          (files_stay g h) (counts_stay g h)) tt c.tell.result fault;
+      left = told_by (λ r. IfErr r (Leaves command old new)) (λ x. tt)
+          (unsent text input old.files s said known.there known.surveyed (text_is g h) _ _ _
+          (files_stay g h) (counts_stay g h)) c.tell.result fault;
+      says = says text input old.files s said known.there known.surveyed (text_is g h)
+          (sink.heard c.args.out.now) (sink.heard c.tell.new.out) c.tell.result fault
+          c.tell.ensures.sent c.tell.ensures.prefix c.tell.ensures.cause;
+      numbers = told_by (λ r. IfErr r (HasNumbers command)) (λ x. tt) (λ none. absurd cc)
+          c.tell.result fault;
+      streams = told_by (λ r. OnOk r (HoldsStreams command old.files))
+          (λ x. holds_streams text input old.files s said known.there known.surveyed (text_is g h))
+          tt c.tell.result fault;
+      files = files_stay g h;
+      counts = only_read g h;
+    }
