@@ -1,48 +1,57 @@
 -- One frame: its bytes are an item, and its side information and its check word are read back.
-use Rattle.std.proofs.Common.{◌≡◌, ℕ, ◌+◌, leb, cond, true, List, ◌++◌, length, take, Ok, Err, sym, ◌∙◌, ap, ap₂, arith, append_assoc, length-append}
-use Rattle.std.proofs.lemmas.Bool.{le-leb}
-use Rattle.std.proofs.lemmas.List.{take_at, drop_at}
-use Rattle.bit_fields.specs.Bits.{bytes}
-use Rattle.bit_fields.proofs.BitsLaws.{bits-bytes, length-bytes}
-use Rattle.frame_header.specs.declared.header.NotHeader.TheVariants.{No}
-use Rattle.frame_header.specs.Fields.{HeaderFields, IsHeader}
-use Rattle.frame_header.specs.Tables.{class_of, length_of, side_size_of, overhead_of, area_of}
-use Rattle.frame_header.specs.HeaderBits.{header_bits}
+use Rattle.std.proofs.Common.{ap, append_assoc, ap₂, arith, cond, Err, leb, length, length-append}
+use Rattle.std.proofs.{Common.{List, Ok, sym, take, true, ℕ, ◌++◌, ◌∙◌, ◌≡◌}, lemmas.Bool.le-leb}
+use Rattle.std.proofs.lemmas.List.{drop_at, take_at}
+use Rattle.bit_fields.{proofs.BitsLaws.{bits-bytes, length-bytes}, specs.Bits.bytes}
+use Rattle.frame_header.proofs.HeaderLaws.{AreBits-header_bits, header_at-bytes, IsClass-class_of}
+use Rattle.frame_header.proofs.{HeaderLaws.length-header_bits, SlotLaws.area-is}
+use Rattle.frame_header.specs.{Fields.{HeaderFields, IsHeader}, HeaderBits.header_bits}
 use Rattle.frame_header.specs.Reading.{header_at}
-use Rattle.frame_header.proofs.HeaderLaws.{IsClass-class_of, AreBits-header_bits, length-header_bits, header_at-bytes}
-use Rattle.frame_header.proofs.SlotLaws.{area-is}
-use Rattle.side_info.specs.declared.side.Side.{Side}
-use Rattle.side_info.specs.Side.{side_bits, SideFits}
-use Rattle.side_info.specs.CheckWord.{check_word_of}
-use Rattle.side_info.specs.Frame.{side_in, word_said, word_part, frame_with}
-use Rattle.side_info.proofs.SideLaws.{IsShaped, length-side_bits}
-use Rattle.side_info.proofs.FrameLaws.{HasRoom, overhead-is, side_in-frame_with, word_said-frame_with, length-word_part}
-use Rattle.side_info.specs.Frame.{front_of}
-use Rattle.sync_survey.specs.declared.items.Item.TheVariants.{Frame as FrameItem}
-use Rattle.sync_survey.specs.Items.{header_front}
-use Rattle.sync_survey.proofs.ItemBytes.{IsItem, frame_item, frame-least}
+use Rattle.frame_header.specs.Tables.{area_of, class_of, length_of, overhead_of, side_size_of}
+use Rattle.frame_header.specs.declared.header.NotHeader.TheVariants.{No}
 use Rattle.laying.specs.LaidFiles.{HasPairs}
+use Rattle.side_info.proofs.FrameLaws.{HasRoom, length-word_part, overhead-is, side_in-frame_with}
+use Rattle.side_info.proofs.{FrameLaws.word_said-frame_with, SideLaws.{IsShaped, length-side_bits}}
+use Rattle.side_info.specs.CheckWord.{check_word_of}
+use Rattle.side_info.specs.Frame.{frame_with, front_of, side_in, word_part, word_said}
+use Rattle.side_info.specs.{Side.{side_bits, SideFits}, declared.side.Side.Side}
+use Rattle.sync_survey.proofs.ItemBytes.{frame-least, frame_item, IsItem}
+use Rattle.sync_survey.specs.Items.{header_front}
+use Rattle.sync_survey.specs.declared.items.Item.TheVariants.{Frame as FrameItem}
 
+-- side information with pairs has lists as long as the arrays
 pub shaped : (s : Side) → HasPairs s → IsShaped s
-shaped s pairs = record { scfsi = pairs.scfsi; granules = pairs.granules; first = pairs.first; second = pairs.second }
+shaped s pairs = record {
+  scfsi = pairs.scfsi;
+  granules = pairs.granules;
+  first = pairs.first;
+  second = pairs.second;
+}
 
 -- ---- a header
 
+-- a header has four bytes
 pub length-header : (h : HeaderFields) → length (bytes (header_bits h)) ≡ 4
 length-header h = length-bytes 4 (header_bits h) (length-header_bits h)
 
-pub header_front-is : (h : HeaderFields) (rest : List ℕ) → IsHeader h → header_front (bytes (header_bits h) ++ rest) ≡ Ok h
+-- a header is read from its bytes, whatever follows
+pub header_front-is : (h : HeaderFields) (rest : List ℕ) → IsHeader h
+    → header_front (bytes (header_bits h) ++ rest) ≡ Ok h
 unfolding header_front
 header_front-is h rest is =
     let four = bytes (header_bits h) in
-    let long : leb 4 (length (four ++ rest)) ≡ true = le-leb _ _ (omega (arith, length-header h, length-append four rest)) in
+    let long : leb 4 (length (four ++ rest)) ≡ true =
+    le-leb _ _ (omega (arith, length-header h, length-append four rest)) in
     ap (λ b. cond b (header_at (take 4 (four ++ rest))) (Err No)) long
     ∙ ap header_at (take_at four rest 4 (length-header h))
-    ∙ header_at-bytes four h is (bits-bytes 4 (header_bits h) (AreBits-header_bits h) (length-header_bits h))
+    ∙ header_at-bytes four h is
+    (bits-bytes 4 (header_bits h) (AreBits-header_bits h) (length-header_bits h))
 
 -- ---- what is before the area
 
-pub length-front : (h : HeaderFields) (s : Side) → IsHeader h → IsShaped s → length (front_of h s) ≡ overhead_of (class_of h) h.protected
+-- the front of a frame has as many bytes as are before its area
+pub length-front : (h : HeaderFields) (s : Side) → IsHeader h → IsShaped s
+    → length (front_of h s) ≡ overhead_of (class_of h) h.protected
 unfolding front_of
 length-front h s is pairs =
     let c = class_of h in
@@ -53,55 +62,78 @@ length-front h s is pairs =
       length-append (bytes (header_bits h)) (word_part h s ++ side),
       length-append (word_part h s) side,
       length-word_part h s h.protected,
-      length-bytes (side_size_of c) (side_bits c s) (length-side_bits c (IsClass-class_of h is) s pairs),
+      length-bytes (side_size_of c) (side_bits c s)
+          (length-side_bits c (IsClass-class_of h is) s pairs),
       overhead-is c h.protected,
     )
 
-front-four : (h : HeaderFields) (s : Side) (rest : List ℕ) → take 4 (front_of h s ++ rest) ≡ bytes (header_bits h)
+front-four : (h : HeaderFields) (s : Side) (rest : List ℕ)
+    → take 4 (front_of h s ++ rest) ≡ bytes (header_bits h)
 unfolding front_of
 front-four h s rest =
     let side = bytes (side_bits (class_of h) s) in
-    ap (take 4) (append_assoc (bytes (header_bits h)) (word_part h s ++ side) rest) ∙ take_at (bytes (header_bits h)) ((word_part h s ++ side) ++ rest) 4 (length-header h)
+    ap (take 4) (append_assoc (bytes (header_bits h)) (word_part h s ++ side) rest)
+    ∙ take_at (bytes (header_bits h)) ((word_part h s ++ side) ++ rest) 4 (length-header h)
 
 -- it is that of a frame with this side information
-put_again : (h : HeaderFields) (s : Side) (rest : List ℕ) → IsHeader h → IsShaped s → frame_with h s (front_of h s ++ rest) ≡ front_of h s ++ rest
+put_again : (h : HeaderFields) (s : Side) (rest : List ℕ) → IsHeader h → IsShaped s
+    → frame_with h s (front_of h s ++ rest) ≡ front_of h s ++ rest
 unfolding frame_with front_of
 put_again h s rest is pairs =
     let head = bytes (header_bits h) in
     let side = bytes (side_bits (class_of h) s) in
     let over = overhead_of (class_of h) h.protected in
-    ap₂ (λ (xs ys : List ℕ). xs ++ (word_part h s ++ (side ++ ys))) (front-four h s rest) (drop_at (front_of h s) rest over (length-front h s is pairs))
+    ap₂ (λ (xs ys : List ℕ). xs ++ (word_part h s ++ (side ++ ys))) (front-four h s rest)
+    (drop_at (front_of h s) rest over (length-front h s is pairs))
     ∙ ap (λ (xs : List ℕ). head ++ xs) (sym (append_assoc (word_part h s) side rest))
     ∙ sym (append_assoc head (word_part h s ++ side) rest)
 
-room : (h : HeaderFields) (s : Side) (rest : List ℕ) → IsHeader h → IsShaped s → HasRoom h (front_of h s ++ rest)
+room : (h : HeaderFields) (s : Side) (rest : List ℕ) → IsHeader h → IsShaped s
+    → HasRoom h (front_of h s ++ rest)
 room h s rest is pairs = omega (arith, length-front h s is pairs, length-append (front_of h s) rest)
 
 -- its side information is read back
-pub front-side : (h : HeaderFields) (s : Side) (rest : List ℕ) → IsHeader h → IsShaped s → SideFits (class_of h) s → side_in h (front_of h s ++ rest) ≡ s
+pub front-side : (h : HeaderFields) (s : Side) (rest : List ℕ) → IsHeader h → IsShaped s
+    → SideFits (class_of h) s → side_in h (front_of h s ++ rest) ≡ s
 front-side h s rest is pairs fits =
-    ap (side_in h) (sym (put_again h s rest is pairs)) ∙ side_in-frame_with h s (front_of h s ++ rest) (IsClass-class_of h is) pairs fits (room h s rest is pairs)
+    ap (side_in h) (sym (put_again h s rest is pairs)) ∙ side_in-frame_with h s
+    (front_of h s ++ rest) (IsClass-class_of h is) pairs fits (room h s rest is pairs)
 
 -- and its check word is the right one
-pub front-word : (h : HeaderFields) (s : Side) (rest : List ℕ) → IsHeader h → IsShaped s → h.protected ≡ true → word_said (front_of h s ++ rest) ≡ check_word_of h s
+pub front-word : (h : HeaderFields) (s : Side) (rest : List ℕ) → IsHeader h → IsShaped s
+    → h.protected ≡ true → word_said (front_of h s ++ rest) ≡ check_word_of h s
 front-word h s rest is pairs protected =
-    ap word_said (sym (put_again h s rest is pairs)) ∙ word_said-frame_with h s (front_of h s ++ rest) protected (room h s rest is pairs)
+    ap word_said (sym (put_again h s rest is pairs))
+    ∙ word_said-frame_with h s (front_of h s ++ rest) protected (room h s rest is pairs)
 
-front_header : (h : HeaderFields) (s : Side) (rest : List ℕ) → IsHeader h → header_front (front_of h s ++ rest) ≡ Ok h
+front_header : (h : HeaderFields) (s : Side) (rest : List ℕ) → IsHeader h
+    → header_front (front_of h s ++ rest) ≡ Ok h
 unfolding front_of
 front_header h s rest is =
     let side = bytes (side_bits (class_of h) s) in
-    ap header_front (append_assoc (bytes (header_bits h)) (word_part h s ++ side) rest) ∙ header_front-is h ((word_part h s ++ side) ++ rest) is
+    ap header_front (append_assoc (bytes (header_bits h)) (word_part h s ++ side) rest)
+    ∙ header_front-is h ((word_part h s ++ side) ++ rest) is
 
 -- ---- the frame
 
 -- with its area it is as long as its header says
-pub length-entry : (h : HeaderFields) (s : Side) (area : List ℕ) → IsHeader h → IsShaped s → length area ≡ area_of (class_of h) h.slot h.protected → length (front_of h s ++ area) ≡ length_of (class_of h) h.slot
+pub length-entry : (h : HeaderFields) (s : Side) (area : List ℕ) → IsHeader h → IsShaped s
+    → length area ≡ area_of (class_of h) h.slot h.protected
+    → length (front_of h s ++ area) ≡ length_of (class_of h) h.slot
 length-entry h s area is pairs many =
-    omega (arith, many, length-append (front_of h s) area, length-front h s is pairs, (area-is (class_of h) h.slot h.protected (IsClass-class_of h is) is.slot).0)
+    omega (
+      arith,
+      many,
+      length-append (front_of h s) area,
+      length-front h s is pairs,
+      (area-is (class_of h) h.slot h.protected (IsClass-class_of h is) is.slot).0,
+    )
 
 -- so it is an item
-pub entry_item : (h : HeaderFields) (s : Side) (area : List ℕ) → IsHeader h → IsShaped s → length area ≡ area_of (class_of h) h.slot h.protected → IsItem (FrameItem h) (front_of h s ++ area)
+pub entry_item : (h : HeaderFields) (s : Side) (area : List ℕ) → IsHeader h → IsShaped s
+    → length area ≡ area_of (class_of h) h.slot h.protected
+    → IsItem (FrameItem h) (front_of h s ++ area)
 entry_item h s area is pairs many =
     let long = length-entry h s area is pairs many in
-    frame_item h (front_of h s ++ area) (front_header h s area is) long (omega (arith, long, frame-least h is))
+    frame_item h (front_of h s ++ area) (front_header h s area is) long
+    (omega (arith, long, frame-least h is))

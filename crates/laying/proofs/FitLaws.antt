@@ -1,118 +1,158 @@
--- A plan can be written frame by frame: its starts are as early as they may be, so no later than those of a layout. Its slots are some of the 28.
-use Rattle.std.proofs.Common.{◌≡◌, ℕ, ◌+◌, ◌-◌, ◌≤◌, min, cond, Bool, true, false, List, [], ◌∷◌, ◌++◌, map, get_or, drop, Contains, Option, Some, None, refl, sym, ap, ap₂, subst, arith, max, flat_map}
+-- A plan can be written frame by frame: its starts are as early as they may
+-- be, so no later than those of a layout. Its slots are some of the 28.
+use Rattle.std.proofs.Common.{ap, ap₂, arith, Bool, cond, Contains, drop, false, flat_map, get_or}
+use Rattle.std.proofs.Common.{List, map, max, min, None, Option, refl, Some, subst, sym, true, ℕ}
+use Rattle.std.proofs.Common.{[], ◌++◌, ◌+◌, ◌-◌, ◌∷◌, ◌≡◌, ◌≤◌}
 use Rattle.std.proofs.Math.Nat.{le-max_left, le-max_right, max-le}
-use Rattle.frame_header.specs.Fields.{SlotFields, HeaderFields, IsSlot, IsHeader}
-use Rattle.frame_header.specs.Tables.{class_of, area_of}
-use Rattle.slot_plan.specs.declared.needs.Need.{Need}
-use Rattle.slot_plan.specs.declared.needs.Placed.{Placed}
-use Rattle.slot_plan.specs.Layouts.{IsLayout, IsFeasible, begins_of}
+use Rattle.frame_header.specs.Fields.{HeaderFields, IsHeader, IsSlot, SlotFields}
+use Rattle.frame_header.specs.Tables.{area_of, class_of}
+use Rattle.laying.proofs.{PartsLaws.parts_are, PlannedFrames.slot_among}
+use Rattle.laying.specs.Fits.{AreInSlots, bytes_at, FitsFrom, IsFitting, reach_behind}
+use Rattle.laying.specs.{Laws.{AskedPlans, PlansFit}, Needs.{need_of, needs_of}}
+use Rattle.laying.specs.Relaid.{AreSlots, left_behind}
+use Rattle.slot_plan.{proofs.AreaLaws.only_one, specs.Layouts.{begins_of, IsFeasible, IsLayout}}
 use Rattle.slot_plan.specs.Lists.{frames_of}
-use Rattle.slot_plan.specs.Parts.{Item, area_in, open_of, item_of, items_of, IsLeadIn, AreLeadIns, whole_of}
-use Rattle.slot_plan.specs.Plans.{AreFor, areas_in, IsPlan}
-use Rattle.slot_plan.specs.Parts.{window_in}
-use Rattle.slot_plan.proofs.AreaLaws.{only_one}
-use Rattle.laying.specs.Needs.{need_of, needs_of}
-use Rattle.laying.proofs.PartsLaws.{parts_are}
+use Rattle.slot_plan.specs.Parts.{area_in, AreLeadIns, IsLeadIn, Item, item_of, items_of, open_of}
+use Rattle.slot_plan.specs.{Parts.{whole_of, window_in}, Plans.{areas_in, AreFor, IsPlan}}
+use Rattle.slot_plan.specs.declared.needs.{Need.Need, Placed.Placed}
 use Rattle.sync_survey.specs.Row.{Row}
-use Rattle.laying.specs.Relaid.{left_behind, AreSlots}
-use Rattle.laying.specs.Fits.{bytes_at, reach_behind, FitsFrom, AreInSlots, IsFitting}
-use Rattle.laying.specs.Laws.{PlansFit, AskedPlans}
-use Rattle.laying.proofs.PlannedFrames.{slot_among}
 
 -- ---- items of a plan, as they were asked for
 
 -- an item is the lead-in before this frame, or the frame
 abbrev pub IsAsked : Bool → Item → Need → Type 0
-IsAsked true item need = (item.class ≡ class_of need.header) × (item.protected ≡ false) × (item.bytes ≡ 0)
-IsAsked false item need = (item.class ≡ class_of need.header) × (item.protected ≡ need.header.protected) × (item.bytes ≡ need.bytes)
+IsAsked true item need =
+    (item.class ≡ class_of need.header) × (item.protected ≡ false) × (item.bytes ≡ 0)
+IsAsked false item need = (item.class ≡ class_of need.header)
+    × (item.protected ≡ need.header.protected) × (item.bytes ≡ need.bytes)
 
 abbrev pub Asks : List Item → List Need → Type 0
 Asks [] [] = Unit {0}
-Asks (item ∷ items) (need ∷ needs) = IsAsked item.lead_in item need × Asks items (left_behind item.lead_in need needs)
+Asks (item ∷ items) (need ∷ needs) =
+    IsAsked item.lead_in item need × Asks items (left_behind item.lead_in need needs)
 Asks _ _ = ⊥
 
-pub asked-area : (b : Bool) (item : Item) (need : Need) (slot : SlotFields) → IsAsked b item need → area_in item slot ≡ area_of (class_of need.header) slot (cond b false need.header.protected)
+-- a place that was asked for a frame or a lead-in has an area of its class
+pub asked-area : (b : Bool) (item : Item) (need : Need) (slot : SlotFields) → IsAsked b item need
+    → area_in item slot ≡ area_of (class_of need.header) slot (cond b false need.header.protected)
 asked-area true item need slot is = ap₂ (λ c protected. area_of c slot protected) is.0 is.1
 asked-area false item need slot is = ap₂ (λ c protected. area_of c slot protected) is.0 is.1
 
-pub asked-bytes : (b : Bool) (item : Item) (need : Need) → IsAsked b item need → item.bytes ≡ bytes_at b need
+-- and holds the frame's main data, or nothing
+pub asked-bytes : (b : Bool) (item : Item) (need : Need) → IsAsked b item need
+    → item.bytes ≡ bytes_at b need
 asked-bytes true item need is = is.2
 asked-bytes false item need is = is.2
 
 -- ---- from one frame to the next
 
-fits-on : (window : ℕ) (items : List Item) (needs : List Need) (placed : List Placed) (end low before : ℕ) (starts : List ℕ) → Asks items needs → AreFor items placed
-    → IsLayout window end before (frames_of (map open_of items) (areas_in items placed)) starts → low ≤ end → low ≤ before
-    → map (λ (p : Placed). p.begin) placed ≡ begins_of window low before (frames_of (map open_of items) (areas_in items placed))
+fits-on : (window : ℕ) (items : List Item) (needs : List Need) (placed : List Placed)
+    (end low before : ℕ) (starts : List ℕ) → Asks items needs → AreFor items placed
+    → IsLayout window end before (frames_of (map open_of items) (areas_in items placed)) starts
+    → low ≤ end → low ≤ before → map (λ (p : Placed). p.begin) placed
+    ≡ begins_of window low before (frames_of (map open_of items) (areas_in items placed))
     → FitsFrom window (min window (before - low)) needs placed
 unfolding AreFor IsLayout begins_of frames_of areas_in FitsFrom
 fits-on window [] [] [] end low before starts asks for_items layout early within begins = tt
-fits-on window [] (need ∷ needs) placed end low before starts asks for_items layout early within begins = absurd asks
-fits-on window (item ∷ items) [] placed end low before starts asks for_items layout early within begins = absurd asks
-fits-on window (item ∷ items) (need ∷ needs) (p ∷ placed) end low before [] asks for_items layout early within begins = absurd layout
-fits-on window (item ∷ items) (need ∷ needs) (p ∷ placed) end low before (start ∷ starts) asks for_items layout early within begins =
+fits-on window [] (need ∷ needs) placed end low before starts asks for_items layout early within
+    begins = absurd asks
+fits-on window (item ∷ items) [] placed end low before starts asks for_items layout early within
+    begins = absurd asks
+fits-on window (item ∷ items) (need ∷ needs)
+    (p ∷ placed) end low before [] asks for_items layout early within begins = absurd layout
+fits-on window (item ∷ items) (need ∷ needs) (p ∷ placed) end low before
+    (start ∷ starts) asks for_items layout early within begins =
     let at = max low (before - window) in
-    let is : IsAsked p.lead_in item need = subst (λ b. IsAsked b item need) (sym for_items.0) asks.0 in
-    let follow : Asks items (left_behind p.lead_in need needs) = subst (λ b. Asks items (left_behind b need needs)) (sym for_items.0) asks.1 in
+    let is : IsAsked p.lead_in item need =
+    subst (λ b. IsAsked b item need) (sym for_items.0) asks.0 in
+    let follow : Asks items (left_behind p.lead_in need needs) =
+    subst (λ b. Asks items (left_behind b need needs)) (sym for_items.0) asks.1 in
     let area = asked-area p.lead_in item need p.slot is in
     let bytes = asked-bytes p.lead_in item need is in
     let begin : p.begin ≡ before - at = ap (λ l. get_or l 0 0) begins in
     let first : at ≤ start = max-le (omega (arith, early, layout.0)) (omega (arith, layout.1)) in
     let low_most = le-max_left low (before - window) in
     let reach = le-max_right low (before - window) in
-    let behind : min window (before + area_in item p.slot - (at + item.bytes)) ≡ reach_behind window p need = ap (min window) (omega (arith, begin, area, bytes, first, layout.2)) in (
+    let behind : min window (before + area_in item p.slot - (at + item.bytes)) ≡ reach_behind window
+    p need = ap (min window) (omega (arith, begin, area, bytes, first, layout.2)) in (
       omega (arith, begin, low_most, reach),
       omega (arith, begin, area, bytes, first, layout.2, layout.3),
       subst (λ n. FitsFrom window n (left_behind p.lead_in need needs) placed) behind
-          (fits-on window items (left_behind p.lead_in need needs) placed (start + item.bytes) (at + item.bytes) (before + area_in item p.slot) starts follow for_items.2 layout.4 (omega (arith, first)) (omega (arith, first, layout.3)) (ap (drop 1) begins)),
+          (fits-on window items (left_behind p.lead_in need needs) placed (start + item.bytes)
+          (at + item.bytes) (before + area_in item p.slot) starts follow for_items.2 layout.4
+          (omega (arith, first)) (omega (arith, first, layout.3)) (ap (drop 1) begins)),
     )
-fits-on window _ _ _ end low before starts asks for_items layout early within begins = absurd for_items
+fits-on window _ _ _ end low before starts asks for_items layout early within begins =
+    absurd for_items
 
 -- items that ask for these frames, laid as early as they may be
-pub items-fit : (window : ℕ) (items : List Item) (needs : List Need) (placed : List Placed) → Asks items needs → AreFor items placed → IsFeasible window 0 (frames_of (map open_of items) (areas_in items placed))
-    → map (λ (p : Placed). p.begin) placed ≡ begins_of window 0 0 (frames_of (map open_of items) (areas_in items placed)) → FitsFrom window 0 needs placed
+pub items-fit : (window : ℕ) (items : List Item) (needs : List Need) (placed : List Placed)
+    → Asks items needs → AreFor items placed
+    → IsFeasible window 0 (frames_of (map open_of items) (areas_in items placed))
+    → map (λ (p : Placed). p.begin) placed
+    ≡ begins_of window 0 0 (frames_of (map open_of items) (areas_in items placed))
+    → FitsFrom window 0 needs placed
 unfolding IsFeasible
 items-fit window items needs placed asks for_items feasible begins =
     let none : min window (0 - 0) ≡ 0 = omega arith in
-    subst (λ n. FitsFrom window n needs placed) none (fits-on window items needs placed 0 0 0 feasible.0 asks for_items feasible.1 (omega arith) (omega arith) begins)
+    subst (λ n. FitsFrom window n needs placed) none (fits-on window items needs placed 0 0 0
+    feasible.0 asks for_items feasible.1 (omega arith) (omega arith) begins)
 
 -- each frame asks for itself
-pub asks-each : (choices : HeaderFields → List SlotFields) (needs : List Need) → Asks (map (item_of choices) needs) needs
+pub asks-each : (choices : HeaderFields → List SlotFields) (needs : List Need)
+    → Asks (map (item_of choices) needs) needs
 asks-each choices [] = tt
 asks-each choices (need ∷ needs) = ((refl, refl, refl), asks-each choices needs)
 
 -- ---- all parts
 
-asks-items : (choices : HeaderFields → List SlotFields) (needs : List Need) (rest : List Item) (more : List Need) → Asks rest more → Asks (map (item_of choices) needs ++ rest) (needs ++ more)
+asks-items : (choices : HeaderFields → List SlotFields) (needs : List Need) (rest : List Item)
+    (more : List Need) → Asks rest more → Asks (map (item_of choices) needs ++ rest) (needs ++ more)
 asks-items choices [] rest more asks = asks
-asks-items choices (need ∷ needs) rest more asks = ((refl, refl, refl), asks-items choices needs rest more asks)
+asks-items choices (need ∷ needs) rest more asks =
+    ((refl, refl, refl), asks-items choices needs rest more asks)
 
-asks-part : (window : ℕ) (choices : HeaderFields → List SlotFields) (part : List Need) (lead_in : Option SlotFields) (rest : List Item) (more : List Need) → IsLeadIn window choices part lead_in → Asks rest more
+asks-part : (window : ℕ) (choices : HeaderFields → List SlotFields) (part : List Need)
+    (lead_in : Option SlotFields) (rest : List Item) (more : List Need)
+    → IsLeadIn window choices part lead_in → Asks rest more
     → Asks (items_of choices part lead_in ++ rest) (part ++ more)
 unfolding items_of IsLeadIn
 asks-part window choices part None rest more lead asks = asks-items choices part rest more asks
 asks-part window choices [] (Some slot) rest more lead asks = absurd lead
-asks-part window choices (need ∷ part) (Some slot) rest more lead asks = ((refl, refl, refl), asks-items choices (need ∷ part) rest more asks)
+asks-part window choices (need ∷ part) (Some slot) rest more lead asks =
+    ((refl, refl, refl), asks-items choices (need ∷ part) rest more asks)
 
-asks-whole : (window : ℕ) (choices : HeaderFields → List SlotFields) (parts : List (List Need)) (lead_ins : List (Option SlotFields)) → AreLeadIns window choices parts lead_ins
+asks-whole : (window : ℕ) (choices : HeaderFields → List SlotFields) (parts : List (List Need))
+    (lead_ins : List (Option SlotFields)) → AreLeadIns window choices parts lead_ins
     → Asks (whole_of choices parts lead_ins) (flat_map (λ (part : List Need). part) parts)
 unfolding whole_of AreLeadIns
 asks-whole window choices [] lead_ins leads = tt
 asks-whole window choices (part ∷ parts) [] leads = absurd leads
 asks-whole window choices (part ∷ parts) (lead_in ∷ lead_ins) leads =
-    asks-part window choices part lead_in (whole_of choices parts lead_ins) (flat_map (λ (part : List Need). part) parts) leads.0 (asks-whole window choices parts lead_ins leads.1)
+    asks-part window choices part lead_in (whole_of choices parts lead_ins)
+    (flat_map (λ (part : List Need). part) parts)
+    leads.0 (asks-whole window choices parts lead_ins leads.1)
 
-pub parts-fit : (window : ℕ) (choices : HeaderFields → List SlotFields) (parts : List (List Need)) (placed : List Placed) → IsPlan window choices parts placed → FitsFrom window 0 (flat_map (λ (part : List Need). part) parts) placed
+-- a plan of parts can be written frame by frame
+pub parts-fit : (window : ℕ) (choices : HeaderFields → List SlotFields) (parts : List (List Need))
+    (placed : List Placed) → IsPlan window choices parts placed
+    → FitsFrom window 0 (flat_map (λ (part : List Need). part) parts) placed
 parts-fit window choices parts placed plan =
-    items-fit window (whole_of choices parts plan.lead_ins) (flat_map (λ (part : List Need). part) parts) placed (asks-whole window choices parts plan.lead_ins plan.alone) plan.whole.slots plan.whole.least.feasible plan.whole.begins
+    items-fit window (whole_of choices parts plan.lead_ins)
+    (flat_map (λ (part : List Need). part) parts) placed (asks-whole window choices parts
+    plan.lead_ins plan.alone) plan.whole.slots plan.whole.least.feasible plan.whole.begins
 
-pub needs-flat : (parts : List (List Row)) → flat_map (λ (part : List Need). part) (map (map need_of) parts) ≡ needs_of parts
+-- the needs of all parts, one after the other, are those of their frames
+pub needs-flat : (parts : List (List Row))
+    → flat_map (λ (part : List Need). part) (map (map need_of) parts) ≡ needs_of parts
 unfolding needs_of
 needs-flat [] = refl
 needs-flat (rows ∷ parts) = ap (λ (l : List Need). map need_of rows ++ l) (needs-flat parts)
 
+-- a plan by any choice of slots can be written frame by frame
 pub plans-fit : PlansFit
-plans-fit window choices parts placed plan = subst (λ needs. FitsFrom window 0 needs placed) (needs-flat parts) (parts-fit window choices (map (map need_of) parts) placed plan)
+plans-fit window choices parts placed plan = subst (λ needs. FitsFrom window 0 needs placed)
+    (needs-flat parts) (parts-fit window choices (map (map need_of) parts) placed plan)
 
 -- ---- the slots of a plan are some of the 28
 
@@ -124,10 +164,13 @@ abbrev pub AreOpen : List Item → Type 0
 AreOpen [] = Unit {0}
 AreOpen (item ∷ items) = AllSlots item × AreOpen items
 
-pub open-in_slots : (items : List Item) (placed : List Placed) → AreOpen items → AreFor items placed → AreInSlots placed
+-- what is placed among them is in slots
+pub open-in_slots : (items : List Item) (placed : List Placed) → AreOpen items → AreFor items placed
+    → AreInSlots placed
 unfolding AreFor
 open-in_slots [] [] are for_items = tt
-open-in_slots (item ∷ items) (p ∷ placed) are for_items = (are.0 p.slot for_items.1, open-in_slots items placed are.1 for_items.2)
+open-in_slots (item ∷ items) (p ∷ placed) are for_items =
+    (are.0 p.slot for_items.1, open-in_slots items placed are.1 for_items.2)
 open-in_slots _ _ are for_items = absurd for_items
 
 -- the headers are those of frames
@@ -140,31 +183,46 @@ AllHeaders [] = Unit {0}
 AllHeaders (part ∷ parts) = AreHeaders part × AllHeaders parts
 
 module _ (window : ℕ) (choices : HeaderFields → List SlotFields) (slots : AreSlots choices) where
-  open-items : (needs : List Need) (rest : List Item) → AreHeaders needs → AreOpen rest → AreOpen (map (item_of choices) needs ++ rest)
+  open-items : (needs : List Need) (rest : List Item) → AreHeaders needs → AreOpen rest
+      → AreOpen (map (item_of choices) needs ++ rest)
   open-items [] rest are others = others
-  open-items (need ∷ needs) rest are others = ((λ slot has. slots need.header slot are.0 has), open-items needs rest are.1 others)
+  open-items (need ∷ needs) rest are others =
+      ((λ slot has. slots need.header slot are.0 has), open-items needs rest are.1 others)
 
-  open-part : (part : List Need) (lead_in : Option SlotFields) (rest : List Item) → AreHeaders part → IsLeadIn window choices part lead_in → AreOpen rest → AreOpen (items_of choices part lead_in ++ rest)
+  open-part : (part : List Need) (lead_in : Option SlotFields) (rest : List Item) → AreHeaders part
+      → IsLeadIn window choices part lead_in → AreOpen rest
+      → AreOpen (items_of choices part lead_in ++ rest)
   unfolding items_of IsLeadIn
   open-part part None rest are lead others = open-items part rest are others
   open-part [] (Some slot) rest are lead others = absurd lead
-  open-part (need ∷ part) (Some slot) rest are lead others = ((λ other has. subst IsSlot (only_one slot other has) (slot_among slot lead.2)), open-items (need ∷ part) rest are others)
+  open-part (need ∷ part) (Some slot) rest are lead others = (
+    (λ other has. subst IsSlot (only_one slot other has) (slot_among slot lead.2)),
+    open-items (need ∷ part) rest are others,
+  )
 
-  open-whole : (parts : List (List Need)) (lead_ins : List (Option SlotFields)) → AllHeaders parts → AreLeadIns window choices parts lead_ins → AreOpen (whole_of choices parts lead_ins)
+  open-whole : (parts : List (List Need)) (lead_ins : List (Option SlotFields)) → AllHeaders parts
+      → AreLeadIns window choices parts lead_ins → AreOpen (whole_of choices parts lead_ins)
   unfolding whole_of AreLeadIns
   open-whole [] lead_ins are leads = tt
   open-whole (part ∷ parts) [] are leads = absurd leads
-  open-whole (part ∷ parts) (lead_in ∷ lead_ins) are leads = open-part part lead_in (whole_of choices parts lead_ins) are.0 leads.0 (open-whole parts lead_ins are.1 leads.1)
+  open-whole (part ∷ parts) (lead_in ∷ lead_ins) are leads = open-part part lead_in
+      (whole_of choices parts lead_ins) are.0 leads.0 (open-whole parts lead_ins are.1 leads.1)
 
-  pub parts-fitting : (parts : List (List Need)) (placed : List Placed) → AllHeaders parts → IsPlan window choices parts placed → IsFitting window (flat_map (λ (part : List Need). part) parts) placed
+  -- a plan of parts fits, and has slots of the standard
+  pub parts-fitting : (parts : List (List Need)) (placed : List Placed) → AllHeaders parts
+      → IsPlan window choices parts placed
+      → IsFitting window (flat_map (λ (part : List Need). part) parts) placed
   parts-fitting parts placed are plan = record {
     fits = parts-fit window choices parts placed plan;
-    slots = open-in_slots (whole_of choices parts plan.lead_ins) placed (open-whole parts plan.lead_ins are plan.alone) plan.whole.slots;
+    slots = open-in_slots (whole_of choices parts plan.lead_ins) placed
+        (open-whole parts plan.lead_ins are plan.alone) plan.whole.slots;
   }
 
 -- ---- as they were asked for
 
+-- what is planned of parts put together as the planner takes them is a plan of the parts
 pub asked-plans : AskedPlans
 asked-plans c choices parts placed fit plan =
     subst (λ window. IsPlan window choices (map (map need_of) parts) placed) fit.window
-    (subst (λ (l : List (List Need)). IsPlan (window_in (needs_of parts)) choices l placed) (parts_are [] 0 parts refl) plan)
+    (subst (λ (l : List (List Need)). IsPlan (window_in (needs_of parts)) choices l placed)
+    (parts_are [] 0 parts refl) plan)

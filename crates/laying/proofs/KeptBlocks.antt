@@ -1,56 +1,69 @@
 -- The blocks of a file without fault are whole: their bytes are blocks wherever they are put.
-use Rattle.std.proofs.Common.{◌≡◌, ℕ, ◌+◌, ◌≤◌, List, [], ◌∷◌, ◌++◌, length, take, drop, map, Some, sym, ◌∙◌, ap, subst, arith, append-nil, length-drop}
-use Rattle.std.specs.List.{cons_option}
-use Rattle.std.proofs.lemmas.List.{length-take-le, map-append}
-use Rattle.tag_blocks.specs.declared.block.Block.{Block as TagBlock}
-use Rattle.tag_blocks.specs.Blocks.{block_front}
-use Rattle.sync_survey.specs.declared.items.Item.{Item}
-use Rattle.sync_survey.specs.declared.items.Item.TheVariants.{Frame, Free, Block, Zero, End, Nothing}
-use Rattle.sync_survey.specs.declared.places.Piece.{Piece}
-use Rattle.sync_survey.specs.declared.places.Start.{Start}
-use Rattle.sync_survey.specs.declared.runs.Part.{Part}
+use Rattle.std.proofs.Common.{ap, append-nil, arith, drop, length, length-drop, List, map, Some}
+use Rattle.std.proofs.Common.{subst, sym, take, ℕ, [], ◌++◌, ◌+◌, ◌∙◌, ◌∷◌, ◌≡◌, ◌≤◌}
+use Rattle.std.{proofs.lemmas.List.{length-take-le, map-append}, specs.List.cons_option}
+use Rattle.laying.specs.{LaidFiles.{block_bytes, IsBlock, IsBlocks}, LaidLaws.SurveyedBlocks}
+use Rattle.sync_survey.proofs.{ItemBytes.block_front-bytes, ItemsLaws.stands-at}
+use Rattle.sync_survey.proofs.{RunsLaws.{item_of-is, run-ends}, SurveyParts.surveyed-parts}
+use Rattle.sync_survey.specs.{Faults.SurveyFields, Items.{item_at, size_of}}
+use Rattle.sync_survey.specs.Runs.{AreEndToEnd, block_as, blocks_of, Placed, run}
+use Rattle.sync_survey.specs.{Walk.{all_blocks, stream_run}, declared.items.Item.Item}
+use Rattle.sync_survey.specs.declared.{items.Item.TheVariants.Block, places.Piece.Piece}
+use Rattle.sync_survey.specs.declared.{places.Start.Start, runs.Part.Part}
 use Rattle.sync_survey.specs.declared.runs.Part.TheVariants.{Front, Stream}
-use Rattle.sync_survey.specs.Items.{item_at, size_of}
-use Rattle.sync_survey.specs.Runs.{Placed, run, AreEndToEnd, block_as, blocks_of}
-use Rattle.sync_survey.specs.Walk.{stream_run, all_blocks}
-use Rattle.sync_survey.specs.Faults.{SurveyFields}
-use Rattle.sync_survey.proofs.ItemsLaws.{stands-at}
-use Rattle.sync_survey.proofs.RunsLaws.{item_of-is, run-ends}
-use Rattle.sync_survey.proofs.ItemBytes.{block_front-bytes}
-use Rattle.sync_survey.proofs.SurveyParts.{surveyed-parts}
-use Rattle.laying.specs.LaidFiles.{IsBlock, IsBlocks, block_bytes}
-use Rattle.laying.specs.LaidLaws.{SurveyedBlocks}
+use Rattle.tag_blocks.specs.{Blocks.block_front, declared.block.Block.Block as TagBlock}
 
 -- a whole block with which bytes begin
-whole_block : (bytes : List ℕ) (b : TagBlock) → block_front bytes ≡ Some b → b.length ≤ length bytes → IsBlock (take b.length bytes)
-whole_block bytes b is within =
-    (b, ap block_front (sym (append-nil (take b.length bytes))) ∙ block_front-bytes bytes [] b is within, sym (length-take-le b.length bytes within))
+whole_block : (bytes : List ℕ) (b : TagBlock) → block_front bytes ≡ Some b → b.length ≤ length bytes
+    → IsBlock (take b.length bytes)
+whole_block bytes b is within = (
+  b,
+  ap block_front (sym (append-nil (take b.length bytes)))
+      ∙ block_front-bytes bytes [] b is within,
+  sym (length-take-le b.length bytes within),
+)
 
-pub block_more : (file : List ℕ) (at : ℕ) (item : Item) (blocks : List Piece) → item_at file at ≡ item → at + size_of item ≤ length file → IsBlocks (map (block_bytes file) blocks)
+-- a whole block before others that are blocks is one more
+pub block_more : (file : List ℕ) (at : ℕ) (item : Item) (blocks : List Piece) → item_at file at
+    ≡ item → at + size_of item ≤ length file → IsBlocks (map (block_bytes file) blocks)
     → IsBlocks (map (block_bytes file) (cons_option (block_as at item) blocks))
-block_more file at (Block b) blocks is within are = (whole_block (drop at file) b (stands-at file at (Block b) is) (omega (arith, within, length-drop at file)), are)
+block_more file at (Block b) blocks is within are = (
+  whole_block (drop at file) b (stands-at file at (Block b) is)
+      (omega (arith, within, length-drop at file)),
+  are,
+)
 block_more file at _ blocks is within are = are
 
-pub ends-blocks : (part : Part) (file : List ℕ) (from : ℕ) (ps : List Placed) (to : ℕ) → AreEndToEnd part file from ps to → IsBlocks (map (block_bytes file) (blocks_of ps))
+-- the blocks of items end to end are blocks, by their bytes
+pub ends-blocks : (part : Part) (file : List ℕ) (from : ℕ) (ps : List Placed) (to : ℕ)
+    → AreEndToEnd part file from ps to → IsBlocks (map (block_bytes file) (blocks_of ps))
 ends-blocks part file from [] to ends = tt
 ends-blocks part file from (p ∷ ps) to ends =
     let here = item_of-is part file p.offset p.item ends.1 in
-    block_more file p.offset p.item (blocks_of ps) here.is here.within (ends-blocks part file (p.offset + size_of p.item) ps to ends.2)
+    block_more file p.offset p.item (blocks_of ps)
+    here.is here.within (ends-blocks part file (p.offset + size_of p.item) ps to ends.2)
 
+-- blocks and more blocks are blocks
 pub blocks-append : (xs ys : List (List ℕ)) → IsBlocks xs → IsBlocks ys → IsBlocks (xs ++ ys)
 blocks-append [] ys front back = back
 blocks-append (x ∷ xs) ys front back = (front.0, blocks-append xs ys front.1 back)
 
-all-blocks : (file : List ℕ) (start : Start) → IsBlocks (map (block_bytes file) (all_blocks file start))
+all-blocks : (file : List ℕ) (start : Start)
+    → IsBlocks (map (block_bytes file) (all_blocks file start))
 all-blocks file start =
     let front = run Front file 0 in
     let stream = stream_run file start in
-    subst IsBlocks (sym (map-append (block_bytes file) (blocks_of front.items) (blocks_of stream.items)))
-    (blocks-append (map (block_bytes file) (blocks_of front.items)) (map (block_bytes file) (blocks_of stream.items))
+    subst IsBlocks
+    (sym (map-append (block_bytes file) (blocks_of front.items) (blocks_of stream.items)))
+    (blocks-append (map (block_bytes file) (blocks_of front.items))
+    (map (block_bytes file) (blocks_of stream.items))
     (ends-blocks Front file 0 front.items front.stop (run-ends Front file 0))
-    (ends-blocks Stream file start.first.offset stream.items stream.stop (run-ends Stream file start.first.offset)))
+    (ends-blocks Stream file
+    start.first.offset stream.items stream.stop (run-ends Stream file start.first.offset)))
 
+-- the blocks of a surveyed file are blocks
 pub surveyed-blocks : SurveyedBlocks
 surveyed-blocks file allowed s e =
     let parts = surveyed-parts file allowed s e in
-    subst (λ (t : SurveyFields). IsBlocks (map (block_bytes file) t.blocks)) parts.2 (all-blocks file parts.0)
+    subst (λ (t : SurveyFields). IsBlocks (map (block_bytes file) t.blocks))
+    parts.2 (all-blocks file parts.0)

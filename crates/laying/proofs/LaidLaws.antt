@@ -1,47 +1,49 @@
 -- Frames in the slots of any plan by which they can be laid: the file of them holds their stream.
-use Rattle.std.proofs.Common.{◌≡◌, ℕ, zero, suc, ◌+◌, List, [], ◌∷◌, length, map, Option, Some, ◌++◌, refl, sym, ◌∙◌, subst, arith, append_assoc, ◌<◌, ◌≤◌, slice_get, slice_range}
-use Rattle.std.specs.List.{range_with_len, concat}
-use Rattle.std.proofs.lemmas.List.{length-map}
+use Rattle.std.proofs.Common.{append_assoc, arith, length, List, map, Option, refl, slice_get}
+use Rattle.std.proofs.Common.{slice_range, Some, subst, suc, sym, zero, ℕ, [], ◌++◌, ◌+◌, ◌<◌, ◌∙◌}
+use Rattle.std.proofs.{Common.{◌∷◌, ◌≡◌, ◌≤◌}, lemmas.List.length-map}
 use Rattle.std.proofs.lemmas.List.FromFn.{length-range_with_len}
+use Rattle.std.specs.List.{concat, range_with_len}
+use Rattle.frame_header.specs.{Fields.IsHeader, Tables.{class_of, window_of}}
 use Rattle.frame_writer.specs.Frames.{frame_bytes}
-use Rattle.frame_header.specs.Fields.{IsHeader}
-use Rattle.frame_header.specs.Tables.{class_of, window_of}
-use Rattle.slot_plan.specs.declared.needs.Placed.{Placed}
-use Rattle.slot_plan.specs.Parts.{AreOfClass}
-use Rattle.laying.specs.Needs.{need_of}
-use Rattle.laying.proofs.NeedsFitLaws.{AreKnown, part-fits, part-known}
-use Rattle.laying.specs.Surveys.{HasSurvey}
-use Rattle.laying.specs.Relaid.{IsPart}
+use Rattle.laying.proofs.FittingFrames.{fitting-files-hold, fitting-loses-none, fitting-slots}
+use Rattle.laying.proofs.{HoldLaws.blocks-kept, NeedsFitLaws.{AreKnown, part-fits, part-known}}
+use Rattle.laying.{proofs.RelayLaws.range-next, specs.Fits.IsFitting}
+use Rattle.laying.specs.Laid.{file_from, file_laid, frames_laid, info_laid, IsWritable, Laid}
+use Rattle.laying.specs.Laid.{laid_in, needs_laid, part_laid, selected_front, stream_laid}
+use Rattle.laying.specs.{LaidFiles.{HasInfoSizes, laid_file}, LaidLaws.LosesNoFrame}
+use Rattle.laying.specs.{Laws.ChosenFramesStay, Needs.need_of, Relaid.IsPart, Surveys.HasSurvey}
+use Rattle.laying.specs.Written.{back_blocks, front_blocks, slot_in, table_entry}
 use Rattle.laying.specs.declared.selected.Selected.{Selected}
-use Rattle.laying.specs.Fits.{IsFitting}
-use Rattle.laying.specs.Laid.{Laid, part_laid, needs_laid, frames_laid, info_laid, file_from, file_laid, stream_laid, selected_front, laid_in, IsWritable}
-use Rattle.laying.specs.Written.{front_blocks, back_blocks, slot_in, table_entry}
-use Rattle.laying.proofs.FittingFrames.{fitting-slots, fitting-files-hold, fitting-loses-none}
-use Rattle.laying.specs.LaidLaws.{LosesNoFrame}
-use Rattle.laying.specs.Laws.{ChosenFramesStay}
-use Rattle.laying.proofs.HoldLaws.{blocks-kept}
-use Rattle.laying.proofs.RelayLaws.{range-next}
-use Rattle.laying.specs.LaidFiles.{HasInfoSizes, laid_file}
-use Rattle.sync_survey.specs.Row.{Row}
-use Rattle.sync_survey.specs.Faults.{SurveyFields, HoldsStream}
+use Rattle.slot_plan.specs.{Parts.AreOfClass, declared.needs.Placed.Placed}
+use Rattle.sync_survey.specs.{Faults.{HoldsStream, SurveyFields}, Row.Row}
 
-pub first-there : (rows : List Row) (i : ℕ) → i < length rows → (first : Row) × (slice_get rows i ≡ Some first)
+-- a place among the rows has a row
+pub first-there : (rows : List Row) (i : ℕ) → i < length rows
+    → (first : Row) × (slice_get rows i ≡ Some first)
 first-there [] i within = absurd (omega arith)
 first-there (row ∷ rows) zero within = (row, refl)
 first-there (row ∷ rows) (suc i) within = first-there rows i (omega arith)
 
 -- what is written is the file of the frames in the slots of the plan
-pub written-is : (s : SurveyFields) (selected : Selected) (file : List ℕ) → IsWritable s selected → HasSurvey file s → selected_front s selected file ++ concat (back_blocks file s) ≡ file_laid (laid_in selected) file s
+pub written-is : (s : SurveyFields) (selected : Selected) (file : List ℕ) → IsWritable s selected
+    → HasSurvey file s → selected_front s selected file ++ concat (back_blocks file s)
+    ≡ file_laid (laid_in selected) file s
 unfolding laid_file
 written-is s selected file writable is =
-    let found = first-there s.frames selected.from (omega (arith, writable.some, writable.within)) in
+    let found =
+    first-there s.frames selected.from (omega (arith, writable.some, writable.within)) in
     let frames = frame_bytes (frames_laid (laid_in selected) file s) in
-    append_assoc (concat (front_blocks file s) ++ selected.info.items) frames (concat (back_blocks file s))
-    ∙ append_assoc (concat (front_blocks file s)) selected.info.items (frames ++ concat (back_blocks file s))
+    append_assoc (concat (front_blocks file s) ++ selected.info.items) frames
+    (concat (back_blocks file s))
+    ∙ append_assoc (concat (front_blocks file s))
+    selected.info.items (frames ++ concat (back_blocks file s))
     ∙ rw (writable.info file is found.0 found.1, found.1) refl
 
-module _ (laid : Laid) (file : List ℕ) (s : SurveyFields) (is : HasSurvey file s) (some : laid.from < laid.to) (within : laid.to ≤ length s.frames)
+module _ (laid : Laid) (file : List ℕ) (s : SurveyFields) (is : HasSurvey file s)
+    (some : laid.from < laid.to) (within : laid.to ≤ length s.frames)
     (fitting : IsFitting (window_of s.class.version) (needs_laid laid s) laid.placed) where
+  -- the chosen frames are a part
   pub part_is : IsPart s.class (part_laid laid file s)
   part_is = record { has = is; class = refl; some = some; within = within }
 
@@ -49,44 +51,60 @@ module _ (laid : Laid) (file : List ℕ) (s : SurveyFields) (is : HasSurvey file
   pub laid-slots : map slot_in (frames_laid laid file s) ≡ map (λ (p : Placed). p.slot) laid.placed
   laid-slots = fitting-slots s.class (part_laid laid file s) laid.placed part_is fitting
 
+  -- and the fields of their Info frame have its sizes
   pub sizes : length laid.extension ≡ 36 → HasInfoSizes (info_laid laid file s)
   sizes extension = record {
-    table = length-map (range_with_len 0 100) (table_entry s.class (frames_laid laid file s)) ∙ length-range_with_len 0 100;
+    table = length-map (range_with_len 0 100) (table_entry s.class (frames_laid laid file s))
+        ∙ length-range_with_len 0 100;
     extension = extension;
   }
 
   module _ (first : Row) (found : slice_get s.frames laid.from ≡ Some first) where
-    rows_are : slice_range s.frames laid.from laid.to ≡ first ∷ slice_range s.frames (laid.from + 1) laid.to
+    rows_are : slice_range s.frames laid.from laid.to
+        ≡ first ∷ slice_range s.frames (laid.from + 1) laid.to
     rows_are = range-next s.frames laid.from laid.to first found some
 
+    -- the header of the first frame is one of the standard
     pub first-header : IsHeader first.header
     first-header = (subst AreKnown rows_are (part-known s laid.from laid.to is.placed)).0
 
     first-class : class_of first.header ≡ s.class
     unfolding AreOfClass
-    first-class = (subst (λ (l : List Row). AreOfClass s.class (map need_of l)) rows_are (part-fits s laid.from laid.to is.placed).0).0
+    first-class = (subst (λ (l : List Row). AreOfClass s.class (map need_of l)) rows_are
+        (part-fits s laid.from laid.to is.placed).0).0
 
-    first-loses-none : length laid.extension ≡ 36 → LosesNoFrame (file_from (Some first) laid file s)
+    first-loses-none : length laid.extension ≡ 36
+        → LosesNoFrame (file_from (Some first) laid file s)
     first-loses-none extension =
         let kept = blocks-kept file s is in
-        fitting-loses-none s.class (part_laid laid file s) laid.placed part_is fitting (front_blocks file s) first.header (info_laid laid file s) (back_blocks file s) kept.0 first-header first-class (sizes extension) kept.1
+        fitting-loses-none s.class (part_laid laid file s) laid.placed part_is fitting
+        (front_blocks file s) first.header (info_laid laid file s)
+        (back_blocks file s) kept.0 first-header first-class (sizes extension) kept.1
 
-    first-holds : length laid.extension ≡ 36 → HoldsStream (file_from (Some first) laid file s) (stream_laid laid file s)
+    first-holds : length laid.extension ≡ 36
+        → HoldsStream (file_from (Some first) laid file s) (stream_laid laid file s)
     first-holds extension =
         let kept = blocks-kept file s is in
-        fitting-files-hold s.class (part_laid laid file s) laid.placed part_is fitting (front_blocks file s) first.header (info_laid laid file s) (back_blocks file s) kept.0 first-header first-class (sizes extension) kept.1
+        fitting-files-hold s.class (part_laid laid file s) laid.placed part_is fitting
+        (front_blocks file s) first.header (info_laid laid file s)
+        (back_blocks file s) kept.0 first-header first-class (sizes extension) kept.1
 
   -- it is well-formed, and that is its stream
-  pub laid-holds : length laid.extension ≡ 36 → HoldsStream (file_laid laid file s) (stream_laid laid file s)
+  pub laid-holds : length laid.extension ≡ 36
+      → HoldsStream (file_laid laid file s) (stream_laid laid file s)
   laid-holds extension =
       let found = first-there s.frames laid.from (omega (arith, some, within)) in
-      subst (λ (o : Option Row). HoldsStream (file_from o laid file s) (stream_laid laid file s)) (sym found.1) (first-holds found.0 found.1 extension)
+      subst (λ (o : Option Row). HoldsStream (file_from o laid file s) (stream_laid laid file s))
+      (sym found.1) (first-holds found.0 found.1 extension)
 
   -- no frame of it is lost
   pub laid-loses-none : length laid.extension ≡ 36 → LosesNoFrame (file_laid laid file s)
   laid-loses-none extension =
       let found = first-there s.frames laid.from (omega (arith, some, within)) in
-      subst (λ (o : Option Row). LosesNoFrame (file_from o laid file s)) (sym found.1) (first-loses-none found.0 found.1 extension)
+      subst (λ (o : Option Row). LosesNoFrame (file_from o laid file s)) (sym found.1)
+      (first-loses-none found.0 found.1 extension)
 
+-- no chosen frame is lost
 pub chosen-frames-stay : ChosenFramesStay
-chosen-frames-stay laid file s is some within extension fitting = laid-loses-none laid file s is some within fitting extension
+chosen-frames-stay laid file s is some within extension fitting =
+    laid-loses-none laid file s is some within fitting extension

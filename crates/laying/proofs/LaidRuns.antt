@@ -1,65 +1,66 @@
 -- The runs of such a file, where its stream starts, and the head of it.
-use Rattle.std.proofs.Common.{◌≡◌, ℕ, ◌+◌, ◌<◌, ◌≤◌, true, List, [], ◌∷◌, ◌++◌, length, take, drop, Option, Some, None, option_map, Ok, refl, sym, ◌∙◌, ap, ap₂, arith, append-nil, length-append}
-use Rattle.std.specs.List.{concat}
-use Rattle.std.proofs.lemmas.Bool.{le-leb}
-use Rattle.std.proofs.lemmas.List.{take_at, drop_at, drop-drop, drop_all}
-use Rattle.frame_header.specs.Fields.{HeaderFields, ClassFields}
-use Rattle.frame_header.specs.Tables.{class_of, overhead_of}
+use Rattle.std.proofs.Common.{ap, append-nil, ap₂, arith, drop, length, length-append, List, None}
+use Rattle.std.proofs.Common.{Ok, Option, option_map, refl, Some, sym, take, true, ℕ, [], ◌++◌, ◌+◌}
+use Rattle.std.proofs.{Common.{◌<◌, ◌∙◌, ◌∷◌, ◌≡◌, ◌≤◌}, lemmas.Bool.le-leb}
+use Rattle.std.{proofs.lemmas.List.{drop-drop, drop_all, drop_at, take_at}, specs.List.concat}
+use Rattle.frame_header.specs.{Fields.{ClassFields, HeaderFields}, Tables.{class_of, overhead_of}}
+use Rattle.frame_writer.specs.{Frames.{all_kept, areas_in, Frame, frame_bytes, pieces}, Laid.laid}
+use Rattle.info_header.specs.{HeadText.head_text_of, InfoFrame.{info_frame, info_header_of}}
 use Rattle.info_header.specs.declared.fields.Info.{Info}
-use Rattle.info_header.specs.HeadText.{head_text_of}
-use Rattle.info_header.specs.InfoFrame.{info_header_of, info_frame}
-use Rattle.frame_writer.specs.Laid.{laid}
-use Rattle.frame_writer.specs.Frames.{Frame, all_kept, areas_in, pieces, frame_bytes}
-use Rattle.sync_survey.specs.declared.items.Item.{Item}
-use Rattle.sync_survey.specs.declared.items.Item.TheVariants.{Frame as FrameItem, End}
-use Rattle.sync_survey.specs.declared.places.PlacedFrame.{PlacedFrame}
-use Rattle.sync_survey.specs.declared.places.Piece.{Piece}
-use Rattle.sync_survey.specs.declared.places.Head.{Head}
-use Rattle.sync_survey.specs.declared.places.Start.{Start}
-use Rattle.sync_survey.specs.declared.runs.Part.TheVariants.{Front, Stream}
-use Rattle.sync_survey.specs.Items.{item_at, size_of, fits}
-use Rattle.sync_survey.specs.Runs.{Run, whole, item_of, run, frames_of, blocks_of}
+use Rattle.laying.proofs.InfoBytes.{info_header, info_item, info_text, length-info_area}
+use Rattle.laying.proofs.{InfoBytes.length-info_frame, LaidData.length-laid}
+use Rattle.laying.proofs.LaidFrames.{areas-all, blocks-behind, frame_items, framed-stand}
+use Rattle.laying.proofs.LaidFrames.{framed-whole, frames-placed, frames_at, StandFrom}
+use Rattle.laying.proofs.WholeItems.{AreWhole, block_items, blocks-placed, blocks-whole, placed}
+use Rattle.laying.proofs.WholeItems.{whole-append, whole-run}
+use Rattle.laying.specs.LaidFiles.{blocks_from, frames_place, head_at, IsLaidFile, laid_file}
+use Rattle.sync_survey.proofs.{HeadSame.area-frame, ItemLists.item_at-known, OneItem.stands-only_at}
+use Rattle.sync_survey.proofs.{RunsLaws.item_of-past, StartLaws.start_is}
+use Rattle.sync_survey.proofs.{SurveyLaws.overhead-within, SurveyParts.frames_from}
+use Rattle.sync_survey.specs.{Items.{fits, item_at, size_of}, MainData.{head_area, head_bytes}}
+use Rattle.sync_survey.specs.Runs.{blocks_of, frames_of, item_of, Run, run, whole}
 use Rattle.sync_survey.specs.Start.{front_end_of, start_of}
-use Rattle.sync_survey.specs.Walk.{stream_run, frame_bytes as bytes_of_frame, head_of, numbered, all_blocks, fault_at, end_fault}
-use Rattle.sync_survey.specs.MainData.{head_bytes, head_area}
-use Rattle.sync_survey.proofs.OneItem.{stands-only_at}
-use Rattle.sync_survey.proofs.RunsLaws.{item_of-past}
-use Rattle.sync_survey.proofs.StartLaws.{start_is}
-use Rattle.sync_survey.proofs.ItemLists.{item_at-known}
-use Rattle.sync_survey.proofs.HeadSame.{area-frame}
-use Rattle.sync_survey.proofs.SurveyLaws.{overhead-within}
-use Rattle.sync_survey.proofs.SurveyParts.{frames_from}
-use Rattle.laying.specs.LaidFiles.{laid_file, IsLaidFile, blocks_from, head_at, frames_place}
-use Rattle.laying.proofs.LaidData.{length-laid}
-use Rattle.laying.proofs.InfoBytes.{info_header, length-info_frame, info_item, info_text, length-info_area}
-use Rattle.laying.proofs.WholeItems.{AreWhole, whole-append, placed, whole-run, block_items, blocks-whole, blocks-placed}
-use Rattle.laying.proofs.LaidFrames.{frame_items, framed-whole, frames_at, frames-placed, blocks-behind, StandFrom, framed-stand, areas-all}
+use Rattle.sync_survey.specs.Walk.{all_blocks, end_fault, fault_at, frame_bytes as bytes_of_frame}
+use Rattle.sync_survey.specs.{Walk.{head_of, numbered, stream_run}, declared.items.Item.Item}
+use Rattle.sync_survey.specs.declared.items.Item.TheVariants.{End, Frame as FrameItem}
+use Rattle.sync_survey.specs.declared.places.{Head.Head, Piece.Piece, PlacedFrame.PlacedFrame}
+use Rattle.sync_survey.specs.declared.{places.Start.Start, runs.Part.TheVariants.{Front, Stream}}
 
+-- the front of a file ends where the run of it stops
 pub front_end-is : (file : List ℕ) → (run Front file 0).stop ≡ front_end_of file
 unfolding front_end_of
 front_end-is file = refl
 
 -- a whole frame after the blocks of the front is the first of the stream
-pub start_by : (file : List ℕ) (at : ℕ) (h : HeaderFields) → at ≡ front_end_of file → item_at file at ≡ FrameItem h → at + size_of (FrameItem h) ≤ length file → start_of file ≡ Ok (record { front_end = at; first = record { offset = at; header = h } })
+pub start_by : (file : List ℕ) (at : ℕ) (h : HeaderFields) → at ≡ front_end_of file
+    → item_at file at ≡ FrameItem h → at + size_of (FrameItem h) ≤ length file
+    → start_of file ≡ Ok (record { front_end = at; first = record { offset = at; header = h } })
 start_by file at h front is within =
     let fit : fits file at (FrameItem h) ≡ true = le-leb _ _ (omega (arith, within)) in
     start_is file at (FrameItem h) front is ∙ rw fit refl
 
-pub not_in_front : (file : List ℕ) (at : ℕ) (h : HeaderFields) → item_at file at ≡ FrameItem h → item_of Front file at ≡ None
+-- no frame is an item of the front
+pub not_in_front : (file : List ℕ) (at : ℕ) (h : HeaderFields) → item_at file at ≡ FrameItem h
+    → item_of Front file at ≡ None
 unfolding item_of
 not_in_front file at h is = ap (whole Front file at) is
 
 abbrev head_with : PlacedFrame → ℕ → Head
 head_with p at = record { offset = p.offset; header = p.header; text_at = at }
 
-head_by : (p : PlacedFrame) (at : ℕ) (o : Option ℕ) → o ≡ Some at → option_map (λ n. head_with p n) o ≡ Some (head_with p at)
+head_by : (p : PlacedFrame) (at : ℕ) (o : Option ℕ) → o ≡ Some at
+    → option_map (λ n. head_with p n) o ≡ Some (head_with p at)
 head_by p at o is = ap (option_map (λ n. head_with p n)) is
 
-pub some_frames : (file : List ℕ) (at : ℕ) (fs : List Frame) → 0 < length fs → end_fault file (frames_at at fs) None ≡ None
+-- frames that are some are no fault at the end of the file
+pub some_frames : (file : List ℕ) (at : ℕ) (fs : List Frame) → 0 < length fs
+    → end_fault file (frames_at at fs) None ≡ None
 some_frames file at [] some = absurd (omega (arith, some))
 some_frames file at (f ∷ fs) some = refl
 
-module _ (c : ClassFields) (front : List (List ℕ)) (first : HeaderFields) (info : Info) (frames : List Frame) (back : List (List ℕ)) (is : IsLaidFile c front first info frames back) where
+module _ (c : ClassFields) (front : List (List ℕ)) (first : HeaderFields) (info : Info)
+    (frames : List Frame) (back : List (List ℕ))
+    (is : IsLaidFile c front first info frames back) where
   abbrev pub file : List ℕ
   file = laid_file front first info frames back
 
@@ -92,6 +93,7 @@ module _ (c : ClassFields) (front : List (List ℕ)) (first : HeaderFields) (inf
   long_own : length own ≡ head_size
   long_own = length-info_frame first info is.header is.sizes
 
+  -- the areas have as many bytes as were laid
   pub many : areas_in (all_kept frames) ≡ length area_data
   many = omega (arith, length-laid 0 0 (pieces frames) (omega arith) is.laid, areas-all 0 frames)
 
@@ -102,36 +104,54 @@ module _ (c : ClassFields) (front : List (List ℕ)) (first : HeaderFields) (inf
   stands : drop from file ≡ own ++ after
   stands = ap (drop from) file-is ∙ drop_at (concat front) (own ++ after) from refl
 
+  -- the frames begin after the Info frame
   pub place-is : frames_place front first info ≡ from + head_size
   place-is = omega (arith, long_own)
 
   frames_stand : drop (from + head_size) file ≡ after
-  frames_stand = sym (drop-drop head_size from file) ∙ ap (drop head_size) stands ∙ drop_at own after head_size long_own
+  frames_stand = sym (drop-drop head_size from file) ∙ ap (drop head_size) stands
+      ∙ drop_at own after head_size long_own
 
   long_file : length file ≡ from + (head_size + length after)
-  long_file = omega (arith, ap length file-is, length-append (concat front) (own ++ after), length-append own after, long_own)
+  long_file = omega (
+    arith,
+    ap length file-is,
+    length-append (concat front) (own ++ after),
+    length-append own after,
+    long_own,
+  )
 
+  -- each frame is there
   pub frames-stand : StandFrom file (frames_place front first info) frames area_data
-  frames-stand = framed-stand c file (frames_place front first info) frames area_data (concat back) is.entries many (ap (λ n. drop n file) place-is ∙ frames_stand)
+  frames-stand = framed-stand c file (frames_place front first info) frames area_data
+      (concat back) is.entries many (ap (λ n. drop n file) place-is ∙ frames_stand)
 
   -- ---- the runs
 
   first_item : item_at file from ≡ FrameItem h
-  first_item = item_at-known file from from (own ++ after) (FrameItem h) refl stands ((info_item first info is.header is.sizes).known after)
+  first_item = item_at-known file from from (own ++ after) (FrameItem h) refl stands
+      ((info_item first info is.header is.sizes).known after)
 
-  front_run : run Front file 0 ≡ record { items = placed 0 (block_items front is.blocks_before); stop = from }
+  front_run : run Front file 0
+      ≡ record { items = placed 0 (block_items front is.blocks_before); stop = from }
   front_run =
       let none : 0 + from ≡ from = omega arith in
-      whole-run Front file 0 (block_items front is.blocks_before) (concat front) (own ++ after) (blocks-whole Front front is.blocks_before) (omega arith) file-is
+      whole-run Front file 0 (block_items front is.blocks_before) (concat front) (own ++ after)
+      (blocks-whole Front front is.blocks_before) (omega arith) file-is
       (ap (item_of Front file) none ∙ not_in_front file from h first_item)
       ∙ ap (λ n. record { items = placed 0 (block_items front is.blocks_before); stop = n }) none
 
+  -- the stream starts with the Info frame
   pub start-is : start_of file ≡ Ok start
-  start-is = start_by file from h (sym (ap (λ (r : Run). r.stop) front_run) ∙ front_end-is file) first_item (omega (arith, long_file))
+  start-is = start_by file from h (sym (ap (λ (r : Run). r.stop) front_run) ∙ front_end-is file)
+      first_item (omega (arith, long_file))
 
   later_whole : AreWhole Stream later_items after
-  later_whole = whole-append Stream (frame_items frames) (block_items back is.blocks_behind) (frame_bytes frames) (concat back) (framed-whole c frames area_data is.entries many) (blocks-whole Stream back is.blocks_behind)
+  later_whole = whole-append Stream (frame_items frames) (block_items back is.blocks_behind)
+      (frame_bytes frames) (concat back) (framed-whole c frames area_data is.entries many)
+      (blocks-whole Stream back is.blocks_behind)
 
+  -- where the stream ends
   pub stop : ℕ
   stop = from + length (own ++ after)
 
@@ -139,48 +159,66 @@ module _ (c : ClassFields) (front : List (List ℕ)) (first : HeaderFields) (inf
   unfolding stop
   stop-past = omega (arith, long_file, long_own, length-append own after)
 
-  stream : stream_run file start ≡ record { items = placed from (FrameItem h ∷ later_items); stop = stop }
+  stream : stream_run file start
+      ≡ record { items = placed from (FrameItem h ∷ later_items); stop = stop }
   unfolding stop
   stream =
-      whole-run Stream file from (FrameItem h ∷ later_items) (own ++ after) [] (own, after, refl, info_item first info is.header is.sizes, refl, later_whole) (omega (arith, long_file))
-      (stands ∙ sym (append-nil (own ++ after))) (item_of-past Stream file (from + length (own ++ after)) stop-past)
+      whole-run Stream file from (FrameItem h ∷ later_items) (own ++ after) []
+      (own, after, refl, info_item first info is.header is.sizes, refl, later_whole)
+      (omega (arith, long_file))
+      (stands ∙ sym (append-nil (own ++ after)))
+      (item_of-past Stream file (from + length (own ++ after)) stop-past)
 
   -- ---- the head
 
   own_bytes : bytes_of_frame file start.first ≡ own
   own_bytes = ap (take head_size) stands ∙ take_at own after head_size long_own
 
+  -- the Info frame is the head
   pub head-is : head_of file start.first ≡ Some (head_at from first)
   unfolding head_of
-  head-is = head_by start.first _ _ (ap (head_text_of h) own_bytes ∙ info_text first info is.header is.sizes)
+  head-is = head_by start.first _ _
+      (ap (head_text_of h) own_bytes ∙ info_text first info is.header is.sizes)
 
-  pub head_area-is : length (head_bytes file (Some (head_at from first))) ≡ head_area (Some (head_at from first))
+  -- its area has as many bytes as the head's
+  pub head_area-is : length (head_bytes file (Some (head_at from first)))
+      ≡ head_area (Some (head_at from first))
   head_area-is =
       ap length
-      (area-frame file start.first (overhead-within h (info_header first info is.header is.sizes)) ∙ ap (drop (overhead_of (class_of h) h.protected)) own_bytes)
+      (area-frame file start.first (overhead-within h (info_header first info is.header is.sizes))
+      ∙ ap (drop (overhead_of (class_of h) h.protected)) own_bytes)
       ∙ length-info_area first info is.header is.sizes
 
   -- ---- frames and blocks
 
+  -- the frames are those that were given
   pub frames-are : frames_from file start ≡ frames_at (frames_place front first info) frames
   frames-are =
       ap₂ numbered head-is (ap (λ (r : Run). frames_of r.items) stream)
       ∙ frames-placed (from + head_size) frames back is.blocks_behind
       ∙ ap (λ n. frames_at n frames) (sym place-is)
 
-  pub blocks-are : all_blocks file start ≡ blocks_from 0 front ++ blocks_from (frames_place front first info + length (frame_bytes frames)) back
+  -- the blocks are those in front and those at the back
+  pub blocks-are : all_blocks file start ≡ blocks_from 0 front
+      ++ blocks_from (frames_place front first info + length (frame_bytes frames)) back
   blocks-are =
       ap₂ (λ (a b : List Piece). a ++ b)
       (ap (λ (r : Run). blocks_of r.items) front_run ∙ blocks-placed 0 front is.blocks_before)
-      (ap (λ (r : Run). blocks_of r.items) stream ∙ blocks-behind c (from + head_size) frames area_data back is.blocks_behind is.entries many ∙ ap (λ n. blocks_from (n + length (frame_bytes frames)) back) (sym place-is))
+      (ap (λ (r : Run). blocks_of r.items) stream
+      ∙ blocks-behind c (from + head_size) frames area_data back is.blocks_behind is.entries many
+      ∙ ap (λ n. blocks_from (n + length (frame_bytes frames)) back) (sym place-is))
 
   -- ---- the end
 
   ended : fault_at stop (item_at file stop) ≡ None
   ended = ap (fault_at stop) (sym (stands-only_at file stop End (drop_all stop file stop-past)))
 
-  ended_at : (r : Run) → r ≡ record { items = placed from (FrameItem h ∷ later_items); stop = stop } → fault_at r.stop (item_at file r.stop) ≡ None
+  ended_at : (r : Run) → r ≡ record { items = placed from (FrameItem h ∷ later_items); stop = stop }
+      → fault_at r.stop (item_at file r.stop) ≡ None
   ended_at r same = ap (λ (q : Run). fault_at q.stop (item_at file q.stop)) same ∙ ended
 
-  pub no-end_fault : end_fault file (frames_from file start) (fault_at (stream_run file start).stop (item_at file (stream_run file start).stop)) ≡ None
-  no-end_fault = ap₂ (end_fault file) frames-are (ended_at (stream_run file start) stream) ∙ some_frames file (frames_place front first info) frames is.some
+  -- nothing is at fault at the end
+  pub no-end_fault : end_fault file (frames_from file start)
+      (fault_at (stream_run file start).stop (item_at file (stream_run file start).stop)) ≡ None
+  no-end_fault = ap₂ (end_fault file) frames-are (ended_at (stream_run file start) stream)
+      ∙ some_frames file (frames_place front first info) frames is.some

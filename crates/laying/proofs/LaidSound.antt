@@ -1,23 +1,22 @@
 -- No frame of such a file is at fault, and none is lost.
-use Rattle.std.proofs.Common.{◌≡◌, ℕ, zero, suc, ◌+◌, ◌<◌, ◌≤◌, ◌==◌, ◌||◌, not, cond, Bool, true, false, List, [], ◌∷◌, length, take, drop, map, Option, Some, None, refl, sym, ◌∙◌, ap, ap₂, subst, arith, zero-add, slice_get, option_map}
-use Rattle.std.specs.List.{enumerate_from}
-use Rattle.std.proofs.lemmas.Bool.{le-ltb, ne_eqb, and_right}
-use Rattle.std.proofs.lemmas.Option.{slice_get-map, slice_get_within}
-use Rattle.frame_header.specs.Fields.{ClassFields, same_class}
-use Rattle.frame_header.specs.Tables.{class_of}
-use Rattle.side_info.specs.declared.side.Side.{Side}
-use Rattle.side_info.specs.Side.{payload_bytes}
-use Rattle.side_info.specs.Frame.{word_said}
-use Rattle.frame_writer.specs.Laid.{start_of, end_of, areas_end, data_end, CanBeLaid}
+use Rattle.std.proofs.Common.{ap, ap₂, arith, Bool, cond, drop, false, length, List, map, None, not}
+use Rattle.std.proofs.Common.{Option, option_map, refl, slice_get, Some, subst, suc, sym, take}
+use Rattle.std.proofs.Common.{true, zero, zero-add, ℕ, [], ◌+◌, ◌<◌, ◌==◌, ◌||◌, ◌∙◌, ◌∷◌, ◌≡◌, ◌≤◌}
+use Rattle.std.proofs.lemmas.Bool.{and_right, le-ltb, ne_eqb}
+use Rattle.std.{proofs.lemmas.Option.{slice_get-map, slice_get_within}, specs.List.enumerate_from}
+use Rattle.frame_header.specs.{Fields.{ClassFields, same_class}, Tables.class_of}
 use Rattle.frame_writer.specs.Frames.{Frame, piece_of, pieces}
-use Rattle.sync_survey.specs.declared.places.Head.{Head}
-use Rattle.sync_survey.specs.Row.{Row}
-use Rattle.sync_survey.specs.MainData.{own_area, head_area, is_silent, start_of_data, end_of_data, points_too_far, lacks_data, place, end_behind, end_before, is_lost, marked_row, marked}
-use Rattle.sync_survey.specs.Laws.{AreNear}
-use Rattle.sync_survey.proofs.SurveyParts.{StandWell, IsSound, AreSound}
+use Rattle.frame_writer.specs.Laid.{areas_end, CanBeLaid, data_end, end_of, start_of}
+use Rattle.laying.proofs.LaidData.{data_end-next, IsWellLaid, take-last, well-laid}
+use Rattle.laying.proofs.LaidFrames.{areas-sum, IsRowOf, row-get, rows-length, same-class}
+use Rattle.laying.proofs.LaidFrames.{StandFrom}
 use Rattle.laying.specs.LaidFiles.{AreEntries, frame_length, rows_from}
-use Rattle.laying.proofs.LaidData.{IsWellLaid, well-laid, data_end-next, take-last}
-use Rattle.laying.proofs.LaidFrames.{StandFrom, IsRowOf, row-get, areas-sum, rows-length, same-class}
+use Rattle.side_info.specs.{Frame.word_said, Side.payload_bytes, declared.side.Side.Side}
+use Rattle.sync_survey.{proofs.SurveyParts.{AreSound, IsSound, StandWell}, specs.Laws.AreNear}
+use Rattle.sync_survey.specs.MainData.{end_before, end_behind, end_of_data, head_area, is_lost}
+use Rattle.sync_survey.specs.MainData.{is_silent, lacks_data, marked, marked_row, own_area, place}
+use Rattle.sync_survey.specs.{MainData.{points_too_far, start_of_data}, Row.Row}
+use Rattle.sync_survey.specs.declared.places.Head.{Head}
 
 -- ---- one frame
 
@@ -25,9 +24,12 @@ either_most : (b : Bool) (m n most : ℕ) → m ≤ most → n ≤ most → cond
 either_most true m n most first second = first
 either_most false m n most first second = second
 
--- the place of the own area is after those of the head and of the frames before it; main data were laid from the end of the head's area on
-module _ (file : List ℕ) (c : ClassFields) (head : ℕ) (end area_start : ℕ) (f : Frame) (r : Row) (row : IsRowOf file c f r)
-    (begins : end + f.kept.side.main_data_begin ≤ area_start) (ends : end_of area_start (piece_of f) ≤ area_start + (piece_of f).area) where
+-- the place of the own area is after those of the head and of the frames
+-- before it; main data were laid from the end of the head's area on
+module _ (file : List ℕ) (c : ClassFields) (head : ℕ) (end area_start : ℕ) (f : Frame) (r : Row)
+    (row : IsRowOf file c f r)
+    (begins : end + f.kept.side.main_data_begin ≤ area_start)
+    (ends : end_of area_start (piece_of f) ≤ area_start + (piece_of f).area) where
   begin-is : r.side.main_data_begin ≡ f.kept.side.main_data_begin
   begin-is = ap (λ s. s.main_data_begin) row.side
 
@@ -38,9 +40,11 @@ module _ (file : List ℕ) (c : ClassFields) (head : ℕ) (end area_start : ℕ)
   end-there : end_of_data (head + area_start) r ≡ head + end_of area_start (piece_of f)
   end-there = omega (arith, start-there, ap payload_bytes row.side, row.entry.size)
 
+  -- its main data don't begin too far back
   pub reaches : points_too_far (head + area_start) r ≡ false
   reaches = le-ltb _ _ (omega (arith, begin-is, begins))
 
+  -- and they are all there
   pub has_data : (ended : ℕ) → lacks_data (head + area_start) ended r ≡ false
   has_data ended = and_right (ended == 0) (points_too_far (head + area_start) r) reaches
 
@@ -51,15 +55,21 @@ module _ (file : List ℕ) (c : ClassFields) (head : ℕ) (end area_start : ℕ)
     within = le-ltb _ _ (omega (arith, end-there, ends, ap own_area row.header));
   }
 
-  -- after it the main data end no later than those that were laid; a silent frame doesn't change where they end
-  pub behind-most : (ended : ℕ) → ended ≤ head + end → end_behind (head + area_start) ended (Some r) ≤ head + end_of area_start (piece_of f)
+  -- after it the main data end no later than those that
+  -- were laid; a silent frame doesn't change where they end
+  pub behind-most : (ended : ℕ) → ended ≤ head + end
+      → end_behind (head + area_start) ended (Some r) ≤ head + end_of area_start (piece_of f)
   behind-most ended before =
-      either_most (is_silent r || lacks_data (head + area_start) ended r) ended (end_of_data (head + area_start) r) (head + end_of area_start (piece_of f)) (omega (arith, begins, before)) (omega (arith, end-there))
+      either_most (is_silent r || lacks_data (head + area_start) ended r) ended
+      (end_of_data (head + area_start) r) (head + end_of area_start (piece_of f))
+      (omega (arith, begins, before)) (omega (arith, end-there))
 
   -- it isn't at fault
-  pub sound-there : (allowed ended count : ℕ) → ended ≤ head + end → count < allowed → IsSound (word_said (drop r.offset file)) c allowed (head + area_start) ended count r
+  pub sound-there : (allowed ended count : ℕ) → ended ≤ head + end → count < allowed
+      → IsSound (word_said (drop r.offset file)) c allowed (head + area_start) ended count r
   sound-there allowed ended count before few = record {
-    same = ap (λ d. not (same_class d c)) (ap class_of row.header ∙ row.entry.class) ∙ ap not (same-class c);
+    same = ap (λ d. not (same_class d c)) (ap class_of row.header ∙ row.entry.class)
+        ∙ ap not (same-class c);
     word = row.word;
     main = λ has. well ended before;
     few = ne_eqb count allowed (λ e. omega (arith, e, few));
@@ -67,15 +77,20 @@ module _ (file : List ℕ) (c : ClassFields) (head : ℕ) (end area_start : ℕ)
 
 -- ---- all of them
 
-piece_get : (fs : List Frame) (i : ℕ) (f : Frame) → slice_get fs i ≡ Some f → slice_get (pieces fs) i ≡ Some (piece_of f)
-piece_get fs i f is = slice_get-map piece_of fs i ∙ ap (λ (o : Option Frame). option_map piece_of o) is
+piece_get : (fs : List Frame) (i : ℕ) (f : Frame) → slice_get fs i ≡ Some f
+    → slice_get (pieces fs) i ≡ Some (piece_of f)
+piece_get fs i f is =
+    slice_get-map piece_of fs i ∙ ap (λ (o : Option Frame). option_map piece_of o) is
 
-piece_none : (at : ℕ) (fs : List Frame) (i : ℕ) → slice_get (rows_from at fs) i ≡ None → slice_get (pieces fs) i ≡ None
+piece_none : (at : ℕ) (fs : List Frame) (i : ℕ) → slice_get (rows_from at fs) i ≡ None
+    → slice_get (pieces fs) i ≡ None
 piece_none at [] i is = refl
 piece_none at (f ∷ fs) zero is = absurd cc
 piece_none at (f ∷ fs) (suc i) is = piece_none (at + frame_length f) fs i is
 
-module _ (file : List ℕ) (c : ClassFields) (head : Option Head) (at : ℕ) (fs : List Frame) (area_data : List ℕ) (entries : AreEntries c fs) (stand : StandFrom file at fs area_data) (fits : CanBeLaid (pieces fs)) where
+module _ (file : List ℕ) (c : ClassFields) (head : Option Head) (at : ℕ) (fs : List Frame)
+    (area_data : List ℕ) (entries : AreEntries c fs) (stand : StandFrom file at fs area_data)
+    (fits : CanBeLaid (pieces fs)) where
   abbrev rows : List Row
   rows = rows_from at fs
 
@@ -97,18 +112,35 @@ module _ (file : List ℕ) (c : ClassFields) (head : Option Head) (at : ℕ) (fs
   is_at i r is =
       let found = row-get c file at fs area_data i r entries stand is in
       let piece = piece_get fs i found.0 found.1 in
-      record { frame = found.0; found = piece; own = found.1; row = found.2; laid = well-laid 0 0 (pieces fs) i (piece_of found.0) fits piece }
+      record {
+        frame = found.0;
+        found = piece;
+        own = found.1;
+        row = found.2;
+        laid =
+            well-laid 0 0 (pieces fs) i (piece_of found.0) fits piece;
+      }
 
+  -- the place of a frame is after the head's area and those before it
   pub place-there : (i : ℕ) → place head rows i ≡ head_area head + area_start i
   unfolding place
   place-there i = ap (λ n. head_area head + n) (sym (zero-add _) ∙ areas-sum at 0 fs i)
 
-  behind_by : (i : ℕ) (o : Option Row) → slice_get rows i ≡ o → end_before head rows i ≤ head_area head + end i → end_behind (place head rows i) (end_before head rows i) o ≤ head_area head + end (suc i)
-  behind_by i None is before = omega (arith, before, ap (data_end 0 0) (take-last (pieces fs) i (piece_none at fs i is)))
+  behind_by : (i : ℕ) (o : Option Row) → slice_get rows i ≡ o
+      → end_before head rows i ≤ head_area head + end i
+      → end_behind (place head rows i) (end_before head rows i) o ≤ head_area head + end (suc i)
+  behind_by i None is before =
+      omega (arith, before, ap (data_end 0 0) (take-last (pieces fs) i (piece_none at fs i is)))
   behind_by i (Some r) is before =
       let here = is_at i r is in
-      let most = behind-most file c (head_area head) (end i) (area_start i) here.frame r here.row here.laid.begins here.laid.ends (end_before head rows i) before in
-      omega (arith, most, ap (λ n. end_behind n (end_before head rows i) (Some r)) (place-there i), data_end-next 0 0 (pieces fs) i (piece_of here.frame) here.found)
+      let most = behind-most file c (head_area head) (end i) (area_start i) here.frame r
+      here.row here.laid.begins here.laid.ends (end_before head rows i) before in
+      omega (
+        arith,
+        most,
+        ap (λ n. end_behind n (end_before head rows i) (Some r)) (place-there i),
+        data_end-next 0 0 (pieces fs) i (piece_of here.frame) here.found,
+      )
 
   -- before frame i the main data end no later than those that were laid
   ended-most : (i : ℕ) → end_before head rows i ≤ head_area head + end i
@@ -116,47 +148,63 @@ module _ (file : List ℕ) (c : ClassFields) (head : Option Head) (at : ℕ) (fs
   ended-most zero = omega arith
   ended-most (suc i) = behind_by i (slice_get rows i) refl (ended-most i)
 
+  -- all frames are sound
   pub laid-sound : (allowed : ℕ) → length fs ≤ allowed → AreSound file head c allowed rows
   laid-sound allowed few i r is =
       let here = is_at i r is in
-      let within : i < allowed = omega (arith, few, slice_get_within rows i r is, rows-length at fs) in
-      subst (λ n. IsSound (word_said (drop r.offset file)) c allowed n (end_before head rows i) i r) (sym (place-there i))
-      (sound-there file c (head_area head) (end i) (area_start i) here.frame r here.row here.laid.begins here.laid.ends allowed (end_before head rows i) i (ended-most i) within)
+      let within : i < allowed =
+      omega (arith, few, slice_get_within rows i r is, rows-length at fs) in
+      subst (λ n. IsSound (word_said (drop r.offset file)) c allowed n (end_before head rows i) i r)
+      (sym (place-there i))
+      (sound-there file c (head_area head) (end i) (area_start i) here.frame r here.row
+      here.laid.begins here.laid.ends allowed (end_before head rows i) i (ended-most i) within)
 
   none_lost : (i : ℕ) (r : Row) → slice_get rows i ≡ Some r → is_lost head rows i r ≡ r.lost
   none_lost i r is =
       let here = is_at i r is in
       ap (λ n. lacks_data n (end_before head rows i) r) (place-there i)
-      ∙ has_data file c (head_area head) (end i) (area_start i) here.frame r here.row here.laid.begins here.laid.ends (end_before head rows i)
+      ∙ has_data file c (head_area head) (end i)
+      (area_start i) here.frame r here.row here.laid.begins here.laid.ends (end_before head rows i)
       ∙ sym here.row.kept
 
-  marks : (n : ℕ) (more : List Row) → ((i : ℕ) (r : Row) → slice_get more i ≡ Some r → is_lost head rows (n + i) r ≡ r.lost) → map (λ (p : ℕ × Row). marked_row head rows p.0 p.1) (enumerate_from n more) ≡ more
+  marks : (n : ℕ) (more : List Row)
+      → ((i : ℕ) (r : Row) → slice_get more i ≡ Some r → is_lost head rows (n + i) r ≡ r.lost)
+      → map (λ (p : ℕ × Row). marked_row head rows p.0 p.1) (enumerate_from n more) ≡ more
   marks n [] kept = refl
   marks n (r ∷ more) kept =
       let none : n + 0 ≡ n = omega arith in
-      let same : is_lost head rows n r ≡ r.lost = ap (λ m. is_lost head rows m r) (sym none) ∙ kept 0 r refl in
+      let same : is_lost head rows n r ≡ r.lost =
+      ap (λ m. is_lost head rows m r) (sym none) ∙ kept 0 r refl in
       let own : marked_row head rows n r ≡ r = λ j. record r { lost = same j } in
-      ap₂ (λ (q : Row) (qs : List Row). q ∷ qs) own (marks (n + 1) more (λ i q is. ap (λ m. is_lost head rows m q) (omega arith) ∙ kept (suc i) q is))
+      ap₂ (λ (q : Row) (qs : List Row). q ∷ qs) own (marks (n + 1) more
+      (λ i q is. ap (λ m. is_lost head rows m q) (omega arith) ∙ kept (suc i) q is))
 
   -- none is marked
   pub none-marked : marked head rows ≡ rows
   unfolding marked
-  none-marked = marks 0 rows (λ i r is. ap (λ m. is_lost head rows m r) (zero-add i) ∙ none_lost i r is)
+  none-marked =
+      marks 0 rows (λ i r is. ap (λ m. is_lost head rows m r) (zero-add i) ∙ none_lost i r is)
 
   -- the main data of frame i begin where they were laid
   pub starts-there : (i : ℕ) (r : Row) → slice_get rows i ≡ Some r
-      → (f : Frame) × (slice_get fs i ≡ Some f) × (start_of_data (place head rows i) r ≡ head_area head + start_of (area_start i) (piece_of f))
+      → (f : Frame) × (slice_get fs i ≡ Some f) × (start_of_data (place head rows i) r
+      ≡ head_area head + start_of (area_start i) (piece_of f))
   starts-there i r is =
       let here = is_at i r is in (
         here.frame,
         here.own,
-        ap (λ n. start_of_data n r) (place-there i) ∙ start-there file c (head_area head) (end i) (area_start i) here.frame r here.row here.laid.begins here.laid.ends,
+        ap (λ n. start_of_data n r) (place-there i) ∙ start-there file c (head_area head) (end i)
+            (area_start i) here.frame r here.row here.laid.begins here.laid.ends,
       )
 
 -- the main data of each frame begin within the areas of the frames before it, the head's left out
-pub laid-near : (file : List ℕ) (c : ClassFields) (at : ℕ) (fs : List Frame) (area_data : List ℕ) → AreEntries c fs → StandFrom file at fs area_data → CanBeLaid (pieces fs) → AreNear (rows_from at fs)
+pub laid-near : (file : List ℕ) (c : ClassFields) (at : ℕ) (fs : List Frame) (area_data : List ℕ)
+    → AreEntries c fs → StandFrom file at fs area_data → CanBeLaid (pieces fs)
+    → AreNear (rows_from at fs)
 laid-near file c at fs area_data entries stand fits i r is =
     let here = is_at file c None at fs area_data entries stand fits i r is in
-    let begins : data_end 0 0 (take i (pieces fs)) + here.frame.kept.side.main_data_begin ≤ areas_end 0 (take i (pieces fs)) = here.laid.begins in
-    let place_is : place None (rows_from at fs) i ≡ 0 + areas_end 0 (take i (pieces fs)) = place-there file c None at fs area_data entries stand fits i in
+    let begins : data_end 0 0 (take i (pieces fs)) + here.frame.kept.side.main_data_begin
+    ≤ areas_end 0 (take i (pieces fs)) = here.laid.begins in
+    let place_is : place None (rows_from at fs) i ≡ 0 + areas_end 0 (take i (pieces fs)) =
+    place-there file c None at fs area_data entries stand fits i in
     omega (arith, ap (λ (s : Side). s.main_data_begin) here.row.side, begins, place_is)

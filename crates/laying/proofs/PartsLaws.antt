@@ -1,29 +1,24 @@
 -- Parts one after the other: each begins where those before it end, and each alone has its layout.
-use Rattle.std.proofs.Common.{◌≡◌, ℕ, suc, ◌+◌, ◌-◌, ◌<◌, ◌≤◌, List, [], ◌∷◌, ◌++◌, length, length-append, append_assoc, append-nil, take, drop, map, All, AllPairs, refl, sym, ap, ap₂, ◌∙◌, subst, arith, ◌↔◌, slice_range}
-use Rattle.std.proofs.lemmas.List.{length-map, length-take-le, length-drop}
-use Rattle.std.proofs.lemmas.List.Concat.{flat_map-append}
-use Rattle.std.proofs.lemmas.List.Elements.{All-cons}
-use Rattle.std.proofs.lemmas.List.Kept.{AllPairs-cons}
-use Rattle.std.proofs.Math.Seq.{take-append_seam, drop-append_seam}
-use Rattle.frame_header.specs.Fields.{SlotFields, ClassFields, HeaderFields, IsHeader}
-use Rattle.frame_header.specs.Tables.{class_of, window_of}
-use Rattle.sync_survey.specs.Row.{Row}
-use Rattle.sync_survey.specs.Faults.{SurveyFields}
-use Rattle.frame_header.specs.Slots.{all_slots}
+use Rattle.std.proofs.Common.{All, AllPairs, ap, append-nil, append_assoc, ap₂, arith, drop, length}
+use Rattle.std.proofs.Common.{length-append, List, map, refl, slice_range, subst, suc, sym, take, ℕ}
+use Rattle.std.proofs.Common.{[], ◌++◌, ◌+◌, ◌-◌, ◌<◌, ◌↔◌, ◌∙◌, ◌∷◌, ◌≡◌, ◌≤◌}
+use Rattle.std.proofs.Math.Seq.{drop-append_seam, take-append_seam}
+use Rattle.std.proofs.lemmas.List.{length-drop, length-map, length-take-le, Concat.flat_map-append}
+use Rattle.std.proofs.lemmas.List.{Elements.All-cons, Kept.AllPairs-cons}
 use Rattle.frame_header.proofs.HeaderLaws.{IsClass-class_of}
 use Rattle.frame_header.proofs.SlotLaws.{areas-ascend, Contains-all_slots}
-use Rattle.slot_plan.specs.Laws.{ChoosesInOrder, ChooseInOrder}
-use Rattle.slot_plan.specs.Plans.{IsPlan}
-use Rattle.slot_plan.specs.LeastPlan.{least_plan}
-use Rattle.slot_plan.specs.declared.needs.Placed.{Placed}
-use Rattle.slot_plan.proofs.LeastPlan.{least-plan-is}
-use Rattle.slot_plan.proofs.AreaLaws.{class-ascend}
-use Rattle.slot_plan.specs.declared.needs.Need.{Need}
-use Rattle.slot_plan.specs.Layouts.{IsFeasible}
-use Rattle.slot_plan.specs.Parts.{own_frame, parts_of, window_in, AreOfClass, AreOfOneClass, ArePartsFeasible}
-use Rattle.laying.specs.Needs.{need_of, needs_of, places_from, Asked, asked_of}
-use Rattle.laying.specs.NeedsFit.{IsPlaced, IsPartOf, own_choice, any_choice, AreFit}
+use Rattle.frame_header.specs.Fields.{ClassFields, HeaderFields, IsHeader, SlotFields}
+use Rattle.frame_header.specs.{Slots.all_slots, Tables.{class_of, window_of}}
 use Rattle.laying.proofs.NeedsFitLaws.{AreKnown, part-fits, part-known}
+use Rattle.laying.specs.Needs.{Asked, asked_of, need_of, needs_of, places_from}
+use Rattle.laying.specs.NeedsFit.{any_choice, AreFit, IsPartOf, IsPlaced, own_choice}
+use Rattle.slot_plan.proofs.{AreaLaws.class-ascend, LeastPlan.least-plan-is}
+use Rattle.slot_plan.specs.{Laws.{ChooseInOrder, ChoosesInOrder}, Layouts.IsFeasible}
+use Rattle.slot_plan.specs.LeastPlan.{least_plan}
+use Rattle.slot_plan.specs.Parts.{AreOfClass, AreOfOneClass, ArePartsFeasible, own_frame, parts_of}
+use Rattle.slot_plan.specs.{Parts.window_in, Plans.IsPlan, declared.needs.Need.Need}
+use Rattle.slot_plan.specs.declared.needs.Placed.{Placed}
+use Rattle.sync_survey.specs.{Faults.SurveyFields, Row.Row}
 
 -- ---- one part
 
@@ -32,30 +27,48 @@ record Fits (class : ClassFields) (rows : List Row) : Type 0 where
   some : 0 < length rows
   known : AreKnown rows
   all : AreOfClass class (map need_of rows)
-  feasible : IsFeasible (window_of class.version) (window_of class.version) (map own_frame (map need_of rows))
+  feasible : IsFeasible (window_of class.version) (window_of class.version)
+      (map own_frame (map need_of rows))
 
-part_some : (rows : List Row) (from to : ℕ) → from < to → to ≤ length rows → 0 < length (slice_range rows from to)
-part_some rows from to some within = omega (arith, length-take-le (to - from) (drop from rows) (omega (arith, length-drop from rows, within)), length-drop from rows, some)
+part_some : (rows : List Row) (from to : ℕ) → from < to → to ≤ length rows
+    → 0 < length (slice_range rows from to)
+part_some rows from to some within = omega (
+  arith,
+  length-take-le (to - from) (drop from rows) (omega (arith, length-drop from rows, within)),
+  length-drop from rows,
+  some,
+)
 
 fits : (class : ClassFields) (rows : List Row) → IsPartOf class rows → Fits class rows
 fits class rows part =
     let is = part-fits part.survey part.from part.to part.placed in
     let here : Fits part.survey.class (slice_range part.survey.frames part.from part.to) =
-    record { some = part_some part.survey.frames part.from part.to part.some part.within; known = part-known part.survey part.from part.to part.placed; all = is.0; feasible = is.1 } in
-    subst (Fits class) (sym part.are) (subst (λ c. Fits c (slice_range part.survey.frames part.from part.to)) part.same here)
+    record {
+      some = part_some part.survey.frames part.from part.to part.some part.within;
+      known = part-known part.survey part.from part.to part.placed;
+      all = is.0;
+      feasible = is.1;
+    } in
+    subst (Fits class) (sym part.are)
+    (subst (λ c. Fits c (slice_range part.survey.frames part.from part.to)) part.same here)
 
 -- each part is one
 abbrev AllFits : ClassFields → List (List Row) → Type 0
 AllFits class [] = Unit {0}
 AllFits class (rows ∷ parts) = Fits class rows × AllFits class parts
 
-all_fits : (class : ClassFields) (parts : List (List Row)) → All (IsPartOf class) parts → AllFits class parts
+all_fits : (class : ClassFields) (parts : List (List Row)) → All (IsPartOf class) parts
+    → AllFits class parts
 all_fits class [] all = tt
-all_fits class (rows ∷ parts) all = (fits class rows (all 0 rows (omega arith)), all_fits class parts (λ k d lt. all (suc k) d (omega (arith, lt))))
+all_fits class (rows ∷ parts) all = (
+  fits class rows (all 0 rows (omega arith)),
+  all_fits class parts (λ k d lt. all (suc k) d (omega (arith, lt))),
+)
 
 -- ---- the needs
 
-needs-cons : (rows : List Row) (parts : List (List Row)) → needs_of (rows ∷ parts) ≡ map need_of rows ++ needs_of parts
+needs-cons : (rows : List Row) (parts : List (List Row))
+    → needs_of (rows ∷ parts) ≡ map need_of rows ++ needs_of parts
 unfolding needs_of
 needs-cons rows parts = refl
 
@@ -63,43 +76,55 @@ nothing : needs_of [] ≡ []
 unfolding needs_of
 nothing = refl
 
-class-append : (class : ClassFields) (xs ys : List Need) → AreOfClass class xs → AreOfClass class ys → AreOfClass class (xs ++ ys)
+class-append : (class : ClassFields) (xs ys : List Need) → AreOfClass class xs → AreOfClass class ys
+    → AreOfClass class (xs ++ ys)
 unfolding AreOfClass
 class-append class [] ys first second = second
 class-append class (x ∷ xs) ys first second = (first.0, class-append class xs ys first.1 second)
 
-class_all : (class : ClassFields) (parts : List (List Row)) → AllFits class parts → AreOfClass class (needs_of parts)
+class_all : (class : ClassFields) (parts : List (List Row)) → AllFits class parts
+    → AreOfClass class (needs_of parts)
 unfolding needs_of AreOfClass
 class_all class [] all = tt
-class_all class (rows ∷ parts) all = class-append class (map need_of rows) (needs_of parts) all.0.all (class_all class parts all.1)
+class_all class (rows ∷ parts) all =
+    class-append class (map need_of rows) (needs_of parts) all.0.all (class_all class parts all.1)
 
-pub one_class : (class : ClassFields) (needs : List Need) → AreOfClass class needs → AreOfOneClass needs
+-- needs of a class are of one class
+pub one_class : (class : ClassFields) (needs : List Need) → AreOfClass class needs
+    → AreOfOneClass needs
 unfolding AreOfClass
 one_class class [] all = tt
 one_class class (need ∷ needs) all = subst (λ c. AreOfClass c needs) (sym all.0) all.1
 
-window_is : (class : ClassFields) (needs : List Need) → 0 < length needs → AreOfClass class needs → window_in needs ≡ window_of class.version
+window_is : (class : ClassFields) (needs : List Need) → 0 < length needs → AreOfClass class needs
+    → window_in needs ≡ window_of class.version
 unfolding AreOfClass
 window_is class [] some all = absurd (omega (arith, some))
 window_is class (need ∷ needs) some all = ap (λ c. window_of c.version) all.0
 
 -- ---- the places
 
-length-needs : (rows : List Row) (parts : List (List Row)) → length (needs_of (rows ∷ parts)) ≡ length rows + length (needs_of parts)
-length-needs rows parts = ap length (needs-cons rows parts) ∙ length-append (map need_of rows) (needs_of parts) ∙ ap (λ n. n + length (needs_of parts)) (length-map rows need_of)
+length-needs : (rows : List Row) (parts : List (List Row))
+    → length (needs_of (rows ∷ parts)) ≡ length rows + length (needs_of parts)
+length-needs rows parts =
+    ap length (needs-cons rows parts) ∙ length-append (map need_of rows) (needs_of parts)
+    ∙ ap (λ n. n + length (needs_of parts)) (length-map rows need_of)
 
 -- none is before the first, and each is before the end of all
-places_within : (class : ClassFields) (at : ℕ) (parts : List (List Row)) → AllFits class parts → All (λ place. (at ≤ place) × (place < at + length (needs_of parts))) (places_from at parts)
+places_within : (class : ClassFields) (at : ℕ) (parts : List (List Row)) → AllFits class parts
+    → All (λ place. (at ≤ place) × (place < at + length (needs_of parts))) (places_from at parts)
 unfolding places_from
 places_within class at [] all = λ k d lt. absurd (omega (arith, lt))
 places_within class at (rows ∷ parts) all =
     let behind = places_within class (at + length rows) parts all.1 in
     let count = length-needs rows parts in
-    All-cons (λ place. (at ≤ place) × (place < at + length (needs_of (rows ∷ parts)))) at (places_from (at + length rows) parts)
+    All-cons (λ place. (at ≤ place) × (place < at + length (needs_of (rows ∷ parts)))) at
+    (places_from (at + length rows) parts)
     (omega arith, omega (arith, count, all.0.some))
     (λ k d lt. let one = behind k d lt in (omega (arith, one.0), omega (arith, one.1, count)))
 
-places_ascend : (class : ClassFields) (at : ℕ) (parts : List (List Row)) → AllFits class parts → AllPairs (λ m n. m < n) (places_from at parts)
+places_ascend : (class : ClassFields) (at : ℕ) (parts : List (List Row)) → AllFits class parts
+    → AllPairs (λ m n. m < n) (places_from at parts)
 unfolding places_from
 places_ascend class at [] all = λ i j d before lt. absurd (omega (arith, lt))
 places_ascend class at (rows ∷ parts) all =
@@ -111,7 +136,8 @@ places_ascend class at (rows ∷ parts) all =
 -- ---- the parts of the needs
 
 -- a part in the middle
-middle : (before part behind : List Need) (from to : ℕ) → from ≡ length before → to ≡ length before + length part → slice_range (before ++ (part ++ behind)) from to ≡ part
+middle : (before part behind : List Need) (from to : ℕ) → from ≡ length before
+    → to ≡ length before + length part → slice_range (before ++ (part ++ behind)) from to ≡ part
 middle before part behind from to is ends =
     let many : to - from ≡ length part = omega (arith, is, ends) in
     ap (λ n. take (to - from) (drop n (before ++ (part ++ behind)))) is
@@ -119,37 +145,49 @@ middle before part behind from to is ends =
     ∙ ap (take (length part)) (drop-append_seam before (part ++ behind))
     ∙ take-append_seam part behind
 
-pub parts_are : (before : List Need) (at : ℕ) (parts : List (List Row)) → at ≡ length before → parts_of (before ++ needs_of parts) (places_from at parts) ≡ map (map need_of) parts
+-- the parts from their places on are the needs of each
+pub parts_are : (before : List Need) (at : ℕ) (parts : List (List Row)) → at ≡ length before
+    → parts_of (before ++ needs_of parts) (places_from at parts) ≡ map (map need_of) parts
 unfolding parts_of places_from
 parts_are before at [] is = refl
 parts_are before at (rows ∷ []) is =
     let part : List Need = map need_of rows in
-    let whole : before ++ needs_of (rows ∷ []) ≡ before ++ (part ++ needs_of []) = ap (λ l. before ++ l) (needs-cons rows []) in
+    let whole : before ++ needs_of (rows ∷ []) ≡ before ++ (part ++ needs_of []) =
+    ap (λ l. before ++ l) (needs-cons rows []) in
     let empty : needs_of [] ≡ [] = nothing in
     let count : length (before ++ (part ++ needs_of [])) ≡ length before + length part =
-    length-append before (part ++ needs_of []) ∙ ap (λ n. length before + n) (length-append part (needs_of []) ∙ omega (arith, ap length empty)) in
+    length-append before (part ++ needs_of []) ∙ ap (λ n. length before + n)
+    (length-append part (needs_of []) ∙ omega (arith, ap length empty)) in
     ap (λ l. slice_range l at (length l) ∷ []) whole
-    ∙ ap (λ l. l ∷ []) (middle before part (needs_of []) at (length (before ++ (part ++ needs_of []))) is count)
+    ∙ ap (λ l. l ∷ [])
+    (middle before part (needs_of []) at (length (before ++ (part ++ needs_of []))) is count)
 parts_are before at (rows ∷ next ∷ parts) is =
     let part : List Need = map need_of rows in
     let later : List (List Row) = next ∷ parts in
     let to : ℕ = at + length rows in
-    let whole : before ++ needs_of (rows ∷ later) ≡ before ++ (part ++ needs_of later) = ap (λ l. before ++ l) (needs-cons rows later) in
+    let whole : before ++ needs_of (rows ∷ later) ≡ before ++ (part ++ needs_of later) =
+    ap (λ l. before ++ l) (needs-cons rows later) in
     let ends : to ≡ length before + length part = omega (arith, is, length-map rows need_of) in
-    let seam : before ++ (part ++ needs_of later) ≡ (before ++ part) ++ needs_of later = sym (append_assoc before part (needs_of later)) in
+    let seam : before ++ (part ++ needs_of later) ≡ (before ++ part) ++ needs_of later =
+    sym (append_assoc before part (needs_of later)) in
     ap (λ l. slice_range l at to ∷ parts_of l (places_from to later)) whole
-    ∙ ap (λ l. l ∷ parts_of (before ++ (part ++ needs_of later)) (places_from to later)) (middle before part (needs_of later) at to is ends)
+    ∙ ap (λ l. l ∷ parts_of (before ++ (part ++ needs_of later)) (places_from to later))
+    (middle before part (needs_of later) at to is ends)
     ∙ ap (λ l. part ∷ parts_of l (places_from to later)) seam
-    ∙ ap (λ l. part ∷ l) (parts_are (before ++ part) to (next ∷ parts) (ends ∙ sym (length-append before part)))
+    ∙ ap (λ l. part ∷ l)
+    (parts_are (before ++ part) to (next ∷ parts) (ends ∙ sym (length-append before part)))
 
-feasible_all : (class : ClassFields) (parts : List (List Row)) → AllFits class parts → ArePartsFeasible (window_of class.version) (map (map need_of) parts)
+feasible_all : (class : ClassFields) (parts : List (List Row)) → AllFits class parts
+    → ArePartsFeasible (window_of class.version) (map (map need_of) parts)
 unfolding ArePartsFeasible
 feasible_all class [] all = tt
 feasible_all class (rows ∷ parts) all = (all.0.feasible, feasible_all class parts all.1)
 
-each_class : (class : ClassFields) (parts : List (List Row)) → AllFits class parts → All (λ part. AreOfClass class part) (map (map need_of) parts)
+each_class : (class : ClassFields) (parts : List (List Row)) → AllFits class parts
+    → All (λ part. AreOfClass class part) (map (map need_of) parts)
 each_class class [] all = λ k d lt. absurd (omega (arith, lt))
-each_class class (rows ∷ parts) all = All-cons (λ part. AreOfClass class part) (map need_of rows) (map (map need_of) parts) all.0.all (each_class class parts all.1)
+each_class class (rows ∷ parts) all = All-cons (λ part. AreOfClass class part) (map need_of rows)
+    (map (map need_of) parts) all.0.all (each_class class parts all.1)
 
 -- ---- choices in order
 
@@ -165,36 +203,46 @@ may_any r known =
     let class = IsClass-class_of r.header known in
     record {
       class = class;
-      ascending = class-ascend (class_of r.header) (class_of r.header) r.header.protected all_slots refl refl (areas-ascend (class_of r.header) class r.header.protected);
+      ascending = class-ascend (class_of r.header) (class_of r.header) r.header.protected all_slots
+          refl refl (areas-ascend (class_of r.header) class r.header.protected);
       own = Contains-all_slots r.header.slot known.slot;
     }
 
-module _ (choices : HeaderFields → List SlotFields) (each : (r : Row) → IsHeader r.header → ChoosesInOrder choices (need_of r)) where
+module _ (choices : HeaderFields → List SlotFields)
+    (each : (r : Row) → IsHeader r.header → ChoosesInOrder choices (need_of r)) where
   rows_choose : (rows : List Row) → AreKnown rows → All (ChoosesInOrder choices) (map need_of rows)
   rows_choose [] known = λ k d lt. absurd (omega (arith, lt))
-  rows_choose (r ∷ rows) known = All-cons (ChoosesInOrder choices) (need_of r) (map need_of rows) (each r known.0) (rows_choose rows known.1)
+  rows_choose (r ∷ rows) known = All-cons (ChoosesInOrder choices) (need_of r) (map need_of rows)
+      (each r known.0) (rows_choose rows known.1)
 
-  parts_choose : (class : ClassFields) (parts : List (List Row)) → AllFits class parts → ChooseInOrder choices (map (map need_of) parts)
+  parts_choose : (class : ClassFields) (parts : List (List Row)) → AllFits class parts
+      → ChooseInOrder choices (map (map need_of) parts)
   parts_choose class [] all = λ k d lt. absurd (omega (arith, lt))
   parts_choose class (rows ∷ parts) all =
-      All-cons (λ part. All (ChoosesInOrder choices) part) (map need_of rows) (map (map need_of) parts) (rows_choose rows all.0.known) (parts_choose class parts all.1)
+      All-cons (λ part. All (ChoosesInOrder choices) part) (map need_of rows)
+      (map (map need_of) parts) (rows_choose rows all.0.known) (parts_choose class parts all.1)
 
 -- ---- all of it
 
-planned : (class : ClassFields) (parts : List (List Row)) → 1 ≤ length parts → AllFits class parts → AreFit class (asked_of parts)
+planned : (class : ClassFields) (parts : List (List Row)) → 1 ≤ length parts → AllFits class parts
+    → AreFit class (asked_of parts)
 unfolding places_from
 planned class [] some all = absurd (omega (arith, some))
 planned class (rows ∷ parts) some all =
     let whole : List (List Row) = rows ∷ parts in
     let needs : List Need = needs_of whole in
     let classes = class_all class whole all in
-    let window = window_is class needs (omega (arith, length-needs rows parts, all.0.some)) classes in
+    let window =
+    window_is class needs (omega (arith, length-needs rows parts, all.0.some)) classes in
     let within = places_within class 0 whole all in
     record {
       all = classes;
-      each = subst (All (λ part. AreOfClass class part)) (sym (parts_are [] 0 whole refl)) (each_class class whole all);
-      kept = subst (ChooseInOrder own_choice) (sym (parts_are [] 0 whole refl)) (parts_choose own_choice keeps class whole all);
-      least = subst (ChooseInOrder any_choice) (sym (parts_are [] 0 whole refl)) (parts_choose any_choice may_any class whole all);
+      each = subst (All (λ part. AreOfClass class part)) (sym (parts_are [] 0 whole refl))
+          (each_class class whole all);
+      kept = subst (ChooseInOrder own_choice) (sym (parts_are [] 0 whole refl))
+          (parts_choose own_choice keeps class whole all);
+      least = subst (ChooseInOrder any_choice) (sym (parts_are [] 0 whole refl))
+          (parts_choose any_choice may_any class whole all);
       window = window;
       planned = record {
         class = one_class class needs classes;
@@ -202,46 +250,75 @@ planned class (rows ∷ parts) some all =
         first = refl;
         ascending = places_ascend class 0 whole all;
         within = λ k d lt. omega (arith, (within k d lt).1);
-        feasible = subst (λ w. ArePartsFeasible w (parts_of needs (places_from 0 whole))) (sym window)
-            (subst (ArePartsFeasible (window_of class.version)) (sym (parts_are [] 0 whole refl)) (feasible_all class whole all));
+        feasible =
+            subst (λ w. ArePartsFeasible w (parts_of needs (places_from 0 whole))) (sym window)
+            (subst (ArePartsFeasible (window_of class.version)) (sym (parts_are [] 0 whole refl))
+            (feasible_all class whole all));
       };
     }
 
-pub parts-fit : (class : ClassFields) (parts : List (List Row)) → 1 ≤ length parts → All (IsPartOf class) parts → AreFit class (asked_of parts)
+-- parts of one class that each fit can be planned
+pub parts-fit : (class : ClassFields) (parts : List (List Row)) → 1 ≤ length parts
+    → All (IsPartOf class) parts → AreFit class (asked_of parts)
 parts-fit class parts some all = planned class parts some (all_fits class parts all)
 
-pub one-part-fits : (s : SurveyFields) (from to : ℕ) → IsPlaced s → from < to → to ≤ length s.frames → AreFit s.class (asked_of (slice_range s.frames from to ∷ []))
+-- so can one part of a survey
+pub one-part-fits : (s : SurveyFields) (from to : ℕ) → IsPlaced s → from < to → to ≤ length s.frames
+    → AreFit s.class (asked_of (slice_range s.frames from to ∷ []))
 one-part-fits s from to placed some within =
     let part : IsPartOf s.class (slice_range s.frames from to) =
-    record { survey = s; from = from; to = to; placed = placed; same = refl; some = some; within = within; are = refl } in
-    planned s.class (slice_range s.frames from to ∷ []) (omega arith) (fits s.class (slice_range s.frames from to) part, tt)
+    record {
+      survey = s;
+      from = from;
+      to = to;
+      placed = placed;
+      same = refl;
+      some = some;
+      within = within;
+      are = refl;
+    } in
+    planned s.class (slice_range s.frames from to ∷ []) (omega arith)
+    (fits s.class (slice_range s.frames from to) part, tt)
 
 -- the plan of parts that can be planned is the first of all, by either policy
-pub parts-plan : (class : ClassFields) (choices : HeaderFields → List SlotFields) (parts : List (List Row)) (placed : List Placed) → AreFit class (asked_of parts)
+pub parts-plan : (class : ClassFields) (choices : HeaderFields → List SlotFields)
+    (parts : List (List Row)) (placed : List Placed) → AreFit class (asked_of parts)
     → ChooseInOrder choices (parts_of (asked_of parts).needs (asked_of parts).places)
-    → IsPlan (window_of class.version) choices (map (map need_of) parts) placed ↔ (placed ≡ least_plan (window_of class.version) choices (map (map need_of) parts))
+    → IsPlan (window_of class.version) choices (map (map need_of) parts) placed
+    ↔ (placed ≡ least_plan (window_of class.version) choices (map (map need_of) parts))
 parts-plan class choices parts placed fit in_order =
-    let are : parts_of (asked_of parts).needs (asked_of parts).places ≡ map (map need_of) parts = parts_are [] 0 parts refl in
+    let are : parts_of (asked_of parts).needs (asked_of parts).places ≡ map (map need_of) parts =
+    parts_are [] 0 parts refl in
     least-plan-is class choices (map (map need_of) parts) placed
     (subst (All (AreOfClass class)) are fit.each)
     (subst (ChooseInOrder choices) are in_order)
-    (subst (λ (n : ℕ). ArePartsFeasible n (map (map need_of) parts)) fit.window (subst (ArePartsFeasible (window_in (asked_of parts).needs)) are fit.planned.feasible))
+    (subst (λ (n : ℕ). ArePartsFeasible n (map (map need_of) parts)) fit.window
+    (subst (ArePartsFeasible (window_in (asked_of parts).needs)) are fit.planned.feasible))
 
 -- ---- one part more
 
-pub needs-push : (parts : List (List Row)) (rows : List Row) → needs_of (parts ++ rows ∷ []) ≡ needs_of parts ++ map need_of rows
+-- one part more adds its needs
+pub needs-push : (parts : List (List Row)) (rows : List Row)
+    → needs_of (parts ++ rows ∷ []) ≡ needs_of parts ++ map need_of rows
 unfolding needs_of
-needs-push parts rows = flat_map-append (map need_of) parts (rows ∷ []) ∙ ap (λ l. needs_of parts ++ l) (append-nil (map need_of rows))
+needs-push parts rows = flat_map-append (map need_of) parts (rows ∷ [])
+    ∙ ap (λ l. needs_of parts ++ l) (append-nil (map need_of rows))
 
-pub places-push : (at : ℕ) (parts : List (List Row)) (rows : List Row) → places_from at (parts ++ rows ∷ []) ≡ places_from at parts ++ (at + length (needs_of parts)) ∷ []
+-- and its place, where those before it end
+pub places-push : (at : ℕ) (parts : List (List Row)) (rows : List Row)
+    → places_from at (parts ++ rows ∷ [])
+    ≡ places_from at parts ++ (at + length (needs_of parts)) ∷ []
 unfolding places_from needs_of
 places-push at [] rows = ap (λ n. n ∷ []) (omega arith)
 places-push at (first ∷ parts) rows =
-    ap (λ l. at ∷ l) (places-push (at + length first) parts rows ∙ ap (λ n. places_from (at + length first) parts ++ n ∷ []) (omega (arith, length-needs first parts)))
+    ap (λ l. at ∷ l) (places-push (at + length first) parts rows ∙ ap (λ n.
+    places_from (at + length first) parts ++ n ∷ []) (omega (arith, length-needs first parts)))
 
 -- what was asked, with a part more after it
-pub asked-push : (parts : List (List Row)) (rows : List Row) (needs : List Need) (places : List ℕ) (place : ℕ) (all : List Need) (all_places : List ℕ)
-    → record { needs = needs; places = places } ≡ asked_of parts → place ≡ length needs → all ≡ needs ++ map need_of rows → all_places ≡ places ++ place ∷ []
+pub asked-push : (parts : List (List Row)) (rows : List Row) (needs : List Need) (places : List ℕ)
+    (place : ℕ) (all : List Need) (all_places : List ℕ)
+    → record { needs = needs; places = places } ≡ asked_of parts → place ≡ length needs
+    → all ≡ needs ++ map need_of rows → all_places ≡ places ++ place ∷ []
     → record { needs = all; places = all_places } ≡ asked_of (parts ++ rows ∷ [])
 asked-push parts rows needs places place all all_places is at added put =
     let of_needs : needs ≡ needs_of parts = ap (λ (a : Asked). a.needs) is in

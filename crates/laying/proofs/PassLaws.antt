@@ -1,46 +1,59 @@
 -- Steps of a pass, one after the other.
-use Rattle.std.proofs.Common.{◌≡◌, ◌≢◌, ℕ, ◌+◌, ◌≤◌, List, [], ◌∷◌, ◌++◌, length, take, refl, sym, ◌∙◌, ap, subst, arith, append_assoc, append-nil, length-append, Result, Ok, Err, IsErrAnd, OnOk}
-use Rattle.std.proofs.Math.Seq.{take-append-add}
-use Rattle.outside.specs.Files.{Files, appended, Holds, IsThere}
-use Rattle.outside.specs.Feed.{Fed}
-use Rattle.outside.specs.Passed.{PassedOn, AppendedPrefix}
-use Rattle.outside.specs.Pass.{IsReady as PassReady, IsOfRead}
-use Rattle.outside.specs.declared.pass.PassFault.{PassFault}
-use Rattle.outside.proofs.FilesLaws.{appended_twice, appended_nothing}
-use Rattle.outside.proofs.PassLaws.{input_holds, input_held, ready_later}
-use Rattle.frame_writer.specs.Laid.{Piece, BeginsWithin}
-use Rattle.frame_writer.specs.Frames.{Frame, Held, pieces}
-use Rattle.frame_writer.specs.Writing.{Writing, AreBehind, IsWriterOf, WritesOn, WritesPart}
-use Rattle.sync_survey.specs.Faults.{SurveyFields}
+use Rattle.std.proofs.Common.{ap, append-nil, append_assoc, arith, Err, IsErrAnd, length}
+use Rattle.std.proofs.Common.{length-append, List, Ok, OnOk, refl, Result, subst, sym, take, ℕ, []}
+use Rattle.std.proofs.{Common.{◌++◌, ◌+◌, ◌∙◌, ◌∷◌, ◌≡◌, ◌≢◌, ◌≤◌}, Math.Seq.take-append-add}
+use Rattle.frame_writer.specs.{Frames.{Frame, Held, pieces}, Laid.{BeginsWithin, Piece}}
+use Rattle.frame_writer.specs.Writing.{AreBehind, IsWriterOf, WritesOn, WritesPart, Writing}
+use Rattle.laying.specs.Passing.{EndsEarly, HoldsLast, IsReady, Lays, LaysPart}
 use Rattle.laying.specs.declared.relay.Relay.{Relay}
-use Rattle.laying.specs.Passing.{IsReady, HoldsLast, Lays, EndsEarly, LaysPart}
+use Rattle.outside.proofs.FilesLaws.{appended_nothing, appended_twice}
+use Rattle.outside.{proofs.PassLaws.{input_held, input_holds, ready_later}, specs.Feed.Fed}
+use Rattle.outside.specs.Files.{appended, Files, Holds, IsThere}
+use Rattle.outside.specs.{Pass.{IsOfRead, IsReady as PassReady}, Passed.{AppendedPrefix, PassedOn}}
+use Rattle.outside.specs.declared.pass.PassFault.{PassFault}
+use Rattle.sync_survey.specs.Faults.{SurveyFields}
 
--- all is ready for the next step once some bytes were appended to the output, and the feed is still of the input
-pub ready-with : (relay : Relay) (old new : Files) (fed now : Fed) (more : List ℕ) → new ≡ appended old relay.pass.output.now more → IsReady relay old fed → PassReady relay.pass new now → IsReady relay new now
+-- all is ready for the next step once some bytes were
+-- appended to the output, and the feed is still of the input
+pub ready-with : (relay : Relay) (old new : Files) (fed now : Fed) (more : List ℕ)
+    → new ≡ appended old relay.pass.output.now more → IsReady relay old fed
+    → PassReady relay.pass new now → IsReady relay new now
 ready-with relay old new fed now more is ready pass = record {
   pass = pass;
   length_is = ready.length_is;
-  exact = λ file holds. ready.exact file (input_held old new relay.pass.input.now relay.pass.output.now more file ready.pass.apart is holds);
+  exact = λ file holds. ready.exact file (input_held old new
+      relay.pass.input.now relay.pass.output.now more file ready.pass.apart is holds);
   laid = ready.laid;
 }
 
-pub ready-later : (relay : Relay) (old new : Files) (fed : Fed) (more : List ℕ) → new ≡ appended old relay.pass.output.now more → IsReady relay old fed → IsReady relay new fed
-ready-later relay old new fed more is ready = ready-with relay old new fed fed more is ready (ready_later relay.pass old new fed more is ready.pass)
+-- after bytes were appended to the output all is ready for the next step
+pub ready-later : (relay : Relay) (old new : Files) (fed : Fed) (more : List ℕ)
+    → new ≡ appended old relay.pass.output.now more → IsReady relay old fed → IsReady relay new fed
+ready-later relay old new fed more is ready = ready-with relay old new fed fed more is ready
+    (ready_later relay.pass old new fed more is ready.pass)
 
-pub ready-passed : (relay : Relay) {before after : List ℕ} {old new : Files} {fed : Fed} → PassedOn relay.pass.output.now before after old new → IsReady relay old fed → IsReady relay new fed
-ready-passed relay {before} {after} {old} {new} {fed} passed ready = ready-later relay old new fed passed.passed passed.files ready
+-- so it is after a buffer passed something on
+pub ready-passed : (relay : Relay) {before after : List ℕ} {old new : Files} {fed : Fed}
+    → PassedOn relay.pass.output.now before after old new → IsReady relay old fed
+    → IsReady relay new fed
+ready-passed relay {before} {after} {old} {new} {fed} passed ready =
+    ready-later relay old new fed passed.passed passed.files ready
 
--- where no file changed
-pub ready-filled : (relay : Relay) (old new : Files) (fed now : Fed) → new ≡ old → IsReady relay old fed → PassReady relay.pass new now → IsReady relay new now
+-- where no file changed all is ready for the next step
+pub ready-filled : (relay : Relay) (old new : Files) (fed now : Fed) → new ≡ old
+    → IsReady relay old fed → PassReady relay.pass new now → IsReady relay new now
 ready-filled relay old new fed now same ready pass = record {
   pass = pass;
   length_is = ready.length_is;
-  exact = λ file holds. ready.exact file (subst (λ f. Holds f relay.pass.input.now file) same holds);
+  exact =
+      λ file holds. ready.exact file (subst (λ f. Holds f relay.pass.input.now file) same holds);
   laid = ready.laid;
 }
 
-pub holds-later : (window input output : List ℕ) (s : SurveyFields) (at count i : ℕ) (old new : Files) (more : List ℕ) → input ≢ output → new ≡ appended old output more → HoldsLast window input old s at count i
-    → HoldsLast window input new s at count i
+-- and the window still holds the last of the input's main data
+pub holds-later : (window input output : List ℕ) (s : SurveyFields) (at count i : ℕ)
+    (old new : Files) (more : List ℕ) → input ≢ output → new ≡ appended old output more
+    → HoldsLast window input old s at count i → HoldsLast window input new s at count i
 holds-later window input output s at count i old new more apart is over = record {
   passed = over.passed;
   long = over.long;
@@ -51,93 +64,148 @@ holds-later window input output s at count i old new more apart is over = record
 }
 
 -- a write failed
-pub ends-short : {name bytes : List ℕ} {old new : Files} {fault : PassFault} → AppendedPrefix name bytes old new → EndsEarly name bytes old new fault
-ends-short part = record { count = part.count; within = omega (arith, part.short); short = λ failed. part.short; files = part.files }
+pub ends-short : {name bytes : List ℕ} {old new : Files} {fault : PassFault}
+    → AppendedPrefix name bytes old new → EndsEarly name bytes old new fault
+ends-short part = record {
+  count = part.count;
+  within = omega (arith, part.short);
+  short = λ failed. part.short;
+  files =
+      part.files;
+}
 
 -- ---- frames that were given to the writer
 
-pub begins_more : (reach free : ℕ) (ps : List Piece) → reach ≤ free → BeginsWithin reach ps → BeginsWithin free ps
+-- main data that begin within one reach do within a longer one
+pub begins_more : (reach free : ℕ) (ps : List Piece) → reach ≤ free → BeginsWithin reach ps
+    → BeginsWithin free ps
 begins_more reach free [] within begins = tt
 begins_more reach free (p ∷ ps) within begins = omega (arith, within, begins)
 
 module _ (input output : List ℕ) where
-  -- none yet
-  pub lays_none : (made : List ℕ → List Frame) (w : Writing) (files : Files) → IsThere files output → ((file : List ℕ) → Holds files input file → [] ≡ made file) → Lays input output made w w files files
+  -- before the first frame none was laid
+  pub lays_none : (made : List ℕ → List Frame) (w : Writing) (files : Files) → IsThere files output
+      → ((file : List ℕ) → Holds files input file → [] ≡ made file)
+      → Lays input output made w w files files
   lays_none made w files there none = record {
     frames = [];
     is = none;
     passed = [];
     files = sym (appended_nothing files output there);
-    writer = λ base out fs are. subst (λ (xs : List ℕ). IsWriterOf base xs w (fs ++ [])) (sym (append-nil out)) (subst (IsWriterOf base out w) (sym (append-nil fs)) are);
+    writer = λ base out fs are. subst (λ (xs : List ℕ). IsWriterOf base xs w (fs ++ []))
+        (sym (append-nil out)) (subst (IsWriterOf base out w) (sym (append-nil fs)) are);
   }
 
-  -- one
-  pub lays_one : (made : List ℕ → List Frame) (f : Frame) (old new : Writing) (before after : Files) → ((file : List ℕ) → Holds before input file → f ∷ [] ≡ made file) → WritesOn output f old new before after
-      → Lays input output made old new before after
-  lays_one made f old new before after is on = record { frames = f ∷ []; is = is; passed = on.passed; files = on.files; writer = on.writer }
+  -- a frame that was given is one that was laid
+  pub lays_one : (made : List ℕ → List Frame) (f : Frame) (old new : Writing) (before after : Files)
+      → ((file : List ℕ) → Holds before input file → f ∷ [] ≡ made file)
+      → WritesOn output f old new before after → Lays input output made old new before after
+  lays_one made f old new before after is on =
+      record { frames = f ∷ []; is = is; passed = on.passed; files = on.files; writer = on.writer }
 
-  pub lays_as : (made other : List ℕ → List Frame) (old new : Writing) (before after : Files) → ((file : List ℕ) → Holds before input file → made file ≡ other file) → Lays input output made old new before after
-      → Lays input output other old new before after
-  lays_as made other old new before after same lays = record { frames = lays.frames; is = λ file holds. lays.is file holds ∙ same file holds; passed = lays.passed; files = lays.files; writer = lays.writer }
+  -- to lay some frames is to lay others that are the same
+  pub lays_as : (made other : List ℕ → List Frame) (old new : Writing) (before after : Files)
+      → ((file : List ℕ) → Holds before input file → made file ≡ other file)
+      → Lays input output made old new before after → Lays input output other old new before after
+  lays_as made other old new before after same lays = record {
+    frames = lays.frames;
+    is = λ file holds. lays.is file holds ∙ same file holds;
+    passed = lays.passed;
+    files = lays.files;
+    writer = lays.writer;
+  }
 
   -- the first of them, and a write failed at the last
-  pub part_one : (made : List ℕ → List Frame) (reach : ℕ) (f : Frame) (old : Writing) (held : Held) (before after : Files) {fault : PassFault} → ((file : List ℕ) → Holds before input file → f ∷ [] ≡ made file) → reach ≤ held.waiting.free
-      → WritesPart output f old held before after → LaysPart input output made reach old before after fault
+  pub part_one : (made : List ℕ → List Frame) (reach : ℕ) (f : Frame) (old : Writing) (held : Held)
+      (before after : Files) {fault : PassFault}
+      → ((file : List ℕ) → Holds before input file → f ∷ [] ≡ made file) → reach ≤ held.waiting.free
+      → WritesPart output f old held before after
+      → LaysPart input output made reach old before after fault
   part_one made reach f old held before after is within part = record {
     settled = part.settled;
     prefix = ends-short part.prefix;
     done = f ∷ [];
     held = held;
     writer = part.writer;
-    is = λ file holds more begins. (more, ap (λ (l : List Frame). l ++ more) (is file holds), begins_more reach held.waiting.free (pieces more) within begins);
+    is = λ file holds more begins. (
+      more,
+      ap (λ (l : List Frame). l ++ more) (is file holds),
+      begins_more reach held.waiting.free (pieces more) within begins,
+    );
   }
 
   -- none of them, where a read failed
-  pub part_none : (made : List ℕ → List Frame) (reach : ℕ) (w : Writing) (files : Files) {fault : PassFault} → IsOfRead fault → IsThere files output
-      → ((file : List ℕ) → Holds files input file → (more : List Frame) → BeginsWithin reach (pieces more) → BeginsWithin w.held.waiting.free (pieces (made file ++ more)))
+  pub part_none : (made : List ℕ → List Frame) (reach : ℕ) (w : Writing) (files : Files)
+      {fault : PassFault} → IsOfRead fault → IsThere files output
+      → ((file : List ℕ) → Holds files input file → (more : List Frame) → BeginsWithin reach
+      (pieces more) → BeginsWithin w.held.waiting.free (pieces (made file ++ more)))
       → LaysPart input output made reach w files files fault
   part_none made reach w files read there begins = record {
     settled = w.unsent;
-    prefix = record { count = 0; within = omega arith; short = λ failed. absurd (subst IsOfRead failed read); files = sym (appended_nothing files output there) };
+    prefix = record {
+      count = 0;
+      within = omega arith;
+      short = λ failed.
+          absurd (subst IsOfRead failed read);
+      files = sym (appended_nothing files output there);
+    };
     done = [];
     held = w.held;
-    writer = λ base out fs are. subst (AreBehind base (out ++ w.unsent) w.held) (sym (append-nil fs)) are;
+    writer = λ base out fs are. subst (AreBehind base (out ++ w.unsent) w.held)
+        (sym (append-nil fs)) are;
     is = λ file holds more within. (made file ++ more, refl, begins file holds more within);
   }
 
-  module _ (made next : List ℕ → List Frame) (old mid : Writing) (before now : Files) (apart : input ≢ output) (lays : Lays input output made old mid before now) where
-    pub lays_then : (new : Writing) (after : Files) → Lays input output next mid new now after → Lays input output (λ file. made file ++ next file) old new before after
+  module _ (made next : List ℕ → List Frame) (old mid : Writing) (before now : Files)
+      (apart : input ≢ output) (lays : Lays input output made old mid before now) where
+    -- what two steps laid is what they made, one after the other
+    pub lays_then : (new : Writing) (after : Files) → Lays input output next mid new now after
+        → Lays input output (λ file. made file ++ next file) old new before after
     lays_then new after more = record {
       frames = lays.frames ++ more.frames;
-      is = λ file holds. (λ i. lays.is file holds i ++ more.is file (input_holds before now input output lays.passed file apart lays.files holds) i);
+      is = λ file holds. (λ i. lays.is file holds i ++ more.is file
+          (input_holds before now input output lays.passed file apart lays.files holds) i);
       passed = lays.passed ++ more.passed;
-      files = more.files ∙ ap (λ f. appended f output more.passed) lays.files ∙ appended_twice before output lays.passed more.passed;
+      files = more.files ∙ ap (λ f. appended f output more.passed) lays.files
+          ∙ appended_twice before output lays.passed more.passed;
       writer = λ base out fs are.
-          subst (λ (xs : List ℕ). IsWriterOf base xs new (fs ++ (lays.frames ++ more.frames))) (append_assoc out lays.passed more.passed)
-          (subst (IsWriterOf base ((out ++ lays.passed) ++ more.passed) new) (append_assoc fs lays.frames more.frames)
-          (more.writer base (out ++ lays.passed) (fs ++ lays.frames) (lays.writer base out fs are)));
+          subst (λ (xs : List ℕ). IsWriterOf base xs new (fs ++ (lays.frames ++ more.frames)))
+          (append_assoc out lays.passed more.passed)
+          (subst (IsWriterOf base ((out ++ lays.passed) ++ more.passed) new)
+          (append_assoc fs lays.frames more.frames)
+          (more.writer base (out ++ lays.passed) (fs ++ lays.frames)
+          (lays.writer base out fs are)));
     }
 
-    pub part_then : (reach : ℕ) (after : Files) {fault : PassFault} → LaysPart input output next reach mid now after fault → LaysPart input output (λ file. made file ++ next file) reach old before after fault
+    -- if the second failed, a part of that was laid
+    pub part_then : (reach : ℕ) (after : Files) {fault : PassFault}
+        → LaysPart input output next reach mid now after fault
+        → LaysPart input output (λ file. made file ++ next file) reach old before after fault
     part_then reach after part = record {
       settled = lays.passed ++ part.settled;
       prefix = record {
         count = length lays.passed + part.prefix.count;
         within = omega (arith, part.prefix.within, length-append lays.passed part.settled);
-        short = λ failed. omega (arith, part.prefix.short failed, length-append lays.passed part.settled);
+        short = λ failed.
+            omega (arith, part.prefix.short failed, length-append lays.passed part.settled);
         files = part.prefix.files
             ∙ ap (λ f. appended f output (take part.prefix.count part.settled)) lays.files
             ∙ appended_twice before output lays.passed (take part.prefix.count part.settled)
-            ∙ ap (appended before output) (sym (take-append-add lays.passed part.settled part.prefix.count));
+            ∙ ap (appended before output)
+            (sym (take-append-add lays.passed part.settled part.prefix.count));
       };
       done = lays.frames ++ part.done;
       held = part.held;
       writer = λ base out fs are.
-          subst (λ (xs : List ℕ). AreBehind base xs part.held (fs ++ (lays.frames ++ part.done))) (append_assoc out lays.passed part.settled)
-          (subst (AreBehind base ((out ++ lays.passed) ++ part.settled) part.held) (append_assoc fs lays.frames part.done)
-          (part.writer base (out ++ lays.passed) (fs ++ lays.frames) (lays.writer base out fs are)));
+          subst (λ (xs : List ℕ). AreBehind base xs part.held (fs ++ (lays.frames ++ part.done)))
+          (append_assoc out lays.passed part.settled)
+          (subst (AreBehind base ((out ++ lays.passed) ++ part.settled) part.held)
+          (append_assoc fs lays.frames part.done)
+          (part.writer base (out ++ lays.passed) (fs ++ lays.frames)
+          (lays.writer base out fs are)));
       is = λ file holds more begins.
-          let found = part.is file (input_holds before now input output lays.passed file apart lays.files holds) more begins in (
+          let found = part.is file (input_holds before now input output lays.passed file apart
+          lays.files holds) more begins in (
             found.0,
             append_assoc lays.frames part.done found.0
                 ∙ (λ i. lays.is file holds i ++ found.1 i)
@@ -146,7 +214,8 @@ module _ (input output : List ℕ) where
           );
     }
 
--- a call that failed didn't succeed
-pub ok_never : {T E : Type 0} (P : Type 0) (Q : E → Type 0) (r : Result T E) → IsErrAnd r Q → OnOk r P
+-- a call that failed didn't succeed, so all holds where it did
+pub ok_never : {T E : Type 0} (P : Type 0) (Q : E → Type 0) (r : Result T E) → IsErrAnd r Q
+    → OnOk r P
 ok_never P Q (Ok x) is = absurd is
 ok_never P Q (Err e) is = tt

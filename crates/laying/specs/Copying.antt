@@ -1,10 +1,7 @@
 -- What is copied of a surveyed input through a buffer: its blocks.
-use Rattle.std.specs.Prelude.{ℕ, not, Bool, true, false, List, map, filter}
-use Rattle.std.specs.List.{concat}
-use Rattle.sync_survey.specs.declared.places.Piece.{Piece}
-use Rattle.sync_survey.specs.Faults.{SurveyFields}
-use Rattle.laying.specs.LaidFiles.{block_bytes}
-use Rattle.laying.specs.Written.{goes_in_front}
+use Rattle.std.specs.{List.concat, Prelude.{Bool, false, filter, List, map, not, true, ℕ}}
+use Rattle.laying.specs.{LaidFiles.block_bytes, Written.goes_in_front}
+use Rattle.sync_survey.specs.{Faults.SurveyFields, declared.places.Piece.Piece}
 
 -- the block is one of those that go before the frames, or one of the others
 abbrev pub is_chosen : Bool → SurveyFields → Piece → Bool
@@ -13,4 +10,5 @@ is_chosen false s p = not (goes_in_front s p)
 
 -- the bytes of those of these blocks that go before the frames, or of the others
 abbrev pub chosen_bytes : Bool → SurveyFields → List Piece → List ℕ → List ℕ
-chosen_bytes in_front s blocks file = concat (map (block_bytes file) (filter (is_chosen in_front s) blocks))
+chosen_bytes in_front s blocks file =
+    concat (map (block_bytes file) (filter (is_chosen in_front s) blocks))

@@ -1,37 +1,40 @@
--- Which plans can be written frame by frame (main_data_begin, ISO/IEC 11172-3 and 13818-3, 2.4.2.7).
-use Rattle.std.specs.Prelude.{ℕ, ◌+◌, ◌-◌, ◌≤◌, min, if◌then◌else◌, Bool, false, List, [], ◌∷◌}
-use Rattle.frame_header.specs.Fields.{IsSlot}
-use Rattle.frame_header.specs.Tables.{class_of, area_of}
-use Rattle.slot_plan.specs.declared.needs.Need.{Need}
-use Rattle.slot_plan.specs.declared.needs.Placed.{Placed}
+-- Which plans can be written frame by frame
+-- (main_data_begin, ISO/IEC 11172-3 and 13818-3, 2.4.2.7).
+use Rattle.std.specs.Prelude.{Bool, false, if◌then◌else◌, List, min, ℕ, [], ◌+◌, ◌-◌, ◌∷◌, ◌≤◌}
+use Rattle.frame_header.specs.{Fields.IsSlot, Tables.{area_of, class_of}}
 use Rattle.laying.specs.Relaid.{left_behind}
+use Rattle.slot_plan.specs.declared.needs.{Need.Need, Placed.Placed}
 
--- the length of the main data of a lead-in or frame of a plan in bytes, by the next frame that was asked for
+-- the length of the main data of a lead-in or frame of
+-- a plan in bytes, by the next frame that was asked for
 abbrev pub bytes_at : Bool → Need → ℕ
 bytes_at lead_in need = if lead_in then 0 else need.bytes
 
 -- the length of its area in bytes; a lead-in has no check word
 abbrev pub area_at : Placed → Need → ℕ
-area_at p need = area_of (class_of need.header) p.slot (if p.lead_in then false else need.header.protected)
+area_at p need =
+    area_of (class_of need.header) p.slot (if p.lead_in then false else need.header.protected)
 
 -- how many bytes before the area of the next frame its main data may begin
 abbrev pub reach_behind : ℕ → Placed → Need → ℕ
 reach_behind window p need = min window (p.begin + area_at p need - bytes_at p.lead_in need)
 
--- If main data may begin so many bytes before the first area, there is a place for each frame, and no other; each main_data_begin is within
--- reach, and no main data end after their own area.
+-- If main data may begin so many bytes before the first area, there is a place for each frame,
+-- and no other; each main_data_begin is within reach, and no main data end after their own area.
 unfoldable pub FitsFrom : ℕ → ℕ → List Need → List Placed → Type 0
 FitsFrom window reach [] [] = Unit {0}
 FitsFrom window reach [] (p ∷ placed) = ⊥
 FitsFrom window reach (need ∷ needs) [] = ⊥
 FitsFrom window reach (need ∷ needs) (p ∷ placed) =
-    (p.begin ≤ reach) × (bytes_at p.lead_in need ≤ p.begin + area_at p need) × FitsFrom window (reach_behind window p need) (left_behind p.lead_in need needs) placed
+    (p.begin ≤ reach) × (bytes_at p.lead_in need ≤ p.begin + area_at p need)
+    × FitsFrom window (reach_behind window p need) (left_behind p.lead_in need needs) placed
 
 -- how far before the next area main data may begin after all of them
 unfoldable pub last_reach : ℕ → ℕ → List Need → List Placed → ℕ
 last_reach window reach [] placed = reach
 last_reach window reach (need ∷ needs) [] = reach
-last_reach window reach (need ∷ needs) (p ∷ placed) = last_reach window (reach_behind window p need) (left_behind p.lead_in need needs) placed
+last_reach window reach (need ∷ needs) (p ∷ placed) =
+    last_reach window (reach_behind window p need) (left_behind p.lead_in need needs) placed
 
 -- each is in one of the 28 slots
 abbrev pub AreInSlots : List Placed → Type 0

@@ -1,15 +1,11 @@
 -- What is read and kept of the head of an input.
-use Rattle.std.specs.Prelude.{◌≡◌, ℕ, List, Option, Some, None, Ok, Result, IfOk, IfErr, OnOk, IsErrOf, replicate}
-use Rattle.outside.specs.Counts.{OnlyReads}
-use Rattle.outside.specs.Seen.{Seen, OnFile}
-use Rattle.outside.specs.Pass.{HasInputCause}
-use Rattle.outside.specs.declared.pass.PassFault.{PassFault}
-use Rattle.outside.specs.declared.pass.PassFault.TheVariants.{Write}
+use Rattle.std.specs.Prelude.{IfErr, IfOk, IsErrOf, List, None, Ok, OnOk, Option, replicate, Result}
+use Rattle.std.specs.Prelude.{Some, ℕ, ◌≡◌}
 use Rattle.info_header.specs.declared.fields.Info.{Info}
-use Rattle.sync_survey.specs.declared.places.Head.{Head}
-use Rattle.sync_survey.specs.Faults.{SurveyFields}
-use Rattle.laying.specs.declared.info.Kept.{Kept}
-use Rattle.laying.specs.Written.{head_info}
+use Rattle.laying.specs.{Written.head_info, declared.info.Kept.Kept}
+use Rattle.outside.specs.{Counts.OnlyReads, Pass.HasInputCause, Seen.{OnFile, Seen}}
+use Rattle.outside.specs.declared.pass.PassFault.{PassFault, TheVariants.Write}
+use Rattle.sync_survey.specs.{Faults.SurveyFields, declared.places.Head.Head}
 
 -- the fields of the head of a file, if it has a head
 abbrev pub fields_of_head : List ℕ → Option Head → Option Info
@@ -17,7 +13,8 @@ fields_of_head file None = None
 fields_of_head file (Some head) = Some (head_info file (Some head))
 
 -- The fields of the head were read, or a read failed.
-pub record HeadAnswer (name : List ℕ) (s : SurveyFields) (old new : Seen) (result : Result (Option Info) PassFault) : Type 0 where
+pub record HeadAnswer (name : List ℕ) (s : SurveyFields) (old new : Seen)
+    (result : Result (Option Info) PassFault) : Type 0 where
   pub fields : IfOk result (λ info. OnFile old name (λ file. info ≡ fields_of_head file s.head))
   -- whether the files are told or not
   pub none : s.head ≡ None → result ≡ Ok None
@@ -28,8 +25,11 @@ pub record HeadAnswer (name : List ℕ) (s : SurveyFields) (old new : Seen) (res
   pub counts : OnlyReads old.counts new.counts
 
 -- The quality and the extension of the head were read, or a read failed.
-pub record KeptAnswer (name : List ℕ) (s : SurveyFields) (old new : Seen) (result : Result Kept PassFault) : Type 0 where
-  pub kept : IfOk result (λ kept. OnFile old name (λ file. (kept.quality ≡ (head_info file s.head).quality) × (kept.extension ≡ (head_info file s.head).extension)))
+pub record KeptAnswer (name : List ℕ) (s : SurveyFields) (old new : Seen)
+    (result : Result Kept PassFault) : Type 0 where
+  pub kept : IfOk result
+      (λ kept. OnFile old name (λ file. (kept.quality ≡ (head_info file s.head).quality)
+      × (kept.extension ≡ (head_info file s.head).extension)))
   -- whether the files are told or not
   pub none : s.head ≡ None → result ≡ Ok (record { quality = None; extension = replicate 36 0 })
   pub done : OnOk result (new.counts ≡ old.counts)

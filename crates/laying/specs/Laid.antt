@@ -1,26 +1,20 @@
--- A file of frames of another in the slots of a plan, whichever planner made it, and what is made ready for it.
-use Rattle.std.specs.Prelude.{◌≡◌, ℕ, ◌<◌, ◌≤◌, List, [], ◌++◌, length, map, slice_get, slice_range, Option, Some, None}
+-- A file of frames of another in the slots of a plan,
+-- whichever planner made it, and what is made ready for it.
 use Rattle.std.specs.List.{concat}
+use Rattle.std.specs.Prelude.{length, List, map, None, Option, slice_get, slice_range, Some, ℕ, []}
+use Rattle.std.specs.Prelude.{◌++◌, ◌<◌, ◌≡◌, ◌≤◌}
 use Rattle.frame_header.specs.Tables.{window_of}
-use Rattle.slot_plan.specs.declared.needs.Need.{Need}
-use Rattle.slot_plan.specs.declared.needs.Placed.{Placed}
-use Rattle.slot_plan.specs.Plans.{entries}
-use Rattle.laying.specs.Needs.{need_of}
 use Rattle.frame_writer.specs.Frames.{Frame, frame_bytes}
-use Rattle.laying.specs.LaidFiles.{laid_file}
-use Rattle.info_header.specs.declared.fields.Info.{Info}
-use Rattle.info_header.specs.InfoFrame.{info_frame}
-use Rattle.laying.specs.declared.info.Kept.{Kept}
-use Rattle.laying.specs.declared.selected.Selected.{Selected}
-use Rattle.laying.specs.Fits.{FitsFrom}
-use Rattle.laying.specs.Relaid.{Part, frames_in, stream_in, relaid, with_lead_ins}
-use Rattle.laying.specs.Surveys.{HasSurvey}
-use Rattle.laying.specs.Written.{front_blocks, back_blocks, info_for}
-use Rattle.sync_survey.specs.Row.{Row}
-use Rattle.sync_survey.specs.MainData.{StreamFrame}
-use Rattle.sync_survey.specs.Faults.{SurveyFields}
+use Rattle.info_header.specs.{InfoFrame.info_frame, declared.fields.Info.Info}
+use Rattle.laying.specs.{Fits.FitsFrom, LaidFiles.laid_file, Needs.need_of}
+use Rattle.laying.specs.Relaid.{frames_in, Part, relaid, stream_in, with_lead_ins}
+use Rattle.laying.specs.{Surveys.HasSurvey, Written.{back_blocks, front_blocks, info_for}}
+use Rattle.laying.specs.declared.{info.Kept.Kept, selected.Selected.Selected}
+use Rattle.slot_plan.specs.{Plans.entries, declared.needs.{Need.Need, Placed.Placed}}
+use Rattle.sync_survey.specs.{Faults.SurveyFields, MainData.StreamFrame, Row.Row}
 
--- The frames from one up to, but not including, another, the slots of their plan, and the quality and extension for the Info frame before them.
+-- The frames from one up to, but not including, another, the slots of their
+-- plan, and the quality and extension for the Info frame before them.
 pub record Laid : Type 0 where
   pub from : ℕ
   pub to : ℕ
@@ -28,6 +22,7 @@ pub record Laid : Type 0 where
   pub quality : Option ℕ
   pub extension : List ℕ
 
+-- the frames that are laid, as a part of their file
 abbrev pub part_laid : Laid → List ℕ → SurveyFields → Part
 part_laid laid file s = record { file = file; survey = s; from = laid.from; to = laid.to }
 
@@ -43,12 +38,14 @@ frames_laid laid file s = relaid (frames_in (part_laid laid file s)) laid.placed
 abbrev pub info_laid : Laid → List ℕ → SurveyFields → Info
 info_laid laid file s = info_for s.class (frames_laid laid file s) laid.quality laid.extension
 
--- The ID3v2 blocks before the first frame of the file, an Info frame with the header of the first chosen frame, the frames, and all other blocks; of no
--- frames there is no file.
+-- The ID3v2 blocks before the first frame of the file, an Info frame with the header of
+-- the first chosen frame, the frames, and all other blocks; of no frames there is no file.
 abbrev pub file_from : Option Row → Laid → List ℕ → SurveyFields → List ℕ
 file_from None laid file s = []
-file_from (Some first) laid file s = laid_file (front_blocks file s) first.header (info_laid laid file s) (frames_laid laid file s) (back_blocks file s)
+file_from (Some first) laid file s = laid_file (front_blocks file s)
+    first.header (info_laid laid file s) (frames_laid laid file s) (back_blocks file s)
 
+-- the file of these frames
 abbrev pub file_laid : Laid → List ℕ → SurveyFields → List ℕ
 file_laid laid file s = file_from (slice_get s.frames laid.from) laid file s
 
@@ -58,28 +55,41 @@ stream_laid laid file s = with_lead_ins laid.placed (stream_in (part_laid laid f
 
 -- these are the bytes of its Info frame
 abbrev pub IsLaidInfo : Laid → List ℕ → SurveyFields → List ℕ → Type 0
-IsLaidInfo laid file s bytes = (first : Row) → slice_get s.frames laid.from ≡ Some first → bytes ≡ info_frame first.header (info_laid laid file s)
+IsLaidInfo laid file s bytes = (first : Row) → slice_get s.frames laid.from ≡ Some first
+    → bytes ≡ info_frame first.header (info_laid laid file s)
 
 -- ---- what is made ready
 
--- the frames from one up to, but not including, another, in these slots, with what is kept for their Info frame
+-- the frames from one up to, but not including, another,
+-- in these slots, with what is kept for their Info frame
 abbrev pub laid_between : ℕ → ℕ → Kept → List Placed → Laid
-laid_between from to kept placed = record { from = from; to = to; placed = placed; quality = kept.quality; extension = kept.extension }
+laid_between from to kept placed = record {
+  from = from;
+  to = to;
+  placed = placed;
+  quality = kept.quality;
+  extension = kept.extension;
+}
 
 -- the same of what was made ready
 abbrev pub laid_in : Selected → Laid
 laid_in selected = laid_between selected.from selected.to selected.kept (entries selected.plan)
 
+-- the frames that were made ready, with all main data
 abbrev pub selected_frames : SurveyFields → Selected → List ℕ → List Frame
 selected_frames s selected file = frames_laid (laid_in selected) file s
 
 -- the blocks before the frames, the Info frame and the frames
 abbrev pub selected_front : SurveyFields → Selected → List ℕ → List ℕ
-selected_front s selected file = (concat (front_blocks file s) ++ selected.info.items) ++ frame_bytes (selected_frames s selected file)
+selected_front s selected file = (concat (front_blocks file s) ++ selected.info.items)
+    ++ frame_bytes (selected_frames s selected file)
 
--- There is a frame, all are there, the plan can be written frame by frame, and these are the bytes of the Info frame before them.
+-- There is a frame, all are there, the plan can be written frame
+-- by frame, and these are the bytes of the Info frame before them.
 pub record IsWritable (s : SurveyFields) (selected : Selected) : Type 0 where
   pub some : selected.from < selected.to
   pub within : selected.to ≤ length s.frames
-  pub fits : FitsFrom (window_of s.class.version) 0 (needs_laid (laid_in selected) s) (entries selected.plan)
-  pub info : (file : List ℕ) → HasSurvey file s → IsLaidInfo (laid_in selected) file s selected.info.items
+  pub fits : FitsFrom (window_of s.class.version) 0 (needs_laid (laid_in selected) s)
+      (entries selected.plan)
+  pub info : (file : List ℕ) → HasSurvey file s
+      → IsLaidInfo (laid_in selected) file s selected.info.items

@@ -1,24 +1,19 @@
--- Files into whose frames all main data were laid: blocks of tags, an Info frame, the frames, and other blocks (ISO/IEC 11172-3 and
--- 13818-3, 2.4.1 and 2.4.2.7).
-use Rattle.std.specs.Prelude.{◌≡◌, ℕ, ◌+◌, ◌-◌, ◌*◌, ◌<◌, false, List, [], ◌∷◌, ◌++◌, length, take, drop, slice_index_or, Some, IfSome, option_map, option_to_list}
+-- Files into whose frames all main data were laid: blocks of tags, an Info frame,
+-- the frames, and other blocks (ISO/IEC 11172-3 and 13818-3, 2.4.1 and 2.4.2.7).
 use Rattle.std.specs.List.{concat}
-use Rattle.bit_fields.specs.Bits.{bits, AreBytes}
-use Rattle.frame_header.specs.Fields.{HeaderFields, ClassFields, IsHeader}
+use Rattle.std.specs.Prelude.{drop, false, IfSome, length, List, option_map, option_to_list}
+use Rattle.std.specs.Prelude.{slice_index_or, Some, take, ℕ, [], ◌*◌, ◌++◌, ◌+◌, ◌-◌, ◌<◌, ◌∷◌, ◌≡◌}
+use Rattle.bit_fields.specs.Bits.{AreBytes, bits}
+use Rattle.frame_header.specs.Fields.{ClassFields, HeaderFields, IsHeader}
 use Rattle.frame_header.specs.Tables.{class_of, length_of}
-use Rattle.side_info.specs.declared.side.Side.{Side}
-use Rattle.side_info.specs.Side.{SideFits, payload_bits, payload_bytes}
-use Rattle.tag_blocks.specs.declared.block.Block.{Block}
-use Rattle.tag_blocks.specs.Blocks.{block_front}
+use Rattle.frame_writer.specs.{Frames.{Frame, frame_bytes, pieces}, Laid.{CanBeLaid, zeros}}
+use Rattle.info_header.specs.{HeadText.low_place, InfoFrame.{info_frame, info_header_of}}
 use Rattle.info_header.specs.declared.fields.Info.{Info}
-use Rattle.info_header.specs.HeadText.{low_place}
-use Rattle.info_header.specs.InfoFrame.{info_header_of, info_frame}
-use Rattle.frame_writer.specs.Laid.{zeros, CanBeLaid}
-use Rattle.frame_writer.specs.Frames.{Frame, pieces, frame_bytes}
-use Rattle.sync_survey.specs.declared.places.Piece.{Piece}
-use Rattle.sync_survey.specs.declared.places.Head.{Head}
-use Rattle.sync_survey.specs.Row.{Row}
-use Rattle.sync_survey.specs.MainData.{StreamFrame, no_slot, part_lengths, parts_of}
+use Rattle.side_info.specs.{Side.{payload_bits, payload_bytes, SideFits}, declared.side.Side.Side}
 use Rattle.sync_survey.specs.Faults.{SurveyFields}
+use Rattle.sync_survey.specs.{MainData.{no_slot, part_lengths, parts_of, StreamFrame}, Row.Row}
+use Rattle.sync_survey.specs.declared.places.{Head.Head, Piece.Piece}
+use Rattle.tag_blocks.specs.{Blocks.block_front, declared.block.Block.Block}
 
 -- ---- what is in such a file
 
@@ -35,14 +30,16 @@ IsBlocks (b ∷ blocks) = IsBlock b × IsBlocks blocks
 abbrev pub block_bytes : List ℕ → Piece → List ℕ
 block_bytes file p = take p.block.length (drop p.offset file)
 
--- the lists of side information have two granules of two channels each, and scfsi two channels, also if the class has fewer
+-- the lists of side information have two granules of two channels
+-- each, and scfsi two channels, also if the class has fewer
 pub record HasPairs (s : Side) : Type 0 where
   pub scfsi : length s.scfsi ≡ 2
   pub granules : length s.granules ≡ 2
   pub first : length (slice_index_or s.granules 0 []) ≡ 2
   pub second : length (slice_index_or s.granules 1 []) ≡ 2
 
--- a frame of the class and its main data, as many bytes as its side information says, the last of them filled up with zeros
+-- a frame of the class and its main data, as many bytes as its
+-- side information says, the last of them filled up with zeros
 pub record IsEntry (c : ClassFields) (f : Frame) : Type 0 where
   pub header : IsHeader f.kept.header
   pub class : class_of f.kept.header ≡ c
@@ -50,8 +47,10 @@ pub record IsEntry (c : ClassFields) (f : Frame) : Type 0 where
   pub fits : SideFits c f.kept.side
   pub octets : AreBytes f.payload
   pub size : length f.payload ≡ payload_bytes f.kept.side
-  pub filled : drop (payload_bits f.kept.side) (bits f.payload) ≡ zeros (8 * payload_bytes f.kept.side - payload_bits f.kept.side)
+  pub filled : drop (payload_bits f.kept.side) (bits f.payload)
+      ≡ zeros (8 * payload_bytes f.kept.side - payload_bits f.kept.side)
 
+-- so is each of these
 abbrev pub AreEntries : ClassFields → List Frame → Type 0
 AreEntries c [] = Unit {0}
 AreEntries c (f ∷ frames) = IsEntry c f × AreEntries c frames
@@ -61,7 +60,8 @@ abbrev pub entry_of : Frame → StreamFrame
 entry_of f = record {
   header = record f.kept.header { slot = no_slot };
   side = record f.kept.side { main_data_begin = 0 };
-  payload = parts_of (part_lengths f.kept.header f.kept.side) (take (payload_bits f.kept.side) (bits f.payload));
+  payload = parts_of (part_lengths f.kept.header f.kept.side)
+      (take (payload_bits f.kept.side) (bits f.payload));
 }
 
 -- the seek table of an Info frame has 100 entries, if there is one, and the extension 36 bytes
@@ -71,12 +71,16 @@ pub record HasInfoSizes (info : Info) : Type 0 where
 
 -- ---- the file
 
--- blocks, an Info frame by this header, the frames with all main data laid into their areas, and blocks
+-- blocks, an Info frame by this header, the frames
+-- with all main data laid into their areas, and blocks
 unfoldable pub laid_file : List (List ℕ) → HeaderFields → Info → List Frame → List (List ℕ) → List ℕ
-laid_file front first info frames back = concat front ++ (info_frame first info ++ (frame_bytes frames ++ concat back))
+laid_file front first info frames back =
+    concat front ++ (info_frame first info ++ (frame_bytes frames ++ concat back))
 
--- there are frames; they and the Info frame are of the class, and the main data can be laid into their areas
-pub record IsLaidFile (c : ClassFields) (front : List (List ℕ)) (first : HeaderFields) (info : Info) (frames : List Frame) (back : List (List ℕ)) : Type 0 where
+-- there are frames; they and the Info frame are of the
+-- class, and the main data can be laid into their areas
+pub record IsLaidFile (c : ClassFields) (front : List (List ℕ)) (first : HeaderFields) (info : Info)
+    (frames : List Frame) (back : List (List ℕ)) : Type 0 where
   pub blocks_before : IsBlocks front
   pub header : IsHeader first
   pub class : class_of first ≡ c
@@ -95,26 +99,37 @@ frame_length f = length_of (class_of f.kept.header) f.kept.header.slot
 -- frames one after the other, the first of them at an offset; none is lost
 abbrev pub rows_from : ℕ → List Frame → List Row
 rows_from at [] = []
-rows_from at (f ∷ frames) = record { offset = at; header = f.kept.header; side = f.kept.side; lost = false } ∷ rows_from (at + frame_length f) frames
+rows_from at (f ∷ frames) =
+    record { offset = at; header = f.kept.header; side = f.kept.side; lost = false }
+    ∷ rows_from (at + frame_length f) frames
 
 -- blocks one after the other, the first of them at an offset
 abbrev pub blocks_from : ℕ → List (List ℕ) → List Piece
 blocks_from at [] = []
-blocks_from at (b ∷ blocks) = option_to_list (option_map (λ block. record { offset = at; block = block }) (block_front b)) ++ blocks_from (at + length b) blocks
+blocks_from at (b ∷ blocks) =
+    option_to_list (option_map (λ block. record { offset = at; block = block }) (block_front b))
+    ++ blocks_from (at + length b) blocks
 
 -- the Info frame at an offset is a head; its text is right after its side information
 abbrev pub head_at : ℕ → HeaderFields → Head
-head_at at first = record { offset = at; header = info_header_of first; text_at = low_place (info_header_of first) }
+head_at at first = record {
+  offset = at;
+  header = info_header_of first;
+  text_at = low_place (info_header_of first);
+}
 
 -- where the frames after the Info frame begin
 abbrev pub frames_place : List (List ℕ) → HeaderFields → Info → ℕ
 frames_place front first info = length (concat front) + length (info_frame first info)
 
--- There is no junk, the Info frame is the head, and the frames and blocks are those that were given.
-unfoldable pub laid_fields : List (List ℕ) → HeaderFields → Info → List Frame → List (List ℕ) → SurveyFields
+-- There is no junk, the Info frame is the head, and
+-- the frames and blocks are those that were given.
+unfoldable pub laid_fields : List (List ℕ) → HeaderFields → Info → List Frame → List (List ℕ)
+    → SurveyFields
 laid_fields front first info frames back = record {
   frames = rows_from (frames_place front first info) frames;
-  blocks = blocks_from 0 front ++ blocks_from (frames_place front first info + length (frame_bytes frames)) back;
+  blocks = blocks_from 0 front
+      ++ blocks_from (frames_place front first info + length (frame_bytes frames)) back;
   head = Some (head_at (length (concat front)) first);
   junk = length (concat front);
   first = length (concat front);

@@ -1,28 +1,33 @@
 -- Laws of files into whose frames all main data were laid.
-use Rattle.std.specs.Prelude.{◌≡◌, ℕ, ◌≤◌, false, List, length, map, slice_get, Some, Ok}
-use Rattle.frame_header.specs.Fields.{HeaderFields, ClassFields}
-use Rattle.info_header.specs.declared.fields.Info.{Info}
+use Rattle.std.specs.Prelude.{false, length, List, map, Ok, slice_get, Some, ℕ, ◌≡◌, ◌≤◌}
+use Rattle.frame_header.specs.Fields.{ClassFields, HeaderFields}
 use Rattle.frame_writer.specs.Frames.{Frame}
-use Rattle.sync_survey.specs.Row.{Row}
-use Rattle.sync_survey.specs.Faults.{SurveyFields, surveyed, IsWellFormed, HoldsStream}
-use Rattle.sync_survey.specs.HeadApart.{head_apart}
-use Rattle.laying.specs.LaidFiles.{IsBlocks, block_bytes, entry_of, laid_file, IsLaidFile, laid_fields}
+use Rattle.info_header.specs.declared.fields.Info.{Info}
+use Rattle.laying.specs.LaidFiles.{block_bytes, entry_of, IsBlocks, IsLaidFile, laid_fields}
+use Rattle.laying.specs.LaidFiles.{laid_file}
+use Rattle.sync_survey.specs.Faults.{HoldsStream, IsWellFormed, surveyed, SurveyFields}
+use Rattle.sync_survey.specs.{HeadApart.head_apart, Row.Row}
 
 -- such a file is well-formed, and its stream is the frames that were given
 abbrev pub LaidStream : Type 0
 LaidStream =
-    (c : ClassFields) (front : List (List ℕ)) (first : HeaderFields) (info : Info) (frames : List Frame) (back : List (List ℕ)) → IsLaidFile c front first info frames back
+    (c : ClassFields) (front : List (List ℕ)) (first : HeaderFields) (info : Info)
+    (frames : List Frame) (back : List (List ℕ)) → IsLaidFile c front first info frames back
     → HoldsStream (laid_file front first info frames back) (map entry_of frames)
 
 -- a survey of it that allows as many frames tells where they, the Info frame and the blocks are
 abbrev pub LaidSurvey : Type 0
 LaidSurvey =
-    (c : ClassFields) (front : List (List ℕ)) (first : HeaderFields) (info : Info) (frames : List Frame) (back : List (List ℕ)) (allowed : ℕ) → IsLaidFile c front first info frames back → length frames ≤ allowed
-    → surveyed (laid_file front first info frames back) allowed ≡ Ok (laid_fields front first info frames back)
+    (c : ClassFields) (front : List (List ℕ)) (first : HeaderFields) (info : Info)
+    (frames : List Frame) (back : List (List ℕ)) (allowed : ℕ)
+    → IsLaidFile c front first info frames back → length frames ≤ allowed
+    → surveyed (laid_file front first info frames back) allowed
+    ≡ Ok (laid_fields front first info frames back)
 
 -- the bytes of each block of a file without fault are a block, and so may be in such a file
 abbrev pub SurveyedBlocks : Type 0
-SurveyedBlocks = (file : List ℕ) (allowed : ℕ) (s : SurveyFields) → surveyed file allowed ≡ Ok s → IsBlocks (map (block_bytes file) s.blocks)
+SurveyedBlocks = (file : List ℕ) (allowed : ℕ) (s : SurveyFields) → surveyed file allowed ≡ Ok s
+    → IsBlocks (map (block_bytes file) s.blocks)
 
 -- ---- no frame of it is lost
 

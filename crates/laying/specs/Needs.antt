@@ -1,10 +1,10 @@
 -- What frames of surveys need when they are placed again, part by part.
-use Rattle.std.specs.Prelude.{◌≡◌, false, ℕ, ◌+◌, if◌then◌else◌, List, [], ◌∷◌, length, map, flat_map}
+use Rattle.std.specs.Prelude.{false, flat_map, if◌then◌else◌, length, List, map, ℕ, [], ◌+◌, ◌∷◌}
+use Rattle.std.specs.Prelude.{◌≡◌}
 use Rattle.frame_header.specs.Fields.{HeaderFields}
-use Rattle.side_info.specs.FrameFields.{header_like}
-use Rattle.side_info.specs.Side.{payload_bytes}
-use Rattle.sync_survey.specs.Row.{Row}
+use Rattle.side_info.specs.{FrameFields.header_like, Side.payload_bytes}
 use Rattle.slot_plan.specs.declared.needs.Need.{Need}
+use Rattle.sync_survey.specs.Row.{Row}
 
 -- the header of a frame, and the length of its main data in bytes, 0 for a lost frame
 abbrev pub need_of : Row → Need

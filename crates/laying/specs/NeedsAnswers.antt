@@ -1,11 +1,14 @@
 -- What calls of parts answer and leave.
-use Rattle.std.specs.Prelude.{◌≡◌, ◌+◌, List, [], ◌∷◌, ◌++◌, length, Vec, vec_len, vec_capacity, Result, OnOk, OnErr}
-use Rattle.sync_survey.specs.Row.{Row}
+use Rattle.std.specs.Prelude.{length, List, OnErr, OnOk, Result, Vec, vec_capacity, vec_len, []}
+use Rattle.std.specs.Prelude.{◌++◌, ◌+◌, ◌∷◌, ◌≡◌}
 use Rattle.laying.specs.Needs.{Asked, asked_of}
+use Rattle.sync_survey.specs.Row.{Row}
 
 -- A part was added, or there was no memory and all is as it was.
-pub record PushAnswer {E : Type 0} (rows : List Row) (old new : Asked) (result : Result (Unit {0}) E) : Type 0 where
-  pub added : (parts : List (List Row)) → old ≡ asked_of parts → OnOk result (new ≡ asked_of (parts ++ rows ∷ []))
+pub record PushAnswer {E : Type 0} (rows : List Row) (old new : Asked)
+    (result : Result (Unit {0}) E) : Type 0 where
+  pub added : (parts : List (List Row)) → old ≡ asked_of parts
+      → OnOk result (new ≡ asked_of (parts ++ rows ∷ []))
   pub needs : OnOk result (length new.needs ≡ length old.needs + length rows)
   pub places : OnOk result (length new.places ≡ length old.places + 1)
   pub stays : OnErr result (new ≡ old)

@@ -1,17 +1,15 @@
 -- Parts of streams, and that they can be planned.
-use Rattle.std.specs.Prelude.{◌≡◌, ℕ, ◌<◌, ◌≤◌, List, [], ◌∷◌, length, slice_range, All}
-use Rattle.frame_header.specs.Fields.{SlotFields, ClassFields, HeaderFields}
+use Rattle.std.specs.Prelude.{All, length, List, slice_range, ℕ, [], ◌<◌, ◌∷◌, ◌≡◌, ◌≤◌}
+use Rattle.frame_header.specs.{Fields.{ClassFields, HeaderFields, SlotFields}, Slots.all_slots}
 use Rattle.frame_header.specs.Tables.{window_of}
-use Rattle.frame_header.specs.Slots.{all_slots}
-use Rattle.sync_survey.specs.Row.{Row}
-use Rattle.sync_survey.specs.Faults.{SurveyFields}
-use Rattle.sync_survey.specs.Survey.{AreWellPlaced}
-use Rattle.slot_plan.specs.Parts.{parts_of, window_in, AreOfClass, CanBePlanned}
-use Rattle.slot_plan.specs.Laws.{ChooseInOrder}
 use Rattle.laying.specs.Needs.{Asked}
+use Rattle.slot_plan.specs.Laws.{ChooseInOrder}
+use Rattle.slot_plan.specs.Parts.{AreOfClass, CanBePlanned, parts_of, window_in}
+use Rattle.sync_survey.specs.{Faults.SurveyFields, Row.Row, Survey.AreWellPlaced}
 
--- the frames of this survey are of its class, and their main data have no fault (`surveys_are_placed` says so of every well-formed file,
--- and the clause `laid` of every survey of a folder)
+-- the frames of this survey are of its class, and their main data have no fault
+-- (`surveys_are_placed` says so of every well-formed file, and the clause `laid` of every survey of
+-- a folder)
 abbrev pub IsPlaced : SurveyFields → Type 0
 IsPlaced s = AreWellPlaced s.head s.class s.frames
 
@@ -30,10 +28,12 @@ pub record IsPartOf (class : ClassFields) (rows : List Row) : Type 0 where
 abbrev pub own_choice : HeaderFields → List SlotFields
 own_choice h = h.slot ∷ []
 
+-- a frame may have any slot
 abbrev pub any_choice : HeaderFields → List SlotFields
 any_choice h = all_slots
 
--- parts can be planned, all frames are of this class, also part by part, and their choices are in order by either policy
+-- parts can be planned, all frames are of this class, also part
+-- by part, and their choices are in order by either policy
 pub record AreFit (class : ClassFields) (asked : Asked) : Type 0 where
   pub all : AreOfClass class asked.needs
   pub each : All (λ part. AreOfClass class part) (parts_of asked.needs asked.places)

@@ -1,25 +1,23 @@
 -- That parts of streams can be planned.
-use Rattle.std.specs.Prelude.{ℕ, ◌<◌, ◌≤◌, List, [], ◌∷◌, length, map, slice_range, All}
-use Rattle.frame_header.specs.Fields.{ClassFields}
-use Rattle.frame_header.specs.Tables.{window_of}
-use Rattle.sync_survey.specs.Row.{Row}
-use Rattle.sync_survey.specs.Faults.{SurveyFields}
+use Rattle.std.specs.Prelude.{All, length, List, map, slice_range, ℕ, [], ◌<◌, ◌∷◌, ◌≤◌}
+use Rattle.frame_header.specs.{Fields.ClassFields, Tables.window_of}
+use Rattle.laying.specs.{Needs.{asked_of, need_of}, NeedsFit.{AreFit, IsPartOf, IsPlaced}}
+use Rattle.slot_plan.specs.{Layouts.IsFeasible, Parts.{AreOfClass, own_frame}}
 use Rattle.slot_plan.specs.declared.needs.Need.{Need}
-use Rattle.slot_plan.specs.Layouts.{IsFeasible}
-use Rattle.slot_plan.specs.Parts.{AreOfClass, own_frame}
-use Rattle.laying.specs.Needs.{need_of, asked_of}
-use Rattle.laying.specs.NeedsFit.{IsPlaced, IsPartOf, AreFit}
+use Rattle.sync_survey.specs.{Faults.SurveyFields, Row.Row}
 
 -- the frames of a survey from one on and before another, as needs
 abbrev pub needs_between : SurveyFields → ℕ → ℕ → List Need
 needs_between s from to = map need_of (slice_range s.frames from to)
 
--- a part of a stream is of the stream's class, and has a layout in its own slots after a whole window of free bytes
+-- a part of a stream is of the stream's class, and has a
+-- layout in its own slots after a whole window of free bytes
 abbrev pub PartFits : Type 0
 PartFits =
     (s : SurveyFields) (from to : ℕ) → IsPlaced s
     → AreOfClass s.class (needs_between s from to)
-    × IsFeasible (window_of s.class.version) (window_of s.class.version) (map own_frame (needs_between s from to))
+    × IsFeasible (window_of s.class.version) (window_of s.class.version)
+    (map own_frame (needs_between s from to))
 
 -- a part with a frame can be planned
 abbrev pub OnePartFits : Type 0
@@ -29,4 +27,5 @@ OnePartFits =
 
 -- so can parts of one class, one after the other
 abbrev pub PartsFit : Type 0
-PartsFit = (class : ClassFields) (parts : List (List Row)) → 1 ≤ length parts → All (IsPartOf class) parts → AreFit class (asked_of parts)
+PartsFit = (class : ClassFields) (parts : List (List Row)) → 1 ≤ length parts
+    → All (IsPartOf class) parts → AreFit class (asked_of parts)

@@ -1,34 +1,28 @@
 -- What a pass that lays frames out again makes of its output.
-use Rattle.std.specs.Prelude.{◌≡◌, ℕ, ◌+◌, ◌-◌, ◌==◌, ◌<◌, ◌≤◌, min, if◌then◌else◌, List, [], ◌∷◌, ◌++◌, length, take, drop, map, slice_range}
-use Rattle.frame_header.specs.Fields.{ClassFields}
-use Rattle.frame_header.specs.Tables.{class_of, area_of, window_of}
-use Rattle.outside.specs.Files.{Files, appended, Holds}
-use Rattle.outside.specs.Feed.{Fed, IsFedFrom}
-use Rattle.outside.specs.Pass.{IsReady as PassReady}
-use Rattle.outside.specs.declared.pass.PassFault.{PassFault}
+use Rattle.std.specs.Prelude.{drop, if◌then◌else◌, length, List, map, min, slice_range, take, ℕ, []}
+use Rattle.std.specs.Prelude.{◌++◌, ◌+◌, ◌-◌, ◌<◌, ◌==◌, ◌∷◌, ◌≡◌, ◌≤◌}
+use Rattle.frame_header.specs.{Fields.ClassFields, Tables.{area_of, class_of, window_of}}
+use Rattle.frame_writer.specs.{Frames.{Frame, Held, pieces}, Laid.BeginsWithin}
+use Rattle.frame_writer.specs.Writing.{AreBehind, IsNew, IsWriterOf, Writing, writing}
+use Rattle.laying.specs.{Fits.{FitsFrom, last_reach, reach_behind}, Needs.need_of}
+use Rattle.laying.specs.Relaid.{all_frames, frame_of, moved_to, placed_as, relaid}
+use Rattle.laying.specs.{Surveys.HasSurvey, declared.{buffers.Buffers.Buffers, relay.Relay.Relay}}
+use Rattle.outside.specs.{Feed.{Fed, IsFedFrom}, Files.{appended, Files, Holds}}
+use Rattle.outside.specs.{Pass.IsReady as PassReady, declared.pass.PassFault.PassFault}
 use Rattle.outside.specs.declared.pass.PassFault.TheVariants.{Write}
 use Rattle.reservoir.specs.Window.{IsWindowOver}
-use Rattle.slot_plan.specs.declared.needs.Need.{Need}
-use Rattle.slot_plan.specs.declared.needs.Placed.{Placed}
-use Rattle.laying.specs.Needs.{need_of}
-use Rattle.frame_writer.specs.Laid.{BeginsWithin}
-use Rattle.frame_writer.specs.Frames.{Frame, Held, pieces}
-use Rattle.frame_writer.specs.Writing.{Writing, writing, IsNew, AreBehind, IsWriterOf}
-use Rattle.sync_survey.specs.Row.{Row}
-use Rattle.sync_survey.specs.MainData.{own_area, area_bytes, place, end_before, main_bytes}
+use Rattle.slot_plan.specs.declared.needs.{Need.Need, Placed.Placed}
 use Rattle.sync_survey.specs.Faults.{SurveyFields, tells}
-use Rattle.sync_survey.specs.Survey.{IsLaidOut}
-use Rattle.laying.specs.declared.buffers.Buffers.{Buffers}
-use Rattle.laying.specs.declared.relay.Relay.{Relay}
-use Rattle.laying.specs.Surveys.{HasSurvey}
-use Rattle.laying.specs.Relaid.{frame_of, all_frames, moved_to, placed_as, relaid}
-use Rattle.laying.specs.Fits.{reach_behind, FitsFrom, last_reach}
+use Rattle.sync_survey.specs.MainData.{area_bytes, end_before, main_bytes, own_area, place}
+use Rattle.sync_survey.specs.{Row.Row, Survey.IsLaidOut}
 
--- The survey is that of the input, which is read while the output is written, and the feed holds bytes of the input.
+-- The survey is that of the input, which is read while the
+-- output is written, and the feed holds bytes of the input.
 pub record IsReady (relay : Relay) (files : Files) (fed : Fed) : Type 0 where
   pub pass : PassReady relay.pass files fed
   pub length_is : relay.pass.length ≡ (tells relay.survey.now).length
-  pub exact : (file : List ℕ) → Holds files relay.pass.input.now file → HasSurvey file (tells relay.survey.now)
+  pub exact : (file : List ℕ) → Holds files relay.pass.input.now file
+      → HasSurvey file (tells relay.survey.now)
   pub laid : IsLaidOut (tells relay.survey.now)
 
 -- nothing is held of any file, nothing waits, and no frame of this class was given yet
@@ -41,21 +35,26 @@ pub record IsFresh (class : ClassFields) (b : Buffers) : Type 0 where
 abbrev pub writing_in : Buffers → Writing
 writing_in b = writing b.writer b.waiting
 
--- A window is over as many bytes as the areas of the head and of the frames before frame i have. If the input is told, these are they.
+-- A window is over as many bytes as the areas of the head and of the
+-- frames before frame i have. If the input is told, these are they.
 pub record IsOver (window input : List ℕ) (files : Files) (s : SurveyFields) (i : ℕ) : Type 0 where
   pub main : List ℕ
   pub held : IsWindowOver window main
   pub long : length main ≡ place s.head s.frames i
-  pub is : (file : List ℕ) → Holds files input file → main ≡ main_bytes file s.head (take i s.frames)
+  pub is : (file : List ℕ) → Holds files input file
+      → main ≡ main_bytes file s.head (take i s.frames)
 
--- so many bytes before the area of frame i reach back to the end of the main data before it, or are 511
+-- so many bytes before the area of frame i reach back
+-- to the end of the main data before it, or are 511
 abbrev pub Reaches : ℕ → SurveyFields → ℕ → Type 0
 Reaches held s i = min 511 (place s.head s.frames i - end_before s.head s.frames i) ≤ held
 
--- A window, and so many bytes of the input at an offset after it, hold the last bytes of the areas of the head and of the frames before
--- frame i, as many as later main data can reach: these begin neither before the end of those before them nor more than 511 bytes before
--- their own area. If the input is told, these are they.
-pub record HoldsLast (window input : List ℕ) (files : Files) (s : SurveyFields) (at count i : ℕ) : Type 0 where
+-- A window, and so many bytes of the input at an offset after it, hold the last
+-- bytes of the areas of the head and of the frames before frame i, as many as later
+-- main data can reach: these begin neither before the end of those before them nor
+-- more than 511 bytes before their own area. If the input is told, these are they.
+pub record HoldsLast (window input : List ℕ) (files : Files) (s : SurveyFields)
+    (at count i : ℕ) : Type 0 where
   pub passed : List ℕ
   pub long : length passed + length window + count ≡ place s.head s.frames i
   pub reaches : Reaches (length window + count) s i
@@ -65,23 +64,30 @@ pub record HoldsLast (window input : List ℕ) (files : Files) (s : SurveyFields
       → (passed ++ window) ++ take count (drop at file) ≡ main_bytes file s.head (take i s.frames)
 
 -- so does a window with these bytes after it
-pub record HoldsWith (window last input : List ℕ) (files : Files) (s : SurveyFields) (i : ℕ) : Type 0 where
+pub record HoldsWith (window last input : List ℕ) (files : Files) (s : SurveyFields)
+    (i : ℕ) : Type 0 where
   pub passed : List ℕ
   pub long : length passed + length window + length last ≡ place s.head s.frames i
   pub reaches : Reaches (length window + length last) s i
   pub few : length last ≤ 1939
-  pub is : (file : List ℕ) → Holds files input file → (passed ++ window) ++ last ≡ main_bytes file s.head (take i s.frames)
+  pub is : (file : List ℕ) → Holds files input file
+      → (passed ++ window) ++ last ≡ main_bytes file s.head (take i s.frames)
 
--- how many bytes of areas are before the first one that was read; if that is the first frame's, the area of the head was read too
+-- how many bytes of areas are before the first one that was read;
+-- if that is the first frame's, the area of the head was read too
 abbrev pub skipped_before : SurveyFields → ℕ → ℕ
 skipped_before s first = if first == 0 then 0 else place s.head s.frames first
 
--- A window is over those of the areas before frame i that begin with this first one. If the input is told, these are they.
-pub record IsOverLast (window input : List ℕ) (files : Files) (s : SurveyFields) (first i : ℕ) : Type 0 where
+-- A window is over those of the areas before frame i that begin
+-- with this first one. If the input is told, these are they.
+pub record IsOverLast (window input : List ℕ) (files : Files) (s : SurveyFields)
+    (first i : ℕ) : Type 0 where
   pub main : List ℕ
   pub held : IsWindowOver window main
   pub long : skipped_before s first + length main ≡ place s.head s.frames i
-  pub is : (file : List ℕ) → Holds files input file → (skipped : List ℕ) × (length skipped ≡ skipped_before s first) × (main_bytes file s.head (take i s.frames) ≡ skipped ++ main)
+  pub is : (file : List ℕ) → Holds files input file
+      → (skipped : List ℕ) × (length skipped ≡ skipped_before s first)
+      × (main_bytes file s.head (take i s.frames) ≡ skipped ++ main)
 
 -- So many bytes were given from an offset of the input on. If the input is told, these are they.
 pub record IsGiven (given input : List ℕ) (files : Files) (at count : ℕ) : Type 0 where
@@ -93,9 +99,10 @@ pub record IsAreaOf (area input : List ℕ) (files : Files) (row : Row) : Type 0
   pub long : length area ≡ own_area row.header
   pub is : (file : List ℕ) → Holds files input file → area ≡ area_bytes file row.offset row.header
 
--- An area comes after a window, so many bytes of areas come after it, and its first `taken` bytes are before the end of the last main data.
--- Then the window is over the end of the area alone, of which it has what is after these bytes, or with the bytes after the area 511 bytes;
--- or it is over all that it held and the whole area, none of which was taken.
+-- An area comes after a window, so many bytes of areas come after it, and its first `taken`
+-- bytes are before the end of the last main data. Then the window is over the end of the
+-- area alone, of which it has what is after these bytes, or with the bytes after the area
+-- 511 bytes; or it is over all that it held and the whole area, none of which was taken.
 pub record KeepsReach (old new area : List ℕ) (own taken : ℕ) : Type 0 where
   pub first : ℕ
   pub within : first ≤ length area
@@ -103,39 +110,52 @@ pub record KeepsReach (old new area : List ℕ) (own taken : ℕ) : Type 0 where
   pub whole : taken + first ≡ 0 → IsWindowOver new (old ++ area)
   pub rest : 0 < taken + first → IsWindowOver new (drop first area)
 
--- Frames were given to the writer: if the input is told, those that are made of its bytes. More was appended to the output.
-pub record Lays (input output : List ℕ) (made : List ℕ → List Frame) (old new : Writing) (before after : Files) : Type 0 where
+-- Frames were given to the writer: if the input is told, those
+-- that are made of its bytes. More was appended to the output.
+pub record Lays (input output : List ℕ) (made : List ℕ → List Frame) (old new : Writing)
+    (before after : Files) : Type 0 where
   pub frames : List Frame
   pub is : (file : List ℕ) → Holds before input file → frames ≡ made file
   pub passed : List ℕ
   pub files : after ≡ appended before output passed
-  pub writer : (base out : List ℕ) (fs : List Frame) → IsWriterOf base out old fs → IsWriterOf base (out ++ passed) new (fs ++ frames)
+  pub writer : (base out : List ℕ) (fs : List Frame) → IsWriterOf base out old fs
+      → IsWriterOf base (out ++ passed) new (fs ++ frames)
 
--- The pass ended early: a prefix of the bytes was appended, and after a failed write not all of them.
+-- The pass ended early: a prefix of the bytes was
+-- appended, and after a failed write not all of them.
 pub record EndsEarly (name bytes : List ℕ) (old new : Files) (fault : PassFault) : Type 0 where
   pub count : ℕ
   pub within : count ≤ length bytes
   pub short : fault ≡ Write → count < length bytes
   pub files : new ≡ appended old name (take count bytes)
 
--- Only the first of these frames were given to the writer, or all of them. A prefix was appended of bytes that no later main data can
--- reach, whatever frames follow whose main data begin within so many bytes before their own area.
-pub record LaysPart (input output : List ℕ) (made : List ℕ → List Frame) (reach : ℕ) (old : Writing) (before after : Files) (fault : PassFault) : Type 0 where
+-- Only the first of these frames were given to the writer, or all of them. A
+-- prefix was appended of bytes that no later main data can reach, whatever frames
+-- follow whose main data begin within so many bytes before their own area.
+pub record LaysPart (input output : List ℕ) (made : List ℕ → List Frame) (reach : ℕ) (old : Writing)
+    (before after : Files) (fault : PassFault) : Type 0 where
   pub settled : List ℕ
   pub prefix : EndsEarly output settled before after fault
   pub done : List Frame
   pub held : Held
-  pub writer : (base out : List ℕ) (fs : List Frame) → IsWriterOf base out old fs → AreBehind base (out ++ settled) held (fs ++ done)
-  pub is : (file : List ℕ) → Holds before input file → (more : List Frame) → BeginsWithin reach (pieces more)
-      → (rest : List Frame) × (done ++ rest ≡ made file ++ more) × BeginsWithin held.waiting.free (pieces rest)
+  pub writer : (base out : List ℕ) (fs : List Frame) → IsWriterOf base out old fs
+      → AreBehind base (out ++ settled) held (fs ++ done)
+  pub is : (file : List ℕ) → Holds before input file → (more : List Frame)
+      → BeginsWithin reach (pieces more) → (rest : List Frame) × (done ++ rest ≡ made file ++ more)
+      × BeginsWithin held.waiting.free (pieces rest)
 
 -- ---- the same of a relay and its buffers
 
+-- the same of a relay, from its input to its output
 abbrev pub GivesFrames : Relay → (List ℕ → List Frame) → Buffers → Buffers → Files → Files → Type 0
-GivesFrames relay made old new before after = Lays relay.pass.input.now relay.pass.output.now made (writing_in old) (writing_in new) before after
+GivesFrames relay made old new before after = Lays relay.pass.input.now relay.pass.output.now made
+    (writing_in old) (writing_in new) before after
 
-abbrev pub GivesPart : Relay → (List ℕ → List Frame) → ℕ → Buffers → Files → Files → PassFault → Type 0
-GivesPart relay made reach old before after fault = LaysPart relay.pass.input.now relay.pass.output.now made reach (writing_in old) before after fault
+-- so it is of a relay that ended early
+abbrev pub GivesPart : Relay → (List ℕ → List Frame) → ℕ → Buffers → Files → Files → PassFault
+    → Type 0
+GivesPart relay made reach old before after fault = LaysPart relay.pass.input.now
+    relay.pass.output.now made reach (writing_in old) before after fault
 
 -- frame i in its slot
 abbrev pub moved_frame : Relay → ℕ → Row → Placed → List ℕ → List Frame
@@ -147,26 +167,33 @@ placed_frame relay i row p file = placed_as p (frame_of file (tells relay.survey
 
 -- the frames from one up to, but not including, another, as they were planned
 abbrev pub planned_frames : Relay → ℕ → ℕ → List Placed → List ℕ → List Frame
-planned_frames relay from to placed file = relaid (slice_range (all_frames file (tells relay.survey.now)) from to) placed
+planned_frames relay from to placed file =
+    relaid (slice_range (all_frames file (tells relay.survey.now)) from to) placed
 
+-- how many bytes before a frame's own area main data may begin in this stream
 abbrev pub window_in : SurveyFields → ℕ
 window_in s = window_of s.class.version
 
 -- how many bytes before the next area main data may begin after this frame in its slot
 abbrev pub own_reach : Relay → Row → Placed → ℕ
-own_reach relay row p = min (window_in (tells relay.survey.now)) (p.begin + area_of (class_of row.header) p.slot row.header.protected - (need_of row).bytes)
+own_reach relay row p = min (window_in (tells relay.survey.now))
+    (p.begin + area_of (class_of row.header) p.slot row.header.protected - (need_of row).bytes)
 
 -- the same after what is at this place of the plan
 abbrev pub reach_at : Relay → Row → Placed → ℕ
 reach_at relay row p = reach_behind (window_in (tells relay.survey.now)) p (need_of row)
 
+-- what the frames from one on and before another need
 abbrev pub needs_from : SurveyFields → ℕ → ℕ → List Need
 needs_from s from to = map need_of (slice_range s.frames from to)
 
 -- the same after all places
 abbrev pub reach_behind_all : ℕ → Relay → ℕ → ℕ → List Placed → ℕ
-reach_behind_all reach relay from to placed = last_reach (window_in (tells relay.survey.now)) reach (needs_from (tells relay.survey.now) from to) placed
+reach_behind_all reach relay from to placed = last_reach (window_in (tells relay.survey.now)) reach
+    (needs_from (tells relay.survey.now) from to) placed
 
--- the plan can be written frame by frame, if main data may begin so many bytes before the first area
+-- the plan can be written frame by frame, if main
+-- data may begin so many bytes before the first area
 abbrev pub FitsBehind : ℕ → Relay → ℕ → ℕ → List Placed → Type 0
-FitsBehind reach relay from to placed = FitsFrom (window_in (tells relay.survey.now)) reach (needs_from (tells relay.survey.now) from to) placed
+FitsBehind reach relay from to placed = FitsFrom (window_in (tells relay.survey.now)) reach
+    (needs_from (tells relay.survey.now) from to) placed

@@ -1,19 +1,17 @@
--- Frames that are chosen from surveyed files, and the same frames in the slots of a plan with all main data laid out again (main_data_begin
--- and main data, ISO/IEC 11172-3 and 13818-3, 2.4.2.7).
-use Rattle.std.specs.Prelude.{◌≡◌, ℕ, ◌+◌, ◌-◌, ◌*◌, ◌/◌, ◌<◌, ◌≤◌, if◌then◌else◌, false, List, [], ◌∷◌, ◌++◌, length, map, slice_range, Contains, Bool, true}
+-- Frames that are chosen from surveyed files, and the same frames in the slots of a plan with all
+-- main data laid out again (main_data_begin and main data, ISO/IEC 11172-3 and 13818-3, 2.4.2.7).
 use Rattle.std.specs.List.{enumerate_from}
+use Rattle.std.specs.Prelude.{Bool, Contains, false, if◌then◌else◌, length, List, map, slice_range}
+use Rattle.std.specs.Prelude.{true, ℕ, [], ◌*◌, ◌++◌, ◌+◌, ◌-◌, ◌/◌, ◌<◌, ◌∷◌, ◌≡◌, ◌≤◌}
 use Rattle.bit_fields.specs.Bits.{bytes}
-use Rattle.frame_header.specs.Fields.{SlotFields, HeaderFields, ClassFields, IsSlot, IsHeader}
+use Rattle.frame_header.specs.Fields.{ClassFields, HeaderFields, IsHeader, IsSlot, SlotFields}
+use Rattle.frame_writer.specs.{Frames.Frame, Laid.zeros}
+use Rattle.laying.specs.{Needs.need_of, Surveys.HasSurvey}
 use Rattle.side_info.specs.Side.{no_side}
-use Rattle.slot_plan.specs.declared.needs.Need.{Need}
-use Rattle.slot_plan.specs.declared.needs.Placed.{Placed}
-use Rattle.laying.specs.Needs.{need_of}
-use Rattle.frame_writer.specs.Laid.{zeros}
-use Rattle.frame_writer.specs.Frames.{Frame}
-use Rattle.sync_survey.specs.Row.{Row}
-use Rattle.sync_survey.specs.MainData.{StreamFrame, main_bytes, payload_at, start_of_data, place, side_of, part_lengths, parts_of}
-use Rattle.sync_survey.specs.Faults.{SurveyFields, stream_of_survey}
-use Rattle.laying.specs.Surveys.{HasSurvey}
+use Rattle.slot_plan.specs.declared.needs.{Need.Need, Placed.Placed}
+use Rattle.sync_survey.specs.Faults.{stream_of_survey, SurveyFields}
+use Rattle.sync_survey.specs.MainData.{main_bytes, part_lengths, parts_of, payload_at, place}
+use Rattle.sync_survey.specs.{MainData.{side_of, start_of_data, StreamFrame}, Row.Row}
 
 -- ---- the frames of a surveyed file
 
@@ -23,11 +21,15 @@ packed bs = bytes (bs ++ zeros (8 * ((length bs + 7) / 8) - length bs))
 
 -- the bytes of the main data of frame i; a lost frame has none
 abbrev pub payload_of : List ℕ → SurveyFields → ℕ → Row → List ℕ
-payload_of file s i r = packed (payload_at (main_bytes file s.head s.frames) (start_of_data (place s.head s.frames i) r) (side_of r))
+payload_of file s i r = packed (payload_at (main_bytes file s.head s.frames)
+    (start_of_data (place s.head s.frames i) r) (side_of r))
 
--- frame i with its main data; a lost frame is an empty one
+-- frame i with its main data, in as few bytes as hold them; a lost frame is an empty one
 abbrev pub frame_of : List ℕ → SurveyFields → ℕ → Row → Frame
-frame_of file s i r = record { kept = record { header = r.header; side = side_of r }; payload = payload_of file s i r }
+frame_of file s i r = record {
+  kept = record { header = r.header; side = side_of r };
+  payload = payload_of file s i r;
+}
 
 -- all frames
 unfoldable pub all_frames : List ℕ → SurveyFields → List Frame
@@ -42,9 +44,11 @@ pub record Part : Type 0 where
   pub from : ℕ
   pub to : ℕ
 
+-- the frames of a part, as the survey tells of them
 abbrev pub rows_in : Part → List Row
 rows_in p = slice_range p.survey.frames p.from p.to
 
+-- the frames of a part, with their main data
 abbrev pub frames_in : Part → List Frame
 frames_in p = slice_range (all_frames p.file p.survey) p.from p.to
 
@@ -59,6 +63,7 @@ pub record IsPart (c : ClassFields) (p : Part) : Type 0 where
   pub some : p.from < p.to
   pub within : p.to ≤ length p.survey.frames
 
+-- so is each of these
 abbrev pub AreParts : ClassFields → List Part → Type 0
 AreParts c [] = Unit {0}
 AreParts c (p ∷ parts) = IsPart c p × AreParts c parts
@@ -71,15 +76,29 @@ needs_in p = map need_of (rows_in p)
 
 -- a frame in its slot, with its main_data_begin
 abbrev pub moved_to : Placed → Frame → Frame
-moved_to p f = record { kept = record { header = record f.kept.header { slot = p.slot }; side = record f.kept.side { main_data_begin = p.begin } }; payload = f.payload }
+moved_to p f = record {
+  kept = record {
+    header = record f.kept.header { slot = p.slot };
+    side = record f.kept.side { main_data_begin = p.begin };
+  };
+  payload = f.payload;
+}
 
 -- a lead-in: an empty frame without a check word, else with the header of the frame after it
 abbrev pub lead_in_before : Placed → HeaderFields → Frame
-lead_in_before p h = record { kept = record { header = record h { protected = false; slot = p.slot }; side = record no_side { main_data_begin = p.begin } }; payload = [] }
+lead_in_before p h = record {
+  kept = record {
+    header = record h { protected = false; slot = p.slot };
+    side = record no_side { main_data_begin = p.begin };
+  };
+  payload = [];
+}
 
+-- a lead-in with its place in the plan, before this frame
 abbrev pub lead_in_to : Placed → Frame → Frame
 lead_in_to p behind = lead_in_before p behind.kept.header
 
+-- what is at a place of the plan: the lead-in before a frame, or the frame
 abbrev pub placed_as : Placed → Frame → Frame
 placed_as p f = if p.lead_in then lead_in_to p f else moved_to p f
 
@@ -96,7 +115,8 @@ relaid (f ∷ frames) (p ∷ placed) = placed_as p f ∷ relaid (left_behind p.l
 
 -- ---- their stream
 
--- a lead-in as a frame of a stream, by the frame after it: all fields of its side information are 0, and it has no main data
+-- a lead-in as a frame of a stream, by the frame after it: all
+-- fields of its side information are 0, and it has no main data
 abbrev pub silent_before : StreamFrame → StreamFrame
 silent_before behind = record {
   header = record behind.header { protected = false };
@@ -108,8 +128,10 @@ silent_before behind = record {
 unfoldable pub with_lead_ins : List Placed → List StreamFrame → List StreamFrame
 with_lead_ins placed [] = []
 with_lead_ins [] (f ∷ stream) = []
-with_lead_ins (p ∷ placed) (f ∷ stream) = (if p.lead_in then silent_before f else f) ∷ with_lead_ins placed (left_behind p.lead_in f stream)
+with_lead_ins (p ∷ placed) (f ∷ stream) = (if p.lead_in then silent_before f else f)
+    ∷ with_lead_ins placed (left_behind p.lead_in f stream)
 
 -- the slots among which frames choose are slots
 abbrev pub AreSlots : (HeaderFields → List SlotFields) → Type 0
-AreSlots choices = (h : HeaderFields) (slot : SlotFields) → IsHeader h → Contains (choices h) slot → IsSlot slot
+AreSlots choices =
+    (h : HeaderFields) (slot : SlotFields) → IsHeader h → Contains (choices h) slot → IsSlot slot

@@ -1,14 +1,12 @@
--- What laying frames out again asks of the survey of a file: that its frames and blocks are whole in the file, and that the main data of
--- each frame are within the areas. The survey of a file without fault is such a one (`SurveysAreHad`), and so is that of what can be read
--- of a damaged file.
-use Rattle.std.specs.Prelude.{◌≡◌, ℕ, ◌+◌, ◌≤◌, List, [], ◌∷◌, length, map, Option, Some, None}
-use Rattle.frame_header.specs.Fields.{HeaderFields, IsHeader}
-use Rattle.frame_header.specs.Tables.{class_of, length_of}
+-- What laying frames out again asks of the survey of a file: that its frames
+-- and blocks are whole in the file, and that the main data of each frame are
+-- within the areas. The survey of a file without fault is such a one
+-- (`SurveysAreHad`), and so is that of what can be read of a damaged file.
+use Rattle.std.specs.Prelude.{length, List, map, None, Option, Some, ℕ, [], ◌+◌, ◌∷◌, ◌≡◌, ◌≤◌}
+use Rattle.frame_header.specs.{Fields.{HeaderFields, IsHeader}, Tables.{class_of, length_of}}
+use Rattle.laying.specs.LaidFiles.{block_bytes, HasPairs, IsBlocks}
+use Rattle.sync_survey.specs.{Faults.SurveyFields, Row.Row, Survey.AreWellPlaced}
 use Rattle.sync_survey.specs.declared.places.Head.{Head}
-use Rattle.sync_survey.specs.Row.{Row}
-use Rattle.sync_survey.specs.Faults.{SurveyFields}
-use Rattle.sync_survey.specs.Survey.{AreWellPlaced}
-use Rattle.laying.specs.LaidFiles.{HasPairs, IsBlocks, block_bytes}
 
 -- a frame with this header is whole in the file at the offset
 pub record IsWholeAt (file : List ℕ) (offset : ℕ) (h : HeaderFields) : Type 0 where
@@ -25,12 +23,13 @@ pub record IsWholeRow (file : List ℕ) (r : Row) : Type 0 where
   pub frame : IsWholeAt file r.offset r.header
   pub pairs : HasPairs r.side
 
+-- so is each frame
 abbrev pub AreWholeRows : List ℕ → List Row → Type 0
 AreWholeRows file [] = Unit {0}
 AreWholeRows file (r ∷ rows) = IsWholeRow file r × AreWholeRows file rows
 
--- The length is the file's; the head, the frames and the blocks are whole in it; and the frames are of one class, their side fields are
--- within their bits, and their main data have no fault.
+-- The length is the file's; the head, the frames and the blocks are whole in it; and the frames
+-- are of one class, their side fields are within their bits, and their main data have no fault.
 pub record HasSurvey (file : List ℕ) (s : SurveyFields) : Type 0 where
   pub long : length file ≡ s.length
   pub head : HasWholeHead file s.head

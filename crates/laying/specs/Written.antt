@@ -1,21 +1,20 @@
--- A file of chosen frames: blocks, an Info frame, the frames with all main data laid out again, and other blocks.
-use Rattle.std.specs.Prelude.{ℕ, ◌+◌, ◌*◌, ◌/◌, ◌&&◌, not, nat_lt, Bool, true, false, List, [], length, map, filter, take, drop, replicate, Option, Some, None}
+-- A file of chosen frames: blocks, an Info frame, the frames
+-- with all main data laid out again, and other blocks.
 use Rattle.std.specs.List.{range_with_len}
-use Rattle.frame_header.specs.Fields.{SlotFields, ClassFields}
-use Rattle.frame_header.specs.Tables.{class_of, length_of}
-use Rattle.tag_blocks.specs.declared.block.Kind.{Kind}
-use Rattle.tag_blocks.specs.declared.block.Kind.TheVariants.{Id3v2}
-use Rattle.info_header.specs.declared.fields.Info.{Info}
-use Rattle.info_header.specs.Info.{info_in, entry_of}
-use Rattle.info_header.specs.Over.{info_length, bytes_of, all_bytes, has_one_rate}
+use Rattle.std.specs.Prelude.{Bool, drop, false, filter, length, List, map, nat_lt, None, not}
+use Rattle.std.specs.Prelude.{Option, replicate, Some, take, true, ℕ, [], ◌&&◌, ◌*◌, ◌+◌, ◌/◌}
+use Rattle.frame_header.specs.{Fields.{ClassFields, SlotFields}, Tables.{class_of, length_of}}
 use Rattle.frame_writer.specs.Frames.{Frame}
-use Rattle.sync_survey.specs.declared.places.Piece.{Piece}
-use Rattle.sync_survey.specs.declared.places.Head.{Head}
-use Rattle.sync_survey.specs.Faults.{SurveyFields}
+use Rattle.info_header.specs.Info.{entry_of, info_in}
+use Rattle.info_header.specs.Over.{all_bytes, bytes_of, has_one_rate, info_length}
+use Rattle.info_header.specs.declared.fields.Info.{Info}
 use Rattle.laying.specs.LaidFiles.{block_bytes}
+use Rattle.sync_survey.specs.{Faults.SurveyFields, declared.places.{Head.Head, Piece.Piece}}
+use Rattle.tag_blocks.specs.declared.block.Kind.{Kind, TheVariants.Id3v2}
 
 -- ---- blocks
 
+-- a block of this kind is an ID3v2 block
 abbrev pub is_id3v2 : Kind → Bool
 is_id3v2 Id3v2 = true
 is_id3v2 _ = false
@@ -34,12 +33,14 @@ back_blocks file s = map (block_bytes file) (filter (λ p. not (goes_in_front s 
 
 -- ---- the Info frame
 
+-- the slot of a frame
 abbrev pub slot_in : Frame → SlotFields
 slot_in f = f.kept.header.slot
 
 -- entry i of the seek table of an Info frame before these frames
 abbrev pub table_entry : ClassFields → List Frame → ℕ → ℕ
-table_entry c frames i = entry_of (info_length c + bytes_of c slot_in (take (i * length frames / 100) frames)) (all_bytes c slot_in frames)
+table_entry c frames i = entry_of (info_length c
+    + bytes_of c slot_in (take (i * length frames / 100) frames)) (all_bytes c slot_in frames)
 
 -- the fields of the Info frame before these frames, with this quality and extension
 abbrev pub info_for : ClassFields → List Frame → Option ℕ → List ℕ → Info
@@ -59,4 +60,5 @@ plain_info c frames = info_for c frames None (replicate 36 0)
 -- the fields of the head of a file, from its text on; without a head none
 unfoldable pub head_info : List ℕ → Option Head → Info
 head_info file None = info_in []
-head_info file (Some head) = info_in (drop head.text_at (take (length_of (class_of head.header) head.header.slot) (drop head.offset file)))
+head_info file (Some head) = info_in (drop head.text_at
+    (take (length_of (class_of head.header) head.header.slot) (drop head.offset file)))

@@ -21,7 +21,6 @@ mod needs_laws;
 mod parts;
 mod relay;
 mod selected;
-mod whole;
 
 pub use buffers::Buffers;
 pub use info::{Kept, head_fields, info_bytes, info_of, kept_fields};

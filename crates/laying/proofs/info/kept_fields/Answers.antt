@@ -1,18 +1,20 @@
 -- The fields of the head are those of the bytes of its frame; without a head there is none.
-use Rattle.std.proofs.Common.{rules, ◌≡◌, ℕ, List, length, take, drop, sym, ◌∙◌, ap, arith, replicate}
-use Rattle.std.proofs.lemmas.List.{length-take-le, length-replicate}
+use Rattle.std.proofs.Common.{ap, arith, drop, length, List, replicate, rules, sym, take, ℕ, ◌∙◌}
+use Rattle.std.proofs.{Common.◌≡◌, lemmas.List.{length-replicate, length-take-le}}
 use Rattle.info_header.specs.declared.fields.Info.{Info}
-use Rattle.sync_survey.specs.Faults.{tells}
-use Rattle.laying.proofs.KeptLaws.{info-some, quality-none, extension-none}
+use Rattle.laying.proofs.KeptLaws.{extension-none, info-some, quality-none}
 use Rattle.laying.specs.declared.info.Kept.{Kept}
+use Rattle.sync_survey.specs.Faults.{tells}
 use Rattle.laying.proofs.info.kept_fields.Goals as goal
 
 pub returns-in_default : goal.returns-in_default
 returns-in_default g c = record {
   kept = let none = sym c.head.ensures ∙ c.in_default.is in
       λ file holds. (
-        ap (λ (k : Kept). k.quality) c.none.ensures ∙ quality-none file (tells c.args.survey.now).head none,
-        ap (λ (k : Kept). k.extension) c.none.ensures ∙ extension-none file (tells c.args.survey.now).head none,
+        ap (λ (k : Kept). k.quality) c.none.ensures
+            ∙ quality-none file (tells c.args.survey.now).head none,
+        ap (λ (k : Kept). k.extension) c.none.ensures
+            ∙ extension-none file (tells c.args.survey.now).head none,
       );
   none = search rules;
   done = search rules;
@@ -23,16 +25,22 @@ returns-in_default g c = record {
 }
 
 pub read_exact-requires-clause-found : goal.read_exact-requires-clause-found
-read_exact-requires-clause-found g c = λ file holds. (c.requires.exact file holds).long ∙ sym c.length.ensures
+read_exact-requires-clause-found g c =
+    λ file holds. (c.requires.exact file holds).long ∙ sym c.length.ensures
 
 pub returns : goal.returns
 returns g c = record {
   kept = λ file holds.
       let head = c.in-Some.head in
       let blank : List ℕ = take c.length-length.result (replicate 1441 0) in
-      let many : length blank ≡ c.length-length.result = length-take-le c.length-length.result (replicate 1441 0) (omega (arith, length-replicate {A = ℕ} 1441 0, c.length-length.ensures.most)) in
-      let bytes : c.read_exact.new.into ≡ take (length blank) (drop head.offset file) = c.in_ok-read_exact.ensures.bytes file holds in
-      let same = info-some file c.read_exact.new.into (tells c.args.survey.now).head head (sym c.head.ensures ∙ c.in-Some.is) (bytes ∙ ap (λ n. take n (drop head.offset file)) (many ∙ c.length-length.ensures.length)) in (
+      let many : length blank ≡ c.length-length.result =
+      length-take-le c.length-length.result (replicate 1441 0)
+      (omega (arith, length-replicate {A = ℕ} 1441 0, c.length-length.ensures.most)) in
+      let bytes : c.read_exact.new.into ≡ take (length blank) (drop head.offset file) =
+      c.in_ok-read_exact.ensures.bytes file holds in
+      let same = info-some file c.read_exact.new.into (tells c.args.survey.now).head head
+      (sym c.head.ensures ∙ c.in-Some.is) (bytes
+      ∙ ap (λ n. take n (drop head.offset file)) (many ∙ c.length-length.ensures.length)) in (
         c.read.ensures.quality ∙ ap (λ (i : Info). i.quality) same,
         c.read.ensures.extension ∙ ap (λ (i : Info). i.extension) same,
       );

@@ -1,5 +1,5 @@
 -- The needs of the frames up to here were added, and there is room for those of the others.
-use Rattle.std.proofs.Common.{◌≡◌, ◌+◌, ◌≤◌, ◌++◌, length, map, take, vec_len, vec_capacity}
+use Rattle.std.proofs.Common.{length, map, take, vec_capacity, vec_len, ◌++◌, ◌+◌, ◌≡◌, ◌≤◌}
 use Rattle.laying.specs.Needs.{need_of}
 use Rattle.laying.proofs.parts.append_like.Given as goal
 

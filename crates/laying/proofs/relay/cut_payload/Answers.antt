@@ -1,24 +1,28 @@
 -- The main data of a frame that isn't lost are within the window and its own area.
-use Rattle.std.proofs.Common.{◌≡◌, ◌+◌, ◌-◌, ◌/◌, [], ◌++◌, refl, length, sym, ◌∙◌, ap, subst, cond, arith, length-append, append_assoc, List, ℕ}
-use Rattle.side_info.specs.Side.{payload_bytes}
-use Rattle.reservoir.specs.Window.{ArePacked, main_bits}
-use Rattle.sync_survey.specs.Faults.{tells}
-use Rattle.laying.proofs.ReadLaws.{IsWithin, data-within, place-next, bits-least, bytes-are, cut-is, lost-is}
+use Rattle.std.proofs.Common.{ap, append_assoc, arith, cond, length, length-append, List, refl}
+use Rattle.std.proofs.Common.{subst, sym, ℕ, [], ◌++◌, ◌+◌, ◌-◌, ◌/◌, ◌∙◌, ◌≡◌}
 use Rattle.laying.proofs.ReachLaws.{area-held}
+use Rattle.laying.proofs.ReadLaws.{bits-least, bytes-are, cut-is, data-within, IsWithin, lost-is}
+use Rattle.laying.proofs.{ReadLaws.place-next, relay.cut_payload.Goals.After-from-begin}
+use Rattle.reservoir.specs.Window.{ArePacked, main_bits}
+use Rattle.side_info.specs.Side.{payload_bytes}
+use Rattle.sync_survey.specs.Faults.{tells}
 use Rattle.laying.proofs.relay.cut_payload.Goals as goal
-use Rattle.laying.proofs.relay.cut_payload.Goals.{After-from-begin}
 
 -- the main data of the frame are within the window and its own area
-within : (c : After-from-begin) → IsWithin (tells c.args.survey.now).head (tells c.args.survey.now).frames c.args.i c.args.row.now
+within : (c : After-from-begin) → IsWithin (tells c.args.survey.now).head
+    (tells c.args.survey.now).frames c.args.i c.args.row.now
 within c =
     let s = tells c.args.survey.now in
-    data-within s.head s.class s.frames c.args.i c.args.row.now (c.requires.placed c.args.i c.args.row.now c.requires.found) (sym c.lost.ensures ∙ c.if-lost.false)
+    data-within s.head s.class s.frames c.args.i c.args.row.now (c.requires.placed c.args.i
+    c.args.row.now c.requires.found) (sym c.lost.ensures ∙ c.if-lost.false)
 
 begin_is : (c : After-from-begin) → c.from-begin.result ≡ c.args.row.now.side.main_data_begin
 begin_is c = c.from-begin.ensures ∙ c.requires.begin
 
 -- as many bytes as hold the bits
-size_is : (c : After-from-begin) → (c.args.extent.now.bits + 7) / 8 ≡ payload_bytes c.args.row.now.side
+size_is : (c : After-from-begin)
+    → (c.args.extent.now.bits + 7) / 8 ≡ payload_bytes c.args.row.now.side
 size_is c = ap (λ n. (n + 7) / 8) c.requires.bits ∙ sym (bytes-are c.args.row.now.side)
 
 pub main_data_with-requires-clause-held : goal.main_data_with-requires-clause-held
@@ -30,30 +34,52 @@ main_data_with-requires-clause-held c =
 pub main_data_with-requires-clause-within : goal.main_data_with-requires-clause-within
 main_data_with-requires-clause-within c =
     let at = (goal.at.main_data_with-requires-clause-within c).After-from-begin in
-    omega (arith, bits-least c.args.extent.now.bits, size_is at, begin_is at, c.requires.area, (within at).ends)
+    omega (
+      arith,
+      bits-least c.args.extent.now.bits,
+      size_is at,
+      begin_is at,
+      c.requires.area,
+      (within at).ends,
+    )
 
 pub main_data_with-requires-clause-few : goal.main_data_with-requires-clause-few
 main_data_with-requires-clause-few c =
     let at = (goal.at.main_data_with-requires-clause-few c).After-from-begin in
     let row = c.args.row.now in
-    omega (arith, area-held (tells c.args.survey.now) c.args.i row (c.requires.placed c.args.i row c.requires.found), begin_is at, c.requires.area)
+    omega (
+      arith,
+      area-held (tells c.args.survey.now) c.args.i row
+          (c.requires.placed c.args.i row c.requires.found),
+      begin_is at,
+      c.requires.area,
+    )
 
 pub main_data_with-requires-clause-short : goal.main_data_with-requires-clause-short
 main_data_with-requires-clause-short c =
     let row = c.args.row.now in
-    omega (arith, area-held (tells c.args.survey.now) c.args.i row (c.requires.placed c.args.i row c.requires.found), c.requires.area, c.requires.few)
+    omega (
+      arith,
+      area-held (tells c.args.survey.now) c.args.i row
+          (c.requires.placed c.args.i row c.requires.found),
+      c.requires.area,
+      c.requires.few,
+    )
 
 pub returns-then-lost-clause-told : goal.returns-then-lost-clause-told
-returns-then-lost-clause-told c = λ file passed long is. c.empty.ensures ∙ lost-is file (tells c.args.survey.now) c.args.i c.args.row.now (sym c.lost.ensures ∙ c.if-lost.true)
+returns-then-lost-clause-told c = λ file passed long is. c.empty.ensures ∙ lost-is file
+    (tells c.args.survey.now) c.args.i c.args.row.now (sym c.lost.ensures ∙ c.if-lost.true)
 
 pub returns-then-lost-clause-size : goal.returns-then-lost-clause-size
-returns-then-lost-clause-size c = ap length c.empty.ensures ∙ ap (λ lost. cond lost 0 (payload_bytes c.args.row.now.side)) (sym c.if-lost.true ∙ c.lost.ensures)
+returns-then-lost-clause-size c = ap length c.empty.ensures ∙ ap (λ lost. cond lost 0
+    (payload_bytes c.args.row.now.side)) (sym c.if-lost.true ∙ c.lost.ensures)
 
 pub returns-else-lost-clause-size : goal.returns-else-lost-clause-size
 returns-else-lost-clause-size c =
     (c.main_data_with.ensures.payload c.args.held.now.window.now ([], refl)).few
     ∙ size_is (goal.at.returns-else-lost-clause-size c).After-from-begin
-    ∙ ap (λ lost. cond lost 0 (payload_bytes c.args.row.now.side)) (sym c.if-lost.false ∙ c.lost.ensures)
+    ∙ ap (λ lost. cond lost 0 (payload_bytes c.args.row.now.side))
+    (sym c.if-lost.false ∙ c.lost.ensures)
 
 pub returns-else-lost-clause-told : goal.returns-else-lost-clause-told
 returns-else-lost-clause-told c = λ file passed long is.
@@ -66,11 +92,24 @@ returns-else-lost-clause-told c = λ file passed long is.
     let main = (held ++ last) ++ own in
     let begin = c.from-begin.result in
     let bits = c.args.extent.now.bits in
-    let many : length held ≡ length passed + length c.args.held.now.window.now = length-append passed c.args.held.now.window.now in
-    let all : length main ≡ length held + length last + length own = length-append (held ++ last) own ∙ ap (λ n. n + length own) (length-append held last) in
-    let start : length held + length last - begin ≡ length main - length own - begin = omega (arith, all) in
-    cut-is file main c.main_data_with.result s c.args.i row (length own) begin bits c.requires.found (sym c.lost.ensures ∙ c.if-lost.false) (within at)
-    (omega (arith, all, many, long, c.requires.area, place-next s.head s.frames c.args.i row c.requires.found)) is c.requires.area (begin_is at) c.requires.bits
+    let many : length held ≡ length passed + length c.args.held.now.window.now =
+    length-append passed c.args.held.now.window.now in
+    let all : length main ≡ length held + length last + length own =
+    length-append (held ++ last) own ∙ ap (λ n. n + length own) (length-append held last) in
+    let start : length held + length last - begin ≡ length main - length own - begin =
+    omega (arith, all) in
+    cut-is file main c.main_data_with.result s c.args.i row
+    (length own) begin bits c.requires.found (sym c.lost.ensures ∙ c.if-lost.false) (within at)
+    (omega (
+      arith,
+      all,
+      many,
+      long,
+      c.requires.area,
+      place-next s.head s.frames c.args.i row c.requires.found,
+    )) is c.requires.area (begin_is at) c.requires.bits
     (omega (arith, bits-least bits, size_is at)) c.main_data_with.ensures.bytes
     (subst (λ k. ArePacked c.main_data_with.result bits (main_bits main k bits)) start
-    (subst (λ (l : List ℕ). ArePacked c.main_data_with.result bits (main_bits l (length held + length last - begin) bits)) (sym (append_assoc held last own)) (c.main_data_with.ensures.payload held (passed, refl))))
+    (subst (λ (l : List ℕ). ArePacked c.main_data_with.result bits
+    (main_bits l (length held + length last - begin) bits)) (sym (append_assoc held last own))
+    (c.main_data_with.ensures.payload held (passed, refl))))

@@ -1,17 +1,16 @@
 -- One block more is copied, if it is chosen.
-use Rattle.std.proofs.Common.{rules, ◌≡◌, ℕ, ◌+◌, ◌≤◌, length, List, ◌∷◌, [], ◌++◌, drop, refl, sym, ◌∙◌, ap, subst, arith, slice_index_or}
+use Rattle.std.proofs.Common.{ap, arith, drop, length, List, refl, rules, slice_index_or, subst}
+use Rattle.std.proofs.{Common.{sym, ℕ, [], ◌++◌, ◌+◌, ◌∙◌, ◌∷◌, ◌≡◌, ◌≤◌}, lemmas.List.drop_all}
 use Rattle.std.proofs.lemmas.Result.{err_from_is_err_and}
-use Rattle.std.proofs.lemmas.List.{drop_all}
-use Rattle.outside.proofs.PassedLaws.{err_at}
-use Rattle.tag_blocks.specs.declared.block.Kind.TheVariants.{Id3v2}
-use Rattle.sync_survey.specs.declared.places.Piece.{Piece}
-use Rattle.sync_survey.specs.Faults.{SurveyFields, tells}
+use Rattle.laying.proofs.CopyLaws.{block-at, block-within, chosen-next}
+use Rattle.laying.proofs.relay.Relay.copy_blocks.Goals.{After-copy_chosen}
 use Rattle.laying.specs.Copying.{chosen_bytes}
-use Rattle.outside.proofs.PassLaws.{up_to_begun, up_to_more, up_to_prefix, up_to_end, cause_behind}
-use Rattle.laying.proofs.CopyLaws.{chosen-next, block-at, block-within}
+use Rattle.outside.proofs.PassLaws.{cause_behind, up_to_begun, up_to_end, up_to_more, up_to_prefix}
+use Rattle.outside.proofs.PassedLaws.{err_at}
+use Rattle.sync_survey.specs.{Faults.{SurveyFields, tells}, declared.places.Piece.Piece}
+use Rattle.tag_blocks.specs.declared.block.Kind.TheVariants.{Id3v2}
 use Rattle.laying.proofs.relay.Relay.copy_blocks.Given as given
 use Rattle.laying.proofs.relay.Relay.copy_blocks.Goals as goal
-use Rattle.laying.proofs.relay.Relay.copy_blocks.Goals.{After-copy_chosen}
 
 -- what a list without blocks gives
 abbrev no_block : Piece
@@ -22,7 +21,8 @@ loop-block-init g c =
     let self = c.args.self.now in
     let all = chosen_bytes c.args.in_front (tells self.survey.now) (tells self.survey.now).blocks in
     record {
-      up_to = up_to_begun self.pass all c.args.waiting.now (g.D.Folder.seen c.args.folder.now).files c.requires.ready.pass.target;
+      up_to = up_to_begun self.pass all
+          c.args.waiting.now (g.D.Folder.seen c.args.folder.now).files c.requires.ready.pass.target;
       ready = c.requires.ready;
       counts = refl;
     }
@@ -31,9 +31,12 @@ pub copy_chosen-requires-clause-within : goal.copy_chosen-requires-clause-within
 copy_chosen-requires-clause-within g c =
     let s = tells c.args.self.now.survey.now in
     let k = c.loop-block.block-index in
-    let here = block-at s.blocks k no_block (omega (arith, c.loop-block-test.true, ap length c.blocks-block-items.ensures)) in
-    subst (λ (l : List Piece). (slice_index_or l k no_block).offset + (slice_index_or l k no_block).block.length ≤ s.length) (sym c.blocks-block-items.ensures)
-    (block-within 0 s.length s.blocks k (slice_index_or s.blocks k no_block) (drop (k + 1) s.blocks) here c.requires.ready.laid.blocks)
+    let here = block-at s.blocks k no_block
+    (omega (arith, c.loop-block-test.true, ap length c.blocks-block-items.ensures)) in
+    subst (λ (l : List Piece). (slice_index_or l k no_block).offset
+    + (slice_index_or l k no_block).block.length ≤ s.length) (sym c.blocks-block-items.ensures)
+    (block-within 0 s.length s.blocks k (slice_index_or s.blocks k no_block)
+    (drop (k + 1) s.blocks) here c.requires.ready.laid.blocks)
 
 -- the block that was asked for, and those after it
 module _ (g : given.Over) (c : After-copy_chosen g) where
@@ -50,21 +53,29 @@ module _ (g : given.Over) (c : After-copy_chosen g) where
   chosen blocks file = chosen_bytes c.args.in_front s blocks file
 
   here : drop k s.blocks ≡ p ∷ drop (k + 1) s.blocks
-  here = block-at s.blocks k no_block (omega (arith, c.loop-block-test.true, ap length c.blocks-block-items.ensures)) ∙ ap (λ (l : List Piece). slice_index_or l k no_block ∷ drop (k + 1) s.blocks) (sym c.blocks-block-items.ensures)
+  here = block-at s.blocks k no_block
+      (omega (arith, c.loop-block-test.true, ap length c.blocks-block-items.ensures))
+      ∙ ap (λ (l : List Piece). slice_index_or l k no_block ∷ drop (k + 1) s.blocks)
+      (sym c.blocks-block-items.ensures)
 
-  next : (file : List ℕ) → chosen (drop k s.blocks) file ≡ chosen (p ∷ []) file ++ chosen (drop (k + 1) s.blocks) file
-  next file = ap (λ (l : List Piece). chosen l file) here ∙ chosen-next c.args.in_front s p (drop (k + 1) s.blocks) file
+  next : (file : List ℕ)
+      → chosen (drop k s.blocks) file ≡ chosen (p ∷ []) file ++ chosen (drop (k + 1) s.blocks) file
+  next file = ap (λ (l : List Piece). chosen l file) here
+      ∙ chosen-next c.args.in_front s p (drop (k + 1) s.blocks) file
 
 pub returns-in_err-copy_chosen : goal.returns-in_err-copy_chosen
 returns-in_err-copy_chosen g c = record {
   written = search rules;
   prefix = let at = (goal.at.returns-in_err-copy_chosen g c).After-copy_chosen in
       err_at c.from_residual.result _ c.from_residual.ensures.1
-      (up_to_prefix c.args.self.now.pass c.requires.ready.pass.apart c.loop-block.invariant.up_to _ (chosen g at (drop (c.loop-block.block-index + 1) (tells c.args.self.now.survey.now).blocks)) (λ file holds. next g at file) c.in_err-copy_chosen.ensures.prefix);
+      (up_to_prefix c.args.self.now.pass c.requires.ready.pass.apart c.loop-block.invariant.up_to _
+      (chosen g at (drop (c.loop-block.block-index + 1) (tells c.args.self.now.survey.now).blocks))
+      (λ file holds. next g at file) c.in_err-copy_chosen.ensures.prefix);
   done = search rules;
   cause = let p = err_from_is_err_and c.from_residual.result c.from_residual.ensures.1 in
       rw (p.1, p.2)
-      (cause_behind c.loop-block.invariant.up_to.written _ _ _ _ c.loop-block.invariant.counts _ c.in_err-copy_chosen.ensures.cause);
+      (cause_behind c.loop-block.invariant.up_to.written _ _ _ _ c.loop-block.invariant.counts _
+      c.in_err-copy_chosen.ensures.cause);
   ready = search rules;
 }
 
@@ -72,7 +83,9 @@ pub loop-block-preserved : goal.loop-block-preserved
 loop-block-preserved g c =
     let at = (goal.at.loop-block-preserved g c).After-copy_chosen in
     record {
-      up_to = up_to_more c.args.self.now.pass c.requires.ready.pass.apart c.loop-block.invariant.up_to _ _ (λ file holds. next g at file) c.in_ok-copy_chosen.ensures.written;
+      up_to =
+          up_to_more c.args.self.now.pass c.requires.ready.pass.apart c.loop-block.invariant.up_to _
+          _ (λ file holds. next g at file) c.in_ok-copy_chosen.ensures.written;
       ready = c.in_ok-copy_chosen.ensures.ready;
       counts = c.in_ok-copy_chosen.ensures.done ∙ c.loop-block.invariant.counts;
     }
@@ -83,7 +96,8 @@ returns g c = record {
       let s = tells self.survey.now in
       let chosen = chosen_bytes c.args.in_front s in
       let k = c.loop-block.block-index in
-      let none : drop k s.blocks ≡ [] = drop_all k s.blocks (omega (arith, c.loop-block-test.false, ap length c.blocks-block-items.ensures)) in
+      let none : drop k s.blocks ≡ [] = drop_all k
+      s.blocks (omega (arith, c.loop-block-test.false, ap length c.blocks-block-items.ensures)) in
       up_to_end self.pass c.requires.ready.pass.apart c.loop-block.invariant.up_to
       (λ file holds. ap (λ (l : List Piece). chosen l file) none);
   prefix = search rules;

@@ -1,12 +1,10 @@
 -- A chosen block is copied, and one that is not chosen has no bytes here.
-use Rattle.std.proofs.Common.{rules, ◌∷◌, [], sym, ◌∙◌, ap}
-use mathlib.Core.Bool.{beq}
+use Rattle.std.proofs.Common.{ap, rules, sym, [], ◌∙◌, ◌∷◌}
 use Rattle.frame_writer.proofs.WritingLaws.{ok-both}
+use Rattle.laying.{proofs.{CopyLaws.chosen-none, PassLaws.ready-with}, specs.Copying.chosen_bytes}
 use Rattle.outside.proofs.PassLaws.{writes_nothing}
 use Rattle.sync_survey.specs.Faults.{tells}
-use Rattle.laying.specs.Copying.{chosen_bytes}
-use Rattle.laying.proofs.CopyLaws.{chosen-none}
-use Rattle.laying.proofs.PassLaws.{ready-with}
+use mathlib.Core.Bool.{beq}
 use Rattle.laying.proofs.relay.Relay.copy_chosen.Goals as goal
 
 pub returns-then-goes_in_front-in_front : goal.returns-then-goes_in_front-in_front
@@ -15,7 +13,9 @@ returns-then-goes_in_front-in_front g c = record {
   prefix = search rules;
   done = search rules;
   cause = search rules;
-  ready = ok-both c.copy.result (λ written pass. ready-with c.args.self.now _ _ _ _ written.passed.passed written.passed.files c.requires.ready pass) c.copy.ensures.written c.copy.ensures.ready;
+  ready = ok-both c.copy.result (λ written pass. ready-with c.args.self.now _ _ _ _
+      written.passed.passed written.passed.files c.requires.ready pass)
+      c.copy.ensures.written c.copy.ensures.ready;
 }
 
 pub returns-else-goes_in_front-in_front : goal.returns-else-goes_in_front-in_front
@@ -23,8 +23,10 @@ returns-else-goes_in_front-in_front g c = record {
   written =
       let self = c.args.self.now in
       let s = tells self.survey.now in
-      writes_nothing self.pass (chosen_bytes c.args.in_front s (c.args.block.now ∷ [])) c.args.waiting.now (g.D.Folder.seen c.args.folder.now).files c.requires.ready.pass.target
-      (λ file holds. sym (chosen-none c.args.in_front s c.args.block.now file (sym (ap (λ b. beq b c.args.in_front) c.goes_in_front.ensures) ∙ c.if-goes_in_front-in_front.false)));
+      writes_nothing self.pass (chosen_bytes c.args.in_front s (c.args.block.now ∷ []))
+      c.args.waiting.now (g.D.Folder.seen c.args.folder.now).files c.requires.ready.pass.target
+      (λ file holds. sym (chosen-none c.args.in_front s c.args.block.now file (sym (ap
+      (λ b. beq b c.args.in_front) c.goes_in_front.ensures) ∙ c.if-goes_in_front-in_front.false)));
   prefix = search rules;
   done = search rules;
   cause = search rules;

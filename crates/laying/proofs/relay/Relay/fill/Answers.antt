@@ -1,8 +1,8 @@
 -- The files stay, so the input has the same bytes.
-use Rattle.std.proofs.Common.{rules, subst, arith}
-use Rattle.outside.specs.Files.{Holds}
+use Rattle.std.proofs.Common.{arith, rules, subst}
 use Rattle.frame_writer.proofs.WritingLaws.{ok-both}
 use Rattle.laying.proofs.PassLaws.{ready-filled}
+use Rattle.outside.specs.Files.{Holds}
 use Rattle.laying.proofs.relay.Relay.fill.Goals as goal
 
 pub fill-requires-clause-within : goal.fill-requires-clause-within
@@ -13,7 +13,8 @@ returns-clause-given g c =
     ok-both c.fill.result
     (λ given bytes. record {
       long = given;
-      is = λ file holds. bytes file (subst (λ f. Holds f c.args.self.now.pass.input.now file) c.fill.ensures.files holds);
+      is = λ file holds. bytes file
+          (subst (λ f. Holds f c.args.self.now.pass.input.now file) c.fill.ensures.files holds);
     })
     c.fill.ensures.given c.fill.ensures.bytes
 
@@ -23,5 +24,6 @@ returns-clause-reads g c = record {
   cause = search rules;
   read = search rules;
   files = search rules;
-  ready = ready-filled c.args.self.now _ _ _ _ c.fill.ensures.files c.requires.ready c.fill.ensures.ready;
+  ready = ready-filled c.args.self.now _ _ _ _
+      c.fill.ensures.files c.requires.ready c.fill.ensures.ready;
 }

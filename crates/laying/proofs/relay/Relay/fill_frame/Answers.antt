@@ -1,27 +1,35 @@
--- Both areas are within the input, and the feed gives all from the first one's beginning to the second one's end.
-use Rattle.std.proofs.Common.{rules, ◌+◌, ◌-◌, ◌≡◌, ◌≤◌, ◌∙◌, take, drop, sym, ap, subst, arith, length-drop}
-use Rattle.std.proofs.lemmas.List.{length-take-le, take-take, drop-take, drop-drop}
+-- Both areas are within the input, and the feed gives all
+-- from the first one's beginning to the second one's end.
+use Rattle.std.proofs.Common.{ap, arith, drop, length-drop, rules, subst, sym, take, ◌+◌, ◌-◌, ◌∙◌}
+use Rattle.std.proofs.Common.{◌≡◌, ◌≤◌}
+use Rattle.std.proofs.lemmas.List.{drop-drop, drop-take, length-take-le, take-take}
 use Rattle.frame_header.specs.Tables.{class_of, overhead_of}
-use Rattle.sync_survey.specs.Faults.{tells}
+use Rattle.laying.proofs.{ReachLaws.holds-given, ReadLaws.{area-at, laid-within}}
 use Rattle.laying.specs.Passing.{HoldsLast}
-use Rattle.laying.proofs.ReadLaws.{laid-within, area-at}
-use Rattle.laying.proofs.ReachLaws.{holds-given}
+use Rattle.sync_survey.specs.Faults.{tells}
 use Rattle.laying.proofs.relay.Relay.fill_frame.Goals as goal
 
 pub area_place-own-requires : goal.area_place-own-requires
-area_place-own-requires g c = c.requires.next.known ∙ sym (c.requires.ready.laid.placed c.args.reading.now.next c.args.known.now.row.now c.requires.next.found).class_is
+area_place-own-requires g c = c.requires.next.known ∙ sym (c.requires.ready.laid.placed
+    c.args.reading.now.next c.args.known.now.row.now c.requires.next.found).class_is
 
 pub first_byte-requires-clause-within : goal.first_byte-requires-clause-within
 first_byte-requires-clause-within g c =
     let s = tells c.args.self.now.survey.now in
-    omega (arith, laid-within s.first s.length s.frames c.args.reading.now.next c.args.known.now.row.now c.requires.ready.laid.frames c.requires.next.found, c.area_place-own.ensures.whole)
+    omega (
+      arith,
+      laid-within s.first s.length s.frames c.args.reading.now.next c.args.known.now.row.now
+          c.requires.ready.laid.frames c.requires.next.found,
+      c.area_place-own.ensures.whole,
+    )
 
 pub fill-requires-clause-within : goal.fill-requires-clause-within
 fill-requires-clause-within g c =
     let s = tells c.args.self.now.survey.now in
     omega (
       arith,
-      laid-within s.first s.length s.frames c.args.reading.now.next c.args.known.now.row.now c.requires.ready.laid.frames c.requires.next.found,
+      laid-within s.first s.length s.frames c.args.reading.now.next c.args.known.now.row.now
+          c.requires.ready.laid.frames c.requires.next.found,
       c.area_place-own.ensures.whole,
       c.in_ok-first.ensures.near,
     )
@@ -35,20 +43,31 @@ returns-clause-given g c = record {
       let before = c.in_ok-first.before in
       let given = c.fill.new.feed.given in
       let near = c.in_ok-first.ensures.near in
-      let over = subst (λ f. HoldsLast c.first_byte.new.window input f s first before c.args.reading.now.next) (sym c.fill.ensures.reads.files) c.in_ok-first.ensures.over in
-      let many : before ≤ c.area_place-own.result.at - first + c.area_place-own.result.size = omega (arith, near) in
-      holds-given c.first_byte.new.window (take before given) input (seen c.fill.new.folder).files s first before c.args.reading.now.next over
+      let over = subst (λ f. HoldsLast c.first_byte.new.window input f s first before
+      c.args.reading.now.next) (sym c.fill.ensures.reads.files) c.in_ok-first.ensures.over in
+      let many : before ≤ c.area_place-own.result.at - first + c.area_place-own.result.size =
+      omega (arith, near) in
+      holds-given c.first_byte.new.window (take before given) input
+      (seen c.fill.new.folder).files s first before c.args.reading.now.next over
       (record {
         long = length-take-le before given (omega (arith, many, c.in_ok-fill.ensures.given.long));
-        is = λ file holds. ap (take before) (c.in_ok-fill.ensures.given.is file holds) ∙ take-take before (c.area_place-own.result.at - first + c.area_place-own.result.size) (drop first file) many;
+        is = λ file holds. ap (take before) (c.in_ok-fill.ensures.given.is file holds)
+            ∙ take-take before (c.area_place-own.result.at - first + c.area_place-own.result.size)
+            (drop first file) many;
       });
   area = let row = c.args.known.now.row.now in
       let first = c.in_ok-first.first in
       let skip = c.area_place-own.result.at - first in
       let area = c.area_place-own.result.size in
-      let at : first + skip ≡ row.offset + overhead_of (class_of row.header) row.header.protected = omega (arith, c.in_ok-first.ensures.near, c.area_place-own.ensures.at) in
+      let at : first + skip ≡ row.offset + overhead_of (class_of row.header) row.header.protected =
+      omega (arith, c.in_ok-first.ensures.near, c.area_place-own.ensures.at) in
       record {
-        long = omega (arith, length-drop skip c.fill.new.feed.given, c.in_ok-fill.ensures.given.long, c.area_place-own.ensures.size);
+        long = omega (
+          arith,
+          length-drop skip c.fill.new.feed.given,
+          c.in_ok-fill.ensures.given.long,
+          c.area_place-own.ensures.size,
+        );
         is = λ file holds.
             ap (drop skip) (c.in_ok-fill.ensures.given.is file holds)
             ∙ drop-take skip area (drop first file)
@@ -62,7 +81,8 @@ returns-clause-given g c = record {
       let skip = c.area_place-own.result.at - c.in_ok-first.first in
       omega (
         arith,
-        laid-within s.first s.length s.frames c.args.reading.now.next c.args.known.now.row.now c.requires.ready.laid.frames c.requires.next.found,
+        laid-within s.first s.length s.frames c.args.reading.now.next c.args.known.now.row.now
+            c.requires.ready.laid.frames c.requires.next.found,
         c.area_place-own.ensures.whole,
         c.in_ok-fill.ensures.given.long,
         length-drop skip c.fill.new.feed.given,

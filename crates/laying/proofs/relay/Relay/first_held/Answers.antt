@@ -1,10 +1,8 @@
 -- One frame more is before those whose areas were counted.
-use Rattle.std.proofs.Common.{◌+◌, ◌-◌, ◌≡◌, List, length, get_or, sym, ◌∙◌, ap, arith, slice_get, Some}
-use Rattle.std.proofs.lemmas.Option.{slice_get-get_or}
-use Rattle.sync_survey.specs.Row.{Row}
-use Rattle.sync_survey.specs.MainData.{own_area, place}
-use Rattle.sync_survey.specs.Faults.{tells}
+use Rattle.std.proofs.Common.{ap, arith, get_or, length, List, slice_get, Some, sym, ◌+◌, ◌-◌, ◌∙◌}
+use Rattle.std.proofs.{Common.◌≡◌, lemmas.Option.slice_get-get_or}
 use Rattle.laying.proofs.ReadLaws.{place-next}
+use Rattle.sync_survey.specs.{Faults.tells, MainData.{own_area, place}, Row.Row}
 use Rattle.laying.proofs.relay.Relay.first_held.Goals as goal
 
 pub loop-first-preserved : goal.loop-first-preserved
@@ -16,7 +14,13 @@ loop-first-preserved c =
     let found : slice_get s.frames (first - 1) ≡ Some row =
     ap (λ (l : List Row). slice_get l (first - 1)) (sym c.frames-rows.ensures)
     ∙ slice_get-get_or c.frames-rows.result.now (first - 1) c.index-rows-first.result
-    (omega (arith, c.loop-first-test.true, c.loop-first.invariant.early, c.requires.within, ap length c.frames-rows.ensures)) in
+    (omega (
+      arith,
+      c.loop-first-test.true,
+      c.loop-first.invariant.early,
+      c.requires.within,
+      ap length c.frames-rows.ensures,
+    )) in
     record {
       early = omega (arith, c.loop-first.invariant.early);
       bytes_are =
@@ -25,7 +29,8 @@ loop-first-preserved c =
             c.loop-first.invariant.bytes_are,
             c.if-bytes-lt2048.true,
             c.loop-first-test.true,
-            c.area-bytes.ensures.area ∙ ap own_area c.header.ensures ∙ ap (λ (r : Row). own_area r.header) c.index-rows-first.is,
+            c.area-bytes.ensures.area ∙ ap own_area c.header.ensures
+                ∙ ap (λ (r : Row). own_area r.header) c.index-rows-first.is,
             place-next s.head s.frames (first - 1) row found,
             ap (λ n. place s.head s.frames n) before,
           );

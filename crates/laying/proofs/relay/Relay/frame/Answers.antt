@@ -1,93 +1,120 @@
 -- The frame is read, and given to the writer in its slot.
-use Rattle.std.proofs.Common.{rules, ◌≡◌, ℕ, ◌+◌, ◌-◌, ◌<◌, ◌≤◌, ◌^◌, min, List, [], ◌∷◌, ◌++◌, length, take, drop, sym, ◌∙◌, ap, subst, arith}
-use Rattle.std.proofs.lemmas.List.{take_rest}
+use Rattle.std.proofs.Common.{ap, arith, drop, length, List, min, rules, subst, sym, take, ℕ, []}
+use Rattle.std.proofs.{Common.{◌++◌, ◌+◌, ◌-◌, ◌<◌, ◌^◌, ◌∙◌, ◌∷◌, ◌≡◌, ◌≤◌}, lemmas.List.take_rest}
 use Rattle.frame_header.specs.Fields.{ClassFields, HeaderFields}
-use Rattle.frame_header.specs.Tables.{class_of, area_of, window_of}
-use Rattle.side_info.specs.Side.{front_width, SideFits}
-use Rattle.side_info.specs.FrameFields.{FrameFields}
-use Rattle.slot_plan.specs.declared.needs.Placed.{Placed as PlacedFields}
-use Rattle.outside.specs.Files.{Files, Holds}
-use Rattle.outside.specs.Pass.{route_of, HasPassCause}
-use Rattle.outside.proofs.PassedLaws.{err_at}
-use Rattle.frame_writer.specs.Frames.{Frame, area_in, reach_of, reach_with}
-use Rattle.sync_survey.specs.MainData.{side_of}
-use Rattle.sync_survey.specs.Row.{Row}
-use Rattle.sync_survey.specs.Faults.{SurveyFields, tells}
-use Rattle.laying.specs.Needs.{need_of}
-use Rattle.frame_writer.specs.Writing.{writing}
-use Rattle.laying.specs.Passing.{IsAreaOf, HoldsWith, Lays, GivesPart, moved_frame, own_reach, writing_in}
-use Rattle.laying.proofs.PlannedFrames.{begun_fits}
+use Rattle.frame_header.specs.Tables.{area_of, class_of, window_of}
+use Rattle.frame_writer.specs.{Frames.{area_in, Frame, reach_of, reach_with}, Writing.writing}
 use Rattle.laying.proofs.ChosenFrames.{side_fits}
+use Rattle.laying.proofs.PassLaws.{holds-later, lays_one, part_none, part_one, ready-later}
+use Rattle.laying.proofs.{PlannedFrames.begun_fits, ReachLaws.{holds-next, IsTaken}}
 use Rattle.laying.proofs.ReadLaws.{main-next}
-use Rattle.laying.proofs.ReachLaws.{IsTaken, holds-next}
-use Rattle.laying.proofs.PassLaws.{ready-later, holds-later, lays_one, part_one, part_none}
+use Rattle.laying.proofs.relay.Relay.frame.Goals.{After-with_area-frame, Start}
+use Rattle.laying.specs.Needs.{need_of}
+use Rattle.laying.specs.Passing.{GivesPart, HoldsWith, IsAreaOf, Lays, moved_frame, own_reach}
+use Rattle.laying.specs.Passing.{writing_in}
+use Rattle.outside.{proofs.PassedLaws.err_at, specs.Files.{Files, Holds}}
+use Rattle.outside.specs.Pass.{HasPassCause, route_of}
+use Rattle.side_info.specs.{FrameFields.FrameFields, Side.{front_width, SideFits}}
+use Rattle.slot_plan.specs.declared.needs.Placed.{Placed as PlacedFields}
+use Rattle.sync_survey.specs.{Faults.{SurveyFields, tells}, MainData.side_of, Row.Row}
 use Rattle.laying.proofs.relay.Relay.frame.Given as given
 use Rattle.laying.proofs.relay.Relay.frame.Goals as goal
-use Rattle.laying.proofs.relay.Relay.frame.Goals.{Start, After-with_area-frame}
 
 -- header and side information in a place of a plan
 abbrev placed : Row → PlacedFields → FrameFields
-placed r p = record { header = record r.header { slot = p.slot }; side = record (side_of r) { main_data_begin = p.begin } }
+placed r p = record {
+  header = record r.header { slot = p.slot };
+  side = record (side_of r) { main_data_begin = p.begin };
+}
 
 -- how far back main data may begin after a frame
 abbrev behind : ClassFields → HeaderFields → ℕ → ℕ → ℕ
-behind c h begin bytes = min (window_of c.version) (begin + area_of (class_of h) h.slot h.protected - bytes)
+behind c h begin bytes =
+    min (window_of c.version) (begin + area_of (class_of h) h.slot h.protected - bytes)
 
 -- the front that the writer gets
-front : (g : given.Over) (c : After-with_area-frame g) → c.with_area-frame.result ≡ record { kept = placed c.args.known.now.row.now c.args.place.now; payload = c.cut_payload-payload.result }
-front g c = c.with_area-frame.ensures ∙ (λ j. record { kept = c.place_front.ensures j; payload = c.cut_payload-payload.result })
+front : (g : given.Over) (c : After-with_area-frame g) → c.with_area-frame.result ≡ record {
+  kept = placed c.args.known.now.row.now c.args.place.now;
+  payload = c.cut_payload-payload.result;
+}
+front g c = c.with_area-frame.ensures
+    ∙ (λ j. record { kept = c.place_front.ensures j; payload = c.cut_payload-payload.result })
 
 -- the bytes are those that the feed gave
-with-bytes : (window bytes given input : List ℕ) (files : Files) (s : SurveyFields) (i n : ℕ) → bytes ≡ given → HoldsWith window (take n given) input files s i → HoldsWith window (take n bytes) input files s i
-with-bytes window bytes given input files s i n same = subst (λ (l : List ℕ). HoldsWith window (take n l) input files s i) (sym same)
+with-bytes : (window bytes given input : List ℕ) (files : Files) (s : SurveyFields) (i n : ℕ)
+    → bytes ≡ given → HoldsWith window (take n given) input files s i
+    → HoldsWith window (take n bytes) input files s i
+with-bytes window bytes given input files s i n same =
+    subst (λ (l : List ℕ). HoldsWith window (take n l) input files s i) (sym same)
 
-area-bytes : (bytes given input : List ℕ) (files : Files) (r : Row) (n : ℕ) → bytes ≡ given → IsAreaOf (drop n given) input files r → IsAreaOf (take (length bytes - n) (drop n bytes)) input files r
-area-bytes bytes given input files r n same = subst (λ (l : List ℕ). IsAreaOf l input files r) (ap (drop n) (sym same) ∙ sym (take_rest bytes n))
+area-bytes : (bytes given input : List ℕ) (files : Files) (r : Row) (n : ℕ) → bytes ≡ given
+    → IsAreaOf (drop n given) input files r
+    → IsAreaOf (take (length bytes - n) (drop n bytes)) input files r
+area-bytes bytes given input files r n same = subst (λ (l : List ℕ). IsAreaOf l input files r)
+    (ap (drop n) (sym same) ∙ sym (take_rest bytes n))
 
 -- the writer gets the frame in its slot
-told : (g : given.Over) (c : After-with_area-frame g) → (file : List ℕ) → Holds (g.D.Folder.seen c.fill_frame.new.folder).files c.args.self.now.pass.input.now file
-    → c.with_area-frame.result ∷ [] ≡ moved_frame c.args.self.now c.args.reading.now.next c.args.known.now.row.now c.args.place.now file
+told : (g : given.Over) (c : After-with_area-frame g) → (file : List ℕ)
+    → Holds (g.D.Folder.seen c.fill_frame.new.folder).files c.args.self.now.pass.input.now file
+    → c.with_area-frame.result ∷ [] ≡ moved_frame c.args.self.now c.args.reading.now.next
+    c.args.known.now.row.now c.args.place.now file
 told g c file holds =
     let s = tells c.args.self.now.survey.now in
     let input = c.args.self.now.pass.input.now in
     let i = c.args.reading.now.next in
     let span = c.in_ok-span.span in
     let mid = (g.D.Folder.seen c.fill_frame.new.folder).files in
-    let over = with-bytes c.fill_frame.new.window c.bytes-bytes.result.now _ input mid s i span.before c.bytes-bytes.ensures c.in_ok-span.ensures.given.over in
-    let has = area-bytes c.bytes-bytes.result.now _ input mid c.args.known.now.row.now span.skip c.bytes-bytes.ensures c.in_ok-span.ensures.given.area in
+    let over = with-bytes c.fill_frame.new.window c.bytes-bytes.result.now _ input mid s i
+    span.before c.bytes-bytes.ensures c.in_ok-span.ensures.given.over in
+    let has = area-bytes c.bytes-bytes.result.now _ input mid
+    c.args.known.now.row.now span.skip c.bytes-bytes.ensures c.in_ok-span.ensures.given.area in
     let payload = c.cut_payload-payload.ensures.told file over.passed over.long
-    ((λ j. over.is file holds j ++ has.is file holds j) ∙ sym (main-next file s.head s.frames i c.args.known.now.row.now c.requires.next.found)) in
-    ap (λ (f : Frame). f ∷ []) (front g c ∙ (λ j. record { kept = placed c.args.known.now.row.now c.args.place.now; payload = payload j }))
+    ((λ j. over.is file holds j ++ has.is file holds j)
+    ∙ sym (main-next file s.head s.frames i c.args.known.now.row.now c.requires.next.found)) in
+    ap (λ (f : Frame). f ∷ []) (front g c ∙
+    (λ j. record { kept = placed c.args.known.now.row.now c.args.place.now; payload = payload j }))
 
 -- how far back main data may begin behind it
-writer-reach : (g : given.Over) (c : After-with_area-frame g) (reach : ℕ) → reach ≡ reach_with c.args.buffers.now.writer.class c.with_area-frame.result → reach ≡ own_reach c.args.self.now c.args.known.now.row.now c.args.place.now
+writer-reach : (g : given.Over) (c : After-with_area-frame g) (reach : ℕ)
+    → reach ≡ reach_with c.args.buffers.now.writer.class c.with_area-frame.result
+    → reach ≡ own_reach c.args.self.now c.args.known.now.row.now c.args.place.now
 writer-reach g c reach is =
     let h = (placed c.args.known.now.row.now c.args.place.now).header in
     let begin = c.args.place.now.begin in
-    let size : length c.cut_payload-payload.result ≡ (need_of c.args.known.now.row.now).bytes = c.cut_payload-payload.ensures.size in
+    let size : length c.cut_payload-payload.result ≡ (need_of c.args.known.now.row.now).bytes =
+    c.cut_payload-payload.ensures.size in
     let class = c.requires.stands.on.class in
-    is ∙ ap (reach_with c.args.buffers.now.writer.class) (front g c) ∙ (λ j. behind (class j) h begin (size j))
+    is ∙ ap (reach_with c.args.buffers.now.writer.class) (front g c)
+    ∙ (λ j. behind (class j) h begin (size j))
 
 -- the class of the survey is that of the frame
-class : (g : given.Over) (c : Start g) → c.args.known.now.class ≡ class_of c.args.known.now.row.now.header
-class g c = c.requires.next.known ∙ sym (c.requires.stands.on.ready.laid.placed c.args.reading.now.next c.args.known.now.row.now c.requires.next.found).class_is
+class : (g : given.Over) (c : Start g)
+    → c.args.known.now.class ≡ class_of c.args.known.now.row.now.header
+class g c = c.requires.next.known ∙ sym (c.requires.stands.on.ready.laid.placed
+    c.args.reading.now.next c.args.known.now.row.now c.requires.next.found).class_is
 
 -- what the writer gets fits the class
-fits : (g : given.Over) (c : Start g) → SideFits c.args.buffers.now.writer.class (placed c.args.known.now.row.now c.args.place.now).side
+fits : (g : given.Over) (c : Start g) → SideFits c.args.buffers.now.writer.class
+    (placed c.args.known.now.row.now c.args.place.now).side
 fits g c =
     let s = tells c.args.self.now.survey.now in
     let row = c.args.known.now.row.now in
     let d = c.args.buffers.now.writer.class in
-    let well = c.requires.stands.on.ready.laid.placed c.args.reading.now.next row c.requires.next.found in
-    begun_fits d (side_of row) c.args.place.now.begin (subst (λ k. SideFits k (side_of row)) (sym c.requires.stands.on.class) (side_fits s.class row.lost row.side well.fits)) (omega (arith, c.requires.begin))
+    let well =
+    c.requires.stands.on.ready.laid.placed c.args.reading.now.next row c.requires.next.found in
+    begun_fits d (side_of row) c.args.place.now.begin (subst (λ k. SideFits k (side_of row))
+    (sym c.requires.stands.on.class) (side_fits s.class row.lost row.side well.fits))
+    (omega (arith, c.requires.begin))
 
 pub extent_in-extent-requires : goal.extent_in-extent-requires
-extent_in-extent-requires g c = class g (goal.at.extent_in-extent-requires g c).Start ∙ sym (ap (λ f. class_of f.header) c.front.ensures)
+extent_in-extent-requires g c = class g (goal.at.extent_in-extent-requires g c).Start
+    ∙ sym (ap (λ f. class_of f.header) c.front.ensures)
 
 pub place_front-requires-clause-begin : goal.place_front-requires-clause-begin
 place_front-requires-clause-begin g c =
     let at = (goal.at.place_front-requires-clause-begin g c).Start in
-    let d : c.args.buffers.now.writer.class ≡ class_of c.args.known.now.row.now.header = c.requires.stands.on.class ∙ sym c.requires.next.known ∙ class g at in
+    let d : c.args.buffers.now.writer.class ≡ class_of c.args.known.now.row.now.header =
+    c.requires.stands.on.class ∙ sym c.requires.next.known ∙ class g at in
     subst (λ k. c.args.place.now.begin < 2 ^ front_width k 0) d (fits g at).main_data_begin
 
 pub with_area-frame-requires : goal.with_area-frame-requires
@@ -103,12 +130,17 @@ returns-in_err-span-clause-gives g c = record {
   lays = search rules;
   part = let self = c.args.self.now in
       let old = (g.D.Folder.seen c.args.folder.now).files in
-      let made = moved_frame self c.args.reading.now.next c.args.known.now.row.now c.args.place.now in
+      let made =
+      moved_frame self c.args.reading.now.next c.args.known.now.row.now c.args.place.now in
       let last = own_reach self c.args.known.now.row.now c.args.place.now in
-      let near : c.args.place.now.begin ≤ c.args.buffers.now.writer.waiting.free = omega (arith, c.requires.begin) in
+      let near : c.args.place.now.begin ≤ c.args.buffers.now.writer.waiting.free =
+      omega (arith, c.requires.begin) in
       err_at c.from_residual.result _ c.from_residual.ensures.1
-      (subst (λ f. GivesPart self made last c.args.buffers.now old f c.in_err-span.field-0.0) (sym c.fill_frame.ensures.reads.files)
-      (part_none self.pass.input.now self.pass.output.now made last (writing_in c.args.buffers.now) old c.in_err-span.ensures.reads.read c.requires.stands.on.ready.pass.target (λ file holds more begins. near)));
+      (subst (λ f. GivesPart self made last c.args.buffers.now old f c.in_err-span.field-0.0)
+      (sym c.fill_frame.ensures.reads.files)
+      (part_none self.pass.input.now self.pass.output.now made last (writing_in c.args.buffers.now)
+      old c.in_err-span.ensures.reads.read c.requires.stands.on.ready.pass.target
+      (λ file holds more begins. near)));
   reach = search rules;
   done = search rules;
   cause = search rules;
@@ -118,8 +150,10 @@ pub write_frame-requires-clause-next : goal.write_frame-requires-clause-next
 write_frame-requires-clause-next g c =
     let at = goal.at.write_frame-requires-clause-next g c in
     record {
-      class = ap (λ (f : Frame). class_of f.kept.header) (front g at.After-with_area-frame) ∙ sym (class g at.Start) ∙ c.requires.next.known ∙ sym c.requires.stands.on.class;
-      fits = subst (λ (f : Frame). SideFits c.args.buffers.now.writer.class f.kept.side) (sym (front g at.After-with_area-frame)) (fits g at.Start);
+      class = ap (λ (f : Frame). class_of f.kept.header) (front g at.After-with_area-frame)
+          ∙ sym (class g at.Start) ∙ c.requires.next.known ∙ sym c.requires.stands.on.class;
+      fits = subst (λ (f : Frame). SideFits c.args.buffers.now.writer.class f.kept.side)
+          (sym (front g at.After-with_area-frame)) (fits g at.Start);
       begin = search rules;
       within = search rules;
       few = search rules;
@@ -132,13 +166,15 @@ cut_payload-payload-requires g c =
     let input = c.args.self.now.pass.input.now in
     let mid = (g.D.Folder.seen c.fill_frame.new.folder).files in
     let span = c.in_ok-span.span in
-    let over = with-bytes c.fill_frame.new.window c.bytes-bytes.result.now _ input mid s c.args.reading.now.next span.before c.bytes-bytes.ensures c.in_ok-span.ensures.given.over in
+    let over = with-bytes c.fill_frame.new.window c.bytes-bytes.result.now _ input mid s
+    c.args.reading.now.next span.before c.bytes-bytes.ensures c.in_ok-span.ensures.given.over in
     record {
       placed = c.requires.stands.on.ready.laid.placed;
       found = c.requires.next.found;
       begin = search rules;
       bits = search rules;
-      area = (area-bytes c.bytes-bytes.result.now _ input mid c.args.known.now.row.now span.skip c.bytes-bytes.ensures c.in_ok-span.ensures.given.area).long;
+      area = (area-bytes c.bytes-bytes.result.now _ input mid c.args.known.now.row.now span.skip
+          c.bytes-bytes.ensures c.in_ok-span.ensures.given.area).long;
       few = over.few;
       over = over.reaches;
     }
@@ -148,21 +184,32 @@ returns-in_err-write_frame-clause-gives g c = record {
   lays = search rules;
   part = let at = goal.at.returns-in_err-write_frame-clause-gives g c in
       let self = c.args.self.now in
-      let made = moved_frame self c.args.reading.now.next c.args.known.now.row.now c.args.place.now in
+      let made =
+      moved_frame self c.args.reading.now.next c.args.known.now.row.now c.args.place.now in
       let last = own_reach self c.args.known.now.row.now c.args.place.now in
       let seen = g.D.Folder.seen in
-      let reach = writer-reach g at.After-with_area-frame (reach_of c.write_frame.new.writer) c.write_frame.ensures.reach in
-      err_at c.from_residual-in_err-write_frame.result _ c.from_residual-in_err-write_frame.ensures.1
-      (subst (λ f. GivesPart self made last c.args.buffers.now f (seen c.write_frame.new.folder).files c.in_err-write_frame.field-0.0) c.fill_frame.ensures.reads.files
-      (part_one self.pass.input.now self.pass.output.now made last _ (writing_in c.args.buffers.now) c.write_frame.new.writer (seen c.fill_frame.new.folder).files (seen c.write_frame.new.folder).files (told g at.After-with_area-frame) (omega (arith, reach)) c.in_err-write_frame.ensures.part));
+      let reach = writer-reach g at.After-with_area-frame (reach_of c.write_frame.new.writer)
+      c.write_frame.ensures.reach in
+      err_at c.from_residual-in_err-write_frame.result _
+      c.from_residual-in_err-write_frame.ensures.1
+      (subst (λ f. GivesPart self made last c.args.buffers.now f
+      (seen c.write_frame.new.folder).files c.in_err-write_frame.field-0.0)
+      c.fill_frame.ensures.reads.files
+      (part_one self.pass.input.now self.pass.output.now made last _
+      (writing_in c.args.buffers.now) c.write_frame.new.writer (seen c.fill_frame.new.folder).files
+      (seen c.write_frame.new.folder).files (told g at.After-with_area-frame)
+      (omega (arith, reach)) c.in_err-write_frame.ensures.part));
   reach = search rules;
   done = search rules;
   cause = let way = route_of c.args.self.now.pass in
       let end = (g.D.Folder.seen c.write_frame.new.folder).counts in
       let fault = c.in_err-write_frame.field-0.0 in
-      err_at c.from_residual-in_err-write_frame.result _ c.from_residual-in_err-write_frame.ensures.1
-      (subst (λ f. HasPassCause way f (g.D.Folder.seen c.args.folder.now).counts end fault) c.fill_frame.ensures.reads.files
-      (subst (λ n. HasPassCause way (g.D.Folder.seen c.fill_frame.new.folder).files n end fault) c.in_ok-span.ensures.reads.done c.in_err-write_frame.ensures.cause));
+      err_at c.from_residual-in_err-write_frame.result _
+      c.from_residual-in_err-write_frame.ensures.1
+      (subst (λ f. HasPassCause way f (g.D.Folder.seen c.args.folder.now).counts end fault)
+      c.fill_frame.ensures.reads.files
+      (subst (λ n. HasPassCause way (g.D.Folder.seen c.fill_frame.new.folder).files n end fault)
+      c.in_ok-span.ensures.reads.done c.in_err-write_frame.ensures.cause));
 }
 
 pub returns-clause-gives : goal.returns-clause-gives
@@ -172,12 +219,17 @@ returns-clause-gives g c = record {
       let seen = g.D.Folder.seen in
       let old = writing_in c.args.buffers.now in
       let new = writing c.write_frame.new.writer c.write_frame.new.unsent in
-      let made = moved_frame c.args.self.now c.args.reading.now.next c.args.known.now.row.now c.args.place.now in
-      subst (λ f. Lays pass.input.now pass.output.now made old new f (seen c.write_frame.new.folder).files) c.fill_frame.ensures.reads.files
-      (lays_one pass.input.now pass.output.now made _ old new (seen c.fill_frame.new.folder).files (seen c.write_frame.new.folder).files (told g at.After-with_area-frame) c.in_ok-write_frame.ensures.written);
+      let made = moved_frame c.args.self.now c.args.reading.now.next c.args.known.now.row.now
+      c.args.place.now in
+      subst (λ f. Lays pass.input.now pass.output.now made old new f
+      (seen c.write_frame.new.folder).files) c.fill_frame.ensures.reads.files
+      (lays_one pass.input.now pass.output.now made _ old new
+      (seen c.fill_frame.new.folder).files (seen c.write_frame.new.folder).files
+      (told g at.After-with_area-frame) c.in_ok-write_frame.ensures.written);
   part = search rules;
   reach = let at = goal.at.returns-clause-gives g c in
-      writer-reach g at.After-with_area-frame (reach_of c.write_frame.new.writer) c.write_frame.ensures.reach;
+      writer-reach g at.After-with_area-frame (reach_of c.write_frame.new.writer)
+      c.write_frame.ensures.reach;
   done = search rules;
   cause = search rules;
 }
@@ -186,7 +238,8 @@ pub returns-clause-stands : goal.returns-clause-stands
 returns-clause-stands g c = record {
   on = record {
     ready = let on = c.in_ok-write_frame.ensures.written in
-        ready-later c.args.self.now _ _ c.fill_frame.new.feed on.passed on.files c.fill_frame.ensures.reads.ready;
+        ready-later c.args.self.now _ _
+        c.fill_frame.new.feed on.passed on.files c.fill_frame.ensures.reads.ready;
     class = search rules;
     unsettled = search rules;
   };
@@ -199,16 +252,30 @@ returns-clause-stands g c = record {
       let input = c.args.self.now.pass.input.now in
       let mid = (g.D.Folder.seen c.fill_frame.new.folder).files in
       let well = c.requires.stands.on.ready.laid.placed i row c.requires.next.found in
-      let over = with-bytes c.fill_frame.new.window bytes _ input mid s i span.before c.bytes-bytes.ensures c.in_ok-span.ensures.given.over in
+      let over = with-bytes c.fill_frame.new.window bytes _ input mid s i
+      span.before c.bytes-bytes.ensures c.in_ok-span.ensures.given.over in
       let own = take (length bytes - span.skip) (drop span.skip bytes) in
-      let has = area-bytes bytes _ input mid row span.skip c.bytes-bytes.ensures c.in_ok-span.ensures.given.area in
-      let bytes_is : (c.len.result ≡ 0 → c.taken_before-taken.result ≡ 0) × (0 < c.len.result → c.taken_before-taken.result ≡ min (length (take span.before bytes)) (length (take span.before bytes) + c.len.result - c.from.result)) =
+      let has = area-bytes bytes _ input mid row
+      span.skip c.bytes-bytes.ensures c.in_ok-span.ensures.given.area in
+      let bytes_is : (c.len.result ≡ 0 → c.taken_before-taken.result ≡ 0)
+      × (0 < c.len.result → c.taken_before-taken.result ≡ min (length (take span.before bytes))
+      (length (take span.before bytes) + c.len.result - c.from.result)) =
       (c.taken_before-taken.ensures.none, c.taken_before-taken.ensures.some) in
-      let taken_is : IsTaken (length (take span.before bytes)) (need_of row).bytes row.side.main_data_begin c.taken_before-taken.result =
-      subst (λ n. IsTaken (length (take span.before bytes)) n row.side.main_data_begin c.taken_before-taken.result) (c.len.ensures ∙ c.cut_payload-payload.ensures.size)
-      (subst (λ n. IsTaken (length (take span.before bytes)) c.len.result n c.taken_before-taken.result) (c.from.ensures ∙ c.extent_in-extent.ensures.begin ∙ ap (λ f. f.side.main_data_begin) c.front.ensures) bytes_is) in
+      let taken_is : IsTaken (length (take span.before bytes))
+      (need_of row).bytes row.side.main_data_begin c.taken_before-taken.result =
+      subst (λ n. IsTaken (length (take span.before bytes)) n row.side.main_data_begin
+      c.taken_before-taken.result) (c.len.ensures ∙ c.cut_payload-payload.ensures.size)
+      (subst (λ n. IsTaken (length (take span.before bytes)) c.len.result n
+      c.taken_before-taken.result) (c.from.ensures ∙ c.extent_in-extent.ensures.begin
+      ∙ ap (λ f. f.side.main_data_begin) c.front.ensures) bytes_is) in
       let within : span.at + length own ≤ s.length =
-      subst (λ (l : List ℕ). span.at + length l ≤ s.length) (ap (drop span.skip) (sym c.bytes-bytes.ensures) ∙ sym (take_rest bytes span.skip)) c.in_ok-span.ensures.given.ends in
-      holds-later c.pass_area.new.window input c.args.self.now.pass.output.now s span.at (length own) (i + 1) mid (g.D.Folder.seen c.write_frame.new.folder).files on.passed c.requires.stands.on.ready.pass.apart on.files
-      (holds-next c.fill_frame.new.window c.pass_area.new.window (take span.before bytes) input mid s i over own row c.requires.next.found has well c.taken_before-taken.result taken_is c.pass_area.ensures span.at c.in_ok-span.ensures.given.at within);
+      subst (λ (l : List ℕ). span.at + length l ≤ s.length)
+      (ap (drop span.skip) (sym c.bytes-bytes.ensures) ∙ sym (take_rest bytes span.skip))
+      c.in_ok-span.ensures.given.ends in
+      holds-later c.pass_area.new.window input c.args.self.now.pass.output.now s
+      span.at (length own) (i + 1) mid (g.D.Folder.seen c.write_frame.new.folder).files on.passed
+      c.requires.stands.on.ready.pass.apart on.files
+      (holds-next c.fill_frame.new.window c.pass_area.new.window (take span.before bytes) input mid
+      s i over own row c.requires.next.found has well c.taken_before-taken.result taken_is
+      c.pass_area.ensures span.at c.in_ok-span.ensures.given.at within);
 }

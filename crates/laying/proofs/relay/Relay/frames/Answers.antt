@@ -1,27 +1,24 @@
 -- One place of the plan after another.
-use Rattle.std.proofs.Common.{rules, ◌≡◌, get_or, ℕ, ◌+◌, ◌<◌, ◌≤◌, cond, List, [], ◌∷◌, ◌++◌, length, map, drop, refl, sym, ◌∙◌, ap, subst, arith, append_assoc, slice_range, slice_get, Some}
-use Rattle.std.proofs.lemmas.List.{drop_all}
+use Rattle.std.proofs.Common.{ap, append_assoc, arith, cond, drop, get_or, length, List, map, refl}
+use Rattle.std.proofs.Common.{rules, slice_get, slice_range, Some, subst, sym, ℕ, [], ◌++◌, ◌+◌}
+use Rattle.std.proofs.{Common.{◌<◌, ◌∙◌, ◌∷◌, ◌≡◌, ◌≤◌}, lemmas.List.drop_all}
 use Rattle.std.proofs.lemmas.Result.{err_from_is_err_and}
 use Rattle.frame_header.specs.Tables.{window_of}
-use Rattle.laying.specs.Needs.{need_of}
-use Rattle.outside.specs.Files.{Holds}
-use Rattle.outside.proofs.PassedLaws.{err_at}
-use Rattle.frame_writer.specs.Laid.{BeginsWithin}
-use Rattle.frame_writer.specs.Frames.{Frame, reach_of, pieces}
-use Rattle.sync_survey.specs.Row.{Row}
-use Rattle.slot_plan.specs.declared.needs.Placed.{Placed}
-use Rattle.sync_survey.specs.Faults.{SurveyFields, tells}
-use Rattle.laying.specs.Relaid.{frame_of, all_frames, placed_as, relaid}
-use Rattle.laying.specs.Fits.{bytes_at, area_at, reach_behind, FitsFrom, last_reach}
-use Rattle.laying.proofs.HoldLaws.{needs-range}
-use Rattle.outside.proofs.PassLaws.{cause_later}
-use Rattle.laying.specs.Passing.{writing_in}
+use Rattle.frame_writer.specs.{Frames.{Frame, pieces, reach_of}, Laid.BeginsWithin}
+use Rattle.laying.proofs.{HoldLaws.needs-range, PassLaws.{lays_none, lays_then, part_then}}
 use Rattle.laying.proofs.ReachLaws.{over-holds}
-use Rattle.laying.proofs.PassLaws.{lays_none, lays_then, part_then}
-use Rattle.laying.proofs.RelayLaws.{found-at, fits-some, item-next, fits-next, last-next, relaid-next, fits-none, relaid-end, begins-left, part_more, step-most, lays-all}
+use Rattle.laying.proofs.RelayLaws.{begins-left, fits-next, fits-none, fits-some, found-at}
+use Rattle.laying.proofs.RelayLaws.{item-next, last-next, lays-all, part_more, relaid-end}
+use Rattle.laying.proofs.RelayLaws.{relaid-next, step-most}
+use Rattle.laying.proofs.relay.Relay.frames.Goals.{After-index-rows-reading, After-place-item}
+use Rattle.laying.specs.Fits.{area_at, bytes_at, FitsFrom, last_reach, reach_behind}
+use Rattle.laying.specs.{Needs.need_of, Passing.writing_in}
+use Rattle.laying.specs.Relaid.{all_frames, frame_of, placed_as, relaid}
+use Rattle.outside.{proofs.{PassLaws.cause_later, PassedLaws.err_at}, specs.Files.Holds}
+use Rattle.slot_plan.specs.declared.needs.Placed.{Placed}
+use Rattle.sync_survey.specs.{Faults.{SurveyFields, tells}, Row.Row}
 use Rattle.laying.proofs.relay.Relay.frames.Given as given
 use Rattle.laying.proofs.relay.Relay.frames.Goals as goal
-use Rattle.laying.proofs.relay.Relay.frames.Goals.{After-place-item, After-index-rows-reading}
 
 pub loop-place-init : goal.loop-place-init
 loop-place-init g c =
@@ -29,14 +26,17 @@ loop-place-init g c =
     record {
       stands = record {
         on = c.requires.stands;
-        over = over-holds c.args.buffers.now.window self.pass.input.now (g.D.Folder.seen c.args.folder.now).files (tells self.survey.now) c.args.from c.requires.over;
+        over = over-holds c.args.buffers.now.window self.pass.input.now (g.D.Folder.seen
+            c.args.folder.now).files (tells self.survey.now) c.args.from c.requires.over;
       };
       early = c.requires.ordered;
       fits = c.requires.fits;
       reach = refl;
       lays = record {
         made = λ file. [];
-        lays = lays_none self.pass.input.now self.pass.output.now (λ file. []) (writing_in c.args.buffers.now) (g.D.Folder.seen c.args.folder.now).files c.requires.stands.ready.pass.target (λ file holds. refl);
+        lays = lays_none self.pass.input.now self.pass.output.now (λ file. [])
+            (writing_in c.args.buffers.now) (g.D.Folder.seen c.args.folder.now).files
+            c.requires.stands.ready.pass.target (λ file holds. refl);
         left = λ file holds. refl;
       };
       counts = refl;
@@ -69,24 +69,33 @@ module _ (g : given.Over) (c : After-index-rows-reading g) where
   reach = reach_of c.loop-place.buffers.writer
 
   left : drop c.loop-place.place-index c.args.placed.now ≡ p ∷ more
-  left = item-next c.args.placed.now c.loop-place.place-index p (omega (arith, c.loop-place-test.true)) c.place-item.is
+  left = item-next c.args.placed.now c.loop-place.place-index p
+      (omega (arith, c.loop-place-test.true)) c.place-item.is
 
   fits : FitsFrom window reach (map need_of (slice_range s.frames i to)) (p ∷ more)
-  fits = subst (FitsFrom window reach (map need_of (slice_range s.frames i to))) left c.loop-place.invariant.fits
+  fits = subst (FitsFrom window reach (map need_of (slice_range s.frames i to))) left
+      c.loop-place.invariant.fits
 
   some : i < to
   some = fits-some window reach s i to p more fits
 
   found : slice_get s.frames i ≡ Some row
-  found = found-at s.frames i row (omega (arith, some, c.requires.within)) (c.index-rows-reading.is ∙ ap (λ (l : List Row). get_or l i row) c.frames-rows.ensures)
+  found = found-at s.frames i row (omega (arith, some, c.requires.within))
+      (c.index-rows-reading.is ∙ ap (λ (l : List Row). get_or l i row) c.frames-rows.ensures)
 
   module _ (next : ℕ) (next_is : next ≡ i + cond p.lead_in 0 1) where
-    opened : (p.begin ≤ reach) × (bytes_at p.lead_in (need_of row) ≤ p.begin + area_at p (need_of row)) × FitsFrom window (reach_behind window p (need_of row)) (map need_of (slice_range s.frames next to)) more
+    opened : (p.begin ≤ reach)
+        × (bytes_at p.lead_in (need_of row) ≤ p.begin + area_at p (need_of row)) × FitsFrom window
+        (reach_behind window p (need_of row)) (map need_of (slice_range s.frames next to)) more
     opened = fits-next s i to next row p more found some next_is window reach fits
 
-    last_is : last_reach window (reach_behind window p (need_of row)) (map need_of (slice_range s.frames next to)) more
-        ≡ last_reach window (reach_of c.args.buffers.now.writer) (map need_of (slice_range s.frames c.args.from to)) c.args.placed.now
-    last_is = sym (ap (last_reach window reach (map need_of (slice_range s.frames i to))) left ∙ last-next s i to next row p more found some next_is window reach) ∙ c.loop-place.invariant.reach
+    last_is : last_reach window (reach_behind window p (need_of row))
+        (map need_of (slice_range s.frames next to)) more
+        ≡ last_reach window (reach_of c.args.buffers.now.writer)
+        (map need_of (slice_range s.frames c.args.from to)) c.args.placed.now
+    last_is = sym (ap (last_reach window reach (map need_of (slice_range s.frames i to))) left
+        ∙ last-next s i to next row p more found some next_is window reach)
+        ∙ c.loop-place.invariant.reach
 
     abbrev one : List ℕ → List Frame
     one file = placed_as p (frame_of file s i row) ∷ []
@@ -94,10 +103,15 @@ module _ (g : given.Over) (c : After-index-rows-reading g) where
     abbrev rest : List ℕ → List Frame
     rest file = relaid (slice_range (all_frames file s) next to) more
 
-    split : (file : List ℕ) → Holds (g.D.Folder.seen c.args.folder.now).files c.args.self.now.pass.input.now file → (c.loop-place.invariant.lays.made file ++ one file) ++ rest file ≡ relaid (slice_range (all_frames file s) c.args.from to) c.args.placed.now
+    split : (file : List ℕ)
+        → Holds (g.D.Folder.seen c.args.folder.now).files c.args.self.now.pass.input.now file
+        → (c.loop-place.invariant.lays.made file ++ one file) ++ rest file
+        ≡ relaid (slice_range (all_frames file s) c.args.from to) c.args.placed.now
     split file holds =
         append_assoc (c.loop-place.invariant.lays.made file) (one file) (rest file)
-        ∙ ap (λ (l : List Frame). c.loop-place.invariant.lays.made file ++ l) (sym (ap (relaid (slice_range (all_frames file s) i to)) left ∙ relaid-next s i to next row p more found some next_is file))
+        ∙ ap (λ (l : List Frame). c.loop-place.invariant.lays.made file ++ l)
+        (sym (ap (relaid (slice_range (all_frames file s) i to)) left
+        ∙ relaid-next s i to next row p more found some next_is file))
         ∙ sym (c.loop-place.invariant.lays.left file holds)
 
 pub place-requires-clause-next : goal.place-requires-clause-next
@@ -107,10 +121,12 @@ place-requires-clause-next g c = record {
 }
 
 pub place-requires-clause-begin : goal.place-requires-clause-begin
-place-requires-clause-begin g c = (opened g (goal.at.place-requires-clause-begin g c).After-index-rows-reading _ refl).0
+place-requires-clause-begin g c =
+    (opened g (goal.at.place-requires-clause-begin g c).After-index-rows-reading _ refl).0
 
 pub place-requires-clause-within : goal.place-requires-clause-within
-place-requires-clause-within g c = (opened g (goal.at.place-requires-clause-within g c).After-index-rows-reading _ refl).1
+place-requires-clause-within g c =
+    (opened g (goal.at.place-requires-clause-within g c).After-index-rows-reading _ refl).1
 
 pub returns-in_err-reading-clause-gives : goal.returns-in_err-reading-clause-gives
 returns-in_err-reading-clause-gives g c = record {
@@ -127,23 +143,35 @@ returns-in_err-reading-clause-gives g c = record {
       let window = window_of s.class.version in
       let reach = reach_behind window p (need_of row) in
       let next = c.loop-place.reading.next + cond p.lead_in 0 1 in
-      let last = last_reach window (reach_of c.args.buffers.now.writer) (map need_of (slice_range s.frames c.args.from to)) placed in
-      let one = λ (file : List ℕ). placed_as p (frame_of file s c.loop-place.reading.next row) ∷ [] in
+      let last = last_reach window (reach_of c.args.buffers.now.writer)
+      (map need_of (slice_range s.frames c.args.from to)) placed in
+      let one =
+      λ (file : List ℕ). placed_as p (frame_of file s c.loop-place.reading.next row) ∷ [] in
       err_at c.from_residual.result _ c.from_residual.ensures.1
-      (part_more self.pass.input.now self.pass.output.now (λ file. sofar.made file ++ one file) (rest g at next refl) (λ file. relaid (slice_range (all_frames file s) c.args.from to) placed) reach last (writing_in c.args.buffers.now) (seen c.args.folder.now).files (seen c.place.new.folder).files
+      (part_more self.pass.input.now self.pass.output.now (λ file. sofar.made file ++ one file)
+      (rest g at next refl)
+      (λ file. relaid (slice_range (all_frames file s) c.args.from to) placed) reach last
+      (writing_in c.args.buffers.now) (seen c.args.folder.now).files (seen c.place.new.folder).files
       (λ file holds later begins.
       let has = c.requires.stands.ready.exact file holds in
-      begins-left window reach (map need_of (slice_range s.frames next to)) (slice_range (all_frames file s) next to) (drop (c.loop-place.place-index + 1) placed) later (needs-range file s next to has) (opened g at next refl).2
+      begins-left window reach (map need_of (slice_range s.frames next to))
+      (slice_range (all_frames file s) next to) (drop (c.loop-place.place-index + 1) placed) later
+      (needs-range file s next to has) (opened g at next refl).2
       (subst (λ n. BeginsWithin n (pieces later)) (sym (last_is g at next refl)) begins))
       (split g at next refl)
-      (part_then self.pass.input.now self.pass.output.now sofar.made one (writing_in c.args.buffers.now) (writing_in c.loop-place.buffers) (seen c.args.folder.now).files (seen c.loop-place.folder).files c.requires.stands.ready.pass.apart sofar.lays reach (seen c.place.new.folder).files c.in_err-reading.ensures.gives.part));
+      (part_then self.pass.input.now self.pass.output.now sofar.made one (writing_in
+      c.args.buffers.now) (writing_in c.loop-place.buffers) (seen c.args.folder.now).files
+      (seen c.loop-place.folder).files c.requires.stands.ready.pass.apart sofar.lays reach
+      (seen c.place.new.folder).files c.in_err-reading.ensures.gives.part));
   reach = search rules;
   done = search rules;
   cause = let s = tells c.args.self.now.survey.now in
       let sofar = c.loop-place.invariant.lays in
       let q = err_from_is_err_and c.from_residual.result c.from_residual.ensures.1 in
       rw (q.1, q.2)
-      (cause_later _ (g.D.Folder.seen c.args.folder.now).files (g.D.Folder.seen c.loop-place.folder).files c.args.self.now.pass.output.now sofar.lays.passed _ _ _ _ sofar.lays.files c.loop-place.invariant.counts c.in_err-reading.ensures.gives.cause);
+      (cause_later _ (g.D.Folder.seen c.args.folder.now).files
+      (g.D.Folder.seen c.loop-place.folder).files c.args.self.now.pass.output.now sofar.lays.passed
+      _ _ _ _ sofar.lays.files c.loop-place.invariant.counts c.in_err-reading.ensures.gives.cause);
 }
 
 pub loop-place-preserved : goal.loop-place-preserved
@@ -158,15 +186,22 @@ loop-place-preserved g c =
     let needs = map need_of (slice_range s.frames c.in_ok-reading.reading.next c.args.to) in
     let more = drop (c.loop-place.place-index + 1) c.args.placed.now in
     let window = window_of s.class.version in
-    let one = λ (file : List ℕ). placed_as p (frame_of file s c.loop-place.reading.next c.index-rows-reading.result) ∷ [] in
+    let one = λ (file : List ℕ).
+    placed_as p (frame_of file s c.loop-place.reading.next c.index-rows-reading.result) ∷ [] in
     record {
       stands = c.in_ok-reading.ensures.stands;
       early = omega (arith, next_is, step-most p.lead_in, some g at);
-      fits = subst (λ n. FitsFrom window n needs more) (sym c.in_ok-reading.ensures.gives.reach) (opened g at c.in_ok-reading.reading.next next_is).2;
-      reach = ap (λ n. last_reach window n needs more) c.in_ok-reading.ensures.gives.reach ∙ last_is g at c.in_ok-reading.reading.next next_is;
+      fits = subst (λ n. FitsFrom window n needs more) (sym c.in_ok-reading.ensures.gives.reach)
+          (opened g at c.in_ok-reading.reading.next next_is).2;
+      reach = ap (λ n. last_reach window n needs more) c.in_ok-reading.ensures.gives.reach
+          ∙ last_is g at c.in_ok-reading.reading.next next_is;
       lays = record {
         made = λ file. inv.lays.made file ++ one file;
-        lays = lays_then self.pass.input.now self.pass.output.now inv.lays.made one (writing_in c.args.buffers.now) (writing_in c.loop-place.buffers) (seen c.args.folder.now).files (seen c.loop-place.folder).files c.requires.stands.ready.pass.apart inv.lays.lays (writing_in c.place.new.buffers) (seen c.place.new.folder).files
+        lays = lays_then self.pass.input.now self.pass.output.now inv.lays.made one
+            (writing_in c.args.buffers.now) (writing_in c.loop-place.buffers)
+            (seen c.args.folder.now).files (seen c.loop-place.folder).files
+            c.requires.stands.ready.pass.apart inv.lays.lays (writing_in c.place.new.buffers)
+            (seen c.place.new.folder).files
             c.in_ok-reading.ensures.gives.lays;
         left = λ file holds. sym (split g at c.in_ok-reading.reading.next next_is file holds);
       };
@@ -180,7 +215,8 @@ returns-clause-gives g c = record {
       let placed = c.args.placed.now in
       let k = c.loop-place.place-index in
       let none : drop k placed ≡ [] = drop_all k placed (omega (arith, c.loop-place-test.false)) in
-      lays-all self.pass.input.now self.pass.output.now _ _ (writing_in c.args.buffers.now) (writing_in c.loop-place.buffers) _ _ c.loop-place.invariant.lays (λ file holds.
+      lays-all self.pass.input.now self.pass.output.now _ _ (writing_in c.args.buffers.now)
+      (writing_in c.loop-place.buffers) _ _ c.loop-place.invariant.lays (λ file holds.
       let frames = slice_range (all_frames file s) c.loop-place.reading.next c.args.to in
       ap (relaid frames) none ∙ relaid-end frames);
   part = search rules;
@@ -200,7 +236,8 @@ returns-clause-gives g c = record {
 }
 
 -- if there is a place, there is a frame
-bounded : (g : given.Over) (c : After-place-item g) → c.loop-place.reading.next < length c.frames-rows.result.now
+bounded : (g : given.Over) (c : After-place-item g)
+    → c.loop-place.reading.next < length c.frames-rows.result.now
 bounded g c =
     let s = tells c.args.self.now.survey.now in
     let placed = c.args.placed.now in
@@ -208,12 +245,17 @@ bounded g c =
     let p = c.place-item.result in
     let window = window_of s.class.version in
     let reach = reach_of c.loop-place.buffers.writer in
-    let left : drop k placed ≡ p ∷ drop (k + 1) placed = item-next placed k p (omega (arith, c.loop-place-test.true)) c.place-item.is in
-    let within = fits-some window reach s c.loop-place.reading.next c.args.to p (drop (k + 1) placed) (subst (FitsFrom window reach (map need_of (slice_range s.frames c.loop-place.reading.next c.args.to))) left c.loop-place.invariant.fits) in
+    let left : drop k placed ≡ p ∷ drop (k + 1) placed =
+    item-next placed k p (omega (arith, c.loop-place-test.true)) c.place-item.is in
+    let within = fits-some window reach s c.loop-place.reading.next c.args.to p
+    (drop (k + 1) placed) (subst (FitsFrom window reach (map need_of (slice_range s.frames
+    c.loop-place.reading.next c.args.to))) left c.loop-place.invariant.fits) in
     omega (arith, within, c.requires.within, ap length c.frames-rows.ensures)
 
 pub offset_bounds-rows-reading : goal.offset_bounds-rows-reading
-offset_bounds-rows-reading g c = let lt = bounded g (goal.at.offset_bounds-rows-reading g c).After-place-item in omega (arith, lt)
+offset_bounds-rows-reading g c = let lt =
+    bounded g (goal.at.offset_bounds-rows-reading g c).After-place-item in omega (arith, lt)
 
 pub bounds-rows-reading : goal.bounds-rows-reading
-bounds-rows-reading g c = let lt = bounded g (goal.at.bounds-rows-reading g c).After-place-item in omega (arith, lt)
+bounds-rows-reading g c = let lt = bounded g (goal.at.bounds-rows-reading g c).After-place-item in
+    omega (arith, lt)

@@ -1,22 +1,25 @@
 -- What main_data_begin may be fits its bits.
-use Rattle.std.proofs.Common.{rules, ◌≡◌, ap, ◌∙◌, subst, sym, arith}
+use Rattle.std.proofs.Common.{ap, arith, rules, subst, sym, ◌∙◌, ◌≡◌}
 use Rattle.frame_header.specs.Tables.{class_of}
+use Rattle.laying.proofs.{PlannedFrames.begun_fits, relay.Relay.lead_in.Goals.After-with_begin-side}
+use Rattle.side_info.{proofs.SideLaws.SideFits-no_side, specs.Side.{no_side, SideFits}}
 use Rattle.side_info.specs.declared.side.Side.{Side}
-use Rattle.side_info.specs.Side.{no_side, SideFits}
-use Rattle.side_info.proofs.SideLaws.{SideFits-no_side}
-use Rattle.laying.proofs.PlannedFrames.{begun_fits}
 use Rattle.laying.proofs.relay.Relay.lead_in.Given as given
 use Rattle.laying.proofs.relay.Relay.lead_in.Goals as goal
-use Rattle.laying.proofs.relay.Relay.lead_in.Goals.{After-with_begin-side}
 
-fits : (g : given.Over) (c : After-with_begin-side g) → SideFits c.args.writer.now.class c.with_begin-side.result
+fits : (g : given.Over) (c : After-with_begin-side g)
+    → SideFits c.args.writer.now.class c.with_begin-side.result
 fits g c =
     let class = c.args.writer.now.class in
-    subst (SideFits class) (sym (c.with_begin-side.ensures ∙ ap (λ (s : Side). record s { main_data_begin = c.args.place.now.begin }) c.empty.ensures))
-    (begun_fits class no_side c.args.place.now.begin (SideFits-no_side class) (omega (arith, c.requires.begin)))
+    subst (SideFits class) (sym (c.with_begin-side.ensures
+    ∙ ap (λ (s : Side). record s { main_data_begin = c.args.place.now.begin }) c.empty.ensures))
+    (begun_fits class no_side c.args.place.now.begin (SideFits-no_side class)
+    (omega (arith, c.requires.begin)))
 
-class : (g : given.Over) (c : After-with_begin-side g) → class_of c.unprotected-header.result ≡ c.args.writer.now.class
-class g c = ap class_of c.unprotected-header.ensures ∙ ap class_of c.header.ensures ∙ c.requires.class
+class : (g : given.Over) (c : After-with_begin-side g)
+    → class_of c.unprotected-header.result ≡ c.args.writer.now.class
+class g c =
+    ap class_of c.unprotected-header.ensures ∙ ap class_of c.header.ensures ∙ c.requires.class
 
 pub new-front-requires : goal.new-front-requires
 new-front-requires g c =
@@ -28,7 +31,9 @@ write_frame-requires-clause-next g c =
     let at = (goal.at.write_frame-requires-clause-next g c).After-with_begin-side in
     record {
       class = search rules;
-      fits = subst (SideFits c.args.writer.now.class) (sym (ap (λ f. f.kept.side) c.new-frame.ensures ∙ ap (λ k. k.side) c.new-front.ensures)) (fits g at);
+      fits = subst (SideFits c.args.writer.now.class)
+          (sym (ap (λ f. f.kept.side) c.new-frame.ensures ∙ ap (λ k. k.side) c.new-front.ensures))
+          (fits g at);
       begin = search rules;
       within = search rules;
       few = search rules;

@@ -1,30 +1,32 @@
 -- A lead-in, or the frame.
-use Rattle.std.proofs.Common.{rules, ℕ, ◌+◌, ◌-◌, ◌≤◌, min, Bool, cond, false, List, [], ◌∷◌, sym, ◌∙◌, ap, subst, arith}
-use Rattle.frame_header.specs.Tables.{class_of, area_of, window_of}
-use Rattle.outside.proofs.PassedLaws.{err_at, err_by}
-use Rattle.frame_writer.proofs.WritingLaws.{ok-map}
-use Rattle.sync_survey.specs.Faults.{tells}
-use Rattle.laying.specs.Needs.{need_of}
-use Rattle.laying.specs.Relaid.{frame_of, moved_to, lead_in_before}
-use Rattle.frame_writer.specs.Frames.{Frame}
-use Rattle.frame_writer.specs.Writing.{writing}
-use Rattle.slot_plan.specs.declared.needs.Placed.{Placed}
-use Rattle.sync_survey.specs.Row.{Row}
+use Rattle.std.proofs.Common.{ap, arith, Bool, cond, false, List, min, rules, subst, sym, ℕ, []}
+use Rattle.std.proofs.Common.{◌+◌, ◌-◌, ◌∙◌, ◌∷◌, ◌≤◌}
+use Rattle.frame_header.specs.Tables.{area_of, class_of, window_of}
+use Rattle.frame_writer.{proofs.WritingLaws.ok-map, specs.{Frames.Frame, Writing.writing}}
+use Rattle.laying.proofs.PassLaws.{holds-later, lays_one, part_one, ready-later}
+use Rattle.laying.{proofs.RelayLaws.reach-lead, specs.Needs.need_of}
+use Rattle.laying.specs.Passing.{GivesFrames, GivesPart, placed_frame, reach_at, window_in}
+use Rattle.laying.specs.{Passing.writing_in, Relaid.{frame_of, lead_in_before, moved_to}}
 use Rattle.laying.specs.declared.relay.Relay.{Relay}
-use Rattle.laying.specs.Passing.{GivesFrames, GivesPart, writing_in, placed_frame, window_in, reach_at}
-use Rattle.laying.proofs.PassLaws.{ready-later, holds-later, lays_one, part_one}
-use Rattle.laying.proofs.RelayLaws.{reach-lead}
+use Rattle.outside.proofs.PassedLaws.{err_at, err_by}
+use Rattle.slot_plan.specs.declared.needs.Placed.{Placed}
+use Rattle.sync_survey.specs.{Faults.tells, Row.Row}
 use Rattle.laying.proofs.relay.Relay.place.Goals as goal
 
 pub lead_in-requires-clause-class : goal.lead_in-requires-clause-class
-lead_in-requires-clause-class g c = (c.requires.stands.on.ready.laid.placed c.args.reading.now.next c.args.known.now.row.now c.requires.next.found).class_is ∙ sym c.requires.stands.on.class
+lead_in-requires-clause-class g c = (c.requires.stands.on.ready.laid.placed c.args.reading.now.next
+    c.args.known.now.row.now c.requires.next.found).class_is ∙ sym c.requires.stands.on.class
 
--- what is at a place of the plan, and how far back main data may begin after it, by whether it is a lead-in
+-- what is at a place of the plan, and how far back main
+-- data may begin after it, by whether it is a lead-in
 abbrev frame_by : Relay → ℕ → Row → Placed → Bool → List ℕ → List Frame
-frame_by relay i row p lead file = cond lead (lead_in_before p row.header) (moved_to p (frame_of file (tells relay.survey.now) i row)) ∷ []
+frame_by relay i row p lead file = cond lead (lead_in_before p row.header)
+    (moved_to p (frame_of file (tells relay.survey.now) i row)) ∷ []
 
 abbrev reach_by : Relay → Row → Placed → Bool → ℕ
-reach_by relay row p lead = min (window_in (tells relay.survey.now)) (p.begin + area_of (class_of row.header) p.slot (cond lead false row.header.protected) - cond lead 0 (need_of row).bytes)
+reach_by relay row p lead = min (window_in (tells relay.survey.now))
+    (p.begin + area_of (class_of row.header) p.slot (cond lead false row.header.protected)
+    - cond lead 0 (need_of row).bytes)
 
 pub returns-in_err-lead_in-clause-gives : goal.returns-in_err-lead_in-clause-gives
 returns-in_err-lead_in-clause-gives g c = record {
@@ -34,10 +36,19 @@ returns-in_err-lead_in-clause-gives g c = record {
       let p = c.args.place.now in
       let window = window_in (tells self.survey.now) in
       let reach : reach_at self row p ≤ c.lead_in.new.writer.waiting.free =
-      omega (arith, reach-lead window p (need_of row) c.if-place.true, c.lead_in.ensures.reach, ap (λ class. window_of class.version) c.requires.stands.on.class) in
+      omega (
+        arith,
+        reach-lead window p (need_of row) c.if-place.true,
+        c.lead_in.ensures.reach,
+        ap (λ class. window_of class.version) c.requires.stands.on.class,
+      ) in
       err_at c.from_residual.result _ c.from_residual.ensures.1
-      (part_one self.pass.input.now self.pass.output.now (placed_frame self c.args.reading.now.next row p) (reach_at self row p) (lead_in_before p row.header) (writing_in c.args.buffers.now) c.lead_in.new.writer (g.D.Folder.seen c.args.folder.now).files (g.D.Folder.seen c.lead_in.new.folder).files
-      (λ file holds. ap (λ lead. frame_by self c.args.reading.now.next row p lead file) (sym c.if-place.true)) reach c.in_err-lead_in.ensures.part);
+      (part_one self.pass.input.now self.pass.output.now
+      (placed_frame self c.args.reading.now.next row p) (reach_at self row p)
+      (lead_in_before p row.header) (writing_in c.args.buffers.now) c.lead_in.new.writer
+      (g.D.Folder.seen c.args.folder.now).files (g.D.Folder.seen c.lead_in.new.folder).files
+      (λ file holds. ap (λ lead. frame_by self c.args.reading.now.next row p lead file)
+      (sym c.if-place.true)) reach c.in_err-lead_in.ensures.part);
   reach = search rules;
   done = search rules;
   cause = search rules;
@@ -47,12 +58,16 @@ pub returns-else-place-clause-gives : goal.returns-else-place-clause-gives
 returns-else-place-clause-gives g c = record {
   lays = ok-map c.frame.result
       (λ lays. subst
-      (λ lead. GivesFrames c.args.self.now (frame_by c.args.self.now c.args.reading.now.next c.args.known.now.row.now c.args.place.now lead) c.args.buffers.now c.frame.new.buffers (g.D.Folder.seen c.args.folder.now).files (g.D.Folder.seen c.frame.new.folder).files)
+      (λ lead. GivesFrames c.args.self.now (frame_by c.args.self.now c.args.reading.now.next
+      c.args.known.now.row.now c.args.place.now lead) c.args.buffers.now c.frame.new.buffers
+      (g.D.Folder.seen c.args.folder.now).files (g.D.Folder.seen c.frame.new.folder).files)
       (sym c.if-place.false) lays)
       c.frame.ensures.gives.lays;
   part = err_by c.frame.result
       (λ fault part. subst
-      (λ lead. GivesPart c.args.self.now (frame_by c.args.self.now c.args.reading.now.next c.args.known.now.row.now c.args.place.now lead) (reach_by c.args.self.now c.args.known.now.row.now c.args.place.now lead) c.args.buffers.now
+      (λ lead. GivesPart c.args.self.now (frame_by c.args.self.now c.args.reading.now.next
+      c.args.known.now.row.now c.args.place.now lead)
+      (reach_by c.args.self.now c.args.known.now.row.now c.args.place.now lead) c.args.buffers.now
       (g.D.Folder.seen c.args.folder.now).files (g.D.Folder.seen c.frame.new.folder).files fault)
       (sym c.if-place.false) part)
       c.frame.ensures.gives.part;
@@ -66,8 +81,12 @@ returns-in_ok-lead_in-clause-gives g c = record {
   lays = let pass = c.args.self.now.pass in
       let p = c.args.place.now in
       let row = c.args.known.now.row.now in
-      lays_one pass.input.now pass.output.now (placed_frame c.args.self.now c.args.reading.now.next row p) (lead_in_before p row.header) (writing_in c.args.buffers.now) (writing c.lead_in.new.writer c.lead_in.new.unsent) (g.D.Folder.seen c.args.folder.now).files (g.D.Folder.seen c.lead_in.new.folder).files
-      (λ file holds. ap (λ lead. frame_by c.args.self.now c.args.reading.now.next row p lead file) (sym c.if-place.true)) c.in_ok-lead_in.ensures.written;
+      lays_one pass.input.now pass.output.now
+      (placed_frame c.args.self.now c.args.reading.now.next row p) (lead_in_before p row.header)
+      (writing_in c.args.buffers.now) (writing c.lead_in.new.writer c.lead_in.new.unsent)
+      (g.D.Folder.seen c.args.folder.now).files (g.D.Folder.seen c.lead_in.new.folder).files
+      (λ file holds. ap (λ lead. frame_by c.args.self.now c.args.reading.now.next row p lead file)
+      (sym c.if-place.true)) c.in_ok-lead_in.ensures.written;
   part = search rules;
   reach = search rules;
   done = search rules;
@@ -85,5 +104,7 @@ returns-in_ok-lead_in-clause-stands g c = record {
   };
   over = let self = c.args.self.now in
       let on = c.in_ok-lead_in.ensures.written in
-      holds-later c.args.buffers.now.window self.pass.input.now self.pass.output.now (tells self.survey.now) c.args.reading.now.at c.args.reading.now.count c.args.reading.now.next _ _ on.passed c.requires.stands.on.ready.pass.apart on.files c.requires.stands.over;
+      holds-later c.args.buffers.now.window self.pass.input.now self.pass.output.now
+      (tells self.survey.now) c.args.reading.now.at c.args.reading.now.count c.args.reading.now.next
+      _ _ on.passed c.requires.stands.on.ready.pass.apart on.files c.requires.stands.over;
 }

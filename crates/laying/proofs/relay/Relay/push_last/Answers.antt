@@ -1,8 +1,7 @@
 -- The area is in the window then.
-use Rattle.std.proofs.Common.{sym, subst}
+use Rattle.std.proofs.Common.{subst, sym}
+use Rattle.laying.{proofs.ReachLaws.{holds-given, holds-pushed}, specs.Passing.HoldsLast}
 use Rattle.sync_survey.specs.Faults.{tells}
-use Rattle.laying.specs.Passing.{HoldsLast}
-use Rattle.laying.proofs.ReachLaws.{holds-given, holds-pushed}
 use Rattle.laying.proofs.relay.Relay.push_last.Goals as goal
 
 pub returns-clause-over : goal.returns-clause-over
@@ -12,6 +11,9 @@ returns-clause-over g c = λ at within.
     let input = c.args.self.now.pass.input.now in
     let reading = c.args.reading.now in
     let given = c.fill.new.feed.given in
-    let over = subst (λ f. HoldsLast c.args.window.now input f s reading.at reading.count reading.next) (sym c.fill.ensures.reads.files) c.requires.over in
-    holds-pushed c.args.window.now c.push_area.new.self given input files s reading.next (holds-given c.args.window.now given input files s reading.at reading.count reading.next over c.in_ok-fill.ensures.given) at within
+    let over = subst (λ f. HoldsLast c.args.window.now input f s
+    reading.at reading.count reading.next) (sym c.fill.ensures.reads.files) c.requires.over in
+    holds-pushed c.args.window.now c.push_area.new.self given input files s
+    reading.next (holds-given c.args.window.now given input files s
+    reading.at reading.count reading.next over c.in_ok-fill.ensures.given) at within
     (rw c.bytes.ensures at c.push_area.ensures.held)

@@ -1,20 +1,23 @@
 -- One area more is read, up to frame i; then the last 2,048 bytes are there, or all.
-use Rattle.std.proofs.Common.{◌≡◌, ◌<◌, ℕ, List, get_or, length, sym, ◌∙◌, ap, subst, arith, slice_get, Some}
-use Rattle.sync_survey.specs.Row.{Row}
-use Rattle.sync_survey.specs.Faults.{tells}
+use Rattle.std.proofs.Common.{ap, arith, get_or, length, List, slice_get, Some, subst, sym, ℕ, ◌<◌}
+use Rattle.std.proofs.Common.{◌∙◌, ◌≡◌}
+use Rattle.laying.proofs.{ReadLaws.{last-next, last-whole}, RelayLaws.found-at}
 use Rattle.laying.specs.Passing.{IsAreaOf, IsOverLast}
-use Rattle.laying.proofs.ReadLaws.{last-next, last-whole}
-use Rattle.laying.proofs.RelayLaws.{found-at}
+use Rattle.sync_survey.specs.{Faults.tells, Row.Row}
 use Rattle.laying.proofs.relay.Relay.read_before.Goals as goal
 
 -- an element of a list that is another
-read-at : (rows frames : List Row) (at : ℕ) (row : Row) → at < length rows → rows ≡ frames → row ≡ get_or rows at row → slice_get frames at ≡ Some row
-read-at rows frames at row within same is = ap (λ (l : List Row). slice_get l at) (sym same) ∙ found-at rows at row within is
+read-at : (rows frames : List Row) (at : ℕ) (row : Row) → at < length rows → rows ≡ frames
+    → row ≡ get_or rows at row → slice_get frames at ≡ Some row
+read-at rows frames at row within same is =
+    ap (λ (l : List Row). slice_get l at) (sym same) ∙ found-at rows at row within is
 
 pub fill_area-requires-clause-found : goal.fill_area-requires-clause-found
 fill_area-requires-clause-found g c =
-    read-at c.frames-rows.result.now (tells c.args.self.now.survey.now).frames c.loop-at.at c.index-rows-at.result
-    (omega (arith, c.loop-at-test.true, c.requires.within, ap length c.frames-rows.ensures)) c.frames-rows.ensures c.index-rows-at.is
+    read-at c.frames-rows.result.now
+    (tells c.args.self.now.survey.now).frames c.loop-at.at c.index-rows-at.result
+    (omega (arith, c.loop-at-test.true, c.requires.within, ap length c.frames-rows.ensures))
+    c.frames-rows.ensures c.index-rows-at.is
 
 pub overflow_add-at : goal.overflow_add-at
 overflow_add-at g c = omega (arith, c.loop-at-test.true, c.ranges.i.fits)
@@ -28,12 +31,17 @@ loop-at-preserved g c =
     let first = c.first_held-first.result in
     let row = c.index-rows-at.result in
     let found : slice_get s.frames at ≡ Some row =
-    read-at c.frames-rows.result.now s.frames at row (omega (arith, c.loop-at-test.true, c.requires.within, ap length c.frames-rows.ensures)) c.frames-rows.ensures c.index-rows-at.is in
+    read-at c.frames-rows.result.now s.frames at row
+    (omega (arith, c.loop-at-test.true, c.requires.within, ap length c.frames-rows.ensures))
+    c.frames-rows.ensures c.index-rows-at.is in
     record {
       early = omega (arith, c.loop-at-test.true);
-      over = last-next c.loop-at.window c.push_area.new.self c.bytes.result.now self.pass.input.now (seen c.fill_area.new.folder).files s first at row found
-          (subst (λ f. IsOverLast c.loop-at.window self.pass.input.now f s first at) (sym c.fill_area.ensures.reads.files) c.loop-at.invariant.over)
-          (subst (λ (l : List ℕ). IsAreaOf l self.pass.input.now (seen c.fill_area.new.folder).files row) (sym c.bytes.ensures) c.in_ok-fill_area.ensures.area) c.push_area.ensures.main;
+      over = last-next c.loop-at.window c.push_area.new.self c.bytes.result.now self.pass.input.now
+          (seen c.fill_area.new.folder).files s first at row found
+          (subst (λ f. IsOverLast c.loop-at.window self.pass.input.now f s first at)
+          (sym c.fill_area.ensures.reads.files) c.loop-at.invariant.over)
+          (subst (λ (l : List ℕ). IsAreaOf l self.pass.input.now (seen c.fill_area.new.folder).files
+          row) (sym c.bytes.ensures) c.in_ok-fill_area.ensures.area) c.push_area.ensures.main;
       ready = c.fill_area.ensures.reads.ready;
       files = c.fill_area.ensures.reads.files ∙ c.loop-at.invariant.files;
       counts = c.in_ok-fill_area.ensures.reads.done ∙ c.loop-at.invariant.counts;
@@ -44,5 +52,9 @@ returns-clause-over g c =
     let self = c.args.self.now in
     let s = tells self.survey.now in
     let seen = g.D.Folder.seen in
-    last-whole c.loop-at.window self.pass.input.now (seen c.loop-at.folder).files s c.first_held-first.result c.args.i c.loop-at.invariant.ready.pass.source c.first_held-first.ensures.held
-    (subst (IsOverLast c.loop-at.window self.pass.input.now (seen c.loop-at.folder).files s c.first_held-first.result) (omega (arith, c.loop-at-test.false, c.loop-at.invariant.early)) c.loop-at.invariant.over)
+    last-whole c.loop-at.window self.pass.input.now (seen c.loop-at.folder).files s
+    c.first_held-first.result c.args.i c.loop-at.invariant.ready.pass.source
+    c.first_held-first.ensures.held
+    (subst (IsOverLast c.loop-at.window self.pass.input.now (seen c.loop-at.folder).files s
+    c.first_held-first.result)
+    (omega (arith, c.loop-at-test.false, c.loop-at.invariant.early)) c.loop-at.invariant.over)

@@ -1,8 +1,7 @@
 -- Before the first frame there is only the area of the head.
-use Rattle.std.proofs.Common.{◌+◌, [], sym, ◌∙◌, ap, arith}
-use Rattle.sync_survey.specs.MainData.{head_area, head_bytes}
-use Rattle.sync_survey.specs.Faults.{tells}
-use Rattle.laying.proofs.ReadLaws.{place-first, main-first, head-within, area-at}
+use Rattle.std.proofs.Common.{ap, arith, sym, [], ◌+◌, ◌∙◌}
+use Rattle.laying.proofs.ReadLaws.{area-at, head-within, main-first, place-first}
+use Rattle.sync_survey.specs.{Faults.tells, MainData.{head_area, head_bytes}}
 use Rattle.laying.proofs.relay.Relay.read_head.Goals as goal
 
 pub returns-in_default-clause-over : goal.returns-in_default-clause-over
@@ -20,13 +19,25 @@ pub overflow_add-at : goal.overflow_add-at
 overflow_add-at g c =
     let s = tells c.args.self.now.survey.now in
     let laid = c.requires.ready.laid in
-    omega (arith, head-within s c.in-Some.head laid (sym c.head.ensures ∙ c.in-Some.is), laid.few, c.from.ensures, c.overhead.ensures.most)
+    omega (
+      arith,
+      head-within s c.in-Some.head laid (sym c.head.ensures ∙ c.in-Some.is),
+      laid.few,
+      c.from.ensures,
+      c.overhead.ensures.most,
+    )
 
 pub fill-requires-clause-within : goal.fill-requires-clause-within
 fill-requires-clause-within g c =
     let s = tells c.args.self.now.survey.now in
     let laid = c.requires.ready.laid in
-    omega (arith, head-within s c.in-Some.head laid (sym c.head.ensures ∙ c.in-Some.is), c.from.ensures, c.overhead.ensures.whole, c.area-area.ensures.area)
+    omega (
+      arith,
+      head-within s c.in-Some.head laid (sym c.head.ensures ∙ c.in-Some.is),
+      c.from.ensures,
+      c.overhead.ensures.whole,
+      c.area-area.ensures.area,
+    )
 
 pub returns-clause-over : goal.returns-clause-over
 returns-clause-over g c =
@@ -38,6 +49,9 @@ returns-clause-over g c =
     record {
       main = c.fill.new.feed.given;
       held = rw c.bytes.ensures at (c.push_area.ensures.main [] c.requires.none);
-      long = given.long ∙ c.area-area.ensures.area ∙ sym (place-first s.head s.frames ∙ ap head_area some);
-      is = λ file holds. given.is file holds ∙ area-at file head.offset head.header _ _ at c.area-area.ensures.area ∙ sym (main-first file s.head s.frames ∙ ap (head_bytes file) some);
+      long = given.long ∙ c.area-area.ensures.area
+          ∙ sym (place-first s.head s.frames ∙ ap head_area some);
+      is = λ file holds. given.is file holds
+          ∙ area-at file head.offset head.header _ _ at c.area-area.ensures.area
+          ∙ sym (main-first file s.head s.frames ∙ ap (head_bytes file) some);
     }

@@ -1,19 +1,17 @@
--- What is before the frames and the frames, then what is after them, and then what of these still waits.
-use Rattle.std.proofs.Common.{rules, ◌++◌, List, ℕ, [], sym, ◌∙◌, append-nil}
-use Rattle.std.specs.List.{concat}
-use Rattle.std.proofs.lemmas.Result.{on_ok_weaker, err_from_is_err_and}
-use Rattle.outside.specs.Files.{Files}
-use Rattle.outside.specs.Pass.{Writes}
-use Rattle.outside.proofs.PassedLaws.{err_at, err_by}
-use Rattle.outside.proofs.PassLaws.{prefix_as, writes_as, writes_then, prefix_then, writes_all, writes_end, writes_behind_none, part_behind_none, cause_behind, causes_behind}
+-- What is before the frames and the frames, then what
+-- is after them, and then what of these still waits.
+use Rattle.std.proofs.Common.{append-nil, List, rules, sym, ℕ, [], ◌++◌, ◌∙◌}
+use Rattle.std.{proofs.lemmas.Result.{err_from_is_err_and, on_ok_weaker}, specs.List.concat}
+use Rattle.laying.proofs.{LaidLaws.written-is, PassLaws.ready-later}
+use Rattle.laying.proofs.relay.Relay.write.Goals.{In_ok-copy_blocks}
+use Rattle.laying.specs.{Laid.{file_laid, laid_in, selected_front}, Written.back_blocks}
+use Rattle.outside.proofs.PassLaws.{cause_behind, causes_behind, part_behind_none, prefix_as}
+use Rattle.outside.proofs.PassLaws.{prefix_then, writes_all, writes_as, writes_behind_none}
+use Rattle.outside.proofs.{PassLaws.{writes_end, writes_then}, PassedLaws.{err_at, err_by}}
+use Rattle.outside.specs.{Files.Files, Pass.Writes}
 use Rattle.sync_survey.specs.Faults.{SurveyFields, tells}
-use Rattle.laying.specs.Written.{back_blocks}
-use Rattle.laying.specs.Laid.{laid_in, file_laid, selected_front}
-use Rattle.laying.proofs.LaidLaws.{written-is}
-use Rattle.laying.proofs.PassLaws.{ready-later}
 use Rattle.laying.proofs.relay.Relay.write.Given as given
 use Rattle.laying.proofs.relay.Relay.write.Goals as goal
-use Rattle.laying.proofs.relay.Relay.write.Goals.{In_ok-copy_blocks}
 
 -- the other blocks
 abbrev back : SurveyFields → List ℕ → List ℕ
@@ -26,7 +24,9 @@ returns-in_err-write_frames g c = record {
       let selected = c.args.selected.now in
       err_at c.from_residual.result _ c.from_residual.ensures.1
       (part_behind_none c.requires.none
-      (prefix_as c.args.self.now.pass (λ file. file_laid (laid_in selected) file s) (back s) (λ file holds. sym (written-is s selected file c.requires.writable (c.requires.ready.exact file holds))) c.in_err-write_frames.ensures.prefix));
+      (prefix_as c.args.self.now.pass (λ file. file_laid (laid_in selected) file s) (back s)
+      (λ file holds. sym (written-is s selected file c.requires.writable
+      (c.requires.ready.exact file holds))) c.in_err-write_frames.ensures.prefix));
   none = search rules;
   done = search rules;
   cause = search rules;
@@ -39,15 +39,20 @@ returns-in_err-copy_blocks g c = record {
   prefix = let s = tells c.args.self.now.survey.now in
       let selected = c.args.selected.now in
       let pass = c.args.self.now.pass in
-      err_at c.from_residual-in_err-copy_blocks.result _ c.from_residual-in_err-copy_blocks.ensures.1
+      err_at c.from_residual-in_err-copy_blocks.result _
+      c.from_residual-in_err-copy_blocks.ensures.1
       (part_behind_none c.requires.none
       (prefix_as pass (λ file. file_laid (laid_in selected) file s) (λ file. [])
-      (λ file holds. sym (append-nil (selected_front s selected file ++ back s file) ∙ written-is s selected file c.requires.writable (c.requires.ready.exact file holds)))
-      (prefix_then pass c.requires.ready.pass.apart c.in_ok-write_frames.ensures.written c.in_err-copy_blocks.ensures.prefix)));
+      (λ file holds. sym (append-nil (selected_front s selected file ++ back s file)
+      ∙ written-is s selected file c.requires.writable (c.requires.ready.exact file holds)))
+      (prefix_then pass c.requires.ready.pass.apart c.in_ok-write_frames.ensures.written
+      c.in_err-copy_blocks.ensures.prefix)));
   none = search rules;
   done = search rules;
-  cause = let p = err_from_is_err_and c.from_residual-in_err-copy_blocks.result c.from_residual-in_err-copy_blocks.ensures.1 in
-      rw (p.1, p.2) (cause_behind c.in_ok-write_frames.ensures.written _ _ _ _ c.in_ok-write_frames.ensures.done _ c.in_err-copy_blocks.ensures.cause);
+  cause = let p = err_from_is_err_and c.from_residual-in_err-copy_blocks.result
+      c.from_residual-in_err-copy_blocks.ensures.1 in
+      rw (p.1, p.2) (cause_behind c.in_ok-write_frames.ensures.written _ _ _ _
+      c.in_ok-write_frames.ensures.done _ c.in_err-copy_blocks.ensures.cause);
   ready = search rules;
 }
 
@@ -65,18 +70,27 @@ module _ (g : given.Over) (c : In_ok-copy_blocks g) where
   abbrev made : List ℕ → List ℕ
   made file = file_laid (laid_in c.args.selected.now) file s
 
-  both : Writes c.args.self.now.pass (λ file. selected_front s c.args.selected.now file ++ back s file) c.args.buffers.now.waiting c.copy_blocks.new.waiting old new
-  both = writes_then c.args.self.now.pass c.requires.ready.pass.apart c.in_ok-write_frames.ensures.written c.in_ok-copy_blocks.ensures.written
+  both : Writes c.args.self.now.pass (λ file. selected_front s c.args.selected.now file
+      ++ back s file) c.args.buffers.now.waiting c.copy_blocks.new.waiting old new
+  both = writes_then c.args.self.now.pass c.requires.ready.pass.apart
+      c.in_ok-write_frames.ensures.written c.in_ok-copy_blocks.ensures.written
 
   all : Writes c.args.self.now.pass made [] c.copy_blocks.new.waiting old new
-  all = writes_behind_none c.requires.none (writes_as c.args.self.now.pass made (λ file holds. written-is s c.args.selected.now file c.requires.writable (c.requires.ready.exact file holds)) both)
+  all = writes_behind_none c.requires.none (writes_as c.args.self.now.pass made
+      (λ file holds. written-is s c.args.selected.now file
+      c.requires.writable (c.requires.ready.exact file holds)) both)
 
 pub returns : goal.returns
 returns g c = record {
-  written = on_ok_weaker c.finish.result (λ is. writes_all c.args.self.now.pass _ (all g (goal.at.returns g c).In_ok-copy_blocks) is) c.finish.ensures.appended;
-  prefix = err_by c.finish.result (λ fault part. writes_end c.args.self.now.pass _ (all g (goal.at.returns g c).In_ok-copy_blocks) part) c.finish.ensures.prefix;
+  written = on_ok_weaker c.finish.result (λ is. writes_all c.args.self.now.pass _
+      (all g (goal.at.returns g c).In_ok-copy_blocks) is) c.finish.ensures.appended;
+  prefix = err_by c.finish.result (λ fault part. writes_end c.args.self.now.pass _
+      (all g (goal.at.returns g c).In_ok-copy_blocks) part) c.finish.ensures.prefix;
   none = search rules;
   done = search rules;
-  cause = causes_behind (both g (goal.at.returns g c).In_ok-copy_blocks) _ _ _ _ (c.in_ok-copy_blocks.ensures.done ∙ c.in_ok-write_frames.ensures.done) c.finish.result c.finish.ensures.cause;
-  ready = on_ok_weaker c.finish.result (λ is. ready-later c.args.self.now _ _ _ _ is c.in_ok-copy_blocks.ensures.ready) c.finish.ensures.appended;
+  cause = causes_behind (both g (goal.at.returns g c).In_ok-copy_blocks) _ _ _ _
+      (c.in_ok-copy_blocks.ensures.done ∙ c.in_ok-write_frames.ensures.done)
+      c.finish.result c.finish.ensures.cause;
+  ready = on_ok_weaker c.finish.result (λ is. ready-later c.args.self.now _ _ _ _ is
+      c.in_ok-copy_blocks.ensures.ready) c.finish.ensures.appended;
 }

@@ -1,11 +1,9 @@
 -- The blocks before the frames, and the bytes of the Info frame.
-use Rattle.std.proofs.Common.{rules, ◌++◌, true, refl}
-use Rattle.std.proofs.lemmas.Result.{on_ok_weaker}
-use Rattle.outside.proofs.PassedLaws.{err_at, err_by}
-use Rattle.outside.proofs.PassLaws.{prefix_as, writes_then, prefix_then, writes_piece, prefix_piece, causes_behind}
+use Rattle.std.proofs.{Common.{refl, rules, true, ◌++◌}, lemmas.Result.on_ok_weaker}
+use Rattle.laying.{proofs.PassLaws.{ok_never, ready-passed}, specs.Copying.chosen_bytes}
+use Rattle.outside.proofs.PassLaws.{causes_behind, prefix_as, prefix_piece, prefix_then}
+use Rattle.outside.proofs.{PassLaws.{writes_piece, writes_then}, PassedLaws.{err_at, err_by}}
 use Rattle.sync_survey.specs.Faults.{tells}
-use Rattle.laying.specs.Copying.{chosen_bytes}
-use Rattle.laying.proofs.PassLaws.{ready-passed, ok_never}
 use Rattle.laying.proofs.relay.Relay.write_front.Goals as goal
 
 pub returns-in_err-copy_blocks-clause-adds : goal.returns-in_err-copy_blocks-clause-adds
@@ -14,19 +12,27 @@ returns-in_err-copy_blocks-clause-adds g c = record {
   prefix = let s = tells c.args.self.now.survey.now in
       let front = chosen_bytes true s s.blocks in
       err_at c.from_residual.result _ c.from_residual.ensures.1
-      (prefix_as c.args.self.now.pass (λ file. front file ++ c.args.info.now) (λ file. c.args.info.now) (λ file holds. refl) c.in_err-copy_blocks.ensures.prefix);
+      (prefix_as c.args.self.now.pass (λ file. front file ++ c.args.info.now)
+      (λ file. c.args.info.now) (λ file holds. refl) c.in_err-copy_blocks.ensures.prefix);
   done = ok_never _ _ c.from_residual.result c.from_residual.ensures.1;
-  cause = err_at c.from_residual.result _ c.from_residual.ensures.1 c.in_err-copy_blocks.ensures.cause;
+  cause =
+      err_at c.from_residual.result _ c.from_residual.ensures.1 c.in_err-copy_blocks.ensures.cause;
   ready = ok_never _ _ c.from_residual.result c.from_residual.ensures.1;
 }
 
 pub returns-clause-adds : goal.returns-clause-adds
 returns-clause-adds g c = record {
   written = on_ok_weaker c.send.result
-      (λ passed. writes_then c.args.self.now.pass c.requires.ready.pass.apart c.in_ok-copy_blocks.ensures.written (writes_piece c.args.self.now.pass (λ file. c.args.info.now) (λ file holds. refl) passed)) c.send.ensures.hands.passed;
+      (λ passed. writes_then c.args.self.now.pass c.requires.ready.pass.apart
+      c.in_ok-copy_blocks.ensures.written (writes_piece c.args.self.now.pass
+      (λ file. c.args.info.now) (λ file holds. refl) passed)) c.send.ensures.hands.passed;
   prefix = err_by c.send.result
-      (λ fault part. prefix_then c.args.self.now.pass c.requires.ready.pass.apart c.in_ok-copy_blocks.ensures.written (prefix_piece c.args.self.now.pass (λ file. c.args.info.now) (λ file holds. refl) part)) c.send.ensures.hands.prefix;
+      (λ fault part. prefix_then c.args.self.now.pass c.requires.ready.pass.apart
+      c.in_ok-copy_blocks.ensures.written (prefix_piece c.args.self.now.pass
+      (λ file. c.args.info.now) (λ file holds. refl) part)) c.send.ensures.hands.prefix;
   done = search rules;
-  cause = causes_behind c.in_ok-copy_blocks.ensures.written _ _ _ _ c.in_ok-copy_blocks.ensures.done c.send.result c.send.ensures.hands.cause;
-  ready = on_ok_weaker c.send.result (λ passed. ready-passed c.args.self.now passed c.in_ok-copy_blocks.ensures.ready) c.send.ensures.hands.passed;
+  cause = causes_behind c.in_ok-copy_blocks.ensures.written _ _ _ _
+      c.in_ok-copy_blocks.ensures.done c.send.result c.send.ensures.hands.cause;
+  ready = on_ok_weaker c.send.result (λ passed. ready-passed c.args.self.now passed
+      c.in_ok-copy_blocks.ensures.ready) c.send.ensures.hands.passed;
 }

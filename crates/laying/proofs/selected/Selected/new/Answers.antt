@@ -1,10 +1,8 @@
 -- The Info frame tells of the slots of the plan, which are those of the frames.
-use Rattle.std.proofs.Common.{length, map, sym, ◌∙◌, ap, arith}
-use Rattle.slot_plan.specs.declared.needs.Placed.{Placed}
-use Rattle.slot_plan.specs.Plans.{entries}
+use Rattle.std.proofs.Common.{ap, arith, length, map, sym, ◌∙◌}
+use Rattle.laying.{proofs.LaidLaws.laid-slots, specs.Laid.{frames_laid, laid_between}}
+use Rattle.slot_plan.specs.{Plans.entries, declared.needs.Placed.Placed}
 use Rattle.sync_survey.specs.Faults.{tells}
-use Rattle.laying.specs.Laid.{frames_laid, laid_between}
-use Rattle.laying.proofs.LaidLaws.{laid-slots}
 use Rattle.laying.proofs.selected.Selected.new.Goals as goal
 
 pub info_bytes-info-requires-clause-few : goal.info_bytes-info-requires-clause-few
@@ -19,5 +17,6 @@ returns-clause-writable c = record {
       let s = tells c.args.survey.now in
       let laid = laid_between c.args.from c.args.to c.args.kept (entries c.args.plan) in
       c.info_bytes-info.ensures first (frames_laid laid file s) found
-      (laid-slots laid file s is c.requires.some c.requires.within c.requires.fitting ∙ sym (ap (map (λ (p : Placed). p.slot)) c.placed.ensures));
+      (laid-slots laid file s is c.requires.some c.requires.within c.requires.fitting
+      ∙ sym (ap (map (λ (p : Placed). p.slot)) c.placed.ensures));
 }
