@@ -1,47 +1,53 @@
 -- Frames join a run by what it leaves.
-use Rattle.std.proofs.Common.{◌≡◌, ℕ, ◌<◌, ◌≤◌, Bool, true, List, [], ◌∷◌, ◌++◌, length, drop, Contains, Option, Some, None, refl, sym, ap, ◌∙◌, subst, arith}
-use Rattle.std.specs.Prelude.{option_map, ◌&&◌, slice_index_or}
-use Rattle.std.specs.Bool.{Decides}
-use Rattle.std.proofs.lemmas.Bool.{and_parts, and_from, leb-true, le-leb}
-use Rattle.std.proofs.lemmas.List.{drop-append-le, drop_all}
-use Rattle.frame_header.specs.Fields.{SlotFields, ClassFields, IsClass}
-use Rattle.frame_header.specs.Tables.{class_of, window_of}
-use Rattle.frame_header.specs.Slots.{all_slots}
+use Rattle.std.proofs.Common.{ap, arith, Bool, Contains, drop, length, List, None, Option, refl}
+use Rattle.std.proofs.Common.{Some, subst, sym, true, ℕ, [], ◌++◌, ◌<◌, ◌∙◌, ◌∷◌, ◌≡◌, ◌≤◌}
+use Rattle.std.proofs.lemmas.Bool.{and_from, and_parts, le-leb, leb-true}
+use Rattle.std.{proofs.lemmas.List.{drop-append-le, drop_all}, specs.Bool.Decides}
+use Rattle.std.specs.Prelude.{option_map, slice_index_or, ◌&&◌}
 use Rattle.frame_header.proofs.SlotLaws.{areas-ascend}
-use Rattle.slot_plan.specs.declared.needs.Need.{Need}
-use Rattle.slot_plan.specs.Parts.{own_area, AreOfClass}
-use Rattle.slot_plan.specs.Behind.{FitsBehind, IsLeft, in_slot, first_in, JoinsIn, IsJoin}
-use Rattle.slot_plan.proofs.AreaLaws.{class-ascend}
-use Rattle.slot_plan.proofs.BehindLaws.{more-behind, own-wanted, own_needed, fits-wanted, fits-drop, behind-left, leaves-fit, one-left}
-use Rattle.seam_plan.specs.declared.seam.Seam.{Seam}
-use Rattle.seam_plan.specs.declared.run.Joint.{Joint as CodeJoint}
-use Rattle.seam_plan.specs.Frames.{Frame, needs_of}
+use Rattle.frame_header.specs.{Fields.{ClassFields, IsClass, SlotFields}, Slots.all_slots}
+use Rattle.frame_header.specs.Tables.{class_of, window_of}
+use Rattle.seam_plan.proofs.{FitLaws.fits-tested, SlotLaws.{find-least, find-none}}
+use Rattle.seam_plan.specs.{Decisions.{FitIn, IsJoining}, Frames.{Frame, needs_of}}
 use Rattle.seam_plan.specs.Joins.{fits_behind, is_no_less, join_slot, joining, moved_to}
-use Rattle.seam_plan.specs.Decisions.{IsJoining, FitIn}
-use Rattle.seam_plan.proofs.FitLaws.{fits-tested}
-use Rattle.seam_plan.proofs.SlotLaws.{find-least, find-none}
+use Rattle.seam_plan.specs.declared.{run.Joint.Joint as CodeJoint, seam.Seam.Seam}
+use Rattle.slot_plan.proofs.AreaLaws.{class-ascend}
+use Rattle.slot_plan.proofs.BehindLaws.{behind-left, fits-drop, fits-wanted, leaves-fit}
+use Rattle.slot_plan.proofs.BehindLaws.{more-behind, one-left, own-wanted, own_needed}
+use Rattle.slot_plan.specs.Behind.{first_in, FitsBehind, in_slot, IsJoin, IsLeft, JoinsIn}
+use Rattle.slot_plan.specs.{Parts.{AreOfClass, own_area}, declared.needs.Need.Need}
 
 drop-front : (xs ys : List Need) → drop (length xs) (xs ++ ys) ≡ ys
-drop-front xs ys = drop-append-le (length xs) xs ys (omega arith) ∙ ap (λ l. l ++ ys) (drop_all (length xs) xs (omega arith))
+drop-front xs ys = drop-append-le (length xs) xs ys (omega arith)
+    ∙ ap (λ l. l ++ ys) (drop_all (length xs) xs (omega arith))
 
 module _ (window left : ℕ) (run : List Need) (is : IsLeft window window run left) where
   run-fits : FitsBehind window window run
   run-fits = (leaves-fit window window left run (omega arith) is.leaves).0
 
-  behind-run : (needs : List Need) → FitsBehind window window (run ++ needs) → FitsBehind window left needs
+  behind-run : (needs : List Need) → FitsBehind window window (run ++ needs)
+      → FitsBehind window left needs
   behind-run needs fits =
-      let others : FitsBehind window window needs = subst (FitsBehind window window) (drop-front run needs) (fits-drop window window (length run) (run ++ needs) fits) in
+      let others : FitsBehind window window needs = subst (FitsBehind window window)
+      (drop-front run needs) (fits-drop window window (length run) (run ++ needs) fits) in
       let wanted = own-wanted window window needs others in
       let both = (behind-left window window run needs (omega arith) others).0 fits in
-      (fits-wanted window left (own_needed needs) needs wanted).1 (both.1 left (own_needed needs) is wanted)
+      (fits-wanted window left (own_needed needs) needs wanted).1 (both.1 left
+      (own_needed needs) is wanted)
 
-  run-behind : (needs : List Need) → FitsBehind window left needs → FitsBehind window window (run ++ needs)
+  run-behind : (needs : List Need) → FitsBehind window left needs
+      → FitsBehind window window (run ++ needs)
   run-behind needs fits =
-      (behind-left window window run needs (omega arith) (more-behind window left window needs is.within fits)).1
-      (run-fits, λ other wanted left_is wanted_is. subst (λ n. wanted ≤ n) (one-left window window left other run is left_is) (wanted_is.least left fits))
+      (behind-left window window run needs (omega arith)
+      (more-behind window left window needs is.within fits)).1 (
+        run-fits,
+        λ other wanted left_is wanted_is. subst (λ n. wanted ≤ n)
+            (one-left window window left other run is left_is) (wanted_is.least left fits),
+      )
 
   -- the run and then frames fit behind a whole window where these fit behind what it leaves
-  pub behind-tested : (needs : List Need) → Decides (fits_behind window window (run ++ needs)) (FitsBehind window left needs)
+  pub behind-tested : (needs : List Need)
+      → Decides (fits_behind window window (run ++ needs)) (FitsBehind window left needs)
   behind-tested needs = (
     λ fits. behind-run needs ((fits-tested window window (run ++ needs)).0 fits),
     λ fits. (fits-tested window window (run ++ needs)).1 (run-behind needs fits),
@@ -49,89 +55,128 @@ module _ (window left : ℕ) (run : List Need) (is : IsLeft window window run le
 
   module _ (first : Need) (needs : List Need) (known : IsClass (class_of first.header)) where
     abbrev joins_in : SlotFields → Bool
-    joins_in slot = is_no_less first slot && fits_behind window window (run ++ in_slot slot first ∷ needs)
+    joins_in slot =
+        is_no_less first slot && fits_behind window window (run ++ in_slot slot first ∷ needs)
 
     joins-passes : (slot : SlotFields) → JoinsIn window left first needs slot → joins_in slot ≡ true
     joins-passes slot joins =
         and_from _ _ (le-leb (own_area first) (own_area (in_slot slot first)) joins.not_less)
         ((behind-tested (in_slot slot first ∷ needs)).1 joins.fits)
 
-    passes-joins : (slot : SlotFields) → Contains all_slots slot → joins_in slot ≡ true → JoinsIn window left first needs slot
+    passes-joins : (slot : SlotFields) → Contains all_slots slot → joins_in slot ≡ true
+        → JoinsIn window left first needs slot
     passes-joins slot has passes =
-        let both = and_parts (is_no_less first slot) (fits_behind window window (run ++ in_slot slot first ∷ needs)) passes in record {
+        let both = and_parts (is_no_less first slot)
+        (fits_behind window window (run ++ in_slot slot first ∷ needs)) passes in record {
           chosen = has;
           not_less = leb-true (own_area first) (own_area (in_slot slot first)) both.0;
           fits = (behind-tested (in_slot slot first ∷ needs)).0 both.1;
         }
 
-    pub join-found : (slot : SlotFields) → IsJoin window left (first ∷ needs) (Some slot) → join_slot window run first needs ≡ Some slot
+    -- if the frames join in a slot, it is found
+    pub join-found : (slot : SlotFields) → IsJoin window left (first ∷ needs) (Some slot)
+        → join_slot window run first needs ≡ Some slot
     unfolding IsJoin
     join-found slot joins =
         let c : ClassFields = class_of first.header in
         let p : Bool = first.header.protected in
-        find-least c p joins_in all_slots slot (class-ascend c c p all_slots refl refl (areas-ascend c known p)) joins.joins.chosen
-        (joins-passes slot joins.joins) (λ other has passes. joins.least other (passes-joins other has passes))
+        find-least c p joins_in all_slots slot
+        (class-ascend c c p all_slots refl refl (areas-ascend c known p)) joins.joins.chosen
+        (joins-passes slot joins.joins)
+        (λ other has passes. joins.least other (passes-joins other has passes))
 
-    pub join-none : IsJoin window left (first ∷ needs) None → join_slot window run first needs ≡ None
+    -- if they don't, none is
+    pub join-none : IsJoin window left (first ∷ needs) None
+        → join_slot window run first needs ≡ None
     unfolding IsJoin
-    join-none none = find-none joins_in all_slots (λ other has passes. none other (passes-joins other has passes))
+    join-none none = find-none joins_in all_slots
+        (λ other has passes. none other (passes-joins other has passes))
 
 -- what `joins` answers is how the frames join
-pub joining-some : (window left : ℕ) (seam : Seam) (run : List Frame) (first : Frame) (frames : List Frame) (slot : SlotFields) (result : CodeJoint)
-    → IsLeft window window (needs_of run) left → IsClass (class_of first.need.header) → IsJoin window left (needs_of (first ∷ frames)) (Some slot)
-    → result ≡ record { seam = seam; slot = Some slot } → IsJoining seam (joining window run (first ∷ frames)) (Some result)
+pub joining-some : (window left : ℕ) (seam : Seam) (run : List Frame) (first : Frame)
+    (frames : List Frame) (slot : SlotFields) (result : CodeJoint)
+    → IsLeft window window (needs_of run) left → IsClass (class_of first.need.header)
+    → IsJoin window left (needs_of (first ∷ frames)) (Some slot)
+    → result ≡ record { seam = seam; slot = Some slot }
+    → IsJoining seam (joining window run (first ∷ frames)) (Some result)
 unfolding joining
 joining-some window left seam run first frames slot result is known joins gives =
-    let found = join-found window left (needs_of run) is first.need (needs_of frames) known slot joins in
-    subst (λ o. IsJoining seam (option_map (λ s. moved_to s first ∷ frames) o) (Some result)) (sym found)
-    (record { seam = ap (λ (j : CodeJoint). j.seam) gives; slot = ap (λ (j : CodeJoint). j.slot) gives })
+    let found =
+    join-found window left (needs_of run) is first.need (needs_of frames) known slot joins in
+    subst (λ o. IsJoining seam (option_map (λ s. moved_to s first ∷ frames) o) (Some result))
+    (sym found)
+    (record {
+      seam = ap (λ (j : CodeJoint). j.seam) gives;
+      slot = ap (λ (j : CodeJoint). j.slot) gives;
+    })
 
-pub joining-none : (window left : ℕ) (seam : Seam) (run : List Frame) (first : Frame) (frames : List Frame)
-    → IsLeft window window (needs_of run) left → IsClass (class_of first.need.header) → IsJoin window left (needs_of (first ∷ frames)) None
+-- if the frames don't join behind what the run leaves, no seam is found
+pub joining-none : (window left : ℕ) (seam : Seam) (run : List Frame) (first : Frame)
+    (frames : List Frame) → IsLeft window window (needs_of run) left
+    → IsClass (class_of first.need.header) → IsJoin window left (needs_of (first ∷ frames)) None
     → IsJoining seam (joining window run (first ∷ frames)) None
 unfolding joining
 joining-none window left seam run first frames is known none =
-    subst (λ o. IsJoining seam (option_map (λ s. moved_to s first ∷ frames) o) None) (sym (join-none window left (needs_of run) is first.need (needs_of frames) known none)) tt
+    subst (λ o. IsJoining seam (option_map (λ s. moved_to s first ∷ frames) o) None)
+    (sym (join-none window left (needs_of run) is first.need (needs_of frames) known none)) tt
 
 -- ---- the answers of `joins`
 
-pub joining-empty : (window : ℕ) (seam : Seam) (run rest : List Frame) (needs : List Need) → needs ≡ needs_of rest → length needs ≡ 0
+-- no frames join any run, without a slot
+pub joining-empty : (window : ℕ) (seam : Seam) (run rest : List Frame) (needs : List Need)
+    → needs ≡ needs_of rest → length needs ≡ 0
     → IsJoining seam (joining window run rest) (Some (record { seam = seam; slot = None }))
 unfolding joining
 joining-empty window seam run [] needs is none = record { seam = refl; slot = refl }
 joining-empty window seam run (f ∷ fs) needs is none = absurd (omega (arith, none, ap length is))
 
-first-known : (class : ClassFields) (first : Frame) (frames : List Frame) (needs : List Need) → needs ≡ needs_of (first ∷ frames) → AreOfClass class needs → IsClass class → IsClass (class_of first.need.header)
+first-known : (class : ClassFields) (first : Frame) (frames : List Frame) (needs : List Need)
+    → needs ≡ needs_of (first ∷ frames) → AreOfClass class needs → IsClass class
+    → IsClass (class_of first.need.header)
 unfolding AreOfClass
-first-known class first frames needs is same known = subst IsClass (sym (subst (AreOfClass class) is same).0) known
+first-known class first frames needs is same known =
+    subst IsClass (sym (subst (AreOfClass class) is same).0) known
 
-module _ (class : ClassFields) (seam : Seam) (run : List Frame) (left : ℕ) (needs : List Need) (same : AreOfClass class needs) (known : IsClass class)
+module _ (class : ClassFields) (seam : Seam) (run : List Frame) (left : ℕ) (needs : List Need)
+    (same : AreOfClass class needs) (known : IsClass class)
     (before : IsLeft (window_of class.version) (window_of class.version) (needs_of run) left) where
-  no-join : (joined : Option SlotFields) → needs ≡ needs_of [] → IsJoin (window_of class.version) left needs joined → ⊥
+  no-join : (joined : Option SlotFields) → needs ≡ needs_of []
+      → IsJoin (window_of class.version) left needs joined → ⊥
   unfolding IsJoin
   no-join joined is joins = subst (λ l. IsJoin (window_of class.version) left l joined) is joins
 
-  pub joins-some : (rest : List Frame) (slot : SlotFields) → needs ≡ needs_of rest → IsJoin (window_of class.version) left needs (Some slot)
-      → IsJoining seam (joining (window_of class.version) run rest) (Some (record { seam = seam; slot = Some slot }))
+  -- where the frames join in a slot, that is their seam
+  pub joins-some : (rest : List Frame) (slot : SlotFields) → needs ≡ needs_of rest
+      → IsJoin (window_of class.version) left needs (Some slot) → IsJoining seam
+      (joining (window_of class.version) run rest) (Some (record { seam = seam; slot = Some slot }))
   joins-some [] slot is joins = absurd (no-join (Some slot) is joins)
   joins-some (f ∷ fs) slot is joins =
-      joining-some (window_of class.version) left seam run f fs slot (record { seam = seam; slot = Some slot }) before (first-known class f fs needs is same known)
+      joining-some (window_of class.version) left seam run f fs slot
+      (record { seam = seam; slot = Some slot }) before (first-known class f fs needs is same known)
       (subst (λ l. IsJoin (window_of class.version) left l (Some slot)) is joins) refl
 
-  pub joins-none : (rest : List Frame) → needs ≡ needs_of rest → IsJoin (window_of class.version) left needs None → IsJoining seam (joining (window_of class.version) run rest) None
+  -- where they don't join there is none
+  pub joins-none : (rest : List Frame) → needs ≡ needs_of rest
+      → IsJoin (window_of class.version) left needs None
+      → IsJoining seam (joining (window_of class.version) run rest) None
   joins-none [] is joins = absurd (no-join None is joins)
   joins-none (f ∷ fs) is joins =
-      joining-none (window_of class.version) left seam run f fs before (first-known class f fs needs is same known) (subst (λ l. IsJoin (window_of class.version) left l None) is joins)
+      joining-none (window_of class.version) left seam run f fs before (first-known class f fs needs
+      is same known) (subst (λ l. IsJoin (window_of class.version) left l None) is joins)
 
-pub join-fit : (class : ClassFields) (left : ℕ) (needs : List Need) (slot : SlotFields) → IsJoin (window_of class.version) left needs (Some slot) → FitIn class left needs (Some slot)
+-- frames that join in a slot fit there
+pub join-fit : (class : ClassFields) (left : ℕ) (needs : List Need) (slot : SlotFields)
+    → IsJoin (window_of class.version) left needs (Some slot) → FitIn class left needs (Some slot)
 unfolding IsJoin first_in
 join-fit class left [] slot joins = joins
 join-fit class left (x ∷ xs) slot joins = joins.joins.fits
 
 -- frames that fit behind nothing fit as they are
-pub whole-fit : (class : ClassFields) (left : ℕ) (needs : List Need) (first : Need) → 0 < length needs → first ≡ slice_index_or needs 0 first
+pub whole-fit : (class : ClassFields) (left : ℕ) (needs : List Need) (first : Need)
+    → 0 < length needs → first ≡ slice_index_or needs 0 first
     → FitsBehind (window_of class.version) 0 needs → FitIn class left needs (Some first.header.slot)
 unfolding first_in
 whole-fit class left [] first some at fits = absurd (omega (arith, some))
 whole-fit class left (x ∷ xs) first some at fits =
-    subst (λ (n : Need). FitIn class left (x ∷ xs) (Some n.header.slot)) (sym at) (more-behind (window_of class.version) 0 left (x ∷ xs) (omega arith) fits)
+    subst (λ (n : Need). FitIn class left (x ∷ xs) (Some n.header.slot)) (sym at)
+    (more-behind (window_of class.version) 0 left (x ∷ xs) (omega arith) fits)

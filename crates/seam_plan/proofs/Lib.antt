@@ -5,3 +5,8 @@ pub mod JoinLaws
 pub mod PlaceLaws
 pub mod RunLaws
 pub mod SeamLaws
+pub mod PieceRuns
+pub mod FollowLaws
+pub mod RunFits
+pub mod RunSounds
+pub mod SpanRuns

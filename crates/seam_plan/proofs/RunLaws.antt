@@ -1,61 +1,75 @@
 -- What is known of an input, and of what a run leaves.
-use Rattle.std.proofs.Common.{◌≡◌, ℕ, ◌+◌, ◌-◌, ◌<◌, ◌≤◌, List, [], ◌∷◌, ◌++◌, length, drop, Option, Some, None, sym, ap, ap₂, ◌∙◌, subst, append-nil, arith}
-use Rattle.std.specs.Prelude.{option_map, slice_index_or, IfSome}
-use Rattle.frame_header.specs.declared.version.Version.{Version}
-use Rattle.frame_header.specs.declared.version.Version.TheVariants.{One, Two, TwoFive}
-use Rattle.exact_span.specs.declared.overlap.Overlap.{Overlap}
-use Rattle.exact_span.specs.Overlaps.{IsOverlap, IsShort, most_alike}
-use Rattle.std.proofs.lemmas.List.{map-append, length-map, length-append}
+use Rattle.std.proofs.Common.{ap, ap₂, arith, drop, length, List, None, Option, Some, subst, sym, ℕ}
+use Rattle.std.proofs.Common.{[], ◌++◌, ◌+◌, ◌-◌, ◌<◌, ◌∙◌, ◌∷◌, ◌≡◌, ◌≤◌}
+use Rattle.std.proofs.lemmas.List.{length-append, length-drop, length-map, map-append}
 use Rattle.std.proofs.lemmas.List.FromFn.{length-map-range_with_len}
-use Rattle.frame_header.specs.Fields.{SlotFields, ClassFields}
-use Rattle.frame_header.specs.Tables.{window_of}
-use Rattle.exact_span.specs.PlayedPositions.{rest_of}
-use Rattle.slot_plan.specs.declared.needs.Need.{Need}
-use Rattle.slot_plan.specs.Parts.{AreOfClass, own_area}
-use Rattle.slot_plan.specs.Reserve.{free_behind}
-use Rattle.slot_plan.specs.Behind.{FitsBehind, FitBehindWindow, FitBehindFree, IsLeft, in_slot, first_in}
+use Rattle.std.specs.Prelude.{IfSome, option_map, slice_index_or}
+use Rattle.exact_span.specs.{Overlaps.{IsOverlap, IsShort, most_alike}, PlayedPositions.rest_of}
+use Rattle.exact_span.specs.declared.overlap.Overlap.{Overlap}
+use Rattle.frame_header.specs.{Fields.{ClassFields, SlotFields}, Tables.window_of}
+use Rattle.frame_header.specs.declared.version.Version.{Version, TheVariants.{One, Two, TwoFive}}
+use Rattle.seam_plan.proofs.SeamLaws.{joint-adds, length-joint, length-moved}
+use Rattle.seam_plan.specs.Decisions.{CanBeJoined, CanFollow, FitIn, IsBrought, IsJoint, IsRun}
+use Rattle.seam_plan.specs.Decisions.{Joins, last_seven, moved_first, place_of, places_from}
+use Rattle.seam_plan.specs.{Frames.{Brought, Frame, needs_of}, Seams.{Joint, joint_of, left_out}}
+use Rattle.seam_plan.specs.declared.{input.Input.Input, run.FramePlace.FramePlace}
+use Rattle.seam_plan.specs.declared.run.{Joint.Joint as CodeJoint, Run.Run}
+use Rattle.slot_plan.proofs.BehindLaws.{fits-cons, fits-drop, left-cons, left-on, more-behind}
 use Rattle.slot_plan.proofs.PartLaws.{class-drop}
-use Rattle.slot_plan.proofs.BehindLaws.{more-behind, fits-drop, fits-cons, left-cons, left-on}
-use Rattle.seam_plan.specs.declared.input.Input.{Input}
-use Rattle.seam_plan.specs.Frames.{Frame, Brought, needs_of}
-use Rattle.seam_plan.specs.declared.run.FramePlace.{FramePlace}
-use Rattle.seam_plan.specs.declared.run.Run.{Run}
-use Rattle.seam_plan.specs.declared.run.Joint.{Joint as CodeJoint}
-use Rattle.seam_plan.specs.Seams.{Joint, left_out, joint_of}
-use Rattle.seam_plan.specs.Decisions.{CanBeJoined, IsBrought, IsRun, IsJoint, Joins, last_seven, place_of, places_from, moved_first, FitIn, CanFollow}
-use Rattle.seam_plan.proofs.SeamLaws.{joint-adds, length-joint}
+use Rattle.slot_plan.specs.Behind.{first_in, FitBehindFree, FitBehindWindow, FitsBehind, in_slot}
+use Rattle.slot_plan.specs.{Behind.IsLeft, Parts.{AreOfClass, own_area}, Reserve.free_behind}
+use Rattle.slot_plan.specs.declared.needs.Need.{Need}
 
-pub fits-window : (class : ClassFields) (input : Input) → CanBeJoined class input → FitsBehind (window_of class.version) (window_of class.version) input.needs.now
-fits-window class input can = more-behind (window_of class.version) 0 (window_of class.version) input.needs.now (omega arith) can.fits
+-- an input that can be joined fits behind a whole window
+pub fits-window : (class : ClassFields) (input : Input) → CanBeJoined class input
+    → FitsBehind (window_of class.version) (window_of class.version) input.needs.now
+fits-window class input can = more-behind (window_of class.version) 0
+    (window_of class.version) input.needs.now (omega arith) can.fits
 
--- all frames of an input but so many at its front
-pub drop-window : (class : ClassFields) (input : Input) (k : ℕ) → CanBeJoined class input → FitBehindWindow (drop k input.needs.now)
+-- all frames of an input but so many at its front fit behind a whole window
+pub drop-window : (class : ClassFields) (input : Input) (k : ℕ) → CanBeJoined class input
+    → FitBehindWindow (drop k input.needs.now)
 drop-window class input k can = record {
   class = class;
   same = class-drop class input.needs.now k can.same;
   fits = fits-drop (window_of class.version) 0 k input.needs.now can.fits;
 }
 
-pub all-window : (class : ClassFields) (input : Input) → CanBeJoined class input → FitBehindWindow input.needs.now
-all-window class input can = record { class = class; same = can.same; fits = fits-window class input can }
+-- so all its frames do
+pub all-window : (class : ClassFields) (input : Input) → CanBeJoined class input
+    → FitBehindWindow input.needs.now
+all-window class input can =
+    record { class = class; same = can.same; fits = fits-window class input can }
 
-pub all-free : (class : ClassFields) (input : Input) → CanBeJoined class input → FitBehindFree (window_of class.version) input.needs.now
-all-free class input can = record { class = class; same = can.same; within = omega arith; fits = fits-window class input can }
+-- they fit there by the window of the class, too
+pub all-free : (class : ClassFields) (input : Input) → CanBeJoined class input
+    → FitBehindFree (window_of class.version) input.needs.now
+all-free class input can = record {
+  class = class;
+  same = can.same;
+  within = omega arith;
+  fits = fits-window class input can;
+}
 
 -- ---- a run with more frames
 
-module _ (class : ClassFields) (number : ℕ) (frames : List Frame) (places : List FramePlace) (before brought : Brought) (input : Input) (old new : Run) (result : CodeJoint)
-    (is : IsRun class frames places before old) (brings : IsBrought input brought) (decided : IsJoint (joint_of class frames before brought) result) where
+module _ (class : ClassFields) (number : ℕ) (frames : List Frame) (places : List FramePlace)
+    (before brought : Brought) (input : Input) (old new : Run) (result : CodeJoint)
+    (is : IsRun class frames places before old) (brings : IsBrought input brought)
+    (decided : IsJoint (joint_of class frames before brought) result) where
   abbrev joint : Joint
   joint = joint_of class frames before brought
 
   same-out : left_out result.seam ≡ left_out joint.seam
   same-out = ap left_out decided.seam
 
-  more-needs : needs_of frames ++ moved_first result.slot (drop (left_out result.seam) input.needs.now) ≡ needs_of (frames ++ joint.frames)
+  more-needs : needs_of frames
+      ++ moved_first result.slot (drop (left_out result.seam) input.needs.now)
+      ≡ needs_of (frames ++ joint.frames)
   more-needs =
       ap (λ n. needs_of frames ++ moved_first result.slot (drop n input.needs.now)) same-out
-      ∙ ap (λ l. needs_of frames ++ moved_first result.slot (drop (left_out joint.seam) l)) brings.needs
+      ∙ ap (λ l. needs_of frames ++ moved_first result.slot (drop (left_out joint.seam) l))
+      brings.needs
       ∙ ap (λ l. needs_of frames ++ l) (sym (joint-adds class frames before brought result decided))
       ∙ sym (map-append (λ (f : Frame). f.need) frames joint.frames)
 
@@ -65,46 +79,107 @@ module _ (class : ClassFields) (number : ℕ) (frames : List Frame) (places : Li
   many : length input.needs.now - left_out result.seam ≡ length joint.frames
   many =
       ap (λ n. length input.needs.now - n) same-out
-      ∙ ap (λ n. n - left_out joint.seam) (ap length brings.needs ∙ length-map brought.frames (λ (f : Frame). f.need))
+      ∙ ap (λ n. n - left_out joint.seam)
+      (ap length brings.needs ∙ length-map brought.frames (λ (f : Frame). f.need))
       ∙ sym (length-joint class frames before brought result decided)
 
-  same-places : places ++ places_from number (left_out result.seam) (length input.needs.now - left_out result.seam) ≡ more_places
+  same-places : places ++ places_from number (left_out result.seam)
+      (length input.needs.now - left_out result.seam) ≡ more_places
   same-places = ap₂ (λ a n. places ++ places_from number a n) same-out many
 
   same-length : length more_places ≡ length (frames ++ joint.frames)
   same-length =
       length-append places (places_from number (left_out joint.seam) (length joint.frames))
-      ∙ ap₂ (λ m n. m + n) is.same (length-map-range_with_len (place_of number) (left_out joint.seam) (length joint.frames))
+      ∙ ap₂ (λ m n. m + n) is.same (length-map-range_with_len (place_of number)
+      (left_out joint.seam) (length joint.frames))
       ∙ sym (length-append frames joint.frames)
 
+  -- the run with the frames of the input that aren't left out is the run of the definition
   pub run-joins : new.class ≡ old.class
-      → IsLeft (window_of old.class.version) (window_of old.class.version) (needs_of frames ++ moved_first result.slot (drop (left_out result.seam) input.needs.now)) new.left
-      → new.last.items ≡ last_seven (places ++ places_from number (left_out result.seam) (length input.needs.now - left_out result.seam))
+      → IsLeft (window_of old.class.version) (window_of old.class.version) (needs_of frames
+      ++ moved_first result.slot (drop (left_out result.seam) input.needs.now)) new.left
+      → new.last.items ≡ last_seven (places
+      ++ places_from number (left_out result.seam) (length input.needs.now - left_out result.seam))
       → new.rest ≡ option_map (λ p. rest_of old.class (length input.needs.now) p) input.played
       → Joins class number frames places before brought result new
   run-joins same left last rest = record {
     joint = decided;
     goes_on = record {
       of_class = same ∙ is.of_class;
-      left = subst (λ (c : ClassFields). IsLeft (window_of c.version) (window_of c.version) (needs_of (frames ++ joint.frames)) new.left) is.of_class
-          (subst (λ l. IsLeft (window_of old.class.version) (window_of old.class.version) l new.left) more-needs left);
+      left = subst (λ (c : ClassFields). IsLeft (window_of c.version) (window_of c.version)
+          (needs_of (frames ++ joint.frames)) new.left) is.of_class
+          (subst (λ l. IsLeft (window_of old.class.version)
+          (window_of old.class.version) l new.left) more-needs left);
       last = last ∙ ap last_seven same-places;
       same = same-length;
-      rest = rest ∙ ap (λ c. option_map (λ p. rest_of c (length input.needs.now) p) input.played) is.of_class
-          ∙ ap₂ (λ n o. option_map (λ p. rest_of class n p) o) (ap length brings.needs ∙ length-map brought.frames (λ (f : Frame). f.need)) brings.played;
+      rest = rest ∙ ap (λ c. option_map (λ p. rest_of c (length input.needs.now) p) input.played)
+          is.of_class
+          ∙ ap₂ (λ n o. option_map (λ p. rest_of class n p) o) (ap length brings.needs
+          ∙ length-map brought.frames (λ (f : Frame). f.need)) brings.played;
     };
   }
 
+-- the same whatever is alike, where these are the frames that are added
+module _ (class : ClassFields) (number : ℕ) (frames more : List Frame) (places : List FramePlace)
+    (before brought : Brought)
+    (input : Input) (old new : Run) (result : CodeJoint) (is : IsRun class frames places before old)
+    (brings : IsBrought input brought)
+    (adds : needs_of more
+    ≡ moved_first result.slot (drop (left_out result.seam) input.needs.now)) where
+  abbrev out : ℕ
+  out = left_out result.seam
+
+  all-needs : needs_of frames ++ moved_first result.slot (drop out input.needs.now)
+      ≡ needs_of (frames ++ more)
+  all-needs = ap (λ l. needs_of frames ++ l) (sym adds)
+      ∙ sym (map-append (λ (f : Frame). f.need) frames more)
+
+  added : length input.needs.now - out ≡ length more
+  added =
+      sym (length-drop out input.needs.now)
+      ∙ sym (length-moved result.slot (drop out input.needs.now))
+      ∙ ap length (sym adds) ∙ length-map more (λ (f : Frame). f.need)
+
+  all-length : length (places ++ places_from number out (length more)) ≡ length (frames ++ more)
+  all-length =
+      length-append places (places_from number out (length more))
+      ∙ ap₂ (λ m n. m + n) is.same (length-map-range_with_len (place_of number) out (length more))
+      ∙ sym (length-append frames more)
+
+  -- a run to which the frames of the joint were added is a run of all these frames
+  pub run-goes : new.class ≡ old.class
+      → IsLeft (window_of old.class.version) (window_of old.class.version) (needs_of frames
+      ++ moved_first result.slot (drop out input.needs.now)) new.left → new.last.items
+      ≡ last_seven (places ++ places_from number out (length input.needs.now - out))
+      → new.rest ≡ option_map (λ p. rest_of old.class (length input.needs.now) p) input.played
+      → IsRun class (frames ++ more) (places ++ places_from number out (length more)) brought new
+  run-goes same left last rest = record {
+    of_class = same ∙ is.of_class;
+    left = subst (λ (c : ClassFields). IsLeft (window_of c.version) (window_of c.version)
+        (needs_of (frames ++ more)) new.left) is.of_class
+        (subst (λ l. IsLeft (window_of old.class.version) (window_of old.class.version) l new.left)
+        all-needs left);
+    last = last ∙ ap (λ n. last_seven (places ++ places_from number out n)) added;
+    same = all-length;
+    rest = rest
+        ∙ ap (λ c. option_map (λ p. rest_of c (length input.needs.now) p) input.played) is.of_class
+        ∙ ap₂ (λ n o. option_map (λ p. rest_of class n p) o)
+        (ap length brings.needs ∙ length-map brought.frames (λ (f : Frame). f.need)) brings.played;
+  }
+
 -- what is left of a run that begins with an input
-pub run-begins : (class : ClassFields) (input : Input) (first : Brought) (run : Run) → IsBrought input first → run.class ≡ class
+pub run-begins : (class : ClassFields) (input : Input) (first : Brought) (run : Run)
+    → IsBrought input first → run.class ≡ class
     → IsLeft (window_of class.version) (window_of class.version) input.needs.now run.left
     → run.last.items ≡ last_seven (places_from 0 0 (length input.needs.now))
     → run.rest ≡ option_map (λ p. rest_of class (length input.needs.now) p) input.played
     → IsRun class first.frames (places_from 0 0 (length first.frames)) first run
 run-begins class input first run brings same left last rest =
-    let many : length input.needs.now ≡ length first.frames = ap length brings.needs ∙ length-map first.frames (λ (f : Frame). f.need) in record {
+    let many : length input.needs.now ≡ length first.frames =
+    ap length brings.needs ∙ length-map first.frames (λ (f : Frame). f.need) in record {
       of_class = same;
-      left = subst (λ l. IsLeft (window_of class.version) (window_of class.version) l run.left) brings.needs left;
+      left = subst (λ l. IsLeft (window_of class.version) (window_of class.version) l run.left)
+          brings.needs left;
       last = last ∙ ap (λ n. last_seven (places_from 0 0 n)) many;
       same = length-map-range_with_len (place_of 0) 0 (length first.frames);
       rest = rest ∙ ap₂ (λ n o. option_map (λ p. rest_of class n p) o) many brings.played;
@@ -112,59 +187,74 @@ run-begins class input first run brings same left last rest =
 
 -- ---- frames that are added
 
-in-window : (class : ClassFields) (left : ℕ) (needs : List Need) (slot : SlotFields) → FitIn class left needs (Some slot) → FitsBehind (window_of class.version) left (first_in slot needs)
+in-window : (class : ClassFields) (left : ℕ) (needs : List Need) (slot : SlotFields)
+    → FitIn class left needs (Some slot)
+    → FitsBehind (window_of class.version) left (first_in slot needs)
 in-window class left [] slot fit = absurd fit
 in-window class left (x ∷ xs) slot fit = fit
 
-first-moved : (needs : List Need) (slot : SlotFields) (first : Need) → 0 < length needs → first ≡ slice_index_or needs 0 first → first_in slot needs ≡ in_slot slot first ∷ drop 1 needs
+first-moved : (needs : List Need) (slot : SlotFields) (first : Need) → 0 < length needs
+    → first ≡ slice_index_or needs 0 first → first_in slot needs ≡ in_slot slot first ∷ drop 1 needs
 unfolding first_in
 first-moved [] slot first some at = absurd (omega (arith, some))
 first-moved (x ∷ xs) slot first some at = ap (λ (n : Need). in_slot slot n ∷ xs) (sym at)
 
-pub some-in : (class : ClassFields) (left : ℕ) (needs : List Need) (slot : SlotFields) → FitIn class left needs (Some slot) → 0 < length needs
+-- frames that fit in a slot are some
+pub some-in : (class : ClassFields) (left : ℕ) (needs : List Need) (slot : SlotFields)
+    → FitIn class left needs (Some slot) → 0 < length needs
 some-in class left [] slot fit = absurd fit
 some-in class left (x ∷ xs) slot fit = omega arith
 
 -- the first of some frames in this slot, and the others, which fit behind what is left
-module _ (class : ClassFields) (left : ℕ) (needs : List Need) (slot : SlotFields) (first moved : Need) (area : ℕ) (within : left ≤ window_of class.version)
-    (fit : FitIn class left needs (Some slot)) (at : first ≡ slice_index_or needs 0 first) (is : moved ≡ in_slot slot first) (has : area ≡ own_area moved) where
+module _ (class : ClassFields) (left : ℕ) (needs : List Need) (slot : SlotFields)
+    (first moved : Need) (area : ℕ) (within : left ≤ window_of class.version)
+    (fit : FitIn class left needs (Some slot)) (at : first ≡ slice_index_or needs 0 first)
+    (is : moved ≡ in_slot slot first) (has : area ≡ own_area moved) where
   moved-first : first_in slot needs ≡ moved ∷ drop 1 needs
-  moved-first = first-moved needs slot first (some-in class left needs slot fit) at ∙ ap (λ (n : Need). n ∷ drop 1 needs) (sym is)
+  moved-first = first-moved needs slot first (some-in class left needs slot fit) at
+      ∙ ap (λ (n : Need). n ∷ drop 1 needs) (sym is)
 
-  both-fit : (moved.bytes ≤ left + own_area moved) × FitsBehind (window_of class.version) (free_behind (window_of class.version) left moved.bytes (own_area moved)) (drop 1 needs)
-  both-fit = fits-cons (window_of class.version) left moved (drop 1 needs) within (subst (FitsBehind (window_of class.version) left) moved-first (in-window class left needs slot fit))
+  both-fit : (moved.bytes ≤ left + own_area moved) × FitsBehind (window_of class.version)
+      (free_behind (window_of class.version) left moved.bytes (own_area moved)) (drop 1 needs)
+  both-fit = fits-cons (window_of class.version) left moved (drop 1 needs) within (subst
+      (FitsBehind (window_of class.version) left) moved-first (in-window class left needs slot fit))
 
+  -- the first frame has room in what is left and the area of its slot
   pub moved-room : moved.bytes ≤ left + area
   moved-room = omega (arith, both-fit.0, has)
 
-  module _ (free : ℕ) (frees : free ≡ free_behind (window_of class.version) left moved.bytes area) (most : free ≤ window_of class.version) (same : AreOfClass class needs) where
+  module _ (free : ℕ) (frees : free ≡ free_behind (window_of class.version) left moved.bytes area)
+      (most : free ≤ window_of class.version) (same : AreOfClass class needs) where
     same-free : free ≡ free_behind (window_of class.version) left moved.bytes (own_area moved)
     same-free = frees ∙ ap (free_behind (window_of class.version) left moved.bytes) has
 
+    -- the other frames fit behind what the first leaves
     pub others-free : FitBehindFree free (drop 1 needs)
     others-free = record {
       class = class;
       same = class-drop class needs 1 same;
       within = most;
-      fits = subst (λ n. FitsBehind (window_of class.version) n (drop 1 needs)) (sym same-free) both-fit.1;
+      fits = subst (λ n. FitsBehind (window_of class.version) n (drop 1 needs))
+          (sym same-free) both-fit.1;
     }
 
-    pub add-left : (new : ℕ) → IsLeft (window_of class.version) free (drop 1 needs) new → (frames : List Need) → IsLeft (window_of class.version) (window_of class.version) frames left
-        → IsLeft (window_of class.version) (window_of class.version) (frames ++ moved_first (Some slot) needs) new
+    -- a run with these frames behind it leaves what the others leave behind the first
+    pub add-left : (new : ℕ) → IsLeft (window_of class.version) free (drop 1 needs) new
+        → (frames : List Need)
+        → IsLeft (window_of class.version) (window_of class.version) frames left
+        → IsLeft (window_of class.version) (window_of class.version)
+        (frames ++ moved_first (Some slot) needs) new
     add-left new leaves frames before =
         let window : ℕ = window_of class.version in
-        let more : IsLeft window left (moved ∷ drop 1 needs) new = left-cons window left new moved (drop 1 needs) within both-fit.0 (subst (λ n. IsLeft window n (drop 1 needs) new) same-free leaves) in
+        let more : IsLeft window left (moved ∷ drop 1 needs) new =
+        left-cons window left new moved (drop 1 needs) within
+        both-fit.0 (subst (λ n. IsLeft window n (drop 1 needs) new) same-free leaves) in
         subst (λ l. IsLeft window window (frames ++ l) new) (sym moved-first)
         ((left-on window window left new frames (moved ∷ drop 1 needs) (omega arith) before).1 more)
 
--- none are added
-pub add-none : (class : ClassFields) (left : ℕ) (needs frames : List Need) → FitIn class left needs None → IsLeft (window_of class.version) (window_of class.version) frames left
-    → IsLeft (window_of class.version) (window_of class.version) (frames ++ moved_first None needs) left
-add-none class left [] frames fit before = subst (λ l. IsLeft (window_of class.version) (window_of class.version) l left) (sym (append-nil frames)) before
-add-none class left (x ∷ xs) frames fit before = absurd fit
-
 -- ---- frames of a slice
 
+-- the frames behind some of those that fit behind a whole window fit there too
 pub drop-fits : (k : ℕ) (needs : List Need) → FitBehindWindow needs → FitBehindWindow (drop k needs)
 drop-fits k needs fit = record {
   class = fit.class;
@@ -174,12 +264,16 @@ drop-fits k needs fit = record {
 
 -- ---- the frames that are shared
 
-pub can-follow : (class : ClassFields) (input : Input) (shared : Option Overlap) → IfSome shared IsOverlap → IfSome shared (λ o. o.frames ≤ length input.needs.now)
+-- an overlap that is short, and within the input, is one by which it can follow
+pub can-follow : (class : ClassFields) (input : Input) (shared : Option Overlap)
+    → IfSome shared IsOverlap → IfSome shared (λ o. o.frames ≤ length input.needs.now)
     → IfSome shared (IsShort class) → IfSome shared (CanFollow input)
 can-follow class input None overlap within short = tt
-can-follow class input (Some o) overlap within short = record { some = overlap; within = within; few = few class.version short.alike }
+can-follow class input (Some o) overlap within short =
+    record { some = overlap; within = within; few = few class.version short.alike }
   where
-    few : (version : Version) → o.frames ≤ o.first_alike + most_alike version → o.frames ≤ o.first_alike + 7
+    few : (version : Version) → o.frames ≤ o.first_alike + most_alike version
+        → o.frames ≤ o.first_alike + 7
     few One most = omega (arith, most)
     few Two most = omega (arith, most)
     few TwoFive most = omega (arith, most)

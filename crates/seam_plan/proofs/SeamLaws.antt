@@ -1,106 +1,143 @@
 -- What becomes of an input, by what is asked of the run.
-use Rattle.std.proofs.Common.{◌≡◌, ℕ, ◌-◌, ◌<◌, Bool, true, false, List, [], ◌∷◌, length, drop, Option, Some, None, refl, sym, ap, ap₂, ◌∙◌, subst, arith}
-use Rattle.std.specs.Prelude.{option_map, option_and_then, unwrap_or, if◌then◌else◌, not, ◌&&◌, slice_index_or, slice_get}
-use Rattle.std.specs.Option.{option_or}
-use Rattle.std.proofs.lemmas.Bool.{and_left, and_right, and_from, not_from_true, not_from_false}
-use Rattle.std.proofs.lemmas.List.{drop-map, length-map, length-drop}
-use Rattle.frame_header.specs.Fields.{SlotFields, ClassFields}
-use Rattle.frame_header.specs.Tables.{window_of}
+use Rattle.std.proofs.Common.{ap, ap₂, arith, Bool, drop, false, length, List, None, Option, refl}
+use Rattle.std.proofs.Common.{Some, subst, sym, true, ℕ, [], ◌-◌, ◌<◌, ◌∙◌, ◌∷◌, ◌≡◌}
+use Rattle.std.proofs.lemmas.Bool.{and_from, and_left, and_right, not_from_false, not_from_true}
+use Rattle.std.{proofs.lemmas.List.{drop-map, length-drop, length-map}, specs.Option.option_or}
+use Rattle.std.specs.Prelude.{if◌then◌else◌, not, option_and_then, option_map, slice_get}
+use Rattle.std.specs.Prelude.{slice_index_or, unwrap_or, ◌&&◌}
 use Rattle.exact_span.specs.declared.overlap.Overlap.{Overlap}
-use Rattle.slot_plan.specs.declared.needs.Need.{Need}
-use Rattle.slot_plan.specs.Behind.{first_in}
-use Rattle.seam_plan.specs.declared.input.Input.{Input}
-use Rattle.seam_plan.specs.declared.seam.Seam.{Seam}
-use Rattle.seam_plan.specs.declared.seam.Seam.TheVariants.{Follows, LeadIn, Whole}
-use Rattle.seam_plan.specs.declared.run.Joint.{Joint as CodeJoint}
-use Rattle.seam_plan.specs.Frames.{Frame, Brought, needs_of}
-use Rattle.seam_plan.specs.Joins.{joining, join_slot, moved_to, has_lead_in, fits_behind}
-use Rattle.seam_plan.specs.Seams.{Joint, joint_with, left_out, overlap_of, compared, ends_alike, follow_by, following, without_lead_in, whole, joint_of}
-use Rattle.seam_plan.specs.Decisions.{IsBrought, IsJoint, AreJoint, if_alike, alike_overlap, moved_first}
+use Rattle.frame_header.specs.{Fields.{ClassFields, SlotFields}, Tables.window_of}
+use Rattle.seam_plan.specs.Decisions.{alike_overlap, AreJoint, if_alike, IsBrought, IsJoint}
+use Rattle.seam_plan.specs.{Decisions.moved_first, Frames.{Brought, Frame, needs_of}}
+use Rattle.seam_plan.specs.Joins.{fits_behind, has_lead_in, join_slot, joining, moved_to}
+use Rattle.seam_plan.specs.Seams.{compared, ends_alike, follow_by, following, Joint, joint_of}
+use Rattle.seam_plan.specs.Seams.{joint_with, left_out, overlap_of, whole, without_lead_in}
+use Rattle.seam_plan.specs.declared.{input.Input.Input, run.Joint.Joint as CodeJoint}
+use Rattle.seam_plan.specs.declared.seam.Seam.{Seam, TheVariants.{Follows, LeadIn, Whole}}
+use Rattle.slot_plan.specs.{Behind.first_in, declared.needs.Need.Need}
 
 -- ---- an input that follows
 
 -- the frames after the shared ones, as they join
 abbrev pub follows_with : ClassFields → List Frame → Brought → Overlap → Option Joint
 follows_with class run brought overlap =
-    option_map (joint_with (Follows overlap.frames)) (joining (window_of class.version) run (drop overlap.frames brought.frames))
+    option_map (joint_with (Follows overlap.frames))
+    (joining (window_of class.version) run (drop overlap.frames brought.frames))
 
 -- it follows where the frames that are to be alike are
 pub follow-is : (class : ClassFields) (run : List Frame) (before brought : Brought)
-    → following class run before brought ≡ option_and_then (follows_with class run brought) (alike_overlap class run before brought)
+    → following class run before brought
+    ≡ option_and_then (follows_with class run brought) (alike_overlap class run before brought)
 unfolding following
 follow-is class run before brought = at (overlap_of class before brought)
   where
-    by_test : (overlap : Overlap) (b : Bool) → (if b then follows_with class run brought overlap else None) ≡ option_and_then (follows_with class run brought) (if b then Some overlap else None)
+    by_test : (overlap : Overlap) (b : Bool)
+        → (if b then follows_with class run brought overlap else None)
+        ≡ option_and_then (follows_with class run brought) (if b then Some overlap else None)
     by_test overlap true = refl
     by_test overlap false = refl
 
-    at : (shared : Option Overlap) → option_and_then (follow_by class run brought) shared ≡ option_and_then (follows_with class run brought) (option_and_then (if_alike run brought) shared)
+    at : (shared : Option Overlap)
+        → option_and_then (follow_by class run brought) shared ≡ option_and_then
+        (follows_with class run brought) (option_and_then (if_alike run brought) shared)
     at None = refl
     at (Some overlap) = by_test overlap (ends_alike run (compared overlap brought))
 
-pub follow-none : (class : ClassFields) (run : List Frame) (before brought : Brought) (alike : Option Overlap) → alike ≡ alike_overlap class run before brought → alike ≡ None
+-- without an overlap that is alike an input doesn't follow
+pub follow-none : (class : ClassFields) (run : List Frame) (before brought : Brought)
+    (alike : Option Overlap) → alike ≡ alike_overlap class run before brought → alike ≡ None
     → AreJoint (following class run before brought) None
 follow-none class run before brought alike is none =
-    subst (λ o. AreJoint o None) (sym (follow-is class run before brought ∙ ap (option_and_then (follows_with class run brought)) (sym is ∙ none))) tt
+    subst (λ o. AreJoint o None) (sym (follow-is class run before brought
+    ∙ ap (option_and_then (follows_with class run brought)) (sym is ∙ none))) tt
 
-pub follow-some : (class : ClassFields) (run : List Frame) (before brought : Brought) (alike : Option Overlap) (overlap : Overlap) (result : Option CodeJoint)
-    → alike ≡ alike_overlap class run before brought → alike ≡ Some overlap → AreJoint (follows_with class run brought overlap) result → AreJoint (following class run before brought) result
+-- with one it follows as the frames behind the overlap join
+pub follow-some : (class : ClassFields) (run : List Frame) (before brought : Brought)
+    (alike : Option Overlap) (overlap : Overlap) (result : Option CodeJoint)
+    → alike ≡ alike_overlap class run before brought → alike ≡ Some overlap
+    → AreJoint (follows_with class run brought overlap) result
+    → AreJoint (following class run before brought) result
 follow-some class run before brought alike overlap result is some joins =
-    subst (λ o. AreJoint o result) (sym (follow-is class run before brought ∙ ap (option_and_then (follows_with class run brought)) (sym is ∙ some))) joins
+    subst (λ o. AreJoint o result) (sym (follow-is class run before brought
+    ∙ ap (option_and_then (follows_with class run brought)) (sym is ∙ some))) joins
 
 -- ---- an input without its lead-in
 
-pub without-is : (class : ClassFields) (run : List Frame) (input : Input) (brought : Brought) (has alone : Bool) → IsBrought input brought
-    → has ≡ has_lead_in (window_of class.version) brought → alone ≡ fits_behind (window_of class.version) 0 (drop 1 input.needs.now)
-    → without_lead_in class run brought ≡ (if has && not alone then option_map (joint_with LeadIn) (joining (window_of class.version) run (drop 1 brought.frames)) else None)
+-- an input joins without its lead-in where it has one that the others need and they can join
+pub without-is : (class : ClassFields) (run : List Frame) (input : Input) (brought : Brought)
+    (has alone : Bool) → IsBrought input brought
+    → has ≡ has_lead_in (window_of class.version) brought
+    → alone ≡ fits_behind (window_of class.version) 0 (drop 1 input.needs.now)
+    → without_lead_in class run brought ≡ (if has && not alone then option_map (joint_with LeadIn)
+    (joining (window_of class.version) run (drop 1 brought.frames)) else None)
 unfolding without_lead_in
 without-is class run input brought has alone is leads fits =
     let same : fits_behind (window_of class.version) 0 (needs_of (drop 1 brought.frames)) ≡ alone =
-    sym (fits ∙ ap (fits_behind (window_of class.version) 0) (ap (drop 1) is.needs ∙ drop-map (λ (f : Frame). f.need) 1 brought.frames)) in
-    ap₂ (λ (h a : Bool). if h && not a then option_map (joint_with LeadIn) (joining (window_of class.version) run (drop 1 brought.frames)) else None) (sym leads) same
+    sym (fits ∙ ap (fits_behind (window_of class.version) 0)
+    (ap (drop 1) is.needs ∙ drop-map (λ (f : Frame). f.need) 1 brought.frames)) in
+    ap₂ (λ (h a : Bool). if h && not a then option_map (joint_with LeadIn)
+    (joining (window_of class.version) run (drop 1 brought.frames)) else None) (sym leads) same
 
 abbrev WithoutIf : ClassFields → List Frame → Brought → Bool → Option Joint
-WithoutIf class run brought b = if b then option_map (joint_with LeadIn) (joining (window_of class.version) run (drop 1 brought.frames)) else None
+WithoutIf class run brought b = if b then option_map (joint_with LeadIn)
+    (joining (window_of class.version) run (drop 1 brought.frames)) else None
 
 -- it has none
-pub without-lead : (class : ClassFields) (run : List Frame) (input : Input) (brought : Brought) (has : Bool) → IsBrought input brought
-    → has ≡ has_lead_in (window_of class.version) brought → has ≡ false → AreJoint (without_lead_in class run brought) None
+pub without-lead : (class : ClassFields) (run : List Frame) (input : Input) (brought : Brought)
+    (has : Bool) → IsBrought input brought → has ≡ has_lead_in (window_of class.version) brought
+    → has ≡ false → AreJoint (without_lead_in class run brought) None
 without-lead class run input brought has is leads none =
     let alone : Bool = fits_behind (window_of class.version) 0 (drop 1 input.needs.now) in
-    subst (λ o. AreJoint o None) (sym (without-is class run input brought has alone is leads refl ∙ ap (WithoutIf class run brought) (and_left has (not alone) none))) tt
+    subst (λ o. AreJoint o None) (sym (without-is class run input brought has alone is leads refl
+    ∙ ap (WithoutIf class run brought) (and_left has (not alone) none))) tt
 
 -- it isn't wanted
-pub without-want : (class : ClassFields) (run : List Frame) (input : Input) (brought : Brought) (has alone : Bool) → IsBrought input brought
-    → has ≡ has_lead_in (window_of class.version) brought → alone ≡ fits_behind (window_of class.version) 0 (drop 1 input.needs.now) → alone ≡ true
+pub without-want : (class : ClassFields) (run : List Frame) (input : Input) (brought : Brought)
+    (has alone : Bool) → IsBrought input brought
+    → has ≡ has_lead_in (window_of class.version) brought
+    → alone ≡ fits_behind (window_of class.version) 0 (drop 1 input.needs.now) → alone ≡ true
     → AreJoint (without_lead_in class run brought) None
 without-want class run input brought has alone is leads fits true_is =
-    subst (λ o. AreJoint o None) (sym (without-is class run input brought has alone is leads fits ∙ ap (WithoutIf class run brought) (and_right has (not alone) (not_from_true alone true_is)))) tt
+    subst (λ o. AreJoint o None) (sym (without-is class run input brought has alone is leads fits
+    ∙ ap (WithoutIf class run brought) (and_right has (not alone) (not_from_true alone true_is))))
+    tt
 
 -- it is left out where the others can join
-pub without-some : (class : ClassFields) (run : List Frame) (input : Input) (brought : Brought) (has alone : Bool) (result : Option CodeJoint) → IsBrought input brought
-    → has ≡ has_lead_in (window_of class.version) brought → alone ≡ fits_behind (window_of class.version) 0 (drop 1 input.needs.now) → has ≡ true → alone ≡ false
-    → AreJoint (option_map (joint_with LeadIn) (joining (window_of class.version) run (drop 1 brought.frames))) result → AreJoint (without_lead_in class run brought) result
+pub without-some : (class : ClassFields) (run : List Frame) (input : Input) (brought : Brought)
+    (has alone : Bool) (result : Option CodeJoint) → IsBrought input brought
+    → has ≡ has_lead_in (window_of class.version) brought
+    → alone ≡ fits_behind (window_of class.version) 0 (drop 1 input.needs.now) → has ≡ true
+    → alone ≡ false → AreJoint (option_map (joint_with LeadIn) (joining (window_of class.version)
+    run (drop 1 brought.frames))) result → AreJoint (without_lead_in class run brought) result
 without-some class run input brought has alone result is leads fits has_is alone_is joins =
     subst (λ o. AreJoint o result)
-    (sym (without-is class run input brought has alone is leads fits ∙ ap (WithoutIf class run brought) (and_from has (not alone) has_is (not_from_false alone alone_is)))) joins
+    (sym (without-is class run input brought has alone is leads fits ∙ ap (WithoutIf class run
+    brought) (and_from has (not alone) has_is (not_from_false alone alone_is)))) joins
 
 -- the frames of an input but for so many at its front need what is left of its needs
-pub needs-drop : (k : ℕ) (input : Input) (brought : Brought) → IsBrought input brought → drop k input.needs.now ≡ needs_of (drop k brought.frames)
-needs-drop k input brought is = ap (drop k) is.needs ∙ drop-map (λ (f : Frame). f.need) k brought.frames
+pub needs-drop : (k : ℕ) (input : Input) (brought : Brought) → IsBrought input brought
+    → drop k input.needs.now ≡ needs_of (drop k brought.frames)
+needs-drop k input brought is =
+    ap (drop k) is.needs ∙ drop-map (λ (f : Frame). f.need) k brought.frames
 
 -- ---- what is decided
 
-pub joint-first : (x y : Option Joint) (z : Joint) (result : CodeJoint) → AreJoint x (Some result) → IsJoint (unwrap_or (option_or x y) z) result
+-- what becomes of an input is the first that is found of two
+pub joint-first : (x y : Option Joint) (z : Joint) (result : CodeJoint) → AreJoint x (Some result)
+    → IsJoint (unwrap_or (option_or x y) z) result
 joint-first None y z result is = absurd is
 joint-first (Some joint) y z result is = is
 
-pub joint-second : (x y : Option Joint) (z : Joint) (result : CodeJoint) → AreJoint x None → AreJoint y (Some result) → IsJoint (unwrap_or (option_or x y) z) result
+-- if the first isn't found, it is the second
+pub joint-second : (x y : Option Joint) (z : Joint) (result : CodeJoint) → AreJoint x None
+    → AreJoint y (Some result) → IsJoint (unwrap_or (option_or x y) z) result
 joint-second None None z result first is = absurd is
 joint-second None (Some joint) z result first is = is
 joint-second (Some joint) y z result first is = absurd first
 
-pub joint-last : (x y : Option Joint) (z : Joint) (result : CodeJoint) → AreJoint x None → AreJoint y None → IsJoint z result → IsJoint (unwrap_or (option_or x y) z) result
+-- if neither is found, it is the last
+pub joint-last : (x y : Option Joint) (z : Joint) (result : CodeJoint) → AreJoint x None
+    → AreJoint y None → IsJoint z result → IsJoint (unwrap_or (option_or x y) z) result
 joint-last None None z result first second is = is
 joint-last None (Some joint) z result first second is = absurd second
 joint-last (Some joint) y z result first second is = absurd first
@@ -110,7 +147,8 @@ joint-last (Some joint) y z result first second is = absurd first
 -- what is decided adds the frames that are left, the first in its slot
 abbrev pub Adds : Brought → Joint → Type 0
 Adds brought joint =
-    (result : CodeJoint) → IsJoint joint result → needs_of joint.frames ≡ moved_first result.slot (drop (left_out joint.seam) (needs_of brought.frames))
+    (result : CodeJoint) → IsJoint joint result → needs_of joint.frames
+    ≡ moved_first result.slot (drop (left_out joint.seam) (needs_of brought.frames))
 
 abbrev AddsIf : Brought → Option Joint → Type 0
 AddsIf brought None = Unit {0}
@@ -119,9 +157,11 @@ AddsIf brought (Some joint) = Adds brought joint
 -- the frames that join, with any seam
 abbrev Moves : Seam → List Frame → Option (List Frame) → Type 0
 Moves seam rest None = Unit {0}
-Moves seam rest (Some frames) = (result : CodeJoint) → IsJoint (joint_with seam frames) result → needs_of frames ≡ moved_first result.slot (needs_of rest)
+Moves seam rest (Some frames) = (result : CodeJoint) → IsJoint (joint_with seam frames) result
+    → needs_of frames ≡ moved_first result.slot (needs_of rest)
 
-joining-moves : (window : ℕ) (seam : Seam) (run rest : List Frame) → Moves seam rest (joining window run rest)
+joining-moves : (window : ℕ) (seam : Seam) (run rest : List Frame)
+    → Moves seam rest (joining window run rest)
 unfolding joining first_in
 joining-moves window seam run [] = λ result is. ap (λ o. moved_first o []) (sym is.slot)
 joining-moves window seam run (f ∷ fs) = at (join_slot window (needs_of run) f.need (needs_of fs))
@@ -130,31 +170,41 @@ joining-moves window seam run (f ∷ fs) = at (join_slot window (needs_of run) f
     at None = tt
     at (Some s) = λ result is. ap (λ o. moved_first o (f.need ∷ needs_of fs)) (sym is.slot)
 
-moves-adds : (brought : Brought) (seam : Seam) (o : Option (List Frame)) → Moves seam (drop (left_out seam) brought.frames) o → AddsIf brought (option_map (joint_with seam) o)
+moves-adds : (brought : Brought) (seam : Seam) (o : Option (List Frame))
+    → Moves seam (drop (left_out seam) brought.frames) o
+    → AddsIf brought (option_map (joint_with seam) o)
 moves-adds brought seam None moves = tt
 moves-adds brought seam (Some frames) moves =
-    λ result is. moves result is ∙ ap (moved_first result.slot) (sym (drop-map (λ (f : Frame). f.need) (left_out seam) brought.frames))
+    λ result is. moves result is ∙ ap (moved_first result.slot)
+    (sym (drop-map (λ (f : Frame). f.need) (left_out seam) brought.frames))
 
-following-adds : (class : ClassFields) (run : List Frame) (before brought : Brought) → AddsIf brought (following class run before brought)
-following-adds class run before brought = subst (AddsIf brought) (sym (follow-is class run before brought)) (at (alike_overlap class run before brought))
+following-adds : (class : ClassFields) (run : List Frame) (before brought : Brought)
+    → AddsIf brought (following class run before brought)
+following-adds class run before brought = subst (AddsIf brought)
+    (sym (follow-is class run before brought)) (at (alike_overlap class run before brought))
   where
     at : (o : Option Overlap) → AddsIf brought (option_and_then (follows_with class run brought) o)
     at None = tt
     at (Some overlap) =
-        moves-adds brought (Follows overlap.frames) (joining (window_of class.version) run (drop overlap.frames brought.frames))
-        (joining-moves (window_of class.version) (Follows overlap.frames) run (drop overlap.frames brought.frames))
+        moves-adds brought (Follows overlap.frames)
+        (joining (window_of class.version) run (drop overlap.frames brought.frames))
+        (joining-moves (window_of class.version) (Follows overlap.frames) run
+        (drop overlap.frames brought.frames))
 
-without-adds : (class : ClassFields) (run : List Frame) (brought : Brought) → AddsIf brought (without_lead_in class run brought)
+without-adds : (class : ClassFields) (run : List Frame) (brought : Brought)
+    → AddsIf brought (without_lead_in class run brought)
 unfolding without_lead_in
 without-adds class run brought = at _
   where
-    at : (b : Bool) → AddsIf brought (if b then option_map (joint_with LeadIn) (joining (window_of class.version) run (drop 1 brought.frames)) else None)
+    at : (b : Bool) → AddsIf brought (if b then option_map (joint_with LeadIn)
+        (joining (window_of class.version) run (drop 1 brought.frames)) else None)
     at true =
         moves-adds brought LeadIn (joining (window_of class.version) run (drop 1 brought.frames))
         (joining-moves (window_of class.version) LeadIn run (drop 1 brought.frames))
     at false = tt
 
-all-moves : (frames : List Frame) (result : CodeJoint) → IsJoint (joint_with Whole frames) result → needs_of frames ≡ moved_first result.slot (needs_of frames)
+all-moves : (frames : List Frame) (result : CodeJoint) → IsJoint (joint_with Whole frames) result
+    → needs_of frames ≡ moved_first result.slot (needs_of frames)
 unfolding first_in
 all-moves [] result is = ap (λ o. moved_first o []) (sym is.slot)
 all-moves (f ∷ fs) result is = ap (λ o. moved_first o (f.need ∷ needs_of fs)) (sym is.slot)
@@ -162,40 +212,54 @@ all-moves (f ∷ fs) result is = ap (λ o. moved_first o (f.need ∷ needs_of fs
 whole-adds : (brought : Brought) → Adds brought (whole brought)
 whole-adds brought = all-moves brought.frames
 
-pub joint-adds : (class : ClassFields) (run : List Frame) (before brought : Brought) → Adds brought (joint_of class run before brought)
+-- what becomes of an input adds its frames but for those that are left out
+pub joint-adds : (class : ClassFields) (run : List Frame) (before brought : Brought)
+    → Adds brought (joint_of class run before brought)
 joint-adds class run before brought =
-    at (following class run before brought) (without_lead_in class run brought) (following-adds class run before brought) (without-adds class run brought)
+    at (following class run before brought) (without_lead_in class run brought)
+    (following-adds class run before brought) (without-adds class run brought)
   where
-    at : (x y : Option Joint) → AddsIf brought x → AddsIf brought y → Adds brought (unwrap_or (option_or x y) (whole brought))
+    at : (x y : Option Joint) → AddsIf brought x → AddsIf brought y
+        → Adds brought (unwrap_or (option_or x y) (whole brought))
     at None None first second = whole-adds brought
     at None (Some joint) first second = second
     at (Some joint) y first second = first
 
 -- as many as are left
-length-moved : (slot : Option SlotFields) (needs : List Need) → length (moved_first slot needs) ≡ length needs
+pub length-moved : (slot : Option SlotFields) (needs : List Need)
+    → length (moved_first slot needs) ≡ length needs
 unfolding first_in
 length-moved None needs = refl
 length-moved (Some slot) [] = refl
 length-moved (Some slot) (need ∷ needs) = refl
 
-pub length-joint : (class : ClassFields) (run : List Frame) (before brought : Brought) (result : CodeJoint) → IsJoint (joint_of class run before brought) result
-    → length (joint_of class run before brought).frames ≡ length brought.frames - left_out (joint_of class run before brought).seam
+-- all frames of an input are joined but for as many as its seam leaves out
+pub length-joint : (class : ClassFields) (run : List Frame) (before brought : Brought)
+    (result : CodeJoint) → IsJoint (joint_of class run before brought) result
+    → length (joint_of class run before brought).frames
+    ≡ length brought.frames - left_out (joint_of class run before brought).seam
 length-joint class run before brought result is =
     let joint : Joint = joint_of class run before brought in
-    sym (length-map joint.frames (λ (f : Frame). f.need)) ∙ ap length (joint-adds class run before brought result is)
+    sym (length-map joint.frames (λ (f : Frame). f.need))
+    ∙ ap length (joint-adds class run before brought result is)
     ∙ length-moved result.slot (drop (left_out joint.seam) (needs_of brought.frames))
     ∙ length-drop (left_out joint.seam) (needs_of brought.frames)
     ∙ ap (λ n. n - left_out joint.seam) (length-map brought.frames (λ (f : Frame). f.need))
 
 -- ---- a whole input
 
-pub whole-joint : (input : Input) (brought : Brought) (first : Need) → IsBrought input brought → 0 < length input.needs.now → first ≡ slice_index_or input.needs.now 0 first
+-- an input that is left whole joins in the slot of its first frame
+pub whole-joint : (input : Input) (brought : Brought) (first : Need) → IsBrought input brought
+    → 0 < length input.needs.now → first ≡ slice_index_or input.needs.now 0 first
     → IsJoint (whole brought) (record { seam = Whole; slot = Some first.header.slot })
 whole-joint input brought first is some at = record {
   seam = refl;
-  slot = first-slot brought.frames first (subst (λ l. 0 < length l) is.needs some) (subst (λ l. first ≡ slice_index_or l 0 first) is.needs at);
+  slot = first-slot brought.frames first (subst (λ l. 0 < length l) is.needs some)
+      (subst (λ l. first ≡ slice_index_or l 0 first) is.needs at);
 }
   where
-    first-slot : (frames : List Frame) (n : Need) → 0 < length (needs_of frames) → n ≡ slice_index_or (needs_of frames) 0 n → Some n.header.slot ≡ option_map (λ (f : Frame). f.need.header.slot) (slice_get frames 0)
+    first-slot : (frames : List Frame) (n : Need) → 0 < length (needs_of frames)
+        → n ≡ slice_index_or (needs_of frames) 0 n
+        → Some n.header.slot ≡ option_map (λ (f : Frame). f.need.header.slot) (slice_get frames 0)
     first-slot [] n some at = absurd (omega (arith, some))
     first-slot (f ∷ fs) n some at = ap (λ (m : Need). Some m.header.slot) at

@@ -1,23 +1,22 @@
 -- What is known of the run and of the next input where their seam is decided.
-use Rattle.std.specs.Prelude.{◌≡◌, ℕ, ◌+◌, ◌-◌, ◌<◌, ◌≤◌, nat_le, if◌then◌else◌, List, [], ◌∷◌, ◌++◌, length, map, drop, slice_get, Option, Some, None, option_map, option_and_then, IfSome}
 use Rattle.std.specs.List.{range_with_len}
-use Rattle.frame_header.specs.Fields.{SlotFields, ClassFields, IsClass}
-use Rattle.frame_header.specs.Tables.{window_of}
-use Rattle.exact_span.specs.PlayedPositions.{rest_of, AreCounted, longest_rest}
+use Rattle.std.specs.Prelude.{drop, IfSome, if◌then◌else◌, length, List, map, nat_le, None, Option}
+use Rattle.std.specs.Prelude.{option_and_then, option_map, slice_get, Some, ℕ, [], ◌++◌, ◌+◌, ◌-◌}
+use Rattle.std.specs.Prelude.{◌<◌, ◌∷◌, ◌≡◌, ◌≤◌}
 use Rattle.exact_span.specs.Overlaps.{IsOverlap}
+use Rattle.exact_span.specs.PlayedPositions.{AreCounted, longest_rest, rest_of}
 use Rattle.exact_span.specs.declared.overlap.Overlap.{Overlap}
-use Rattle.slot_plan.specs.declared.needs.Need.{Need}
-use Rattle.slot_plan.specs.Parts.{AreOfClass}
-use Rattle.slot_plan.specs.Behind.{FitsBehind, IsLeft, first_in}
-use Rattle.seam_plan.specs.declared.input.Input.{Input}
+use Rattle.frame_header.specs.{Fields.{ClassFields, IsClass, SlotFields}, Tables.window_of}
+use Rattle.seam_plan.specs.Frames.{Brought, Frame, needs_of}
+use Rattle.seam_plan.specs.Seams.{compared, ends_alike, Joint, joint_of, joint_with, left_out}
+use Rattle.seam_plan.specs.{Seams.overlap_of, declared.input.Input.Input}
+use Rattle.seam_plan.specs.declared.run.{FramePlace.FramePlace, Joint.Joint as CodeJoint, Run.Run}
 use Rattle.seam_plan.specs.declared.seam.Seam.{Seam}
-use Rattle.seam_plan.specs.declared.run.FramePlace.{FramePlace}
-use Rattle.seam_plan.specs.declared.run.Run.{Run}
-use Rattle.seam_plan.specs.declared.run.Joint.{Joint as CodeJoint}
-use Rattle.seam_plan.specs.Frames.{Frame, Brought, needs_of}
-use Rattle.seam_plan.specs.Seams.{Joint, joint_with, left_out, overlap_of, compared, ends_alike, joint_of}
+use Rattle.slot_plan.specs.{Behind.{first_in, FitsBehind, IsLeft}, Parts.AreOfClass}
+use Rattle.slot_plan.specs.declared.needs.Need.{Need}
 
--- frames of an input of this class, each in its own slot; they fit behind no bytes, as those of every file do whose head is set apart
+-- frames of an input of this class, each in its own slot; they fit
+-- behind no bytes, as those of every file do whose head is set apart
 pub record CanBeJoined (class : ClassFields) (input : Input) : Type 0 where
   pub some : 0 < length input.needs.now
   pub few : length input.needs.now < 4294967296
@@ -39,8 +38,10 @@ last_seven xs = drop (length xs - 7) xs
 abbrev pub rest_in : ClassFields → Brought → Option ℕ
 rest_in class brought = option_map (λ p. rest_of class (length brought.frames) p) brought.played
 
--- The run has these frames, which are at these places, the last of them of what this input brings, or of inputs before it.
-pub record IsRun (class : ClassFields) (frames : List Frame) (places : List FramePlace) (before : Brought) (run : Run) : Type 0 where
+-- The run has these frames, which are at these places, the last
+-- of them of what this input brings, or of inputs before it.
+pub record IsRun (class : ClassFields) (frames : List Frame) (places : List FramePlace)
+    (before : Brought) (run : Run) : Type 0 where
   pub of_class : run.class ≡ class
   pub left : IsLeft (window_of class.version) (window_of class.version) (needs_of frames) run.left
   pub last : run.last.items ≡ last_seven places
@@ -65,13 +66,15 @@ pub record CanFollow (input : Input) (overlap : Overlap) : Type 0 where
 
 -- of the frames that are shared, those that are to be alike are
 abbrev pub if_alike : List Frame → Brought → Overlap → Option Overlap
-if_alike run brought overlap = if ends_alike run (compared overlap brought) then Some overlap else None
+if_alike run brought overlap =
+    if ends_alike run (compared overlap brought) then Some overlap else None
 
 -- the frames that the input shares with the one before it, if these are alike
 abbrev pub alike_overlap : ClassFields → List Frame → Brought → Brought → Option Overlap
 alike_overlap class run before brought =
     option_and_then (if_alike run brought) (overlap_of class before brought)
 
+-- the place of a frame: its input and its number there
 abbrev pub place_of : ℕ → ℕ → FramePlace
 place_of input frame = record { input = input; frame = frame }
 
@@ -79,7 +82,8 @@ place_of input frame = record { input = input; frame = frame }
 abbrev pub places_from : ℕ → ℕ → ℕ → List FramePlace
 places_from input from count = map (place_of input) (range_with_len from count)
 
--- this is decided: the seam, and the slot of the first frame that the input adds to the run, if it adds one
+-- this is decided: the seam, and the slot of the first
+-- frame that the input adds to the run, if it adds one
 pub record IsJoint (joint : Joint) (result : CodeJoint) : Type 0 where
   pub seam : result.seam ≡ joint.seam
   pub slot : result.slot ≡ option_map (λ (f : Frame). f.need.header.slot) (slice_get joint.frames 0)
@@ -98,7 +102,8 @@ pub record Joins (class : ClassFields) (number : ℕ) (frames : List Frame) (pla
       IsRun class (frames ++ joint.frames)
       (places ++ places_from number (left_out joint.seam) (length joint.frames)) brought run
 
--- The frames of an input that are added to a run fit behind what it leaves, each in its own slot but for the first, which has this one.
+-- The frames of an input that are added to a run fit behind what it
+-- leaves, each in its own slot but for the first, which has this one.
 abbrev pub FitIn : ClassFields → ℕ → List Need → Option SlotFields → Type 0
 FitIn class left [] None = Unit {0}
 FitIn class left [] (Some slot) = ⊥
@@ -107,7 +112,8 @@ FitIn class left (first ∷ needs) (Some slot) =
     FitsBehind (window_of class.version) left (first_in slot (first ∷ needs))
 
 -- so do those that are left in the input
-pub record FitsAs (class : ClassFields) (left : ℕ) (input : Input) (joint : CodeJoint) : Type 0 where
+pub record FitsAs (class : ClassFields) (left : ℕ) (input : Input)
+    (joint : CodeJoint) : Type 0 where
   pub out : left_out joint.seam ≤ length input.needs.now
   pub fit : FitIn class left (drop (left_out joint.seam) input.needs.now) joint.slot
 
@@ -124,5 +130,4 @@ AreJoint _ _ = ⊥
 
 -- frames join with this seam, or can't
 abbrev pub IsJoining : Seam → Option (List Frame) → Option CodeJoint → Type 0
-IsJoining seam frames result =
-    AreJoint (option_map (joint_with seam) frames) result
+IsJoining seam frames result = AreJoint (option_map (joint_with seam) frames) result

@@ -1,18 +1,19 @@
--- What inputs bring to a join without seams.
-use Rattle.std.specs.Prelude.{ℕ, Bool, List, map, Option}
-use Rattle.slot_plan.specs.declared.needs.Need.{Need}
+-- What inputs bring to a join without seams, which no command makes yet.
+use Rattle.std.specs.Prelude.{Bool, List, map, Option, ℕ}
 use Rattle.exact_span.specs.declared.played.Played.{Played}
+use Rattle.slot_plan.specs.declared.needs.Need.{Need}
 
--- A frame: what it needs, and its sound: the numbers by which it is compared with others, which tell
--- its entry in the stream, but for the gains.
+-- A frame: what it needs, and its sound: the numbers by which it is compared
+-- with others, which tell its entry in the stream, but for the gains.
 pub record Frame : Type 0 where
   pub need : Need
   pub sound : List ℕ
 
+-- what these frames need
 abbrev pub needs_of : List Frame → List Need
 needs_of frames = map (λ f. f.need) frames
 
--- an input
+-- what an input brings: its frames, and its played positions
 pub record Brought : Type 0 where
   -- all its frames; there is one
   pub frames : List Frame

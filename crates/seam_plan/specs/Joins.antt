@@ -1,14 +1,11 @@
 -- Frames in their own slots that join others, and the lead-in in front of an input.
-use Rattle.std.specs.Prelude.{ℕ, ◌&&◌, not, nat_le, Bool, false, List, [], ◌∷◌, ◌++◌, map, drop, find, bytes_eq, Option, Some, None, option_map}
-use Rattle.frame_header.specs.Fields.{SlotFields, HeaderFields, ClassFields}
-use Rattle.frame_header.specs.HeaderBits.{header_bits}
-use Rattle.frame_header.specs.Tables.{class_of, area_of}
-use Rattle.frame_header.specs.Slots.{all_slots}
+use Rattle.std.specs.Prelude.{Bool, bytes_eq, drop, false, find, List, map, nat_le, None, not}
+use Rattle.std.specs.Prelude.{Option, option_map, Some, ℕ, [], ◌&&◌, ◌++◌, ◌∷◌}
+use Rattle.frame_header.specs.Fields.{ClassFields, HeaderFields, SlotFields}
+use Rattle.frame_header.specs.{HeaderBits.header_bits, Slots.all_slots, Tables.{area_of, class_of}}
+use Rattle.seam_plan.specs.Frames.{Brought, Frame, needs_of}
+use Rattle.slot_plan.specs.{Behind.in_slot, Layouts.has_layout, Parts.{own_area, own_frame}}
 use Rattle.slot_plan.specs.declared.needs.Need.{Need}
-use Rattle.slot_plan.specs.Layouts.{has_layout}
-use Rattle.slot_plan.specs.Parts.{own_area, own_frame}
-use Rattle.slot_plan.specs.Behind.{in_slot}
-use Rattle.seam_plan.specs.Frames.{Frame, Brought, needs_of}
 
 -- frames, each in its own slot, have a layout after so many bytes of areas that hold nothing
 -- (`FitsBehind` of `slot_plan` as a value)
@@ -19,7 +16,8 @@ fits_behind window free needs = has_layout window 0 free (map own_frame needs)
 
 -- the least slot of a lead-in, which has no check word, behind whose area they fit
 abbrev pub lead_in_slot : ℕ → ClassFields → List Need → Option SlotFields
-lead_in_slot window class needs = find (λ slot. fits_behind window (area_of class slot false) needs) all_slots
+lead_in_slot window class needs =
+    find (λ slot. fits_behind window (area_of class slot false) needs) all_slots
 
 -- the header of their lead-in: that of the first of them in this slot, without a check word
 unfoldable pub lead_in_header : ℕ → List Need → Option HeaderFields
@@ -32,6 +30,7 @@ lead_in_header window (first ∷ needs) =
 abbrev pub same_header : HeaderFields → HeaderFields → Bool
 same_header g h = bytes_eq (header_bits g) (header_bits h)
 
+-- there is this header
 abbrev pub is_header : HeaderFields → Option HeaderFields → Bool
 is_header h None = false
 is_header h (Some other) = same_header h other
@@ -41,8 +40,8 @@ abbrev pub leads_others : ℕ → List Need → Bool
 leads_others window [] = false
 leads_others window (first ∷ needs) = is_header first.header (lead_in_header window needs)
 
--- The input has a lead-in in front, whichever program wrote it: all bytes of the side information of
--- its first frame are 0, and it has the header of the lead-in of the frames after it.
+-- The input has a lead-in in front, whichever program wrote it: all bytes of the side information
+-- of its first frame are 0, and it has the header of the lead-in of the frames after it.
 unfoldable pub has_lead_in : ℕ → Brought → Bool
 has_lead_in window input = input.blank && leads_others window (needs_of input.frames)
 

@@ -1,17 +1,15 @@
--- Which frames at the front of each input are left out where inputs are joined without seams, and the
--- run of all others, which is written as one part.
-use Rattle.std.specs.Prelude.{ℕ, ◌-◌, ◌&&◌, not, nat_le, if◌then◌else◌, Bool, true, false, List, [], ◌∷◌, ◌++◌, length, drop, flat_map, slice_range, bytes_eq, Option, None, option_map, option_and_then, unwrap_or}
+-- Which frames at the front of each input are left out where inputs are joined
+-- without seams, and the run of all others, which is written as one part.
 use Rattle.std.specs.Option.{option_or}
-use Rattle.frame_header.specs.Fields.{ClassFields}
-use Rattle.frame_header.specs.Tables.{window_of}
-use Rattle.exact_span.specs.PlayedPositions.{rest_of}
-use Rattle.exact_span.specs.Overlaps.{shared_of}
-use Rattle.exact_span.specs.declared.overlap.Overlap.{Overlap}
-use Rattle.exact_span.specs.declared.played.Played.{Played}
-use Rattle.seam_plan.specs.declared.seam.Seam.{Seam}
-use Rattle.seam_plan.specs.declared.seam.Seam.TheVariants.{Follows, LeadIn, Whole}
-use Rattle.seam_plan.specs.Frames.{Frame, Brought, needs_of}
+use Rattle.std.specs.Prelude.{Bool, bytes_eq, drop, false, flat_map, if◌then◌else◌, length, List}
+use Rattle.std.specs.Prelude.{nat_le, None, not, Option, option_and_then, option_map, slice_range}
+use Rattle.std.specs.Prelude.{true, unwrap_or, ℕ, [], ◌&&◌, ◌++◌, ◌-◌, ◌∷◌}
+use Rattle.exact_span.specs.{Overlaps.shared_of, PlayedPositions.rest_of}
+use Rattle.exact_span.specs.declared.{overlap.Overlap.Overlap, played.Played.Played}
+use Rattle.frame_header.specs.{Fields.ClassFields, Tables.window_of}
+use Rattle.seam_plan.specs.Frames.{Brought, Frame, needs_of}
 use Rattle.seam_plan.specs.Joins.{fits_behind, has_lead_in, is_wanted, joining}
+use Rattle.seam_plan.specs.declared.seam.Seam.{Seam, TheVariants.{Follows, LeadIn, Whole}}
 
 -- what becomes of an input: its seam, and the frames that it adds to the run, the first of them in
 -- the slot in which it joined
@@ -19,6 +17,7 @@ pub record Joint : Type 0 where
   pub seam : Seam
   pub frames : List Frame
 
+-- the joint with this seam and these frames
 abbrev pub joint_with : Seam → List Frame → Joint
 joint_with seam frames = record { seam = seam; frames = frames }
 
@@ -47,7 +46,8 @@ overlap_of class before input =
     option_and_then
     (λ (p : Played).
     option_and_then
-    (λ (q : Played). shared_of class (rest_of class (length before.frames) p) q.start (length input.frames))
+    (λ (q : Played). shared_of class
+    (rest_of class (length before.frames) p) q.start (length input.frames))
     input.played)
     before.played
 
@@ -63,6 +63,7 @@ follow_by class run input overlap =
     (joining (window_of class.version) run (drop overlap.frames input.frames))
     else None
 
+-- what becomes of an input that follows the one before it, if it can
 unfoldable pub following : ClassFields → List Frame → Brought → Brought → Option Joint
 following class run before input =
     option_and_then (follow_by class run input) (overlap_of class before input)
@@ -83,8 +84,8 @@ without_lead_in class run input =
 abbrev pub whole : Brought → Joint
 whole input = joint_with Whole input.frames
 
--- what becomes of an input after a run that ends with what the input before it added: it follows that
--- one, or else its lead-in is left out, or else it is whole
+-- what becomes of an input after a run that ends with what the input before it
+-- added: it follows that one, or else its lead-in is left out, or else it is whole
 abbrev pub joint_of : ClassFields → List Frame → Brought → Brought → Joint
 joint_of class run before input =
     unwrap_or (option_or (following class run before input) (without_lead_in class run input))
@@ -101,11 +102,12 @@ joints_from class run before (input ∷ inputs) =
 abbrev pub joints_of : ClassFields → Brought → List Brought → List Joint
 joints_of class first inputs = joints_from class first.frames first inputs
 
+-- the frames of all inputs that are in the run
 abbrev pub run_with : Brought → List Joint → List Frame
 run_with first joints = first.frames ++ flat_map (λ (j : Joint). j.frames) joints
 
--- The lead-in of the first input leaves the run at last if the run without it wants one: then it gets
--- one again, with the area that all of them want.
+-- The lead-in of the first input leaves the run at last if the run without
+-- it wants one: then it gets one again, with the area that all of them want.
 unfoldable pub front_left_out : ClassFields → Brought → List Frame → ℕ
 front_left_out class first run =
     let window = window_of class.version in
@@ -117,6 +119,7 @@ pub record Joined : Type 0 where
   pub front : ℕ
   pub joints : List Joint
 
+-- what becomes of these inputs
 unfoldable pub joined_of : ClassFields → Brought → List Brought → Joined
 joined_of class first inputs =
     let joints = joints_of class first inputs in record {

@@ -7,7 +7,7 @@ ghost use Rattle.slot_plan.specs.Parts.{AreOfClass};
 ghost use Rattle.slot_plan.specs.Behind.{FitsBehind, IsLeft, in_slot as in_slot_lem};
 ghost use Rattle.seam_plan.specs.Frames.{Frame, Brought, needs_of};
 ghost use Rattle.seam_plan.specs.Joins.{joining as joining_lem};
-ghost use Rattle.seam_plan.specs.Seams.{joint_of, overlap_of, following as following_lem, without_lead_in as without_lead_in_lem};
+ghost use Rattle.seam_plan.specs.Seams.{joint_of, left_out, overlap_of, following as following_lem, without_lead_in as without_lead_in_lem};
 ghost use Rattle.seam_plan.specs.Decisions.{CanBeJoined, IsBrought, IsRun, IsWithin, IsJoint, AreJoint, IsJoining, FitIn, FitsAs, IsSound, CanFollow, Joins, alike_overlap, last_of, last_seven, moved_first, places_from};
 
 use crate::input::{Input, behind};
@@ -266,6 +266,14 @@ impl Run {
             (before brought : Brought) → IsRun class frames places before self.old
             → IsBrought input.now brought → alike ≡ alike_overlap class frames before brought
             → Joins class number frames places before brought result self.new }
+        // Whatever is alike.
+        ensures fits { FitsAs self.old.class self.old.left input.now result }
+        ensures goes_on { (class : ClassFields) (frames more : List Frame) (places : List FramePlace)
+            (before brought : Brought) → IsRun class frames places before self.old
+            → IsBrought input.now brought → needs_of more
+            ≡ moved_first result.slot (drop (left_out result.seam) input.now.needs.now)
+            → IsRun class (frames ++ more)
+            (places ++ places_from number (left_out result.seam) (length more)) brought self.new }
         ensures sound { IsSound self.new }
         ensures class { self.new.class ≡ self.old.class }
     {

@@ -1,10 +1,11 @@
 -- The bytes of a header say it.
-use Rattle.std.proofs.Common.{◌≡◌, rules}
-use Rattle.std.specs.Prelude.{bytes_eq}
+use Rattle.std.{proofs.Common.{rules, ◌≡◌}, specs.Prelude.bytes_eq}
 use Rattle.seam_plan.proofs.LeadInLaws.{header-same}
 use Rattle.seam_plan.proofs.lead_ins.are_same.Goals as goal
 
 pub returns : goal.returns
 returns c =
     let is : c.eq.result ≡ bytes_eq c.bytes.result c.bytes-2.result = search rules in
-    header-same c.args.first.now c.args.second.now c.bytes.result c.bytes-2.result c.bytes.ensures.bits c.bytes-2.ensures.bits c.bytes.ensures.octets c.bytes-2.ensures.octets c.eq.result is
+    header-same c.args.first.now c.args.second.now c.bytes.result c.bytes-2.result
+    c.bytes.ensures.bits c.bytes-2.ensures.bits c.bytes.ensures.octets c.bytes-2.ensures.octets
+    c.eq.result is

@@ -4,4 +4,5 @@ use Rattle.seam_plan.proofs.LeadInLaws.{alone-is}
 use Rattle.seam_plan.proofs.lead_ins.fit_alone.Goals as goal
 
 pub returns : goal.returns
-returns c = λ class same. alone-is (window_of class.version) c.wants.result c.args.needs.now (c.wants.ensures class same)
+returns c = λ class same. alone-is (window_of class.version)
+    c.wants.result c.args.needs.now (c.wants.ensures class same)

@@ -1,46 +1,64 @@
 -- The first frame in its slot, and then the others.
-use Rattle.std.proofs.Common.{◌≤◌, ◌++◌, ◌∙◌, ap, sym, subst}
+use Rattle.std.proofs.Common.{ap, subst, sym, ◌++◌, ◌∙◌, ◌≤◌}
 use Rattle.frame_header.specs.Tables.{window_of}
-use Rattle.slot_plan.specs.Parts.{AreOfClass}
-use Rattle.slot_plan.specs.Reserve.{free_behind}
-use Rattle.slot_plan.specs.Behind.{FitBehindFree, IsLeft}
-use Rattle.slot_plan.proofs.PartLaws.{class-drop}
+use Rattle.seam_plan.proofs.RunLaws.{add-left, moved-room, others-free}
 use Rattle.seam_plan.specs.Decisions.{FitIn, moved_first}
-use Rattle.seam_plan.proofs.RunLaws.{moved-room, others-free, add-left}
+use Rattle.slot_plan.{proofs.PartLaws.class-drop, specs.Behind.{FitBehindFree, IsLeft}}
+use Rattle.slot_plan.specs.{Parts.AreOfClass, Reserve.free_behind}
 use Rattle.seam_plan.proofs.run.Run.add.Goals as goal
 
 pub free_behind-free-requires-clause-fits : goal.free_behind-free-requires-clause-fits
 free_behind-free-requires-clause-fits c =
-    let fit = subst (FitIn c.args.self.now.class c.args.self.now.left c.args.needs.now) c.in-Some.is c.requires.fit in
-    moved-room c.args.self.now.class c.args.self.now.left c.args.needs.now c.in-Some.slot c.index-needs-0.result c.in_slot-first.result c.area.result c.requires.within.most fit c.index-needs-0.is
+    let fit = subst (FitIn c.args.self.now.class c.args.self.now.left c.args.needs.now)
+    c.in-Some.is c.requires.fit in
+    moved-room c.args.self.now.class c.args.self.now.left c.args.needs.now c.in-Some.slot
+    c.index-needs-0.result c.in_slot-first.result c.area.result c.requires.within.most fit
+    c.index-needs-0.is
     c.in_slot-first.ensures c.area.ensures.area
 
 pub leaves-self-requires : goal.leaves-self-requires
 leaves-self-requires c =
-    let fit = subst (FitIn c.args.self.now.class c.args.self.now.left c.args.needs.now) c.in-Some.is c.requires.fit in
+    let fit = subst (FitIn c.args.self.now.class c.args.self.now.left c.args.needs.now)
+    c.in-Some.is c.requires.fit in
     subst (FitBehindFree c.free_behind-free.result) (sym c.behind.ensures)
-    (others-free c.args.self.now.class c.args.self.now.left c.args.needs.now c.in-Some.slot c.index-needs-0.result c.in_slot-first.result c.area.result c.requires.within.most fit c.index-needs-0.is
+    (others-free c.args.self.now.class c.args.self.now.left c.args.needs.now c.in-Some.slot
+    c.index-needs-0.result c.in_slot-first.result c.area.result c.requires.within.most fit
+    c.index-needs-0.is
     c.in_slot-first.ensures c.area.ensures.area c.free_behind-free.result
-    (c.free_behind-free.ensures.free ∙ ap (λ w. free_behind w c.args.self.now.left c.in_slot-first.result.bytes c.area.result) c.window-window.ensures.window)
-    (subst (λ w. c.free_behind-free.result ≤ w) c.window-window.ensures.window c.free_behind-free.ensures.within) c.requires.same)
+    (c.free_behind-free.ensures.free ∙ ap (λ w. free_behind w
+    c.args.self.now.left c.in_slot-first.result.bytes c.area.result) c.window-window.ensures.window)
+    (subst (λ w. c.free_behind-free.result ≤ w)
+    c.window-window.ensures.window c.free_behind-free.ensures.within) c.requires.same)
 
 pub returns-clause-within : goal.returns-clause-within
 returns-clause-within c =
     let class = c.args.self.now.class in
-    let others = subst (AreOfClass class) (sym c.behind.ensures) (class-drop class c.args.needs.now 1 c.requires.same) in
-    let most = subst (λ w. c.free_behind-free.result ≤ w) c.window-window.ensures.window c.free_behind-free.ensures.within in
-    record { known = c.requires.within.known; most = (c.leaves-self.ensures class others most).within }
+    let others = subst (AreOfClass class) (sym c.behind.ensures)
+    (class-drop class c.args.needs.now 1 c.requires.same) in
+    let most = subst (λ w. c.free_behind-free.result ≤ w)
+    c.window-window.ensures.window c.free_behind-free.ensures.within in
+    record {
+      known = c.requires.within.known;
+      most = (c.leaves-self.ensures class others most).within;
+    }
 
 pub returns-clause-left : goal.returns-clause-left
 returns-clause-left c = λ frames before.
     let class = c.args.self.now.class in
     let window = window_of class.version in
-    let fit = subst (FitIn class c.args.self.now.left c.args.needs.now) c.in-Some.is c.requires.fit in
-    let others = subst (AreOfClass class) (sym c.behind.ensures) (class-drop class c.args.needs.now 1 c.requires.same) in
-    let most = subst (λ w. c.free_behind-free.result ≤ w) c.window-window.ensures.window c.free_behind-free.ensures.within in
-    let leaves = subst (λ l. IsLeft window c.free_behind-free.result l c.leaves-self.result) c.behind.ensures (c.leaves-self.ensures class others most) in
-    subst (λ o. IsLeft window window (frames ++ moved_first o c.args.needs.now) c.leaves-self.result) (sym c.in-Some.is)
-    (add-left class c.args.self.now.left c.args.needs.now c.in-Some.slot c.index-needs-0.result c.in_slot-first.result c.area.result c.requires.within.most fit c.index-needs-0.is
+    let fit =
+    subst (FitIn class c.args.self.now.left c.args.needs.now) c.in-Some.is c.requires.fit in
+    let others = subst (AreOfClass class) (sym c.behind.ensures)
+    (class-drop class c.args.needs.now 1 c.requires.same) in
+    let most = subst (λ w. c.free_behind-free.result ≤ w)
+    c.window-window.ensures.window c.free_behind-free.ensures.within in
+    let leaves = subst (λ l. IsLeft window c.free_behind-free.result l c.leaves-self.result)
+    c.behind.ensures (c.leaves-self.ensures class others most) in
+    subst (λ o. IsLeft window window
+    (frames ++ moved_first o c.args.needs.now) c.leaves-self.result) (sym c.in-Some.is)
+    (add-left class c.args.self.now.left c.args.needs.now c.in-Some.slot c.index-needs-0.result
+    c.in_slot-first.result c.area.result c.requires.within.most fit c.index-needs-0.is
     c.in_slot-first.ensures c.area.ensures.area c.free_behind-free.result
-    (c.free_behind-free.ensures.free ∙ ap (λ w. free_behind w c.args.self.now.left c.in_slot-first.result.bytes c.area.result) c.window-window.ensures.window)
+    (c.free_behind-free.ensures.free ∙ ap (λ w. free_behind w
+    c.args.self.now.left c.in_slot-first.result.bytes c.area.result) c.window-window.ensures.window)
     most c.requires.same c.leaves-self.result leaves frames before)

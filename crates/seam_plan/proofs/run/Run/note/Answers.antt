@@ -1,6 +1,6 @@
 -- One place more, and that the last seven are enough.
-use Rattle.std.proofs.Common.{◌≡◌, subst, arith}
-use Rattle.seam_plan.proofs.PlaceLaws.{Notes, note-slid, note-from, note-all}
+use Rattle.std.proofs.Common.{arith, subst, ◌≡◌}
+use Rattle.seam_plan.proofs.PlaceLaws.{note-all, note-from, note-slid, Notes}
 use Rattle.seam_plan.proofs.run.Run.note.Goals as goal
 
 pub loop-frame-preserved : goal.loop-frame-preserved
@@ -9,13 +9,20 @@ loop-frame-preserved c = record {
   left = c.loop-frame.invariant.left;
   rest = c.loop-frame.invariant.rest;
   last =
-      note-slid c.args.self.now.last.items c.loop-frame.self.last.items _ c.args.input c.max-first.result c.loop-frame.frame (omega (arith, c.loop-frame.auto.frame)) c.slide.ensures.few
+      note-slid c.args.self.now.last.items c.loop-frame.self.last.items _
+      c.args.input c.max-first.result c.loop-frame.frame (omega (arith, c.loop-frame.auto.frame))
+      c.slide.ensures.few
       c.slide.ensures.room c.slide.ensures.full c.loop-frame.invariant.last;
 }
 
 pub returns-clause-last : goal.returns-clause-last
 returns-clause-last c = λ places is.
-    let from = note-from c.args.from c.args.to c.max-first.result c.saturating_sub.result c.max-first.ensures c.saturating_sub.ensures c.requires in
-    let end : c.loop-frame.frame ≡ c.args.to = omega (arith, c.loop-frame-test.false, c.loop-frame.auto.frame, c.loop-frame.auto.frame-end, from.1) in
-    note-all c.args.self.now.last.items c.loop-frame.self.last.items c.args.input c.args.from c.max-first.result c.args.to from.0 from.1 from.2
-    (subst (Notes c.args.self.now.last.items c.loop-frame.self.last.items c.args.input c.max-first.result) end c.loop-frame.invariant.last) places is
+    let from = note-from c.args.from c.args.to c.max-first.result c.saturating_sub.result
+    c.max-first.ensures c.saturating_sub.ensures c.requires in
+    let end : c.loop-frame.frame ≡ c.args.to = omega
+    (arith, c.loop-frame-test.false, c.loop-frame.auto.frame, c.loop-frame.auto.frame-end, from.1)
+    in
+    note-all c.args.self.now.last.items c.loop-frame.self.last.items c.args.input c.args.from
+    c.max-first.result c.args.to from.0 from.1 from.2
+    (subst (Notes c.args.self.now.last.items c.loop-frame.self.last.items c.args.input
+    c.max-first.result) end c.loop-frame.invariant.last) places is

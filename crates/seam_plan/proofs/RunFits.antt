@@ -1,0 +1,291 @@
+-- The run fits behind a whole window, and its frames are those of the inputs but for some at the
+-- front of each, of which the first may be in another slot.
+use Rattle.std.proofs.Common.{ap, append-nil, append_assoc, arith, Bool, cond, Contains, drop}
+use Rattle.std.proofs.Common.{false, inl, inr, length, List, None, Option, refl, Some, subst, suc}
+use Rattle.std.proofs.Common.{sym, true, zero, ℕ, [], ◌++◌, ◌<◌, ◌∙◌, ◌∷◌, ◌≡◌, ◌⊎◌}
+use Rattle.std.proofs.lemmas.{Bool.and_parts, List.{drop-append-le, map-append}}
+use Rattle.std.specs.Option.{option_or}
+use Rattle.std.specs.Prelude.{find, flat_map, not, option_and_then, option_map, unwrap_or, ◌&&◌}
+use Rattle.exact_span.specs.declared.overlap.Overlap.{Overlap}
+use Rattle.frame_header.specs.{Fields.{ClassFields, SlotFields}, Slots.all_slots, Tables.window_of}
+use Rattle.seam_plan.proofs.{FitLaws.fits-tested, SeamLaws.{follow-is, follows_with}}
+use Rattle.seam_plan.specs.{Decisions.alike_overlap, Frames.{Brought, Frame, needs_of}}
+use Rattle.seam_plan.specs.Joins.{fits_behind, has_lead_in, is_no_less, join_slot, joining}
+use Rattle.seam_plan.specs.Joins.{lead_in_header, leads_others, moved_to}
+use Rattle.seam_plan.specs.Seams.{following, front_left_out, Joined, joined_of, Joint, joint_of}
+use Rattle.seam_plan.specs.Seams.{joint_with, joints_from, joints_of, left_out, run_of, run_with}
+use Rattle.seam_plan.specs.{Seams.{whole, without_lead_in}, declared.seam.Seam.Seam}
+use Rattle.seam_plan.specs.declared.seam.Seam.TheVariants.{Follows, LeadIn}
+use Rattle.slot_plan.proofs.BehindLaws.{fits-drop, more-behind, own-left, then-fits}
+use Rattle.slot_plan.specs.{Behind.{FitsBehind, in_slot, IsLeft}, declared.needs.Need.Need}
+
+-- ---- frames in other slots
+
+-- the frame is in its own slot, or in another
+pub record IsMoved (need moved : Need) : Type 0 where
+  pub is : moved ≡ in_slot moved.header.slot need
+  pub slot : (moved.header.slot ≡ need.header.slot) ⊎ Contains all_slots moved.header.slot
+
+-- these are the same frames, each in its own slot or in another
+abbrev pub AreMoved : List Need → List Need → Type 0
+AreMoved [] [] = Unit {0}
+AreMoved (need ∷ needs) (moved ∷ others) = IsMoved need moved × AreMoved needs others
+AreMoved _ _ = ⊥
+
+-- frames are the same frames, each in its own slot
+pub moved-same : (needs : List Need) → AreMoved needs needs
+moved-same [] = tt
+moved-same (need ∷ needs) = (record { is = refl; slot = inl refl }, moved-same needs)
+
+-- two lists of frames that may be in other slots make one list of such frames
+pub moved-append : (xs ys others more : List Need) → AreMoved xs others → AreMoved ys more
+    → AreMoved (xs ++ ys) (others ++ more)
+moved-append [] ys [] more front behind = behind
+moved-append [] ys (other ∷ others) more front behind = absurd front
+moved-append (x ∷ xs) ys [] more front behind = absurd front
+moved-append (x ∷ xs) ys (other ∷ others) more front behind =
+    (front.0, moved-append xs ys others more front.1 behind)
+
+-- ---- the slot of the first
+
+-- it passes the test, and is one of the slots
+abbrev Passes : (SlotFields → Bool) → List SlotFields → SlotFields → Type 0
+Passes test slots slot = (test slot ≡ true) × Contains slots slot
+
+found-first : (test : SlotFields → Bool) (s : SlotFields) (slots : List SlotFields)
+    (slot : SlotFields) (b : Bool) → test s ≡ b
+    → (find test slots ≡ Some slot → Passes test slots slot)
+    → cond b (Some s) (find test slots) ≡ Some slot → Passes test (s ∷ slots) slot
+found-first test s slots slot true passes later e =
+    let same : s ≡ slot = cc in
+    (ap test (sym same) ∙ passes, (zero, omega arith, same))
+found-first test s slots slot false passes later e =
+    let more = later e in
+    (more.0, (suc more.1.0, omega (arith, more.1.1), more.1.2))
+
+found-passes : (test : SlotFields → Bool) (slots : List SlotFields) (slot : SlotFields)
+    → find test slots ≡ Some slot → Passes test slots slot
+found-passes test [] slot e = absurd cc
+found-passes test (s ∷ slots) slot e =
+    found-first test s slots slot (test s) refl (λ later. found-passes test slots slot later) e
+
+-- ---- frames that join a run
+
+-- with them the run fits behind a whole window
+abbrev JoinIn : ℕ → List Frame → List Frame → Option (List Frame) → Type 0
+JoinIn window run rest None = Unit {0}
+JoinIn window run rest (Some frames) =
+    FitsBehind window window (needs_of (run ++ frames)) × AreMoved (needs_of rest) (needs_of frames)
+
+abbrev joins_by : ℕ → List Frame → Frame → List Frame → SlotFields → Bool
+joins_by window run f fs slot =
+    is_no_less f.need slot
+    && fits_behind window window (needs_of run ++ in_slot slot f.need ∷ needs_of fs)
+
+joins-in : (window : ℕ) (run rest : List Frame) → FitsBehind window window (needs_of run)
+    → JoinIn window run rest (joining window run rest)
+unfolding joining
+joins-in window run [] fits =
+    let same = sym (append-nil run) in
+    (subst (λ (l : List Frame). FitsBehind window window (needs_of l)) same fits, tt)
+joins-in window run (f ∷ fs) fits = at (join_slot window (needs_of run) f.need (needs_of fs)) refl
+  where
+    at : (o : Option SlotFields) → join_slot window (needs_of run) f.need (needs_of fs) ≡ o
+        → JoinIn window run (f ∷ fs) (option_map (λ slot. moved_to slot f ∷ fs) o)
+    at None e = tt
+    at (Some slot) e =
+        let found = found-passes (joins_by window run f fs) all_slots slot e in
+        let all : List Need = needs_of run ++ in_slot slot f.need ∷ needs_of fs in
+        let both = and_parts (is_no_less f.need slot) (fits_behind window window all) found.0 in
+        let needs : needs_of (run ++ moved_to slot f ∷ fs) ≡ all =
+        map-append (λ (g : Frame). g.need) run (moved_to slot f ∷ fs) in (
+          subst (FitsBehind window window) (sym needs) ((fits-tested window window all).0 both.1),
+          (record { is = refl; slot = inr found.1 }, moved-same (needs_of fs)),
+        )
+
+-- frames that fit behind nothing fit behind a run
+then-alone : (window : ℕ) (first others : List Need) → FitsBehind window window first
+    → FitsBehind window 0 others → FitsBehind window window (first ++ others)
+then-alone window first others fits alone = at _ (own-left window window first (omega arith) fits)
+  where
+    at : (left : ℕ) → IsLeft window window first left → FitsBehind window window (first ++ others)
+    at left is =
+        then-fits window window left first others (omega arith) is
+        (more-behind window 0 left others (omega arith) alone)
+
+-- ---- an input
+
+-- it fits behind no bytes, as every file does whose head is set apart
+abbrev pub FitsAlone : ClassFields → Brought → Type 0
+FitsAlone class input = FitsBehind (window_of class.version) 0 (needs_of input.frames)
+
+-- frames fit behind a whole window
+abbrev pub FitsWindow : ClassFields → List Frame → Type 0
+FitsWindow class frames =
+    FitsBehind (window_of class.version) (window_of class.version) (needs_of frames)
+
+-- the frames that an input adds to a run: its own but for some at the front
+pub record IsAdded (class : ClassFields) (run : List Frame) (input : Brought) (joint : Joint)
+    : Type 0 where
+  pub fits : FitsWindow class (run ++ joint.frames)
+  pub moved : AreMoved (needs_of (drop (left_out joint.seam) input.frames)) (needs_of joint.frames)
+
+module _ (class : ClassFields) (run : List Frame) (before input : Brought)
+    (fits : FitsWindow class run) where
+  abbrev window : ℕ
+  window = window_of class.version
+
+  abbrev AddedIf : Option Joint → Type 0
+  AddedIf None = Unit {0}
+  AddedIf (Some joint) = IsAdded class run input joint
+
+  abbrev behind : Seam → List Frame
+  behind seam = drop (left_out seam) input.frames
+
+  added-with : (seam : Seam) (o : Option (List Frame)) → JoinIn window run (behind seam) o
+      → AddedIf (option_map (joint_with seam) o)
+  added-with seam None joins = tt
+  added-with seam (Some frames) joins = record { fits = joins.0; moved = joins.1 }
+
+  added-if : (seam : Seam)
+      → AddedIf (option_map (joint_with seam) (joining window run (behind seam)))
+  added-if seam =
+      added-with seam (joining window run (behind seam)) (joins-in window run (behind seam) fits)
+
+  following-added : AddedIf (following class run before input)
+  following-added =
+      let same = follow-is class run before input in
+      subst AddedIf (sym same) (at (alike_overlap class run before input))
+    where
+      at : (o : Option Overlap) → AddedIf (option_and_then (follows_with class run input) o)
+      at None = tt
+      at (Some overlap) = added-if (Follows overlap.frames)
+
+  without-added : AddedIf (without_lead_in class run input)
+  unfolding without_lead_in
+  without-added = at _
+    where
+      at : (b : Bool) → AddedIf (cond b
+          (option_map (joint_with LeadIn) (joining window run (behind LeadIn))) None)
+      at true = added-if LeadIn
+      at false = tt
+
+  whole-added : FitsAlone class input → IsAdded class run input (whole input)
+  whole-added alone =
+      let needs = map-append (λ (f : Frame). f.need) run input.frames in
+      record {
+        fits = subst (FitsBehind window window) (sym needs)
+            (then-alone window (needs_of run) (needs_of input.frames) fits alone);
+        moved = moved-same (needs_of input.frames);
+      }
+
+  -- an input that fits alone is added: the run with its frames still fits
+  pub joint-added : FitsAlone class input
+      → IsAdded class run input (joint_of class run before input)
+  joint-added alone =
+      at (following class run before input) (without_lead_in class run input) following-added
+      without-added
+    where
+      at : (x y : Option Joint) → AddedIf x → AddedIf y
+          → IsAdded class run input (unwrap_or (option_or x y) (whole input))
+      at None None first second = whole-added alone
+      at None (Some joint) first second = second
+      at (Some joint) y first second = first
+
+-- ---- all inputs
+
+abbrev pub AllFitAlone : ClassFields → List Brought → Type 0
+AllFitAlone class [] = Unit {0}
+AllFitAlone class (input ∷ inputs) = FitsAlone class input × AllFitAlone class inputs
+
+-- each adds its own frames but for some at the front
+abbrev pub AddOwn : List Joint → List Brought → Type 0
+AddOwn [] [] = Unit {0}
+AddOwn (joint ∷ joints) (input ∷ inputs) =
+    AreMoved (needs_of (drop (left_out joint.seam) input.frames)) (needs_of joint.frames)
+    × AddOwn joints inputs
+AddOwn _ _ = ⊥
+
+-- what they add
+abbrev pub frames_added : List Joint → List Frame
+frames_added joints = flat_map (λ (j : Joint). j.frames) joints
+
+joints-added : (class : ClassFields) (run : List Frame) (before : Brought) (inputs : List Brought)
+    → FitsWindow class run → AllFitAlone class inputs
+    → AddOwn (joints_from class run before inputs) inputs
+    × FitsWindow class (run ++ frames_added (joints_from class run before inputs))
+unfolding joints_from
+joints-added class run before [] fits alone =
+    (tt, subst (FitsWindow class) (sym (append-nil run)) fits)
+joints-added class run before (input ∷ inputs) fits alone =
+    let joint = joint_of class run before input in
+    let added = joint-added class run before input fits alone.0 in
+    let more = joints-added class (run ++ joint.frames) input inputs added.fits alone.1 in
+    let later = frames_added (joints_from class (run ++ joint.frames) input inputs) in (
+      (added.moved, more.0),
+      subst (FitsWindow class) (append_assoc run joint.frames later) more.1,
+    )
+
+-- ---- the front
+
+-- an input with a lead-in in front has a frame after it
+leads-two : (window : ℕ) (input : Brought) → has_lead_in window input ≡ true
+    → 1 < length input.frames
+unfolding has_lead_in lead_in_header
+leads-two window input e =
+    let leads : Bool = leads_others window (needs_of input.frames) in
+    at input.frames (and_parts input.blank leads e).1
+  where
+    at : (frames : List Frame) → leads_others window (needs_of frames) ≡ true → 1 < length frames
+    at [] e = absurd cc
+    at (f ∷ []) e = absurd cc
+    at (f ∷ g ∷ frames) e = omega arith
+
+-- so not all frames of the first input are left out
+front-within : (class : ClassFields) (first : Brought) (run : List Frame) → 0 < length first.frames
+    → front_left_out class first run < length first.frames
+unfolding front_left_out
+front-within class first run some =
+    at (has_lead_in (window_of class.version) first) refl
+    (not (fits_behind (window_of class.version) 0 (needs_of (drop 1 run))))
+  where
+    at : (has : Bool) → has_lead_in (window_of class.version) first ≡ has → (wants : Bool)
+        → cond (has && wants) 1 0 < length first.frames
+    at false is wants = some
+    at true is false = some
+    at true is true = leads-two (window_of class.version) first is
+
+-- ---- the run
+
+-- what becomes of the inputs, and that the run fits
+pub record IsJoined (class : ClassFields) (first : Brought) (inputs : List Brought)
+    (joined : Joined) : Type 0 where
+  pub front : joined.front < length first.frames
+  pub own : AddOwn joined.joints inputs
+  pub run : run_of first joined ≡ drop joined.front first.frames ++ frames_added joined.joints
+  pub fits : FitsWindow class (run_of first joined)
+
+-- inputs that fit alone are joined to a run that fits behind a whole window
+pub inputs-joined : (class : ClassFields) (first : Brought) (inputs : List Brought)
+    → 0 < length first.frames → FitsAlone class first → AllFitAlone class inputs
+    → IsJoined class first inputs (joined_of class first inputs)
+unfolding joined_of
+inputs-joined class first inputs some alone all =
+    let window = window_of class.version in
+    let begins = more-behind window 0 window (needs_of first.frames) (omega arith) alone in
+    let added = joints-added class first.frames first inputs begins all in
+    let joints = joints_of class first inputs in
+    let front = front_left_out class first (run_with first joints) in
+    let within = front-within class first (run_with first joints) some in
+    record {
+      front = within;
+      own = added.0;
+      run = drop-append-le front first.frames (frames_added joints) (omega (arith, within));
+      fits = subst (FitsBehind window window) (needs-drop front (run_with first joints))
+          (fits-drop window window front (needs_of (run_with first joints)) added.1);
+    }
+  where
+    needs-drop : (k : ℕ) (frames : List Frame) → drop k (needs_of frames) ≡ needs_of (drop k frames)
+    needs-drop zero frames = refl
+    needs-drop (suc k) [] = refl
+    needs-drop (suc k) (f ∷ frames) = needs-drop k frames
