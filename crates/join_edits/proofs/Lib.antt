@@ -1,6 +1,25 @@
 -- The lemmas of this crate.
+pub mod BehindLaws
 pub mod InputLaws
 pub mod PartLaws
 pub mod PlanLaws
 pub mod SourceLaws
 pub mod StepLaws
+pub mod SoundLaws
+pub mod ReadFaults
+pub mod DecideAll
+pub mod DecideLaws
+pub mod DecideStep
+pub mod RunPlanLaws
+pub mod SeamlessLaws
+pub mod KnownLaws
+pub mod FrontLaws
+pub mod NumberLaws
+pub mod AlikeLaws
+pub mod AloneLaws
+pub mod RunPlans
+pub mod RunFiles
+pub mod SeamlessCommand
+pub mod LineLaws
+pub mod FramePlaces
+pub mod ReadingLaws

@@ -1,21 +1,21 @@
 -- What an input of a join is, where it isn't refused.
-use Rattle.std.proofs.Common.{◌≡◌, ℕ, Bool, true, false, cond, List, Option, Some, None, Result, Ok, Err, refl}
-use Rattle.frame_header.specs.Fields.{ClassFields}
+use Rattle.std.proofs.Common.{Bool, cond, Err, false, List, None, Ok, Option, refl, Result, Some}
+use Rattle.std.proofs.Common.{true, ℕ, ◌≡◌}
+use Rattle.commands.specs.declared.fault.{EditFault.TheVariants.Refused, Refusal.TheVariants.Differ}
+use Rattle.frame_header.{proofs.ClassLaws.same_class-is, specs.Fields.ClassFields}
+use Rattle.join_edits.specs.{Inputs.Follows, Join.{may_follow, part_by, part_of, whole_part}}
 use Rattle.laying.specs.Relaid.{Part}
+use Rattle.sync_survey.specs.{Faults.SurveyFields, Survey.survey_of}
 use Rattle.sync_survey.specs.declared.survey_fault.SurveyFault.{SurveyFault}
-use Rattle.sync_survey.specs.Faults.{SurveyFields}
-use Rattle.sync_survey.specs.Survey.{survey_of}
-use Rattle.frame_header.proofs.ClassLaws.{same_class-is}
-use Rattle.commands.specs.declared.fault.EditFault.TheVariants.{Refused}
-use Rattle.commands.specs.declared.fault.Refusal.TheVariants.{Differ}
-use Rattle.join_edits.specs.Join.{whole_part, may_follow, part_by, part_of}
-use Rattle.join_edits.specs.Inputs.{Follows}
 
-may-follows : (first : Option ClassFields) (class : ClassFields) → may_follow first class ≡ true → Follows first class
+may-follows : (first : Option ClassFields) (class : ClassFields) → may_follow first class ≡ true
+    → Follows first class
 may-follows None class may = tt
 may-follows (Some first) class may = same_class-is class first may
 
-pub record IsPart (first : Option ClassFields) (allowed : ℕ) (o : Option (List ℕ)) (part : Part) : Type 0 where
+-- the input's file, its survey, and its frames, of the class of those before it
+pub record IsPart (first : Option ClassFields) (allowed : ℕ) (o : Option (List ℕ))
+    (part : Part) : Type 0 where
   pub file : List ℕ
   pub survey : SurveyFields
   pub there : o ≡ Some file
@@ -23,14 +23,27 @@ pub record IsPart (first : Option ClassFields) (allowed : ℕ) (o : Option (List
   pub follows : Follows first survey.class
   pub whole : whole_part file survey ≡ part
 
-pub part-is : (place : ℕ) (first : Option ClassFields) (allowed : ℕ) (o : Option (List ℕ)) (part : Part) → part_of place first allowed o ≡ Ok part → IsPart first allowed o part
+-- a part that isn't refused is so made
+pub part-is : (place : ℕ) (first : Option ClassFields) (allowed : ℕ) (o : Option (List ℕ))
+    (part : Part) → part_of place first allowed o ≡ Ok part → IsPart first allowed o part
 part-is place first allowed None part e = absurd cc
 part-is place first allowed (Some file) part e = at (survey_of file allowed) refl e
   where
-    made : (s : SurveyFields) → survey_of file allowed ≡ Ok s → (b : Bool) → may_follow first s.class ≡ b → cond b (Ok (whole_part file s)) (Err (Refused (Differ place))) ≡ Ok part → IsPart first allowed (Some file) part
-    made s surveyed true may e = record { file = file; survey = s; there = refl; surveyed = surveyed; follows = may-follows first s.class may; whole = cc }
+    made : (s : SurveyFields) → survey_of file allowed ≡ Ok s → (b : Bool)
+        → may_follow first s.class ≡ b
+        → cond b (Ok (whole_part file s)) (Err (Refused (Differ place))) ≡ Ok part
+        → IsPart first allowed (Some file) part
+    made s surveyed true may e = record {
+      file = file;
+      survey = s;
+      there = refl;
+      surveyed = surveyed;
+      follows = may-follows first s.class may;
+      whole = cc;
+    }
     made s surveyed false may e = absurd cc
 
-    at : (r : Result SurveyFields SurveyFault) → survey_of file allowed ≡ r → part_by place first file r ≡ Ok part → IsPart first allowed (Some file) part
+    at : (r : Result SurveyFields SurveyFault) → survey_of file allowed ≡ r
+        → part_by place first file r ≡ Ok part → IsPart first allowed (Some file) part
     at (Err fault) surveyed e = absurd cc
     at (Ok s) surveyed e = made s surveyed (may_follow first s.class) refl e

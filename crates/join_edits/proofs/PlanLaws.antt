@@ -1,32 +1,27 @@
 -- The plan of all frames of several surveys.
-use Rattle.std.proofs.Common.{◌≡◌, ℕ, zero, suc, ◌+◌, ◌<◌, ◌≤◌, List, [], ◌∷◌, length, map, take, All, refl, sym, ◌∙◌, ap, ap₂, subst, arith, length-append}
+use Rattle.std.proofs.Common.{All, ap, ap₂, arith, length, length-append, List, map, refl, subst}
+use Rattle.std.proofs.Common.{suc, sym, take, zero, ℕ, [], ◌+◌, ◌<◌, ◌∙◌, ◌∷◌, ◌≡◌, ◌≤◌}
+use Rattle.std.proofs.lemmas.List.{length-map, take-map, Elements.{All-cons, All-nil}}
 use Rattle.std.specs.Prelude.{◌↔◌}
-use Rattle.std.proofs.lemmas.List.{length-map, take-map}
-use Rattle.std.proofs.lemmas.List.Elements.{All-nil, All-cons}
-use Rattle.frame_header.specs.Fields.{ClassFields}
-use Rattle.frame_header.specs.Limits.{most_placed}
-use Rattle.slot_plan.specs.declared.needs.Need.{Need}
-use Rattle.slot_plan.specs.declared.needs.Placed.{Placed}
-use Rattle.slot_plan.specs.LeastPlan.{least_plan}
-use Rattle.slot_plan.specs.Parts.{parts_of, window_in}
-use Rattle.slot_plan.specs.Plans.{IsPlan}
-use Rattle.laying.specs.Needs.{Asked, need_of, needs_of, places_from, asked_of}
-use Rattle.laying.specs.NeedsFit.{own_choice, IsPartOf, AreFit}
-use Rattle.laying.proofs.PartsLaws.{parts-fit, parts-plan}
-use Rattle.laying.proofs.FitLaws.{needs-flat, plans-fit, asked-plans}
-use Rattle.laying.proofs.PlacesLaws.{range-whole, plan-length}
-use Rattle.sync_survey.specs.Row.{Row}
-use Rattle.sync_survey.specs.Faults.{SurveyFields}
 use Rattle.commands.specs.One.{most_frames}
-use Rattle.join_edits.specs.Inputs.{class_in, frames_of, rows_of, AreAlike, CanBeJoined}
-use Rattle.join_edits.specs.Laying.{window_for, least_plan_of, IsPlanOf}
+use Rattle.frame_header.specs.{Fields.ClassFields, Limits.most_placed}
+use Rattle.join_edits.specs.Inputs.{AreAlike, CanBeJoined, class_in, frames_of, rows_of}
+use Rattle.join_edits.specs.Laying.{IsPlanOf, least_plan_of, window_for}
+use Rattle.laying.proofs.FitLaws.{asked-plans, needs-flat, plans-fit}
+use Rattle.laying.proofs.{PartsLaws.{parts-fit, parts-plan}, PlacesLaws.{plan-length, range-whole}}
+use Rattle.laying.specs.Needs.{Asked, asked_of, need_of, needs_of, places_from}
+use Rattle.laying.specs.NeedsFit.{AreFit, IsPartOf, own_choice}
+use Rattle.slot_plan.specs.{LeastPlan.least_plan, Parts.{parts_of, window_in}, Plans.IsPlan}
+use Rattle.slot_plan.specs.declared.needs.{Need.Need, Placed.Placed}
+use Rattle.sync_survey.specs.{Faults.SurveyFields, Row.Row}
 
 -- ---- how many frames and places
 
 needs-length : (ss : List SurveyFields) → length (needs_of (rows_of ss)) ≡ frames_of ss
 unfolding needs_of frames_of
 needs-length [] = refl
-needs-length (s ∷ ss) = length-append (map need_of s.frames) (needs_of (rows_of ss)) ∙ ap₂ (λ m n. m + n) (length-map s.frames need_of) (needs-length ss)
+needs-length (s ∷ ss) = length-append (map need_of s.frames) (needs_of (rows_of ss))
+    ∙ ap₂ (λ m n. m + n) (length-map s.frames need_of) (needs-length ss)
 
 places-length : (at : ℕ) (parts : List (List Row)) → length (places_from at parts) ≡ length parts
 unfolding places_from
@@ -40,24 +35,44 @@ taken (suc k) [] = omega arith
 taken (suc k) (s ∷ ss) = omega (arith, taken k ss)
 
 -- some of them have no more frames than all
-pub parts-few : {X : Type 0} (f : X → SurveyFields) (k : ℕ) (xs : List X) → CanBeJoined (map f xs) → length (needs_of (rows_of (map f (take k xs)))) ≤ most_frames
-parts-few f k xs can = omega (arith, needs-length (map f (take k xs)), ap frames_of (sym (take-map f k xs)), taken k (map f xs), can.frames)
+pub parts-few : {X : Type 0} (f : X → SurveyFields) (k : ℕ) (xs : List X) → CanBeJoined (map f xs)
+    → length (needs_of (rows_of (map f (take k xs)))) ≤ most_frames
+parts-few f k xs can = omega (
+  arith,
+  needs-length (map f (take k xs)),
+  ap frames_of (sym (take-map f k xs)),
+  taken k (map f xs),
+  can.frames,
+)
 
+-- what can be joined are some surveys
 pub can-some : (ss : List SurveyFields) → CanBeJoined ss → 0 < length ss
 can-some [] can = let first = can.first in absurd cc
 can-some (s ∷ ss) can = omega arith
 
 -- all are of the first one's class
-pub alike-first : (s : SurveyFields) (ss : List SurveyFields) → CanBeJoined (s ∷ ss) → AreAlike s.class (s ∷ ss)
-alike-first s ss can = let first = can.first in let same : can.class ≡ s.class = cc in subst (λ (c : ClassFields). AreAlike c (s ∷ ss)) same can.alike
+pub alike-first : (s : SurveyFields) (ss : List SurveyFields) → CanBeJoined (s ∷ ss)
+    → AreAlike s.class (s ∷ ss)
+alike-first s ss can = let first = can.first in let same : can.class ≡ s.class = cc in
+    subst (λ (c : ClassFields). AreAlike c (s ∷ ss)) same can.alike
 
 -- ---- their plan
 
-alike-parts : (class : ClassFields) (ss : List SurveyFields) → AreAlike class ss → All (IsPartOf class) (rows_of ss)
+alike-parts : (class : ClassFields) (ss : List SurveyFields) → AreAlike class ss
+    → All (IsPartOf class) (rows_of ss)
 alike-parts class [] are = All-nil (IsPartOf class)
 alike-parts class (s ∷ ss) are =
     All-cons (IsPartOf class) s.frames (rows_of ss)
-    (record { survey = s; from = 0; to = length s.frames; placed = are.1.placed; same = are.2; some = are.0; within = omega arith; are = sym (range-whole s.frames) })
+    (record {
+      survey = s;
+      from = 0;
+      to = length s.frames;
+      placed = are.1.placed;
+      same = are.2;
+      some = are.0;
+      within = omega arith;
+      are = sym (range-whole s.frames);
+    })
     (alike-parts class ss are.3)
 
 module _ (ss : List SurveyFields) (can : CanBeJoined ss) where
@@ -73,28 +88,51 @@ module _ (ss : List SurveyFields) (can : CanBeJoined ss) where
   some : 1 ≤ length (rows_of ss)
   some = omega (arith, length-map ss (λ (s : SurveyFields). s.frames), can-some ss can)
 
+  -- the parts can be planned
   pub all-fit : AreFit can.class asked
   all-fit = parts-fit can.class (rows_of ss) some (alike-parts can.class ss can.alike)
 
-  one-plan : (placed : List Placed) → IsPlan window own_choice parts placed ↔ (placed ≡ least_plan window own_choice parts)
-  one-plan placed = rw can.first (parts-plan can.class own_choice (rows_of ss) placed all-fit all-fit.kept)
+  one-plan : (placed : List Placed)
+      → IsPlan window own_choice parts placed ↔ (placed ≡ least_plan window own_choice parts)
+  one-plan placed =
+      rw can.first (parts-plan can.class own_choice (rows_of ss) placed all-fit all-fit.kept)
 
+  -- their plan is the first of all lists with a layout
   pub the-plan : IsPlan window own_choice parts (least_plan window own_choice parts)
   the-plan = (one-plan _).1 refl
 
-  -- what the planner answers
-  pub plan-is : (placed : List Placed) → IsPlan (window_in asked.needs) own_choice (parts_of asked.needs asked.places) placed → IsPlanOf ss placed
+  -- what the planner answers is their plan
+  pub plan-is : (placed : List Placed)
+      → IsPlan (window_in asked.needs) own_choice (parts_of asked.needs asked.places) placed
+      → IsPlanOf ss placed
   unfolding least_plan_of
   plan-is placed is =
-      let ours : IsPlan window own_choice parts placed = rw can.first (asked-plans can.class own_choice (rows_of ss) placed all-fit is) in
-      record { plan = (one-plan placed).0 ours; fits = plans-fit window own_choice (rows_of ss) placed ours }
+      let ours : IsPlan window own_choice parts placed =
+      rw can.first (asked-plans can.class own_choice (rows_of ss) placed all-fit is) in
+      record {
+        plan = (one-plan placed).0 ours;
+        fits = plans-fit window own_choice (rows_of ss) placed ours;
+      }
 
+  -- they have no more frames than are allowed
   pub needs-few : length asked.needs ≤ most_frames
   needs-few = omega (arith, needs-length ss, can.frames)
 
+  -- there are at most 64 parts
   pub places-few : length asked.places ≤ 64
-  places-few = omega (arith, places-length 0 (rows_of ss), length-map ss (λ (s : SurveyFields). s.frames), can.few)
+  places-few = omega
+      (arith, places-length 0 (rows_of ss), length-map ss (λ (s : SurveyFields). s.frames), can.few)
 
+  -- the plan has at most one place more for each
   pub plan-few : length (least_plan_of ss) ≤ most_placed
   unfolding least_plan_of
-  plan-few = omega (arith, plan-length window own_choice parts, ap length (needs-flat (rows_of ss)), length-map (rows_of ss) (map need_of), length-map ss (λ (s : SurveyFields). s.frames), needs-length ss, can.few, can.frames)
+  plan-few = omega (
+    arith,
+    plan-length window own_choice parts,
+    ap length (needs-flat (rows_of ss)),
+    length-map (rows_of ss) (map need_of),
+    length-map ss (λ (s : SurveyFields). s.frames),
+    needs-length ss,
+    can.few,
+    can.frames,
+  )

@@ -1,44 +1,43 @@
 -- The inputs given to the writer, one more at a time.
-use Rattle.std.proofs.Common.{◌≡◌, ◌≢◌, ℕ, ◌+◌, ◌<◌, List, [], ◌∷◌, ◌++◌, length, get_or, slice_index_or, map, drop, refl, sym, ◌∙◌, ap, subst, arith, append_assoc}
-use Rattle.std.specs.Prelude.{slice_range, flat_map, unwrap_or}
-use Rattle.std.proofs.lemmas.List.{length-map, drop-map, get_or-drop}
-use Rattle.outside.specs.Files.{Contents, Files, Holds, IsThere}
-use Rattle.outside.specs.Counts.{Counts}
-use Rattle.outside.specs.Pass.{route, HasPassCause}
-use Rattle.outside.specs.Feed.{Fed, IsFedFrom}
-use Rattle.outside.specs.declared.pass.PassFault.{PassFault}
-use Rattle.outside.proofs.FilesLaws.{appended_touches}
-use Rattle.outside.proofs.PassLaws.{input_holds, input_held, still_there}
-use Rattle.frame_header.specs.Fields.{ClassFields}
-use Rattle.frame_header.specs.Tables.{window_of}
-use Rattle.slot_plan.specs.declared.needs.Need.{Need}
-use Rattle.slot_plan.specs.declared.needs.Placed.{Placed}
-use Rattle.laying.specs.Needs.{need_of, needs_of}
-use Rattle.frame_writer.specs.Frames.{Frame, reach_of, IsNextSettled}
-use Rattle.frame_writer.specs.Writing.{Writing, IsNew}
-use Rattle.laying.specs.declared.relay.Relay.{Relay}
-use Rattle.laying.specs.Relaid.{frames_in, all_frames, relaid}
-use Rattle.laying.specs.Fits.{FitsFrom, last_reach}
-use Rattle.laying.specs.Passing.{IsReady, Lays, LaysPart}
-use Rattle.laying.specs.Places.{places_for, own_places, whole_frames, whole_reach}
-use Rattle.laying.proofs.PassLaws.{lays_none, lays_then, part_then}
-use Rattle.laying.proofs.PlannedFrames.{AreNeedsOf}
-use Rattle.laying.proofs.PlacesLaws.{fits-append, relaid-append, whole-length, whole-needs}
-use Rattle.laying.proofs.RelayLaws.{LaysUpTo, item-next, relaid-none, lays-all, begins-left, part_more}
-use Rattle.sync_survey.specs.Faults.{SurveyFields, tells}
-use Rattle.join_edits.specs.Join.{whole_part}
-use Rattle.join_edits.specs.Inputs.{rows_of, parts_in, told_in, told_parts}
-use Rattle.join_edits.specs.Laying.{IsSource, AreSources}
+use Rattle.std.proofs.Common.{ap, append_assoc, arith, drop, get_or, length, List, map, refl}
+use Rattle.std.proofs.Common.{slice_index_or, subst, sym, ℕ, [], ◌++◌, ◌+◌, ◌-◌, ◌<◌, ◌∙◌, ◌∷◌, ◌≡◌}
+use Rattle.std.proofs.{Common.{◌≢◌, ◌≤◌}, lemmas.List.{drop-map, get_or-drop}}
+use Rattle.std.specs.Prelude.{flat_map, slice_range, unwrap_or}
+use Rattle.frame_header.specs.{Fields.ClassFields, Tables.window_of}
+use Rattle.frame_writer.specs.{Frames.{Frame, IsNextSettled, reach_of}, Writing.{IsNew, Writing}}
+use Rattle.join_edits.proofs.BehindLaws.{from-length, needs-length}
 use Rattle.join_edits.proofs.SourceLaws.{source-holds, sources-beside}
+use Rattle.join_edits.specs.Behind.{AreWithin, frames_behind, part_behind, parts_behind}
+use Rattle.join_edits.specs.{Behind.{reach_behind, rows_behind, told_behind}, Inputs.told_in}
+use Rattle.join_edits.specs.Laying.{AreSources, IsSource}
+use Rattle.laying.proofs.{HoldLaws.needs-range, PassLaws.{lays_none, lays_then, part_then}}
+use Rattle.laying.proofs.{PlacesLaws.{fits-append, relaid-append}, PlannedFrames.AreNeedsOf}
+use Rattle.laying.proofs.RelayLaws.{begins-left, item-next, lays-all, LaysUpTo, part_more}
+use Rattle.laying.{proofs.RelayLaws.relaid-none, specs.Fits.{FitsFrom, last_reach}}
+use Rattle.laying.specs.{Needs.needs_of, Passing.{IsReady, Lays, LaysPart, needs_from}}
+use Rattle.laying.specs.{Places.{own_places, places_for}, Relaid.{all_frames, frames_in, relaid}}
+use Rattle.laying.specs.declared.relay.Relay.{Relay}
+use Rattle.outside.proofs.FilesLaws.{appended_touches}
+use Rattle.outside.{proofs.PassLaws.{input_held, input_holds, still_there}, specs.Counts.Counts}
+use Rattle.outside.specs.Feed.{Fed, IsFedFrom}
+use Rattle.outside.specs.Files.{Contents, Files, Holds, IsThere, OnlyTouches}
+use Rattle.outside.specs.{Pass.{HasPassCause, route}, declared.pass.PassFault.PassFault}
+use Rattle.slot_plan.specs.declared.needs.{Need.Need, Placed.Placed}
+use Rattle.sync_survey.specs.Faults.{SurveyFields, tells}
 
 -- ---- one of them
 
-pub map-next : {X Y : Type 0} (f : X → Y) (xs : List X) (i : ℕ) (x : X) → i < length xs → x ≡ get_or xs i x → drop i (map f xs) ≡ f x ∷ drop (i + 1) (map f xs)
-map-next f xs i x within is = drop-map f i xs ∙ ap (map f) (item-next xs i x within is) ∙ ap (λ l. f x ∷ l) (sym (drop-map f (i + 1) xs))
+-- from a place on what is made of a list is what is made of the next, and of those behind it
+pub map-next : {X Y : Type 0} (f : X → Y) (xs : List X) (i : ℕ) (x : X) → i < length xs
+    → x ≡ get_or xs i x → drop i (map f xs) ≡ f x ∷ drop (i + 1) (map f xs)
+map-next f xs i x within is = drop-map f i xs ∙ ap (map f) (item-next xs i x within is)
+    ∙ ap (λ l. f x ∷ l) (sym (drop-map f (i + 1) xs))
 
 -- an input is ready to be read beside the output
-pub source-ready : (relay : Relay) (files : Files) (fed : Fed) → IsSource relay.pass.output.now files relay.pass.input.now (tells relay.survey.now) → IsThere files relay.pass.output.now
-    → relay.pass.length ≡ (tells relay.survey.now).length → IsFedFrom fed files relay.pass.input.now → IsReady relay files fed
+pub source-ready : (relay : Relay) (files : Files) (fed : Fed)
+    → IsSource relay.pass.output.now files relay.pass.input.now (tells relay.survey.now)
+    → IsThere files relay.pass.output.now → relay.pass.length ≡ (tells relay.survey.now).length
+    → IsFedFrom fed files relay.pass.input.now → IsReady relay files fed
 source-ready relay files fed source target long fed_from = record {
   pass = record {
     apart = source.apart;
@@ -55,107 +54,187 @@ source-ready relay files fed source target long fed_from = record {
 
 -- ---- their frames
 
-needs-append : (needs more : List Need) (fs gs : List Frame) → AreNeedsOf needs fs → AreNeedsOf more gs → AreNeedsOf (needs ++ more) (fs ++ gs)
+needs-append : (needs more : List Need) (fs gs : List Frame) → AreNeedsOf needs fs
+    → AreNeedsOf more gs → AreNeedsOf (needs ++ more) (fs ++ gs)
 needs-append [] more [] gs are behind = behind
-needs-append (need ∷ needs) more (f ∷ fs) gs are behind = (are.0, are.1, needs-append needs more fs gs are.2 behind)
+needs-append (need ∷ needs) more (f ∷ fs) gs are behind =
+    (are.0, are.1, needs-append needs more fs gs are.2 behind)
 needs-append _ more _ gs are behind = absurd are
 
-abbrev pub told_frames : Files → List (List ℕ) → List SurveyFields → List Frame
-told_frames files names ss = flat_map frames_in (told_parts files names ss)
+abbrev pub told_frames : Files → List (List ℕ) → List SurveyFields → List ℕ → List Frame
+told_frames files names ss froms = flat_map frames_in (told_behind files names ss froms)
 
 -- where they are told, their frames are those that the plan was made for
-sources-needs : (class : ClassFields) (output : List ℕ) (files : Files) (key file : List ℕ) (names : List (List ℕ)) (ss : List SurveyFields) → Holds files key file → AreSources class output files names ss
-    → AreNeedsOf (needs_of (rows_of ss)) (told_frames files names ss)
-unfolding needs_of parts_in
-sources-needs class output files key file [] [] holds are = tt
-sources-needs class output files key file (name ∷ names) (s ∷ ss) holds are =
+sources-needs : (class : ClassFields) (output : List ℕ) (files : Files) (key file : List ℕ)
+    (names : List (List ℕ)) (ss : List SurveyFields) (froms : List ℕ) → Holds files key file
+    → AreSources class output files names ss
+    → AreNeedsOf (needs_of (rows_behind ss froms)) (told_frames files names ss froms)
+unfolding needs_of rows_behind parts_behind
+sources-needs class output files key file [] [] froms holds are = tt
+sources-needs class output files key file (name ∷ names) (s ∷ ss) [] holds are = tt
+sources-needs class output files key file (name ∷ names) (s ∷ ss) (from ∷ froms) holds are =
     let bytes = unwrap_or (told_in files name) [] in
-    needs-append (map need_of s.frames) (needs_of (rows_of ss)) (frames_in (whole_part bytes s)) (told_frames files names ss) (whole-needs bytes s (are.0.0.exact bytes (source-holds files key file name s holds are.0.0)))
-    (sources-needs class output files key file names ss holds are.1)
-sources-needs class output files key file _ _ holds are = absurd are
+    let has = are.0.0.exact bytes (source-holds files key file name s holds are.0.0) in
+    needs-append (needs_from s from (length s.frames)) (needs_of (rows_behind ss froms))
+    (frames_in (part_behind from bytes s)) (told_frames files names ss froms)
+    (needs-range bytes s from (length s.frames) has)
+    (sources-needs class output files key file names ss froms holds are.1)
+sources-needs class output files key file _ _ _ holds are = absurd are
 
 -- an input's frames are before those of the inputs after it
-own-split : (f : Contents) (name : List ℕ) (s : SurveyFields) (names : List (List ℕ)) (ss : List SurveyFields) (placed : List Placed)
-    → relaid (flat_map frames_in (parts_in f (name ∷ names) (s ∷ ss))) placed ≡ whole_frames s placed (unwrap_or (f name) []) ++ relaid (flat_map frames_in (parts_in f names ss)) (drop (places_for (length s.frames) placed) placed)
-unfolding parts_in
-own-split f name s names ss placed =
+own-split : (f : Contents) (name : List ℕ) (s : SurveyFields) (from : ℕ) (names : List (List ℕ))
+    (ss : List SurveyFields) (froms : List ℕ) (placed : List Placed)
+    → relaid (flat_map frames_in (parts_behind f (name ∷ names) (s ∷ ss) (from ∷ froms))) placed
+    ≡ frames_behind from s placed (unwrap_or (f name) [])
+    ++ relaid (flat_map frames_in (parts_behind f names ss froms))
+    (drop (places_for (length s.frames - from) placed) placed)
+unfolding parts_behind
+own-split f name s from names ss froms placed =
     let file = unwrap_or (f name) [] in
-    let rest = flat_map frames_in (parts_in f names ss) in
-    relaid-append (slice_range (all_frames file s) 0 (length s.frames)) rest placed ∙ ap (λ n. whole_frames s placed file ++ relaid rest (drop (places_for n placed) placed)) (whole-length file s)
+    let own = frames_behind from s placed file in
+    let rest = flat_map frames_in (parts_behind f names ss froms) in
+    relaid-append (slice_range (all_frames file s) from (length s.frames)) rest placed
+    ∙ ap (λ n. own ++ relaid rest (drop (places_for n placed) placed)) (from-length file from s)
 
-told-none : (f : Contents) (ss : List SurveyFields) (placed : List Placed) → relaid (flat_map frames_in (parts_in f [] ss)) placed ≡ []
-unfolding parts_in
-told-none f [] placed = relaid-none placed
-told-none f (s ∷ ss) placed = relaid-none placed
+told-none : (f : Contents) (ss : List SurveyFields) (froms : List ℕ) (placed : List Placed)
+    → relaid (flat_map frames_in (parts_behind f [] ss froms)) placed ≡ []
+unfolding parts_behind
+told-none f [] froms placed = relaid-none placed
+told-none f (s ∷ ss) froms placed = relaid-none placed
 
 -- the plan fits the input, and after it those that follow
-fits-input : (class : ClassFields) (reach : ℕ) (s : SurveyFields) (ss : List SurveyFields) (placed : List Placed) → s.class ≡ class → FitsFrom (window_of class.version) reach (needs_of (rows_of (s ∷ ss))) placed
-    → FitsFrom (window_of s.class.version) reach (map need_of s.frames) (own_places (length s.frames) placed)
-    × FitsFrom (window_of class.version) (whole_reach reach s placed) (needs_of (rows_of ss)) (drop (places_for (length s.frames) placed) placed)
-unfolding needs_of
-fits-input class reach s ss placed same fits =
-    rw (same, ← length-map s.frames need_of) (fits-append (window_of class.version) reach (map need_of s.frames) (needs_of (rows_of ss)) placed fits)
+fits-input : (class : ClassFields) (reach : ℕ) (s : SurveyFields) (from : ℕ)
+    (ss : List SurveyFields) (froms : List ℕ) (placed : List Placed) → s.class ≡ class
+    → FitsFrom (window_of class.version) reach (needs_of (rows_behind (s ∷ ss) (from ∷ froms)))
+    placed
+    → FitsFrom (window_of s.class.version) reach (needs_from s from (length s.frames))
+    (own_places (length s.frames - from) placed)
+    × FitsFrom (window_of class.version) (reach_behind reach from s placed)
+    (needs_of (rows_behind ss froms)) (drop (places_for (length s.frames - from) placed) placed)
+unfolding needs_of rows_behind
+fits-input class reach s from ss froms placed same fits =
+    let window = window_of class.version in
+    let own = needs_from s from (length s.frames) in
+    let rest = needs_of (rows_behind ss froms) in
+    rw same
+    (subst (λ n. FitsFrom window reach own (own_places n placed)
+    × FitsFrom window (last_reach window reach own placed) rest (drop (places_for n placed) placed))
+    (needs-length from s) (fits-append window reach own rest placed fits))
 
 -- ---- one after another
 
--- The inputs before were given to the writer as they were planned. These are left, with these surveys and places of the plan.
-pub record IsLaidTo (class : ClassFields) (key output : List ℕ) (whole : List ℕ → List Frame) (begun now : Writing) (first files : Files) (names : List (List ℕ)) (ss : List SurveyFields) (placed : List Placed) : Type 0 where
+-- The inputs before were given to the writer as they were planned. These are left, with these
+-- surveys, their frames from these on, and these places of the plan.
+pub record IsLaidTo (class : ClassFields) (key output : List ℕ) (whole : List ℕ → List Frame)
+    (begun now : Writing) (first files : Files) (names : List (List ℕ)) (ss : List SurveyFields)
+    (froms : List ℕ) (placed : List Placed) : Type 0 where
   pub sources : AreSources class output first names ss
+  pub within : AreWithin ss froms
   pub target : IsThere files output
   pub class_is : now.held.class ≡ class
-  pub fits : FitsFrom (window_of class.version) (reach_of now.held) (needs_of (rows_of ss)) placed
+  pub fits : FitsFrom (window_of class.version) (reach_of now.held)
+      (needs_of (rows_behind ss froms)) placed
   pub unsettled : IsNextSettled now.held → ⊥
-  pub lays : LaysUpTo key output whole (λ _. relaid (told_frames first names ss) placed) begun now first files
+  pub lays : LaysUpTo key output whole (λ _. relaid (told_frames first names ss froms) placed)
+      begun now first files
 
+-- before the first input nothing was laid
 -- none yet
-pub laid-none : {class : ClassFields} (key : List ℕ) {output : List ℕ} (w : Writing) {files : Files} {names : List (List ℕ)} {ss : List SurveyFields} {placed : List Placed} → AreSources class output files names ss → IsThere files output → IsNew class w.held
-    → FitsFrom (window_of class.version) (reach_of w.held) (needs_of (rows_of ss)) placed → IsLaidTo class key output (λ _. relaid (told_frames files names ss) placed) w w files files names ss placed
-laid-none key {output} w {files} sources target new fits = record {
+pub laid-none : {class : ClassFields} (key : List ℕ) {output : List ℕ} (w : Writing)
+    {files : Files} {names : List (List ℕ)} {ss : List SurveyFields} {froms : List ℕ}
+    {placed : List Placed} → AreSources class output files names ss → AreWithin ss froms
+    → IsThere files output → IsNew class w.held
+    → FitsFrom (window_of class.version) (reach_of w.held) (needs_of (rows_behind ss froms)) placed
+    → IsLaidTo class key output (λ _. relaid (told_frames files names ss froms) placed) w w files
+    files names ss froms placed
+laid-none key {output} w {files} sources within target new fits = record {
   sources = sources;
+  within = within;
   target = target;
   class_is = new.class_is;
   fits = fits;
   unsettled = new.unsettled;
-  lays = record { made = λ file. []; lays = lays_none key output (λ file. []) w files target (λ file holds. refl); left = λ file holds. refl };
+  lays = record {
+    made = λ file. [];
+    lays = lays_none key output (λ file. []) w files target (λ file holds. refl);
+    left = λ file holds. refl;
+  };
 }
 
+-- behind the last all were laid
 -- all of them
-pub laid-all : {class : ClassFields} {key output : List ℕ} {whole : List ℕ → List Frame} {begun now : Writing} {first files : Files} {names : List (List ℕ)} {ss : List SurveyFields} {placed : List Placed} → names ≡ []
-    → IsLaidTo class key output whole begun now first files names ss placed → Lays key output whole begun now first files
-laid-all {class} {key} {output} {whole} {begun} {now} {first} {files} {names} {ss} {placed} none laid =
-    lays-all key output whole (λ _. relaid (told_frames first names ss) placed) begun now first files laid.lays (λ file holds. rw none (told-none (told_in first) ss placed))
+pub laid-all : {class : ClassFields} {key output : List ℕ} {whole : List ℕ → List Frame}
+    {begun now : Writing} {first files : Files} {names : List (List ℕ)} {ss : List SurveyFields}
+    {froms : List ℕ} {placed : List Placed} → names ≡ []
+    → IsLaidTo class key output whole begun now first files names ss froms placed
+    → Lays key output whole begun now first files
+laid-all {class} {key} {output} {whole} {begun} {now} {first} {files} {names} {ss} {froms} {placed}
+    none laid =
+    lays-all key output whole (λ _. relaid (told_frames first names ss froms) placed) begun now
+    first files laid.lays (λ file holds. rw none (told-none (told_in first) ss froms placed))
+
+-- there is a number for each
+pub within-long : (ss : List SurveyFields) (froms : List ℕ) → AreWithin ss froms
+    → length ss ≤ length froms
+within-long [] froms within = omega arith
+within-long (s ∷ ss) [] within = absurd within
+within-long (s ∷ ss) (from ∷ froms) within = omega (arith, within-long ss froms within.1)
 
 -- the next one, in the first of the places that are left
-module _ {class : ClassFields} {key output : List ℕ} {whole : List ℕ → List Frame} {begun now : Writing} {first files : Files} {names later : List (List ℕ)} {ss behind : List SurveyFields} {placed left : List Placed} {name : List ℕ} {s : SurveyFields}
-    (names-are : names ≡ name ∷ later) (ss-are : ss ≡ s ∷ behind) (left-is : placed ≡ left) (laid : IsLaidTo class key output whole begun now first files names ss placed) where
-  here : IsLaidTo class key output whole begun now first files (name ∷ later) (s ∷ behind) left
-  here = rw (names-are, ss-are, left-is) at laid
+module _ {class : ClassFields} {key output : List ℕ} {whole : List ℕ → List Frame}
+    {begun now : Writing} {first files : Files} {names later : List (List ℕ)}
+    {ss behind : List SurveyFields} {froms others : List ℕ} {placed left : List Placed}
+    {name : List ℕ} {s : SurveyFields} {from : ℕ}
+    (names-are : names ≡ name ∷ later) (ss-are : ss ≡ s ∷ behind)
+    (froms-are : froms ≡ from ∷ others) (left-is : placed ≡ left)
+    (laid : IsLaidTo class key output whole begun now first files names ss froms placed) where
+  here : IsLaidTo class key output whole begun now first files (name ∷ later) (s ∷ behind)
+      (from ∷ others) left
+  here = rw (names-are, ss-are, froms-are, left-is) at laid
 
+  -- it is there, and has its survey
   pub next-source : IsSource output files name s
   next-source =
       let sofar = here.lays.lays in
-      (sources-beside class output first files (name ∷ later) (s ∷ behind) (rw sofar.files (appended_touches first output sofar.passed)) here.sources).0.0.0
+      let touches : OnlyTouches (output ∷ []) first files =
+      rw sofar.files (appended_touches first output sofar.passed) in
+      let names = name ∷ later in
+      (sources-beside class output first files names (s ∷ behind) touches here.sources).0.0
 
+  -- it has the class of those before it
   pub next-class : now.held.class ≡ s.class
   next-class = here.class_is ∙ sym here.sources.0.1
 
-  pub both-fit : FitsFrom (window_of s.class.version) (reach_of now.held) (map need_of s.frames) (own_places (length s.frames) left)
-      × FitsFrom (window_of class.version) (whole_reach (reach_of now.held) s left) (needs_of (rows_of behind)) (drop (places_for (length s.frames) left) left)
-  both-fit = fits-input class (reach_of now.held) s behind left here.sources.0.1 here.fits
+  -- it fits in its places, and the others in those behind them
+  pub next-within : from ≤ length s.frames
+  next-within = here.within.0
+
+  abbrev count : ℕ
+  count = places_for (length s.frames - from) left
+
+  pub both-fit :
+      FitsFrom (window_of s.class.version) (reach_of now.held) (needs_from s from (length s.frames))
+      (own_places (length s.frames - from) left)
+      × FitsFrom (window_of class.version) (reach_behind (reach_of now.held) from s left)
+      (needs_of (rows_behind behind others)) (drop count left)
+  both-fit =
+      fits-input class (reach_of now.held) s from behind others left here.sources.0.1 here.fits
 
   abbrev bytes : List ℕ
   bytes = unwrap_or (told_in first name) []
 
   abbrev own : List ℕ → List Frame
-  own _ = whole_frames s left bytes
+  own _ = frames_behind from s left bytes
 
   abbrev rest : List ℕ → List Frame
-  rest _ = relaid (told_frames first later behind) (drop (places_for (length s.frames) left) left)
+  rest _ = relaid (told_frames first later behind others) (drop count left)
 
-  split : (file : List ℕ) → Holds first key file → (here.lays.made file ++ own file) ++ rest file ≡ whole file
+  split : (file : List ℕ) → Holds first key file
+      → (here.lays.made file ++ own file) ++ rest file ≡ whole file
   split file holds =
       append_assoc (here.lays.made file) (own file) (rest file)
-      ∙ ap (λ (l : List Frame). here.lays.made file ++ l) (sym (own-split (told_in first) name s later behind left))
+      ∙ ap (λ (l : List Frame). here.lays.made file ++ l)
+      (sym (own-split (told_in first) name s from later behind others left))
       ∙ sym (here.lays.left file holds)
 
   module _ (apart : key ≢ output) (after : Files) where
@@ -163,38 +242,63 @@ module _ {class : ClassFields} {key output : List ℕ} {whole : List ℕ → Lis
     told : (file : List ℕ) → Holds files key file → Holds files name bytes
     told file holds =
         let sofar = here.lays.lays in
-        input_holds first files name output sofar.passed bytes here.sources.0.0.apart sofar.files
-        (source-holds first key file name s (input_held first files key output sofar.passed file apart sofar.files holds) here.sources.0.0)
+        let source = here.sources.0.0 in
+        let begun = input_held first files key output sofar.passed file apart sofar.files holds in
+        input_holds first files name output sofar.passed bytes source.apart sofar.files
+        (source-holds first key file name s begun source)
 
-    pub next-laid : (new : Writing) (more : List Placed) → drop (places_for (length s.frames) left) left ≡ more → Lays name output (whole_frames s left) now new files after → new.held.class ≡ s.class → reach_of new.held ≡ whole_reach (reach_of now.held) s left
-        → (IsNextSettled new.held → ⊥) → IsLaidTo class key output whole begun new first after later behind more
+    -- laid in its places it is one input more
+    pub next-laid : (new : Writing) (more : List Placed) → drop count left ≡ more
+        → Lays name output (frames_behind from s left) now new files after
+        → new.held.class ≡ s.class
+        → reach_of new.held ≡ reach_behind (reach_of now.held) from s left
+        → (IsNextSettled new.held → ⊥)
+        → IsLaidTo class key output whole begun new first after later behind others more
     next-laid new more is lays same reach unsettled =
-        subst (IsLaidTo class key output whole begun new first after later behind) is
+        subst (IsLaidTo class key output whole begun new first after later behind others) is
         (record {
           sources = here.sources.1;
+          within = here.within.1;
           target = still_there files after output lays.passed output lays.files laid.target;
           class_is = same ∙ here.sources.0.1;
           fits = rw reach both-fit.1;
           unsettled = unsettled;
           lays = record {
             made = λ file. here.lays.made file ++ own file;
-            lays = lays_then key output here.lays.made own begun now first files apart here.lays.lays new after
-                (record { frames = lays.frames; is = λ file holds. lays.is bytes (told file holds); passed = lays.passed; files = lays.files; writer = lays.writer });
+            lays = lays_then key output here.lays.made own begun now first files apart
+                here.lays.lays new after (record {
+                  frames = lays.frames;
+                  is = λ file holds. lays.is bytes (told file holds);
+                  passed = lays.passed;
+                  files = lays.files;
+                  writer = lays.writer;
+                });
             left = λ file holds. sym (split file holds);
           };
         })
 
-    pub next-part : {fault : PassFault} → LaysPart name output (whole_frames s left) (whole_reach (reach_of now.held) s left) now files after fault → (last : ℕ) × LaysPart key output whole last begun first after fault
+    -- a part of it is a part of all
+    pub next-part : {fault : PassFault}
+        → LaysPart name output (frames_behind from s left)
+        (reach_behind (reach_of now.held) from s left) now files after fault
+        → (last : ℕ) × LaysPart key output whole last begun first after fault
     next-part part =
-        let reach = whole_reach (reach_of now.held) s left in
-        let needs = needs_of (rows_of behind) in
+        let reach = reach_behind (reach_of now.held) from s left in
+        let needs = needs_of (rows_behind behind others) in
         let window = window_of class.version in
-        let places = drop (places_for (length s.frames) left) left in (
-          last_reach window reach needs places,
-          part_more key output (λ file. here.lays.made file ++ own file) rest whole reach (last_reach window reach needs places) begun first after
-              (λ file holds more begins. begins-left window reach needs (told_frames first later behind) places more (sources-needs class output first key file later behind holds here.sources.1) both-fit.1 begins)
+        let places = drop count left in
+        let last = last_reach window reach needs places in
+        let frames = told_frames first later behind others in (
+          last,
+          part_more key output (λ file. here.lays.made file ++ own file) rest whole reach last begun
+              first after
+              (λ file holds more begins.
+              begins-left window reach needs frames places more
+              (sources-needs class output first key file later behind others holds here.sources.1)
+              both-fit.1 begins)
               split
-              (part_then key output here.lays.made own begun now first files apart here.lays.lays reach after (record {
+              (part_then key output here.lays.made own begun now first files apart here.lays.lays
+              reach after (record {
                 settled = part.settled;
                 prefix = part.prefix;
                 done = part.done;
@@ -207,9 +311,12 @@ module _ {class : ClassFields} {key output : List ℕ} {whole : List ℕ → Lis
 -- ---- why it ends early
 
 -- an input is named by its place
-pub cause-named : (names : List (List ℕ)) (place : ℕ) (name output : List ℕ) (rest : List (List ℕ)) (size : ℕ) (files : Files) (before after : Counts) (fault : PassFault) → drop place names ≡ name ∷ rest → HasPassCause (route name output size) files before after fault
+pub cause-named : (names : List (List ℕ)) (place : ℕ) (name output : List ℕ) (rest : List (List ℕ))
+    (size : ℕ) (files : Files) (before after : Counts) (fault : PassFault) → drop place names
+    ≡ name ∷ rest → HasPassCause (route name output size) files before after fault
     → HasPassCause (route (slice_index_or names place []) output size) files before after fault
 cause-named names place name output rest size files before after fault is cause =
     let here : place ≡ place + 0 = omega arith in
-    let named : slice_index_or names place [] ≡ name = ap (λ n. slice_index_or names n []) here ∙ sym (get_or-drop place names 0 []) ∙ ap (λ (l : List (List ℕ)). slice_index_or l 0 []) is in
+    let named : slice_index_or names place [] ≡ name = ap (λ n. slice_index_or names n []) here
+    ∙ sym (get_or-drop place names 0 []) ∙ ap (λ (l : List (List ℕ)). slice_index_or l 0 []) is in
     subst (λ n. HasPassCause (route n output size) files before after fault) (sym named) cause

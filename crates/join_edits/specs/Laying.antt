@@ -1,32 +1,21 @@
+-- The second pass over the inputs of a join.
 -- The second pass over the inputs.
-use Rattle.std.specs.Prelude.{◌≡◌, ◌≢◌, ℕ, ◌<◌, List, [], ◌∷◌, length, drop, slice_index_or, map, flat_map, slice_get, Option, Some, None, IfSome, Result, IfErr, OnOk}
 use Rattle.std.specs.List.{AllZip}
-use Rattle.outside.specs.Files.{Files, Holds, IsThere}
-use Rattle.outside.specs.Counts.{Counts}
-use Rattle.frame_header.specs.Fields.{ClassFields}
-use Rattle.frame_header.specs.Tables.{window_of}
-use Rattle.info_header.specs.InfoFrame.{info_frame}
-use Rattle.slot_plan.specs.declared.needs.Placed.{Placed}
-use Rattle.slot_plan.specs.LeastPlan.{least_plan}
-use Rattle.slot_plan.specs.Plans.{entries}
-use Rattle.laying.specs.Needs.{need_of, needs_of}
-use Rattle.laying.specs.NeedsFit.{own_choice}
+use Rattle.std.specs.Prelude.{drop, IfErr, IfSome, length, List, map, None, OnOk, Option, Result}
+use Rattle.std.specs.Prelude.{slice_get, slice_index_or, Some, ℕ, [], ◌<◌, ◌∷◌, ◌≡◌, ◌≢◌}
+use Rattle.frame_header.specs.{Fields.ClassFields, Tables.window_of}
 use Rattle.frame_writer.specs.Frames.{Frame}
-use Rattle.outside.specs.Pass.{Writes, WritesPrefix, Appends, AppendsPrefix, route, HasPassCause}
-use Rattle.outside.specs.Seen.{Seen}
-use Rattle.laying.specs.declared.relay.Relay.{Relay}
-use Rattle.laying.specs.Relaid.{frames_in, relaid}
-use Rattle.laying.specs.Fits.{FitsFrom}
-use Rattle.laying.specs.Written.{slot_in, plain_info}
-use Rattle.laying.specs.Surveys.{HasSurvey}
-use Rattle.laying.specs.Passing.{IsFresh}
-use Rattle.sync_survey.specs.Row.{Row}
-use Rattle.sync_survey.specs.Faults.{SurveyFields, tells}
-use Rattle.sync_survey.specs.Survey.{IsLaidOut}
+use Rattle.info_header.specs.InfoFrame.{info_frame}
+use Rattle.join_edits.specs.{Inputs.{CanBeJoined, class_in, rows_of}, declared.planned.Work.Work}
 use Rattle.join_edits.specs.declared.stopped.Stopped.{Stopped}
-use Rattle.join_edits.specs.declared.planned.Work.{Work}
-use Rattle.join_edits.specs.Join.{joined_file}
-use Rattle.join_edits.specs.Inputs.{class_in, rows_of, CanBeJoined, told_parts}
+use Rattle.laying.specs.{Fits.FitsFrom, Needs.{need_of, needs_of}, NeedsFit.own_choice}
+use Rattle.laying.specs.{Passing.IsFresh, Surveys.HasSurvey, Written.{plain_info, slot_in}}
+use Rattle.laying.specs.declared.relay.Relay.{Relay}
+use Rattle.outside.specs.{Counts.Counts, Files.{Files, Holds, IsThere}}
+use Rattle.outside.specs.Pass.{Appends, AppendsPrefix, HasPassCause, route, Writes, WritesPrefix}
+use Rattle.outside.specs.Seen.{Seen}
+use Rattle.slot_plan.specs.{LeastPlan.least_plan, Plans.entries, declared.needs.Placed.Placed}
+use Rattle.sync_survey.specs.{Faults.{SurveyFields, tells}, Row.Row, Survey.IsLaidOut}
 
 -- ---- the plan
 
@@ -46,7 +35,8 @@ FitsAll ss placed = FitsFrom (window_for (class_in ss)) 0 (needs_of (rows_of ss)
 -- these are the bytes of the Info frame before frames in the slots of this plan
 abbrev pub IsJoinedInfo : List SurveyFields → List Placed → List ℕ → Type 0
 IsJoinedInfo ss placed bytes =
-    (frames : List Frame) → map slot_in frames ≡ map (λ (p : Placed). p.slot) placed → (s : SurveyFields) → slice_get ss 0 ≡ Some s → (first : Row) → slice_get s.frames 0 ≡ Some first
+    (frames : List Frame) → map slot_in frames ≡ map (λ (p : Placed). p.slot) placed →
+    (s : SurveyFields) → slice_get ss 0 ≡ Some s → (first : Row) → slice_get s.frames 0 ≡ Some first
     → bytes ≡ info_frame first.header (plain_info s.class frames)
 
 -- this is the plan, and it can be written
@@ -54,31 +44,33 @@ pub record IsPlanOf (ss : List SurveyFields) (placed : List Placed) : Type 0 whe
   pub plan : placed ≡ least_plan_of ss
   pub fits : FitsAll ss placed
 
--- the inputs can be joined, this is their plan, with the Info frame before it, and the buffers are for frames of their class
+-- the inputs can be joined, this is their plan, with the Info
+-- frame before it, and the buffers are for frames of their class
 pub record IsReady (ss : List SurveyFields) (work : Work) : Type 0 where
   pub joined : CanBeJoined ss
   pub plan : IsPlanOf ss (entries work.plan)
   pub info : IsJoinedInfo ss (entries work.plan) work.info.items
   pub fresh : IfSome (class_in ss) (λ class. IsFresh class work.buffers)
 
--- all frames of the inputs in the slots of the plan, by what the folder tells
-abbrev pub all_laid : Files → List (List ℕ) → List SurveyFields → List Placed → List ℕ → List Frame
-all_laid files names ss placed _ = relaid (flat_map frames_in (told_parts files names ss)) placed
-
 -- ---- the inputs
 
 -- an input of another name than the output is there, and the survey tells of its frames
-pub record IsSource (output : List ℕ) (files : Files) (name : List ℕ) (s : SurveyFields) : Type 0 where
+pub record IsSource (output : List ℕ) (files : Files) (name : List ℕ)
+    (s : SurveyFields) : Type 0 where
   pub apart : name ≢ output
   pub there : IsThere files name
   pub exact : (file : List ℕ) → Holds files name file → HasSurvey file s
   pub laid : IsLaidOut s
 
+-- so is each of these, and its frames are of this class
 abbrev pub AreSources : ClassFields → List ℕ → Files → List (List ℕ) → List SurveyFields → Type 0
-AreSources class output files names ss = AllZip (λ name s. IsSource output files name s × (s.class ≡ class)) names ss
+AreSources class output files names ss =
+    AllZip (λ name s. IsSource output files name s × (s.class ≡ class)) names ss
 
--- The inputs are joined: this pass is over the first of them, whose survey is the first, and writes another file that is there.
-pub record IsJoin (first : Relay) (inputs : List (List ℕ)) (surveys : List SurveyFields) (files : Files) : Type 0 where
+-- The inputs are joined: this pass is over the first of them, whose
+-- survey is the first, and writes another file that is there.
+pub record IsJoin (first : Relay) (inputs : List (List ℕ)) (surveys : List SurveyFields)
+    (files : Files) : Type 0 where
   pub names : inputs ≡ first.pass.input.now ∷ drop 1 inputs
   pub known : surveys ≡ tells first.survey.now ∷ drop 1 surveys
   pub length : first.pass.length ≡ (tells first.survey.now).length
@@ -86,30 +78,35 @@ pub record IsJoin (first : Relay) (inputs : List (List ℕ)) (surveys : List Sur
   pub sources : AreSources (tells first.survey.now).class first.pass.output.now files inputs surveys
   pub target : IsThere files first.pass.output.now
 
--- the joined file, by what the folder tells
-abbrev pub joined_of : Files → List (List ℕ) → List SurveyFields → List ℕ → List ℕ
-joined_of files names ss _ = joined_file (told_parts files names ss)
-
 -- ---- why it ends early
 
 -- the pass over one of these inputs ended early, for this cause
-pub record HasJoinCause (inputs : List (List ℕ)) (output : List ℕ) (files : Files) (before after : Counts) (stopped : Stopped) : Type 0 where
+pub record HasJoinCause (inputs : List (List ℕ)) (output : List ℕ) (files : Files)
+    (before after : Counts) (stopped : Stopped) : Type 0 where
   pub within : stopped.place < length inputs
   pub size : ℕ
-  pub cause : HasPassCause (route (slice_index_or inputs stopped.place []) output size) files before after stopped.fault
+  pub cause : HasPassCause
+      (route (slice_index_or inputs stopped.place []) output size) files before after stopped.fault
 
 -- ---- what a step answers
 
 -- What is made of the inputs was added to what waits for the output, or only a prefix was appended.
-pub record AddsJoined (first : Relay) (inputs : List (List ℕ)) (made : List ℕ → List ℕ) (before after : List ℕ) (old new : Seen) (result : Result (Unit {0}) Stopped) : Type 0 where
+pub record AddsJoined (first : Relay) (inputs : List (List ℕ)) (made : List ℕ → List ℕ)
+    (before after : List ℕ) (old new : Seen) (result : Result (Unit {0}) Stopped) : Type 0 where
   pub written : OnOk result (Writes first.pass made before after old.files new.files)
-  pub prefix : IfErr result (λ stopped. WritesPrefix first.pass made before old.files new.files stopped.fault)
+  pub prefix : IfErr result
+      (λ stopped. WritesPrefix first.pass made before old.files new.files stopped.fault)
   pub done : OnOk result (new.counts ≡ old.counts)
-  pub cause : IfErr result (HasJoinCause inputs first.pass.output.now old.files old.counts new.counts)
+  pub cause : IfErr result
+      (HasJoinCause inputs first.pass.output.now old.files old.counts new.counts)
 
 -- What is made of the inputs was appended to the output, or only a prefix.
-pub record AppendsJoined (first : Relay) (inputs : List (List ℕ)) (made : List ℕ → List ℕ) (old new : Seen) (result : Result (Unit {0}) Stopped) : Type 0 where
-  pub written : OnOk result (Appends first.pass.input.now first.pass.output.now made old.files new.files)
-  pub prefix : IfErr result (λ stopped. AppendsPrefix first.pass.input.now first.pass.output.now made old.files new.files stopped.fault)
+pub record AppendsJoined (first : Relay) (inputs : List (List ℕ)) (made : List ℕ → List ℕ)
+    (old new : Seen) (result : Result (Unit {0}) Stopped) : Type 0 where
+  pub written : OnOk result
+      (Appends first.pass.input.now first.pass.output.now made old.files new.files)
+  pub prefix : IfErr result (λ stopped. AppendsPrefix first.pass.input.now first.pass.output.now
+      made old.files new.files stopped.fault)
   pub done : OnOk result (new.counts ≡ old.counts)
-  pub cause : IfErr result (HasJoinCause inputs first.pass.output.now old.files old.counts new.counts)
+  pub cause : IfErr result
+      (HasJoinCause inputs first.pass.output.now old.files old.counts new.counts)

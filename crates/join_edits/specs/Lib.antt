@@ -2,4 +2,13 @@
 pub mod Join
 pub mod Inputs
 pub mod Laying
+pub mod Behind
 pub mod Seamless
+pub mod Reading
+pub mod Beginnings
+pub mod Sounds
+pub mod Deciding
+pub mod Numbers
+pub mod RunReady
+pub mod SeamlessReady
+pub mod Lines

@@ -13,7 +13,7 @@ use outside::Folder;
 use std::alloc::Global;
 
 /// The first of these names that is the output's, counted from 0.
-fn clash(output: &str, inputs: &[String]) -> Option<u32>
+pub(crate) fn clash(output: &str, inputs: &[String]) -> Option<u32>
     requires { length inputs.now ≤ 64 }
     ensures { result ≡ clash_from (output.now ∷ []) 0 (map string_bytes inputs.now) }
 {
@@ -60,5 +60,6 @@ pub fn join<D: Folder>(
     let surveys = survey_all(alloc, folder, inputs)?;
     let known = surveys.as_slice();
     let mut work = prepare(alloc, known)?;
-    write_joined(folder, inputs, output, known, &mut work)
+    // No frame is left out.
+    write_joined(folder, inputs, output, known, &[0; 64], &mut work)
 }

@@ -1,14 +1,15 @@
 //! The frames of all inputs, read one input after the other and given to one writer.
-ghost use Rattle.std.specs.Prelude.{◌≤◌, length, map, string_bytes};
+ghost use Rattle.std.specs.Prelude.{◌≡◌, ◌+◌, ◌<◌, ◌≤◌, ◌∷◌, length, drop, map, string_bytes};
 ghost use Rattle.frame_header.specs.Tables.{window_of};
 ghost use Rattle.laying.specs.Needs.{needs_of};
 ghost use Rattle.frame_writer.specs.Frames.{frame_bytes, reach_of};
 ghost use Rattle.frame_writer.specs.Writing.{IsNew};
 ghost use Rattle.sync_survey.specs.Faults.{tells};
 ghost use Rattle.laying.specs.Fits.{FitsFrom};
-ghost use Rattle.join_edits.specs.Inputs.{rows_of};
-ghost use Rattle.join_edits.specs.Laying.{all_laid, IsJoin, AddsJoined};
+ghost use Rattle.join_edits.specs.Behind.{rows_behind, AreWithin, all_laid};
+ghost use Rattle.join_edits.specs.Laying.{IsJoin, AddsJoined};
 
+use crate::behind::lay_from;
 use crate::inputs::{known_at, name_at};
 use crate::stopped::Stopped;
 use laying::{Buffers, Relay};
@@ -16,30 +17,41 @@ use outside::{Folder, Pass};
 use slot_plan::Placed;
 use sync_survey::Survey;
 
-/// Adds to what waits for the output the frames of all inputs as they were planned, one input after the other. The writer is
-/// new. The clauses about the output speak of folders that tell the bytes of the first input.
+/// The number of the first frame of an input that is written, counted from 0.
+fn from_at(froms: &[u32], place: usize) -> usize
+    requires { place < length froms.now }
+    ensures { drop place froms.now ≡ result ∷ drop (place + 1) froms.now }
+{
+    froms[place] as usize
+}
+
+/// Adds to what waits for the output the frames of all inputs as they were planned, one input after the other, each from the
+/// frame on whose number is given. The writer is new. The clauses about the output speak of folders that tell the bytes of the
+/// first input.
 ///
 /// # Errors
-/// Those of `Relay::lay`, with the number of the input. Then a prefix of what waited and the frames' bytes was appended,
+/// Those of `Relay::frames`, with the number of the input. Then a prefix of what waited and the frames' bytes was appended,
 /// and with `Write` not all of them.
 pub(crate) fn lay_all<'a, D: Folder>(
     first: &Relay<'a>,
     folder: &mut D,
     inputs: &'a [String],
     surveys: &'a [Survey],
+    froms: &[u32],
     placed: &[Placed],
     buffers: &mut Buffers,
 ) -> Result<(), Stopped>
     requires few { length inputs.now ≤ 64 }
     requires join { IsJoin first.now (map string_bytes inputs.now) (map tells surveys.now)
         (D.seen folder.old).files }
+    requires within { AreWithin (map tells surveys.now) froms.now }
     requires new { IsNew (tells first.now.survey.now).class buffers.old.writer }
     requires fits { FitsFrom (window_of (tells first.now.survey.now).class.version)
         (reach_of buffers.old.writer)
-        (needs_of (rows_of (map tells surveys.now))) placed.now }
+        (needs_of (rows_behind (map tells surveys.now) froms.now)) placed.now }
     ensures { AddsJoined first.now (map string_bytes inputs.now)
         (λ file. frame_bytes (all_laid (D.seen folder.old).files (map string_bytes inputs.now)
-        (map tells surveys.now) placed.now file))
+        (map tells surveys.now) froms.now placed.now file))
         buffers.old.waiting buffers.new.waiting (D.seen folder.old) (D.seen folder.new) result }
 {
     let mut at = 0;
@@ -52,7 +64,7 @@ pub(crate) fn lay_all<'a, D: Folder>(
         };
         let relay = Relay { pass, survey };
         buffers.feed.clear();
-        match relay.lay_whole(folder, &placed[at..], buffers) {
+        match lay_from(&relay, folder, from_at(froms, i), &placed[at..], buffers) {
             Ok(count) => at += count,
             Err(fault) => {
                 return Err(Stopped {

@@ -1,12 +1,21 @@
-//! One file of all frames of several.
+//! One file of all frames of several, or of those that are left where they are joined without seams.
 #![tactic(auto)]
 
+mod beginnings;
+mod behind;
+mod decided;
 mod inputs;
 mod join_file;
 mod laid;
+mod lines;
+mod main_data;
+mod numbers;
 mod planned;
+mod seamless_file;
+mod sounds;
 mod stopped;
 mod surveys;
 mod written;
 
 pub use join_file::join;
+pub use seamless_file::join_seamless;

@@ -1,15 +1,35 @@
 //! What a join makes ready before its output is created: the plan of all frames, the Info frame, and all memory.
-ghost use Rattle.std.specs.Prelude.{◌≡◌, ◌<◌, ◌≤◌, ℕ, List, [], ◌∷◌, length, map, IfOk};
+ghost use Rattle.std.specs.Prelude.{◌≡◌, ◌<◌, ◌≤◌, ℕ, List, [], ◌∷◌, length, map, slice_get, Some, IfOk};
+ghost use Rattle.frame_header.specs.Fields.{ClassFields};
+ghost use Rattle.frame_header.specs.Limits.{most_placed};
+ghost use Rattle.frame_header.specs.Tables.{window_of};
+ghost use Rattle.laying.specs.Fits.{FitsFrom};
 ghost use Rattle.laying.specs.Needs.{asked_of};
+ghost use Rattle.laying.specs.NeedsFit.{IsPlaced};
+ghost use Rattle.laying.specs.Written.{slot_in};
+ghost use Rattle.info_header.specs.InfoFrame.{info_frame};
+ghost use Rattle.frame_writer.specs.Frames.{Frame};
+ghost use Rattle.slot_plan.specs.declared.needs.Placed.{Placed as PlacedFields};
+ghost use Rattle.slot_plan.specs.Parts.{AreOfClass};
+ghost use Rattle.slot_plan.specs.Behind.{FitBehindWindow};
 ghost use Rattle.slot_plan.specs.Plans.{entries};
+ghost use Rattle.sync_survey.specs.Row.{Row as RowFields};
 ghost use Rattle.sync_survey.specs.Faults.{tells};
+ghost use Rattle.commands.specs.One.{most_frames};
 ghost use Rattle.join_edits.specs.Inputs.{rows_of, CanBeJoined};
 ghost use Rattle.join_edits.specs.Laying.{IsPlanOf, IsReady};
+ghost use Rattle.join_edits.specs.Deciding.{IsRunnable};
+ghost use Rattle.join_edits.specs.Numbers.{info_kept};
+ghost use Rattle.join_edits.specs.RunReady.{AreEnds, IsRunReady, run_plan};
 
+use crate::beginnings::Beginning;
+use crate::decided::Decided;
 use crate::inputs::known_at;
+use crate::numbers::{Ends, Moved, kept_of};
 use arrayvec::ArrayVec;
+use exact_span::seal;
 use laying::{Buffers, Kept, Parts, info_bytes};
-use slot_plan::{Keep, Plan, plan};
+use slot_plan::{Keep, Need, Placed, Plan, plan};
 use std::alloc::{AllocError, Global};
 use sync_survey::Survey;
 
@@ -51,6 +71,99 @@ pub(crate) fn prepare(alloc: Global, surveys: &[Survey]) -> Result<Work, AllocEr
     let plan = plan_all(alloc, surveys)?;
     let first = known_at(surveys, 0);
     let info = info_bytes(first, 0, &Kept::none(), plan.placed());
+    let buffers = Buffers::new(alloc, first.class())?;
+    Ok(Work {
+        plan,
+        info,
+        buffers,
+    })
+}
+
+/// The extension has 36 bytes. It runs nothing: the type says so, and its contract hands that to a proof.
+fn has_all(extension: &[u8; 36])
+    ensures { length extension.now ≡ 36 }
+{
+    let _ = extension;
+}
+
+/// The bytes of the Info frame before frames of a surveyed input in the slots of a plan, with what it keeps of the heads, sealed
+/// where it keeps something. The first of the frames is frame `from`, whose header it has.
+fn info_of(
+    survey: &Survey,
+    from: usize,
+    kept: Option<Kept>,
+    placed: &[Placed],
+) -> ArrayVec<u8, 1441>
+    requires well { IsPlaced (tells survey.now) }
+    requires within { from < length (tells survey.now).frames }
+    requires few { length placed.now ≤ most_placed }
+    ensures { (first : RowFields) (frames : List Frame)
+        → slice_get (tells survey.now).frames from ≡ Some first
+        → map slot_in frames ≡ map (λ (p : PlacedFields). p.slot) placed.now
+        → result.items ≡ info_frame first.header
+        (info_kept kept first.header (tells survey.now).class frames) }
+{
+    let Some(kept) = kept else {
+        return info_bytes(survey, from, &Kept::none(), placed);
+    };
+    has_all(&kept.extension);
+    let mut info = info_bytes(survey, from, &kept, placed);
+    seal(survey.class(), &mut info);
+    info
+}
+
+/// The class of all inputs, and how many frames the first and the last have.
+fn ends_of_all(surveys: &[Survey]) -> Ends
+    requires { CanBeJoined (map tells surveys.now) }
+    ensures { AreEnds (map tells surveys.now) result }
+{
+    let first = known_at(surveys, 0);
+    let last = known_at(surveys, surveys.len() - 1);
+    Ends {
+        class: first.class(),
+        first: first.frames().len() as u32,
+        last: last.frames().len() as u32,
+    }
+}
+
+/// The plan of a run, which is one part: each frame keeps the slot that it needs.
+fn plan_run(alloc: Global, needs: &[Need]) -> Result<Plan, AllocError>
+    requires some { 0 < length needs.now }
+    requires few { length needs.now ≤ most_frames }
+    requires fits { FitBehindWindow needs.now }
+    ensures plan { IfOk result (λ plan. (class : ClassFields) → AreOfClass class needs.now
+        → entries plan ≡ run_plan (window_of class.version) needs.now) }
+    ensures fits { IfOk result (λ plan. (class : ClassFields) → AreOfClass class needs.now
+        → FitsFrom (window_of class.version) 0 needs.now (entries plan)) }
+{
+    let header = &needs[0].header;
+    // A look inside gives the proof that its class is one of the standard's.
+    let _ = &header.slot;
+    plan(alloc, needs, &[0], &Keep)
+}
+
+/// All that is made ready for a run before the output is created.
+pub(crate) fn prepare_run(
+    alloc: Global,
+    surveys: &[Survey],
+    beginnings: &[Beginning],
+    decided: &Decided,
+) -> Result<Work, AllocError>
+    requires joined { CanBeJoined (map tells surveys.now) }
+    requires begun { 0 < length beginnings.now }
+    requires run { IsRunnable (map tells surveys.now) decided.now }
+    ensures { IfOk result (IsRunReady (map tells surveys.now) beginnings.now decided.now) }
+{
+    let needs = decided.run();
+    let plan = plan_run(alloc, needs)?;
+    let first = known_at(surveys, 0);
+    let placed = plan.placed();
+    let moved = Moved {
+        left_out: decided.front,
+        lead_ins: placed.len().saturating_sub(needs.len()) as u32,
+    };
+    let kept = kept_of(beginnings, ends_of_all(surveys), moved);
+    let info = info_of(first, decided.front as usize, kept, placed);
     let buffers = Buffers::new(alloc, first.class())?;
     Ok(Work {
         plan,

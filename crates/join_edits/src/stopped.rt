@@ -1,4 +1,8 @@
-//! Why the second pass of a join ended early.
+//! Why a pass over the inputs of a join ended early.
+ghost use Rattle.std.specs.Prelude.{◌≡◌};
+ghost use Rattle.commands.specs.PassFaults.{of_pass};
+
+use commands::EditFault;
 use outside::PassFault;
 
 /// The input whose pass ended, counted from 0, and why. What is written before and after all frames is of the first.
@@ -6,4 +10,12 @@ use outside::PassFault;
 pub(crate) struct Stopped {
     pub place: u32,
     pub fault: PassFault,
+}
+
+impl From<Stopped> for EditFault {
+    ghost from_gives = { λ stopped e. e ≡ of_pass stopped.place 0 stopped.fault };
+
+    fn from(stopped: Stopped) -> EditFault {
+        EditFault::of_pass(stopped.place, 0, stopped.fault)
+    }
 }

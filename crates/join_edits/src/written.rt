@@ -1,5 +1,5 @@
 //! The second pass of a join.
-ghost use Rattle.std.specs.Prelude.{◌≡◌, ◌≤◌, ◌++◌, List, ℕ, [], ◌∷◌, length, map, string_bytes, None, IfErr, OnOk};
+ghost use Rattle.std.specs.Prelude.{◌≡◌, ◌≤◌, ◌++◌, List, ℕ, [], ◌∷◌, length, map, string_bytes, IfErr, OnOk};
 ghost use Rattle.std.specs.List.{concat};
 ghost use Rattle.outside.specs.Files.{Holds, OnlyTouches};
 ghost use Rattle.outside.specs.Counts.{NoneFell};
@@ -7,10 +7,10 @@ ghost use Rattle.outside.specs.Pass.{Appends, AppendsPrefix, route_of, HasPassCa
 ghost use Rattle.laying.specs.Written.{front_blocks};
 ghost use Rattle.laying.specs.Passing.{IsReady as IsReadyToPass};
 ghost use Rattle.sync_survey.specs.Faults.{tells};
-ghost use Rattle.commands.specs.One.{most_frames, holding, IsPassFault, first_input};
-ghost use Rattle.commands.specs.Command.{clash_from};
-ghost use Rattle.join_edits.specs.Inputs.{IsOfJoin, AreInputs};
-ghost use Rattle.join_edits.specs.Laying.{IsReady, IsJoin, AppendsJoined, joined_of};
+ghost use Rattle.commands.specs.One.{holding, IsPassFault, first_input};
+ghost use Rattle.join_edits.specs.Inputs.{IsOfJoin};
+ghost use Rattle.join_edits.specs.Behind.{written_of, CanBeWritten, FitsWork};
+ghost use Rattle.join_edits.specs.Laying.{IsJoin, AppendsJoined};
 
 use crate::inputs::{known_at, name_at};
 use crate::laid::lay_all;
@@ -45,7 +45,8 @@ fn append_front<D: Folder>(
     relay.write_front(folder, info, &mut buffers.feed, &mut buffers.waiting)
 }
 
-/// Appends the file of all frames to the output, beginning with the ID3v2 blocks of the first input. It takes no memory.
+/// Appends the file of these frames to the output, beginning with the ID3v2 blocks of the first input: of each input those from
+/// the frame on whose number is given. It takes no memory.
 ///
 /// # Errors
 /// Those of `Relay::write`, with the number of the input. Then a prefix of the file was appended, and with `Write` not all of
@@ -55,14 +56,17 @@ fn append_joined<'a, D: Folder>(
     folder: &mut D,
     inputs: &'a [String],
     surveys: &'a [Survey],
+    froms: &[u32],
     work: &mut Work,
 ) -> Result<(), Stopped>
     requires few { length inputs.now ≤ 64 }
     requires join { IsJoin first.now (map string_bytes inputs.now) (map tells surveys.now)
         (D.seen folder.old).files }
-    requires ready { IsReady (map tells surveys.now) work.old }
+    requires fits { FitsWork (tells first.now.survey.now).class (map tells surveys.now) froms.now
+        work.old }
     ensures { AppendsJoined first.now (map string_bytes inputs.now)
-        (joined_of (D.seen folder.old).files (map string_bytes inputs.now) (map tells surveys.now))
+        (written_of (D.seen folder.old).files (map string_bytes inputs.now) (map tells surveys.now)
+        froms.now work.old)
         (D.seen folder.old) (D.seen folder.new) result }
 {
     let Work {
@@ -73,14 +77,22 @@ fn append_joined<'a, D: Folder>(
     if let Err(fault) = append_front(first, folder, info.as_slice(), buffers) {
         return Err(Stopped { place: 0, fault });
     }
-    lay_all(first, folder, inputs, surveys, plan.placed(), buffers)?;
+    lay_all(
+        first,
+        folder,
+        inputs,
+        surveys,
+        froms,
+        plan.placed(),
+        buffers,
+    )?;
     match first.pass.finish(folder, &mut buffers.waiting) {
         Ok(()) => Ok(()),
         Err(fault) => Err(Stopped { place: 0, fault }),
     }
 }
 
-/// Creates the output and writes it. It takes no memory.
+/// Creates the output and writes it, with the frames of each input from the frame on whose number is given. It takes no memory.
 ///
 /// # Errors
 /// `Input` with the number of an input and `Read` or `Shrunk`, and `Write(0)`. Then the output is as it was or holds a prefix
@@ -90,24 +102,23 @@ pub(crate) fn write_joined<D: Folder>(
     inputs: &[String],
     output: &str,
     surveys: &[Survey],
+    froms: &[u32],
     work: &mut Work,
 ) -> Result<(), EditFault>
     requires some { 1 ≤ length inputs.now }
     requires few { length inputs.now ≤ 64 }
-    requires inputs { AreInputs None most_frames (D.seen folder.old).files
-        (map string_bytes inputs.now) (map tells surveys.now) }
-    requires apart { clash_from (output.now ∷ []) 0 (map string_bytes inputs.now) ≡ None }
-    requires ready { IsReady (map tells surveys.now) work.old }
+    requires can { CanBeWritten output.now (D.seen folder.old).files (map string_bytes inputs.now)
+        (map tells surveys.now) froms.now work.old }
     ensures written { OnOk result ((bytes : List ℕ)
         → Holds (D.seen folder.old).files (first_input (map string_bytes inputs.now)) bytes
         → (D.seen folder.new).files ≡ holding (D.seen folder.old).files output.now
-        (joined_of (D.seen folder.old).files (map string_bytes inputs.now)
-        (map tells surveys.now) bytes)) }
+        (written_of (D.seen folder.old).files (map string_bytes inputs.now)
+        (map tells surveys.now) froms.now work.old bytes)) }
     ensures touches { OnlyTouches (output.now ∷ []) (D.seen folder.old).files
         (D.seen folder.new).files }
     ensures done { OnOk result ((D.seen folder.new).counts ≡ (D.seen folder.old).counts) }
-    ensures left { IfErr result (IsPassFault (joined_of (D.seen folder.old).files
-        (map string_bytes inputs.now) (map tells surveys.now))
+    ensures left { IfErr result (IsPassFault (written_of (D.seen folder.old).files
+        (map string_bytes inputs.now) (map tells surveys.now) froms.now work.old)
         (map string_bytes inputs.now) output.now (D.seen folder.old) (D.seen folder.new)) }
     ensures numbers { IfErr result (IsOfJoin (length inputs.now)) }
     ensures counts { NoneFell (D.seen folder.old).counts (D.seen folder.new).counts }
@@ -122,7 +133,7 @@ pub(crate) fn write_joined<D: Folder>(
     let Ok(()) = folder.create(output) else {
         return Err(EditFault::Write(0));
     };
-    match append_joined(&first, folder, inputs, surveys, work) {
+    match append_joined(&first, folder, inputs, surveys, froms, work) {
         Ok(()) => Ok(()),
         Err(stopped) => Err(EditFault::of_pass(stopped.place, 0, stopped.fault)),
     }

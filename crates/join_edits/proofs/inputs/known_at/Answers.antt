@@ -1,7 +1,8 @@
 -- The survey is the first of those from its place on.
-use Rattle.sync_survey.specs.Faults.{tells}
 use Rattle.join_edits.proofs.StepLaws.{map-next}
+use Rattle.sync_survey.specs.Faults.{tells}
 use Rattle.join_edits.proofs.inputs.known_at.Goals as goal
 
 pub returns : goal.returns
-returns c = map-next tells c.args.surveys.now c.args.place c.index-surveys-place.result c.requires c.index-surveys-place.is
+returns c = map-next tells
+    c.args.surveys.now c.args.place c.index-surveys-place.result c.requires c.index-surveys-place.is

@@ -1,5 +1,5 @@
 -- One name after another.
-use Rattle.std.proofs.Common.{◌≡◌, true, false, bytes_eq, rules}
+use Rattle.std.proofs.Common.{bytes_eq, false, rules, true, ◌≡◌}
 use Rattle.join_edits.proofs.join_file.clash.Goals as goal
 
 pub returns-then-eq : goal.returns-then-eq

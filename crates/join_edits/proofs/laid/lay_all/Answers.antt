@@ -1,52 +1,95 @@
 -- One input after another.
-use Rattle.std.proofs.Common.{◌+◌, ◌-◌, length, map, take, drop, string_bytes, refl, sym, ◌∙◌, ap, arith, rules}
-use Rattle.std.proofs.lemmas.List.{length-map, length-drop, take_rest, drop-drop, drop_all}
+use Rattle.std.proofs.Common.{ap, arith, drop, length, List, map, refl, rules, string_bytes, sym}
+use Rattle.std.proofs.Common.{take, ℕ, ◌+◌, ◌-◌, ◌∙◌}
+use Rattle.std.proofs.lemmas.List.{drop-drop, drop_all, length-drop, length-map, take_rest}
 use Rattle.std.proofs.lemmas.Slice.Zip.{AllZip-long}
-use Rattle.outside.proofs.PassLaws.{cause_later}
-use Rattle.sync_survey.specs.Faults.{tells}
+use Rattle.frame_writer.specs.Frames.{Frame}
+use Rattle.join_edits.proofs.StepLaws.{both-fit, cause-named, laid-all, laid-none, next-class}
+use Rattle.join_edits.proofs.StepLaws.{next-laid, next-part, next-source, next-within, source-ready}
+use Rattle.join_edits.proofs.{StepLaws.within-long, laid.lay_all.Goals.After-finish}
+use Rattle.join_edits.specs.Behind.{all_laid}
+use Rattle.laying.proofs.EndLaws.{lays-prefix, lays-written, new-behind, part-prefix}
 use Rattle.laying.specs.Passing.{Lays, writing_in}
-use Rattle.laying.proofs.EndLaws.{new-behind, lays-written, lays-prefix, part-prefix}
-use Rattle.join_edits.specs.Laying.{all_laid}
-use Rattle.join_edits.proofs.StepLaws.{cause-named, source-ready, laid-none, laid-all, next-source, next-class, both-fit, next-laid, next-part}
+use Rattle.outside.{proofs.PassLaws.cause_later, specs.Files.Files}
+use Rattle.sync_survey.specs.Faults.{tells}
 use Rattle.join_edits.proofs.laid.lay_all.Given as given
 use Rattle.join_edits.proofs.laid.lay_all.Goals as goal
-use Rattle.join_edits.proofs.laid.lay_all.Goals.{After-finish}
 
 pub loop-i-init : goal.loop-i-init
 loop-i-init g c = record {
   within = omega arith;
-  laid = laid-none c.args.first.now.pass.input.now (writing_in c.args.buffers.now) c.requires.join.sources c.requires.join.target c.requires.new c.requires.fits;
+  laid = laid-none c.args.first.now.pass.input.now (writing_in c.args.buffers.now)
+      c.requires.join.sources c.requires.within c.requires.join.target c.requires.new
+      c.requires.fits;
   counts = refl;
 }
 
 pub known_at-survey-requires : goal.known_at-survey-requires
-known_at-survey-requires g c = omega (arith, c.loop-i-test.true, AllZip-long _ _ _ c.requires.join.sources, length-map c.args.inputs.now string_bytes, length-map c.args.surveys.now tells)
+known_at-survey-requires g c =
+    omega (
+      arith,
+      c.loop-i-test.true,
+      AllZip-long _ _ _ c.requires.join.sources,
+      length-map c.args.inputs.now string_bytes,
+      length-map c.args.surveys.now tells,
+    )
 
-pub lay_whole-requires-clause-stands : goal.lay_whole-requires-clause-stands
-lay_whole-requires-clause-stands g c = record {
-  ready = source-ready _ _ _ (next-source c.name_at.ensures c.known_at-survey.ensures refl c.loop-i.invariant.laid) c.loop-i.invariant.laid.target c.length.ensures (c.clear.ensures.fed _ _);
-  class = next-class c.name_at.ensures c.known_at-survey.ensures refl c.loop-i.invariant.laid;
-  unsettled = c.loop-i.invariant.laid.unsettled;
-}
+pub from_at-requires : goal.from_at-requires
+from_at-requires g c =
+    omega (
+      arith,
+      c.loop-i-test.true,
+      AllZip-long _ _ _ c.requires.join.sources,
+      within-long _ _ c.requires.within,
+      length-map c.args.inputs.now string_bytes,
+    )
 
-pub lay_whole-requires-clause-fits : goal.lay_whole-requires-clause-fits
-lay_whole-requires-clause-fits g c = (both-fit c.name_at.ensures c.known_at-survey.ensures (sym (take_rest c.args.placed.now c.loop-i.at)) c.loop-i.invariant.laid).0
+pub lay_from-requires-clause-stands : goal.lay_from-requires-clause-stands
+lay_from-requires-clause-stands g c =
+    let left = sym (take_rest c.args.placed.now c.loop-i.at) in
+    let laid = c.loop-i.invariant.laid in
+    record {
+      ready = source-ready _ _ _
+          (next-source c.name_at.ensures c.known_at-survey.ensures c.from_at.ensures left laid)
+          laid.target c.length.ensures (c.clear.ensures.fed _ _);
+      class = next-class c.name_at.ensures c.known_at-survey.ensures c.from_at.ensures left laid;
+      unsettled = laid.unsettled;
+    }
+
+pub lay_from-requires-clause-within : goal.lay_from-requires-clause-within
+lay_from-requires-clause-within g c =
+    next-within c.name_at.ensures c.known_at-survey.ensures c.from_at.ensures
+    (sym (take_rest c.args.placed.now c.loop-i.at)) c.loop-i.invariant.laid
+
+pub lay_from-requires-clause-fits : goal.lay_from-requires-clause-fits
+lay_from-requires-clause-fits g c =
+    (both-fit c.name_at.ensures c.known_at-survey.ensures c.from_at.ensures
+    (sym (take_rest c.args.placed.now c.loop-i.at)) c.loop-i.invariant.laid).0
 
 pub returns-in-Err : goal.returns-in-Err
 returns-in-Err g c =
     let b = c.args.buffers.now in
+    let pass = c.args.first.now.pass in
     let seen = g.D.Folder.seen in
-    let part = next-part c.name_at.ensures c.known_at-survey.ensures (sym (take_rest c.args.placed.now c.loop-i.at)) c.loop-i.invariant.laid c.requires.join.apart (seen c.lay_whole.new.folder).files c.in-Err.ensures.gives.part in
+    let old = (seen c.args.folder.now).files in
+    let frames = all_laid old (map string_bytes c.args.inputs.now) (map tells c.args.surveys.now)
+    c.args.froms.now c.args.placed.now in
+    let part = next-part c.name_at.ensures c.known_at-survey.ensures c.from_at.ensures
+    (sym (take_rest c.args.placed.now c.loop-i.at)) c.loop-i.invariant.laid
+    c.requires.join.apart (seen c.lay_from.new.folder).files c.in-Err.ensures.gives.part in
     let sofar = c.loop-i.invariant.laid.lays.lays in
     record {
       written = tt;
-      prefix = part-prefix c.args.first.now.pass (all_laid (seen c.args.folder.now).files (map string_bytes c.args.inputs.now) (map tells c.args.surveys.now) c.args.placed.now) b.waiting (writing_in b) (seen c.args.folder.now).files (new-behind b.writer b.waiting c.requires.new) part.0 _ part.1;
+      prefix = part-prefix pass frames b.waiting (writing_in b) old
+          (new-behind b.writer b.waiting c.requires.new) part.0 _ part.1;
       done = tt;
       cause =
           record {
             within = omega (arith, c.loop-i-test.true, length-map c.args.inputs.now string_bytes);
             size = _;
-            cause = cause-named _ c.loop-i.i _ _ _ _ _ _ _ _ c.name_at.ensures (cause_later _ _ _ c.args.first.now.pass.output.now sofar.passed _ _ _ c.in-Err.fault sofar.files c.loop-i.invariant.counts c.in-Err.ensures.gives.cause);
+            cause = cause-named _ c.loop-i.i _ _ _ _ _ _ _ _ c.name_at.ensures
+                (cause_later _ _ _ pass.output.now sofar.passed _ _ _ c.in-Err.fault sofar.files
+                c.loop-i.invariant.counts c.in-Err.ensures.gives.cause);
           };
     }
 
@@ -56,27 +99,51 @@ loop-i-preserved g c =
     let at = c.loop-i.at in
     let count = c.in-Ok.count in
     let left = take_rest placed at in
-    let more = ap (λ n. drop n (take (length placed - at) (drop at placed))) (sym c.in-Ok.ensures.count) ∙ ap (drop count) left ∙ drop-drop count at placed in
+    let more = ap (λ n. drop n (take (length placed - at) (drop at placed)))
+    (sym c.in-Ok.ensures.count) ∙ ap (drop count) left ∙ drop-drop count at placed in
     record {
-      within = omega (arith, c.in-Ok.ensures.within, ap length left, length-drop at placed, c.loop-i.invariant.within);
-      laid = next-laid c.name_at.ensures c.known_at-survey.ensures (sym left) c.loop-i.invariant.laid c.requires.join.apart (g.D.Folder.seen c.lay_whole.new.folder).files (writing_in c.lay_whole.new.buffers) (drop (at + count) placed) more
-          c.in-Ok.ensures.gives.lays c.in-Ok.ensures.stands.class c.in-Ok.ensures.gives.reach c.in-Ok.ensures.stands.unsettled;
+      within = omega (
+        arith,
+        c.in-Ok.ensures.within,
+        ap length left,
+        length-drop at placed,
+        c.loop-i.invariant.within,
+      );
+      laid = next-laid c.name_at.ensures c.known_at-survey.ensures c.from_at.ensures (sym left)
+          c.loop-i.invariant.laid c.requires.join.apart
+          (g.D.Folder.seen c.lay_from.new.folder).files (writing_in c.lay_from.new.buffers)
+          (drop (at + count) placed) more c.in-Ok.ensures.gives.lays c.in-Ok.ensures.stands.class
+          c.in-Ok.ensures.gives.reach c.in-Ok.ensures.stands.unsettled;
       counts = c.in-Ok.ensures.gives.done ∙ c.loop-i.invariant.counts;
     }
 
 -- all of them were given to the writer
-laid_all : (g : given.Over) (c : After-finish g) → Lays c.args.first.now.pass.input.now c.args.first.now.pass.output.now (all_laid (g.D.Folder.seen c.args.folder.now).files (map string_bytes c.args.inputs.now) (map tells c.args.surveys.now) c.args.placed.now)
-    (writing_in c.args.buffers.now) (writing_in c.loop-i.buffers) (g.D.Folder.seen c.args.folder.now).files (g.D.Folder.seen c.loop-i.folder).files
-laid_all g c = laid-all (drop_all c.loop-i.i (map string_bytes c.args.inputs.now) (omega (arith, c.loop-i-test.false, length-map c.args.inputs.now string_bytes))) c.loop-i.invariant.laid
+module _ (g : given.Over) (c : After-finish g) where
+  abbrev old : Files
+  old = (g.D.Folder.seen c.args.folder.now).files
+
+  abbrev frames : List ℕ → List Frame
+  frames = all_laid old (map string_bytes c.args.inputs.now) (map tells c.args.surveys.now)
+      c.args.froms.now c.args.placed.now
+
+  laid_all : Lays c.args.first.now.pass.input.now c.args.first.now.pass.output.now frames
+      (writing_in c.args.buffers.now) (writing_in c.loop-i.buffers) old
+      (g.D.Folder.seen c.loop-i.folder).files
+  laid_all =
+      laid-all (drop_all c.loop-i.i (map string_bytes c.args.inputs.now)
+      (omega (arith, c.loop-i-test.false, length-map c.args.inputs.now string_bytes)))
+      c.loop-i.invariant.laid
 
 pub returns-in-Ok-finish : goal.returns-in-Ok-finish
 returns-in-Ok-finish g c =
+    let at = (goal.at.returns-in-Ok-finish g c).After-finish in
     let b = c.args.buffers.now in
     let seen = g.D.Folder.seen in
     record {
-      written =
-          lays-written c.args.first.now.pass (all_laid (seen c.args.folder.now).files (map string_bytes c.args.inputs.now) (map tells c.args.surveys.now) c.args.placed.now) b.waiting (writing_in b) (seen c.args.folder.now).files (new-behind b.writer b.waiting c.requires.new)
-          (writing_in c.loop-i.buffers) (seen c.loop-i.folder).files (laid_all g (goal.at.returns-in-Ok-finish g c).After-finish) c.finish.new.unsent (seen c.finish.new.folder).files c.in-Ok-finish.ensures.passed;
+      written = lays-written c.args.first.now.pass (frames g at) b.waiting (writing_in b)
+          (old g at) (new-behind b.writer b.waiting c.requires.new) (writing_in c.loop-i.buffers)
+          (seen c.loop-i.folder).files (laid_all g at) c.finish.new.unsent
+          (seen c.finish.new.folder).files c.in-Ok-finish.ensures.passed;
       prefix = tt;
       done = search rules;
       cause = tt;
@@ -84,19 +151,24 @@ returns-in-Ok-finish g c =
 
 pub returns-in-Err-finish : goal.returns-in-Err-finish
 returns-in-Err-finish g c =
+    let at = (goal.at.returns-in-Err-finish g c).After-finish in
+    let pass = c.args.first.now.pass in
     let b = c.args.buffers.now in
     let seen = g.D.Folder.seen in
     let sofar = c.loop-i.invariant.laid.lays.lays in
     record {
       written = tt;
-      prefix =
-          lays-prefix c.args.first.now.pass (all_laid (seen c.args.folder.now).files (map string_bytes c.args.inputs.now) (map tells c.args.surveys.now) c.args.placed.now) b.waiting (writing_in b) (seen c.args.folder.now).files (new-behind b.writer b.waiting c.requires.new)
-          (writing_in c.loop-i.buffers) (seen c.loop-i.folder).files (laid_all g (goal.at.returns-in-Err-finish g c).After-finish) (seen c.finish.new.folder).files c.in-Err-finish.ensures.prefix;
+      prefix = lays-prefix pass (frames g at) b.waiting (writing_in b) (old g at)
+          (new-behind b.writer b.waiting c.requires.new) (writing_in c.loop-i.buffers)
+          (seen c.loop-i.folder).files (laid_all g at) (seen c.finish.new.folder).files
+          c.in-Err-finish.ensures.prefix;
       done = tt;
       cause =
           record {
             within = omega (arith, ap length c.requires.join.names);
             size = _;
-            cause = cause-named _ 0 _ _ _ _ _ _ _ _ c.requires.join.names (cause_later _ _ _ c.args.first.now.pass.output.now sofar.passed _ _ _ c.in-Err-finish.fault sofar.files c.loop-i.invariant.counts c.in-Err-finish.ensures.cause);
+            cause = cause-named _ 0 _ _ _ _ _ _ _ _ c.requires.join.names
+                (cause_later _ _ _ pass.output.now sofar.passed _ _ _ c.in-Err-finish.fault
+                sofar.files c.loop-i.invariant.counts c.in-Err-finish.ensures.cause);
           };
     }

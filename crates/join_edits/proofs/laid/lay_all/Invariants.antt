@@ -1,15 +1,19 @@
 -- The inputs before were given to the writer, and the others are left.
-use Rattle.std.proofs.Common.{◌≡◌, ◌≤◌, length, map, drop, string_bytes}
-use Rattle.sync_survey.specs.Faults.{tells}
+use Rattle.std.proofs.Common.{drop, length, map, string_bytes, ◌≡◌, ◌≤◌}
+use Rattle.join_edits.{proofs.StepLaws.IsLaidTo, specs.Behind.all_laid}
 use Rattle.laying.specs.Passing.{writing_in}
-use Rattle.join_edits.specs.Laying.{all_laid}
-use Rattle.join_edits.proofs.StepLaws.{IsLaidTo}
+use Rattle.sync_survey.specs.Faults.{tells}
 use Rattle.join_edits.proofs.laid.lay_all.Given as goal
 
 abbrev pub invariant-loop-i : goal.invariant-loop-i
 invariant-loop-i g l = record {
   within : l.at ≤ length l.placed;
-  laid : IsLaidTo (tells l.first.survey.now).class l.first.pass.input.now l.first.pass.output.now (all_laid (g.D.Folder.seen l.fn.folder).files (map string_bytes l.inputs) (map tells l.surveys) l.placed) (writing_in l.fn.buffers) (writing_in l.buffers)
-      (g.D.Folder.seen l.fn.folder).files (g.D.Folder.seen l.folder).files (drop l.i (map string_bytes l.inputs)) (drop l.i (map tells l.surveys)) (drop l.at l.placed);
+  laid : IsLaidTo (tells l.first.survey.now).class l.first.pass.input.now
+      l.first.pass.output.now
+      (all_laid (g.D.Folder.seen l.fn.folder).files (map string_bytes l.inputs)
+      (map tells l.surveys) l.froms l.placed)
+      (writing_in l.fn.buffers) (writing_in l.buffers) (g.D.Folder.seen l.fn.folder).files
+      (g.D.Folder.seen l.folder).files (drop l.i (map string_bytes l.inputs))
+      (drop l.i (map tells l.surveys)) (drop l.i l.froms) (drop l.at l.placed);
   counts : (g.D.Folder.seen l.folder).counts ≡ (g.D.Folder.seen l.fn.folder).counts;
 }

@@ -1,24 +1,24 @@
 -- The Info frame tells of the slots of the plan.
-use Rattle.std.proofs.Common.{◌≡◌, length, map, sym, ◌∙◌, ap, subst, arith}
-use Rattle.std.specs.Prelude.{slice_get, Some}
-use Rattle.std.proofs.lemmas.List.{length-map}
+use Rattle.std.proofs.Common.{ap, arith, length, map, subst, sym, ◌∙◌, ◌≡◌}
+use Rattle.std.{proofs.lemmas.List.length-map, specs.Prelude.{slice_get, Some}}
 use Rattle.info_header.specs.InfoFrame.{info_frame}
+use Rattle.join_edits.proofs.PlanLaws.{alike-first, can-some, plan-few}
+use Rattle.laying.specs.{Written.{info_for, plain_info}, declared.info.Kept.Kept}
 use Rattle.slot_plan.specs.declared.needs.Placed.{Placed}
-use Rattle.laying.specs.declared.info.Kept.{Kept}
-use Rattle.laying.specs.Written.{info_for, plain_info}
-use Rattle.sync_survey.specs.Row.{Row}
-use Rattle.sync_survey.specs.Faults.{SurveyFields, tells}
-use Rattle.join_edits.proofs.PlanLaws.{alike-first, plan-few, can-some}
+use Rattle.sync_survey.specs.{Faults.{SurveyFields, tells}, Row.Row}
 use Rattle.join_edits.proofs.planned.prepare.Goals as goal
 
 pub known_at-first-requires : goal.known_at-first-requires
-known_at-first-requires c = omega (arith, can-some _ c.requires, length-map c.args.surveys.now tells)
+known_at-first-requires c =
+    omega (arith, can-some _ c.requires, length-map c.args.surveys.now tells)
 
 pub info_bytes-info-requires-clause-within : goal.info_bytes-info-requires-clause-within
-info_bytes-info-requires-clause-within c = (alike-first _ _ (rw c.known_at-first.ensures at c.requires)).0
+info_bytes-info-requires-clause-within c =
+    (alike-first _ _ (rw c.known_at-first.ensures at c.requires)).0
 
 pub info_bytes-info-requires-clause-few : goal.info_bytes-info-requires-clause-few
-info_bytes-info-requires-clause-few c = omega (arith, plan-few _ c.requires, ap length (c.placed.ensures ∙ c.in_ok-plan.ensures.plan))
+info_bytes-info-requires-clause-few c =
+    omega (arith, plan-few _ c.requires, ap length (c.placed.ensures ∙ c.in_ok-plan.ensures.plan))
 
 pub returns : goal.returns
 returns c =
@@ -29,9 +29,13 @@ returns c =
       info = λ frames slots t is.
           let found = rw c.known_at-first.ensures at is in
           let same : s ≡ t = cc in
-          subst (λ (x : SurveyFields). (first : Row) → slice_get x.frames 0 ≡ Some first → c.info_bytes-info.result.items ≡ info_frame first.header (plain_info x.class frames)) same
+          subst (λ (x : SurveyFields). (first : Row) → slice_get x.frames 0 ≡ Some first
+          → c.info_bytes-info.result.items ≡ info_frame first.header (plain_info x.class frames))
+          same
           (λ first found.
-          c.info_bytes-info.ensures first frames found (slots ∙ sym (ap (map (λ (p : Placed). p.slot)) c.placed.ensures))
-          ∙ ap (λ (n : Kept). info_frame first.header (info_for s.class frames n.quality n.extension)) c.none.ensures);
+          c.info_bytes-info.ensures first frames found
+          (slots ∙ sym (ap (map (λ (p : Placed). p.slot)) c.placed.ensures))
+          ∙ ap (λ (n : Kept).
+          info_frame first.header (info_for s.class frames n.quality n.extension)) c.none.ensures);
       fresh = rw c.known_at-first.ensures (rw c.class.ensures at c.in_ok-buffers.ensures);
     }

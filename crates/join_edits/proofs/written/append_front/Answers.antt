@@ -1,15 +1,13 @@
 -- What is before the frames is written whole.
-use Rattle.std.proofs.Common.{◌≡◌, ℕ, List, [], ◌++◌, ap, sym, ◌∙◌, append-nil}
-use Rattle.outside.specs.Files.{Files, appended}
-use Rattle.outside.specs.Pass.{Writes, Appends}
-use Rattle.outside.specs.declared.pass.Pass.{Pass}
-use Rattle.outside.proofs.PassedLaws.{err_by}
-use Rattle.outside.proofs.PassLaws.{writes_behind_none, part_behind_none}
+use Rattle.std.proofs.Common.{ap, append-nil, List, sym, ℕ, [], ◌++◌, ◌∙◌, ◌≡◌}
 use Rattle.frame_writer.proofs.WritingLaws.{ok-both}
+use Rattle.outside.proofs.{PassLaws.{part_behind_none, writes_behind_none}, PassedLaws.err_by}
+use Rattle.outside.specs.{Files.{appended, Files}, Pass.{Appends, Writes}, declared.pass.Pass.Pass}
 use Rattle.join_edits.proofs.written.append_front.Goals as goal
 
 -- if nothing waits before and after, the bytes were appended
-all_appended : {pass : Pass} {made : List ℕ → List ℕ} {mid : List ℕ} {old new : Files} → Writes pass made [] mid old new → mid ≡ [] →
+all_appended : {pass : Pass} {made : List ℕ → List ℕ} {mid : List ℕ} {old new : Files}
+    → Writes pass made [] mid old new → mid ≡ [] →
     Appends pass.input.now pass.output.now made old new
 all_appended {pass} {made} {mid} {old} {new} w none = record {
   bytes = w.piece;
@@ -17,14 +15,17 @@ all_appended {pass} {made} {mid} {old} {new} w none = record {
   files =
       w.passed.files
       ∙ ap (appended old pass.output.now)
-      (sym (append-nil w.passed.passed) ∙ ap (λ (xs : List ℕ). w.passed.passed ++ xs) (sym none) ∙ sym w.passed.split);
+      (sym (append-nil w.passed.passed) ∙ ap (λ (xs : List ℕ). w.passed.passed ++ xs) (sym none)
+      ∙ sym w.passed.split);
 }
 
 pub returns-clause-written : goal.returns-clause-written
 returns-clause-written g c =
-    ok-both c.write_front.result (λ w none. all_appended (writes_behind_none c.requires.none w) none)
+    ok-both c.write_front.result
+    (λ w none. all_appended (writes_behind_none c.requires.none w) none)
     c.write_front.ensures.adds.written c.write_front.ensures.none
 
 pub returns-clause-prefix : goal.returns-clause-prefix
 returns-clause-prefix g c =
-    err_by c.write_front.result (λ fault part. part_behind_none c.requires.none part) c.write_front.ensures.adds.prefix
+    err_by c.write_front.result (λ fault part. part_behind_none c.requires.none part)
+    c.write_front.ensures.adds.prefix

@@ -1,111 +1,164 @@
--- The ID3v2 blocks of the first input and the Info frame, the frames of all inputs, and then what waits of them.
-use Rattle.std.proofs.Common.{◌≡◌, ℕ, List, [], ◌∷◌, ◌++◌, ◌≢◌, length, map, string_bytes, refl, sym, ◌∙◌, ap, arith, append-nil, rules}
-use Rattle.std.specs.List.{concat}
-use Rattle.outside.specs.Files.{Files, Holds, OnlyTouches}
-use Rattle.outside.specs.Pass.{Writes, WritesPrefix, Appends}
-use Rattle.outside.specs.declared.pass.PassFault.{PassFault}
-use Rattle.outside.proofs.FilesLaws.{touches_none, appended_there, appended_touches}
-use Rattle.outside.proofs.PassedLaws.{err_at, passed_there}
-use Rattle.outside.proofs.PassLaws.{prefix_as, prefix_then, writes_as, writes_then, writes_all, writes_end, cause_later, cause_behind}
-use Rattle.frame_writer.specs.Frames.{frame_bytes, reach_of}
+-- The ID3v2 blocks of the first input and the Info frame, the frames of all inputs, and then what
+-- waits of them.
+use Rattle.std.proofs.Common.{ap, append-nil, arith, flat_map, length, List, map, refl, rules}
+use Rattle.std.{proofs.Common.{string_bytes, sym, ℕ, [], ◌++◌, ◌∷◌, ◌≡◌, ◌≢◌}, specs.List.concat}
 use Rattle.cut_edits.proofs.LaidPass.{appends-as_prefix}
-use Rattle.laying.specs.Relaid.{relaid}
-use Rattle.laying.specs.Written.{front_blocks}
-use Rattle.slot_plan.specs.Plans.{entries}
-use Rattle.slot_plan.specs.declared.needs.Placed.{Placed}
-use Rattle.sync_survey.specs.Faults.{tells}
-use Rattle.join_edits.specs.Join.{joined_file}
-use Rattle.join_edits.specs.Inputs.{class_in, told_parts}
-use Rattle.join_edits.proofs.SourceLaws.{first-source, sources-beside, whole-is}
+use Rattle.frame_writer.specs.Frames.{frame_bytes, reach_of}
+use Rattle.join_edits.proofs.SourceLaws.{first-source, sources-beside, told-beside}
 use Rattle.join_edits.proofs.StepLaws.{cause-named, source-ready, told_frames}
+use Rattle.join_edits.proofs.written.append_joined.Goals.{After-append_front}
+use Rattle.join_edits.specs.Behind.{front_of, written_of}
+use Rattle.laying.specs.{Relaid.{frames_in, relaid}, Written.front_blocks}
+use Rattle.outside.proofs.FilesLaws.{appended_there, appended_touches, touches_none}
+use Rattle.outside.proofs.PassLaws.{cause_behind, cause_later, prefix_as, prefix_then, writes_all}
+use Rattle.outside.proofs.PassLaws.{writes_as, writes_end, writes_then}
+use Rattle.outside.proofs.PassedLaws.{err_at, passed_there}
+use Rattle.outside.specs.{Files.{Files, Holds, OnlyTouches}, Pass.{Appends, Writes, WritesPrefix}}
+use Rattle.outside.specs.declared.pass.PassFault.{PassFault}
+use Rattle.slot_plan.specs.{Plans.entries, declared.needs.Placed.Placed}
+use Rattle.sync_survey.specs.Faults.{SurveyFields, tells}
 use Rattle.join_edits.proofs.written.append_joined.Given as given
 use Rattle.join_edits.proofs.written.append_joined.Goals as goal
-use Rattle.join_edits.proofs.written.append_joined.Goals.{After-append_front}
 
 pub append_front-requires-clause-ready : goal.append_front-requires-clause-ready
 append_front-requires-clause-ready g c =
-    source-ready c.args.first.now _ _ (first-source _ c.requires.join.names c.requires.join.known c.requires.join.sources) c.requires.join.target c.requires.join.length ((rw c.requires.join.known at c.requires.ready.fresh).fed _ _)
+    let join = c.requires.join in
+    source-ready c.args.first.now _ _ (first-source _ join.names join.known join.sources)
+    join.target join.length (c.requires.fits.fresh.fed _ _)
 
 pub append_front-requires-clause-none : goal.append_front-requires-clause-none
-append_front-requires-clause-none g c = (rw c.requires.join.known at c.requires.ready.fresh).none
+append_front-requires-clause-none g c = c.requires.fits.fresh.none
 
 -- the blocks, the Info frame and all frames are the file
 module _ (g : given.Over) (c : After-append_front g) where
   abbrev old : Files
   old = (g.D.Folder.seen c.args.folder.now).files
 
+  abbrev names : List (List ℕ)
+  names = map string_bytes c.args.inputs.now
+
+  abbrev known : List SurveyFields
+  known = map tells c.args.surveys.now
+
   abbrev whole : List ℕ → List ℕ
-  whole _ = joined_file (told_parts old (map string_bytes c.args.inputs.now) (map tells c.args.surveys.now))
+  whole = written_of old names known c.args.froms.now c.args.work.now
+
+  abbrev front : List ℕ → List ℕ
+  front file =
+      concat (front_blocks file (tells c.args.first.now.survey.now)) ++ c.as_slice.result.now
 
   abbrev frames : Files → List Placed → List ℕ
-  frames mid placed = frame_bytes (relaid (told_frames mid (map string_bytes c.args.inputs.now) (map tells c.args.surveys.now)) placed)
+  frames mid placed = frame_bytes (relaid (told_frames mid names known c.args.froms.now) placed)
 
-  all : (mid : Files) (placed : List Placed) → placed ≡ entries c.args.work.now.plan → OnlyTouches (c.args.first.now.pass.output.now ∷ []) old mid → (file : List ℕ) → Holds old c.args.first.now.pass.input.now file
-      → (concat (front_blocks file (tells c.args.first.now.survey.now)) ++ c.as_slice.result.now) ++ frames mid placed ≡ whole file
-  all mid placed is only =
-      whole-is _ old mid placed c.as_slice.result.now c.requires.join.names c.requires.join.known c.requires.ready.joined c.requires.join.sources (is ∙ c.requires.ready.plan.plan) (rw (is, c.as_slice.ensures.value) c.requires.ready.info) only
+  all : (mid : Files) (placed : List Placed) → placed ≡ entries c.args.work.now.plan
+      → OnlyTouches (c.args.first.now.pass.output.now ∷ []) old mid
+      → (file : List ℕ) → Holds old c.args.first.now.pass.input.now file
+      → front file ++ frames mid placed ≡ whole file
+  all mid placed is only file holds =
+      let blocks = sym (ap (front_of file) c.requires.join.known) in
+      let items = c.as_slice.ensures.value in
+      let sources = c.requires.join.sources in
+      let told = told-beside _ _ old mid names known c.args.froms.now only sources in
+      λ i. (blocks i ++ items i) ++ frame_bytes (relaid (flat_map frames_in (told i)) (is i))
 
   -- the front, and then the frames, or a part of them
-  module _ (mid : Files) (placed : List Placed) (is : placed ≡ entries c.args.work.now.plan) {waiting : List ℕ} (none : waiting ≡ []) (front : Appends c.args.first.now.pass.input.now c.args.first.now.pass.output.now (λ file. concat (front_blocks file (tells c.args.first.now.survey.now)) ++ c.as_slice.result.now) old mid) where
-    begun : Writes c.args.first.now.pass (λ file. concat (front_blocks file (tells c.args.first.now.survey.now)) ++ c.as_slice.result.now) [] waiting old mid
-    begun = rw none (record { piece = front.bytes; is = front.is; passed = record { passed = front.bytes; split = sym (append-nil front.bytes); files = front.files } })
+  module _ (mid : Files) (placed : List Placed) (is : placed ≡ entries c.args.work.now.plan)
+      {waiting : List ℕ} (none : waiting ≡ [])
+      (begins : Appends c.args.first.now.pass.input.now c.args.first.now.pass.output.now front old
+      mid)
+    where
+      begun : Writes c.args.first.now.pass front [] waiting old mid
+      begun = rw none (record {
+        piece = begins.bytes;
+        is = begins.is;
+        passed = record {
+          passed = begins.bytes;
+          split = sym (append-nil begins.bytes);
+          files = begins.files;
+        };
+      })
 
-    apart : c.args.first.now.pass.input.now ≢ c.args.first.now.pass.output.now
-    apart = c.requires.join.apart
+      apart : c.args.first.now.pass.input.now ≢ c.args.first.now.pass.output.now
+      apart = c.requires.join.apart
 
-    only : OnlyTouches (c.args.first.now.pass.output.now ∷ []) old mid
-    only = rw front.files (appended_touches old c.args.first.now.pass.output.now front.bytes)
+      only : OnlyTouches (c.args.first.now.pass.output.now ∷ []) old mid
+      only = rw begins.files (appended_touches old c.args.first.now.pass.output.now begins.bytes)
 
-    both : {after : List ℕ} {new : Files} → Writes c.args.first.now.pass (λ file. frames mid placed) waiting after mid new → Writes c.args.first.now.pass whole [] after old new
-    both rest = writes_as c.args.first.now.pass whole (all mid placed is only) (writes_then c.args.first.now.pass apart begun rest)
+      both : {after : List ℕ} {new : Files}
+          → Writes c.args.first.now.pass (λ file. frames mid placed) waiting after mid new
+          → Writes c.args.first.now.pass whole [] after old new
+      both rest =
+          let pass = c.args.first.now.pass in
+          writes_as pass whole (all mid placed is only) (writes_then pass apart begun rest)
 
-    part : {new : Files} {fault : PassFault} → WritesPrefix c.args.first.now.pass (λ file. frames mid placed) waiting mid new fault → WritesPrefix c.args.first.now.pass whole [] old new fault
-    part rest = appends-as_prefix _ whole (all mid placed is only) (prefix_then c.args.first.now.pass apart begun rest)
+      part : {new : Files} {fault : PassFault}
+          → WritesPrefix c.args.first.now.pass (λ file. frames mid placed) waiting mid new fault
+          → WritesPrefix c.args.first.now.pass whole [] old new fault
+      part rest =
+          let pass = c.args.first.now.pass in
+          appends-as_prefix _ whole (all mid placed is only) (prefix_then pass apart begun rest)
 
 pub returns-in-Err : goal.returns-in-Err
 returns-in-Err g c =
     let at = (goal.at.returns-in-Err g c).After-append_front in
     let placed = entries c.args.work.now.plan in
+    let first = old g at in
+    let none = touches_none (c.args.first.now.pass.output.now ∷ []) first in
     record {
       written = tt;
-      prefix =
-          prefix_as c.args.first.now.pass (whole g at) (λ _. frames g at (old g at) placed) (λ file holds. sym (all g at (old g at) placed refl (touches_none (c.args.first.now.pass.output.now ∷ []) (old g at)) file holds))
-          c.in-Err.ensures.prefix;
+      prefix = prefix_as c.args.first.now.pass (whole g at) (λ _. frames g at first placed)
+          (λ file holds. sym (all g at first placed refl none file holds)) c.in-Err.ensures.prefix;
       done = tt;
-      cause = record { within = omega (arith, ap length c.requires.join.names); size = _; cause = cause-named _ 0 _ _ _ _ _ _ _ _ c.requires.join.names c.in-Err.ensures.cause };
+      cause = record {
+        within = omega (arith, ap length c.requires.join.names);
+        size = _;
+        cause = cause-named _ 0 _ _ _ _ _ _ _ _ c.requires.join.names c.in-Err.ensures.cause;
+      };
     }
 
 pub lay_all-requires-clause-join : goal.lay_all-requires-clause-join
 lay_all-requires-clause-join g c =
     let join = c.requires.join in
+    let files = c.in_default.ensures.written.files in
     record {
       names = join.names;
       known = join.known;
       length = join.length;
       apart = join.apart;
-      sources = (sources-beside _ _ _ _ _ _ (rw c.in_default.ensures.written.files (appended_touches _ _ _)) join.sources).0;
-      target = rw c.in_default.ensures.written.files (appended_there _ _ _);
+      sources = sources-beside _ _ _ _ _ _ (rw files (appended_touches _ _ _)) join.sources;
+      target = rw files (appended_there _ _ _);
     }
 
+pub lay_all-requires-clause-within : goal.lay_all-requires-clause-within
+lay_all-requires-clause-within g c = c.requires.fits.within
+
 pub lay_all-requires-clause-new : goal.lay_all-requires-clause-new
-lay_all-requires-clause-new g c = rw c.append_front.ensures.writer (rw c.requires.join.known at c.requires.ready.fresh).new
+lay_all-requires-clause-new g c = rw c.append_front.ensures.writer c.requires.fits.fresh.new
 
 pub lay_all-requires-clause-fits : goal.lay_all-requires-clause-fits
 lay_all-requires-clause-fits g c =
-    let fresh = rw c.requires.join.known at c.requires.ready.fresh in
-    let none : reach_of c.args.work.now.buffers.writer ≡ 0 = omega (arith, fresh.new.free) in
-    rw (c.append_front.ensures.writer, none, c.placed.ensures) (rw (ap class_in c.requires.join.known) at c.requires.ready.plan.fits)
+    let fits = c.requires.fits in
+    let none : reach_of c.args.work.now.buffers.writer ≡ 0 = omega (arith, fits.fresh.new.free) in
+    rw (c.append_front.ensures.writer, none, c.placed.ensures) fits.fits
 
 pub returns-in_err-lay_all : goal.returns-in_err-lay_all
 returns-in_err-lay_all g c =
     let w = (goal.at.returns-in_err-lay_all g c).After-append_front in
+    let mid = (g.D.Folder.seen c.append_front.new.folder).files in
     let front = c.in_default.ensures.written in
     let h = c.in_err-lay_all.ensures.cause in
+    let rest = part g w mid c.placed.result.now c.placed.ensures c.in_default.ensures.none front
+    c.in_err-lay_all.ensures.prefix in
     record {
       written = search rules;
-      prefix = err_at c.from_residual.result _ c.from_residual.ensures.1 (part g w (g.D.Folder.seen c.append_front.new.folder).files c.placed.result.now c.placed.ensures c.in_default.ensures.none c.in_default.ensures.written c.in_err-lay_all.ensures.prefix);
+      prefix = err_at c.from_residual.result _ c.from_residual.ensures.1 rest;
       done = search rules;
-      cause = err_at c.from_residual.result _ c.from_residual.ensures.1 (record { within = h.within; size = h.size; cause = cause_later _ _ _ c.args.first.now.pass.output.now front.bytes _ _ _ _ front.files c.in_default.ensures.done h.cause });
+      cause = err_at c.from_residual.result _ c.from_residual.ensures.1 (record {
+        within = h.within;
+        size = h.size;
+        cause = cause_later _ _ _ c.args.first.now.pass.output.now front.bytes _ _ _ _ front.files
+            c.in_default.ensures.done h.cause;
+      });
     }
 
 pub finish-requires : goal.finish-requires
@@ -114,8 +167,11 @@ finish-requires g c = passed_there c.in_ok-lay_all.ensures.written.passed
 pub returns-in-Ok : goal.returns-in-Ok
 returns-in-Ok g c =
     let w = (goal.at.returns-in-Ok g c).After-append_front in
+    let mid = (g.D.Folder.seen c.append_front.new.folder).files in
+    let rest = both g w mid c.placed.result.now c.placed.ensures c.in_default.ensures.none
+    c.in_default.ensures.written c.in_ok-lay_all.ensures.written in
     record {
-      written = writes_all c.args.first.now.pass (whole g w) (both g w (g.D.Folder.seen c.append_front.new.folder).files c.placed.result.now c.placed.ensures c.in_default.ensures.none c.in_default.ensures.written c.in_ok-lay_all.ensures.written) c.in-Ok.ensures.appended;
+      written = writes_all c.args.first.now.pass (whole g w) rest c.in-Ok.ensures.appended;
       prefix = tt;
       done = search rules;
       cause = tt;
@@ -124,16 +180,22 @@ returns-in-Ok g c =
 pub returns-in-Err-finish : goal.returns-in-Err-finish
 returns-in-Err-finish g c =
     let w = (goal.at.returns-in-Err-finish g c).After-append_front in
+    let mid = (g.D.Folder.seen c.append_front.new.folder).files in
     let front = c.in_default.ensures.written in
+    let frames = c.in_ok-lay_all.ensures in
+    let rest = both g w mid c.placed.result.now c.placed.ensures c.in_default.ensures.none front
+    frames.written in
     record {
       written = tt;
-      prefix = writes_end c.args.first.now.pass (whole g w) (both g w (g.D.Folder.seen c.append_front.new.folder).files c.placed.result.now c.placed.ensures c.in_default.ensures.none c.in_default.ensures.written c.in_ok-lay_all.ensures.written) c.in-Err-finish.ensures.prefix;
+      prefix = writes_end c.args.first.now.pass (whole g w) rest c.in-Err-finish.ensures.prefix;
       done = tt;
-      cause =
-          record {
-            within = omega (arith, ap length c.requires.join.names);
-            size = _;
-            cause = cause-named _ 0 _ _ _ _ _ _ _ _ c.requires.join.names (cause_later _ _ _ c.args.first.now.pass.output.now front.bytes _ _ _ c.in-Err-finish.fault front.files c.in_default.ensures.done
-                (cause_behind c.in_ok-lay_all.ensures.written _ _ _ _ c.in_ok-lay_all.ensures.done c.in-Err-finish.fault c.in-Err-finish.ensures.cause));
-          };
+      cause = record {
+        within = omega (arith, ap length c.requires.join.names);
+        size = _;
+        cause = cause-named _ 0 _ _ _ _ _ _ _ _ c.requires.join.names
+            (cause_later _ _ _ c.args.first.now.pass.output.now front.bytes _ _ _
+            c.in-Err-finish.fault front.files c.in_default.ensures.done
+            (cause_behind frames.written _ _ _ _ frames.done c.in-Err-finish.fault
+            c.in-Err-finish.ensures.cause));
+      };
     }

@@ -1,35 +1,73 @@
 -- The output is created, and then written by a pass over the inputs, which stay.
-use Rattle.std.proofs.Common.{◌≡◌, ◌≢◌, List, None, map, string_bytes, refl, ◌∙◌, ap, arith}
-use Rattle.outside.proofs.FilesLaws.{emptied_there, emptied_touches, fails_touches}
-use Rattle.std.proofs.lemmas.List.{length-map}
-use Rattle.sync_survey.specs.Faults.{tells}
-use Rattle.laying.specs.Relaid.{Part}
-use Rattle.commands.specs.One.{most_frames, holding, first_input}
+use Rattle.std.proofs.Common.{ap, arith, flat_map, List, map, refl, string_bytes, subst, ℕ, []}
+use Rattle.std.proofs.{Common.{◌++◌, ◌∙◌, ◌∷◌, ◌≡◌, ◌≢◌}, lemmas.List.length-map}
+use Rattle.std.proofs.lemmas.Slice.Zip.{AllZip-long}
+use Rattle.commands.proofs.OutputLaws.{not_begun, output_whole, pass_fault, touches_prefix}
+use Rattle.commands.{proofs.OutputLaws.touches_whole, specs.One.{first_input, holding}}
 use Rattle.cut_edits.proofs.LaidPass.{appends-as_prefix}
-use Rattle.commands.proofs.OutputLaws.{output_whole, touches_whole, touches_prefix, pass_fault, not_begun}
-use Rattle.join_edits.specs.Join.{joined_file}
-use Rattle.join_edits.specs.Inputs.{told_parts}
-use Rattle.join_edits.specs.Laying.{AreSources}
-use Rattle.join_edits.proofs.PlanLaws.{alike-first, can-some}
-use Rattle.join_edits.proofs.SourceLaws.{sources-inputs, first-source, sources-beside}
+use Rattle.frame_header.specs.Fields.{ClassFields}
+use Rattle.frame_writer.specs.Frames.{frame_bytes}
+use Rattle.join_edits.proofs.SourceLaws.{first-class, first-source, sources-beside, told-beside}
+use Rattle.join_edits.proofs.written.write_joined.Goals.{In-Ok}
+use Rattle.join_edits.specs.{Behind.{FitsWork, front_of, written_of}, Laying.AreSources}
+use Rattle.laying.specs.Relaid.{frames_in, Part, relaid}
+use Rattle.outside.proofs.FilesLaws.{emptied_there, emptied_touches, fails_touches}
+use Rattle.outside.specs.Files.{Files, OnlyTouches}
+use Rattle.slot_plan.specs.Plans.{entries}
+use Rattle.sync_survey.specs.Faults.{SurveyFields, tells}
 use Rattle.join_edits.proofs.written.write_joined.Given as given
 use Rattle.join_edits.proofs.written.write_joined.Goals as goal
-use Rattle.join_edits.proofs.written.write_joined.Goals.{In-Ok}
 
 pub known_at-survey-requires : goal.known_at-survey-requires
-known_at-survey-requires g c = omega (arith, can-some _ c.requires.ready.joined, length-map c.args.surveys.now tells)
+known_at-survey-requires g c =
+    omega (
+      arith,
+      c.requires.some,
+      AllZip-long _ _ _ c.requires.can.sources,
+      length-map c.args.inputs.now string_bytes,
+      length-map c.args.surveys.now tells,
+    )
 
--- the inputs, beside the output that was created
-sources : (g : given.Over) (c : In-Ok g) → AreSources (tells c.known_at-survey.result.now).class c.args.output.now (g.D.Folder.seen c.args.folder.now).files (map string_bytes c.args.inputs.now) (map tells c.args.surveys.now)
-sources g c =
-    sources-inputs _ c.args.output.now 0 None most_frames _ _ _ c.requires.apart (rw c.known_at-survey.ensures (alike-first _ _ (rw c.known_at-survey.ensures at c.requires.ready.joined))) c.requires.inputs
+module _ (g : given.Over) (c : In-Ok g) where
+  abbrev old : Files
+  old = (g.D.Folder.seen c.args.folder.now).files
 
-beside : (g : given.Over) (c : In-Ok g) → AreSources (tells c.known_at-survey.result.now).class c.args.output.now (g.D.Folder.seen c.create.new.self).files (map string_bytes c.args.inputs.now) (map tells c.args.surveys.now)
-    × (told_parts (g.D.Folder.seen c.create.new.self).files (map string_bytes c.args.inputs.now) (map tells c.args.surveys.now) ≡ told_parts (g.D.Folder.seen c.args.folder.now).files (map string_bytes c.args.inputs.now) (map tells c.args.surveys.now))
-beside g c = sources-beside _ _ _ _ _ _ (rw c.in-Ok.ensures.answer.created (emptied_touches _ _)) (sources g c)
+  abbrev mid : Files
+  mid = (g.D.Folder.seen c.create.new.self).files
 
-apart : (g : given.Over) (c : In-Ok g) → c.name_at.result.now ≢ c.args.output.now
-apart g c = (first-source _ c.name_at.ensures c.known_at-survey.ensures (sources g c)).apart
+  abbrev names : List (List ℕ)
+  names = map string_bytes c.args.inputs.now
+
+  abbrev known : List SurveyFields
+  known = map tells c.args.surveys.now
+
+  abbrev class : ClassFields
+  class = (tells c.known_at-survey.result.now).class
+
+  class-is : c.requires.can.class ≡ class
+  class-is = first-class c.known_at-survey.ensures c.requires.can.first
+
+  sources : AreSources class c.args.output.now old names known
+  sources =
+      subst (λ k. AreSources k c.args.output.now old names known) class-is c.requires.can.sources
+
+  fits : FitsWork class known c.args.froms.now c.args.work.now
+  fits = subst (λ k. FitsWork k known c.args.froms.now c.args.work.now) class-is c.requires.can.fits
+
+  only : OnlyTouches (c.args.output.now ∷ []) old mid
+  only = rw c.in-Ok.ensures.answer.created (emptied_touches _ _)
+
+  apart : c.name_at.result.now ≢ c.args.output.now
+  apart = (first-source _ c.name_at.ensures c.known_at-survey.ensures sources).apart
+
+  -- what is written is the same beside the output that was created
+  beside : (file : List ℕ) → written_of mid names known c.args.froms.now c.args.work.now file
+      ≡ written_of old names known c.args.froms.now c.args.work.now file
+  beside file =
+      let front = front_of file known ++ c.args.work.now.info.items in
+      let placed = entries c.args.work.now.plan in
+      ap (λ (ps : List Part). front ++ frame_bytes (relaid (flat_map frames_in ps) placed))
+      (told-beside class c.args.output.now old mid names known c.args.froms.now only sources)
 
 pub append_joined-requires-clause-join : goal.append_joined-requires-clause-join
 append_joined-requires-clause-join g c =
@@ -39,44 +77,61 @@ append_joined-requires-clause-join g c =
       known = c.known_at-survey.ensures;
       length = c.length.ensures;
       apart = apart g at;
-      sources = (beside g at).0;
-      target = rw c.in-Ok.ensures.answer.created (emptied_there (g.D.Folder.seen c.args.folder.now).files c.args.output.now);
+      sources = sources-beside _ _ _ _ _ _ (only g at) (sources g at);
+      target = rw c.in-Ok.ensures.answer.created (emptied_there (old g at) c.args.output.now);
     }
+
+pub append_joined-requires-clause-fits : goal.append_joined-requires-clause-fits
+append_joined-requires-clause-fits g c =
+    fits g (goal.at.append_joined-requires-clause-fits g c).In-Ok
 
 pub returns-in-Ok-append_joined-clause-written : goal.returns-in-Ok-append_joined-clause-written
 returns-in-Ok-append_joined-clause-written g c =
     let at = (goal.at.returns-in-Ok-append_joined-clause-written g c).In-Ok in
-    let old = (g.D.Folder.seen c.args.folder.now).files in
+    let output = c.args.output.now in
     λ bytes holds.
-    output_whole _ c.name_at.result.now c.args.output.now (apart g at) old _ _ c.in-Ok.ensures.answer.created c.in-Ok-append_joined.ensures.written bytes (rw c.name_at.ensures at holds)
-    ∙ ap (λ (ps : List Part). holding old c.args.output.now (joined_file ps)) (beside g at).1
+    output_whole _ c.name_at.result.now output (apart g at) (old g at) _ _
+    c.in-Ok.ensures.answer.created c.in-Ok-append_joined.ensures.written bytes
+    (rw c.name_at.ensures at holds)
+    ∙ ap (holding (old g at) output) (beside g at bytes)
 
 pub returns-in-Ok-append_joined-clause-touches : goal.returns-in-Ok-append_joined-clause-touches
 returns-in-Ok-append_joined-clause-touches g c =
-    touches_whole _ c.name_at.result.now c.args.output.now (apart g (goal.at.returns-in-Ok-append_joined-clause-touches g c).In-Ok) _ _ _ c.in-Ok.ensures.answer.created c.in-Ok-append_joined.ensures.written
+    let at = (goal.at.returns-in-Ok-append_joined-clause-touches g c).In-Ok in
+    touches_whole _ c.name_at.result.now c.args.output.now (apart g at) _ _ _
+    c.in-Ok.ensures.answer.created c.in-Ok-append_joined.ensures.written
 
 pub returns-in-Err-clause-touches : goal.returns-in-Err-clause-touches
 returns-in-Err-clause-touches g c =
-    touches_prefix _ c.name_at.result.now c.args.output.now (apart g (goal.at.returns-in-Err-clause-touches g c).In-Ok) _ _ _ c.in-Ok.ensures.answer.created c.in-Err.ensures.prefix
+    let at = (goal.at.returns-in-Err-clause-touches g c).In-Ok in
+    touches_prefix _ c.name_at.result.now c.args.output.now (apart g at) _ _ _
+    c.in-Ok.ensures.answer.created c.in-Err.ensures.prefix
 
 pub returns-in-Err-clause-left : goal.returns-in-Err-clause-left
 returns-in-Err-clause-left g c =
     let at = (goal.at.returns-in-Err-clause-left g c).In-Ok in
     let cause = c.in-Err.ensures.cause in
-    let part = appends-as_prefix _ _ (λ file holds. ap joined_file (beside g at).1) c.in-Err.ensures.prefix in
+    let part = appends-as_prefix _ _ (λ file holds. beside g at file) c.in-Err.ensures.prefix in
     rw c.of_pass.ensures
-    (pass_fault _ c.name_at.result.now c.args.output.now (apart g at) _ _ _ c.in-Ok.ensures.answer.created (map string_bytes c.args.inputs.now) (ap first_input c.name_at.ensures) c.in-Err.stopped.place c.in-Err.stopped.fault cause.size
+    (pass_fault _ c.name_at.result.now c.args.output.now (apart g at) _ _ _
+    c.in-Ok.ensures.answer.created (names g at) (ap first_input c.name_at.ensures)
+    c.in-Err.stopped.place c.in-Err.stopped.fault cause.size
     (g.D.Folder.seen c.args.folder.now).counts _ _ c.in-Ok.ensures.answer.done part cause.cause)
 
 -- the output wasn't created
 pub returns-in_default-clause-touches : goal.returns-in_default-clause-touches
-returns-in_default-clause-touches g c = fails_touches _ _ c.args.output.now c.in_default.ensures.answer.kept
+returns-in_default-clause-touches g c =
+    fails_touches _ _ c.args.output.now c.in_default.ensures.answer.kept
 
 pub returns-in_default-clause-left : goal.returns-in_default-clause-left
-returns-in_default-clause-left g c = (
-  refl,
-  record {
-    rose = c.in_default.ensures.answer.failed;
-    files = not_begun (λ _. joined_file (told_parts (g.D.Folder.seen c.args.folder.now).files (map string_bytes c.args.inputs.now) (map tells c.args.surveys.now))) (first_input (map string_bytes c.args.inputs.now)) c.args.output.now _ _ c.in_default.ensures.answer.kept;
-  },
-)
+returns-in_default-clause-left g c =
+    let names = map string_bytes c.args.inputs.now in
+    let old = (g.D.Folder.seen c.args.folder.now).files in (
+      refl,
+      record {
+        rose = c.in_default.ensures.answer.failed;
+        files = not_begun
+            (written_of old names (map tells c.args.surveys.now) c.args.froms.now c.args.work.now)
+            (first_input names) c.args.output.now _ _ c.in_default.ensures.answer.kept;
+      },
+    )

@@ -1,0 +1,114 @@
+-- Areas of an input that are read, and the main data of a frame, cut out of those up to its own.
+use Rattle.std.proofs.Common.{ap, ap₂, arith, false, get_or, length, List, None, refl, slice_get}
+use Rattle.std.proofs.Common.{Some, subst, sym, ℕ, [], ◌*◌, ◌+◌, ◌-◌, ◌/◌, ◌<◌, ◌∙◌, ◌≡◌, ◌≤◌}
+use Rattle.bit_fields.specs.Bits.{AreBytes}
+use Rattle.frame_header.specs.Fields.{HeaderFields}
+use Rattle.join_edits.{proofs.FramePlaces.get-one, specs.Reading.{IsMainDataOf, ReadsArea}}
+use Rattle.laying.proofs.ReadLaws.{bits-least, bytes-are, cut-is, data-within, IsWithin, last-next}
+use Rattle.laying.proofs.ReadLaws.{main-first, place-first, place-next, window-holds}
+use Rattle.laying.{proofs.RelayLaws.found-at, specs.Passing.{IsOver, IsOverLast}}
+use Rattle.laying.specs.Relaid.{payload_of}
+use Rattle.outside.specs.Files.{Files, Holds}
+use Rattle.reservoir.specs.Window.{ArePacked, IsWindowOver, main_bits}
+use Rattle.side_info.specs.Side.{payload_bits, payload_bytes}
+use Rattle.sync_survey.specs.Faults.{SurveyFields}
+use Rattle.sync_survey.specs.{MainData.{area_bytes, head_area, head_bytes, own_area}, Row.Row}
+use Rattle.sync_survey.specs.{Survey.IsLaidOut, declared.places.Head.Head}
+
+-- ---- frames
+
+-- a frame of a list that is another
+pub read-at : (rows frames : List Row) (at : ℕ) (row : Row) → at < length frames → rows ≡ frames
+    → row ≡ get_or rows at row
+    → slice_get frames at ≡ Some row
+read-at rows frames at row within same is =
+    let here : at < length rows = omega (arith, within, ap length same) in
+    ap (λ (l : List Row). slice_get l at) (sym same) ∙ found-at rows at row here is
+
+-- ---- before the first frame
+
+-- there is no head
+pub over-none : (window input : List ℕ) (files : Files) (s : SurveyFields) (first : ℕ) → first ≡ 0
+    → s.head ≡ None → IsWindowOver window [] → IsOverLast window input files s first first
+over-none window input files s first zeroth none held =
+    subst (λ n. IsOverLast window input files s n n) (sym zeroth) (record {
+      main = [];
+      held = held;
+      long = sym (place-first s.head s.frames ∙ ap head_area none);
+      is = λ file holds. ([], refl, main-first file s.head s.frames ∙ ap (head_bytes file) none);
+    })
+
+-- the area of the head was read
+pub over-head : (window area input : List ℕ) (files : Files) (s : SurveyFields) (first : ℕ)
+    (head : Head) → first ≡ 0 → s.head ≡ Some head → length area ≡ own_area head.header
+    → ((file : List ℕ) → Holds files input file → area ≡ area_bytes file head.offset head.header)
+    → IsWindowOver window area → IsOverLast window input files s first first
+over-head window area input files s first head zeroth some long is held =
+    subst (λ n. IsOverLast window input files s n n) (sym zeroth) (record {
+      main = area;
+      held = held;
+      long = omega (arith, long ∙ sym (place-first s.head s.frames ∙ ap head_area some));
+      is = λ file holds. (
+        [],
+        refl,
+        main-first file s.head s.frames ∙ ap (head_bytes file) some ∙ sym
+            (is file holds),
+      );
+    })
+
+-- one more, of a frame at this offset with this header
+pub area-next : (before after input : List ℕ) (files now : Files) (s : SurveyFields) (first i : ℕ)
+    (r : Row) (offset : ℕ) (h : HeaderFields) → slice_get s.frames i ≡ Some r → now ≡ files
+    → offset ≡ r.offset → h ≡ r.header → IsOverLast before input files s first i
+    → ReadsArea input now offset h before after → IsOverLast after input files s first (i + 1)
+area-next before after input files now s first i r offset h found stay at header over read =
+    last-next before after read.area input files s first i r found over
+    (record {
+      long = read.long ∙ ap own_area header;
+      is = λ file holds. read.is file (subst (λ f. Holds f input file) (sym stay) holds)
+          ∙ ap₂ (area_bytes file) at header;
+    })
+    read.over
+
+-- ---- one frame
+
+module _ (window input : List ℕ) (files : Files) (s : SurveyFields) (i : ℕ) (r : Row)
+    (found : slice_get s.frames i ≡ Some r) (kept : r.lost ≡ false) (laid : IsLaidOut s)
+    (over : IsOver window input files s (i + 1)) (area begin count : ℕ)
+    (area_is : area ≡ own_area r.header) (begin_is : begin ≡ r.side.main_data_begin)
+    (count_is : count ≡ payload_bits r.side) where
+  within : IsWithin s.head s.frames i r
+  within = data-within s.head s.class s.frames i r (laid.placed i r found) kept
+
+  least : count ≤ 8 * payload_bytes r.side
+  least = subst (λ n. count ≤ 8 * n) (ap (λ n. (n + 7) / 8) count_is ∙ sym (bytes-are r.side))
+      (bits-least count)
+
+  -- the window holds them
+  pub data-held : area ≤ 1441 → area + begin ≤ length window
+  data-held few =
+      omega (
+        arith,
+        window-holds window over.main over.held,
+        over.long,
+        place-next s.head s.frames i
+            r found,
+        area_is,
+        begin_is,
+        within.begins,
+        within.near,
+        few,
+      )
+
+  -- the main data ends no later than the area
+  pub data-ends : count ≤ 8 * (area + begin)
+  data-ends = omega (arith, within.ends, area_is, begin_is, least)
+
+  -- bytes cut from the window there are the main data of the frame
+  pub data-is : (bytes : List ℕ) → ((main : List ℕ) → IsWindowOver window main
+      → ArePacked bytes count (main_bits main (length main - area - begin) count)) → AreBytes bytes
+      → IsMainDataOf input files s i bytes
+  data-is bytes cut octets = λ file holds q is.
+      subst (λ (x : Row). bytes ≡ payload_of file s i x) (get-one s.frames i r q found is)
+      (cut-is file over.main bytes s i r area begin count found kept within over.long
+      (over.is file holds) area_is begin_is count_is least octets (cut over.main over.held))

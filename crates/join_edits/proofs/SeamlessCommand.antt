@@ -1,0 +1,469 @@
+-- What a seamless join leaves, by its steps.
+use Rattle.std.proofs.Common.{ap, append-nil, ap₂, arith, drop, Err, inl, inr, length, List, map}
+use Rattle.std.proofs.Common.{None, Ok, Option, refl, Result, Some, subst, suc, sym, unwrap_or, ℕ}
+use Rattle.std.proofs.{Common.{[], ◌++◌, ◌+◌, ◌-◌, ◌<◌, ◌∙◌, ◌∷◌, ◌≡◌, ◌≤◌}, lemmas.List.length-map}
+use Rattle.std.specs.{List.concat, Prelude.{flat_map, IfErr, IfSome, true}}
+use Rattle.commands.proofs.MakeLaws.{all_left, clash_left, early_left, one_done, one_streams}
+use Rattle.commands.proofs.TellingLaws.{telling-done, telling-left, telling-streams, telling-text}
+use Rattle.commands.specs.Command.{AreSound, clash_from, clash_of, Command, HoldsStreams}
+use Rattle.commands.specs.Left.{HasNumbers, IsDone, IsLate, IsNotBefore, Leaves}
+use Rattle.commands.specs.One.{clash_in, first_input, holding, IsEarlyFault, IsMaking, IsPassFault}
+use Rattle.commands.specs.{One.{most_frames, NeedsMemory, one_command}, Refusing.then_made}
+use Rattle.commands.specs.{Runs.IsRunOf, Said.IsText, declared.fault.EditFault.EditFault}
+use Rattle.commands.specs.declared.fault.EditFault.TheVariants.{EqualNames, Input, Memory, Refused}
+use Rattle.commands.specs.declared.fault.EditFault.TheVariants.{Write}
+use Rattle.cut_edits.{proofs.HeadLaws.{apart-had, apart-length, apart-placed}, specs.Exact.apart}
+use Rattle.frame_header.specs.Fields.{ClassFields}
+use Rattle.frame_writer.specs.Frames.{frame_bytes}
+use Rattle.join_edits.proofs.{AloneLaws.rows-alone, InputLaws.{found-input, join-late, parts-all}}
+use Rattle.join_edits.proofs.{KnownLaws.begun-long, PlanLaws.alike-first}
+use Rattle.join_edits.proofs.{ReadFaults.{fault-later, read-early}, RunFiles.files-hold}
+use Rattle.join_edits.proofs.SeamlessLaws.{AllOf, AreHeads, seamless-written, text-same}
+use Rattle.join_edits.{proofs.SourceLaws.{sound, sources-inputs}, specs.Beginnings.AreBegun}
+use Rattle.join_edits.specs.Behind.{CanBeWritten, FitsWork, parts_behind, written_of}
+use Rattle.join_edits.specs.Deciding.{broughts_in, CanBeDecided, FitAlone, FitsAlone, IsJoinedOf}
+use Rattle.join_edits.specs.Deciding.{left_out_of}
+use Rattle.join_edits.specs.Inputs.{AreAlike, AreInputs, CanBeJoined, class_in, frames_of, IsOfJoin}
+use Rattle.join_edits.specs.{Inputs.parts_in, Join.{join_refuses, joined_file, parts_of}}
+use Rattle.join_edits.specs.{Laying.{AreSources, IsSource}, Lines.joint_lines}
+use Rattle.join_edits.specs.Reading.{AreKnown, IsReadFault}
+use Rattle.join_edits.specs.Seamless.{seamless_command, seamless_file, seamless_task, seamless_text}
+use Rattle.join_edits.specs.{Seamless.{stream_if, text_if}, SeamlessReady.{IsMade, IsReady}}
+use Rattle.join_edits.specs.declared.{beginnings.Beginning.Beginning, seamless_file.Made.Made}
+use Rattle.join_edits.specs.declared.seamless_file.Ready.{Ready}
+use Rattle.laying.{proofs.ChosenFrames.survey-had, specs.Relaid.{frames_in, Part, relaid}}
+use Rattle.laying.specs.{Surveys.HasSurvey, Written.front_blocks}
+use Rattle.outside.{proofs.FilesLaws.there_holds, specs.Counts.NoneFell}
+use Rattle.outside.specs.Files.{Contents, Files, Holds, IfTold, OnlyTouches, Told, Untold}
+use Rattle.outside.specs.Seen.{Seen}
+use Rattle.slot_plan.specs.Plans.{entries}
+use Rattle.sync_survey.proofs.{ApartLaws.placed-apart, EmptiedLaws.{apart-laid, placed-emptied}}
+use Rattle.sync_survey.specs.Faults.{HoldsStream, longest_file, SurveyFields, tells}
+use Rattle.sync_survey.specs.{HeadApart.set_apart as rows_apart, Survey.{IsLaidOut, survey_of}}
+
+-- ---- surveys whose heads are set apart
+
+apart-held : (allowed : ℕ) (files : Files) (name : List ℕ) (s : SurveyFields) → IsLaidOut s
+    → ((file : List ℕ) → Holds files name file → survey_of file allowed ≡ Ok s) → (file : List ℕ)
+    → Holds files name file → HasSurvey file (apart s)
+apart-held allowed files name s laid exact file holds =
+    apart-had file s (survey-had file allowed s (exact file holds)) (apart-placed s laid.placed)
+
+apart-known : (first : Option ClassFields) (allowed : ℕ) (files : Files) (names : List (List ℕ))
+    (ss : List SurveyFields) → AreInputs first allowed files names ss
+    → AreKnown files names (map apart ss)
+apart-known first allowed files [] [] are = tt
+apart-known first allowed files (name ∷ names) (s ∷ ss) are = (
+  record {
+    there = are.0.there;
+    exact = apart-held allowed files name s are.0.laid are.0.exact;
+    laid =
+        apart-laid s are.0.laid;
+  },
+  apart-known (Some (unwrap_or first s.class)) (allowed - length s.frames) files names ss are.2,
+)
+apart-known first allowed files _ _ are = absurd are
+
+-- and as they were found
+pub inputs-known : (first : Option ClassFields) (allowed : ℕ) (files : Files)
+    (names : List (List ℕ)) (ss : List SurveyFields) → AreInputs first allowed files names ss
+    → AreKnown files names ss
+inputs-known first allowed files [] [] are = tt
+inputs-known first allowed files (name ∷ names) (s ∷ ss) are = (
+  record {
+    there = are.0.there;
+    exact = λ file holds. survey-had file allowed s (are.0.exact file holds);
+    laid = are.0.laid;
+  },
+  inputs-known (Some (unwrap_or first s.class)) (allowed - length s.frames) files names ss are.2,
+)
+inputs-known first allowed files _ _ are = absurd are
+
+apart-alike : (class : ClassFields) (ss : List SurveyFields) → AreAlike class ss
+    → AreAlike class (map apart ss)
+apart-alike class [] are = tt
+apart-alike class (s ∷ ss) are =
+    (omega (arith, are.0, apart-length s), apart-laid s are.1, are.2, apart-alike class ss are.3)
+
+apart-frames : (ss : List SurveyFields) → frames_of (map apart ss) ≡ frames_of ss
+unfolding frames_of
+apart-frames [] = refl
+apart-frames (s ∷ ss) = ap₂ (λ m n. m + n) (apart-length s) (apart-frames ss)
+
+apart-class : (ss : List SurveyFields) → class_in (map apart ss) ≡ class_in ss
+apart-class [] = refl
+apart-class (s ∷ ss) = refl
+
+-- inputs that can be joined can be joined when their heads are set apart
+pub apart-join : (ss : List SurveyFields) → CanBeJoined ss → CanBeJoined (map apart ss)
+apart-join ss can = record {
+  class = can.class;
+  first = apart-class ss ∙ can.first;
+  alike = apart-alike can.class ss can.alike;
+  few = omega (arith, length-map ss apart, can.few);
+  frames = omega (arith, apart-frames ss, can.frames);
+}
+
+apart-alone : (s : SurveyFields) → IsLaidOut s → FitsAlone (apart s)
+apart-alone s laid =
+    let none = placed-apart s.head s.class s.frames laid.placed in
+    rows-alone s.class (apart s).frames
+    (placed-emptied None s.class (rows_apart s.head s.frames) none)
+
+all-alone : (class : ClassFields) (ss : List SurveyFields) → AreAlike class ss
+    → FitAlone (map apart ss)
+all-alone class [] are = tt
+all-alone class (s ∷ ss) are = (apart-alone s are.1, all-alone class ss are.3)
+
+-- so it can be decided what becomes of them
+pub apart-decided : (files : Files) (names : List (List ℕ)) (ss : List SurveyFields)
+    (bs : List Beginning) → AreInputs None most_frames files names ss → CanBeJoined ss
+    → AreBegun files names ss bs → CanBeDecided files names (map apart ss) bs
+apart-decided files names ss bs are can begun = record {
+  joined = apart-join ss can;
+  known = apart-known None most_frames files names ss are;
+  fit = all-alone can.class ss can.alike;
+  begun = begun-long files names ss bs begun ∙ sym (length-map ss apart);
+}
+
+-- what is known of the heads, where the files are told
+heads-told : (first : Option ClassFields) (allowed : ℕ) (f : Contents) (names : List (List ℕ))
+    (ss : List SurveyFields) (bs : List Beginning) → AreInputs first allowed (Told f) names ss
+    → AreBegun (Told f) names ss bs → AreHeads f names ss bs
+heads-told first allowed f [] [] [] are begun = tt
+heads-told first allowed f (name ∷ names) (s ∷ ss) (b ∷ bs) are begun =
+    let held = there_holds f name are.0.there in
+    let file : unwrap_or (f name) [] ≡ held.0 =
+    ap (λ (o : Option (List ℕ)). unwrap_or o []) held.1 in (
+      (begun.0.head (unwrap_or (f name) []) (held.1 ∙ ap Some (sym file)), begun.0.blank),
+      heads-told (Some (unwrap_or first s.class))
+          (allowed - length s.frames) f names ss bs are.2 begun.1,
+    )
+heads-told first allowed f [] [] (b ∷ bs) are begun = absurd begun
+heads-told first allowed f (name ∷ names) (s ∷ ss) [] are begun = absurd begun
+heads-told first allowed f [] (s ∷ ss) bs are begun = absurd are
+heads-told first allowed f (name ∷ names) [] bs are begun = absurd are
+
+-- ---- what is made of them
+
+-- they can be written
+pub made-written : (output : List ℕ) (files : Files) (names : List (List ℕ))
+    (ss : List SurveyFields) (bs : List Beginning) (made : Made)
+    → clash_from (output ∷ []) 0 names ≡ None → AreInputs None most_frames files names ss
+    → CanBeJoined ss → IsMade files names (map apart ss) bs made
+    → CanBeWritten output files names (map apart ss) (left_out_of made.decided) made.work
+made-written output files names ss bs made free are can is =
+    let class = can.class in
+    let first = apart-class ss ∙ can.first in
+    record {
+      class = class;
+      first = first;
+      sources = apart-sources class output 0 None most_frames files names ss free can.alike are;
+      fits = subst (λ (o : Option ClassFields). IfSome o
+          (λ c. FitsWork c (map apart ss) (left_out_of made.decided) made.work)) first is.run.fits;
+    }
+  where
+    held-apart : (allowed : ℕ) (files : Files) (output name : List ℕ) (s : SurveyFields)
+        → IsSource output files name s
+        → ((file : List ℕ) → Holds files name file → survey_of file allowed ≡ Ok s)
+        → IsSource output files name (apart s)
+    held-apart allowed files output name s source exact = record {
+      apart = source.apart;
+      there = source.there;
+      exact = apart-held allowed files name s source.laid exact;
+      laid = apart-laid s source.laid;
+    }
+
+    pairs : (class : ClassFields) (output : List ℕ) (first : Option ClassFields) (allowed : ℕ)
+        (files : Files) (names : List (List ℕ)) (ss : List SurveyFields)
+        → AreSources class output files names ss → AreInputs first allowed files names ss
+        → AreSources class output files names (map apart ss)
+    pairs class output first allowed files [] [] sources are = tt
+    pairs class output first allowed files (name ∷ names) (s ∷ ss) sources are = (
+      (held-apart allowed files output name s sources.0.0 are.0.exact, sources.0.1),
+      pairs class output (Some (unwrap_or first s.class))
+          (allowed - length s.frames) files names ss sources.1 are.2,
+    )
+    pairs class output first allowed files _ _ sources are = absurd are
+
+    apart-sources : (class : ClassFields) (output : List ℕ) (place : ℕ) (first : Option ClassFields)
+        (allowed : ℕ) (files : Files) (names : List (List ℕ)) (ss : List SurveyFields)
+        → clash_from (output ∷ []) place names ≡ None → AreAlike class ss
+        → AreInputs first allowed files names ss
+        → AreSources class output files names (map apart ss)
+    apart-sources class output place first allowed files names ss free alike are =
+        pairs class output first allowed files names ss
+        (sources-inputs class output place first allowed files names ss free alike are) are
+
+-- the first of them, where there is one
+all-of : (class : ClassFields) (ss : List SurveyFields) → AreAlike class ss → AllOf class ss
+all-of class [] are = tt
+all-of class (s ∷ ss) are = (are.2, all-of class ss are.3)
+
+names-many : (first : Option ClassFields) (allowed : ℕ) (files : Files) (names : List (List ℕ))
+    (ss : List SurveyFields) → AreInputs first allowed files names ss → length ss ≡ length names
+names-many first allowed files [] [] are = refl
+names-many first allowed files (name ∷ names) (s ∷ ss) are = ap suc
+    (names-many (Some (unwrap_or first s.class)) (allowed - length s.frames) files names ss are.2)
+names-many first allowed files _ _ are = absurd are
+
+module _ (f : Contents) (name : List ℕ) (names : List (List ℕ)) (s : SurveyFields)
+    (ss : List SurveyFields) (b : Beginning) (bs : List Beginning) (made : Made)
+    (are : AreInputs None most_frames (Told f) (name ∷ names) (s ∷ ss)) (can : CanBeJoined (s ∷ ss))
+    (begun : AreBegun (Told f) (name ∷ names) (s ∷ ss) (b ∷ bs))
+    (is : IsMade (Told f) (name ∷ names) (map apart (s ∷ ss)) (b ∷ bs) made) where
+  heads : AreHeads f (name ∷ names) (s ∷ ss) (b ∷ bs)
+  heads = heads-told None most_frames f (name ∷ names) (s ∷ ss) (b ∷ bs) are begun
+
+  of : AllOf s.class (s ∷ ss)
+  of = all-of s.class (s ∷ ss) (alike-first s ss can)
+
+  class-same : is.decided.run.class ≡ s.class
+  class-same = let first = is.decided.run.class_is in cc
+
+  decided : IsJoinedOf s.class (broughts_in f (name ∷ names) (map apart (s ∷ ss)) (b ∷ bs))
+      made.decided
+  decided = subst (λ (c : ClassFields). IsJoinedOf c (broughts_in f (name ∷ names)
+      (map apart (s ∷ ss)) (b ∷ bs)) made.decided) class-same is.decided.told
+
+  -- the bytes that are written are the file
+  pub made-file : (bytes : List ℕ) → f name ≡ Some bytes
+      → written_of (Told f) (name ∷ names) (map apart (s ∷ ss)) (left_out_of made.decided)
+      made.work bytes ≡ seamless_file (parts_in f (name ∷ names) (s ∷ ss))
+  made-file bytes held =
+      let file : unwrap_or (f name) [] ≡ bytes =
+      ap (λ (o : Option (List ℕ)). unwrap_or o []) held in
+      let many : length ss ≤ length names =
+      omega (arith, names-many None most_frames (Told f) (name ∷ names) (s ∷ ss) are) in
+      let within : made.decided.front < length s.frames =
+      omega (arith, is.decided.run.behind (apart s) refl, apart-length s) in
+      ap (λ (l : List ℕ). (concat (front_blocks l s) ++ made.work.info.items)
+      ++ frame_bytes (relaid (flat_map frames_in (parts_behind f (name ∷ names) (map apart (s ∷ ss))
+      (left_out_of made.decided))) (entries made.work.plan))) (sym file)
+      ∙ seamless-written f name names s ss b bs made.decided (entries made.work.plan) heads of
+      decided is.run.plan made.work.info.items many is.run.fits.fits is.run.info within
+
+  -- and so is the text
+  pub made-text : joint_lines names made.decided.joints.items
+      ≡ seamless_text (name ∷ names) (parts_in f (name ∷ names) (s ∷ ss))
+  made-text = text-same f name names s ss b bs made.decided (entries made.work.plan) heads of
+      decided is.run.plan
+
+-- ---- what is ready
+
+-- there is one joint fewer than inputs
+pub joints-many : (names : List (List ℕ)) (files : Files) (ready : Ready)
+    → IsReady names files ready → length ready.made.decided.joints.items + 1 ≡ length names
+joints-many names files ready is = is.made.decided.run.many ∙ length-map is.ss apart
+    ∙ names-many None most_frames files names is.ss is.inputs
+
+-- what is ready can be written
+pub ready-writable : (output : List ℕ) (names : List (List ℕ)) (files : Files) (ready : Ready)
+    → clash_from (output ∷ []) 0 names ≡ None → IsReady names files ready → CanBeWritten output
+    files names (map tells ready.surveys.items) (left_out_of ready.made.decided) ready.made.work
+ready-writable output names files ready free is =
+    subst (λ (l : List SurveyFields). CanBeWritten output files names l
+    (left_out_of ready.made.decided) ready.made.work) (sym is.surveys)
+    (made-written output files names is.ss is.bs ready.made free is.inputs is.joined is.made)
+
+module _ (names : List (List ℕ)) (some : 1 ≤ length names) where
+  abbrev made_of : Files → Ready → List ℕ → List ℕ
+  made_of files ready = written_of files names (map tells ready.surveys.items)
+      (left_out_of ready.made.decided) ready.made.work
+
+  -- what is ready makes what the task does
+  pub ready-making : (files : Files) (ready : Ready) → IsReady names files ready
+      → IsMaking (seamless_task names) (made_of files ready) files
+  ready-making files ready is = at files names is.ss is.bs some
+      is.inputs is.joined is.begun is.made (map tells ready.surveys.items) is.surveys
+    where
+      at : (fs : Files) (ns : List (List ℕ)) (ss : List SurveyFields) (bs : List Beginning)
+          → 1 ≤ length ns → AreInputs None most_frames fs ns ss → CanBeJoined ss
+          → AreBegun fs ns ss bs → IsMade fs ns (map apart ss) bs ready.made
+          → (surveys : List SurveyFields) → surveys ≡ map apart ss → IsMaking (seamless_task ns)
+          (written_of fs ns surveys (left_out_of ready.made.decided) ready.made.work) fs
+      at fs [] ss bs some are can begun made surveys same = absurd (omega (arith, some))
+      at fs (n ∷ ns) [] bs some are can begun made surveys same = absurd are
+      at fs (n ∷ ns) (s ∷ ss) [] some are can begun made surveys same = absurd begun
+      at (Untold touched) (n ∷ ns) (s ∷ ss) (b ∷ bs) some are can begun made surveys same =
+          record { there = are.0.there; makes = tt }
+      at (Told f) (n ∷ ns) (s ∷ ss) (b ∷ bs) some are can begun made surveys same = record {
+        there = are.0.there;
+        makes = λ bytes held. (
+          are.0.octets bytes held,
+          ap (λ (r : Result (List Part) EditFault). then_made r (λ parts. Ok (seamless_file parts)))
+              (parts-all 0 None most_frames f (n ∷ ns) (s ∷ ss) are)
+              ∙ ap Ok (sym (made-file f n ns s ss b bs ready.made are can begun made bytes held)
+              ∙ ap (λ (l : List SurveyFields). written_of (Told f) (n ∷ ns) l
+              (left_out_of ready.made.decided) ready.made.work bytes) (sym same)),
+        );
+      }
+
+  -- it holds the stream of the run
+  pub ready-holds : (files : Files) (ready : Ready) → IsReady names files ready
+      → IfTold files (λ f. (bytes : List ℕ) → f (first_input names) ≡ Some bytes
+      → AreSound f names × HoldsStream (made_of files ready bytes) ((seamless_task names).stream f))
+  ready-holds (Untold touched) ready is = tt
+  ready-holds (Told f) ready is = λ bytes held.
+      let parts = parts_in f names is.ss in
+      let all = parts-all 0 None most_frames f names is.ss is.inputs in
+      let making = (ready-making (Told f) ready is).makes bytes held in
+      let made : made_of (Told f) ready bytes ≡ seamless_file parts = ok-same (sym making.1
+      ∙ ap (λ (r : Result (List Part) EditFault). then_made r (λ ps. Ok (seamless_file ps))) all)
+      in (
+        sound None most_frames f names is.ss is.inputs,
+        subst (λ (l : List ℕ). HoldsStream l ((seamless_task names).stream f)) (sym made)
+            (subst (HoldsStream (seamless_file parts)) (sym (ap stream_if all))
+            (files-hold f names parts some all)),
+      )
+    where
+      ok-same : {a b : List ℕ} → ◌≡◌ {A = Result (List ℕ) EditFault} (Ok a) (Ok b) → a ≡ b
+      ok-same e = cc
+
+  -- the text is that of what was decided
+  pub ready-text : (files : Files) (ready : Ready) (output all : List ℕ) → IsReady names files ready
+      → IsText (seamless_command output names) files all
+      → joint_lines (drop 1 names) ready.made.decided.joints.items ≡ all
+  ready-text files ready output all is text =
+      let told = telling-text (λ f. text_if names (parts_of f names))
+      (one_command (seamless_task names) output) files all text in
+      at files told.1 names is.ss is.bs some is.inputs is.joined is.begun is.made ∙ sym told.2
+    where
+      told-same : (f g : Contents) → Told f ≡ Told g → f ≡ g
+      told-same f g e = cc
+
+      at : (fs : Files) {f : Contents} → fs ≡ Told f → (ns : List (List ℕ)) (ss : List SurveyFields)
+          (bs : List Beginning) → 1 ≤ length ns → AreInputs None most_frames fs ns ss
+          → CanBeJoined ss → AreBegun fs ns ss bs → IsMade fs ns (map apart ss) bs ready.made
+          → joint_lines (drop 1 ns) ready.made.decided.joints.items ≡ text_if ns (parts_of f ns)
+      at (Untold touched) e ns ss bs some are can begun made = absurd cc
+      at (Told g) e [] ss bs some are can begun made = absurd (omega (arith, some))
+      at (Told g) e (n ∷ ns) [] bs some are can begun made = absurd are
+      at (Told g) e (n ∷ ns) (s ∷ ss) [] some are can begun made = absurd begun
+      at (Told g) {f} e (n ∷ ns) (s ∷ ss) (b ∷ bs) some are can begun made =
+          made-text g n ns s ss b bs ready.made are can begun made
+          ∙ sym (ap (text_if (n ∷ ns)) (parts-all 0 None most_frames g (n ∷ ns) (s ∷ ss) are))
+          ∙ ap (λ (h : Contents). text_if (n ∷ ns) (parts_of h (n ∷ ns))) (told-same g f e)
+
+-- ---- what is left
+
+other-err : {A : Type 0} (P : EditFault → Type 0) (g h : A → List ℕ) (r : Result A EditFault)
+    → IfErr (then_made r (λ a. Ok (g a))) P → IfErr (then_made r (λ a. Ok (h a))) P
+other-err P g h (Ok a) e = tt
+other-err P g h (Err f) e = e
+
+module _ (names : List (List ℕ)) where
+  -- the first input is there
+  pub memory-early : (old new : Seen) (ss : List SurveyFields) → 1 ≤ length names
+      → AreInputs None most_frames old.files names ss → new ≡ old
+      → NeedsMemory (first_input names) old new
+  memory-early old new ss some are stays =
+      rw append-nil at (found-input most_frames names [] ss old new are some stays)
+
+  -- a fault of the reading after the survey
+  pub read-fault-early : (old mid new : Seen) (ss : List SurveyFields) (fault : EditFault)
+      → 1 ≤ length names → AreInputs None most_frames old.files names ss → mid ≡ old
+      → IsReadFault names mid new fault → IsEarlyFault (seamless_task names) old new fault
+  read-fault-early old mid new ss fault some are same is =
+      read-early (seamless_task names) old new fault (memory-early old new ss some are)
+      (before old.files are) (fault-later names old mid new fault same is)
+    where
+      before : (files : Files) → AreInputs None most_frames files names ss
+          → IfTold files (λ f. IfErr ((seamless_task names).makes f) (IsNotBefore fault))
+      before (Untold touched) are = tt
+      before (Told f) are =
+          subst (λ (r : Result (List Part) EditFault).
+          IfErr (then_made r (λ parts. Ok (seamless_file parts))) (IsNotBefore fault))
+          (sym (parts-all 0 None most_frames f names ss are)) tt
+
+  -- where the first input is there and not too long, only a late fault refuses the join
+  pub seamless-late : (f : Contents) (bytes : List ℕ) → f (first_input names) ≡ Some bytes
+      → length bytes ≤ longest_file → IfErr ((seamless_task names).makes f) IsLate
+  seamless-late f bytes held few = other-err IsLate joined_file seamless_file (parts_of f names)
+      (join-late names f bytes held few)
+
+-- where names clash, the command leaves everything as it was
+pub left-clash : (output : List ℕ) (names : List (List ℕ)) (place : ℕ) (now : Seen)
+    → clash_in (seamless_task names) output ≡ Some place
+    → Leaves (seamless_command output names) now now (EqualNames place)
+left-clash output names place now clash =
+    telling-left (λ f. text_if names (parts_of f names)) (one_command (seamless_task names) output)
+    now now (EqualNames place) (clash_left (seamless_task names) output place now clash)
+
+module _ (output : List ℕ) (names : List (List ℕ))
+    (free : clash_in (seamless_task names) output ≡ None) where
+  abbrev text : Contents → List ℕ
+  text f = text_if names (parts_of f names)
+
+  abbrev silent : Command
+  silent = one_command (seamless_task names) output
+
+  -- the command leaves what it may after an early fault
+  pub left-early : (old new : Seen) (fault : EditFault)
+      → IsEarlyFault (seamless_task names) old new fault
+      → Leaves (seamless_command output names) old new fault
+  left-early old new fault h = telling-left text silent old new fault
+      (early_left (seamless_task names) output free (seamless-late names) old new fault h)
+
+  module _ (some : 1 ≤ length names) (old new : Seen) (ready : Ready) (is : IsReady names
+      old.files ready) (touches : OnlyTouches (output ∷ []) old.files new.files) where
+    making : IsMaking (seamless_task names) (made_of names some old.files ready) old.files
+    making = ready-making names some old.files ready is
+
+    -- where the file was written and no count rose, the command is done
+    pub left-done : ((bytes : List ℕ) → Holds old.files (first_input names) bytes
+        → new.files ≡ holding old.files output (made_of names some old.files ready bytes))
+        → new.counts ≡ old.counts → IsDone (seamless_command output names) old new
+    left-done wrote counts = telling-done text silent old new (one_done (seamless_task names) output
+        free (made_of names some old.files ready) old old new refl making touches done wrote counts)
+      where
+        done : Result (Unit {0}) EditFault
+        done = Ok tt
+
+    -- the command leaves what it may after a pass that ended early
+    pub left-part : (fault : EditFault)
+        → IsPassFault (made_of names some old.files ready) names output old new fault
+        → Leaves (seamless_command output names) old new fault
+    left-part fault h =
+        telling-left text silent old new fault (all_left (seamless_task names) output free
+        (made_of names some old.files ready) old old new refl making touches refl failed h)
+      where
+        failed : Result (Unit {0}) EditFault
+        failed = Err fault
+
+  -- where inputs are ready, the command holds the streams that it says
+  pub left-streams : (some : 1 ≤ length names) (files : Files) (ready : Ready)
+      → IsReady names files ready → HoldsStreams (seamless_command output names) files
+  left-streams some files ready is =
+      telling-streams text silent files
+      (one_streams (seamless_task names) output free (made_of names some files ready) files
+      (ready-making names some files ready is) (ready-holds names some files ready is) done)
+    where
+      done : Result (Unit {0}) EditFault
+      done = Ok tt
+
+-- a command that is done was run without a fault, if its names don't clash and no count fell
+pub done-run : (command : Command) (old new : Seen) → clash_of command ≡ None
+    → IsDone command old new → HoldsStreams command old.files → NoneFell old.counts new.counts
+    → IsRunOf command old new (Ok tt)
+done-run command old new none done streams fell = record {
+  done = done;
+  left = tt;
+  numbers = tt;
+  names = λ place. ((λ e. absurd cc), λ clash. absurd cc);
+  streams = streams;
+  counts = fell;
+}
+
+-- ---- what the numbers of a fault say
+
+-- the numbers of a fault of a join are those that a seamless join may tell
+pub seamless-numbers : (output : List ℕ) (names : List (List ℕ)) (count : ℕ) (fault : EditFault)
+    → count ≡ length names → IsOfJoin count fault → HasNumbers (seamless_command output names) fault
+seamless-numbers output names count (Input place fault) all is =
+    (omega (arith, all, is.0), is.1, is.2, inr (inl (omega (arith, all, is.0))))
+seamless-numbers output names count (Refused refusal) all is =
+    subst (λ n. join_refuses n refusal ≡ true) all is
+seamless-numbers output names count (Write place) all is = omega (arith, is)
+seamless-numbers output names count Memory all is = tt
+seamless-numbers output names count _ all is = absurd is

@@ -1,0 +1,26 @@
+-- One byte after another.
+use Rattle.std.proofs.Common.{ap, arith, get_or, length, sym, take, true, ◌<◌, ◌==◌, ◌∙◌}
+use Rattle.std.{proofs.lemmas.List.take_more, specs.List.list_all}
+use Rattle.bit_fields.proofs.BitsLaws.{AreBytes-from_slice, bits-nil, places_below}
+use Rattle.bit_fields.specs.Bits.{bits}
+use Rattle.join_edits.proofs.KnownLaws.{zeros-next, zeros-not}
+use Rattle.join_edits.proofs.beginnings.are_zeros.Goals as goal
+
+pub loop-byte-init : goal.loop-byte-init
+loop-byte-init c = ap (list_all (λ bit. bit == 0)) bits-nil
+
+pub returns-then-byte-ne0 : goal.returns-then-byte-ne0
+returns-then-byte-ne0 c =
+    let i = c.loop-byte.byte-index in
+    let bytes = c.args.bytes.now in
+    let within : i < length bytes = omega (arith, c.loop-byte-test.true) in
+    sym (zeros-not bytes i within (places_below bytes
+    (AreBytes-from_slice bytes c.type_inv.bytes) i) (λ none. c.if-byte-ne0.true none))
+
+pub loop-byte-preserved : goal.loop-byte-preserved
+loop-byte-preserved c =
+    let i = c.loop-byte.byte-index in
+    let bytes = c.args.bytes.now in
+    let within : i < length bytes = omega (arith, c.loop-byte-test.true) in
+    ap (λ l. list_all (λ bit. bit == 0) (bits l)) (take_more bytes i 0 within)
+    ∙ zeros-next (take i bytes) (get_or bytes i 0) c.loop-byte.invariant c.if-byte-ne0.false

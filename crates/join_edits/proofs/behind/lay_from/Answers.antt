@@ -1,0 +1,93 @@
+-- The frames from one on, in as many places as they take.
+use Rattle.std.proofs.Common.{ap, arith, length, rules, subst, sym, ◌-◌, ◌∙◌}
+use Rattle.frame_header.specs.Tables.{window_of}
+use Rattle.frame_writer.specs.Frames.{reach_of}
+use Rattle.join_edits.proofs.BehindLaws.{fits-from, from-begins, lays-from, part-from, reach-is}
+use Rattle.join_edits.specs.Behind.{frames_behind, reach_behind}
+use Rattle.laying.{proofs.PassLaws.part_none, specs.Passing.{GivesFrames, GivesPart, writing_in}}
+use Rattle.laying.specs.Places.{places_for}
+use Rattle.outside.proofs.PassedLaws.{err_at}
+use Rattle.sync_survey.specs.Faults.{tells}
+use Rattle.join_edits.proofs.behind.lay_from.Goals as goal
+
+pub returns-in_err-read_before-clause-gives : goal.returns-in_err-read_before-clause-gives
+returns-in_err-read_before-clause-gives g c = record {
+  lays = search rules;
+  part = let relay = c.args.relay.now in
+      let from = c.args.from in
+      let s = tells relay.survey.now in
+      let b = c.args.buffers.now in
+      let placed = c.args.placed.now in
+      let old = (g.D.Folder.seen c.args.folder.now).files in
+      let made = frames_behind from s placed in
+      let reach = reach_behind (reach_of b.writer) from s placed in
+      err_at c.from_residual.result _ c.from_residual.ensures.1
+      (subst (λ f. GivesPart relay made reach b old f c.in_err-read_before.field-0.0)
+      (sym c.read_before.ensures.reads.files)
+      (part_none relay.pass.input.now relay.pass.output.now made reach (writing_in b) old
+      c.in_err-read_before.ensures.reads.read c.requires.stands.ready.pass.target
+      (λ file holds more.
+      from-begins file from s placed (reach_of b.writer) b.writer.waiting.free more
+      (c.requires.stands.ready.exact file holds) (omega arith) c.requires.fits)));
+  reach = search rules;
+  done = search rules;
+  cause = search rules;
+}
+
+pub frames-requires-clause-fits : goal.frames-requires-clause-fits
+frames-requires-clause-fits g c =
+    let s = tells c.args.relay.now.survey.now in
+    fits-from s c.args.placed.now c.args.from _ _ (ap length c.frames-rows.ensures)
+    c.places_for-count.ensures.places (window_of s.class.version)
+    (reach_of c.args.buffers.now.writer) c.requires.fits
+
+pub returns-in_err-frames-clause-gives : goal.returns-in_err-frames-clause-gives
+returns-in_err-frames-clause-gives g c = record {
+  lays = search rules;
+  part = let relay = c.args.relay.now in
+      let from = c.args.from in
+      let s = tells relay.survey.now in
+      let b = c.args.buffers.now in
+      let placed = c.args.placed.now in
+      let reach = reach_of b.writer in
+      let after = (g.D.Folder.seen c.frames.new.folder).files in
+      err_at c.from_residual-in_err-frames.result _ c.from_residual-in_err-frames.ensures.1
+      (subst (λ f. GivesPart relay (frames_behind from s placed) (reach_behind reach from s placed)
+      b f after c.in_err-frames.field-0.0) c.read_before.ensures.reads.files
+      (part-from s placed from _ _ (ap length c.frames-rows.ensures)
+      c.places_for-count.ensures.places relay.pass.input.now relay.pass.output.now (writing_in b)
+      (g.D.Folder.seen c.read_before.new.folder).files after reach
+      c.in_err-frames.ensures.gives.part));
+  reach = search rules;
+  done = search rules;
+  cause = search rules;
+}
+
+pub returns-clause-gives : goal.returns-clause-gives
+returns-clause-gives g c = record {
+  lays = let relay = c.args.relay.now in
+      let from = c.args.from in
+      let s = tells relay.survey.now in
+      let b = c.args.buffers.now in
+      let placed = c.args.placed.now in
+      let seen = g.D.Folder.seen in
+      let after = (seen c.frames.new.folder).files in
+      subst (λ f. GivesFrames relay (frames_behind from s placed) b c.frames.new.buffers f after)
+      c.read_before.ensures.reads.files
+      (lays-from s placed from _ _ (ap length c.frames-rows.ensures)
+      c.places_for-count.ensures.places relay.pass.input.now relay.pass.output.now (writing_in b)
+      (seen c.read_before.new.folder).files after (writing_in c.frames.new.buffers)
+      c.in_ok-frames.ensures.gives.lays);
+  part = search rules;
+  reach = c.in_ok-frames.ensures.gives.reach
+      ∙ reach-is (tells c.args.relay.now.survey.now) c.args.placed.now c.args.from _ _
+      (ap length c.frames-rows.ensures) c.places_for-count.ensures.places
+      (reach_of c.args.buffers.now.writer);
+  done = search rules;
+  cause = search rules;
+}
+
+pub returns-clause-count : goal.returns-clause-count
+returns-clause-count g c =
+    c.places_for-count.ensures.places
+    ∙ ap (λ n. places_for (n - c.args.from) c.args.placed.now) (ap length c.frames-rows.ensures)

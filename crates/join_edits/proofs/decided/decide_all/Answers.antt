@@ -1,0 +1,115 @@
+-- The first input begins, and each of the others is decided after those before it.
+use Rattle.std.proofs.Common.{ap₂, arith, false, length, map, None, refl, string_bytes, ◌<◌, ◌∙◌}
+use Rattle.std.proofs.{Common.◌≡◌, lemmas.{List.length-map, Slice.Zip.AllZip-long}}
+use Rattle.commands.proofs.RefusingLaws.{err_with}
+use Rattle.join_edits.proofs.DecideAll.{at-end, begun-at, can-begin-at, get-here}
+use Rattle.join_edits.proofs.{KnownLaws.get-at, PlanLaws.can-some, ReadFaults.fault-later}
+use Rattle.join_edits.specs.declared.beginnings.Beginning.{Beginning}
+use Rattle.outside.specs.Seen.{seen}
+use Rattle.sync_survey.specs.Faults.{tells}
+use Rattle.join_edits.proofs.decided.decide_all.Goals as goal
+
+abbrev no-beginning : Beginning
+no-beginning = record { head = None; blank = false }
+
+pub begin-requires : goal.begin-requires
+begin-requires g c = can-begin-at _ _ _ _ c.requires.can c.known_at-first.ensures
+
+pub loop-number-init : goal.loop-number-init
+loop-number-init g c =
+    let ss = map tells c.args.sources.now.surveys.now in
+    let some = can-some ss c.requires.can.joined in
+    let within : 0 < length c.args.beginnings.now = omega (arith, some, c.requires.can.begun) in
+    record {
+      within = omega (
+        arith,
+        some,
+        AllZip-long _ _ _ c.requires.can.known,
+        length-map c.args.sources.now.inputs.now string_bytes,
+      );
+      decided = begun-at _ (map string_bytes c.args.sources.now.inputs.now) ss c.args.beginnings.now
+          (tells c.known_at-first.result.now) _ c.in_ok-deciding.deciding c.requires.can
+          (get-at ss 0 c.known_at-first.ensures)
+          (get-here c.args.beginnings.now 0 _ within) c.in_ok-deciding.ensures;
+      files = refl;
+      counts = refl;
+    }
+
+pub overflow_cast-number : goal.overflow_cast-number
+overflow_cast-number g c =
+    omega (
+      arith,
+      c.loop-number-test.true,
+      AllZip-long _ _ _ c.requires.can.known,
+      length-map c.args.sources.now.inputs.now string_bytes,
+      c.requires.can.joined.few,
+    )
+
+pub returns-in_err-add-clause-refused : goal.returns-in_err-add-clause-refused
+returns-in_err-add-clause-refused g c =
+    err_with _ _ c.from_residual-in_err-add.ensures.1
+    (fault-later (map string_bytes c.args.sources.now.inputs.now) _ _ _ _ (ap₂ seen
+    c.loop-number.invariant.files c.loop-number.invariant.counts) c.in_err-add.ensures.refused)
+
+pub front_of-front-requires-clause-begin : goal.front_of-front-requires-clause-begin
+front_of-front-requires-clause-begin g c =
+    can-begin-at _ _ _ _ c.requires.can c.known_at-first.ensures
+
+pub front_of-front-requires-clause-fits : goal.front_of-front-requires-clause-fits
+front_of-front-requires-clause-fits g c =
+    let ss = map tells c.args.sources.now.surveys.now in
+    let bs = c.args.beginnings.now in
+    let count : c.loop-number.number ≡ length ss =
+    omega (
+      arith,
+      c.loop-number-test.false,
+      c.loop-number.invariant.within,
+      AllZip-long _ _ _ c.requires.can.known,
+      length-map c.args.sources.now.inputs.now string_bytes,
+    ) in
+    let within : 0 < length bs =
+    omega (arith, can-some ss c.requires.can.joined, c.requires.can.begun) in
+    rw (c.as_slice.ensures.value)
+    (at-end _ _ c.loop-number.deciding ss bs c.requires.can c.known_at-first.ensures (get-here bs 0
+    no-beginning within) c.loop-number.number count c.loop-number.invariant.decided).1
+
+pub front_of-front-requires-clause-first : goal.front_of-front-requires-clause-first
+front_of-front-requires-clause-first g c =
+    let ss = map tells c.args.sources.now.surveys.now in
+    let bs = c.args.beginnings.now in
+    let count : c.loop-number.number ≡ length ss =
+    omega (
+      arith,
+      c.loop-number-test.false,
+      c.loop-number.invariant.within,
+      AllZip-long _ _ _ c.requires.can.known,
+      length-map c.args.sources.now.inputs.now string_bytes,
+    ) in
+    let within : 0 < length bs =
+    omega (arith, can-some ss c.requires.can.joined, c.requires.can.begun) in
+    rw (c.as_slice.ensures.value)
+    (at-end _ _ c.loop-number.deciding ss bs c.requires.can c.known_at-first.ensures (get-here bs 0
+    no-beginning within) c.loop-number.number count c.loop-number.invariant.decided).2
+
+pub returns-clause-decided : goal.returns-clause-decided
+returns-clause-decided g c =
+    let ss = map tells c.args.sources.now.surveys.now in
+    let bs = c.args.beginnings.now in
+    let count : c.loop-number.number ≡ length ss =
+    omega (
+      arith,
+      c.loop-number-test.false,
+      c.loop-number.invariant.within,
+      AllZip-long _ _ _ c.requires.can.known,
+      length-map c.args.sources.now.inputs.now string_bytes,
+    ) in
+    let within : 0 < length bs =
+    omega (arith, can-some ss c.requires.can.joined, c.requires.can.begun) in
+    (at-end _ _ c.loop-number.deciding ss bs c.requires.can c.known_at-first.ensures
+    (get-here bs 0 _ within) c.loop-number.number count c.loop-number.invariant.decided).3
+    c.front_of-front.result
+    (record {
+      is = λ first frames brings is. c.front_of-front.ensures.front first frames brings
+          (c.as_slice.ensures.value ∙ is);
+      behind = c.front_of-front.ensures.behind;
+    })

@@ -1,0 +1,14 @@
+-- The lines so far wait or were sent, and no write failed.
+use Rattle.std.{proofs.Common.{drop, length, map, string_bytes, ◌≡◌, ◌≤◌}, specs.List.zip}
+use Rattle.join_edits.proofs.LineLaws.{left-from, line_of}
+use Rattle.list_edits.proofs.ListingLaws.{IsSaidTo}
+use Rattle.join_edits.proofs.lines.send_lines.Given as goal
+
+abbrev pub invariant-loop-place : goal.invariant-loop-place
+invariant-loop-place g l = record {
+  within : l.place ≤ length l.joints;
+  done : (g.T.Sink.heard l.out).faults ≡ (g.T.Sink.heard l.fn.out).faults;
+  said : IsSaidTo line_of (zip (drop 1 (map string_bytes l.inputs)) l.joints)
+      (left-from (map string_bytes l.inputs) l.joints l.place) l.buffer
+      (g.T.Sink.heard l.fn.out).sent (g.T.Sink.heard l.out).sent;
+}

@@ -1,0 +1,60 @@
+-- The areas up to its own are read, and the main data are cut out of them.
+use Rattle.std.proofs.Common.{ap, slice_get, Some, subst, sym, true, ◌∙◌, ◌≡◌}
+use Rattle.join_edits.proofs.FramePlaces.{get-one}
+use Rattle.join_edits.proofs.ReadingLaws.{data-ends, data-held, data-is, read-at}
+use Rattle.laying.proofs.ReadLaws.{lost-is}
+use Rattle.sync_survey.specs.{Faults.tells, MainData.own_area, Row.Row}
+use Rattle.join_edits.proofs.main_data.Source.main_data.Goals as goal
+
+pub returns-then-lost-clause-payload : goal.returns-then-lost-clause-payload
+returns-then-lost-clause-payload g c = λ file holds r found.
+    let s = tells c.args.self.now.survey.now in
+    let row = c.index-frames-i.result in
+    let here : slice_get s.frames c.args.i ≡ Some row =
+    read-at c.frames.result.now s.frames c.args.i row c.requires.within c.frames.ensures
+    c.index-frames-i.is in
+    let lost : r.lost ≡ true =
+    subst (λ (x : Row). x.lost ≡ true) (get-one s.frames c.args.i row r here found)
+    (sym c.lost.ensures ∙ c.if-lost.true) in
+    c.clear.ensures ∙ lost-is file s c.args.i r lost
+
+pub payload-requires-clause-held : goal.payload-requires-clause-held
+payload-requires-clause-held g c =
+    let s = tells c.args.self.now.survey.now in
+    let row = c.index-frames-i.result in
+    data-held c.read_before.new.window c.args.self.now.name.now
+    (g.D.Folder.seen c.args.folder.now).files s c.args.i row
+    (read-at c.frames.result.now s.frames c.args.i row c.requires.within c.frames.ensures
+    c.index-frames-i.is)
+    (sym c.lost.ensures ∙ c.if-lost.false) c.requires.held.laid c.in_ok-read_before.ensures.over
+    c.area-area.result c.from.result c.extent-extent.result.bits
+    (c.area-area.ensures.area ∙ ap own_area c.header.ensures)
+    (c.from.ensures ∙ c.extent-extent.ensures.begin) c.extent-extent.ensures.bits
+    c.area-area.ensures.most
+
+pub payload-requires-clause-within : goal.payload-requires-clause-within
+payload-requires-clause-within g c =
+    let s = tells c.args.self.now.survey.now in
+    let row = c.index-frames-i.result in
+    data-ends c.read_before.new.window c.args.self.now.name.now
+    (g.D.Folder.seen c.args.folder.now).files s c.args.i row
+    (read-at c.frames.result.now s.frames c.args.i row c.requires.within c.frames.ensures
+    c.index-frames-i.is)
+    (sym c.lost.ensures ∙ c.if-lost.false) c.requires.held.laid c.in_ok-read_before.ensures.over
+    c.area-area.result c.from.result c.extent-extent.result.bits
+    (c.area-area.ensures.area ∙ ap own_area c.header.ensures)
+    (c.from.ensures ∙ c.extent-extent.ensures.begin) c.extent-extent.ensures.bits
+
+pub returns-clause-payload : goal.returns-clause-payload
+returns-clause-payload g c =
+    let s = tells c.args.self.now.survey.now in
+    let row = c.index-frames-i.result in
+    data-is c.read_before.new.window c.args.self.now.name.now
+    (g.D.Folder.seen c.args.folder.now).files s c.args.i row
+    (read-at c.frames.result.now s.frames c.args.i row c.requires.within c.frames.ensures
+    c.index-frames-i.is)
+    (sym c.lost.ensures ∙ c.if-lost.false) c.requires.held.laid c.in_ok-read_before.ensures.over
+    c.area-area.result c.from.result c.extent-extent.result.bits
+    (c.area-area.ensures.area ∙ ap own_area c.header.ensures)
+    (c.from.ensures ∙ c.extent-extent.ensures.begin) c.extent-extent.ensures.bits
+    c.payload.new.into.items c.payload.ensures.payload c.payload.ensures.bytes

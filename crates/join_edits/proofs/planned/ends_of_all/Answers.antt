@@ -1,0 +1,72 @@
+-- The first input and the last.
+use Rattle.std.proofs.Common.{ap, arith, drop, length, List, map, suc, sym, zero, ℕ, [], ◌+◌, ◌-◌}
+use Rattle.std.proofs.{Common.{◌∙◌, ◌∷◌, ◌≡◌, ◌≤◌}, lemmas.List.length-map}
+use Rattle.join_edits.{proofs.PlanLaws.can-some, specs.Inputs.frames_of}
+use Rattle.join_edits.specs.{RunReady.{AreEnds, last_length}, declared.numbers.Ends.Ends}
+use Rattle.sync_survey.specs.{Faults.{SurveyFields, tells}, Row.Row}
+use Rattle.join_edits.proofs.planned.ends_of_all.Goals as goal
+
+frames-most : (ss : List SurveyFields) (n : ℕ) {s : SurveyFields} {rest : List SurveyFields}
+    → drop n ss ≡ s ∷ rest → length s.frames ≤ frames_of ss
+unfolding frames_of
+frames-most [] zero e = absurd cc
+frames-most [] (suc n) e = absurd cc
+frames-most (t ∷ ss) zero {s} {rest} e =
+    let same : t ≡ s = cc in
+    omega (arith, ap (λ (u : SurveyFields). length u.frames) same)
+frames-most (t ∷ ss) (suc n) e = omega (arith, frames-most ss n e)
+
+last-at : (s : SurveyFields) (ss : List SurveyFields) (n : ℕ) {last : SurveyFields}
+    {rest : List SurveyFields} → drop n (s ∷ ss) ≡ last ∷ rest → n ≡ length ss
+    → length last.frames ≡ last_length s ss
+last-at s [] zero {last} {rest} e long =
+    let same : s ≡ last = cc in
+    ap (λ (u : SurveyFields). length u.frames) (sym same)
+last-at s [] (suc n) e long = absurd (omega (arith, long))
+last-at s (t ∷ ss) zero e long = absurd (omega (arith, long))
+last-at s (t ∷ ss) (suc n) e long = last-at t ss n e (omega (arith, long))
+
+ends-are : (ss : List SurveyFields) (n : ℕ) {first last : SurveyFields}
+    {behind rest : List SurveyFields} (ends : Ends) → drop 0 ss ≡ first ∷ behind
+    → drop n ss ≡ last ∷ rest → n + 1 ≡ length ss
+    → ends ≡ record { class = first.class; first = length first.frames; last = length last.frames }
+    → AreEnds ss ends
+ends-are [] n ends e f long is = absurd (omega (arith, long))
+ends-are (s ∷ ss) n {first} {last} {behind} {rest} ends e f long is =
+    let same : s ≡ first = cc in
+    is
+    ∙ ap (λ (u : SurveyFields).
+    record { class = u.class; first = length u.frames; last = length last.frames }) (sym same)
+    ∙ ap (λ k. record { class = s.class; first = length s.frames; last = k })
+    (last-at s ss n f (omega (arith, long)))
+
+pub overflow_cast-result : goal.overflow_cast-result
+overflow_cast-result c =
+    omega (
+      arith,
+      ap (λ (l : List Row). length l) c.frames.ensures,
+      frames-most (map tells c.args.surveys.now) 0 c.known_at-first.ensures,
+      c.requires.frames,
+    )
+
+pub overflow_cast-result-2 : goal.overflow_cast-result-2
+overflow_cast-result-2 c =
+    omega (
+      arith,
+      ap (λ (l : List Row). length l) c.frames-2.ensures,
+      frames-most (map tells c.args.surveys.now)
+          (length c.args.surveys.now - 1) c.known_at-last.ensures,
+      c.requires.frames,
+    )
+
+pub returns : goal.returns
+returns c =
+    let some = can-some (map tells c.args.surveys.now) c.requires in
+    let long : length c.args.surveys.now - 1 + 1 ≡ length (map tells c.args.surveys.now) =
+    omega (arith, some, length-map c.args.surveys.now tells) in
+    ends-are (map tells c.args.surveys.now) (length c.args.surveys.now - 1) _
+    c.known_at-first.ensures c.known_at-last.ensures long (λ i. record {
+      class = c.class.ensures i;
+      first = ap (λ (l : List Row). length l) c.frames.ensures i;
+      last = ap (λ (l : List Row). length l) c.frames-2.ensures i;
+    })

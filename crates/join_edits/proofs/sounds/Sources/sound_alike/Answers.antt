@@ -1,0 +1,79 @@
+-- Two frames sound alike where header, side information and main data are the same.
+use Rattle.std.proofs.Common.{ap, ap₂, bytes_eq, map, string_bytes, subst, sym, ◌∙◌, ◌≡◌}
+use Rattle.join_edits.proofs.FramePlaces.{class-first, class-here, places-compared, places-differ}
+use Rattle.join_edits.specs.Sounds.{frames_of, payload_at_place, same_front, same_sounds}
+use Rattle.outside.specs.Files.{IfTold}
+use Rattle.sync_survey.specs.Faults.{tells}
+use Rattle.join_edits.proofs.sounds.Sources.sound_alike.Goals as goal
+
+pub same_front-requires-clause-first : goal.same_front-requires-clause-first
+same_front-requires-clause-first g c =
+    let names = map string_bytes c.args.self.now.inputs.now in
+    let ss = map tells c.args.self.now.surveys.now in
+    let files = (g.D.Folder.seen c.args.folder.now).files in
+    let one = c.requires.one in
+    let class : c.class-class.result ≡ one.0 =
+    c.class-class.ensures ∙ ap (λ s. (tells s).class) (sym c.index-self-first.is)
+    ∙ class-first tells c.args.self.now.surveys.now c.args.first one.0 c.index-self-first.result
+    one.1 c.requires.first c.index-self-first.is in
+    class-here files names ss c.args.first one.0 c.row.result.now c.requires.held one.1
+    c.requires.first c.row.ensures
+    ∙ sym class
+
+pub same_front-requires-clause-second : goal.same_front-requires-clause-second
+same_front-requires-clause-second g c =
+    let names = map string_bytes c.args.self.now.inputs.now in
+    let ss = map tells c.args.self.now.surveys.now in
+    let files = (g.D.Folder.seen c.args.folder.now).files in
+    let one = c.requires.one in
+    let class : c.class-class.result ≡ one.0 =
+    c.class-class.ensures ∙ ap (λ s. (tells s).class) (sym c.index-self-first.is)
+    ∙ class-first tells c.args.self.now.surveys.now c.args.first one.0 c.index-self-first.result
+    one.1 c.requires.first c.index-self-first.is in
+    class-here files names ss c.args.second one.0 c.row-2.result.now c.requires.held one.1
+    c.requires.second c.row-2.ensures
+    ∙ sym class
+
+pub returns-then-not-same_front-clause-same : goal.returns-then-not-same_front-clause-same
+returns-then-not-same_front-clause-same g c =
+    let names = map string_bytes c.args.self.now.inputs.now in
+    let ss = map tells c.args.self.now.surveys.now in
+    let files = (g.D.Folder.seen c.args.folder.now).files in
+    let one = c.requires.one in
+    let class : c.class-class.result ≡ one.0 =
+    c.class-class.ensures ∙ ap (λ s. (tells s).class) (sym c.index-self-first.is)
+    ∙ class-first tells c.args.self.now.surveys.now c.args.first one.0 c.index-self-first.result
+    one.1 c.requires.first c.index-self-first.is in
+    let differ =
+    ap (λ k. same_front k c.row.result.now c.row-2.result.now) (sym class)
+    ∙ sym c.same_front.ensures ∙ c.if-not-same_front.true in
+    places-differ names ss c.args.first c.args.second one.0 c.row.result.now c.row-2.result.now
+    one.1 c.requires.first c.requires.second c.row.ensures c.row-2.ensures
+    files c.requires.held differ
+
+pub returns-clause-same : goal.returns-clause-same
+returns-clause-same g c =
+    let names = map string_bytes c.args.self.now.inputs.now in
+    let ss = map tells c.args.self.now.surveys.now in
+    let files = (g.D.Folder.seen c.args.folder.now).files in
+    let one = c.requires.one in
+    let class : c.class-class.result ≡ one.0 =
+    c.class-class.ensures ∙ ap (λ s. (tells s).class) (sym c.index-self-first.is)
+    ∙ class-first tells c.args.self.now.surveys.now c.args.first one.0 c.index-self-first.result
+    one.1 c.requires.first c.index-self-first.is in
+    let same =
+    ap (λ k. same_front k c.row.result.now c.row-2.result.now) (sym class)
+    ∙ sym c.same_front.ensures ∙ c.if-not-same_front.false in
+    let first = c.main_data.new.into.items in
+    let second = c.main_data-2.new.into.items in
+    let tested : c.eq.result ≡ bytes_eq first second =
+    c.eq.ensures ∙ ap₂ bytes_eq c.as_slice.ensures.value c.as_slice-2.ensures.value in
+    let others =
+    subst (λ f. IfTold f (λ told. second ≡ payload_at_place told names ss c.args.second))
+    c.main_data.ensures.reads.files c.in_ok-main_data-2.ensures.payload in
+    subst
+    (λ b. IfTold files (λ f. b ≡ same_sounds (frames_of f names ss) c.args.first c.args.second))
+    (sym tested)
+    (places-compared names ss c.args.first c.args.second one.0 c.row.result.now c.row-2.result.now
+    one.1 c.requires.first c.requires.second c.row.ensures c.row-2.ensures
+    files c.requires.held same first second c.in_ok-main_data.ensures.payload others)

@@ -1,0 +1,8 @@
+-- What is written is bytes.
+use Rattle.std.proofs.Common.{arith}
+use Rattle.bit_fields.proofs.BitsLaws.{AreBytes-from_places}
+use Rattle.join_edits.proofs.sounds.write_side.Goals as goal
+
+pub returns-clause-octets : goal.returns-clause-octets
+returns-clause-octets c =
+    AreBytes-from_places c.write.new.bytes (λ i. omega (arith, c.type_inv.bytes i))

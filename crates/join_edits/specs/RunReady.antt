@@ -1,0 +1,46 @@
+-- What is made ready for a run before the output is created.
+use Rattle.std.specs.Prelude.{IfSome, length, List, map, slice_get, Some, ℕ, [], ◌-◌, ◌∷◌, ◌≡◌}
+use Rattle.frame_writer.specs.Frames.{Frame}
+use Rattle.info_header.specs.InfoFrame.{info_frame}
+use Rattle.join_edits.specs.{Behind.FitsWork, Deciding.{left_out_of, run_needs}, Inputs.class_in}
+use Rattle.join_edits.specs.{Laying.window_for, Numbers.{info_kept, kept_in}}
+use Rattle.join_edits.specs.declared.{beginnings.Beginning.Beginning, decided.Decided.Decided}
+use Rattle.join_edits.specs.declared.{numbers.{Ends.Ends, Moved.Moved}, planned.Work.Work}
+use Rattle.laying.specs.{NeedsFit.own_choice, Written.slot_in}
+use Rattle.slot_plan.specs.{LeastPlan.least_plan, Plans.entries, declared.needs.Need.Need}
+use Rattle.slot_plan.specs.declared.needs.Placed.{Placed}
+use Rattle.sync_survey.specs.{Faults.SurveyFields, Row.Row}
+
+-- the plan of a run whose frames need this: it is one part, and each frame keeps its slot
+abbrev pub run_plan : ℕ → List Need → List Placed
+run_plan window needs = least_plan window own_choice (needs ∷ [])
+
+-- so many frames are left out at its front, and it has so many lead-ins
+abbrev pub moved_of : Decided → List Placed → Moved
+moved_of d placed = record { left_out = d.front; lead_ins = length placed - length (run_needs d) }
+
+-- the class of the first input, and how many frames the first and the last have
+abbrev pub last_length : SurveyFields → List SurveyFields → ℕ
+last_length s [] = length s.frames
+last_length s (t ∷ ss) = last_length t ss
+
+-- these are the ends of these inputs
+abbrev pub AreEnds : List SurveyFields → Ends → Type 0
+AreEnds [] ends = ⊥
+AreEnds (s ∷ ss) ends =
+    ends ≡ record { class = s.class; first = length s.frames; last = last_length s ss }
+
+-- these are the bytes of the Info frame before the run in the slots of this plan
+abbrev pub IsRunInfo : List SurveyFields → List Beginning → Decided → List Placed → List ℕ → Type 0
+IsRunInfo ss bs d placed bytes =
+    (frames : List Frame) → map slot_in frames ≡ map (λ (p : Placed). p.slot) placed
+    → (s : SurveyFields) → slice_get ss 0 ≡ Some s → (first : Row)
+    → slice_get s.frames d.front ≡ Some first → (ends : Ends) → AreEnds ss ends → bytes ≡ info_frame
+    first.header (info_kept (kept_in bs ends (moved_of d placed)) first.header s.class frames)
+
+-- the plan of the run, which can be written, the Info frame before it, and the buffers
+pub record IsRunReady (ss : List SurveyFields) (bs : List Beginning) (d : Decided)
+    (work : Work) : Type 0 where
+  pub plan : entries work.plan ≡ run_plan (window_for (class_in ss)) (run_needs d)
+  pub fits : IfSome (class_in ss) (λ class. FitsWork class ss (left_out_of d) work)
+  pub info : IsRunInfo ss bs d (entries work.plan) work.info.items

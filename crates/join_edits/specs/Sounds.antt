@@ -1,0 +1,97 @@
+-- Frames of inputs by their places, and what is compared of them.
+use Rattle.std.specs.Prelude.{All, Bool, bytes_eq, length, List, None, Option, option_and_then}
+use Rattle.std.specs.Prelude.{slice_get, Some, unwrap_or, ℕ, [], ◌&&◌, ◌<◌, ◌∷◌, ◌≡◌}
+use Rattle.frame_header.specs.{Fields.{ClassFields, HeaderFields}, HeaderBits.header_bits}
+use Rattle.join_edits.specs.{Join.whole_part, Seamless.{run_frames, without_gains}}
+use Rattle.laying.specs.Relaid.{payload_of}
+use Rattle.outside.specs.Files.{Contents}
+use Rattle.seam_plan.specs.{Frames.Frame, declared.run.FramePlace.FramePlace}
+use Rattle.side_info.specs.{Side.side_bits, declared.{granule.Granule.Granule, side.Side.Side}}
+use Rattle.sync_survey.specs.{Faults.SurveyFields, MainData.{no_slot, side_of}, Row.Row}
+
+-- ---- what is compared
+
+-- a header without its slot
+abbrev pub without_slot : HeaderFields → HeaderFields
+without_slot h = record h { slot = no_slot }
+
+-- a granule without its global gain
+abbrev pub without_gain : Granule → Granule
+without_gain g = record g { global_gain = 0 }
+
+-- without gains and main_data_begin
+abbrev pub bare : Side → Side
+bare s = without_gains (record s { main_data_begin = 0 })
+
+-- header and side information are the same but for these and the slot
+abbrev pub same_front : ClassFields → Row → Row → Bool
+same_front class r q =
+    bytes_eq (header_bits (without_slot r.header)) (header_bits (without_slot q.header))
+    && bytes_eq (side_bits class (bare (side_of r))) (side_bits class (bare (side_of q)))
+
+-- ---- frames by their places
+
+-- the row of this frame of an input, if there is one
+abbrev pub row_in : ℕ → Option SurveyFields → Option Row
+row_in frame None = None
+row_in frame (Some s) = slice_get s.frames frame
+
+-- the row of the frame at this place, if there is one
+abbrev pub row_at : List SurveyFields → FramePlace → Option Row
+row_at ss place = row_in place.frame (slice_get ss place.input)
+
+-- there is such an input, and it has such a frame
+pub record IsAt (ss : List SurveyFields) (place : FramePlace) : Type 0 where
+  pub survey : SurveyFields
+  pub input : slice_get ss place.input ≡ Some survey
+  pub frame : place.frame < length survey.frames
+
+-- so it is with each of these places
+abbrev pub AreAt : List SurveyFields → List FramePlace → Type 0
+AreAt ss places = All (IsAt ss) places
+
+-- they are all of the first one's class
+abbrev pub AreOf : ClassFields → List SurveyFields → Type 0
+AreOf class ss = All (λ (s : SurveyFields). s.class ≡ class) ss
+
+-- all inputs are of one class
+abbrev pub AreOfOneClass : List SurveyFields → Type 0
+AreOfOneClass ss = (class : ClassFields) × AreOf class ss
+
+-- ---- what they sound like
+
+-- the frames of all inputs as they take part in the decision
+unfoldable pub frames_of : Contents → List (List ℕ) → List SurveyFields → List (List Frame)
+frames_of f (name ∷ names) (s ∷ ss) =
+    run_frames (whole_part (unwrap_or (f name) []) s) ∷ frames_of f names ss
+frames_of f _ _ = []
+
+-- the sound of a frame, or nothing where there is no frame
+abbrev pub sound_of_frame : Option Frame → List ℕ
+sound_of_frame None = []
+sound_of_frame (Some frame) = frame.sound
+
+-- the sound of the frame at this place
+abbrev pub sound_at : List (List Frame) → FramePlace → List ℕ
+sound_at lists place =
+    sound_of_frame (option_and_then (λ (frames : List Frame). slice_get frames place.frame)
+    (slice_get lists place.input))
+
+-- the frames at these two places sound the same
+abbrev pub same_sounds : List (List Frame) → FramePlace → FramePlace → Bool
+same_sounds lists p q = bytes_eq (sound_at lists p) (sound_at lists q)
+
+-- the main data of the frame at this place
+abbrev pub payload_in : List ℕ → ℕ → SurveyFields → Option Row → List ℕ
+payload_in file i s None = []
+payload_in file i s (Some r) = payload_of file s i r
+
+-- the same, by the name and the survey of its input
+abbrev pub payload_by : Contents → ℕ → Option (List ℕ) → Option SurveyFields → List ℕ
+payload_by f i (Some name) (Some s) = payload_in (unwrap_or (f name) []) i s (slice_get s.frames i)
+payload_by f i _ _ = []
+
+-- the same, by its place among all inputs
+abbrev pub payload_at_place : Contents → List (List ℕ) → List SurveyFields → FramePlace → List ℕ
+payload_at_place f names ss place =
+    payload_by f place.frame (slice_get names place.input) (slice_get ss place.input)

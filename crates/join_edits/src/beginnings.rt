@@ -1,0 +1,132 @@
+//! How each input begins: its head, and whether the side information of its first frame is blank.
+ghost use Rattle.std.specs.Prelude.{◌≡◌, ◌==◌, ◌≤◌, length, map, string_bytes, IfOk, IfErr};
+ghost use Rattle.std.specs.List.{list_all};
+ghost use Rattle.bit_fields.specs.Bits.{bits};
+ghost use Rattle.outside.specs.Files.{IsThere};
+ghost use Rattle.outside.specs.Seen.{OnFile, OnlyRead};
+ghost use Rattle.sync_survey.specs.Faults.{tells};
+ghost use Rattle.sync_survey.specs.Survey.{IsLaidOut};
+ghost use Rattle.laying.specs.Surveys.{HasSurvey};
+ghost use Rattle.laying.specs.KeptFields.{fields_of_head};
+ghost use Rattle.cut_edits.specs.Exact.{apart};
+ghost use Rattle.join_edits.specs.Inputs.{IsOfJoin};
+ghost use Rattle.join_edits.specs.Seamless.{is_blank as is_blank_lem, begins_blank as begins_blank_lem};
+ghost use Rattle.join_edits.specs.Beginnings.{AreBegun};
+ghost use Rattle.join_edits.specs.Reading.{AreKnown, IsReadFault, StopsAt};
+
+use crate::inputs::{known_at, name_at};
+use crate::stopped::Stopped;
+use commands::EditFault;
+use cut_edits::set_apart;
+use info_header::Info;
+use laying::head_fields;
+use outside::Folder;
+use std::alloc::Global;
+use sync_survey::{Row, Survey};
+
+/// How an input begins: the fields of its head, if it has one, and whether all bits of the side information of its first frame
+/// are 0, as it is in the file.
+#[derive(Clone, Copy)]
+pub(crate) struct Beginning {
+    pub head: Option<Info>,
+    pub blank: bool,
+}
+
+/// Whether all bytes are 0.
+fn are_zeros(bytes: &[u8]) -> bool
+    ensures { result ≡ list_all (λ bit. bit == 0) (bits bytes.now) }
+{
+    for byte in bytes {
+        if *byte != 0 {
+            return false;
+        }
+    }
+    true
+}
+
+/// Whether all bits of the side information of a frame are 0.
+fn is_blank(row: &Row) -> bool
+    ensures { result ≡ is_blank_lem row.now }
+{
+    let class = row.front().class();
+    let mut room = [0; 32];
+    let bytes = &mut room[..class.side_size() as usize];
+    row.side().write(class, bytes);
+    are_zeros(bytes)
+}
+
+/// Whether those of the first of these frames are.
+fn begins_blank(rows: &[Row]) -> bool
+    ensures { result ≡ begins_blank_lem rows.now }
+{
+    match rows {
+        [] => false,
+        [first, ..] => is_blank(first),
+    }
+}
+
+/// The fields of the head of the input with the number `place`, if it has one. The files stay.
+///
+/// # Errors
+/// `Read` and `Shrunk` where the frame of the head could not be read.
+fn head_of<D: Folder>(
+    folder: &mut D,
+    name: &str,
+    place: u32,
+    survey: &Survey,
+) -> Result<Option<Info>, Stopped>
+    requires there { IsThere (D.seen folder.old).files name.now }
+    requires laid { IsLaidOut (tells survey.now) }
+    requires exact { OnFile (D.seen folder.old) name.now
+        (λ file. HasSurvey file (tells survey.now)) }
+    ensures head { IfOk result (λ head. OnFile (D.seen folder.old) name.now
+        (λ file. head ≡ fields_of_head file (tells survey.now).head)) }
+    ensures stopped { IfErr result (StopsAt place name.now (D.seen folder.old).files
+        (D.seen folder.old).counts (D.seen folder.new).counts) }
+    ensures reads { OnlyRead result (D.seen folder.old) (D.seen folder.new) }
+{
+    match head_fields(folder, name, survey) {
+        Ok(head) => Ok(head),
+        Err(fault) => Err(Stopped { place, fault }),
+    }
+}
+
+/// How the inputs begin, one after the other. The files stay.
+///
+/// # Errors
+/// `Input` with the number of an input and `Read` or `Shrunk`, where its head could not be read; `Memory`.
+pub(crate) fn beginnings_of<D: Folder>(
+    alloc: Global,
+    folder: &mut D,
+    inputs: &[String],
+    surveys: &[Survey],
+) -> Result<Vec<Beginning>, EditFault>
+    requires few { length inputs.now ≤ 64 }
+    requires held { AreKnown (D.seen folder.old).files (map string_bytes inputs.now)
+        (map tells surveys.now) }
+    ensures begun { IfOk result (λ bs. AreBegun (D.seen folder.old).files
+        (map string_bytes inputs.now) (map tells surveys.now) bs.items) }
+    ensures refused { IfErr result (IsReadFault (map string_bytes inputs.now)
+        (D.seen folder.old)
+        (D.seen folder.new)) }
+    ensures numbers { IfErr result (IsOfJoin (length inputs.now)) }
+    ensures reads { OnlyRead result (D.seen folder.old) (D.seen folder.new) }
+{
+    let mut beginnings = Vec::new(alloc);
+    for place in 0..inputs.len() {
+        let survey = known_at(surveys, place);
+        let head = head_of(folder, name_at(inputs, place), place as u32, survey)?;
+        let blank = begins_blank(survey.frames());
+        beginnings.push(Beginning { head, blank })?;
+    }
+    Ok(beginnings)
+}
+
+/// Sets the heads of all inputs apart from their streams.
+pub(crate) fn set_all_apart(surveys: &mut [Survey])
+    ensures { map tells surveys.new ≡ map apart (map tells surveys.old) }
+{
+    for survey in surveys.iter_mut() {
+        set_apart(survey);
+    }
+}

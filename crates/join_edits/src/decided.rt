@@ -1,0 +1,290 @@
+//! The decision of a join without seams: which frames of each input are left out.
+ghost use Rattle.std.specs.Prelude.{◌≡◌, ◌+◌, ◌<◌, ◌≤◌, ◌++◌, List, length, map, take, drop, string_bytes, IfOk, IfErr, IfSome, OnOk};
+ghost use Rattle.outside.specs.Seen.{OnlyRead};
+ghost use Rattle.frame_header.specs.Fields.{ClassFields};
+ghost use Rattle.frame_header.specs.Tables.{window_of};
+ghost use Rattle.exact_span.specs.PlayedPositions.{counted_of, AreCounted};
+ghost use Rattle.slot_plan.specs.Parts.{AreOfClass};
+ghost use Rattle.slot_plan.specs.Behind.{FitsBehind, first_in};
+ghost use Rattle.seam_plan.specs.Frames.{Frame, Brought, needs_of as needs_of_frames};
+ghost use Rattle.seam_plan.specs.Seams.{left_out, front_left_out as front_left_out_lem};
+ghost use Rattle.seam_plan.specs.Decisions.{moved_first};
+ghost use Rattle.sync_survey.specs.Faults.{tells};
+ghost use Rattle.commands.specs.One.{most_frames};
+ghost use Rattle.join_edits.specs.Inputs.{IsOfJoin};
+ghost use Rattle.join_edits.specs.Reading.{AreKnown, IsReadFault, StopsIn};
+ghost use Rattle.join_edits.specs.Sounds.{AreOfOneClass};
+ghost use Rattle.join_edits.specs.Deciding.{needs_in, CanBegin, HasBegun, BringsNeeds, CanBeDecided, IsNext, IsAlike, IsDecidingTo, IsDecided, run_needs, left_out_of};
+
+use crate::beginnings::Beginning;
+use crate::inputs::known_at;
+use crate::sounds::Sources;
+use crate::stopped::Stopped;
+use arrayvec::ArrayVec;
+use commands::EditFault;
+use exact_span::{Overlap, Played};
+use frame_header::{Class, Slot};
+use laying::Parts;
+use outside::Folder;
+use reservoir::Window;
+use seam_plan::{FramePlace, Input, Joint, Run, front_left_out};
+use slot_plan::Need;
+use std::alloc::{AllocError, Global};
+use sync_survey::Survey;
+
+/// What the frames of an input need, as the one part of a plan.
+fn needs_of(alloc: Global, survey: &Survey) -> Result<Parts, AllocError>
+    ensures { IfOk result (λ parts. parts.needs ≡ needs_in (tells survey.now)) }
+{
+    let mut parts = Parts::new(alloc);
+    parts.push(survey.frames())?;
+    Ok(parts)
+}
+
+/// What an input of this class brings whose frames need this.
+fn brought<'a>(class: Class, needs: &'a [Need], beginning: &Beginning) -> Input<'a>
+    requires { length needs.now ≤ most_frames }
+    ensures needs { result.needs.now ≡ needs.now }
+    ensures blank { result.blank ≡ beginning.now.blank }
+    ensures played { result.played ≡ counted_of beginning.now.head class (length needs.now) }
+    ensures counted { IfSome result.played (AreCounted class (length needs.now)) }
+{
+    Input {
+        needs,
+        blank: beginning.blank,
+        played: Played::counted(beginning.head.as_ref(), class, needs.len() as u32),
+    }
+}
+
+/// Puts the first of these frames into this slot, if there is one.
+fn put_slot(slot: Slot, needs: &mut [Need])
+    ensures { needs.new ≡ first_in slot needs.old }
+{
+    if !needs.is_empty() {
+        let first = &mut needs[0];
+        first.header.slot = slot;
+    }
+}
+
+/// Adds what the frames of an input need that are left, the first of them in the slot in which it joined.
+///
+/// # Errors
+/// Where there is no memory. Then nothing is added.
+fn add_needs(joint: &Joint, needs: &[Need], run: &mut Vec<Need>) -> Result<(), AllocError>
+    requires out { left_out joint.now.seam ≤ length needs.now }
+    ensures added { OnOk result (run.new.items ≡ run.old.items
+        ++ moved_first joint.now.slot (drop (left_out joint.now.seam) needs.now)) }
+{
+    let at = run.len();
+    run.extend_from_slice(&needs[joint.seam.left_out() as usize..])?;
+    if let Some(slot) = joint.slot {
+        put_slot(slot, &mut run.as_mut_slice()[at..]);
+    }
+    Ok(())
+}
+
+impl<'a> Sources<'a> {
+    /// The frames that the input with the number `number` shares with the one before it, if those of them that have to be
+    /// alike are the last of the run.
+    ///
+    /// # Errors
+    /// `Read` or `Shrunk` where an input can't be read.
+    fn alike<D: Folder>(
+        &self,
+        folder: &mut D,
+        run: &Run,
+        number: u32,
+        input: &Input<'_>,
+        window: &mut Window,
+    ) -> Result<Option<Overlap>, Stopped>
+        requires held { AreKnown (D.seen folder.old).files (map string_bytes self.now.inputs.now)
+            (map tells self.now.surveys.now) }
+        requires one { AreOfOneClass (map tells self.now.surveys.now) }
+        requires next { IsNext (map tells self.now.surveys.now) number run.now input.now }
+        ensures within { IfOk result (λ alike. IfSome alike
+            (λ o. o.frames ≤ length input.now.needs.now)) }
+        ensures alike { IfOk result (IsAlike (D.seen folder.old).files
+            (map string_bytes self.now.inputs.now) (map tells self.now.surveys.now) number run.now
+            input.now) }
+        ensures stopped { IfErr result (StopsIn (map string_bytes self.now.inputs.now)
+            (D.seen folder.old).files (D.seen folder.old).counts (D.seen folder.new).counts) }
+        ensures reads { OnlyRead result (D.seen folder.old) (D.seen folder.new) }
+    {
+        let Some(overlap) = run.overlap(input) else {
+            return Ok(None);
+        };
+        let count = overlap.frames - overlap.first_alike;
+        let Some(places) = run.last(count as usize) else {
+            return Ok(None);
+        };
+        let mut frame = overlap.first_alike;
+        for place in places {
+            let other = FramePlace {
+                input: number,
+                frame,
+            };
+            if !self.sound_alike(folder, *place, other, window)? {
+                return Ok(None);
+            }
+            frame += 1;
+        }
+        Ok(Some(overlap))
+    }
+}
+
+/// What is decided so far: what becomes of each later input, the run, and what its frames need, in the slots in which they
+/// joined; and the memory in which frames are compared.
+#[derive(Drop)]
+struct Deciding {
+    joints: Vec<Joint>,
+    run: Run,
+    needs: Vec<Need>,
+    window: Window,
+}
+
+impl Deciding {
+    /// The first input begins the run with all its frames.
+    ///
+    /// # Errors
+    /// Where there is no memory.
+    fn begin(alloc: Global, survey: &Survey, beginning: &Beginning) -> Result<Deciding, AllocError>
+        requires { CanBegin (tells survey.now) }
+        ensures { IfOk result (HasBegun (tells survey.now) beginning.now) }
+    {
+        let parts = needs_of(alloc, survey)?;
+        let needs = parts.needs();
+        let class = survey.class();
+        Ok(Deciding {
+            joints: Vec::new(alloc),
+            run: Run::begin(class, &brought(class, needs, beginning)),
+            needs: Vec::from_slice(alloc, needs)?,
+            window: Window::new(alloc)?,
+        })
+    }
+
+    /// What becomes of the input with this number, after those before it.
+    ///
+    /// # Errors
+    /// `Input` with `Read` or `Shrunk` where an input can't be read; `Memory`.
+    fn add<D: Folder>(
+        &mut self,
+        alloc: Global,
+        folder: &mut D,
+        sources: &Sources<'_>,
+        number: u32,
+        beginnings: &[Beginning],
+    ) -> Result<(), EditFault>
+        requires can { CanBeDecided (D.seen folder.old).files
+            (map string_bytes sources.now.inputs.now) (map tells sources.now.surveys.now)
+            beginnings.now }
+        requires within { number < length sources.now.inputs.now }
+        requires before { IsDecidingTo (D.seen folder.old).files
+            (map string_bytes sources.now.inputs.now) (map tells sources.now.surveys.now)
+            beginnings.now number self.old }
+        ensures decided { OnOk result (IsDecidingTo (D.seen folder.old).files
+            (map string_bytes sources.now.inputs.now) (map tells sources.now.surveys.now)
+            beginnings.now (number + 1) self.new) }
+        ensures refused { IfErr result (IsReadFault (map string_bytes sources.now.inputs.now)
+            (D.seen folder.old)
+            (D.seen folder.new)) }
+        ensures numbers { IfErr result (IsOfJoin (length sources.now.inputs.now)) }
+        ensures reads { OnlyRead result (D.seen folder.old) (D.seen folder.new) }
+    {
+        let survey = known_at(sources.surveys, number as usize);
+        let parts = needs_of(alloc, survey)?;
+        let beginning = &beginnings[number as usize];
+        let input = brought(survey.class(), parts.needs(), beginning);
+        let alike = sources.alike(folder, &self.run, number, &input, &mut self.window)?;
+        let joint = self.run.join(number, &input, alike);
+        add_needs(&joint, input.needs, &mut self.needs)?;
+        self.joints.push(joint)?;
+        Ok(())
+    }
+}
+
+/// What is decided of all inputs: how many frames are left out at the front of the first, 0 or 1, what becomes of each later
+/// one, and what all frames of the run need, in the slots in which they joined, those at its front that are left out among them.
+#[derive(Drop)]
+pub(crate) struct Decided {
+    pub front: u32,
+    pub joints: Vec<Joint>,
+    pub needs: Vec<Need>,
+}
+
+impl Decided {
+    /// What the frames need that are written.
+    pub fn run(&self) -> &[Need]
+        requires { self.now.front ≤ length self.now.needs.items }
+        ensures { result.now ≡ run_needs self.now }
+    {
+        &self.needs[self.front as usize..]
+    }
+
+    /// How many frames are left out at the front of each input.
+    pub fn left_out(&self) -> ArrayVec<u32, 64>
+        requires { length self.now.joints.items < 64 }
+        ensures { result.items ≡ left_out_of self.now }
+    {
+        let mut left_out = ArrayVec::new();
+        left_out.push(self.front);
+        for joint in &self.joints {
+            left_out.push(joint.seam.left_out());
+        }
+        left_out
+    }
+}
+
+/// How many frames leave the whole run at its front, 1 or 0: the lead-in of the first input, if the others want one. The run
+/// needs this.
+fn front_of(survey: &Survey, beginning: &Beginning, run: &[Need]) -> u32
+    requires begin { CanBegin (tells survey.now) }
+    requires same { AreOfClass (tells survey.now).class run.now }
+    requires fits { FitsBehind (window_of (tells survey.now).class.version)
+        (window_of (tells survey.now).class.version) run.now }
+    requires first { take (length (tells survey.now).frames) run.now ≡ needs_in (tells survey.now) }
+    ensures front { (first : Brought) (frames : List Frame)
+        → BringsNeeds (tells survey.now) beginning.now first → run.now ≡ needs_of_frames frames
+        → result ≡ front_left_out_lem (tells survey.now).class first frames }
+    ensures most { result ≤ 1 }
+    ensures behind { result < length (tells survey.now).frames }
+{
+    let count = survey.frames().len();
+    let first = brought(survey.class(), &run[..count], beginning);
+    front_left_out(&first, run)
+}
+
+/// What becomes of all inputs, whose heads are set apart. The files stay.
+///
+/// # Errors
+/// `Input` with the number of an input and `Read` or `Shrunk`, where frames that are compared could not be read; `Memory`.
+pub(crate) fn decide_all<D: Folder>(
+    alloc: Global,
+    folder: &mut D,
+    sources: &Sources<'_>,
+    beginnings: &[Beginning],
+) -> Result<Decided, EditFault>
+    requires can { CanBeDecided (D.seen folder.old).files
+        (map string_bytes sources.now.inputs.now) (map tells sources.now.surveys.now)
+        beginnings.now }
+    ensures decided { IfOk result (IsDecided (D.seen folder.old).files
+        (map string_bytes sources.now.inputs.now) (map tells sources.now.surveys.now)
+        beginnings.now) }
+    ensures refused { IfErr result (IsReadFault (map string_bytes sources.now.inputs.now)
+        (D.seen folder.old)
+        (D.seen folder.new)) }
+    ensures numbers { IfErr result (IsOfJoin (length sources.now.inputs.now)) }
+    ensures reads { OnlyRead result (D.seen folder.old) (D.seen folder.new) }
+{
+    let first = known_at(sources.surveys, 0);
+    let mut deciding = Deciding::begin(alloc, first, &beginnings[0])?;
+    for number in 1..sources.inputs.len() {
+        deciding.add(alloc, folder, sources, number as u32, beginnings)?;
+    }
+    let Deciding { joints, needs, .. } = deciding;
+    let front = front_of(first, &beginnings[0], needs.as_slice());
+    Ok(Decided {
+        front,
+        joints,
+        needs,
+    })
+}

@@ -1,0 +1,119 @@
+//! Delay and padding of a join without seams, and what its Info frame keeps of the heads.
+ghost use Rattle.std.specs.Prelude.{◌≡◌, ◌<◌, length, option_copied, IfSome};
+ghost use Rattle.cut_edits.specs.Exact.{quality_of as quality_of_lem};
+ghost use Rattle.join_edits.specs.Numbers.{delay_in, padding_in, says_gain as says_gain_lem, all_say as all_say_lem, gains_kept, kept_in};
+
+use crate::beginnings::Beginning;
+use exact_span::{Played, counts_of, extension};
+use frame_header::Class;
+use info_header::Info;
+use laying::Kept;
+
+/// By how many samples a decoder is late, as players reckon it.
+const DECODER_DELAY: u64 = 529;
+
+/// The greatest number of 12 bits.
+const MOST: u64 = 4095;
+
+/// How often what a player leaves out at the front changes by a whole frame: for each frame that is left out there, and for each
+/// lead-in before the first.
+#[derive(Clone, Copy)]
+pub(crate) struct Moved {
+    pub left_out: u32,
+    pub lead_ins: u32,
+}
+
+/// The delay in samples of a run that begins with an input of so many frames and with this head: as many frames more or fewer
+/// than the head's own. `None` where the head doesn't count, or where the delay has more than 12 bits.
+fn delay_of(class: Class, head: Option<&Info>, frames: u32, moved: Moved) -> Option<u16>
+    ensures delay { result ≡ delay_in class (option_copied head.entry) frames moved }
+    ensures most { IfSome result (λ delay. delay < 4096) }
+{
+    let played = Played::counted(head, class, frames)?;
+    let samples = u64::from(class.samples());
+    let start = played.start + u64::from(moved.lead_ins) * samples;
+    let delay = start
+        .saturating_sub(u64::from(moved.left_out) * samples)
+        .saturating_sub(DECODER_DELAY);
+    if delay <= MOST {
+        Some(delay as u16)
+    } else {
+        None
+    }
+}
+
+/// The padding in samples of a run that ends with an input of so many frames and with this head.
+fn padding_of(class: Class, head: Option<&Info>, frames: u32) -> u16
+    ensures padding { result ≡ padding_in class (option_copied head.entry) frames }
+    ensures most { result < 4096 }
+{
+    let rest = match Played::counted(head, class, frames) {
+        Some(played) => played.rest(class, frames),
+        None => 0,
+    };
+    (rest + DECODER_DELAY) as u16
+}
+
+/// Whether a head counts, and says this of peak and gains.
+fn says_gain(gain: &[u8], head: Option<&Info>) -> bool
+    ensures { result ≡ says_gain_lem gain.now (option_copied head.entry) }
+{
+    match head {
+        Some(info) => counts_of(head).is_some() && &info.extension[11..19] == gain,
+        None => false,
+    }
+}
+
+/// Whether the heads of all these do.
+fn all_say(gain: &[u8], beginnings: &[Beginning]) -> bool
+    ensures { result ≡ all_say_lem gain.now beginnings.now }
+{
+    for beginning in beginnings {
+        if !says_gain(gain, beginning.head.as_ref()) {
+            return false;
+        }
+    }
+    true
+}
+
+/// The extension, whose peak and gains stay only where the heads of all these inputs say the same.
+fn keep_gains(extension: &mut [u8; 36], beginnings: &[Beginning])
+    ensures { extension.new ≡ gains_kept extension.old beginnings.now }
+{
+    if !all_say(&extension[11..19], beginnings) {
+        extension[11..19].fill(0);
+    }
+}
+
+/// The quality that a head says.
+fn quality_of(head: Option<&Info>) -> Option<u32>
+    ensures { result ≡ quality_of_lem (option_copied head.entry) }
+{
+    head?.quality
+}
+
+/// How the first input begins, and how the last ends, whose frames are so many.
+#[derive(Clone, Copy)]
+pub(crate) struct Ends {
+    pub class: Class,
+    pub first: u32,
+    pub last: u32,
+}
+
+/// What the Info frame keeps of the heads: the quality of the first, and its extension with the delay and the padding of the
+/// run. `None` where no numbers are written. There is an input.
+pub(crate) fn kept_of(beginnings: &[Beginning], ends: Ends, moved: Moved) -> Option<Kept>
+    requires { 0 < length beginnings.now }
+    ensures { result ≡ kept_in beginnings.now ends moved }
+{
+    let first = beginnings[0].head.as_ref();
+    let last = beginnings[beginnings.len() - 1].head.as_ref();
+    let delay = delay_of(ends.class, first, ends.first, moved)?;
+    let padding = padding_of(ends.class, last, ends.last);
+    let mut kept = extension(first, delay, padding);
+    keep_gains(&mut kept, &beginnings[1..]);
+    Some(Kept {
+        quality: quality_of(first),
+        extension: kept,
+    })
+}

@@ -1,0 +1,205 @@
+//! The seamless join over a folder.
+ghost use Rattle.std.specs.Prelude.{◌≡◌, ◌↔◌, ◌≤◌, ℕ, [], ◌∷◌, None, Some, length, map, string_bytes, IfOk, IfErr, OnOk, IsErrOf};
+ghost use Rattle.outside.specs.Counts.{NoneFell};
+ghost use Rattle.outside.specs.Seen.{OnlyRead};
+ghost use Rattle.sync_survey.specs.Faults.{tells};
+ghost use Rattle.commands.specs.Command.{HoldsStreams, clash_of};
+ghost use Rattle.commands.specs.Left.{IsDone, Leaves, HasNumbers};
+ghost use Rattle.commands.specs.One.{IsEarlyFault};
+ghost use Rattle.commands.specs.Runs.{IsRunOf};
+ghost use Rattle.commands.specs.Said.{Says, fault_of};
+ghost use Rattle.join_edits.specs.Inputs.{IsOfJoin};
+ghost use Rattle.join_edits.specs.Reading.{IsReadFault};
+ghost use Rattle.join_edits.specs.Deciding.{CanBeDecided};
+ghost use Rattle.join_edits.specs.Seamless.{seamless_task, seamless_command};
+ghost use Rattle.join_edits.specs.SeamlessReady.{IsMade, IsReady};
+
+use crate::beginnings::{Beginning, beginnings_of, set_all_apart};
+use crate::decided::{Decided, decide_all};
+use crate::join_file::clash;
+use crate::lines::send_lines;
+use crate::planned::{Work, prepare_run};
+use crate::sounds::Sources;
+use crate::surveys::survey_all;
+use crate::written::write_joined;
+use commands::EditFault;
+use outside::{Failed, Folder, SendBuffer, Sink};
+use std::alloc::Global;
+use sync_survey::Survey;
+
+/// What is decided, what is made ready for the second pass, and the memory of the text.
+#[derive(Drop)]
+struct Made {
+    decided: Decided,
+    work: Work,
+    sending: SendBuffer,
+}
+
+/// All that is made ready before the output is created: what is known of the inputs, whose heads are set apart, and what is
+/// made of them.
+#[derive(Drop)]
+struct Ready {
+    surveys: Vec<Survey>,
+    made: Made,
+}
+
+/// Decides which frames are left out, and makes all ready for the second pass.
+///
+/// # Errors
+/// `Input` with the number of an input and `Read` or `Shrunk`; `Memory`. The files stay.
+fn make_ready<D: Folder>(
+    alloc: Global,
+    folder: &mut D,
+    sources: &Sources<'_>,
+    beginnings: &[Beginning],
+) -> Result<Made, EditFault>
+    requires can { CanBeDecided (D.seen folder.old).files
+        (map string_bytes sources.now.inputs.now) (map tells sources.now.surveys.now)
+        beginnings.now }
+    ensures made { IfOk result (IsMade (D.seen folder.old).files
+        (map string_bytes sources.now.inputs.now) (map tells sources.now.surveys.now)
+        beginnings.now) }
+    ensures refused { IfErr result (IsReadFault (map string_bytes sources.now.inputs.now)
+        (D.seen folder.old)
+        (D.seen folder.new)) }
+    ensures numbers { IfErr result (IsOfJoin (length sources.now.inputs.now)) }
+    ensures reads { OnlyRead result (D.seen folder.old) (D.seen folder.new) }
+{
+    let decided = decide_all(alloc, folder, sources, beginnings)?;
+    let work = prepare_run(alloc, sources.surveys, beginnings, &decided)?;
+    let sending = SendBuffer::new(alloc)?;
+    Ok(Made {
+        decided,
+        work,
+        sending,
+    })
+}
+
+/// Surveys the inputs, decides which frames are left out, and makes all ready for the second pass.
+///
+/// # Errors
+/// Those of `join_seamless` before the output is created. The files stay.
+fn prepare_all<D: Folder>(
+    alloc: Global,
+    folder: &mut D,
+    inputs: &[String],
+) -> Result<Ready, EditFault>
+    requires some { 1 ≤ length inputs.now }
+    requires few { length inputs.now ≤ 64 }
+    ensures ready { IfOk result (IsReady (map string_bytes inputs.now) (D.seen folder.old).files) }
+    ensures refused { IfErr result (IsEarlyFault (seamless_task (map string_bytes inputs.now))
+        (D.seen folder.old)
+        (D.seen folder.new)) }
+    ensures numbers { IfErr result (IsOfJoin (length inputs.now)) }
+    ensures reads { OnlyRead result (D.seen folder.old) (D.seen folder.new) }
+{
+    let mut surveys = survey_all(alloc, folder, inputs)?;
+    let beginnings = beginnings_of(alloc, folder, inputs, surveys.as_slice())?;
+    set_all_apart(surveys.as_mut_slice());
+    let sources = Sources {
+        inputs,
+        surveys: surveys.as_slice(),
+    };
+    let made = make_ready(alloc, folder, &sources, beginnings.as_slice())?;
+    Ok(Ready { surveys, made })
+}
+
+/// Writes the output, and then sends to `out` what became of each input. No name clashes, and all is ready.
+///
+/// # Errors
+/// Those of `join_seamless` from the first byte on that is written.
+fn write_and_tell<D: Folder, T: Sink>(
+    folder: &mut D,
+    inputs: &[String],
+    output: &str,
+    ready: &mut Ready,
+    out: &mut T,
+) -> Result<(), EditFault>
+    requires some { 1 ≤ length inputs.now }
+    requires few { length inputs.now ≤ 64 }
+    requires free { clash_of (seamless_command output.now (map string_bytes inputs.now)) ≡ None }
+    requires ready { IsReady (map string_bytes inputs.now) (D.seen folder.old).files ready.old }
+    ensures run { IsRunOf (seamless_command output.now (map string_bytes inputs.now))
+        (D.seen folder.old)
+        (D.seen folder.new) result }
+    ensures says { Says (seamless_command output.now (map string_bytes inputs.now))
+        (D.seen folder.old).files (T.heard out.old) (T.heard out.new)
+        (fault_of result) }
+{
+    let Ready { surveys, made } = ready;
+    let Made {
+        decided,
+        work,
+        sending,
+    } = made;
+    let left_out = decided.left_out();
+    write_joined(folder, inputs, output, surveys, left_out.as_slice(), work)?;
+    match send_lines(inputs, decided.joints.as_slice(), sending, out) {
+        Ok(()) => Ok(()),
+        Err(Failed) => Err(EditFault::Sent),
+    }
+}
+
+/// Writes the output, which is the frames of the inputs, 1 to 64 of one class, in their order and with all main data, but for
+/// those that only a piece needs: the ID3v2 blocks of the first input before its first frame or head, an Info frame, and the
+/// frames in the slots of their plan, which are one part (ISO/IEC 11172-3, 2.4.2.7). Then it sends to `out` a line for each
+/// input after the first. What is before an input serves as its bit reservoir. The first of these that can be decides what
+/// becomes of an input:
+///
+/// | line | what is left out at its front |
+/// |---|---|
+/// | `NAME: follows, X frames left out` | the X frames that it shares with the input before it, where the heads of both count, these frames are whole frames, and those of them that are played sound as the last frames before it |
+/// | `NAME: lead-in left out` | the lead-in in front, where the frames after it want one |
+/// | `NAME: whole` | nothing |
+///
+/// Frames join where their main data have room behind the frames before them, the first of them in its own slot or in the least
+/// greater one. At last the lead-in of the first input goes where the others want one, and the plan gives them one again.
+///
+/// In every input the head is set apart, as players leave it out: a frame whose main data begin in its area, before which every
+/// frame is silent or lost, is lost too, and lost frames are written as empty ones. The Info frame has the quality of the first
+/// input's head, and an extension with encoder delay, padding, music length and tag CRC, where this head counts and the delay
+/// has 12 bits: the delay of the first input, by as many frames more or fewer as are at the front now, and the padding of the
+/// last. Peak and ReplayGain stay where the heads of all inputs say the same.
+///
+/// # Errors
+/// Those of `join`, in their order, and for `Input` with `Read` and `Shrunk` also where a head, or a frame that is compared,
+/// could not be read. After these nothing was created and nothing sent, but for those of the second pass: `Input` with `Read`
+/// or `Shrunk`, and `Write(0)`, after which the output is as it was or holds a prefix of its bytes, with `Write(0)` not all of
+/// them, and nothing was sent. `Sent` where a write to `out` failed; then the output is whole, and `out` got a prefix of the
+/// text.
+pub fn join_seamless<D: Folder, T: Sink>(
+    alloc: Global,
+    folder: &mut D,
+    output: &str,
+    inputs: &[String],
+    out: &mut T,
+) -> Result<(), EditFault>
+    requires some { 1 ≤ length inputs.now }
+    requires few { length inputs.now ≤ 64 }
+    ensures done { OnOk result (IsDone (seamless_command output.now (map string_bytes inputs.now))
+        (D.seen folder.old)
+        (D.seen folder.new)) }
+    ensures left { IfErr result (Leaves (seamless_command output.now (map string_bytes inputs.now))
+        (D.seen folder.old)
+        (D.seen folder.new)) }
+    // The text, of which a prefix was sent where a write failed.
+    ensures says { Says (seamless_command output.now (map string_bytes inputs.now))
+        (D.seen folder.old).files (T.heard out.old) (T.heard out.new)
+        (fault_of result) }
+    // Over a folder that tells nothing too.
+    ensures numbers { IfErr result (HasNumbers (seamless_command output.now
+        (map string_bytes inputs.now))) }
+    ensures names { (place : ℕ) → IsErrOf result (EditFault.EqualNames place)
+        ↔ (clash_of (seamless_command output.now (map string_bytes inputs.now)) ≡ Some place) }
+    // The inputs are well-formed, and the output holds the frames of the run after at most one lead-in.
+    ensures streams { OnOk result (HoldsStreams (seamless_command output.now
+        (map string_bytes inputs.now))
+        (D.seen folder.old).files) }
+    ensures counts { NoneFell (D.seen folder.old).counts (D.seen folder.new).counts }
+{
+    if let Some(place) = clash(output, inputs) {
+        return Err(EditFault::EqualNames(place));
+    }
+    let mut ready = prepare_all(alloc, folder, inputs)?;
+    write_and_tell(folder, inputs, output, &mut ready, out)
+}

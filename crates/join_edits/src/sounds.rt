@@ -1,0 +1,213 @@
+//! Whether frames of inputs sound alike: whether they are the same but for slot, gains, and where their main data begin.
+ghost use Rattle.std.specs.Prelude.{◌≡◌, ◌<◌, length, map, take, string_bytes, bytes_eq, slice_get, IfOk, IfErr, OnOk};
+ghost use Rattle.bit_fields.specs.Bits.{bits, AreBytes};
+ghost use Rattle.frame_header.specs.Tables.{class_of, side_size_of};
+ghost use Rattle.frame_header.specs.HeaderBits.{header_bits};
+ghost use Rattle.side_info.specs.Side.{side_bits, SideFits};
+ghost use Rattle.outside.specs.Files.{IfTold};
+ghost use Rattle.outside.specs.Seen.{OnlyRead};
+ghost use Rattle.sync_survey.specs.MainData.{side_of as side_of_lem};
+ghost use Rattle.sync_survey.specs.Faults.{tells};
+ghost use Rattle.join_edits.specs.Reading.{AreKnown, StopsIn};
+ghost use Rattle.join_edits.specs.Sounds.{without_slot, without_gain, bare, same_front as same_front_lem, IsAt, row_at, AreOfOneClass, frames_of, payload_at_place, same_sounds};
+
+use crate::inputs::{known_at, name_at};
+use crate::main_data::Source;
+use crate::stopped::Stopped;
+use arrayvec::ArrayVec;
+use frame_header::{Class, Header};
+use outside::Folder;
+use reservoir::Window;
+use seam_plan::FramePlace;
+use side_info::{Granule, Side};
+use sync_survey::{Row, Survey};
+
+/// Whether two headers are the same but for their slots.
+fn same_header(first: &Header, second: &Header) -> bool
+    ensures { result ≡ bytes_eq (header_bits (without_slot first.now))
+        (header_bits (without_slot second.now)) }
+{
+    first.with_slot(second.slot).bytes() == second.bytes()
+}
+
+/// The fields of a granule and channel without its gain.
+fn without_gain_of(granule: &Granule) -> Granule
+    ensures { result ≡ without_gain granule.now }
+{
+    let mut bare = *granule;
+    bare.global_gain = 0;
+    bare
+}
+
+/// Those of both channels of a granule.
+fn pair_without_gains(pair: &[Granule; 2]) -> [Granule; 2]
+    ensures pair { result ≡ map without_gain pair.now }
+    ensures two { length pair.now ≡ 2 }
+{
+    [without_gain_of(&pair[0]), without_gain_of(&pair[1])]
+}
+
+/// Side information without gains and main_data_begin.
+fn bare_side(side: &Side) -> Side
+    ensures { result ≡ bare side.now }
+{
+    let mut bare = side.with_begin(0);
+    bare.granules = [
+        pair_without_gains(&side.granules[0]),
+        pair_without_gains(&side.granules[1]),
+    ];
+    bare
+}
+
+/// Writes the side information of a frame of this class over all the bytes.
+fn write_side(class: Class, side: &Side, bytes: &mut [u8])
+    requires fits { SideFits class side.now }
+    requires size { length bytes.old ≡ side_size_of class }
+    ensures bits { bits bytes.new ≡ side_bits class side.now }
+    ensures octets { AreBytes bytes.new }
+{
+    side.write(class, bytes);
+}
+
+/// The bytes of this side information of a class, and zeros after them.
+fn side_room(class: Class, side: &Side) -> [u8; 32]
+    requires { SideFits class side.now }
+    ensures bits { bits (take (side_size_of class) result) ≡ side_bits class side.now }
+    ensures octets { AreBytes (take (side_size_of class) result) }
+{
+    let mut room = [0; 32];
+    write_side(class, side, &mut room[..class.side_size() as usize]);
+    room
+}
+
+/// Whether the side information of two frames of a class is the same but for gains and main_data_begin.
+fn same_side(class: Class, first: &Side, second: &Side) -> bool
+    requires first { SideFits class first.now }
+    requires second { SideFits class second.now }
+    ensures { result ≡ bytes_eq (side_bits class (bare first.now))
+        (side_bits class (bare second.now)) }
+{
+    let size = class.side_size() as usize;
+    let first = side_room(class, &bare_side(first));
+    let second = side_room(class, &bare_side(second));
+    first[..size] == second[..size]
+}
+
+/// The side information of a frame, all 0 if the frame is lost.
+fn side_of(row: &Row) -> Side
+    ensures side { result ≡ side_of_lem row.now }
+    ensures fits { SideFits (class_of row.now.header) result }
+{
+    if row.lost() {
+        Side::empty()
+    } else {
+        row.side()
+    }
+}
+
+/// Whether header and side information of two frames of a class are the same but for slot, gains and main_data_begin.
+fn same_front(class: Class, first: &Row, second: &Row) -> bool
+    requires first { class_of first.now.header ≡ class }
+    requires second { class_of second.now.header ≡ class }
+    ensures { result ≡ same_front_lem class first.now second.now }
+{
+    same_header(&first.header(), &second.header())
+        && same_side(class, &side_of(first), &side_of(second))
+}
+
+/// All inputs, with their names and what is known of them, the heads set apart.
+#[derive(Clone, Copy)]
+pub(crate) struct Sources<'a> {
+    pub inputs: &'a [String],
+    pub surveys: &'a [Survey],
+}
+
+impl<'a> Sources<'a> {
+    /// An input by its number, counted from 0.
+    pub fn at(&self, place: u32) -> Source<'a>
+        requires inputs { place < length self.now.inputs.now }
+        requires surveys { place < length self.now.surveys.now }
+        ensures name { slice_get (map string_bytes self.now.inputs.now) place
+            ≡ Some result.name.now }
+        ensures survey { slice_get (map tells self.now.surveys.now) place
+            ≡ Some (tells result.survey.now) }
+    {
+        Source {
+            name: name_at(self.inputs, place as usize),
+            survey: known_at(self.surveys, place as usize),
+        }
+    }
+
+    /// A frame of an input.
+    fn row(&self, place: FramePlace) -> &'a Row
+        requires { IsAt (map tells self.now.surveys.now) place }
+        ensures { row_at (map tells self.now.surveys.now) place ≡ Some result.now }
+    {
+        &self.surveys[place.input as usize].frames()[place.frame as usize]
+    }
+
+    /// Puts the main data of a frame into a list, in place of what is in it.
+    ///
+    /// # Errors
+    /// `Read` or `Shrunk` where the input can't be read.
+    fn main_data<D: Folder>(
+        &self,
+        folder: &mut D,
+        place: FramePlace,
+        window: &mut Window,
+        into: &mut ArrayVec<u8, 2048>,
+    ) -> Result<(), Stopped>
+        requires held { AreKnown (D.seen folder.old).files (map string_bytes self.now.inputs.now)
+            (map tells self.now.surveys.now) }
+        requires there { IsAt (map tells self.now.surveys.now) place }
+        ensures payload { OnOk result (IfTold (D.seen folder.old).files (λ f. into.new.items
+            ≡ payload_at_place f (map string_bytes self.now.inputs.now)
+            (map tells self.now.surveys.now) place)) }
+        ensures stopped { IfErr result (StopsIn (map string_bytes self.now.inputs.now)
+            (D.seen folder.old).files (D.seen folder.old).counts (D.seen folder.new).counts) }
+        ensures reads { OnlyRead result (D.seen folder.old) (D.seen folder.new) }
+    {
+        let source = self.at(place.input);
+        match source.main_data(folder, place.frame as usize, window, into) {
+            Ok(()) => Ok(()),
+            Err(fault) => Err(Stopped {
+                place: place.input,
+                fault,
+            }),
+        }
+    }
+
+    /// Whether two frames of inputs are the same but for slot, gains, and where their main data begin.
+    ///
+    /// # Errors
+    /// `Read` or `Shrunk` where an input can't be read.
+    pub fn sound_alike<D: Folder>(
+        &self,
+        folder: &mut D,
+        first: FramePlace,
+        second: FramePlace,
+        window: &mut Window,
+    ) -> Result<bool, Stopped>
+        requires held { AreKnown (D.seen folder.old).files (map string_bytes self.now.inputs.now)
+            (map tells self.now.surveys.now) }
+        requires one { AreOfOneClass (map tells self.now.surveys.now) }
+        requires first { IsAt (map tells self.now.surveys.now) first }
+        requires second { IsAt (map tells self.now.surveys.now) second }
+        ensures same { IfOk result (λ same. IfTold (D.seen folder.old).files (λ f. same
+            ≡ same_sounds (frames_of f (map string_bytes self.now.inputs.now)
+            (map tells self.now.surveys.now)) first second)) }
+        ensures stopped { IfErr result (StopsIn (map string_bytes self.now.inputs.now)
+            (D.seen folder.old).files (D.seen folder.old).counts (D.seen folder.new).counts) }
+        ensures reads { OnlyRead result (D.seen folder.old) (D.seen folder.new) }
+    {
+        let class = self.surveys[first.input as usize].class();
+        if !same_front(class, self.row(first), self.row(second)) {
+            return Ok(false);
+        }
+        let mut one = ArrayVec::new();
+        let mut other = ArrayVec::new();
+        self.main_data(folder, first, window, &mut one)?;
+        self.main_data(folder, second, window, &mut other)?;
+        Ok(one.as_slice() == other.as_slice())
+    }
+}
