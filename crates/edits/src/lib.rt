@@ -13,6 +13,7 @@
 //! | `pack_with` | `pack_edits` | packs in a mode: with the least slots, one bit rate alone, bit rates from one on, or the fewest bytes |
 //! | `split` | `split_edits` | lays the frames between positions anew, a file for each piece |
 //! | `join` | `join_edits` | lays the frames of several files anew in one |
+//! | `join_seamless` | `join_edits` | the same without the frames that only a piece needs, and sends which were left out to a sink |
 //! | `salvage` | `salvage_edits` | lays what can be read of a damaged file anew, and sends what is missing to a sink |
 //!
 //! What they share, the faults and the one body of those that make one file, is in `commands`.
@@ -23,7 +24,7 @@ pub use gain_edits::{
     fade, fade_gives_back, fade_keeps_all, gain, gains_keep_all, opposite_gives_back,
     steps_are_exact, undo, undo_gives_back,
 };
-pub use join_edits::join;
+pub use join_edits::{join, join_seamless};
 pub use list_edits::{info, list};
 pub use moved_gains::{Gains, Stuck, gains_of};
 pub use pack_edits::{PackMode, fewest_bytes, floors_fit, never_longer, pack_with};

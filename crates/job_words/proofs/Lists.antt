@@ -1,76 +1,115 @@
 -- Searches, members, greatest numbers and agreeing lists.
-use Rattle.std.proofs.Common.{◌≡◌, ◌↔◌, ℕ, zero, suc, ◌+◌, ◌≤◌, ◌⊎◌, ◌&&◌, Bool, true, false, cond, List, [], ◌∷◌, ◌++◌, length, take, drop, map, replicate, max, min, Some, None, refl, sym, ap, ◌∙◌, subst, inl, inr, arith}
-use Rattle.std.specs.Prelude.{find, fold, Contains}
-use Rattle.std.specs.List.{All, AllZip, common_prefix_len, flat_map, position_or_len, slice_get}
-use Rattle.std.specs.Cmp.Lexicographic.{pointwise}
-use Rattle.std.proofs.lemmas.Bool.{and_parts, cases_lt}
-use Rattle.std.proofs.lemmas.Grind.{common_steps}
+use Rattle.std.proofs.Common.{ap, arith, Bool, cond, drop, false, inl, inr, length, List, map, max}
+use Rattle.std.proofs.Common.{min, None, refl, replicate, Some, subst, suc, sym, take, true, zero}
+use Rattle.std.proofs.Common.{ℕ, [], ◌&&◌, ◌++◌, ◌+◌, ◌↔◌, ◌∙◌, ◌∷◌, ◌≡◌, ◌≤◌, ◌⊎◌}
+use Rattle.std.proofs.lemmas.{Bool.{and_parts, cases_lt}, Grind.common_steps}
 use Rattle.std.proofs.lemmas.List.{get_or-map, length-map}
-use Rattle.std.proofs.lemmas.List.Elements.{All-nil, All-cons, All-append, All-contains, Contains-append_left, Contains-append_right}
+use Rattle.std.proofs.lemmas.List.Elements.{All-append, All-cons, All-contains, All-nil}
+use Rattle.std.proofs.lemmas.List.Elements.{Contains-append_left, Contains-append_right}
 use Rattle.std.proofs.lemmas.List.Folds.{find_at}
-use Rattle.std.proofs.lemmas.List.Sums.{passes_at_first, fails_before_first, fold-append}
-use Rattle.std.proofs.lemmas.Option.{slice_get_within, get_or_from_slice_get, gets}
+use Rattle.std.proofs.lemmas.List.Sums.{fails_before_first, fold-append, passes_at_first}
+use Rattle.std.proofs.lemmas.Option.{get_or_from_slice_get, gets, slice_get_within}
+use Rattle.std.specs.Cmp.Lexicographic.{pointwise}
+use Rattle.std.specs.List.{All, AllZip, common_prefix_len, flat_map, position_or_len, slice_get}
+use Rattle.std.specs.Prelude.{Contains, find, fold}
 
 -- ---- searches
 
 -- what a search finds
-pub found : {X : Type 0} (p : X → Bool) (xs : List X) (x : X) → find p xs ≡ Some x → Contains xs x × (p x ≡ true)
+pub found : {X : Type 0} (p : X → Bool) (xs : List X) (x : X) → find p xs ≡ Some x
+    → Contains xs x × (p x ≡ true)
 found p xs x e =
     let there : slice_get xs (position_or_len p xs) ≡ Some x = sym (find_at p xs) ∙ e in
-    let member : Contains xs x = (position_or_len p xs, slice_get_within xs (position_or_len p xs) x there, get_or_from_slice_get xs (position_or_len p xs) x x there) in
+    let member : Contains xs x = (
+      position_or_len p xs,
+      slice_get_within xs (position_or_len p xs) x there,
+      get_or_from_slice_get xs (position_or_len p xs) x x there,
+    ) in
     (member, grind (arith, common_steps, gets, find_at p xs, passes_at_first p xs))
 
 -- a member doesn't pass where the search finds nothing
-pub none_is : {X : Type 0} (p : X → Bool) (xs : List X) (x : X) → find p xs ≡ None → Contains xs x → p x ≡ false
-none_is p xs x none member = grind (arith, common_steps, gets, find_at p xs, fails_before_first p xs)
+pub none_is : {X : Type 0} (p : X → Bool) (xs : List X) (x : X) → find p xs ≡ None → Contains xs x
+    → p x ≡ false
+none_is p xs x none member =
+    grind (arith, common_steps, gets, find_at p xs, fails_before_first p xs)
 
 -- the search finds the one member that may pass, if it does
-pub only_one : {X : Type 0} (p : X → Bool) (xs : List X) (best : X) → Contains xs best → All (λ x. p x ≡ true → x ≡ best) xs → find p xs ≡ cond (p best) (Some best) None
+pub only_one : {X : Type 0} (p : X → Bool) (xs : List X) (best : X) → Contains xs best
+    → All (λ x. p x ≡ true → x ≡ best) xs → find p xs ≡ cond (p best) (Some best) None
 only_one p xs best member only =
     elim (find p xs) as (λ o. find p xs ≡ o → o ≡ cond (p best) (Some best) None) [
       | None ↦ λ none. rw (none_is p xs best none member) refl
       | Some x ↦ λ is.
           let first = found p xs x is in
-          let same : x ≡ best = All-contains (λ x. p x ≡ true → x ≡ best) xs x only first.0 first.1 in
+          let same : x ≡ best =
+          All-contains (λ x. p x ≡ true → x ≡ best) xs x only first.0 first.1 in
           rw (← same, first.1) refl
     ] refl
 
 -- ---- members
 
-pub contains_map : {X Y : Type 0} (f : X → Y) (xs : List X) (x : X) → Contains xs x → Contains (map f xs) (f x)
-contains_map f xs x member = (member.0, rw length-map member.1, get_or-map f xs member.0 x (f x) member.1 ∙ ap f member.2)
+-- what is made of a member is among what is made of all
+pub contains_map : {X Y : Type 0} (f : X → Y) (xs : List X) (x : X) → Contains xs x
+    → Contains (map f xs) (f x)
+contains_map f xs x member =
+    (member.0, rw length-map member.1, get_or-map f xs member.0 x (f x) member.1 ∙ ap f member.2)
 
-pub contains_flat_map : {X Y : Type 0} (f : X → List Y) (xs : List X) (x : X) (y : Y) → Contains xs x → Contains (f x) y → Contains (flat_map f xs) y
+-- so it is where lists are made
+pub contains_flat_map : {X Y : Type 0} (f : X → List Y) (xs : List X) (x : X) (y : Y)
+    → Contains xs x → Contains (f x) y → Contains (flat_map f xs) y
 contains_flat_map f [] x y member inner = absurd (omega (arith, member.1))
-contains_flat_map f (z ∷ zs) x y (zero, within, at) inner = Contains-append_left (f z) (flat_map f zs) y (subst (λ w. Contains (f w) y) (sym at) inner)
-contains_flat_map f (z ∷ zs) x y (suc k, within, at) inner = Contains-append_right (f z) (flat_map f zs) y (contains_flat_map f zs x y (k, omega (arith, within), at) inner)
+contains_flat_map f (z ∷ zs) x y (zero, within, at) inner =
+    Contains-append_left (f z) (flat_map f zs) y (subst (λ w. Contains (f w) y) (sym at) inner)
+contains_flat_map f (z ∷ zs) x y (suc k, within, at) inner = Contains-append_right (f z)
+    (flat_map f zs) y (contains_flat_map f zs x y (k, omega (arith, within), at) inner)
 
-pub all_flat_map : {X Y : Type 0} (P : Y → Type 0) (f : X → List Y) (xs : List X) → ((x : X) → Contains xs x → All P (f x)) → All P (flat_map f xs)
+-- what holds of all that is made of each member holds of all that is made
+pub all_flat_map : {X Y : Type 0} (P : Y → Type 0) (f : X → List Y) (xs : List X)
+    → ((x : X) → Contains xs x → All P (f x)) → All P (flat_map f xs)
 all_flat_map P f [] each = All-nil P
 all_flat_map P f (x ∷ xs) each =
-    All-append P (f x) (flat_map f xs) (each x (0, omega arith, refl)) (all_flat_map P f xs (λ y member. each y (Contains-append_right (x ∷ []) xs y member)))
+    All-append P (f x) (flat_map f xs) (each x (0, omega arith, refl))
+    (all_flat_map P f xs (λ y member. each y (Contains-append_right (x ∷ []) xs y member)))
 
 -- ---- the greatest of numbers: it is at least the first and each other, and is one of them
 
 module _ {X : Type 0} (f : X → ℕ) where
-  pub bounds : (a : ℕ) (xs : List X) → (a ≤ fold max a (map f xs)) × All (λ x. f x ≤ fold max a (map f xs)) xs
+  -- no member is greater than the greatest
+  pub bounds : (a : ℕ) (xs : List X)
+      → (a ≤ fold max a (map f xs)) × All (λ x. f x ≤ fold max a (map f xs)) xs
   bounds a [] = (omega arith, All-nil _)
-  bounds a (x ∷ xs) = let rest = bounds (max a (f x)) xs in (omega (arith, rest.0), All-cons (λ y. f y ≤ fold max (max a (f x)) (map f xs)) x xs (omega (arith, rest.0)) rest.1)
+  bounds a (x ∷ xs) = let rest = bounds (max a (f x)) xs in (
+    omega (arith, rest.0),
+    All-cons (λ y. f y ≤ fold max (max a (f x)) (map f xs)) x xs (omega (arith, rest.0)) rest.1,
+  )
 
-  pub reached : (a : ℕ) (xs : List X) → (fold max a (map f xs) ≡ a) ⊎ ((x : X) × Contains xs x × (f x ≡ fold max a (map f xs)))
+  -- the greatest is the first number or that of a member
+  pub reached : (a : ℕ) (xs : List X)
+      → (fold max a (map f xs) ≡ a) ⊎ ((x : X) × Contains xs x × (f x ≡ fold max a (map f xs)))
   reached a [] = inl refl
   reached a (x ∷ xs) =
       elim (reached (max a (f x)) xs) [
-        | inl same ↦ elim (cases_lt a (f x)) [ inl lt ↦ inr (x, (0, omega arith, refl), omega (arith, same)) | inr le ↦ inl (omega (arith, same)) ]
+        | inl same ↦ elim (cases_lt a (f x)) [
+          | inl lt ↦ inr (x, (0, omega arith, refl), omega (arith, same))
+          | inr le ↦ inl (omega (arith, same))
+        ]
         | inr at ↦ inr (at.0, Contains-append_right (x ∷ []) xs at.0 at.1, at.2)
       ]
 
-  pub greatest_is : (xs : List X) (x : X) → Contains xs x → All (λ y. f y ≤ f x) xs → fold max 0 (map f xs) ≡ f x
+  -- the number of a member than which none is greater is the greatest
+  pub greatest_is : (xs : List X) (x : X) → Contains xs x → All (λ y. f y ≤ f x) xs
+      → fold max 0 (map f xs) ≡ f x
   greatest_is xs x member all =
-      let least : f x ≤ fold max 0 (map f xs) = All-contains (λ y. f y ≤ fold max 0 (map f xs)) xs x (bounds 0 xs).1 member in
-      elim (reached 0 xs) [ inl nought ↦ omega (arith, nought, least) | inr at ↦ omega (arith, at.2, least, All-contains (λ y. f y ≤ f x) xs at.0 all at.1) ]
+      let least : f x ≤ fold max 0 (map f xs) =
+      All-contains (λ y. f y ≤ fold max 0 (map f xs)) xs x (bounds 0 xs).1 member in
+      elim (reached 0 xs) [
+        | inl nought ↦ omega (arith, nought, least)
+        | inr at ↦ omega (arith, at.2, least, All-contains (λ y. f y ≤ f x) xs at.0 all at.1)
+      ]
 
-pub greatest_append : (a : ℕ) (xs ys : List ℕ) → fold max a (xs ++ ys) ≡ max (fold max a xs) (fold max 0 ys)
+-- the greatest of two lists is the greater of theirs
+pub greatest_append : (a : ℕ) (xs ys : List ℕ)
+    → fold max a (xs ++ ys) ≡ max (fold max a xs) (fold max 0 ys)
 greatest_append a xs ys = fold-append max a xs ys ∙ from_there (fold max a xs) ys
   where
     from_there : (a : ℕ) (ys : List ℕ) → fold max a ys ≡ max a (fold max 0 ys)
@@ -81,38 +120,56 @@ greatest_append a xs ys = fold-append max a xs ys ∙ from_there (fold max a xs)
 
 module _ {X Y : Type 0} (e : X → Y → Bool) where
   -- they do exactly where they agree as far as both reach
-  pub whole : (xs : List X) (ys : List Y) → (pointwise e xs ys ≡ true) ↔ ((common_prefix_len e xs ys ≡ length xs) × (common_prefix_len e xs ys ≡ length ys))
+  pub whole : (xs : List X) (ys : List Y) → (pointwise e xs ys ≡ true)
+      ↔ ((common_prefix_len e xs ys ≡ length xs) × (common_prefix_len e xs ys ≡ length ys))
   whole [] [] = ((λ all. (refl, refl)), (λ both. refl))
   whole [] (y ∷ ys) = ((λ all. absurd cc), (λ both. absurd (omega (arith, both.1))))
   whole (x ∷ xs) [] = ((λ all. absurd cc), (λ both. absurd (omega (arith, both.0))))
   whole (x ∷ xs) (y ∷ ys) =
       let rest = whole xs ys in
-      elim (e x y) as (λ b. ((b && pointwise e xs ys) ≡ true) ↔ ((cond b (1 + common_prefix_len e xs ys) 0 ≡ suc (length xs)) × (cond b (1 + common_prefix_len e xs ys) 0 ≡ suc (length ys)))) [
-        | true ↦ ((λ all. let both = rest.0 all in (omega (arith, both.0), omega (arith, both.1))), (λ both. rest.1 (omega (arith, both.0), omega (arith, both.1))))
+      elim (e x y) as (λ b. ((b && pointwise e xs ys) ≡ true)
+      ↔ ((cond b (1 + common_prefix_len e xs ys) 0 ≡ suc (length xs))
+      × (cond b (1 + common_prefix_len e xs ys) 0 ≡ suc (length ys)))) [
+        | true ↦ (
+          (λ all. let both = rest.0 all in (omega (arith, both.0), omega (arith, both.1))),
+          (λ both. rest.1 (omega (arith, both.0), omega (arith, both.1))),
+        )
         | false ↦ ((λ all. absurd cc), (λ both. absurd (omega (arith, both.0))))
       ]
 
-  pub common_prefix_len-take : (n : ℕ) (xs : List X) (ys : List Y) → common_prefix_len e (take n xs) (take n ys) ≡ min n (common_prefix_len e xs ys)
+  -- the first members agree as far as all do, within their number
+  pub common_prefix_len-take : (n : ℕ) (xs : List X) (ys : List Y)
+      → common_prefix_len e (take n xs) (take n ys) ≡ min n (common_prefix_len e xs ys)
   common_prefix_len-take zero xs ys = omega arith
   common_prefix_len-take (suc n) [] ys = omega arith
   common_prefix_len-take (suc n) (x ∷ xs) [] = omega arith
   common_prefix_len-take (suc n) (x ∷ xs) (y ∷ ys) =
-      elim (e x y) as (λ b. cond b (1 + common_prefix_len e (take n xs) (take n ys)) 0 ≡ min (suc n) (cond b (1 + common_prefix_len e xs ys) 0)) [ true ↦ omega (arith, common_prefix_len-take n xs ys) | false ↦ omega arith ]
+      elim (e x y) as (λ b. cond b (1 + common_prefix_len e (take n xs) (take n ys)) 0
+      ≡ min (suc n) (cond b (1 + common_prefix_len e xs ys) 0)) [
+        | true ↦ omega (arith, common_prefix_len-take n xs ys)
+        | false ↦ omega arith
+      ]
 
-  pub zipped : (xs : List X) (ys : List Y) → pointwise e xs ys ≡ true → AllZip (λ x y. e x y ≡ true) xs ys
+  -- lists that agree everywhere agree pair by pair
+  pub zipped : (xs : List X) (ys : List Y) → pointwise e xs ys ≡ true
+      → AllZip (λ x y. e x y ≡ true) xs ys
   zipped [] [] all = tt
   zipped [] (y ∷ ys) all = absurd cc
   zipped (x ∷ xs) [] all = absurd cc
-  zipped (x ∷ xs) (y ∷ ys) all = let both = and_parts (e x y) (pointwise e xs ys) all in (both.0, zipped xs ys both.1)
+  zipped (x ∷ xs) (y ∷ ys) all = let both = and_parts (e x y) (pointwise e xs ys) all in
+      (both.0, zipped xs ys both.1)
 
 module _ {X Y : Type 0} (R : X → Y → Type 0) where
-  pub zip_drop : (n : ℕ) (xs : List X) (ys : List Y) → AllZip R xs ys → AllZip R (drop n xs) (drop n ys)
+  -- and so do their ends
+  pub zip_drop : (n : ℕ) (xs : List X) (ys : List Y) → AllZip R xs ys
+      → AllZip R (drop n xs) (drop n ys)
   zip_drop zero xs ys all = all
   zip_drop (suc n) [] [] all = tt
   zip_drop (suc n) [] (y ∷ ys) all = absurd all
   zip_drop (suc n) (x ∷ xs) [] all = absurd all
   zip_drop (suc n) (x ∷ xs) (y ∷ ys) all = zip_drop n xs ys all.1
 
+  -- what is paired with one thing repeated is related to it
   pub zip_replicate : (n : ℕ) (x : X) (ys : List Y) → AllZip R (replicate n x) ys → All (R x) ys
   zip_replicate zero x [] all = All-nil (R x)
   zip_replicate zero x (y ∷ ys) all = absurd all

@@ -1,27 +1,28 @@
 -- The reading of words as relations: the shape that they have, and the place of the bad word.
-use Rattle.std.proofs.Common.{◌≡◌, ℕ, ◌+◌, ◌-◌, ◌≤◌, List, [], take, Some, None, Result, Ok, Err, refl, inl, inr, arith}
-use Rattle.std.specs.Prelude.{Contains, IfOk, IfErr}
-use Rattle.std.proofs.lemmas.Bool.{both_ways}
-use Rattle.std.proofs.lemmas.List.{length-take}
-use Rattle.std.proofs.lemmas.List.Elements.{All-contains}
-use Rattle.std.proofs.lemmas.List.Sums.{common_prefix_len-le}
+use Rattle.std.proofs.Common.{arith, Err, inl, inr, List, None, Ok, refl, Result, Some, take, ℕ, []}
+use Rattle.std.proofs.{Common.{◌+◌, ◌-◌, ◌≡◌, ◌≤◌}, lemmas.{Bool.both_ways, List.length-take}}
+use Rattle.std.proofs.lemmas.List.{Elements.All-contains, Sums.common_prefix_len-le}
+use Rattle.std.specs.Prelude.{Contains, IfErr, IfOk}
+use Rattle.job_words.proofs.Lists.{bounds, common_prefix_len-take, found, none_is, reached, whole}
+use Rattle.job_words.{proofs.{Reading.listed_form, Sound.shape_is_sound}, specs.Asked.Asked}
+use Rattle.job_words.specs.Code.{answer, asked as asked_by_code}
+use Rattle.job_words.specs.{Forms.{forms, help, Shape, shape_with, shapes}, Kinds.fits_kind}
+use Rattle.job_words.specs.Words.{Begins, followed, furthest, have_kinds, IsBadWord, IsReading}
+use Rattle.job_words.specs.Words.{IsSound, job_of, kinds_in, read_as, shape_in}
 use Rattle.job_words.specs.declared.jobs.Job.{Job}
-use Rattle.job_words.specs.Code.{asked as asked_by_code, answer}
-use Rattle.job_words.specs.Kinds.{fits_kind}
-use Rattle.job_words.specs.Asked.{Asked}
-use Rattle.job_words.specs.Forms.{Shape, shape_with, forms, shapes, help}
-use Rattle.job_words.specs.Words.{followed, furthest, shape_in, have_kinds, kinds_in, read_as, job_of, Begins, IsReading, IsBadWord, IsSound}
-use Rattle.job_words.proofs.Lists.{found, none_is, bounds, reached, whole, common_prefix_len-take}
-use Rattle.job_words.proofs.Reading.{listed_form}
-use Rattle.job_words.proofs.Sound.{shape_is_sound}
 
 module _ (words : List (List ℕ)) where
   -- a shape that the words follow furthest
-  nearest : (shape : Shape) × Contains (shapes forms) shape × (followed words shape ≡ furthest (shapes forms) words)
+  nearest : (shape : Shape) × Contains (shapes forms) shape
+      × (followed words shape ≡ furthest (shapes forms) words)
   nearest =
       let first = shape_with help [] in
       elim (reached (followed words) 0 (shapes forms)) [
-        | inl nought ↦ (first, (0, omega arith, refl), omega (arith, nought, (bounds (followed words) 0 (shapes forms)).1 0 first (omega arith)))
+        | inl nought ↦ (
+          first,
+          (0, omega arith, refl),
+          omega (arith, nought, (bounds (followed words) 0 (shapes forms)).1 0 first (omega arith)),
+        )
         | inr at ↦ at
       ]
 
@@ -32,39 +33,68 @@ module _ (words : List (List ℕ)) where
       let n : ℕ = followed words shape in
       let le = common_prefix_len-le fits_kind kinds words in
       let both = common_prefix_len-take fits_kind n kinds words in
-      record { enough_words = le.1; enough_kinds = le.0; fit = (whole fits_kind (take n kinds) (take n words)).1 (omega (arith, both, length-take n kinds, le.0), omega (arith, both, length-take n words, le.1)) }
+      record {
+        enough_words = le.1;
+        enough_kinds = le.0;
+        fit =
+            (whole fits_kind (take n kinds) (take n words)).1 (
+              omega (arith, both, length-take n kinds, le.0),
+              omega (arith, both, length-take n words, le.1),
+            );
+      }
 
   begins-le : (shape : Shape) (n : ℕ) → Begins n shape words → n ≤ followed words shape
   begins-le shape n b =
       let both = (whole fits_kind (take n (kinds_in words shape)) (take n words)).0 b.fit in
-      omega (arith, both.0, common_prefix_len-take fits_kind n (kinds_in words shape) words, length-take n (kinds_in words shape), b.enough_kinds)
+      omega (
+        arith,
+        both.0,
+        common_prefix_len-take fits_kind n (kinds_in words shape) words,
+        length-take n (kinds_in words shape),
+        b.enough_kinds,
+      )
 
   -- what holds of the answer
   abbrev pub IsAnswer : Result Asked ℕ → Type 0
   IsAnswer (Ok asked) = IsReading words asked × IsSound asked
   IsAnswer (Err place) = IsBadWord words place
 
+  -- the answer is that of the definition
   pub job_is : IsAnswer (job_of words)
   unfolding job_of
   job_is =
-      elim (shape_in (shapes forms) words) as (λ o. shape_in (shapes forms) words ≡ o → IsAnswer (read_as o words (furthest (shapes forms) words))) [
+      elim (shape_in (shapes forms) words) as (λ o. shape_in (shapes forms) words ≡ o
+      → IsAnswer (read_as o words (furthest (shapes forms) words))) [
         | Some shape ↦ λ is.
-            let first = found (λ shape. have_kinds (kinds_in words shape) words) (shapes forms) shape is in
-            (record { shape = shape; listed = first.0; kinds = first.1; read = refl }, shape_is_sound shape words (listed_form forms shape first.0) first.1)
+            let first =
+            found (λ shape. have_kinds (kinds_in words shape) words) (shapes forms) shape is in (
+              record { shape = shape; listed = first.0; kinds = first.1; read = refl },
+              shape_is_sound shape words (listed_form forms shape first.0) first.1,
+            )
         | None ↦ λ none.
             let near = nearest in
-            let before : (1 + furthest (shapes forms) words) - 1 ≡ followed words near.0 = omega (arith, near.2) in
+            let before : (1 + furthest (shapes forms) words) - 1 ≡ followed words near.0 =
+            omega (arith, near.2) in
             record {
-              none = λ shape listed all. both_ways (have_kinds (kinds_in words shape) words) (none_is (λ shape. have_kinds (kinds_in words shape) words) (shapes forms) shape none listed) all;
+              none = λ shape listed all. both_ways (have_kinds (kinds_in words shape) words)
+                  (none_is (λ shape. have_kinds (kinds_in words shape) words)
+                  (shapes forms) shape none listed) all;
               counted = omega arith;
               nearest = near.0;
               listed = near.1;
               before = rw before (begins near.0);
-              longest = λ n shape listed b. omega (arith, begins-le shape n b, All-contains (λ shape. followed words shape ≤ furthest (shapes forms) words) (shapes forms) shape (bounds (followed words) 0 (shapes forms)).1 listed);
+              longest = λ n shape listed b. omega (
+                arith,
+                begins-le shape n b,
+                All-contains (λ shape. followed words shape ≤ furthest (shapes forms) words)
+                    (shapes forms) shape (bounds (followed words) 0 (shapes forms)).1 listed,
+              );
             }
       ] refl
 
   -- so it is of the answer of the code
-  pub code_is : (r : Result Job ℕ) → IsAnswer (answer r) → IfOk r (λ job. IsReading words (asked_by_code job)) × IfErr r (IsBadWord words) × IfOk r (λ job. IsSound (asked_by_code job))
+  pub code_is : (r : Result Job ℕ) → IsAnswer (answer r)
+      → IfOk r (λ job. IsReading words (asked_by_code job)) × IfErr r (IsBadWord words)
+      × IfOk r (λ job. IsSound (asked_by_code job))
   code_is (Ok job) is = (is.0, tt, is.1)
   code_is (Err place) is = (tt, is, tt)

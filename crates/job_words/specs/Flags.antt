@@ -1,11 +1,12 @@
 -- The flags of a form, and the orders in which they can be given.
-use Rattle.std.specs.Prelude.{ℕ, zero, suc, Bool, not, List, [], ◌∷◌, drop, length, map, find, slice_index_or, Option, Some, None, codes, bytes_eq}
 use Rattle.std.specs.List.{filter, flat_map, list_any}
-use Rattle.job_words.specs.declared.flags.Flag.{Flag}
-use Rattle.job_words.specs.declared.flags.Flag.TheVariants.{Tagless, Wrapping, Least, Back}
-use Rattle.job_words.specs.Kinds.{Kind, Fixed}
+use Rattle.std.specs.Prelude.{Bool, bytes_eq, codes, drop, find, length, List, map, None, not}
+use Rattle.std.specs.Prelude.{Option, slice_index_or, Some, suc, zero, ℕ, [], ◌∷◌}
+use Rattle.job_words.specs.{Kinds.{Fixed, Kind}, declared.flags.Flag.Flag}
+use Rattle.job_words.specs.declared.flags.Flag.TheVariants.{Back, Least, Seamless, Tagless}
+use Rattle.job_words.specs.declared.flags.Flag.TheVariants.{Wrapping}
 
--- the words of a flag
+-- the one or two words of a flag
 abbrev pub flag_words : Flag → List (List ℕ)
 -- tags are neither read nor changed
 flag_words Tagless = codes "-s" ∷ codes "s" ∷ []
@@ -15,7 +16,10 @@ flag_words Wrapping = codes "-w" ∷ []
 flag_words Least = codes "--least" ∷ []
 -- a fade is undone
 flag_words Back = codes "--back" ∷ []
+-- frames that only a piece needs are left out
+flag_words Seamless = codes "--seamless" ∷ []
 
+-- the kinds of these words: each is one that is fixed
 abbrev pub flag_kinds : Flag → List Kind
 flag_kinds flag = map Fixed (flag_words flag)
 
@@ -23,6 +27,7 @@ flag_kinds flag = map Fixed (flag_words flag)
 abbrev pub given_kinds : List Flag → List Kind
 given_kinds given = flat_map flag_kinds given
 
+-- the first word of a flag
 abbrev pub first_word : Flag → List ℕ
 first_word flag = slice_index_or (flag_words flag) 0 []
 
@@ -41,7 +46,8 @@ without flag flags = filter (λ other. not (begins_flag (first_word flag) other)
 -- all lists of at most n of the flags, each at most once
 abbrev pub orders_up_to : ℕ → List Flag → List (List Flag)
 orders_up_to zero flags = [] ∷ []
-orders_up_to (suc n) flags = [] ∷ flat_map (λ flag. map (λ rest. flag ∷ rest) (orders_up_to n (without flag flags))) flags
+orders_up_to (suc n) flags =
+    [] ∷ flat_map (λ flag. map (λ rest. flag ∷ rest) (orders_up_to n (without flag flags))) flags
 
 -- all lists of flags, each at most once and in any order
 abbrev pub orders : List Flag → List (List Flag)
@@ -54,13 +60,16 @@ abbrev pub next_flag : List Flag → List (List ℕ) → Option Flag
 next_flag flags [] = None
 next_flag flags (word ∷ words) = find (begins_flag word) flags
 
+-- the flag and those after it, if there is one
 abbrev pub flag_first : Option Flag → (Flag → List Flag) → List Flag
 flag_first None rest = []
 flag_first (Some flag) rest = flag ∷ rest flag
 
+-- at most n of the flags, with which the words begin
 abbrev pub given_up_to : ℕ → List Flag → List (List ℕ) → List Flag
 given_up_to zero flags words = []
-given_up_to (suc n) flags words = flag_first (next_flag flags words) (λ flag. given_up_to n (without flag flags) (drop (length (flag_words flag)) words))
+given_up_to (suc n) flags words = flag_first (next_flag flags words)
+    (λ flag. given_up_to n (without flag flags) (drop (length (flag_words flag)) words))
 
 -- the flags with which the words begin, each at most once
 abbrev pub given_in : List Flag → List (List ℕ) → List Flag

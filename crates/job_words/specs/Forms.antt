@@ -1,20 +1,25 @@
--- The forms that the program's words have, and what the words of a form ask for.
-use Rattle.std.specs.Prelude.{◌≡◌, ◌≤◌, ℕ, ◌+◌, ◌-◌, min, Bool, true, false, not, List, [], ◌∷◌, ◌++◌, length, map, drop, replicate, slice_index_or, codes}
+-- The forms that the program's words have, and what the words of a form ask for. The flags `-s s`,
+-- `-w`, `-g N` and `-l C N` are named as in mp3gain, and `-c CUE` as in mp3splt.
 use Rattle.std.specs.List.{flat_map, list_all}
-use Rattle.requests.specs.declared.shift.Channels.{Channels}
-use Rattle.requests.specs.declared.shift.Channels.TheVariants.{Both}
+use Rattle.std.specs.Prelude.{Bool, codes, drop, false, length, List, map, min, not, replicate}
+use Rattle.std.specs.Prelude.{slice_index_or, true, ℕ, [], ◌++◌, ◌+◌, ◌-◌, ◌∷◌, ◌≡◌, ◌≤◌}
+use Rattle.job_words.specs.Asked.{Asked, Cut, CutExact, Drill, Fade, Gain, Help, InfoFile, Join}
+use Rattle.job_words.specs.Asked.{ListFile, Pack, Salvage, SplitAt, SplitBy, SplitExact, Undo}
+use Rattle.job_words.specs.{Asked.Version, Flags.{first_word, given_kinds, is_given, orders}}
+use Rattle.job_words.specs.Kinds.{Channel, channels_said, Count, count_said, Exact, exact_said}
+use Rattle.job_words.specs.Kinds.{fits_kind, Fixed, Kind, Name, name_at, Place, place_said, Rate}
+use Rattle.job_words.specs.Kinds.{rate_said, Said, said_at, Seed, seed_said, Steps, steps_said}
+use Rattle.job_words.specs.{Kinds.values_of, declared.flags.Flag.Flag}
+use Rattle.job_words.specs.declared.flags.Flag.TheVariants.{Back, Least, Seamless, Tagless}
+use Rattle.job_words.specs.declared.{flags.Flag.TheVariants.Wrapping, forms.Asks.Asks}
 use Rattle.requests.specs.declared.mode.PackMode.{PackMode}
-use Rattle.requests.specs.declared.mode.PackMode.TheVariants.{Least as LeastMode, Constant, Floor, Best}
-use Rattle.job_words.specs.declared.flags.Flag.{Flag}
-use Rattle.job_words.specs.declared.flags.Flag.TheVariants.{Tagless, Wrapping, Least, Back}
-use Rattle.job_words.specs.declared.forms.Asks.{Asks}
+use Rattle.requests.specs.declared.mode.PackMode.TheVariants.{Best, Constant, Floor}
+use Rattle.requests.specs.declared.mode.PackMode.TheVariants.{Least as LeastMode}
+use Rattle.requests.specs.declared.shift.Channels.{Channels, TheVariants.Both}
 use Rattle.job_words.specs.declared.forms.Asks.TheVariants as asks
-use Rattle.job_words.specs.Kinds.{Kind, Fixed, Name, Steps, Channel, Place, Exact, Rate, Seed, Count, Said, fits_kind, name_at, said_at, steps_said, channels_said, place_said, exact_said, rate_said, seed_said, count_said, values_of}
-use Rattle.job_words.specs.Flags.{given_kinds, first_word, is_given, orders}
-use Rattle.job_words.specs.Asked.{Asked, Help, Version, ListFile, InfoFile, Gain, Undo, Cut, CutExact, Pack, SplitAt, SplitExact, SplitBy, Join, Drill, Fade, Salvage}
 
--- the command's word, the flags that may be after it, the kinds of the words after those, how many further words of the last kind there may be,
--- and what is asked for
+-- the command's word, the flags that may be after it, the kinds of the words after
+-- those, how many further words of the last kind there may be, and what is asked for
 pub record Form : Type 0 where
   pub command : List ℕ
   pub flags : List Flag
@@ -22,101 +27,212 @@ pub record Form : Type 0 where
   pub more : ℕ
   pub asks : Asks
 
--- `--help`, and `-h`
+-- `--help`
 abbrev pub help : Form
 help = record { command = codes "--help"; flags = []; kinds = []; more = 0; asks = asks.Help }
 
+-- `-h`
 abbrev pub short_help : Form
 short_help = record { command = codes "-h"; flags = []; kinds = []; more = 0; asks = asks.Help }
 
 -- `--version`
 abbrev pub version : Form
-version = record { command = codes "--version"; flags = []; kinds = []; more = 0; asks = asks.Version }
+version =
+    record { command = codes "--version"; flags = []; kinds = []; more = 0; asks = asks.Version }
 
 -- `list IN`
 abbrev pub list_form : Form
-list_form = record { command = codes "list"; flags = []; kinds = Name ∷ []; more = 0; asks = asks.List }
+list_form =
+    record { command = codes "list"; flags = []; kinds = Name ∷ []; more = 0; asks = asks.List }
 
 -- `info IN`
 abbrev pub info_form : Form
-info_form = record { command = codes "info"; flags = []; kinds = Name ∷ []; more = 0; asks = asks.Info }
+info_form =
+    record { command = codes "info"; flags = []; kinds = Name ∷ []; more = 0; asks = asks.Info }
 
 -- `gain [-s s] [-w] -g N IN OUT`
 abbrev pub gain_form : Form
-gain_form = record { command = codes "gain"; flags = Tagless ∷ Wrapping ∷ []; kinds = Fixed (codes "-g") ∷ Steps ∷ Name ∷ Name ∷ []; more = 0; asks = asks.Gain }
+gain_form = record {
+  command = codes "gain";
+  flags = Tagless ∷ Wrapping ∷ [];
+  kinds = Fixed (codes "-g") ∷ Steps ∷ Name ∷ Name ∷ [];
+  more = 0;
+  asks = asks.Gain;
+}
 
 -- `gain [-s s] [-w] -l C N IN OUT`
 abbrev pub channel_form : Form
 channel_form =
-    record { command = codes "gain"; flags = Tagless ∷ Wrapping ∷ []; kinds = Fixed (codes "-l") ∷ Channel ∷ Steps ∷ Name ∷ Name ∷ []; more = 0; asks = asks.ChannelGain }
+    record {
+      command = codes "gain";
+      flags = Tagless ∷ Wrapping ∷ [];
+      kinds = Fixed (codes "-l") ∷ Channel ∷ Steps ∷ Name ∷ Name ∷ [];
+      more = 0;
+      asks = asks.ChannelGain;
+    }
 
 -- `gain -u IN OUT`
 abbrev pub undo_form : Form
-undo_form = record { command = codes "gain"; flags = []; kinds = Fixed (codes "-u") ∷ Name ∷ Name ∷ []; more = 0; asks = asks.Undo }
+undo_form = record {
+  command = codes "gain";
+  flags = [];
+  kinds = Fixed (codes "-u") ∷ Name ∷ Name ∷ [];
+  more = 0;
+  asks = asks.Undo;
+}
 
 -- `cut [--least] IN FROM TO OUT`
 abbrev pub cut_form : Form
-cut_form = record { command = codes "cut"; flags = Least ∷ []; kinds = Name ∷ Place ∷ Place ∷ Name ∷ []; more = 0; asks = asks.Cut }
+cut_form = record {
+  command = codes "cut";
+  flags = Least ∷ [];
+  kinds = Name ∷ Place ∷ Place ∷ Name ∷ [];
+  more = 0;
+  asks = asks.Cut;
+}
 
 -- `cut --exact IN FROM TO OUT`
 abbrev pub exact_form : Form
-exact_form = record { command = codes "cut"; flags = []; kinds = Fixed (codes "--exact") ∷ Name ∷ Exact ∷ Exact ∷ Name ∷ []; more = 0; asks = asks.CutExact }
+exact_form = record {
+  command = codes "cut";
+  flags = [];
+  kinds = Fixed (codes "--exact") ∷ Name ∷ Exact ∷ Exact ∷ Name ∷ [];
+  more = 0;
+  asks = asks.CutExact;
+}
 
 -- `pack IN OUT`
 abbrev pub pack_form : Form
-pack_form = record { command = codes "pack"; flags = []; kinds = Name ∷ Name ∷ []; more = 0; asks = asks.Pack }
+pack_form = record {
+  command = codes "pack";
+  flags = [];
+  kinds = Name ∷ Name ∷ [];
+  more = 0;
+  asks = asks.Pack;
+}
 
 -- `pack --constant B IN OUT`
 abbrev pub constant_form : Form
-constant_form = record { command = codes "pack"; flags = []; kinds = Fixed (codes "--constant") ∷ Rate ∷ Name ∷ Name ∷ []; more = 0; asks = asks.ConstantPack }
+constant_form = record {
+  command = codes "pack";
+  flags = [];
+  kinds = Fixed (codes "--constant") ∷ Rate ∷ Name ∷ Name ∷ [];
+  more = 0;
+  asks = asks.ConstantPack;
+}
 
 -- `pack --floor B IN OUT`
 abbrev pub floor_form : Form
-floor_form = record { command = codes "pack"; flags = []; kinds = Fixed (codes "--floor") ∷ Rate ∷ Name ∷ Name ∷ []; more = 0; asks = asks.FloorPack }
+floor_form = record {
+  command = codes "pack";
+  flags = [];
+  kinds = Fixed (codes "--floor") ∷ Rate ∷ Name ∷ Name ∷ [];
+  more = 0;
+  asks = asks.FloorPack;
+}
 
 -- `pack --best IN OUT`
 abbrev pub best_form : Form
-best_form = record { command = codes "pack"; flags = []; kinds = Fixed (codes "--best") ∷ Name ∷ Name ∷ []; more = 0; asks = asks.BestPack }
+best_form = record {
+  command = codes "pack";
+  flags = [];
+  kinds = Fixed (codes "--best") ∷ Name ∷ Name ∷ [];
+  more = 0;
+  asks = asks.BestPack;
+}
 
 -- `split IN PREFIX P1 P2 [P3 to P100]`
 abbrev pub split_form : Form
-split_form = record { command = codes "split"; flags = []; kinds = Name ∷ Name ∷ Place ∷ Place ∷ []; more = 98; asks = asks.SplitAt }
+split_form = record {
+  command = codes "split";
+  flags = [];
+  kinds = Name ∷ Name ∷ Place ∷ Place ∷ [];
+  more = 98;
+  asks =
+      asks.SplitAt;
+}
 
 -- `split --exact IN PREFIX P1 P2 [P3 to P100]`
 abbrev pub exact_split_form : Form
 exact_split_form =
-    record { command = codes "split"; flags = []; kinds = Fixed (codes "--exact") ∷ Name ∷ Name ∷ Exact ∷ Exact ∷ []; more = 98; asks = asks.SplitExact }
+    record {
+      command = codes "split";
+      flags = [];
+      kinds = Fixed (codes "--exact") ∷ Name ∷ Name ∷ Exact ∷ Exact ∷ [];
+      more = 98;
+      asks = asks.SplitExact;
+    }
 
 -- `split IN PREFIX -c CUE`
 abbrev pub sheet_form : Form
-sheet_form = record { command = codes "split"; flags = []; kinds = Name ∷ Name ∷ Fixed (codes "-c") ∷ Name ∷ []; more = 0; asks = asks.SplitBy }
+sheet_form = record {
+  command = codes "split";
+  flags = [];
+  kinds = Name ∷ Name ∷ Fixed (codes "-c") ∷ Name ∷ [];
+  more = 0;
+  asks = asks.SplitBy;
+}
 
 -- `split --exact IN PREFIX -c CUE`
 abbrev pub exact_sheet_form : Form
 exact_sheet_form =
-    record { command = codes "split"; flags = []; kinds = Fixed (codes "--exact") ∷ Name ∷ Name ∷ Fixed (codes "-c") ∷ Name ∷ []; more = 0; asks = asks.SplitExactBy }
+    record {
+      command = codes "split";
+      flags = [];
+      kinds = Fixed (codes "--exact") ∷ Name ∷ Name
+          ∷ Fixed (codes "-c") ∷ Name ∷ [];
+      more = 0;
+      asks = asks.SplitExactBy;
+    }
 
--- `join OUT IN1 [IN2 to IN64]`
+-- `join [--seamless] OUT IN1 [IN2 to IN64]`
 abbrev pub join_form : Form
-join_form = record { command = codes "join"; flags = []; kinds = Name ∷ Name ∷ []; more = 63; asks = asks.Join }
+join_form = record {
+  command = codes "join";
+  flags = Seamless ∷ [];
+  kinds = Name ∷ Name ∷ [];
+  more = 63;
+  asks = asks.Join;
+}
 
 -- `drill SEED COUNT`
 abbrev pub drill_form : Form
-drill_form = record { command = codes "drill"; flags = []; kinds = Seed ∷ Count ∷ []; more = 0; asks = asks.Drill }
+drill_form = record {
+  command = codes "drill";
+  flags = [];
+  kinds = Seed ∷ Count ∷ [];
+  more = 0;
+  asks = asks.Drill;
+}
 
 -- `fade [--back] IN OUT SHEET`
 abbrev pub fade_form : Form
-fade_form = record { command = codes "fade"; flags = Back ∷ []; kinds = Name ∷ Name ∷ Name ∷ []; more = 0; asks = asks.Fade }
+fade_form = record {
+  command = codes "fade";
+  flags = Back ∷ [];
+  kinds = Name ∷ Name ∷ Name ∷ [];
+  more = 0;
+  asks =
+      asks.Fade;
+}
 
 -- `salvage IN OUT`
 abbrev pub salvage_form : Form
-salvage_form = record { command = codes "salvage"; flags = []; kinds = Name ∷ Name ∷ []; more = 0; asks = asks.Salvage }
+salvage_form = record {
+  command = codes "salvage";
+  flags = [];
+  kinds = Name ∷ Name ∷ [];
+  more = 0;
+  asks = asks.Salvage;
+}
 
 -- all of them
 abbrev pub forms : List Form
 forms =
-    help ∷ short_help ∷ version ∷ list_form ∷ info_form ∷ gain_form ∷ channel_form ∷ undo_form ∷ cut_form ∷ exact_form ∷ pack_form
-    ∷ constant_form ∷ floor_form ∷ best_form ∷ split_form ∷ exact_split_form ∷ sheet_form ∷ exact_sheet_form ∷ join_form ∷ drill_form ∷ fade_form ∷ salvage_form ∷ []
+    help ∷ short_help ∷ version ∷ list_form ∷ info_form ∷ gain_form ∷ channel_form ∷ undo_form
+    ∷ cut_form ∷ exact_form ∷ pack_form
+    ∷ constant_form ∷ floor_form ∷ best_form ∷ split_form ∷ exact_split_form ∷ sheet_form
+    ∷ exact_sheet_form ∷ join_form ∷ drill_form ∷ fade_form ∷ salvage_form ∷ []
 
 -- ---- the kinds of a form's words
 
@@ -125,6 +241,7 @@ pub record Shape : Type 0 where
   pub form : Form
   pub given : List Flag
 
+-- the form with these flags
 abbrev pub shape_with : Form → List Flag → Shape
 shape_with form given = record { form = form; given = given }
 
@@ -140,14 +257,17 @@ shapes table = flat_map shapes_of table
 abbrev pub last_kind : List Kind → Kind
 last_kind kinds = slice_index_or kinds (length kinds - 1) Name
 
--- the kinds of `count` words after the flags: the last is repeated for the words that are left, as often as it may be
+-- the kinds of `count` words after the flags: the last is
+-- repeated for the words that are left, as often as it may be
 abbrev pub kinds_behind : Form → ℕ → List Kind
-kinds_behind form count = form.kinds ++ replicate (min form.more (count - length form.kinds)) (last_kind form.kinds)
+kinds_behind form count =
+    form.kinds ++ replicate (min form.more (count - length form.kinds)) (last_kind form.kinds)
 
 -- the command's word and those of the flags
 abbrev pub front_kinds : List ℕ → List Flag → List Kind
 front_kinds command given = Fixed command ∷ given_kinds given
 
+-- the kinds of a shape's command and flags
 abbrev pub front_of : Shape → List Kind
 front_of shape = front_kinds shape.form.command shape.given
 
@@ -157,62 +277,83 @@ kinds_for shape count = front_of shape ++ kinds_behind shape.form (count - lengt
 
 -- ---- what is asked for
 
--- a change of gains of these channels: the values from this place on are its steps, its input and its output
+-- a change of gains of these channels: the values from
+-- this place on are its steps, its input and its output
 abbrev pub gain_asked : Channels → List Flag → List Said → ℕ → Asked
 gain_asked channels given values place =
-    Gain (record { channels = channels; steps = steps_said (said_at values place); wrap = is_given given Wrapping })
+    Gain (record {
+      channels = channels;
+      steps = steps_said (said_at values place);
+      wrap = is_given given Wrapping;
+    })
     (not (is_given given Tagless)) (name_at values (place + 1)) (name_at values (place + 2))
 
 -- a packing in this mode: the values from this place on are its input and its output
 abbrev pub pack_asked : PackMode → List Said → ℕ → Asked
 pack_asked mode values place = Pack mode (name_at values place) (name_at values (place + 1))
 
--- a split by a cue sheet: the values from this place on are its input, its prefix, a fixed word and the sheet
+-- a split by a cue sheet: the values from this place on
+-- are its input, its prefix, a fixed word and the sheet
 abbrev pub sheet_asked : Bool → List Said → ℕ → Asked
-sheet_asked exact values place = SplitBy exact (name_at values place) (name_at values (place + 1)) (name_at values (place + 3))
+sheet_asked exact values place =
+    SplitBy exact (name_at values place) (name_at values (place + 1)) (name_at values (place + 3))
 
--- what is asked for by the flags that are given, by what the words after them say, and by these words themselves
+-- what is asked for by the flags that are given, by what
+-- the words after them say, and by these words themselves
 abbrev pub reads_of : Asks → List Flag → List Said → List (List ℕ) → Asked
 reads_of asks.Help given values words = Help
 reads_of asks.Version given values words = Version
 reads_of asks.List given values words = ListFile (name_at values 0)
 reads_of asks.Info given values words = InfoFile (name_at values 0)
 reads_of asks.Gain given values words = gain_asked Both given values 1
-reads_of asks.ChannelGain given values words = gain_asked (channels_said (said_at values 1)) given values 2
+reads_of asks.ChannelGain given values words =
+    gain_asked (channels_said (said_at values 1)) given values 2
 reads_of asks.Undo given values words = Undo (name_at values 1) (name_at values 2)
 reads_of asks.Cut given values words =
-    Cut (place_said (said_at values 1)) (place_said (said_at values 2)) (is_given given Least) (name_at values 0) (name_at values 3)
+    Cut (place_said (said_at values 1)) (place_said (said_at values 2)) (is_given given Least)
+    (name_at values 0) (name_at values 3)
 reads_of asks.CutExact given values words =
-    CutExact (name_at values 1) (exact_said (said_at values 2)) (exact_said (said_at values 3)) (name_at values 4)
+    CutExact (name_at values 1) (exact_said (said_at values 2)) (exact_said (said_at values 3))
+    (name_at values 4)
 reads_of asks.Pack given values words = pack_asked LeastMode values 0
-reads_of asks.ConstantPack given values words = pack_asked (Constant (rate_said (said_at values 1))) values 2
-reads_of asks.FloorPack given values words = pack_asked (Floor (rate_said (said_at values 1))) values 2
+reads_of asks.ConstantPack given values words =
+    pack_asked (Constant (rate_said (said_at values 1))) values 2
+reads_of asks.FloorPack given values words =
+    pack_asked (Floor (rate_said (said_at values 1))) values 2
 reads_of asks.BestPack given values words = pack_asked Best values 1
-reads_of asks.SplitAt given values words = SplitAt (name_at values 0) (name_at values 1) (map place_said (drop 2 values))
-reads_of asks.SplitExact given values words = SplitExact (name_at values 1) (name_at values 2) (map exact_said (drop 3 values))
+reads_of asks.SplitAt given values words =
+    SplitAt (name_at values 0) (name_at values 1) (map place_said (drop 2 values))
+reads_of asks.SplitExact given values words =
+    SplitExact (name_at values 1) (name_at values 2) (map exact_said (drop 3 values))
 reads_of asks.SplitBy given values words = sheet_asked false values 0
 reads_of asks.SplitExactBy given values words = sheet_asked true values 1
-reads_of asks.Join given values words = Join (name_at values 0) (drop 1 words)
-reads_of asks.Drill given values words = Drill (seed_said (said_at values 0)) (count_said (said_at values 1))
-reads_of asks.Fade given values words = Fade (is_given given Back) (name_at values 0) (name_at values 1) (name_at values 2)
+reads_of asks.Join given values words =
+    Join (is_given given Seamless) (name_at values 0) (drop 1 words)
+reads_of asks.Drill given values words =
+    Drill (seed_said (said_at values 0)) (count_said (said_at values 1))
+reads_of asks.Fade given values words =
+    Fade (is_given given Back) (name_at values 0) (name_at values 1) (name_at values 2)
 reads_of asks.Salvage given values words = Salvage (name_at values 0) (name_at values 1)
 
 -- what words of a shape ask for
 abbrev pub asked_of : Shape → List (List ℕ) → Asked
 asked_of shape words =
-    reads_of shape.form.asks shape.given (drop (length (front_of shape)) (values_of (kinds_for shape (length words)) words))
+    reads_of shape.form.asks shape.given (drop (length (front_of shape))
+    (values_of (kinds_for shape (length words)) words))
     (drop (length (front_of shape)) words)
 
 -- ---- what holds of each form
 
--- the most words after the flags that may be read for what is asked: 100 places, and those before them
+-- the most words after the flags that may be read for
+-- what is asked: 100 places, and those before them
 abbrev pub most_values : Asks → ℕ
 most_values asks.SplitExact = 103
 most_values _ = 102
 
 -- no flag's first word can be the first word after the flags
 abbrev pub is_clear : Form → Bool
-is_clear form = list_all (λ flag. not (fits_kind (slice_index_or form.kinds 0 Name) (first_word flag))) form.flags
+is_clear form = list_all
+    (λ flag. not (fits_kind (slice_index_or form.kinds 0 Name) (first_word flag))) form.flags
 
 -- the form is small, and its flags can't be taken for its other words
 pub record IsReadable (form : Form) : Type 0 where

@@ -1,14 +1,12 @@
 -- What a single word can be, and what it says.
-use Rattle.std.specs.Prelude.{ℕ, ◌==◌, Bool, false, not, if◌then◌else◌, List, [], ◌∷◌, slice_index_or, Option, Some, None, option_map, option_and_then, is_some, ℤ, pos, codes, bytes_eq}
-use Rattle.cue_sheet.specs.declared.place.Place.{Place as StreamPlace}
-use Rattle.cue_sheet.specs.declared.place.Place.TheVariants.{End}
-use Rattle.cue_sheet.specs.Digits.{number_in, steps_in}
-use Rattle.cue_sheet.specs.Places.{place_of}
-use Rattle.exact_span.specs.declared.exact_place.ExactPlace.{ExactPlace}
+use Rattle.std.specs.Prelude.{Bool, bytes_eq, codes, false, if◌then◌else◌, is_some, List, None, not}
+use Rattle.std.specs.Prelude.{Option, option_and_then, option_map, pos, slice_index_or, Some, ℕ, ℤ}
+use Rattle.std.specs.Prelude.{[], ◌==◌, ◌∷◌}
+use Rattle.cue_sheet.specs.{Digits.{number_in, steps_in}, Places.place_of}
+use Rattle.cue_sheet.specs.declared.place.Place.{Place as StreamPlace, TheVariants.End}
+use Rattle.exact_span.specs.{Places.exact_place_of, declared.exact_place.ExactPlace.ExactPlace}
 use Rattle.exact_span.specs.declared.exact_place.ExactPlace.TheVariants.{Place as OfPosition}
-use Rattle.exact_span.specs.Places.{exact_place_of}
-use Rattle.requests.specs.declared.shift.Channels.{Channels}
-use Rattle.requests.specs.declared.shift.Channels.TheVariants.{Both, Left, Right}
+use Rattle.requests.specs.declared.shift.Channels.{Channels, TheVariants.{Both, Left, Right}}
 
 -- what a word of a form is
 pub data Kind : Type 0 where
@@ -36,8 +34,10 @@ abbrev pub is_name : List ℕ → Bool
 is_name [] = false
 is_name (first ∷ rest) = not (first == 45)
 
+-- `0` is the left channel and `1` the right one
 abbrev pub channel_of : List ℕ → Option Channels
-channel_of word = if bytes_eq word (codes "0") then Some Left else if bytes_eq word (codes "1") then Some Right else None
+channel_of word = if bytes_eq word (codes "0") then Some Left else if bytes_eq word (codes "1")
+    then Some Right else None
 
 -- one to three digits
 abbrev pub rate_in : List ℕ → Option ℕ
@@ -49,7 +49,8 @@ seed_in digits = number_in 1 10 2147483647 digits
 
 -- one to five digits, of a number from 1 to 20,000
 abbrev pub count_in : List ℕ → Option ℕ
-count_in digits = option_and_then (λ count. if count == 0 then None else Some count) (number_in 1 5 20000 digits)
+count_in digits =
+    option_and_then (λ count. if count == 0 then None else Some count) (number_in 1 5 20000 digits)
 
 -- what a word says
 pub data Said : Type 0 where
@@ -88,34 +89,42 @@ said Count word = option_map CountSaid (count_in word)
 abbrev pub fits_kind : Kind → List ℕ → Bool
 fits_kind kind word = is_some (said kind word)
 
+-- the name that a value says; empty where it says another thing
 abbrev pub name_said : Said → List ℕ
 name_said (NameSaid name) = name
 name_said _ = []
 
+-- the steps that a value says, else 0
 abbrev pub steps_said : Said → ℤ
 steps_said (StepsSaid steps) = steps
 steps_said _ = pos 0
 
+-- the channel that a value says, else both
 abbrev pub channels_said : Said → Channels
 channels_said (ChannelSaid channel) = channel
 channels_said _ = Both
 
+-- the position that a value says, else the end
 abbrev pub place_said : Said → StreamPlace
 place_said (PlaceSaid place) = place
 place_said _ = End
 
+-- the place among the samples that a value says, else the end
 abbrev pub exact_said : Said → ExactPlace
 exact_said (ExactSaid place) = place
 exact_said _ = OfPosition End
 
+-- the bit rate that a value says, else 0
 abbrev pub rate_said : Said → ℕ
 rate_said (RateSaid rate) = rate
 rate_said _ = 0
 
+-- the seed that a value says, else 0
 abbrev pub seed_said : Said → ℕ
 seed_said (SeedSaid seed) = seed
 seed_said _ = 0
 
+-- the number of frames that a value says, else 1
 abbrev pub count_said : Said → ℕ
 count_said (CountSaid count) = count
 count_said _ = 1
@@ -130,9 +139,10 @@ abbrev pub values_of : List Kind → List (List ℕ) → List Said
 values_of (kind ∷ kinds) (word ∷ words) = said_first (said kind word) (values_of kinds words)
 values_of kinds words = []
 
--- the value at a place of the list, counted from 0, and the name that it says
+-- the value at a place of the list, counted from 0
 abbrev pub said_at : List Said → ℕ → Said
 said_at values place = slice_index_or values place Itself
 
+-- the name that it says
 abbrev pub name_at : List Said → ℕ → List ℕ
 name_at values place = name_said (said_at values place)

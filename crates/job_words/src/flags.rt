@@ -15,6 +15,8 @@ pub(crate) enum Flag {
     Least,
     /// `--back`: a fade is undone.
     Back,
+    /// `--seamless`: frames that only a piece needs are left out.
+    Seamless,
 }
 
 impl Default for Flag {
@@ -42,6 +44,7 @@ impl Flag {
             Flag::Wrapping => &["-w"],
             Flag::Least => &["--least"],
             Flag::Back => &["--back"],
+            Flag::Seamless => &["--seamless"],
         }
     }
 

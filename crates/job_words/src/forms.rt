@@ -101,8 +101,8 @@ pub(crate) static FORMS: [Form; 22] = [
     form!(SplitBy: "split" [] [Name Name Fixed("-c") Name] 0),
     // `split --exact IN PREFIX -c CUE`
     form!(SplitExactBy: "split" [] [Fixed("--exact") Name Name Fixed("-c") Name] 0),
-    // `join OUT IN1 [IN2 to IN64]`
-    form!(Join: "join" [] [Name Name] 63),
+    // `join [--seamless] OUT IN1 [IN2 to IN64]`
+    form!(Join: "join" [Seamless] [Name Name] 63),
     // `drill SEED COUNT`
     form!(Drill: "drill" [] [Seed Count] 0),
     // `fade [--back] IN OUT SHEET`
@@ -257,6 +257,7 @@ impl Asks {
             Asks::SplitBy => split_by(false, values, 0),
             Asks::SplitExactBy => split_by(true, values, 1),
             Asks::Join => Job::Join {
+                seamless: is_given(given, Flag::Seamless),
                 output: name_at(values, 0),
                 inputs: behind(words, 1),
             },

@@ -107,6 +107,8 @@ pub enum Job<'a> {
     },
     /// Write the frames of all inputs, one after another, to the file `output`.
     Join {
+        /// Whether the frames that only a piece needs are left out, and a line says so of each input after the first.
+        seamless: bool,
         /// The name of the file to write.
         output: &'a str,
         /// The names of the files to read, 1 to 64.

@@ -29,7 +29,7 @@ fn read_by<'a>(forms: &[Form], words: &'a [String]) -> Result<Job<'a>, u32>
 /// options in either order; `gain -u IN OUT`; `cut [--least] IN FROM TO OUT`; `cut --exact IN FROM TO OUT`; `pack IN OUT`,
 /// `pack --constant B IN OUT`, `pack --floor B IN OUT` and `pack --best IN OUT`; `split IN PREFIX P1 P2 [P3 to P100]`; `split IN PREFIX -c CUE`;
 /// `split --exact IN PREFIX P1 P2 [P3 to P100]`; `split --exact IN PREFIX -c CUE`;
-/// `join OUT IN1 [IN2 to IN64]`; `drill SEED COUNT`; `fade [--back] IN OUT SHEET`; `salvage IN OUT`; and `--help`, `-h` and
+/// `join [--seamless] OUT IN1 [IN2 to IN64]`; `drill SEED COUNT`; `fade [--back] IN OUT SHEET`; `salvage IN OUT`; and `--help`, `-h` and
 /// `--version`, each alone. C is `0` or `1`. N is an optional `+` or `-` and one to three digits, from -255 to 255. B is a bit
 /// rate in kbit/s, one to three digits. SEED is a number up to 2,147,483,647 of one to ten digits, and COUNT one from 1 to
 /// 20,000 of one to five. FROM, TO and P1 to P100 are positions as `Place::read` has them, after `--exact` places among the samples

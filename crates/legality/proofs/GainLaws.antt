@@ -1,48 +1,39 @@
 -- Gains that can move: what refuses a change of gains, and what doesn't.
-use Rattle.std.proofs.Common.{◌≡◌, ◌≢◌, ◌⊎◌, ℕ, zero, suc, ◌<◌, ◌≤◌, ◌==◌, ◌&&◌, not, Bool, true, false, cond, List, [], ◌∷◌, length, Option, Some, None, Result, Ok, Err, refl, sym, ◌∙◌, ap, subst, inl, inr, arith, rules, ℤ, pos, ◌+ℤ◌}
+use Rattle.std.proofs.Common.{ap, arith, Bool, cond, Err, false, inl, inr, length, List, None, not}
+use Rattle.std.proofs.Common.{Ok, Option, pos, refl, Result, rules, Some, subst, suc, sym, true}
+use Rattle.std.proofs.Common.{zero, ℕ, ℤ, ◌+ℤ◌, [], ◌&&◌, ◌<◌, ◌==◌, ◌∙◌, ◌∷◌, ◌≡◌, ◌≢◌, ◌≤◌, ◌⊎◌}
+use Rattle.std.{proofs.lemmas.Bool.{le-ltb, ltb-false, ne_eqb}, specs.Option.option_or}
 use Rattle.std.specs.Prelude.{nat_lt, unsigned_abs}
-use Rattle.std.specs.Option.{option_or}
-use Rattle.std.proofs.lemmas.Bool.{ltb-false, le-ltb, ne_eqb}
-use Rattle.side_info.specs.declared.side.Side.{Side}
-use Rattle.side_info.specs.Side.{granule_in}
-use Rattle.tag_blocks.specs.declared.undo.Undo.{Undo}
-use Rattle.tag_blocks.specs.declared.undo.UndoItem.{UndoItem}
-use Rattle.tag_blocks.specs.declared.undo.UndoItem.TheVariants.{Missing, Bad, Found}
-use Rattle.tag_blocks.specs.Tags.{TagFields, tag_bytes}
-use Rattle.tag_blocks.specs.UndoItems.{undo_from}
-use Rattle.moved_gains.specs.declared.tag_fault.FileTagFault.{FileTagFault}
-use Rattle.moved_gains.specs.TagPlace.{tag_at}
-use Rattle.moved_gains.specs.TagReading.{longest_tag, file_tag}
-use Rattle.sync_survey.specs.Row.{Row}
-use Rattle.sync_survey.specs.Faults.{SurveyFields, longest_file}
-use Rattle.commands.specs.declared.fault.EditFault.{EditFault}
-use Rattle.commands.specs.declared.fault.Refusal.{Refusal}
-use Rattle.commands.specs.declared.fault.Refusal.TheVariants.{Mono, Joint}
-use Rattle.commands.specs.Refusing.{or_else, unless, then_made}
-use Rattle.commands.proofs.RefusingLaws.{none_first, none_both, first-nil, first-cons, unless_ok}
-use Rattle.moved_gains.specs.declared.gains.Stuck.{Stuck}
-use Rattle.requests.specs.declared.shift.Channels.{Channels}
-use Rattle.requests.specs.declared.shift.Channels.TheVariants.{Both, Left, Right}
-use Rattle.requests.specs.declared.shift.Shift.{Shift}
-use Rattle.requests.specs.declared.shift.Steps.{Steps}
-use Rattle.moved_gains.specs.Change.{Change}
-use Rattle.moved_gains.specs.Course.{even}
-use Rattle.requests.specs.Shifts.{steps_of}
-use Rattle.moved_gains.specs.Gains.{is_silent_granule, is_outside, stuck_at, stuck_in}
-use Rattle.moved_gains.specs.Edited.{stuck_of}
-use Rattle.moved_gains.proofs.MovedGains.{within}
-use Rattle.gain_edits.specs.Channels.{are_both, is_joint, joint_at, joint_fault, apart_fault, channel_fault}
-use Rattle.gain_edits.specs.GainRange.{range_at, range_fault}
-use Rattle.gain_edits.specs.UndoItem.{tag_read, no_undo, noted_undo, found_undo, next_undo, number_fault, undo_fault, undo_steps, tag_with, tag_without, bytes_unless_empty, size_fault, output_length, output_fault}
+use Rattle.commands.proofs.RefusingLaws.{first-cons, first-nil, none_both, none_first, unless_ok}
+use Rattle.commands.specs.Refusing.{or_else, then_made, unless}
+use Rattle.commands.specs.declared.fault.{EditFault.EditFault, Refusal.Refusal}
+use Rattle.commands.specs.declared.fault.Refusal.TheVariants.{Joint, Mono}
+use Rattle.gain_edits.proofs.Proper.{read_ok, tagged-parts, undone-parts}
+use Rattle.gain_edits.proofs.{RangeAgain.{frame-none, none-frame}, Refusals.not_there}
 use Rattle.gain_edits.specs.Change.{changed_with}
-use Rattle.gain_edits.specs.Gain.{noted_change, tagged_change, gain_change}
-use Rattle.gain_edits.specs.Undo.{undone_change, undo_change}
-use Rattle.gain_edits.proofs.Proper.{tagged-parts, undone-parts, read_ok}
-use Rattle.gain_edits.proofs.RangeAgain.{frame-none, none-frame}
-use Rattle.gain_edits.proofs.Refusals.{not_there}
-use Rattle.legality.specs.Inputs.{Each, Input}
+use Rattle.gain_edits.specs.Channels.{apart_fault, are_both, channel_fault, is_joint, joint_at}
+use Rattle.gain_edits.specs.{Channels.joint_fault, Gain.{gain_change, noted_change, tagged_change}}
+use Rattle.gain_edits.specs.{GainRange.{range_at, range_fault}, Undo.{undo_change, undone_change}}
+use Rattle.gain_edits.specs.UndoItem.{bytes_unless_empty, found_undo, next_undo, no_undo}
+use Rattle.gain_edits.specs.UndoItem.{noted_undo, number_fault, output_fault, output_length}
+use Rattle.gain_edits.specs.UndoItem.{size_fault, tag_read, tag_with, tag_without, undo_fault}
+use Rattle.gain_edits.specs.UndoItem.{undo_steps}
 use Rattle.legality.proofs.InputLaws.{each-cons}
-use Rattle.legality.specs.Choices.{StaysGain, steps_on, CanMove, AreSeparate, CanChange, IsLegalGain, IsLegalUndo}
+use Rattle.legality.specs.Choices.{AreSeparate, CanChange, CanMove, IsLegalGain, IsLegalUndo}
+use Rattle.legality.specs.{Choices.{StaysGain, steps_on}, Inputs.{Each, Input}}
+use Rattle.moved_gains.{proofs.MovedGains.within, specs.{Change.Change, Course.even}}
+use Rattle.moved_gains.specs.Edited.{stuck_of}
+use Rattle.moved_gains.specs.Gains.{is_outside, is_silent_granule, stuck_at, stuck_in}
+use Rattle.moved_gains.specs.{TagPlace.tag_at, TagReading.{file_tag, longest_tag}}
+use Rattle.moved_gains.specs.declared.{gains.Stuck.Stuck, tag_fault.FileTagFault.FileTagFault}
+use Rattle.requests.specs.{Shifts.steps_of, declared.shift.Channels.Channels}
+use Rattle.requests.specs.declared.shift.{Channels.TheVariants.{Both, Left, Right}, Shift.Shift}
+use Rattle.requests.specs.declared.shift.Steps.{Steps}
+use Rattle.side_info.specs.{Side.granule_in, declared.side.Side.Side}
+use Rattle.sync_survey.specs.{Faults.{longest_file, SurveyFields}, Row.Row}
+use Rattle.tag_blocks.specs.{Tags.{tag_bytes, TagFields}, UndoItems.undo_from}
+use Rattle.tag_blocks.specs.declared.undo.{Undo.Undo, UndoItem.UndoItem}
+use Rattle.tag_blocks.specs.declared.undo.UndoItem.TheVariants.{Bad, Found, Missing}
 
 -- ---- one gain
 
@@ -52,12 +43,14 @@ stays sum inside = let gain = within sum inside in (gain.gain, omega (arith, gai
 stays-inside : (sum : ℤ) → (moved : ℕ) × (moved ≤ 255) × (sum ≡ pos moved) → is_outside sum ≡ false
 stays-inside sum gain = ap is_outside gain.2 ∙ le-ltb 255 gain.0 gain.1
 
-loud-inside : (silent outside : Bool) (x : Stuck) → cond (not silent && outside) (Some x) None ≡ None → silent ≡ false → outside ≡ false
+loud-inside : (silent outside : Bool) (x : Stuck)
+    → cond (not silent && outside) (Some x) None ≡ None → silent ≡ false → outside ≡ false
 loud-inside true outside x e loud = absurd cc
 loud-inside false true x e loud = absurd cc
 loud-inside false false x e loud = refl
 
-inside-none : (silent outside : Bool) (x : Stuck) → (silent ≡ false → outside ≡ false) → cond (not silent && outside) (Some x) None ≡ None
+inside-none : (silent outside : Bool) (x : Stuck) → (silent ≡ false → outside ≡ false)
+    → cond (not silent && outside) (Some x) None ≡ None
 inside-none true outside x inside = refl
 inside-none false outside x inside = ap (λ b. cond b (Some x) None) (inside refl)
 
@@ -67,17 +60,23 @@ is-some (suc n) e = omega arith
 
 -- the gain of a granule and channel can move
 abbrev GranuleMoves : ℤ → Side → ℕ → ℕ → Type 0
-GranuleMoves steps s granule channel = 0 < (granule_in s granule channel).part2_3_length → StaysGain steps (granule_in s granule channel).global_gain
+GranuleMoves steps s granule channel = 0 < (granule_in s granule channel).part2_3_length
+    → StaysGain steps (granule_in s granule channel).global_gain
 
-granule-moves : (steps : ℤ) (s : Side) (granule channel : ℕ) → stuck_at steps s granule channel ≡ None → GranuleMoves steps s granule channel
+granule-moves : (steps : ℤ) (s : Side) (granule channel : ℕ)
+    → stuck_at steps s granule channel ≡ None → GranuleMoves steps s granule channel
 granule-moves steps s granule channel none loud =
     let g = granule_in s granule channel in
-    stays (pos g.global_gain +ℤ steps) (loud-inside (is_silent_granule g) (is_outside (pos g.global_gain +ℤ steps)) _ none (ne_eqb g.part2_3_length 0 (λ e. omega (arith, e, loud))))
+    stays (pos g.global_gain +ℤ steps)
+    (loud-inside (is_silent_granule g) (is_outside (pos g.global_gain +ℤ steps)) _ none
+    (ne_eqb g.part2_3_length 0 (λ e. omega (arith, e, loud))))
 
-moves-granule : (steps : ℤ) (s : Side) (granule channel : ℕ) → GranuleMoves steps s granule channel → stuck_at steps s granule channel ≡ None
+moves-granule : (steps : ℤ) (s : Side) (granule channel : ℕ) → GranuleMoves steps s granule channel
+    → stuck_at steps s granule channel ≡ None
 moves-granule steps s granule channel moves =
     let g = granule_in s granule channel in
-    inside-none (is_silent_granule g) (is_outside (pos g.global_gain +ℤ steps)) _ (λ loud. stays-inside (pos g.global_gain +ℤ steps) (moves (is-some g.part2_3_length loud)))
+    inside-none (is_silent_granule g) (is_outside (pos g.global_gain +ℤ steps)) _
+    (λ loud. stays-inside (pos g.global_gain +ℤ steps) (moves (is-some g.part2_3_length loud)))
 
 -- ---- one frame
 
@@ -98,22 +97,27 @@ unless-wrap false o none = none refl
 
 -- each of the four gains of a frame can move
 abbrev SideMoves : Steps → Side → Type 0
-SideMoves steps s = (granule channel : ℕ) → granule < 2 → channel < 2 → GranuleMoves (steps_on steps channel) s granule channel
+SideMoves steps s = (granule channel : ℕ) → granule < 2 → channel < 2
+    → GranuleMoves (steps_on steps channel) s granule channel
 
-side-moves : (steps : Steps) (s : Side) → stuck_in steps s ≡ None → steps.wrap ≡ false → SideMoves steps s
+side-moves : (steps : Steps) (s : Side) → stuck_in steps s ≡ None → steps.wrap ≡ false
+    → SideMoves steps s
 unfolding stuck_in
 side-moves steps s none is = λ granule channel g c. at granule channel g c
   where
-    first : (stuck_at steps.left s 0 0 ≡ None) × (option_or (stuck_at steps.right s 0 1) (option_or (stuck_at steps.left s 1 0) (stuck_at steps.right s 1 1)) ≡ None)
+    first : (stuck_at steps.left s 0 0 ≡ None) × (option_or (stuck_at steps.right s 0 1)
+        (option_or (stuck_at steps.left s 1 0) (stuck_at steps.right s 1 1)) ≡ None)
     first = none-or _ _ (strict steps.wrap _ none is)
 
-    second : (stuck_at steps.right s 0 1 ≡ None) × (option_or (stuck_at steps.left s 1 0) (stuck_at steps.right s 1 1) ≡ None)
+    second : (stuck_at steps.right s 0 1 ≡ None)
+        × (option_or (stuck_at steps.left s 1 0) (stuck_at steps.right s 1 1) ≡ None)
     second = none-or _ _ first.1
 
     third : (stuck_at steps.left s 1 0 ≡ None) × (stuck_at steps.right s 1 1 ≡ None)
     third = none-or _ _ second.1
 
-    at : (granule channel : ℕ) → granule < 2 → channel < 2 → GranuleMoves (steps_on steps channel) s granule channel
+    at : (granule channel : ℕ) → granule < 2 → channel < 2
+        → GranuleMoves (steps_on steps channel) s granule channel
     at zero zero g c = granule-moves steps.left s 0 0 first.0
     at zero (suc zero) g c = granule-moves steps.right s 0 1 second.0
     at (suc zero) zero g c = granule-moves steps.left s 1 0 third.0
@@ -122,25 +126,29 @@ side-moves steps s none is = λ granule channel g c. at granule channel g c
     at (suc zero) (suc (suc n)) g c = absurd (omega (arith, c))
     at (suc (suc n)) channel g c = absurd (omega (arith, g))
 
-moves-side : (steps : Steps) (s : Side) → (steps.wrap ≡ false → SideMoves steps s) → stuck_in steps s ≡ None
+moves-side : (steps : Steps) (s : Side) → (steps.wrap ≡ false → SideMoves steps s)
+    → stuck_in steps s ≡ None
 unfolding stuck_in
 moves-side steps s moves =
     unless-wrap steps.wrap _ (λ is.
     or-none _ _ (moves-granule steps.left s 0 0 (moves is 0 0 (omega arith) (omega arith)))
     (or-none _ _ (moves-granule steps.right s 0 1 (moves is 0 1 (omega arith) (omega arith)))
-    (or-none _ _ (moves-granule steps.left s 1 0 (moves is 1 0 (omega arith) (omega arith))) (moves-granule steps.right s 1 1 (moves is 1 1 (omega arith) (omega arith))))))
+    (or-none _ _ (moves-granule steps.left s 1 0 (moves is 1 0 (omega arith) (omega arith)))
+    (moves-granule steps.right s 1 1 (moves is 1 1 (omega arith) (omega arith))))))
 
 row-moves : (steps : Steps) (row : Row) → stuck_of steps row ≡ None → CanMove steps row
 row-moves steps row none wraps = at row.lost none
   where
-    at : (lost : Bool) → cond lost None (stuck_in steps row.side) ≡ None → lost ≡ false → SideMoves steps row.side
+    at : (lost : Bool) → cond lost None (stuck_in steps row.side) ≡ None → lost ≡ false
+        → SideMoves steps row.side
     at true e kept = absurd cc
     at false e kept = side-moves steps row.side e wraps
 
 moves-row : (steps : Steps) (row : Row) → CanMove steps row → stuck_of steps row ≡ None
 moves-row steps row moves = at row.lost (λ wraps. moves wraps)
   where
-    at : (lost : Bool) → (steps.wrap ≡ false → lost ≡ false → SideMoves steps row.side) → cond lost None (stuck_in steps row.side) ≡ None
+    at : (lost : Bool) → (steps.wrap ≡ false → lost ≡ false → SideMoves steps row.side)
+        → cond lost None (stuck_in steps row.side) ≡ None
     at true moves = refl
     at false moves = moves-side steps row.side (λ wraps. moves wraps refl)
 
@@ -150,19 +158,26 @@ moves-row steps row moves = at row.lost (λ wraps. moves wraps)
 abbrev pub Agree : (ℕ → Steps) → (ℕ → Steps) → List Row → Type 0
 Agree at_offset at_number rows = Each rows (λ i row. at_offset row.offset ≡ at_number i)
 
-pub free-moves : (f g : ℕ → Steps) (rows : List Row) → Agree f g rows → range_fault f rows ≡ None → Each rows (λ i row. CanMove (g i) row)
+-- if no gain leaves its range, the gains of each frame can move
+pub free-moves : (f g : ℕ → Steps) (rows : List Row) → Agree f g rows → range_fault f rows ≡ None
+    → Each rows (λ i row. CanMove (g i) row)
 free-moves f g [] agree none = λ i row is. absurd cc
 free-moves f g (q ∷ rows) agree none =
     let parts = frame-none f q rows none in
-    each-cons (λ i row. CanMove (g i) row) q rows (subst (λ (x : Steps). CanMove x q) (agree 0 q refl) (row-moves (f q.offset) q parts.0))
+    each-cons (λ i row. CanMove (g i) row) q rows
+    (subst (λ (x : Steps). CanMove x q) (agree 0 q refl) (row-moves (f q.offset) q parts.0))
     (free-moves f (λ n. g (suc n)) rows (λ n r here. agree (suc n) r here) parts.1)
 
-pub moves-free : (f g : ℕ → Steps) (rows : List Row) → Agree f g rows → Each rows (λ i row. CanMove (g i) row) → range_fault f rows ≡ None
+-- and if they can, none leaves it
+pub moves-free : (f g : ℕ → Steps) (rows : List Row) → Agree f g rows
+    → Each rows (λ i row. CanMove (g i) row) → range_fault f rows ≡ None
 moves-free f g [] agree moves = first-nil (range_at f)
 moves-free f g (q ∷ rows) agree moves =
     none-frame f q rows
-    (moves-row (f q.offset) q (subst (λ (x : Steps). CanMove x q) (sym (agree 0 q refl)) (moves 0 q refl)))
-    (moves-free f (λ n. g (suc n)) rows (λ n r here. agree (suc n) r here) (λ n r here. moves (suc n) r here))
+    (moves-row (f q.offset) q
+    (subst (λ (x : Steps). CanMove x q) (sym (agree 0 q refl)) (moves 0 q refl)))
+    (moves-free f (λ n. g (suc n)) rows (λ n r here. agree (suc n) r here)
+    (λ n r here. moves (suc n) r here))
 
 even-agree : (steps : Steps) (rows : List Row) → Agree (even steps) (λ i. steps) rows
 even-agree steps rows = λ i row is. refl
@@ -178,46 +193,58 @@ differ m n e same = let both : true ≡ false = sym (search rules) ∙ e in absu
 each-apart : (rows : List Row) → joint_fault rows ≡ None → Each rows (λ i row. row.header.mode ≢ 1)
 each-apart [] none = λ i row is. absurd cc
 each-apart (q ∷ rows) none =
-    let parts = none_first (joint_at q) (joint_fault rows) (sym (first-cons joint_at q rows) ∙ none) in
-    each-cons (λ i row. row.header.mode ≢ 1) q rows (differ q.header.mode 1 (not_there (is_joint q) (Joint q.offset) parts.0)) (each-apart rows parts.1)
+    let parts =
+    none_first (joint_at q) (joint_fault rows) (sym (first-cons joint_at q rows) ∙ none) in
+    each-cons (λ i row. row.header.mode ≢ 1) q rows (differ q.header.mode 1
+    (not_there (is_joint q) (Joint q.offset) parts.0)) (each-apart rows parts.1)
 
 apart-each : (rows : List Row) → Each rows (λ i row. row.header.mode ≢ 1) → joint_fault rows ≡ None
 apart-each [] apart = first-nil joint_at
 apart-each (q ∷ rows) apart =
-    first-cons joint_at q rows ∙ none_both (joint_at q) (joint_fault rows) (test-no (is_joint q) (Joint q.offset) (ne_eqb q.header.mode 1 (apart 0 q refl))) (apart-each rows (λ i row is. apart (suc i) row is))
+    first-cons joint_at q rows
+    ∙ none_both (joint_at q) (joint_fault rows) (test-no (is_joint q) (Joint q.offset)
+    (ne_eqb q.header.mode 1 (apart 0 q refl))) (apart-each rows (λ i row is. apart (suc i) row is))
 
 separate : (s : SurveyFields) → apart_fault s ≡ None → AreSeparate s
 separate s none = at (s.class.channels == 1) refl none
   where
-    at : (b : Bool) → (s.class.channels == 1) ≡ b → cond b (Some Mono) (joint_fault s.frames) ≡ None → AreSeparate s
+    at : (b : Bool) → (s.class.channels == 1) ≡ b → cond b (Some Mono) (joint_fault s.frames) ≡ None
+        → AreSeparate s
     at true is e = absurd cc
     at false is e = record { two = differ s.class.channels 1 is; each = each-apart s.frames e }
 
 separate-none : (s : SurveyFields) → AreSeparate s → apart_fault s ≡ None
-separate-none s are = ap (λ b. cond b (Some Mono) (joint_fault s.frames)) (ne_eqb s.class.channels 1 are.two) ∙ apart-each s.frames are.each
+separate-none s are =
+    ap (λ b. cond b (Some Mono) (joint_fault s.frames)) (ne_eqb s.class.channels 1 are.two)
+    ∙ apart-each s.frames are.each
 
-can-change : (channels : Channels) (s : SurveyFields) → cond (are_both channels) None (apart_fault s) ≡ None → CanChange channels s
+can-change : (channels : Channels) (s : SurveyFields)
+    → cond (are_both channels) None (apart_fault s) ≡ None → CanChange channels s
 can-change Both s none = tt
 can-change Left s none = separate s none
 can-change Right s none = separate s none
 
-change-none : (channels : Channels) (s : SurveyFields) → CanChange channels s → cond (are_both channels) None (apart_fault s) ≡ None
+change-none : (channels : Channels) (s : SurveyFields) → CanChange channels s
+    → cond (are_both channels) None (apart_fault s) ≡ None
 change-none Both s can = refl
 change-none Left s can = separate-none s can
 change-none Right s can = separate-none s can
 
 -- ---- the tag
 
-noted-ok : (at : ℕ) (item : UndoItem) (undo : Undo) → noted_undo at item ≡ Ok undo → (item ≡ Found undo) ⊎ ((item ≡ Missing) × (undo ≡ no_undo))
+noted-ok : (at : ℕ) (item : UndoItem) (undo : Undo) → noted_undo at item ≡ Ok undo
+    → (item ≡ Found undo) ⊎ ((item ≡ Missing) × (undo ≡ no_undo))
 noted-ok at Missing undo e = inr (refl, cc)
 noted-ok at (Bad place) undo e = absurd cc
 noted-ok at (Found found) undo e = inl cc
 
-ok-noted : (at : ℕ) (item : UndoItem) (undo : Undo) → (item ≡ Found undo) ⊎ ((item ≡ Missing) × (undo ≡ no_undo)) → noted_undo at item ≡ Ok undo
+ok-noted : (at : ℕ) (item : UndoItem) (undo : Undo)
+    → (item ≡ Found undo) ⊎ ((item ≡ Missing) × (undo ≡ no_undo)) → noted_undo at item ≡ Ok undo
 ok-noted at item undo (inl found) = ap (noted_undo at) found
 ok-noted at item undo (inr none) = ap (noted_undo at) none.0 ∙ ap Ok (sym none.1)
 
-found-ok : (at : ℕ) (item : UndoItem) (undo : Undo) → found_undo at item ≡ Ok undo → item ≡ Found undo
+found-ok : (at : ℕ) (item : UndoItem) (undo : Undo) → found_undo at item ≡ Ok undo
+    → item ≡ Found undo
 found-ok at Missing undo e = absurd cc
 found-ok at (Bad place) undo e = absurd cc
 found-ok at (Found found) undo e = cc
@@ -235,7 +262,8 @@ module _ (shift : Shift) (file : List ℕ) (s : SurveyFields) where
   abbrev input : Input
   input = record { bytes = file; survey = s }
 
-  noted-legal : (change : Change) → tagged_change shift file s ≡ Ok change → IsLegalGain shift true input
+  noted-legal : (change : Change) → tagged_change shift file s ≡ Ok change
+      → IsLegalGain shift true input
   noted-legal change e =
       let parts = tagged-parts shift file s change e in
       let next = next_undo shift parts.undo in
@@ -247,7 +275,8 @@ module _ (shift : Shift) (file : List ℕ) (s : SurveyFields) where
       let four = none_first (output_fault s bytes) _ three.1 in
       record {
         channels = can-change shift.channels s one.0;
-        gains = free-moves (even (steps_of shift)) (λ i. steps_of shift) s.frames (even-agree (steps_of shift) s.frames) four.1;
+        gains = free-moves (even (steps_of shift))
+            (λ i. steps_of shift) s.frames (even-agree (steps_of shift) s.frames) four.1;
         noted = λ tags. record {
           tag = parts.tag;
           read = read_ok (file_tag file s) parts.tag parts.read;
@@ -260,56 +289,79 @@ module _ (shift : Shift) (file : List ℕ) (s : SurveyFields) where
         };
       }
 
-  plain-legal : (change : Change) → gain_change shift false file s ≡ Ok change → IsLegalGain shift false input
+  plain-legal : (change : Change) → gain_change shift false file s ≡ Ok change
+      → IsLegalGain shift false input
   unfolding gain_change
   plain-legal change e =
-      let one = unless_ok (or_else (channel_fault shift s) (range_fault (even (steps_of shift)) s.frames)) _ change e in
-      let two = none_first (channel_fault shift s) (range_fault (even (steps_of shift)) s.frames) one.0 in
+      let one = unless_ok (or_else (channel_fault shift s)
+      (range_fault (even (steps_of shift)) s.frames)) _ change e in
+      let two =
+      none_first (channel_fault shift s) (range_fault (even (steps_of shift)) s.frames) one.0 in
       record {
         channels = can-change shift.channels s two.0;
-        gains = free-moves (even (steps_of shift)) (λ i. steps_of shift) s.frames (even-agree (steps_of shift) s.frames) two.1;
+        gains = free-moves (even (steps_of shift))
+            (λ i. steps_of shift) s.frames (even-agree (steps_of shift) s.frames) two.1;
         noted = λ tags. absurd cc;
       }
 
-  pub gain-legal : (tags : Bool) (change : Change) → gain_change shift tags file s ≡ Ok change → IsLegalGain shift tags input
+  -- a gain that isn't refused is legal
+  pub gain-legal : (tags : Bool) (change : Change) → gain_change shift tags file s ≡ Ok change
+      → IsLegalGain shift tags input
   unfolding gain_change
   gain-legal true change e = noted-legal change e
   gain-legal false change e = plain-legal change e
 
-  free : (tags : Bool) → IsLegalGain shift tags input → range_fault (even (steps_of shift)) s.frames ≡ None
-  free tags legal = moves-free (even (steps_of shift)) (λ i. steps_of shift) s.frames (even-agree (steps_of shift) s.frames) legal.gains
+  free : (tags : Bool) → IsLegalGain shift tags input
+      → range_fault (even (steps_of shift)) s.frames ≡ None
+  free tags legal = moves-free (even (steps_of shift))
+      (λ i. steps_of shift) s.frames (even-agree (steps_of shift) s.frames) legal.gains
 
-  legal-noted : IsLegalGain shift true input → (change : Change) × (tagged_change shift file s ≡ Ok change)
+  legal-noted : IsLegalGain shift true input
+      → (change : Change) × (tagged_change shift file s ≡ Ok change)
   legal-noted legal =
       let noted = legal.noted refl in
       let next = next_undo shift noted.undo in
       let bytes = tag_bytes (tag_with next noted.tag) in
       let none =
       none_both (channel_fault shift s) _ (change-none shift.channels s legal.channels)
-      (none_both (undo_fault next) _ (none_both (number_fault next.left) (number_fault next.right) (most-none (unsigned_abs next.left) 999 _ noted.left) (most-none (unsigned_abs next.right) 999 _ noted.right))
+      (none_both (undo_fault next) _ (none_both (number_fault next.left) (number_fault next.right)
+      (most-none (unsigned_abs next.left) 999 _ noted.left)
+      (most-none (unsigned_abs next.right) 999 _ noted.right))
       (none_both (size_fault bytes) _ (most-none (length bytes) longest_tag _ noted.tag_fits)
-      (none_both (output_fault s bytes) (range_fault (even (steps_of shift)) s.frames) (most-none (output_length s bytes) longest_file _ noted.file_fits) (free true legal)))) in
+      (none_both (output_fault s bytes) (range_fault (even (steps_of shift)) s.frames)
+      (most-none (output_length s bytes) longest_file _ noted.file_fits) (free true legal)))) in
       let change : Change = record { steps = even (steps_of shift); tag = Some bytes } in (
         change,
-        ap (λ (r : Result TagFields FileTagFault). then_made (tag_read r) (λ tag. then_made (noted_undo (tag_at s) (undo_from 32 tag.items)) (noted_change shift s tag))) noted.read
-            ∙ ap (λ (r : Result Undo EditFault). then_made r (noted_change shift s noted.tag)) (ok-noted (tag_at s) (undo_from 32 noted.tag.items) noted.undo noted.item)
+        ap (λ (r : Result TagFields FileTagFault). then_made (tag_read r) (λ tag. then_made
+            (noted_undo (tag_at s) (undo_from 32 tag.items)) (noted_change shift s tag))) noted.read
+            ∙ ap (λ (r : Result Undo EditFault). then_made r (noted_change shift s noted.tag))
+            (ok-noted (tag_at s) (undo_from 32 noted.tag.items) noted.undo noted.item)
             ∙ ap (λ (o : Option Refusal). unless o change) none,
       )
 
-  legal-plain : IsLegalGain shift false input → (change : Change) × (gain_change shift false file s ≡ Ok change)
+  legal-plain : IsLegalGain shift false input
+      → (change : Change) × (gain_change shift false file s ≡ Ok change)
   unfolding gain_change
   legal-plain legal =
-      let change : Change = record { steps = even (steps_of shift); tag = None } in
-      (change, ap (λ (o : Option Refusal). unless o change) (none_both (channel_fault shift s) (range_fault (even (steps_of shift)) s.frames) (change-none shift.channels s legal.channels) (free false legal)))
+      let change : Change = record { steps = even (steps_of shift); tag = None } in (
+        change,
+        ap (λ (o : Option Refusal). unless o change)
+            (none_both (channel_fault shift s) (range_fault (even (steps_of shift)) s.frames)
+            (change-none shift.channels s legal.channels) (free false legal)),
+      )
 
-  pub legal-gain : (tags : Bool) → IsLegalGain shift tags input → (change : Change) × (gain_change shift tags file s ≡ Ok change)
+  -- a legal gain isn't refused
+  pub legal-gain : (tags : Bool) → IsLegalGain shift tags input
+      → (change : Change) × (gain_change shift tags file s ≡ Ok change)
   unfolding gain_change
   legal-gain true legal = legal-noted legal
   legal-gain false legal = legal-plain legal
 
 -- ---- undo
 
-pub undo-legal : (file : List ℕ) (s : SurveyFields) (change : Change) → undo_change file s ≡ Ok change → IsLegalUndo (record { bytes = file; survey = s })
+-- an undo that isn't refused is legal
+pub undo-legal : (file : List ℕ) (s : SurveyFields) (change : Change)
+    → undo_change file s ≡ Ok change → IsLegalUndo (record { bytes = file; survey = s })
 undo-legal file s change e =
     let parts = undone-parts file s change e in
     record {
@@ -317,22 +369,33 @@ undo-legal file s change e =
       read = read_ok (file_tag file s) parts.tag parts.read;
       undo = parts.undo;
       item = found-ok (tag_at s) (undo_from 32 parts.tag.items) parts.undo parts.item;
-      gains = free-moves (even (undo_steps parts.undo)) (λ i. undo_steps parts.undo) s.frames (even-agree (undo_steps parts.undo) s.frames) parts.free;
+      gains = free-moves (even (undo_steps parts.undo)) (λ i. undo_steps parts.undo)
+          s.frames (even-agree (undo_steps parts.undo) s.frames) parts.free;
     }
 
-pub legal-undo : (file : List ℕ) (s : SurveyFields) → IsLegalUndo (record { bytes = file; survey = s }) → (change : Change) × (undo_change file s ≡ Ok change)
+-- a legal undo isn't refused
+pub legal-undo : (file : List ℕ) (s : SurveyFields)
+    → IsLegalUndo (record { bytes = file; survey = s })
+    → (change : Change) × (undo_change file s ≡ Ok change)
 unfolding undo_change
 legal-undo file s legal =
     let steps = undo_steps legal.undo in
-    let change : Change = record { steps = even steps; tag = Some (bytes_unless_empty (tag_without legal.tag)) } in (
+    let change : Change =
+    record { steps = even steps; tag = Some (bytes_unless_empty (tag_without legal.tag)) } in (
       change,
-      ap (λ (r : Result TagFields FileTagFault). then_made (tag_read r) (λ tag. then_made (found_undo (tag_at s) (undo_from 32 tag.items)) (undone_change s tag))) legal.read
-          ∙ ap (λ (item : UndoItem). then_made (found_undo (tag_at s) item) (undone_change s legal.tag)) legal.item
-          ∙ ap (λ (o : Option Refusal). unless o change) (moves-free (even steps) (λ i. steps) s.frames (even-agree steps s.frames) legal.gains),
+      ap (λ (r : Result TagFields FileTagFault). then_made (tag_read r)
+          (λ tag. then_made (found_undo (tag_at s) (undo_from 32 tag.items)) (undone_change s tag)))
+          legal.read
+          ∙ ap (λ (item : UndoItem). then_made (found_undo (tag_at s) item)
+          (undone_change s legal.tag)) legal.item
+          ∙ ap (λ (o : Option Refusal). unless o change)
+          (moves-free (even steps) (λ i. steps) s.frames (even-agree steps s.frames) legal.gains),
     )
 
 -- ---- a changed file
 
-pub with-parts : (file : List ℕ) (s : SurveyFields) (r : Result Change EditFault) (bytes : List ℕ) → changed_with file s r ≡ Ok bytes → (change : Change) × (r ≡ Ok change)
+-- a changed file has a change
+pub with-parts : (file : List ℕ) (s : SurveyFields) (r : Result Change EditFault) (bytes : List ℕ)
+    → changed_with file s r ≡ Ok bytes → (change : Change) × (r ≡ Ok change)
 with-parts file s (Ok change) bytes e = (change, refl)
 with-parts file s (Err fault) bytes e = absurd cc

@@ -1,34 +1,32 @@
 -- Names that are apart, and the surveys of inputs.
-use Rattle.std.proofs.Common.{◌≡◌, ℕ, zero, suc, ◌+◌, ◌<◌, ◌≤◌, true, false, cond, Contains, List, [], ◌∷◌, length, Some, None, Ok, refl, sym, ◌∙◌, ap, subst, arith, bytes_eq}
-use Rattle.std.specs.List.{list_any}
-use Rattle.std.proofs.lemmas.Bool.{false_from_ne_true}
-use Rattle.std.proofs.lemmas.List.{length-map}
-use Rattle.std.proofs.lemmas.List.Elements.{All-cons}
-use Rattle.std.proofs.lemmas.List.Folds.{list_any_at}
-use Rattle.std.proofs.lemmas.Map.Views.{Contains-from_any}
-use Rattle.std.proofs.lemmas.Slice.Eq.{bytes_eq-Decides}
-use Rattle.outside.specs.Files.{Contents}
-use Rattle.outside.proofs.FilesLaws.{bytes_eq_same}
-use Rattle.sync_survey.specs.Walk.{head_of}
-use Rattle.sync_survey.specs.MainData.{row_of, rows_of}
-use Rattle.sync_survey.specs.Faults.{SurveyFields, class_from, surveyed_freely, longest_file}
-use Rattle.sync_survey.specs.Survey.{survey_of}
-use Rattle.sync_survey.proofs.FaultsLaws.{marked-length}
-use Rattle.sync_survey.proofs.FoldersLaws.{survey_of-short}
-use Rattle.sync_survey.proofs.SurveyParts.{frames_from, surveyed-parts, surveyed-told, surveyed-allowed, all_faults-none_sound, sound-no_all_faults, sound_allowed, some_frames}
-use Rattle.sync_survey.proofs.SurveyedFiles.{survey_of-parts}
-use Rattle.commands.specs.Command.{clash_from}
-use Rattle.commands.proofs.MakeLaws.{no_clash}
+use Rattle.std.proofs.Common.{ap, arith, bytes_eq, cond, Contains, false, length, List, None, Ok}
+use Rattle.std.proofs.Common.{refl, Some, subst, suc, sym, true, zero, ℕ, [], ◌+◌, ◌∙◌, ◌∷◌, ◌≡◌}
+use Rattle.std.proofs.{Common.◌≤◌, lemmas.{Bool.false_from_ne_true, List.Elements.All-cons}}
+use Rattle.std.proofs.lemmas.{List.Folds.list_any_at, Map.Views.Contains-from_any}
+use Rattle.std.{proofs.lemmas.Slice.Eq.bytes_eq-Decides, specs.List.list_any}
+use Rattle.commands.{proofs.MakeLaws.no_clash, specs.Command.clash_from}
+use Rattle.legality.specs.Inputs.{AreApart, AreInputs, Each, EachNext, frames_of, Input, IsInput}
+use Rattle.legality.specs.Inputs.{OfOne}
+use Rattle.outside.{proofs.FilesLaws.bytes_eq_same, specs.Files.Contents}
 use Rattle.pack_edits.proofs.LimitLaws.{few-rows}
-use Rattle.legality.specs.Inputs.{Each, EachNext, AreApart, Input, IsInput, AreInputs, frames_of, OfOne}
+use Rattle.sync_survey.proofs.{FaultsLaws.marked-length, FoldersLaws.survey_of-short}
+use Rattle.sync_survey.proofs.SurveyParts.{all_faults-none_sound, frames_from, sound-no_all_faults}
+use Rattle.sync_survey.proofs.SurveyParts.{sound_allowed, surveyed-allowed, surveyed-parts}
+use Rattle.sync_survey.proofs.{SurveyParts.surveyed-told, SurveyedFiles.survey_of-parts}
+use Rattle.sync_survey.specs.Faults.{class_from, longest_file, surveyed_freely, SurveyFields}
+use Rattle.sync_survey.specs.{MainData.rows_of, Survey.survey_of, Walk.head_of}
 
 -- ---- lists
 
-pub each-cons : {A : Type 0} (P : ℕ → A → Type 0) (x : A) (xs : List A) → P 0 x → Each xs (λ i y. P (suc i) y) → Each (x ∷ xs) P
+-- what holds of the first and of each behind it holds of each
+pub each-cons : {A : Type 0} (P : ℕ → A → Type 0) (x : A) (xs : List A) → P 0 x
+    → Each xs (λ i y. P (suc i) y) → Each (x ∷ xs) P
 each-cons P x xs first rest zero y is = let same : x ≡ y = cc in subst (P 0) same first
 each-cons P x xs first rest (suc i) y is = rest i y is
 
-pub next-cons : {A : Type 0} (P : A → A → Type 0) (x y : A) (more : List A) → P x y → EachNext (y ∷ more) P → EachNext (x ∷ y ∷ more) P
+-- what holds of the first two and of each two behind them holds of each two
+pub next-cons : {A : Type 0} (P : A → A → Type 0) (x y : A) (more : List A) → P x y
+    → EachNext (y ∷ more) P → EachNext (x ∷ y ∷ more) P
 next-cons P x y more first rest zero p q is next =
     let one : x ≡ p = cc in
     let two : y ≡ q = cc in
@@ -37,26 +35,38 @@ next-cons P x y more first rest (suc i) p q is next = rest i p q is next
 
 -- ---- names
 
-none-is : (name : List ℕ) (outputs : List (List ℕ)) → list_any (bytes_eq name) outputs ≡ false → Contains outputs name → ⊥
+none-is : (name : List ℕ) (outputs : List (List ℕ)) → list_any (bytes_eq name) outputs ≡ false
+    → Contains outputs name → ⊥
 none-is name outputs none has =
-    let found : list_any (bytes_eq name) outputs ≡ true = list_any_at (bytes_eq name) outputs has.0 name has.1 (ap (bytes_eq name) has.2 ∙ bytes_eq_same name) in
+    let found : list_any (bytes_eq name) outputs ≡ true = list_any_at (bytes_eq name) outputs
+    has.0 name has.1 (ap (bytes_eq name) has.2 ∙ bytes_eq_same name) in
     let both : true ≡ false = sym found ∙ none in
     absurd cc
 
-is-none : (name : List ℕ) (outputs : List (List ℕ)) → (Contains outputs name → ⊥) → list_any (bytes_eq name) outputs ≡ false
-is-none name outputs free = false_from_ne_true _ (λ e. free (Contains-from_any (λ x y same. (bytes_eq-Decides x y).0 same) name outputs e))
+is-none : (name : List ℕ) (outputs : List (List ℕ)) → (Contains outputs name → ⊥)
+    → list_any (bytes_eq name) outputs ≡ false
+is-none name outputs free = false_from_ne_true _
+    (λ e. free (Contains-from_any (λ x y same. (bytes_eq-Decides x y).0 same) name outputs e))
 
-pub no-clash_apart : (outputs names : List (List ℕ)) (place : ℕ) → clash_from outputs place names ≡ None → AreApart names outputs
+-- without a clash the names are apart
+pub no-clash_apart : (outputs names : List (List ℕ)) (place : ℕ)
+    → clash_from outputs place names ≡ None → AreApart names outputs
 no-clash_apart outputs [] place none = λ k d within. absurd (omega (arith, within))
 no-clash_apart outputs (name ∷ names) place none =
-    let parts = no_clash (list_any (bytes_eq name) outputs) place (clash_from outputs (place + 1) names) none in
-    All-cons (λ n. Contains outputs n → ⊥) name names (none-is name outputs parts.0) (no-clash_apart outputs names (place + 1) parts.1)
+    let parts =
+    no_clash (list_any (bytes_eq name) outputs) place (clash_from outputs (place + 1) names) none in
+    All-cons (λ n. Contains outputs n → ⊥) name names (none-is name outputs parts.0)
+    (no-clash_apart outputs names (place + 1) parts.1)
 
-pub apart_no-clash : (outputs names : List (List ℕ)) (place : ℕ) → AreApart names outputs → clash_from outputs place names ≡ None
+-- names that are apart don't clash
+pub apart_no-clash : (outputs names : List (List ℕ)) (place : ℕ) → AreApart names outputs
+    → clash_from outputs place names ≡ None
 apart_no-clash outputs [] place apart = refl
 apart_no-clash outputs (name ∷ names) place apart =
-    ap (λ b. cond b (Some place) (clash_from outputs (place + 1) names)) (is-none name outputs (apart 0 [] (omega arith)))
-    ∙ apart_no-clash outputs names (place + 1) (λ k d within. apart (suc k) d (omega (arith, within)))
+    ap (λ b. cond b (Some place) (clash_from outputs (place + 1) names))
+    (is-none name outputs (apart 0 [] (omega arith)))
+    ∙ apart_no-clash outputs names (place + 1)
+    (λ k d within. apart (suc k) d (omega (arith, within)))
 
 -- ---- surveys
 
@@ -66,29 +76,42 @@ pub record IsWhole (file : List ℕ) (allowed : ℕ) (s : SurveyFields) : Type 0
   pub well_formed : surveyed_freely file ≡ Ok s
   pub few : length s.frames ≤ allowed
 
-pub survey-whole : (file : List ℕ) (allowed : ℕ) (s : SurveyFields) → survey_of file allowed ≡ Ok s → IsWhole file allowed s
+-- a surveyed file isn't too long, is well-formed, and has no more frames than allowed
+pub survey-whole : (file : List ℕ) (allowed : ℕ) (s : SurveyFields) → survey_of file allowed ≡ Ok s
+    → IsWhole file allowed s
 survey-whole file allowed s e =
     let whole = survey_of-parts file allowed s e in
     let parts = surveyed-parts file allowed s whole.1 in
     let head = head_of file parts.0.first in
     let rows = rows_of file (frames_from file parts.0) in
-    let few = few-rows file head (class_from parts.0) allowed rows (all_faults-none_sound file head (class_from parts.0) allowed rows parts.1.frames) in
-    let size : length s.frames ≡ length rows = ap (λ (t : SurveyFields). length t.frames) (sym parts.2) ∙ marked-length head rows in
-    record { long = whole.0; well_formed = surveyed-allowed file allowed (length file + 1) s (omega arith) whole.1; few = omega (arith, few, size) }
+    let few = few-rows file head (class_from parts.0) allowed rows
+    (all_faults-none_sound file head (class_from parts.0) allowed rows parts.1.frames) in
+    let size : length s.frames ≡ length rows =
+    ap (λ (t : SurveyFields). length t.frames) (sym parts.2) ∙ marked-length head rows in
+    record {
+      long = whole.0;
+      well_formed = surveyed-allowed file allowed (length file + 1) s (omega arith) whole.1;
+      few = omega (arith, few, size);
+    }
 
-pub whole-survey : (file : List ℕ) (allowed : ℕ) (s : SurveyFields) → IsWhole file allowed s → survey_of file allowed ≡ Ok s
+-- and such a file has a survey
+pub whole-survey : (file : List ℕ) (allowed : ℕ) (s : SurveyFields) → IsWhole file allowed s
+    → survey_of file allowed ≡ Ok s
 whole-survey file allowed s whole =
     let parts = surveyed-parts file (length file + 1) s whole.well_formed in
     let start = parts.0 in
     let read = parts.1 in
     let head = head_of file start.first in
     let rows = rows_of file (frames_from file start) in
-    let size : length s.frames ≡ length rows = ap (λ (t : SurveyFields). length t.frames) (sym parts.2) ∙ marked-length head rows in
+    let size : length s.frames ≡ length rows =
+    ap (λ (t : SurveyFields). length t.frames) (sym parts.2) ∙ marked-length head rows in
     survey_of-short file allowed whole.long
     ∙ surveyed-told file allowed start (record {
       start_is = read.start_is;
       frames = sound-no_all_faults file head (class_from start) allowed rows
-          (sound_allowed file head (class_from start) (length file + 1) allowed rows (omega (arith, whole.few, size)) (all_faults-none_sound file head (class_from start) (length file + 1) rows read.frames));
+          (sound_allowed file head (class_from start) (length file + 1) allowed rows
+          (omega (arith, whole.few, size))
+          (all_faults-none_sound file head (class_from start) (length file + 1) rows read.frames));
       end = read.end;
     })
     ∙ ap Ok parts.2
@@ -96,20 +119,31 @@ whole-survey file allowed s whole =
 -- ---- one input
 
 -- the name's file is an input without fault, and what was chosen is legal for it
-pub record IsOne (Choice : Input → Type 0) (files : Contents) (name : List ℕ) (most : ℕ) : Type 0 where
+pub record IsOne (Choice : Input → Type 0) (files : Contents) (name : List ℕ)
+    (most : ℕ) : Type 0 where
   pub input : Input
   pub is : IsInput files name input
   pub few : length input.survey.frames ≤ most
   pub choice : Choice input
 
-pub one-of : (Choice : Input → Type 0) (files : Contents) (name : List ℕ) (most : ℕ) (inputs : List Input) → AreInputs files (name ∷ []) inputs → frames_of inputs ≤ most → OfOne Choice inputs → IsOne Choice files name most
+-- one input that is right is the one of the command
+pub one-of : (Choice : Input → Type 0) (files : Contents) (name : List ℕ) (most : ℕ)
+    (inputs : List Input) → AreInputs files (name ∷ []) inputs → frames_of inputs ≤ most
+    → OfOne Choice inputs → IsOne Choice files name most
 one-of Choice files name most [] are few choice = absurd are
-one-of Choice files name most (input ∷ []) are few choice = record { input = input; is = are.0; few = omega (arith, few); choice = choice }
+one-of Choice files name most (input ∷ []) are few choice =
+    record { input = input; is = are.0; few = omega (arith, few); choice = choice }
 one-of Choice files name most (input ∷ next ∷ inputs) are few choice = absurd choice
 
--- its survey
-pub one-survey : (Choice : Input → Type 0) (files : Contents) (name : List ℕ) (most : ℕ) (one : IsOne Choice files name most) → survey_of one.input.bytes most ≡ Ok one.input.survey
-one-survey Choice files name most one = whole-survey one.input.bytes most one.input.survey (record { long = one.is.long; well_formed = one.is.well_formed; few = one.few })
+-- a right input has its survey
+pub one-survey : (Choice : Input → Type 0) (files : Contents) (name : List ℕ) (most : ℕ)
+    (one : IsOne Choice files name most) → survey_of one.input.bytes most ≡ Ok one.input.survey
+one-survey Choice files name most one = whole-survey one.input.bytes most one.input.survey
+    (record { long = one.is.long; well_formed = one.is.well_formed; few = one.few })
 
-pub survey-input : (files : Contents) (name file : List ℕ) (allowed : ℕ) (s : SurveyFields) → files name ≡ Some file → survey_of file allowed ≡ Ok s → IsInput files name (record { bytes = file; survey = s })
-survey-input files name file allowed s there e = let whole = survey-whole file allowed s e in record { there = there; long = whole.long; well_formed = whole.well_formed }
+-- a surveyed file under its name is an input
+pub survey-input : (files : Contents) (name file : List ℕ) (allowed : ℕ) (s : SurveyFields)
+    → files name ≡ Some file → survey_of file allowed ≡ Ok s
+    → IsInput files name (record { bytes = file; survey = s })
+survey-input files name file allowed s there e = let whole = survey-whole file allowed s e in
+    record { there = there; long = whole.long; well_formed = whole.well_formed }

@@ -1,94 +1,116 @@
 -- The inputs of a join, one after the other.
-use Rattle.std.proofs.Common.{◌≡◌, ℕ, zero, suc, ◌+◌, ◌-◌, ◌≤◌, Bool, true, false, cond, List, [], ◌∷◌, length, Option, Some, None, Result, Ok, Err, refl, sym, ◌∙◌, ap, subst, arith}
+use Rattle.std.proofs.Common.{ap, arith, cond, Err, length, List, None, Ok, Option, refl, Result}
+use Rattle.std.proofs.Common.{Some, subst, suc, sym, zero, ℕ, [], ◌+◌, ◌-◌, ◌∙◌, ◌∷◌, ◌≡◌, ◌≤◌}
 use Rattle.std.specs.Prelude.{slice_get, unwrap_or}
-use Rattle.frame_header.specs.Fields.{ClassFields}
-use Rattle.laying.specs.Relaid.{Part}
-use Rattle.outside.specs.Files.{Contents}
-use Rattle.sync_survey.specs.declared.survey_fault.SurveyFault.{SurveyFault}
-use Rattle.sync_survey.specs.Faults.{SurveyFields}
-use Rattle.sync_survey.specs.Survey.{survey_of}
-use Rattle.commands.specs.declared.fault.EditFault.{EditFault}
-use Rattle.commands.specs.declared.fault.EditFault.TheVariants.{Refused}
+use Rattle.commands.{proofs.RefusingLaws.then_ok, specs.{One.most_frames, Refusing.then_made}}
+use Rattle.commands.specs.declared.fault.EditFault.{EditFault, TheVariants.Refused}
 use Rattle.commands.specs.declared.fault.Refusal.TheVariants.{Differ}
-use Rattle.commands.specs.One.{most_frames}
-use Rattle.commands.specs.Refusing.{then_made}
-use Rattle.commands.proofs.RefusingLaws.{then_ok}
-use Rattle.join_edits.specs.Join.{whole_part, may_follow, part_by, part_of, parts_from, parts_of}
-use Rattle.join_edits.specs.Inputs.{Follows}
-use Rattle.join_edits.proofs.InputLaws.{follows-may}
-use Rattle.join_edits.proofs.PartLaws.{part-is}
-use Rattle.legality.specs.Inputs.{Input, AreInputs, frames_of}
-use Rattle.legality.specs.Choices.{AreOfOneClass}
-use Rattle.legality.proofs.InputLaws.{survey-whole, whole-survey, survey-input}
+use Rattle.frame_header.specs.Fields.{ClassFields}
+use Rattle.join_edits.{proofs.{InputLaws.follows-may, PartLaws.part-is}, specs.Inputs.Follows}
+use Rattle.join_edits.specs.Join.{part_by, part_of, parts_from, parts_of, whole_part}
+use Rattle.laying.specs.Relaid.{Part}
+use Rattle.legality.proofs.InputLaws.{survey-input, survey-whole, whole-survey}
+use Rattle.legality.specs.{Choices.AreOfOneClass, Inputs.{AreInputs, frames_of, Input}}
+use Rattle.outside.specs.Files.{Contents}
+use Rattle.sync_survey.specs.{Faults.SurveyFields, Survey.survey_of}
 
 -- ---- classes
 
 -- each is of the class of the first
 abbrev Follow : Option ClassFields → List Input → Type 0
 Follow first [] = Unit {0}
-Follow first (input ∷ inputs) = Follows first input.survey.class × Follow (Some (unwrap_or first input.survey.class)) inputs
+Follow first (input ∷ inputs) =
+    Follows first input.survey.class × Follow (Some (unwrap_or first input.survey.class)) inputs
 
-follow-class : (class : ClassFields) (inputs : List Input) → Follow (Some class) inputs → (i : ℕ) (p : Input) → slice_get inputs i ≡ Some p → p.survey.class ≡ class
+follow-class : (class : ClassFields) (inputs : List Input) → Follow (Some class) inputs
+    → (i : ℕ) (p : Input) → slice_get inputs i ≡ Some p → p.survey.class ≡ class
 follow-class class [] follow i p is = absurd cc
-follow-class class (input ∷ inputs) follow zero p is = let same : input ≡ p = cc in subst (λ (q : Input). q.survey.class ≡ class) same follow.0
+follow-class class (input ∷ inputs) follow zero p is = let same : input ≡ p = cc in
+    subst (λ (q : Input). q.survey.class ≡ class) same follow.0
 follow-class class (input ∷ inputs) follow (suc i) p is = follow-class class inputs follow.1 i p is
 
-class-follow : (class : ClassFields) (inputs : List Input) → ((i : ℕ) (p : Input) → slice_get inputs i ≡ Some p → p.survey.class ≡ class) → Follow (Some class) inputs
+class-follow : (class : ClassFields) (inputs : List Input)
+    → ((i : ℕ) (p : Input) → slice_get inputs i ≡ Some p → p.survey.class ≡ class)
+    → Follow (Some class) inputs
 class-follow class [] each = tt
-class-follow class (input ∷ inputs) each = (each 0 input refl, class-follow class inputs (λ i p is. each (suc i) p is))
+class-follow class (input ∷ inputs) each =
+    (each 0 input refl, class-follow class inputs (λ i p is. each (suc i) p is))
 
-each-first : (inputs : List Input) → Follow None inputs → (first : Input) → slice_get inputs 0 ≡ Some first → (i : ℕ) (p : Input) → slice_get inputs i ≡ Some p → p.survey.class ≡ first.survey.class
+each-first : (inputs : List Input) → Follow None inputs → (first : Input)
+    → slice_get inputs 0 ≡ Some first → (i : ℕ) (p : Input) → slice_get inputs i ≡ Some p
+    → p.survey.class ≡ first.survey.class
 each-first [] follow first is i p here = absurd cc
 each-first (input ∷ inputs) follow first is zero p here =
     let same : first ≡ p = cc in
     subst (λ (q : Input). q.survey.class ≡ first.survey.class) same refl
 each-first (input ∷ inputs) follow first is (suc i) p here =
     let same : input ≡ first = cc in
-    follow-class input.survey.class inputs follow.1 i p here ∙ ap (λ (q : Input). q.survey.class) same
+    follow-class input.survey.class inputs follow.1 i p here
+    ∙ ap (λ (q : Input). q.survey.class) same
 
 one-class : (inputs : List Input) → Follow None inputs → AreOfOneClass inputs
 one-class [] follow i j p q is here = absurd cc
 one-class (input ∷ inputs) follow i j p q is here =
-    each-first (input ∷ inputs) follow input refl i p is ∙ sym (each-first (input ∷ inputs) follow input refl j q here)
+    each-first (input ∷ inputs) follow input refl i p is
+    ∙ sym (each-first (input ∷ inputs) follow input refl j q here)
 
 class-one : (inputs : List Input) → AreOfOneClass inputs → Follow None inputs
 class-one [] one = tt
-class-one (input ∷ inputs) one = (tt, class-follow input.survey.class inputs (λ i p is. one (suc i) 0 p input is refl))
+class-one (input ∷ inputs) one =
+    (tt, class-follow input.survey.class inputs (λ i p is. one (suc i) 0 p input is refl))
 
 -- ---- one input
 
-is-part : (place : ℕ) (first : Option ClassFields) (allowed : ℕ) (o : Option (List ℕ)) (file : List ℕ) (s : SurveyFields) → o ≡ Some file → survey_of file allowed ≡ Ok s → Follows first s.class → part_of place first allowed o ≡ Ok (whole_part file s)
+is-part : (place : ℕ) (first : Option ClassFields) (allowed : ℕ) (o : Option (List ℕ))
+    (file : List ℕ) (s : SurveyFields) → o ≡ Some file → survey_of file allowed ≡ Ok s
+    → Follows first s.class → part_of place first allowed o ≡ Ok (whole_part file s)
 is-part place first allowed o file s there surveyed follows =
-    ap (part_of place first allowed) there ∙ ap (part_by place first file) surveyed ∙ ap (λ b. cond b (Ok (whole_part file s)) (Err (Refused (Differ place)))) (follows-may first s.class follows)
+    ap (part_of place first allowed) there ∙ ap (part_by place first file) surveyed
+    ∙ ap (λ b. cond b (Ok (whole_part file s)) (Err (Refused (Differ place))))
+    (follows-may first s.class follows)
 
 -- ---- all inputs
 
-pub record IsJoin (files : Contents) (first : Option ClassFields) (allowed : ℕ) (names : List (List ℕ)) : Type 0 where
+-- the inputs, of the class of those before them, with no more frames than are left
+pub record IsJoin (files : Contents) (first : Option ClassFields) (allowed : ℕ)
+    (names : List (List ℕ)) : Type 0 where
   pub inputs : List Input
   pub are : AreInputs files names inputs
   pub few : frames_of inputs ≤ allowed
   pub follow : Follow first inputs
 
-parts-join : (files : Contents) (place : ℕ) (first : Option ClassFields) (allowed : ℕ) (names : List (List ℕ)) (parts : List Part) → parts_from place first allowed files names ≡ Ok parts → IsJoin files first allowed names
+parts-join : (files : Contents) (place : ℕ) (first : Option ClassFields) (allowed : ℕ)
+    (names : List (List ℕ)) (parts : List Part)
+    → parts_from place first allowed files names ≡ Ok parts → IsJoin files first allowed names
 unfolding parts_from
-parts-join files place first allowed [] parts e = record { inputs = []; are = tt; few = omega arith; follow = tt }
+parts-join files place first allowed [] parts e =
+    record { inputs = []; are = tt; few = omega arith; follow = tt }
 parts-join files place first allowed (name ∷ names) parts e =
     let one = then_ok (part_of place first allowed (files name)) _ parts e in
     let part : Part = one.0 in
-    let rest = then_ok (parts_from (place + 1) (Some (unwrap_or first part.survey.class)) (allowed - length part.survey.frames) files names) _ parts one.2 in
+    let rest = then_ok (parts_from (place + 1) (Some (unwrap_or first part.survey.class))
+    (allowed - length part.survey.frames) files names) _ parts one.2 in
     let is = part-is place first allowed (files name) part one.1 in
     let input : Input = record { bytes = is.file; survey = is.survey } in
-    let same : ◌≡◌ {A = SurveyFields} part.survey is.survey = ap (λ (p : Part). p.survey) (sym is.whole) in
-    let more = parts-join files (place + 1) (Some (unwrap_or first part.survey.class)) (allowed - length part.survey.frames) names rest.0 rest.1 in
+    let same : ◌≡◌ {A = SurveyFields} part.survey is.survey =
+    ap (λ (p : Part). p.survey) (sym is.whole) in
+    let more = parts-join files (place + 1) (Some (unwrap_or first part.survey.class))
+    (allowed - length part.survey.frames) names rest.0 rest.1 in
     let few = (survey-whole is.file allowed is.survey is.surveyed).few in
     record {
       inputs = input ∷ more.inputs;
       are = (survey-input files name is.file allowed is.survey is.there is.surveyed, more.are);
       few = omega (arith, more.few, few, ap (λ (s : SurveyFields). length s.frames) same);
-      follow = (is.follows, subst (λ (s : SurveyFields). Follow (Some (unwrap_or first s.class)) more.inputs) same more.follow);
+      follow = (
+        is.follows,
+        subst (λ (s : SurveyFields). Follow (Some (unwrap_or first s.class)) more.inputs) same
+            more.follow,
+      );
     }
 
-join-parts : (files : Contents) (place : ℕ) (first : Option ClassFields) (allowed : ℕ) (names : List (List ℕ)) (inputs : List Input) → AreInputs files names inputs → frames_of inputs ≤ allowed → Follow first inputs
+join-parts : (files : Contents) (place : ℕ) (first : Option ClassFields) (allowed : ℕ)
+    (names : List (List ℕ)) (inputs : List Input) → AreInputs files names inputs
+    → frames_of inputs ≤ allowed → Follow first inputs
     → (parts : List Part) × (parts_from place first allowed files names ≡ Ok parts)
 unfolding parts_from
 join-parts files place first allowed [] [] are few follow = ([], refl)
@@ -96,27 +118,38 @@ join-parts files place first allowed [] (input ∷ inputs) are few follow = absu
 join-parts files place first allowed (name ∷ names) [] are few follow = absurd are
 join-parts files place first allowed (name ∷ names) (input ∷ inputs) are few follow =
     let s = input.survey in
-    let surveyed = whole-survey input.bytes allowed s (record { long = are.0.long; well_formed = are.0.well_formed; few = omega (arith, few) }) in
+    let surveyed = whole-survey input.bytes allowed s
+    (record { long = are.0.long; well_formed = are.0.well_formed; few = omega (arith, few) }) in
     let part : Part = whole_part input.bytes s in
-    let rest = join-parts files (place + 1) (Some (unwrap_or first s.class)) (allowed - length s.frames) names inputs are.1 (omega (arith, few)) follow.1 in (
+    let rest = join-parts files (place + 1) (Some (unwrap_or first s.class))
+    (allowed - length s.frames) names inputs are.1 (omega (arith, few)) follow.1 in (
       part ∷ rest.0,
       ap
           (λ (r : Result Part EditFault). then_made r
-          (λ p. then_made (parts_from (place + 1) (Some (unwrap_or first p.survey.class)) (allowed - length p.survey.frames) files names) (λ parts. Ok (p ∷ parts))))
+          (λ p. then_made (parts_from (place + 1) (Some (unwrap_or first p.survey.class))
+          (allowed - length p.survey.frames) files names) (λ parts. Ok (p ∷ parts))))
           (is-part place first allowed (files name) input.bytes s are.0.there surveyed follow.0)
-          ∙ ap (λ (r : Result (List Part) EditFault). then_made r (λ parts. Ok (part ∷ parts))) rest.1,
+          ∙ ap (λ (r : Result (List Part) EditFault). then_made r (λ parts. Ok (part ∷ parts)))
+          rest.1,
     )
 
+-- the inputs, of one class, with no more frames than are allowed
 pub record AreJoined (files : Contents) (names : List (List ℕ)) : Type 0 where
   pub inputs : List Input
   pub are : AreInputs files names inputs
   pub few : frames_of inputs ≤ most_frames
   pub one : AreOfOneClass inputs
 
-pub parts-joined : (files : Contents) (names : List (List ℕ)) (parts : List Part) → parts_of files names ≡ Ok parts → AreJoined files names
+-- parts that aren't refused are joined inputs
+pub parts-joined : (files : Contents) (names : List (List ℕ)) (parts : List Part)
+    → parts_of files names ≡ Ok parts → AreJoined files names
 parts-joined files names parts e =
     let is = parts-join files 0 None most_frames names parts e in
     record { inputs = is.inputs; are = is.are; few = is.few; one = one-class is.inputs is.follow }
 
-pub joined-parts : (files : Contents) (names : List (List ℕ)) (inputs : List Input) → AreInputs files names inputs → frames_of inputs ≤ most_frames → AreOfOneClass inputs → (parts : List Part) × (parts_of files names ≡ Ok parts)
-joined-parts files names inputs are few one = join-parts files 0 None most_frames names inputs are few (class-one inputs one)
+-- and the parts of such inputs aren't refused
+pub joined-parts : (files : Contents) (names : List (List ℕ)) (inputs : List Input)
+    → AreInputs files names inputs → frames_of inputs ≤ most_frames → AreOfOneClass inputs
+    → (parts : List Part) × (parts_of files names ≡ Ok parts)
+joined-parts files names inputs are few one =
+    join-parts files 0 None most_frames names inputs are few (class-one inputs one)

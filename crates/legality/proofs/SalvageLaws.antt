@@ -1,39 +1,53 @@
 -- What is left of a damaged file.
-use Rattle.std.proofs.Common.{◌≡◌, ◌↔◌, ℕ, List, [], ◌∷◌, Ok, refl, ◌∙◌, ap, arith}
-use Rattle.outside.specs.Files.{Contents}
-use Rattle.sync_survey.specs.Start.{front_end_of}
-use Rattle.salvage.specs.Damaged.{damaged_from}
-use Rattle.salvage.proofs.LaidOutLaws.{read-frames, frames-read}
-use Rattle.commands.specs.One.{one_command}
-use Rattle.commands.specs.Telling.{with_text}
-use Rattle.commands.proofs.MadeLaws.{makes-parts, parts-make}
-use Rattle.commands.proofs.TellingLaws.{text-parts}
-use Rattle.salvage_edits.specs.Salvaged.{salvaged_file, made_by, made_where, text_where, salvage_task, salvage_command}
-use Rattle.salvage_edits.proofs.CommandLaws.{read-where}
+use Rattle.std.proofs.Common.{ap, arith, List, Ok, ℕ, [], ◌↔◌, ◌∙◌, ◌∷◌, ◌≡◌}
+use Rattle.commands.proofs.{MadeLaws.{makes-parts, parts-make}, TellingLaws.text-parts}
+use Rattle.commands.specs.{One.one_command, Telling.with_text}
 use Rattle.job_words.specs.Asked.{Salvage}
-use Rattle.legality.specs.Choices.{IsLegalSalvage}
-use Rattle.legality.specs.Legal.{IsLegalFor}
-use Rattle.legality.specs.Laws.{Makes}
-use Rattle.legality.proofs.InputLaws.{no-clash_apart, apart_no-clash}
+use Rattle.legality.proofs.InputLaws.{apart_no-clash, no-clash_apart}
+use Rattle.legality.specs.{Choices.IsLegalSalvage, Laws.Makes, Legal.IsLegalFor}
+use Rattle.outside.specs.Files.{Contents}
+use Rattle.salvage.{proofs.LaidOutLaws.{frames-read, read-frames}, specs.Damaged.damaged_from}
+use Rattle.salvage_edits.proofs.CommandLaws.{read-where}
+use Rattle.salvage_edits.specs.Salvaged.{made_by, made_where, salvage_command, salvage_task}
+use Rattle.salvage_edits.specs.Salvaged.{salvaged_file, text_where}
+use Rattle.sync_survey.specs.Start.{front_end_of}
 
-left-where : (files : Contents) (input bytes : List ℕ) → made_where (files input) ≡ Ok bytes → IsLegalSalvage input files
+left-where : (files : Contents) (input bytes : List ℕ) → made_where (files input) ≡ Ok bytes
+    → IsLegalSalvage input files
 left-where files input bytes e =
     let is = read-where (files input) bytes e in
     let has = read-frames is.file is.left is.read in
-    record { bytes = is.file; there = is.there; long = has.long; first = has.first; begins = has.begins; some = has.some; few = has.few }
+    record {
+      bytes = is.file;
+      there = is.there;
+      long = has.long;
+      first = has.first;
+      begins = has.begins;
+      some = has.some;
+      few = has.few;
+    }
 
-read-legal : (files : Contents) (input : List ℕ) (is : IsLegalSalvage input files) → made_where (files input) ≡ Ok (salvaged_file is.bytes (damaged_from is.bytes (front_end_of is.bytes) is.first))
+read-legal : (files : Contents) (input : List ℕ) (is : IsLegalSalvage input files)
+    → made_where (files input)
+    ≡ Ok (salvaged_file is.bytes (damaged_from is.bytes (front_end_of is.bytes) is.first))
 read-legal files input is =
-    ap made_where is.there ∙ ap (made_by is.bytes) (frames-read is.bytes (record { long = is.long; first = is.first; begins = is.begins; some = is.some; few = is.few }))
+    ap made_where is.there ∙ ap (made_by is.bytes) (frames-read is.bytes
+    (record { long = is.long; first = is.first; begins = is.begins; some = is.some; few = is.few }))
 
-pub salvage-law : (files : Contents) (input output : List ℕ) → IsLegalFor (Salvage input output) files ↔ Makes (salvage_command input output) files
+-- a salvage is legal exactly if it isn't refused
+pub salvage-law : (files : Contents) (input output : List ℕ)
+    → IsLegalFor (Salvage input output) files ↔ Makes (salvage_command input output) files
 salvage-law files input output = (
   (λ legal.
       let is = legal.choices in
-      let one = parts-make (salvage_task input) output files _ (apart_no-clash (output ∷ []) (input ∷ []) 0 legal.names) (read-legal files input is) in
-      (record one.0 { text = text_where (files input) }, ap (with_text (text_where (files input))) one.1)),
+      let one = parts-make (salvage_task input) output files _
+      (apart_no-clash (output ∷ []) (input ∷ []) 0 legal.names) (read-legal files input is) in (
+        record one.0 { text = text_where (files input) },
+        ap (with_text (text_where (files input))) one.1,
+      )),
   (λ made.
-      let told = text-parts (text_where (files input)) ((one_command (salvage_task input) output).makes files) made.0 made.1 in
+      let told = text-parts (text_where (files input))
+      ((one_command (salvage_task input) output).makes files) made.0 made.1 in
       let one = makes-parts (salvage_task input) output files told.0 told.1 in
       record {
         names = no-clash_apart (output ∷ []) (input ∷ []) 0 one.0;

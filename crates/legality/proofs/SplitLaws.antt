@@ -1,35 +1,29 @@
 -- Ranges of frames: a cut; and what is laid from each place to the next: the pieces of a split.
-use Rattle.std.proofs.Common.{◌≡◌, ◌↔◌, ℕ, suc, ◌<◌, ◌≤◌, ◌&&◌, Bool, true, false, cond, List, [], ◌∷◌, ◌++◌, length, map, replicate, Option, Some, None, Result, Ok, Err, refl, sym, ◌∙◌, ap, ap₂}
-use Rattle.std.specs.Prelude.{nat_lt, nat_le}
-use Rattle.std.proofs.lemmas.Bool.{lt-ltb, le-leb}
-use Rattle.cue_sheet.specs.declared.place.Place.{Place}
-use Rattle.cue_sheet.specs.Places.{frame_at}
-use Rattle.outside.specs.Files.{Contents}
-use Rattle.sync_survey.specs.Faults.{SurveyFields}
-use Rattle.commands.specs.declared.fault.EditFault.{EditFault}
-use Rattle.commands.specs.declared.fault.Refusal.{Refusal}
-use Rattle.commands.specs.declared.fault.Refusal.TheVariants.{Range}
-use Rattle.commands.specs.Command.{clash_from}
-use Rattle.commands.specs.One.{most_frames}
-use Rattle.exact_span.specs.declared.exact_place.ExactPlace.{ExactPlace}
-use Rattle.exact_span.specs.declared.span.Span.{Span}
-use Rattle.laying.specs.KeptFields.{fields_of_head}
-use Rattle.laying.specs.Laid.{Laid}
-use Rattle.laying.specs.NeedsFit.{own_choice}
-use Rattle.commands.specs.Refusing.{unless, then_made}
-use Rattle.commands.proofs.RefusingLaws.{then_ok}
-use Rattle.cut_edits.specs.Chosen.{Chosen, outside_fault, chosen_with, cut_choice, first_planning, laid_as, laid_with}
-use Rattle.cut_edits.specs.Exact.{span_in, apart, piece_of, exact_laid}
+use Rattle.std.proofs.Common.{ap, ap₂, Bool, cond, Err, length, List, None, Ok, Option, refl}
+use Rattle.std.proofs.Common.{replicate, Result, Some, suc, ℕ, [], ◌&&◌, ◌<◌, ◌↔◌, ◌∙◌, ◌∷◌, ◌≡◌}
+use Rattle.std.proofs.{Common.◌≤◌, lemmas.Bool.{le-leb, lt-ltb}}
+use Rattle.commands.{proofs.RefusingLaws.then_ok, specs.{Command.clash_from, One.most_frames}}
+use Rattle.commands.specs.{Refusing.{then_made, unless}, declared.fault.EditFault.EditFault}
+use Rattle.commands.specs.declared.fault.Refusal.{Refusal, TheVariants.Range}
+use Rattle.cue_sheet.specs.{Places.frame_at, declared.place.Place.Place}
 use Rattle.cut_edits.proofs.ChosenLaws.{chosen-within}
-use Rattle.requests.specs.Names.{piece_names}
-use Rattle.split_edits.specs.Cutting.{Cutting, with_first, laid_from, laid_at, made_of, made_at, made_by, made_where, unless_equal, made_result, split_command}
-use Rattle.split_edits.specs.Split.{frames_between, frames_cut, samples_cut}
-use Rattle.split_edits.proofs.PartsLaws.{IsSplit, made_in, split-parts}
-use Rattle.legality.specs.Inputs.{EachNext, AreApart, Input}
-use Rattle.legality.specs.Choices.{IsRange, IsSampleRange}
+use Rattle.cut_edits.specs.Chosen.{Chosen, chosen_with, cut_choice, first_planning, laid_as}
+use Rattle.cut_edits.specs.Chosen.{laid_with, outside_fault}
+use Rattle.cut_edits.specs.Exact.{apart, exact_laid, piece_of, span_in}
+use Rattle.exact_span.specs.declared.{exact_place.ExactPlace.ExactPlace, span.Span.Span}
+use Rattle.laying.specs.{KeptFields.fields_of_head, Laid.Laid, NeedsFit.own_choice}
+use Rattle.legality.proofs.InputLaws.{apart_no-clash, IsOne, next-cons, no-clash_apart, one-survey}
+use Rattle.legality.proofs.InputLaws.{survey-input, survey-whole}
+use Rattle.legality.proofs.SampleLaws.{range-span, span-range}
+use Rattle.legality.specs.{Choices.{IsRange, IsSampleRange}, Inputs.{AreApart, EachNext, Input}}
 use Rattle.legality.specs.Laws.{Makes}
-use Rattle.legality.proofs.InputLaws.{next-cons, no-clash_apart, apart_no-clash, survey-whole, IsOne, one-survey, survey-input}
-use Rattle.legality.proofs.SampleLaws.{span-range, range-span}
+use Rattle.outside.specs.Files.{Contents}
+use Rattle.requests.specs.Names.{piece_names}
+use Rattle.split_edits.proofs.PartsLaws.{IsSplit, made_in, split-parts}
+use Rattle.split_edits.specs.Cutting.{Cutting, laid_at, laid_from, made_at, made_by, made_of}
+use Rattle.split_edits.specs.Cutting.{made_result, made_where, split_command, unless_equal}
+use Rattle.split_edits.specs.{Cutting.with_first, Split.{frames_between, frames_cut, samples_cut}}
+use Rattle.sync_survey.specs.Faults.{SurveyFields}
 
 -- ---- a range
 
@@ -37,58 +31,91 @@ abbrev pub AreWithin : ℕ → ℕ → ℕ → Type 0
 AreWithin from to frames = (from < to) × (to ≤ frames)
 
 within-none : (from to frames : ℕ) → AreWithin from to frames → outside_fault from to frames ≡ None
-within-none from to frames are = ap₂ (λ (a b : Bool). cond (a && b) None (Some (Range from to frames))) (lt-ltb from to are.0) (le-leb to frames are.1)
+within-none from to frames are = ap₂ (λ (a b : Bool). cond (a && b) None
+    (Some (Range from to frames))) (lt-ltb from to are.0) (le-leb to frames are.1)
 
-pub within-ok : (quality : Option ℕ) (extension : List ℕ) (from to : ℕ) (frames : ℕ) → AreWithin from to frames
-    → chosen_with quality extension from to frames ≡ Ok (record { from = from; to = to; quality = quality; extension = extension })
-within-ok quality extension from to frames are = ap (λ o. unless o (record { from = from; to = to; quality = quality; extension = extension })) (within-none from to frames are)
+-- frames within a file are chosen
+pub within-ok : (quality : Option ℕ) (extension : List ℕ) (from to : ℕ) (frames : ℕ)
+    → AreWithin from to frames → chosen_with quality extension from to frames
+    ≡ Ok (record { from = from; to = to; quality = quality; extension = extension })
+within-ok quality extension from to frames are =
+    ap (λ o. unless o (record { from = from; to = to; quality = quality; extension = extension }))
+    (within-none from to frames are)
 
-within-chosen : (quality : Option ℕ) (extension : List ℕ) (from to : ℕ) (frames : ℕ) → AreWithin from to frames → (chosen : Chosen) × (chosen_with quality extension from to frames ≡ Ok chosen)
-within-chosen quality extension from to frames are =
-    (record { from = from; to = to; quality = quality; extension = extension }, within-ok quality extension from to frames are)
+within-chosen : (quality : Option ℕ) (extension : List ℕ) (from to : ℕ) (frames : ℕ)
+    → AreWithin from to frames
+    → (chosen : Chosen) × (chosen_with quality extension from to frames ≡ Ok chosen)
+within-chosen quality extension from to frames are = (
+  record { from = from; to = to; quality = quality; extension = extension },
+  within-ok quality extension from to frames are,
+)
 
-pub cut-range : (from to : Place) (file : List ℕ) (s : SurveyFields) (chosen : Chosen) → cut_choice from to file s ≡ Ok chosen → IsRange s from to
+-- a cut that isn't refused is a range of the file
+pub cut-range : (from to : Place) (file : List ℕ) (s : SurveyFields) (chosen : Chosen)
+    → cut_choice from to file s ≡ Ok chosen → IsRange s from to
 unfolding cut_choice
-cut-range from to file s chosen e = chosen-within None (replicate 36 0) (frame_at s.class (length s.frames) from) (frame_at s.class (length s.frames) to) (length s.frames) chosen e
+cut-range from to file s chosen e =
+    chosen-within None (replicate 36 0) (frame_at s.class (length s.frames) from)
+    (frame_at s.class (length s.frames) to) (length s.frames) chosen e
 
-pub range-cut : (from to : Place) (file : List ℕ) (s : SurveyFields) → IsRange s from to → (chosen : Chosen) × (cut_choice from to file s ≡ Ok chosen)
+-- and a range of the file isn't refused
+pub range-cut : (from to : Place) (file : List ℕ) (s : SurveyFields) → IsRange s from to
+    → (chosen : Chosen) × (cut_choice from to file s ≡ Ok chosen)
 unfolding cut_choice
-range-cut from to file s is = within-chosen None (replicate 36 0) (frame_at s.class (length s.frames) from) (frame_at s.class (length s.frames) to) (length s.frames) is
+range-cut from to file s is =
+    within-chosen None (replicate 36 0) (frame_at s.class (length s.frames) from)
+    (frame_at s.class (length s.frames) to) (length s.frames) is
 
 -- ---- from each place to the next
 
-first-parts : (first : Laid) (r : Result (List Laid) EditFault) (all : List Laid) → with_first first r ≡ Ok all → (more : List Laid) × (r ≡ Ok more)
+first-parts : (first : Laid) (r : Result (List Laid) EditFault) (all : List Laid)
+    → with_first first r ≡ Ok all → (more : List Laid) × (r ≡ Ok more)
 first-parts first (Ok more) all e = (more, refl)
 first-parts first (Err fault) all e = absurd cc
 
 -- it is right to lay what is from one place of a file to another exactly where it is laid
 pub record IsRightOf {P : Type 0} (cut : Cutting P) (Right : Input → P → P → Type 0) : Type 0 where
-  pub laid-right : (from to : P) (file : List ℕ) (s : SurveyFields) (laid : Laid) → cut.between from to file s ≡ Ok laid → Right (record { bytes = file; survey = s }) from to
-  pub right-laid : (from to : P) (file : List ℕ) (s : SurveyFields) → Right (record { bytes = file; survey = s }) from to → (laid : Laid) × (cut.between from to file s ≡ Ok laid)
+  pub laid-right : (from to : P) (file : List ℕ) (s : SurveyFields) (laid : Laid)
+      → cut.between from to file s ≡ Ok laid → Right (record { bytes = file; survey = s }) from to
+  pub right-laid : (from to : P) (file : List ℕ) (s : SurveyFields)
+      → Right (record { bytes = file; survey = s }) from to
+      → (laid : Laid) × (cut.between from to file s ≡ Ok laid)
 
-module _ {P : Type 0} (cut : Cutting P) (Right : Input → P → P → Type 0) (right : IsRightOf cut Right) (file : List ℕ) (s : SurveyFields) where
+module _ {P : Type 0} (cut : Cutting P) (Right : Input → P → P → Type 0)
+    (right : IsRightOf cut Right) (file : List ℕ) (s : SurveyFields) where
   abbrev Follows : P → P → Type 0
   Follows = Right (record { bytes = file; survey = s })
 
-  laid-next : (place : P) (places : List P) (all : List Laid) → laid_from cut file s place places ≡ Ok all → EachNext (place ∷ places) Follows
+  laid-next : (place : P) (places : List P) (all : List Laid)
+      → laid_from cut file s place places ≡ Ok all → EachNext (place ∷ places) Follows
   laid-next place [] all e = λ i p q is next. absurd cc
   laid-next place (to ∷ places) all e =
-      let one = then_ok (cut.between place to file s) (λ first. with_first first (laid_from cut file s to places)) all e in
+      let one = then_ok (cut.between place to file s)
+      (λ first. with_first first (laid_from cut file s to places)) all e in
       let more = first-parts one.0 (laid_from cut file s to places) all one.2 in
-      next-cons Follows place to places (right.laid-right place to file s one.0 one.1) (laid-next to places more.0 more.1)
+      next-cons Follows place to places (right.laid-right place to file s one.0 one.1)
+      (laid-next to places more.0 more.1)
 
-  next-laid : (place : P) (places : List P) → EachNext (place ∷ places) Follows → (all : List Laid) × (laid_from cut file s place places ≡ Ok all)
+  next-laid : (place : P) (places : List P) → EachNext (place ∷ places) Follows
+      → (all : List Laid) × (laid_from cut file s place places ≡ Ok all)
   next-laid place [] each = ([], refl)
   next-laid place (to ∷ places) each =
       let one = right.right-laid place to file s (each 0 place to refl refl) in
-      let more = next-laid to places (λ i p q is next. each (suc i) p q is next) in
-      (one.0 ∷ more.0, ap₂ (λ (r : Result Laid EditFault) (rest : Result (List Laid) EditFault). then_made r (λ first. with_first first rest)) one.1 more.1)
+      let more = next-laid to places (λ i p q is next. each (suc i) p q is next) in (
+        one.0 ∷ more.0,
+        ap₂ (λ (r : Result Laid EditFault) (rest : Result (List Laid) EditFault). then_made r
+            (λ first. with_first first rest)) one.1 more.1,
+      )
 
-  pub laid-pieces : (places : List P) (all : List Laid) → laid_at cut file s places ≡ Ok all → EachNext places Follows
+  -- if all pieces are laid, each place follows the one before it
+  pub laid-pieces : (places : List P) (all : List Laid) → laid_at cut file s places ≡ Ok all
+      → EachNext places Follows
   laid-pieces [] all e = λ i p q is next. absurd cc
   laid-pieces (place ∷ places) all e = laid-next place places all e
 
-  pub pieces-laid : (places : List P) → EachNext places Follows → (all : List Laid) × (laid_at cut file s places ≡ Ok all)
+  -- and if each does, all pieces are laid
+  pub pieces-laid : (places : List P) → EachNext places Follows
+      → (all : List Laid) × (laid_at cut file s places ≡ Ok all)
   pieces-laid [] each = ([], refl)
   pieces-laid (place ∷ places) each = next-laid place places each
 
@@ -100,59 +127,86 @@ FramesFollow input from to = IsRange input.survey from to
 abbrev pub SamplesFollow : Input → ExactPlace → ExactPlace → Type 0
 SamplesFollow input from to = IsSampleRange from to input
 
-frames-range : (from to : Place) (file : List ℕ) (s : SurveyFields) (laid : Laid) → frames_between from to file s ≡ Ok laid → IsRange s from to
+frames-range : (from to : Place) (file : List ℕ) (s : SurveyFields) (laid : Laid)
+    → frames_between from to file s ≡ Ok laid → IsRange s from to
 unfolding laid_with
 frames-range from to file s laid e =
     let one = then_ok (cut_choice from to file s) (laid_as (first_planning own_choice) s) laid e in
     cut-range from to file s one.0 one.1
 
-range-frames : (from to : Place) (file : List ℕ) (s : SurveyFields) → IsRange s from to → (laid : Laid) × (frames_between from to file s ≡ Ok laid)
+range-frames : (from to : Place) (file : List ℕ) (s : SurveyFields) → IsRange s from to
+    → (laid : Laid) × (frames_between from to file s ≡ Ok laid)
 unfolding laid_with
 range-frames from to file s is =
-    let chosen = range-cut from to file s is in
-    (_, ap (λ (r : Result Chosen EditFault). then_made r (laid_as (first_planning own_choice) s)) chosen.1)
+    let chosen = range-cut from to file s is in (
+      _,
+      ap (λ (r : Result Chosen EditFault). then_made r (laid_as (first_planning own_choice) s))
+          chosen.1,
+    )
 
-pub frames-right : (more : List (List ℕ)) (places : Contents → Result (List Place) EditFault) (refuses : Refusal → Bool) → IsRightOf (frames_cut more places refuses) FramesFollow
+-- pieces between positions follow each other exactly if they are ranges of the file
+pub frames-right : (more : List (List ℕ)) (places : Contents → Result (List Place) EditFault)
+    (refuses : Refusal → Bool) → IsRightOf (frames_cut more places refuses) FramesFollow
 frames-right more places refuses = record { laid-right = frames-range; right-laid = range-frames }
 
-samples-range : (from to : ExactPlace) (file : List ℕ) (s : SurveyFields) (laid : Laid) → exact_laid from to file s ≡ Ok laid → IsSampleRange from to (record { bytes = file; survey = s })
+samples-range : (from to : ExactPlace) (file : List ℕ) (s : SurveyFields) (laid : Laid)
+    → exact_laid from to file s ≡ Ok laid
+    → IsSampleRange from to (record { bytes = file; survey = s })
 unfolding exact_laid
 samples-range from to file s laid e =
     let head = fields_of_head file s.head in
-    let one = then_ok (span_in from to head s) (λ span. Ok (piece_of head span file (apart s))) laid e in
+    let one =
+    then_ok (span_in from to head s) (λ span. Ok (piece_of head span file (apart s))) laid e in
     span-range from to file s one.0 one.1
 
-range-samples : (from to : ExactPlace) (file : List ℕ) (s : SurveyFields) → IsSampleRange from to (record { bytes = file; survey = s }) → (laid : Laid) × (exact_laid from to file s ≡ Ok laid)
+range-samples : (from to : ExactPlace) (file : List ℕ) (s : SurveyFields)
+    → IsSampleRange from to (record { bytes = file; survey = s })
+    → (laid : Laid) × (exact_laid from to file s ≡ Ok laid)
 unfolding exact_laid
 range-samples from to file s is =
     let head = fields_of_head file s.head in
-    let span = range-span from to file s is in
-    (_, ap (λ (r : Result Span EditFault). then_made r (λ span. Ok (piece_of head span file (apart s)))) span.1)
+    let span = range-span from to file s is in (
+      _,
+      ap (λ (r : Result Span EditFault). then_made r
+          (λ span. Ok (piece_of head span file (apart s)))) span.1,
+    )
 
-pub samples-right : (more : List (List ℕ)) (places : Contents → Result (List ExactPlace) EditFault) (refuses : Refusal → Bool) → IsRightOf (samples_cut more places refuses) SamplesFollow
-samples-right more places refuses = record { laid-right = samples-range; right-laid = range-samples }
+-- so do exact pieces
+pub samples-right : (more : List (List ℕ)) (places : Contents → Result (List ExactPlace) EditFault)
+    (refuses : Refusal → Bool) → IsRightOf (samples_cut more places refuses) SamplesFollow
+samples-right more places refuses =
+    record { laid-right = samples-range; right-laid = range-samples }
 
 -- ---- the command
 
-module _ {P : Type 0} (cut : Cutting P) (Right : Input → P → P → Type 0) (right : IsRightOf cut Right) (files : Contents) (input prefix : List ℕ) (Choice : Input → Type 0)
-    (found : (i : Input) → Choice i → (places : List P) × (cut.places files ≡ Ok places) × EachNext places (Right i))
-    (chosen : (i : Input) (places : List P) → cut.places files ≡ Ok places → EachNext places (Right i) → Choice i) where
-  made-split : clash_from (piece_names prefix) 0 (input ∷ cut.more) ≡ None → IsSplit cut files input → Makes (split_command cut input prefix) files
+module _ {P : Type 0} (cut : Cutting P) (Right : Input → P → P → Type 0) (right : IsRightOf cut
+    Right) (files : Contents) (input prefix : List ℕ) (Choice : Input → Type 0)
+    (found : (i : Input) → Choice i
+    → (places : List P) × (cut.places files ≡ Ok places) × EachNext places (Right i))
+    (chosen : (i : Input) (places : List P) → cut.places files ≡ Ok places
+    → EachNext places (Right i) → Choice i) where
+  made-split : clash_from (piece_names prefix) 0 (input ∷ cut.more) ≡ None → IsSplit cut files input
+      → Makes (split_command cut input prefix) files
   unfolding made_result
   made-split free is = (
     made_in cut files prefix input is,
-    ap (λ (o : Option ℕ). unless_equal o (made_where cut prefix (cut.places files) (files input))) free
+    ap (λ (o : Option ℕ). unless_equal o (made_where cut prefix (cut.places files) (files input)))
+        free
         ∙ ap (made_where cut prefix (cut.places files)) is.there
         ∙ ap (made_by cut prefix (cut.places files) is.file) is.surveyed
-        ∙ ap (λ (r : Result (List P) EditFault). then_made r (made_at cut prefix is.file is.survey)) is.placed
-        ∙ ap (λ (r : Result (List Laid) EditFault). then_made r (made_of prefix is.file (cut.survey is.survey))) is.picked,
+        ∙ ap (λ (r : Result (List P) EditFault). then_made r (made_at cut prefix is.file is.survey))
+        is.placed
+        ∙ ap (λ (r : Result (List Laid) EditFault). then_made r
+        (made_of prefix is.file (cut.survey is.survey))) is.picked,
   )
 
   abbrev IsLegalSplit : Type 0
-  IsLegalSplit = AreApart (input ∷ cut.more) (piece_names prefix) × IsOne Choice files input most_frames
+  IsLegalSplit =
+      AreApart (input ∷ cut.more) (piece_names prefix) × IsOne Choice files input most_frames
 
   -- it is done exactly where the choice is legal, and no piece has the name of an input
-  pub split-law : (Legal : Type 0) → (Legal → IsLegalSplit) → (IsLegalSplit → Legal) → Legal ↔ Makes (split_command cut input prefix) files
+  pub split-law : (Legal : Type 0) → (Legal → IsLegalSplit) → (IsLegalSplit → Legal)
+      → Legal ↔ Makes (split_command cut input prefix) files
   split-law Legal parts whole = (
     (λ legal.
         let apart = (parts legal).0 in
@@ -179,7 +233,8 @@ module _ {P : Type 0} (cut : Cutting P) (Right : Input → P → P → Type 0) (
             input = record { bytes = is.file; survey = is.survey };
             is = survey-input files input is.file most_frames is.survey is.there is.surveyed;
             few = (survey-whole is.file most_frames is.survey is.surveyed).few;
-            choice = chosen (record { bytes = is.file; survey = is.survey }) is.found is.placed (laid-pieces cut Right right is.file is.survey is.found is.laid is.picked);
+            choice = chosen (record { bytes = is.file; survey = is.survey }) is.found is.placed
+                (laid-pieces cut Right right is.file is.survey is.found is.laid is.picked);
           },
         )),
   )

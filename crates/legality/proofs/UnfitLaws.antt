@@ -1,22 +1,20 @@
 -- When a packing with one bit rate is refused with `Unfit`.
-use Rattle.std.proofs.Common.{◌≡◌, ℕ, List, [], ◌∷◌, Option, Some, None, Result, Ok, Err, refl, sym, ◌∙◌, ap, ap₂}
-use Rattle.outside.specs.Files.{Contents}
-use Rattle.sync_survey.specs.declared.survey_fault.SurveyFault.{SurveyFault}
-use Rattle.sync_survey.specs.Faults.{SurveyFields}
-use Rattle.sync_survey.specs.Survey.{survey_of}
-use Rattle.commands.specs.declared.fault.EditFault.{EditFault}
-use Rattle.commands.specs.declared.fault.EditFault.TheVariants.{Refused}
-use Rattle.commands.specs.declared.fault.Refusal.TheVariants.{Unfit}
-use Rattle.commands.specs.One.{most_frames, Making, Task, made_by, made_file, made_where, clash_in, unless_clash, made_result, made_of}
-use Rattle.requests.specs.declared.mode.PackMode.TheVariants.{Constant}
-use Rattle.cut_edits.specs.Chosen.{laying_with, all_choice}
-use Rattle.pack_edits.specs.Rates.{rates_plan}
-use Rattle.pack_edits.specs.Modes.{pack_task, pack_mode_command}
-use Rattle.legality.specs.Legal.{IsUnfitFor}
-use Rattle.legality.specs.Laws.{UnfitIsRefused}
-use Rattle.legality.proofs.InputLaws.{no-clash_apart, apart_no-clash, survey-whole, whole-survey}
+use Rattle.std.proofs.Common.{ap₂, Err, List, None, Ok, Option, refl, Result, Some, ℕ, [], ◌∙◌, ◌∷◌}
+use Rattle.std.proofs.Common.{◌≡◌}
 use Rattle.commands.proofs.MadeLaws.{of-made}
-use Rattle.legality.proofs.PackLaws.{rate-none, unfit-made, made-unfit}
+use Rattle.commands.specs.One.{clash_in, made_by, made_file, made_of, made_result, made_where}
+use Rattle.commands.specs.One.{Making, most_frames, Task, unless_clash}
+use Rattle.commands.specs.declared.fault.EditFault.{EditFault, TheVariants.Refused}
+use Rattle.commands.specs.declared.fault.Refusal.TheVariants.{Unfit}
+use Rattle.cut_edits.specs.Chosen.{all_choice, laying_with}
+use Rattle.legality.proofs.InputLaws.{apart_no-clash, no-clash_apart, survey-whole, whole-survey}
+use Rattle.legality.{proofs.PackLaws.{made-unfit, rate-none, unfit-made}, specs.Laws.UnfitIsRefused}
+use Rattle.legality.specs.Legal.{IsUnfitFor}
+use Rattle.outside.specs.Files.{Contents}
+use Rattle.pack_edits.specs.{Modes.{pack_mode_command, pack_task}, Rates.rates_plan}
+use Rattle.requests.specs.declared.mode.PackMode.TheVariants.{Constant}
+use Rattle.sync_survey.specs.{Faults.SurveyFields, Survey.survey_of}
+use Rattle.sync_survey.specs.declared.survey_fault.SurveyFault.{SurveyFault}
 
 module _ (files : Contents) (rate i : ℕ) (input output : List ℕ) where
   abbrev make : Making
@@ -29,30 +27,40 @@ module _ (files : Contents) (rate i : ℕ) (input output : List ℕ) where
   abbrev unfit : {A : Type 0} → Result A EditFault
   unfit = Err (Refused (Unfit i))
 
-  unfit-refused : IsUnfitFor rate input output files i → (pack_mode_command (Constant rate) input output).makes files ≡ unfit
+  unfit-refused : IsUnfitFor rate input output files i
+      → (pack_mode_command (Constant rate) input output).makes files ≡ unfit
   unfolding made_result
   unfit-refused is =
       let file = is.read.bytes in
       let s = is.read.survey in
-      let surveyed = whole-survey file most_frames s (record { long = is.is.long; well_formed = is.is.well_formed; few = is.few }) in
-      let made = of-made make files input file s is.is.there surveyed ∙ unfit-made file s surveyed rate i (rate-none rate s.class is.named) is.unfit in
-      ap₂ (λ (o : Option ℕ) (r : Result (List ℕ) EditFault). made_of output (unless_clash o r)) (apart_no-clash (output ∷ []) (input ∷ []) 0 is.names) made
+      let surveyed = whole-survey file most_frames s
+      (record { long = is.is.long; well_formed = is.is.well_formed; few = is.few }) in
+      let made = of-made make files input file s is.is.there surveyed
+      ∙ unfit-made file s surveyed rate i (rate-none rate s.class is.named) is.unfit in
+      ap₂ (λ (o : Option ℕ) (r : Result (List ℕ) EditFault). made_of output (unless_clash o r))
+      (apart_no-clash (output ∷ []) (input ∷ []) 0 is.names) made
 
-  clash-free : (clash : Option ℕ) (r : Result (List ℕ) EditFault) → made_of output (unless_clash clash r) ≡ unfit → (clash ≡ None) × (r ≡ unfit)
+  clash-free : (clash : Option ℕ) (r : Result (List ℕ) EditFault)
+      → made_of output (unless_clash clash r) ≡ unfit → (clash ≡ None) × (r ≡ unfit)
   clash-free (Some place) r e = absurd cc
   clash-free None (Ok bytes) e = absurd cc
   clash-free None (Err fault) e = (refl, cc)
 
-  read-unfit : (o : Option (List ℕ)) → files input ≡ o → made_where make o ≡ unfit → (file : List ℕ) × (s : SurveyFields) × (files input ≡ Some file) × (survey_of file most_frames ≡ Ok s) × (make file s ≡ unfit)
+  read-unfit : (o : Option (List ℕ)) → files input ≡ o → made_where make o ≡ unfit
+      → (file : List ℕ) × (s : SurveyFields) × (files input ≡ Some file)
+      × (survey_of file most_frames ≡ Ok s) × (make file s ≡ unfit)
   unfolding made_file
   read-unfit None there e = absurd cc
   read-unfit (Some file) there e = at (survey_of file most_frames) refl e
     where
-      at : (r : Result SurveyFields SurveyFault) → survey_of file most_frames ≡ r → made_by make file r ≡ unfit → (file : List ℕ) × (s : SurveyFields) × (files input ≡ Some file) × (survey_of file most_frames ≡ Ok s) × (make file s ≡ unfit)
+      at : (r : Result SurveyFields SurveyFault) → survey_of file most_frames ≡ r
+          → made_by make file r ≡ unfit → (file : List ℕ) × (s : SurveyFields)
+          × (files input ≡ Some file) × (survey_of file most_frames ≡ Ok s) × (make file s ≡ unfit)
       at (Err fault) surveyed e = absurd cc
       at (Ok s) surveyed e = (file, s, there, surveyed, e)
 
-  refused-unfit : (pack_mode_command (Constant rate) input output).makes files ≡ unfit → IsUnfitFor rate input output files i
+  refused-unfit : (pack_mode_command (Constant rate) input output).makes files ≡ unfit
+      → IsUnfitFor rate input output files i
   unfolding made_result
   refused-unfit e =
       let free = clash-free (clash_in task output) (task.makes files) e in
@@ -68,5 +76,7 @@ module _ (files : Contents) (rate i : ℕ) (input output : List ℕ) where
         unfit = legal.1;
       }
 
+-- a packing with one bit rate is refused for want of room exactly where no list of its slots has it
 pub unfit-is-refused : UnfitIsRefused
-unfit-is-refused = λ files rate i input output. (unfit-refused files rate i input output, refused-unfit files rate i input output)
+unfit-is-refused = λ files rate i input output.
+    (unfit-refused files rate i input output, refused-unfit files rate i input output)

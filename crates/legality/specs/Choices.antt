@@ -1,46 +1,34 @@
 -- What may be chosen of well-formed inputs, command by command.
-use Rattle.std.specs.Prelude.{◌≡◌, ◌≢◌, ◌⊎◌, ℕ, zero, suc, ◌<◌, ◌≤◌, Bool, true, false, Contains, List, [], ◌∷◌, ◌++◌, length, map, slice_get, Some, Ok, ℤ, pos, ◌+ℤ◌, unsigned_abs}
-use Rattle.frame_header.specs.Fields.{SlotFields, ClassFields}
-use Rattle.frame_header.specs.Tables.{window_of, rate_of}
-use Rattle.frame_header.specs.Slots.{all_slots}
-use Rattle.side_info.specs.Side.{granule_in}
-use Rattle.tag_blocks.specs.declared.undo.Undo.{Undo}
-use Rattle.tag_blocks.specs.declared.undo.UndoItem.TheVariants.{Missing, Found}
-use Rattle.tag_blocks.specs.Tags.{TagFields, tag_bytes}
-use Rattle.tag_blocks.specs.UndoItems.{undo_from}
-use Rattle.moved_gains.specs.TagReading.{longest_tag, file_tag}
-use Rattle.cue_sheet.specs.declared.place.Place.{Place}
+use Rattle.std.specs.Prelude.{Bool, Contains, false, length, List, map, Ok, pos, slice_get, Some}
+use Rattle.std.specs.Prelude.{suc, true, unsigned_abs, zero, ℕ, ℤ, ◌+ℤ◌, [], ◌++◌, ◌<◌, ◌∷◌, ◌≡◌}
+use Rattle.std.specs.Prelude.{◌≢◌, ◌≤◌, ◌⊎◌}
+use Rattle.commands.specs.Sheet.{longest_sheet}
+use Rattle.cue_sheet.specs.{Cues.cue_of, Places.frame_at, declared.place.Place.Place}
 use Rattle.cue_sheet.specs.declared.place.Place.TheVariants.{End}
-use Rattle.cue_sheet.specs.Places.{frame_at}
-use Rattle.cue_sheet.specs.Cues.{cue_of}
+use Rattle.exact_span.specs.{Places.sample_at, PlayedPositions.{length_of_played, played_of}}
 use Rattle.exact_span.specs.declared.exact_place.ExactPlace.{ExactPlace}
 use Rattle.exact_span.specs.declared.exact_place.ExactPlace.TheVariants.{Place as Position}
-use Rattle.exact_span.specs.Places.{sample_at}
-use Rattle.exact_span.specs.PlayedPositions.{played_of, length_of_played}
-use Rattle.laying.specs.KeptFields.{fields_of_head}
-use Rattle.fade_plan.specs.Sheets.{EnvelopePoint, envelope_of}
-use Rattle.fade_plan.specs.Curves.{frame_of, curve_point, steps_at, steps_back}
-use Rattle.laying.specs.Needs.{need_of}
-use Rattle.rate_plan.specs.Menus.{CanBeLaidFrom, IsUnfit}
-use Rattle.outside.specs.Files.{Contents}
-use Rattle.sync_survey.specs.declared.places.PlacedFrame.{PlacedFrame}
-use Rattle.sync_survey.specs.Row.{Row}
-use Rattle.sync_survey.specs.Start.{front_end_of}
-use Rattle.sync_survey.specs.Faults.{SurveyFields, longest_file}
-use Rattle.commands.specs.Sheet.{longest_sheet}
-use Rattle.salvage.specs.Walk.{first_frame, frames_in}
-use Rattle.salvage.specs.Damaged.{things_from, most_frames}
-use Rattle.requests.specs.declared.shift.Channels.{Channels}
-use Rattle.requests.specs.declared.shift.Channels.TheVariants.{Both, Left, Right}
-use Rattle.requests.specs.declared.shift.Shift.{Shift}
-use Rattle.requests.specs.declared.shift.Steps.{Steps}
-use Rattle.requests.specs.Shifts.{steps_of}
-use Rattle.moved_gains.specs.Course.{alike}
-use Rattle.gain_edits.specs.UndoItem.{no_undo, undo_steps, next_undo, tag_with, output_length}
-use Rattle.pack_edits.specs.Rates.{menu_in}
-use Rattle.requests.specs.declared.mode.PackMode.{PackMode}
-use Rattle.requests.specs.declared.mode.PackMode.TheVariants.{Least, Best, Constant, Floor}
+use Rattle.fade_plan.specs.Curves.{curve_point, frame_of, steps_at, steps_back}
+use Rattle.fade_plan.specs.Sheets.{envelope_of, EnvelopePoint}
+use Rattle.frame_header.specs.{Fields.{ClassFields, SlotFields}, Slots.all_slots}
+use Rattle.frame_header.specs.Tables.{rate_of, window_of}
+use Rattle.gain_edits.specs.UndoItem.{next_undo, no_undo, output_length, tag_with, undo_steps}
+use Rattle.laying.specs.{KeptFields.fields_of_head, Needs.need_of}
 use Rattle.legality.specs.Inputs.{Each, EachNext, Input}
+use Rattle.moved_gains.specs.{Course.alike, TagReading.{file_tag, longest_tag}}
+use Rattle.outside.specs.Files.{Contents}
+use Rattle.pack_edits.specs.Rates.{menu_in}
+use Rattle.rate_plan.specs.Menus.{CanBeLaidFrom, IsUnfit}
+use Rattle.requests.specs.{Shifts.steps_of, declared.mode.PackMode.PackMode}
+use Rattle.requests.specs.declared.mode.PackMode.TheVariants.{Best, Constant, Floor, Least}
+use Rattle.requests.specs.declared.shift.Channels.{Channels, TheVariants.{Both, Left, Right}}
+use Rattle.requests.specs.declared.shift.{Shift.Shift, Steps.Steps}
+use Rattle.salvage.specs.{Damaged.{most_frames, things_from}, Walk.{first_frame, frames_in}}
+use Rattle.side_info.specs.Side.{granule_in}
+use Rattle.sync_survey.specs.{Faults.{longest_file, SurveyFields}, Row.Row, Start.front_end_of}
+use Rattle.sync_survey.specs.declared.places.PlacedFrame.{PlacedFrame}
+use Rattle.tag_blocks.specs.{Tags.{tag_bytes, TagFields}, UndoItems.undo_from}
+use Rattle.tag_blocks.specs.declared.undo.{Undo.Undo, UndoItem.TheVariants.{Found, Missing}}
 
 -- ---- gains (global_gain of ISO/IEC 11172-3 and 13818-3, 2.4.2.7)
 
@@ -53,11 +41,12 @@ abbrev pub steps_on : Steps → ℕ → ℤ
 steps_on steps zero = steps.left
 steps_on steps (suc channel) = steps.right
 
--- The gains of a frame can move by these steps: they wrap, or the frame is lost and left alone, or the gain of each granule and channel that has main
--- data is from 0 to 255 afterwards too.
+-- The gains of a frame can move by these steps: they wrap, or the frame is lost and left alone,
+-- or the gain of each granule and channel that has main data is from 0 to 255 afterwards too.
 abbrev pub CanMove : Steps → Row → Type 0
 CanMove steps row =
-    steps.wrap ≡ false → row.lost ≡ false → (granule channel : ℕ) → granule < 2 → channel < 2 → 0 < (granule_in row.side granule channel).part2_3_length
+    steps.wrap ≡ false → row.lost ≡ false → (granule channel : ℕ) → granule < 2 → channel < 2
+    → 0 < (granule_in row.side granule channel).part2_3_length
     → StaysGain (steps_on steps channel) (granule_in row.side granule channel).global_gain
 
 -- the gains of all frames can move, each frame's by the steps of its number
@@ -66,28 +55,35 @@ CanAllMove steps s = Each s.frames (λ i row. CanMove (steps i) row)
 
 -- ---- gain
 
--- one channel can change alone: there are two, and those of no frame are coded jointly (mode 1, 2.4.2.3)
+-- one channel can change alone: there are two, and
+-- those of no frame are coded jointly (mode 1, 2.4.2.3)
 pub record AreSeparate (s : SurveyFields) : Type 0 where
   pub two : s.class.channels ≢ 1
   pub each : Each s.frames (λ i row. row.header.mode ≢ 1)
 
+-- these channels can change
 abbrev pub CanChange : Channels → SurveyFields → Type 0
 CanChange Both s = Unit {0}
 CanChange Left s = AreSeparate s
 CanChange Right s = AreSeparate s
 
--- The change can be noted: the tag of the file is read (`file_tag`, whose law says that it is its bytes), its undo item has a value of the form or isn't
--- there, the numbers of the new item are from -999 to 999, the new tag has at most 1,048,576 bytes, and the file with it at most 1,073,741,824.
+-- The change can be noted: the tag of the file is read (`file_tag`, whose
+-- law says that it is its bytes), its undo item has a value of the form or
+-- isn't there, the numbers of the new item are from -999 to 999, the new tag
+-- has at most 1,048,576 bytes, and the file with it at most 1,073,741,824.
 pub record CanBeNoted (shift : Shift) (input : Input) : Type 0 where
   pub tag : TagFields
   pub read : file_tag input.bytes input.survey ≡ Ok tag
   pub undo : Undo
-  pub item : (undo_from 32 tag.items ≡ Found undo) ⊎ ((undo_from 32 tag.items ≡ Missing) × (undo ≡ no_undo))
+  pub item : (undo_from 32 tag.items ≡ Found undo)
+      ⊎ ((undo_from 32 tag.items ≡ Missing) × (undo ≡ no_undo))
   pub left : unsigned_abs (next_undo shift undo).left ≤ 999
   pub right : unsigned_abs (next_undo shift undo).right ≤ 999
   pub tag_fits : length (tag_bytes (tag_with (next_undo shift undo) tag)) ≤ longest_tag
-  pub file_fits : output_length input.survey (tag_bytes (tag_with (next_undo shift undo) tag)) ≤ longest_file
+  pub file_fits : output_length input.survey (tag_bytes (tag_with (next_undo shift undo) tag))
+      ≤ longest_file
 
+-- the channels can change, all gains can move, and the change can be noted if it is to be
 pub record IsLegalGain (shift : Shift) (tags : Bool) (input : Input) : Type 0 where
   pub channels : CanChange shift.channels input.survey
   pub gains : CanAllMove (λ i. steps_of shift) input.survey
@@ -95,7 +91,8 @@ pub record IsLegalGain (shift : Shift) (tags : Bool) (input : Input) : Type 0 wh
 
 -- ---- undo
 
--- the tag of the file is read, it has an undo item with a value of the form, and all gains can move by its steps
+-- the tag of the file is read, it has an undo item with a
+-- value of the form, and all gains can move by its steps
 pub record IsLegalUndo (input : Input) : Type 0 where
   pub tag : TagFields
   pub read : file_tag input.bytes input.survey ≡ Ok tag
@@ -105,29 +102,36 @@ pub record IsLegalUndo (input : Input) : Type 0 where
 
 -- ---- fade
 
--- The sheet is there, has at most 65,536 bytes and no fault (`envelope_of`), each of its points is at an earlier frame than the next, and the gains
--- of each frame can move by the steps of the curve at its number, or by as many the other way.
-pub record IsLegalFade (sheet : List ℕ) (back : Bool) (files : Contents) (input : Input) : Type 0 where
+-- The sheet is there, has at most 65,536 bytes and no fault (`envelope_of`), each
+-- of its points is at an earlier frame than the next, and the gains of each frame
+-- can move by the steps of the curve at its number, or by as many the other way.
+pub record IsLegalFade (sheet : List ℕ) (back : Bool) (files : Contents)
+    (input : Input) : Type 0 where
   pub bytes : List ℕ
   pub there : files sheet ≡ Some bytes
   pub small : length bytes ≤ longest_sheet
   pub points : List EnvelopePoint
   pub read : envelope_of bytes ≡ Ok points
-  pub rising : EachNext points (λ p q. frame_of input.survey.class (length input.survey.frames) p < frame_of input.survey.class (length input.survey.frames) q)
-  pub gains : CanAllMove (λ i. alike (steps_back back (steps_at (map (curve_point input.survey.class (length input.survey.frames)) points) i))) input.survey
+  pub rising : EachNext points (λ p q. frame_of input.survey.class (length input.survey.frames) p
+      < frame_of input.survey.class (length input.survey.frames) q)
+  pub gains : CanAllMove (λ i. alike (steps_back back
+      (steps_at (map (curve_point input.survey.class (length input.survey.frames)) points) i)))
+      input.survey
 
 -- ---- cut and split
 
 -- between the positions there is a frame, and neither is after the end
 abbrev pub IsRange : SurveyFields → Place → Place → Type 0
-IsRange s from to = (frame_at s.class (length s.frames) from < frame_at s.class (length s.frames) to) × (frame_at s.class (length s.frames) to ≤ length s.frames)
+IsRange s from to =
+    (frame_at s.class (length s.frames) from < frame_at s.class (length s.frames) to)
+    × (frame_at s.class (length s.frames) to ≤ length s.frames)
 
 -- so it is between each position and the next
 abbrev pub ArePieces : SurveyFields → List Place → Type 0
 ArePieces s places = EachNext places (IsRange s)
 
--- The sheet is there, has at most 65,536 bytes, and is a cue sheet without fault (`cue_of`); from each start to the next, and from the last to the
--- end, there is a frame.
+-- The sheet is there, has at most 65,536 bytes, and is a cue sheet without fault
+-- (`cue_of`); from each start to the next, and from the last to the end, there is a frame.
 pub record IsLegalSheet (sheet : List ℕ) (files : Contents) (input : Input) : Type 0 where
   pub bytes : List ℕ
   pub there : files sheet ≡ Some bytes
@@ -138,9 +142,11 @@ pub record IsLegalSheet (sheet : List ℕ) (files : Contents) (input : Input) : 
 
 -- ---- cut --exact
 
--- how many samples players play of a file: those of all frames but for the encoder delay and the padding that its head says
+-- how many samples players play of a file: those of all frames
+-- but for the encoder delay and the padding that its head says
 abbrev pub samples_played : Input → ℕ
-samples_played input = length_of_played (played_of (fields_of_head input.bytes input.survey.head) input.survey.class (length input.survey.frames))
+samples_played input = length_of_played (played_of (fields_of_head input.bytes input.survey.head)
+    input.survey.class (length input.survey.frames))
 
 -- the number of the sample that a place names
 abbrev pub sample_number : Input → ExactPlace → ℕ
@@ -148,7 +154,8 @@ sample_number input place = sample_at input.survey.class (samples_played input) 
 
 -- between the places there is a sample, and neither is after the last that is played
 abbrev pub IsSampleRange : ExactPlace → ExactPlace → Input → Type 0
-IsSampleRange from to input = (sample_number input from < sample_number input to) × (sample_number input to ≤ samples_played input)
+IsSampleRange from to input = (sample_number input from < sample_number input to)
+    × (sample_number input to ≤ samples_played input)
 
 -- ---- split --exact
 
@@ -171,16 +178,20 @@ pub record IsLegalExactSheet (sheet : List ℕ) (files : Contents) (input : Inpu
 abbrev pub IsRate : ℕ → ClassFields → Type 0
 IsRate rate class = (slot : SlotFields) × Contains all_slots slot × (rate_of class slot ≡ rate)
 
--- Some list of slots of this bit rate, padded or not, has room for the main data of all frames, after a lead-in of such a slot or without one
--- (main_data_begin, 2.4.2.7).
+-- Some list of slots of this bit rate, padded or not, has room for the main data of all
+-- frames, after a lead-in of such a slot or without one (main_data_begin, 2.4.2.7).
 abbrev pub HasRoom : ℕ → SurveyFields → Type 0
-HasRoom rate s = (lead_in : Bool) × CanBeLaidFrom (window_of s.class.version) lead_in (menu_in (Constant rate) s.class) (map need_of s.frames)
+HasRoom rate s = (lead_in : Bool) × CanBeLaidFrom (window_of s.class.version) lead_in
+    (menu_in (Constant rate) s.class) (map need_of s.frames)
 
--- No such list has room, and this is the first frame, counted from 0, up to which none has even after a lead-in.
+-- No such list has room, and this is the first frame,
+-- counted from 0, up to which none has even after a lead-in.
 abbrev pub IsFirstUnfit : ℕ → SurveyFields → ℕ → Type 0
-IsFirstUnfit rate s i = IsUnfit (window_of s.class.version) (menu_in (Constant rate) s.class) (map need_of s.frames) i
+IsFirstUnfit rate s i =
+    IsUnfit (window_of s.class.version) (menu_in (Constant rate) s.class) (map need_of s.frames) i
 
--- with the least slots, with the fewest bytes, and with all slots from a bit rate on there is always room
+-- with the least slots, with the fewest bytes, and with
+-- all slots from a bit rate on there is always room
 abbrev pub IsLegalPack : PackMode → SurveyFields → Type 0
 IsLegalPack Least s = Unit {0}
 IsLegalPack Best s = Unit {0}
@@ -191,12 +202,14 @@ IsLegalPack (Floor rate) s = IsRate rate s.class
 
 -- all inputs are of one class: version, sampling frequency and number of channels are the same
 abbrev pub AreOfOneClass : List Input → Type 0
-AreOfOneClass inputs = (i j : ℕ) (p q : Input) → slice_get inputs i ≡ Some p → slice_get inputs j ≡ Some q → p.survey.class ≡ q.survey.class
+AreOfOneClass inputs = (i j : ℕ) (p q : Input) → slice_get inputs i ≡ Some p
+    → slice_get inputs j ≡ Some q → p.survey.class ≡ q.survey.class
 
 -- ---- salvage
 
--- The input needn't be well-formed: it is there, has at most 1,073,741,824 bytes, and a usable frame where its front ends or, anchored, behind, and from
--- that first frame on 1 to 2,900,000 frames are found, not counting a Xing or Info frame.
+-- The input needn't be well-formed: it is there, has at most 1,073,741,824 bytes,
+-- and a usable frame where its front ends or, anchored, behind, and from that first
+-- frame on 1 to 2,900,000 frames are found, not counting a Xing or Info frame.
 pub record IsLegalSalvage (input : List ℕ) (files : Contents) : Type 0 where
   pub bytes : List ℕ
   pub there : files input ≡ Some bytes

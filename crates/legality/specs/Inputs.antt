@@ -1,7 +1,8 @@
 -- The inputs of a command that are read as streams.
-use Rattle.std.specs.Prelude.{◌≡◌, ℕ, suc, ◌+◌, ◌≤◌, All, Contains, List, [], ◌∷◌, length, slice_get, Some, Ok}
+use Rattle.std.specs.Prelude.{All, Contains, length, List, Ok, slice_get, Some, suc, ℕ, [], ◌+◌}
+use Rattle.std.specs.Prelude.{◌∷◌, ◌≡◌, ◌≤◌}
 use Rattle.outside.specs.Files.{Contents}
-use Rattle.sync_survey.specs.Faults.{SurveyFields, longest_file, surveyed_freely}
+use Rattle.sync_survey.specs.Faults.{longest_file, surveyed_freely, SurveyFields}
 
 -- ---- lists
 
@@ -11,7 +12,8 @@ Each {A} xs P = (i : ℕ) (x : A) → slice_get xs i ≡ Some x → P i x
 
 -- this holds of each element and the next
 abbrev pub EachNext : {A : Type 0} → List A → (A → A → Type 0) → Type 0
-EachNext {A} xs P = (i : ℕ) (x y : A) → slice_get xs i ≡ Some x → slice_get xs (suc i) ≡ Some y → P x y
+EachNext {A} xs P =
+    (i : ℕ) (x y : A) → slice_get xs i ≡ Some x → slice_get xs (suc i) ≡ Some y → P x y
 
 -- ---- names
 
@@ -32,9 +34,11 @@ pub record IsInput (files : Contents) (name : List ℕ) (input : Input) : Type 0
   pub long : length input.bytes ≤ longest_file
   pub well_formed : surveyed_freely input.bytes ≡ Ok input.survey
 
+-- so is each of these
 abbrev pub AreInputs : Contents → List (List ℕ) → List Input → Type 0
 AreInputs files [] [] = Unit {0}
-AreInputs files (name ∷ names) (input ∷ inputs) = IsInput files name input × AreInputs files names inputs
+AreInputs files (name ∷ names) (input ∷ inputs) =
+    IsInput files name input × AreInputs files names inputs
 AreInputs files _ _ = ⊥
 
 -- how many frames they have together

@@ -1,12 +1,17 @@
 -- When a command that was asked for is legal.
-use Rattle.std.specs.Prelude.{ℕ, true, false, ◌≤◌, List, [], ◌∷◌, ◌++◌, length}
-use Rattle.outside.specs.Files.{Contents}
+use Rattle.std.specs.Prelude.{false, length, List, true, ℕ, [], ◌++◌, ◌∷◌, ◌≤◌}
 use Rattle.commands.specs.One.{most_frames}
-use Rattle.requests.specs.Names.{piece_names}
+use Rattle.job_words.specs.Asked.{Asked, Cut, CutExact, Drill, Fade, Gain, Help, InfoFile, Join}
+use Rattle.job_words.specs.Asked.{ListFile, Pack, Salvage, SplitAt, SplitBy, SplitExact, Undo}
+use Rattle.job_words.specs.Asked.{Version}
+use Rattle.legality.specs.Choices.{AreOfOneClass, ArePieces, AreSamplePieces, IsFirstUnfit}
+use Rattle.legality.specs.Choices.{IsLegalExactSheet, IsLegalFade, IsLegalGain, IsLegalPack}
+use Rattle.legality.specs.Choices.{IsLegalSalvage, IsLegalSheet, IsLegalUndo, IsRange, IsRate}
+use Rattle.legality.specs.Choices.{IsSampleRange}
+use Rattle.legality.specs.Inputs.{AreApart, AreInputs, frames_of, Input, IsInput, OfOne}
+use Rattle.outside.specs.Files.{Contents}
 use Rattle.pack_edits.specs.Modes.{allowed_by}
-use Rattle.job_words.specs.Asked.{Asked, Help, Version, ListFile, InfoFile, Gain, Undo, Cut, CutExact, Pack, SplitAt, SplitExact, SplitBy, Join, Drill, Fade, Salvage}
-use Rattle.legality.specs.Inputs.{AreApart, Input, IsInput, AreInputs, frames_of, OfOne}
-use Rattle.legality.specs.Choices.{IsLegalGain, IsLegalUndo, IsLegalFade, IsRange, IsSampleRange, ArePieces, IsLegalSheet, AreSamplePieces, IsLegalExactSheet, IsRate, IsFirstUnfit, IsLegalPack, AreOfOneClass, IsLegalSalvage}
+use Rattle.requests.specs.Names.{piece_names}
 
 -- ---- the files
 
@@ -24,7 +29,7 @@ sources_of (Pack mode input output) = input ∷ []
 sources_of (SplitAt input prefix places) = input ∷ []
 sources_of (SplitExact input prefix places) = input ∷ []
 sources_of (SplitBy exact input prefix sheet) = input ∷ []
-sources_of (Join output inputs) = inputs
+sources_of (Join seamless output inputs) = inputs
 sources_of (Drill seed count) = []
 sources_of (Fade back input output sheet) = input ∷ []
 sources_of (Salvage input output) = []
@@ -50,7 +55,7 @@ outputs_of (Pack mode input output) = output ∷ []
 outputs_of (SplitAt input prefix places) = piece_names prefix
 outputs_of (SplitExact input prefix places) = piece_names prefix
 outputs_of (SplitBy exact input prefix sheet) = piece_names prefix
-outputs_of (Join output inputs) = output ∷ []
+outputs_of (Join seamless output inputs) = output ∷ []
 outputs_of (Drill seed count) = []
 outputs_of (Fade back input output sheet) = output ∷ []
 outputs_of (Salvage input output) = output ∷ []
@@ -62,6 +67,7 @@ most_of _ = most_frames
 
 -- ---- the choices
 
+-- the choices of a command are legal for these inputs
 abbrev pub AreLegal : Asked → Contents → List Input → Type 0
 AreLegal Help files inputs = Unit {0}
 AreLegal Version files inputs = Unit {0}
@@ -69,22 +75,25 @@ AreLegal (ListFile input) files inputs = Unit {0}
 AreLegal (InfoFile input) files inputs = Unit {0}
 AreLegal (Gain shift tags input output) files inputs = OfOne (IsLegalGain shift tags) inputs
 AreLegal (Undo input output) files inputs = OfOne IsLegalUndo inputs
-AreLegal (Cut from to least input output) files inputs = OfOne (λ i. IsRange i.survey from to) inputs
+AreLegal (Cut from to least input output) files inputs =
+    OfOne (λ i. IsRange i.survey from to) inputs
 AreLegal (CutExact input from to output) files inputs = OfOne (IsSampleRange from to) inputs
 AreLegal (Pack mode input output) files inputs = OfOne (λ i. IsLegalPack mode i.survey) inputs
 AreLegal (SplitAt input prefix places) files inputs = OfOne (λ i. ArePieces i.survey places) inputs
-AreLegal (SplitExact input prefix places) files inputs = OfOne (λ i. AreSamplePieces i places) inputs
+AreLegal (SplitExact input prefix places) files inputs =
+    OfOne (λ i. AreSamplePieces i places) inputs
 AreLegal (SplitBy false input prefix sheet) files inputs = OfOne (IsLegalSheet sheet files) inputs
-AreLegal (SplitBy true input prefix sheet) files inputs = OfOne (IsLegalExactSheet sheet files) inputs
-AreLegal (Join output inputs_asked) files inputs = AreOfOneClass inputs
+AreLegal (SplitBy true input prefix sheet) files inputs =
+    OfOne (IsLegalExactSheet sheet files) inputs
+AreLegal (Join seamless output inputs_asked) files inputs = AreOfOneClass inputs
 AreLegal (Drill seed count) files inputs = Unit {0}
 AreLegal (Fade back input output sheet) files inputs = OfOne (IsLegalFade sheet back files) inputs
 AreLegal (Salvage input output) files inputs = IsLegalSalvage input files
 
 -- ---- all of it
 
--- No input is an output; each input that is read as a stream is there, no longer than allowed, and well-formed, and together they have no more frames
--- than allowed; and the choices are legal.
+-- No input is an output; each input that is read as a stream is there, no longer than allowed,
+-- and well-formed, and together they have no more frames than allowed; and the choices are legal.
 pub record IsLegalFor (asked : Asked) (files : Contents) : Type 0 where
   pub names : AreApart (sources_of asked ++ others_of asked) (outputs_of asked)
   pub inputs : List Input
@@ -94,8 +103,8 @@ pub record IsLegalFor (asked : Asked) (files : Contents) : Type 0 where
 
 -- ---- a packing with one bit rate that is refused
 
--- The input is there, no longer than allowed and well-formed, the bit rate is one of its class, and no list of its slots has room for the main data;
--- this is the first frame up to which none has.
+-- The input is there, no longer than allowed and well-formed, the bit rate is one of its class, and
+-- no list of its slots has room for the main data; this is the first frame up to which none has.
 pub record IsUnfitFor (rate : ℕ) (input output : List ℕ) (files : Contents) (i : ℕ) : Type 0 where
   pub names : AreApart (input ∷ []) (output ∷ [])
   pub read : Input

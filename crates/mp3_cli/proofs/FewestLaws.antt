@@ -1,15 +1,16 @@
 -- What was packed into the fewest bytes has the fewest.
-use Rattle.std.proofs.Common.{◌≡◌, ℕ, List, Result, Ok, sym, subst}
-use Rattle.std.specs.Prelude.{IfOk}
-use Rattle.outside.specs.Seen.{Heard, Seen}
-use Rattle.job_words.specs.Asked.{Asked, Help, Version, ListFile, InfoFile, Gain, Undo, Cut, CutExact, Pack, SplitAt, SplitExact, SplitBy, Join, Drill, Fade, Salvage}
-use Rattle.job_words.specs.Words.{job_of}
+use Rattle.std.{proofs.Common.{List, Ok, Result, subst, sym, ℕ, ◌≡◌}, specs.Prelude.IfOk}
 use Rattle.commands.specs.Left.{IsDone}
-use Rattle.pack_edits.proofs.PackedLengths.{done-fewest}
+use Rattle.job_words.specs.Asked.{Asked, Cut, CutExact, Drill, Fade, Gain, Help, InfoFile, Join}
+use Rattle.job_words.specs.Asked.{ListFile, Pack, Salvage, SplitAt, SplitBy, SplitExact, Undo}
+use Rattle.job_words.specs.{Asked.Version, Words.job_of}
 use Rattle.mp3_cli.proofs.RunLaws.{is_done}
-use Rattle.mp3_cli.specs.Run.{command_of, world, Answers, HasFewest, HasFewestBytes}
+use Rattle.mp3_cli.specs.Run.{Answers, command_of, HasFewest, HasFewestBytes, world}
+use Rattle.outside.specs.Seen.{Heard, Seen}
+use Rattle.pack_edits.proofs.PackedLengths.{done-fewest}
 
-has-fewest : (asked : Asked) (old new : Seen) → IsDone (command_of asked) old new → HasFewest asked old.files new.files
+has-fewest : (asked : Asked) (old new : Seen) → IsDone (command_of asked) old new
+    → HasFewest asked old.files new.files
 has-fewest Help old new done = tt
 has-fewest Version old new done = tt
 has-fewest (ListFile input) old new done = tt
@@ -22,13 +23,17 @@ has-fewest (Pack mode input output) old new done = done-fewest mode input output
 has-fewest (SplitAt input prefix places) old new done = tt
 has-fewest (SplitExact input prefix places) old new done = tt
 has-fewest (SplitBy exact input prefix sheet) old new done = tt
-has-fewest (Join output inputs) old new done = tt
+has-fewest (Join seamless output inputs) old new done = tt
 has-fewest (Drill seed count) old new done = tt
 has-fewest (Fade back input output sheet) old new done = tt
 has-fewest (Salvage input output) old new done = tt
 
-pub fewest-bytes : (words : List (List ℕ)) (asked : Asked) (is : job_of words ≡ Ok asked) (old new : Seen) (out_old out_new err_old err_new : Heard) (status : ℕ)
-    (all : Answers (command_of asked) (world old out_old err_old) (world new out_new err_new) status) → status ≡ 0 → HasFewestBytes words old.files new.files
+-- a packing into the fewest bytes that ends well wrote the fewest
+pub fewest-bytes : (words : List (List ℕ)) (asked : Asked) (is : job_of words ≡ Ok asked)
+    (old new : Seen) (out_old out_new err_old err_new : Heard) (status : ℕ)
+    (all : Answers (command_of asked) (world old out_old err_old)
+    (world new out_new err_new) status) → status ≡ 0 → HasFewestBytes words old.files new.files
 fewest-bytes words asked is old new out_old out_new err_old err_new status all zero_is =
     subst (λ (r : Result Asked ℕ). IfOk r (λ a. HasFewest a old.files new.files)) (sym is)
-    (has-fewest asked old new (is_done (command_of asked) old new out_old out_new err_old err_new status all zero_is))
+    (has-fewest asked old new
+    (is_done (command_of asked) old new out_old out_new err_old err_new status all zero_is))

@@ -1,33 +1,29 @@
 -- What the program does, from its words and the files that are there.
-use Rattle.std.specs.Prelude.{◌≡◌, ◌≢◌, ◌↔◌, ◌≤◌, ℕ, true, false, List, [], ◌∷◌, Option, Some, None, Result, Ok, Err, IfOk, IfSome, IsErr}
-use Rattle.outside.specs.Files.{Contents, Files, sent_more, Told, IfTold, OnlyTouches}
-use Rattle.outside.specs.Counts.{Rose, NoneFell}
-use Rattle.outside.specs.Seen.{Heard, Seen}
-use Rattle.commands.specs.declared.fault.EditFault.{EditFault}
-use Rattle.commands.specs.declared.fault.EditFault.TheVariants.{EqualNames}
-use Rattle.commands.specs.Command.{Made, Command, clash_of, written, AreSound}
-use Rattle.commands.specs.Left.{IsDone, Leaves, HasNumbers}
-use Rattle.commands.specs.Said.{Says}
-use Rattle.gain_edits.specs.Gain.{gain_command}
-use Rattle.gain_edits.specs.Undo.{undo_command}
-use Rattle.gain_edits.specs.Fade.{fade_command}
-use Rattle.cut_edits.specs.Chosen.{cut_command}
-use Rattle.cut_edits.specs.Exact.{exact_command}
-use Rattle.pack_edits.specs.Modes.{pack_mode_command}
-use Rattle.pack_edits.specs.Fewest.{WritesFewest}
-use Rattle.list_edits.specs.Listing.{list_command}
-use Rattle.list_edits.specs.InfoText.{info_command}
-use Rattle.split_edits.specs.Split.{split_at_command, split_by_command, split_exact_at_command, split_exact_by_command}
-use Rattle.join_edits.specs.Join.{join_command}
+use Rattle.std.specs.Prelude.{Err, false, IfOk, IfSome, IsErr, List, None, Ok, Option, Result, Some}
+use Rattle.std.specs.Prelude.{true, ℕ, [], ◌↔◌, ◌∷◌, ◌≡◌, ◌≢◌, ◌≤◌}
+use Rattle.commands.specs.Command.{AreSound, clash_of, Command, Made, written}
+use Rattle.commands.specs.{Left.{HasNumbers, IsDone, Leaves}, Said.Says}
+use Rattle.commands.specs.declared.fault.EditFault.{EditFault, TheVariants.EqualNames}
+use Rattle.cut_edits.specs.{Chosen.cut_command, Exact.exact_command}
 use Rattle.drill.specs.Drilled.{drill_command}
+use Rattle.gain_edits.specs.{Fade.fade_command, Gain.gain_command, Undo.undo_command}
+use Rattle.job_words.specs.Asked.{Asked, Cut, CutExact, Drill, Fade, Gain, Help, InfoFile, Join}
+use Rattle.job_words.specs.Asked.{ListFile, Pack, Salvage, SplitAt, SplitBy, SplitExact, Undo}
+use Rattle.job_words.specs.{Asked.Version, Words.job_of}
+use Rattle.join_edits.specs.{Join.join_command, Seamless.seamless_command}
+use Rattle.legality.specs.{Laws.Makes, Legal.IsLegalFor}
+use Rattle.list_edits.specs.{InfoText.info_command, Listing.list_command}
+use Rattle.outside.specs.Counts.{NoneFell, Rose}
+use Rattle.outside.specs.Files.{Contents, Files, IfTold, OnlyTouches, sent_more, Told}
+use Rattle.outside.specs.Seen.{Heard, Seen}
+use Rattle.pack_edits.specs.{Fewest.WritesFewest, Modes.pack_mode_command}
+use Rattle.program_texts.specs.Texts.{bad_word_line, fault_line, GotLine, help_text, said_command}
+use Rattle.program_texts.specs.Texts.{status_of, version_text}
 use Rattle.salvage_edits.specs.Salvaged.{salvage_command}
-use Rattle.job_words.specs.Asked.{Asked, Help, Version, ListFile, InfoFile, Gain, Undo, Cut, CutExact, Pack, SplitAt, SplitExact, SplitBy, Join, Drill, Fade, Salvage}
-use Rattle.job_words.specs.Words.{job_of}
+use Rattle.split_edits.specs.Split.{split_at_command, split_by_command, split_exact_at_command}
+use Rattle.split_edits.specs.Split.{split_exact_by_command}
 use Rattle.sync_survey.specs.Faults.{IsWellFormed, stream_of}
-use Rattle.theorems.specs.Chosen.{Frames, ConsistsOf, chosen_of}
-use Rattle.legality.specs.Legal.{IsLegalFor}
-use Rattle.legality.specs.Laws.{Makes}
-use Rattle.program_texts.specs.Texts.{status_of, fault_line, bad_word_line, help_text, version_text, said_command, GotLine}
+use Rattle.theorems.specs.Chosen.{chosen_of, ConsistsOf, Frames}
 
 -- what is asked for, as a command
 abbrev pub command_of : Asked → Command
@@ -44,13 +40,15 @@ command_of (SplitAt input prefix places) = split_at_command places input prefix
 command_of (SplitExact input prefix places) = split_exact_at_command places input prefix
 command_of (SplitBy false input prefix sheet) = split_by_command input sheet prefix
 command_of (SplitBy true input prefix sheet) = split_exact_by_command input sheet prefix
-command_of (Join output inputs) = join_command output inputs
+command_of (Join false output inputs) = join_command output inputs
+command_of (Join true output inputs) = seamless_command output inputs
 command_of (Drill seed count) = drill_command seed count
 command_of (Fade back input output sheet) = fade_command sheet back input output
 command_of (Salvage input output) = salvage_command input output
 
 -- ---- the answer of a command over every folder, also one that doesn't tell its files
 
+-- the status of a command with this fault, 0 where it was done
 abbrev pub fault_status : Option EditFault → ℕ
 fault_status None = 0
 fault_status (Some fault) = status_of fault
@@ -60,6 +58,7 @@ abbrev pub result_line : List (List ℕ) → List (List ℕ) → Option EditFaul
 result_line inputs outputs None = []
 result_line inputs outputs (Some fault) = fault_line fault inputs outputs
 
+-- the line of a command's fault
 abbrev pub line_of : Command → Option EditFault → List ℕ
 line_of command fault = result_line command.inputs command.outputs fault
 
@@ -73,19 +72,22 @@ pub record World : Type 0 where
   pub out : Heard
   pub err : Heard
 
+-- the world of this folder and these two streams
 abbrev pub world : Seen → Heard → Heard → World
 world folder out err = record { folder = folder; out = out; err = err }
 
--- How a command ended, with this fault or none: it was done, and its text was sent, or the fault has its cause, its numbers and what it leaves. Equal
--- names are found whatever else is at fault.
-pub record Ends (command : Command) (old new : Seen) (out_old out_new : Heard) (fault : Option EditFault) : Type 0 where
+-- How a command ended, with this fault or none: it was done, and its text was sent, or the fault
+-- has its cause, its numbers and what it leaves. Equal names are found whatever else is at fault.
+pub record Ends (command : Command) (old new : Seen) (out_old out_new : Heard)
+    (fault : Option EditFault) : Type 0 where
   pub says : Says command old.files out_old out_new fault
   pub done : fault ≡ None → IsDone command old new
   pub left : IfSome fault (Leaves command old new)
   pub numbers : IfSome fault (HasNumbers command)
   pub names : (place : ℕ) → clash_of command ≡ Some place → fault ≡ Some (EqualNames place)
 
--- The command ended, with a fault or none, and that has its status and its line, which was sent whole, or a prefix of it where a write failed.
+-- The command ended, with a fault or none, and that has its status and
+-- its line, which was sent whole, or a prefix of it where a write failed.
 pub record Answers (command : Command) (old new : World) (status : ℕ) : Type 0 where
   pub fault : Option EditFault
   pub ends : Ends command old.folder new.folder old.out new.out fault
@@ -99,6 +101,7 @@ pub record AnswersBadWord (place : ℕ) (old new : World) (status : ℕ) : Type 
   pub silent : new.out ≡ old.out
   pub stays : new.folder ≡ old.folder
 
+-- the words were answered: as a command, or as a bad word
 abbrev pub AnswersWords : World → World → ℕ → Result Asked ℕ → Type 0
 AnswersWords old new status (Ok asked) = Answers (command_of asked) old new status
 AnswersWords old new status (Err place) = AnswersBadWord place old new status
@@ -115,30 +118,41 @@ always_of (Err place) = None
 
 -- ---- the result, where the files are told
 
--- what the program answers, what it writes to standard output and to standard error, and the files afterwards
+-- what the program answers, what it writes to standard
+-- output and to standard error, and the files afterwards
 pub record Outcome : Type 0 where
   pub status : ℕ
   pub text : List ℕ
   pub line : List ℕ
   pub files : Contents
 
+-- the outcome of what a command makes, or of its refusal
 abbrev pub made_outcome : Command → Contents → Result Made EditFault → Outcome
-made_outcome command files (Ok made) = record { status = 0; text = made.text; line = []; files = written made.outputs files }
-made_outcome command files (Err fault) = record { status = status_of fault; text = []; line = fault_line fault command.inputs command.outputs; files = files }
+made_outcome command files (Ok made) =
+    record { status = 0; text = made.text; line = []; files = written made.outputs files }
+made_outcome command files (Err fault) = record {
+  status = status_of fault;
+  text = [];
+  line = fault_line fault command.inputs command.outputs;
+  files = files;
+}
 
+-- the outcome of a command
 abbrev pub command_outcome : Command → Contents → Outcome
 command_outcome command files = made_outcome command files (command.makes files)
 
+-- the outcome of what is asked for, or of a bad word
 abbrev pub job_outcome : Contents → Result Asked ℕ → Outcome
 job_outcome files (Ok asked) = command_outcome (command_of asked) files
-job_outcome files (Err place) = record { status = 2; text = []; line = bad_word_line place; files = files }
+job_outcome files (Err place) =
+    record { status = 2; text = []; line = bad_word_line place; files = files }
 
 -- what these words make of these files
 unfoldable pub outcome : List (List ℕ) → Contents → Outcome
 outcome words files = job_outcome files (job_of words)
 
--- all is as defined: the status, the files, what standard output got, and the line that standard error got, or a prefix of it where a
--- write failed there
+-- all is as defined: the status, the files, what standard output got, and the
+-- line that standard error got, or a prefix of it where a write failed there
 pub record IsOutcome (o : Outcome) (old new : World) (status : ℕ) : Type 0 where
   pub status_is : status ≡ o.status
   pub files_are : new.folder.files ≡ Told o.files
@@ -147,15 +161,17 @@ pub record IsOutcome (o : Outcome) (old new : World) (status : ℕ) : Type 0 whe
 
 -- ---- what is accepted
 
+-- what is asked for is legal
 abbrev pub IsLegalBy : Contents → Result Asked ℕ → Type 0
 IsLegalBy files (Ok asked) = IsLegalFor asked files
 IsLegalBy files (Err place) = ⊥
 
--- The words ask for a command, no input is an output, each input that is read as a stream is there, no longer than allowed, and well-formed, and the
--- choices are legal (`IsLegalFor`).
+-- The words ask for a command, no input is an output, each input that is read as a stream is
+-- there, no longer than allowed, and well-formed, and the choices are legal (`IsLegalFor`).
 abbrev pub IsLegal : List (List ℕ) → Contents → Type 0
 IsLegal words files = IsLegalBy files (job_of words)
 
+-- what is asked for is accepted
 abbrev pub IsAcceptedBy : Contents → Result Asked ℕ → Type 0
 IsAcceptedBy files (Ok asked) = Makes (command_of asked) files
 IsAcceptedBy files (Err place) = ⊥
@@ -166,25 +182,29 @@ IsAccepted words files = IsAcceptedBy files (job_of words)
 
 -- exactly what is legal is accepted
 abbrev pub LegalIsAccepted : Type 0
-LegalIsAccepted = (words : List (List ℕ)) (files : Contents) → IsLegal words files ↔ IsAccepted words files
+LegalIsAccepted =
+    (words : List (List ℕ)) (files : Contents) → IsLegal words files ↔ IsAccepted words files
 
 -- ---- the streams
 
--- A file of each of the first names is there, one for each of these lists of frames; it is well-formed, and its stream consists of the frames.
+-- A file of each of the first names is there, one for each of these lists
+-- of frames; it is well-formed, and its stream consists of the frames.
 abbrev pub HoldFrames : Contents → List (List ℕ) → List Frames → Type 0
 HoldFrames files names [] = Unit {0}
 HoldFrames files [] (frames ∷ more) = ⊥
-HoldFrames files (name ∷ names) (frames ∷ more) = ((bytes : List ℕ) × (files name ≡ Some bytes) × IsWellFormed bytes × ConsistsOf frames (stream_of bytes)) × HoldFrames files names more
+HoldFrames files (name ∷ names) (frames ∷ more) = ((bytes : List ℕ) × (files name ≡ Some bytes)
+    × IsWellFormed bytes × ConsistsOf frames (stream_of bytes)) × HoldFrames files names more
 
--- The inputs that are read as streams were there and well-formed, and the outputs are there, by their names, with exactly the frames that the job
--- chooses of the inputs (`chosen_of`).
+-- The inputs that are read as streams were there and well-formed, and the outputs are there,
+-- by their names, with exactly the frames that the job chooses of the inputs (`chosen_of`).
 pub record HoldsWritten (asked : Asked) (old new : Contents) : Type 0 where
   pub sources : AreSound old (command_of asked).sources
   pub outputs : HoldFrames new (command_of asked).outputs (chosen_of asked old)
 
 -- so it is of what the words ask for, where the files before and after are told
 abbrev pub HoldsAllStreams : List (List ℕ) → Files → Files → Type 0
-HoldsAllStreams words old new = IfOk (job_of words) (λ asked. IfTold old (λ before. IfTold new (λ after. HoldsWritten asked before after)))
+HoldsAllStreams words old new = IfOk (job_of words)
+    (λ asked. IfTold old (λ before. IfTold new (λ after. HoldsWritten asked before after)))
 
 -- ---- the fewest bytes
 
@@ -212,33 +232,41 @@ pub record ProgramRun (words : List (List ℕ)) (old new : World) (status : ℕ)
   pub statuses : status ≤ 4
   -- refused words give status 2, and nothing else does
   pub bad_word : (status ≡ 2) ↔ IsErr (job_of words)
-  -- over every folder, also one that doesn't tell its files: the command was done, or there is a fault with its status, its line with its
-  -- numbers, its cause and what it leaves
+  -- over every folder, also one that doesn't tell its files: the command was done, or there
+  -- is a fault with its status, its line with its numbers, its cause and what it leaves
   pub answers : AnswersWords old new status (job_of words)
   -- with status 0, 1 or 2 all is as defined, whether or not a call failed
-  pub defined : status ≤ 2 → IfTold old.folder.files (λ files. IsOutcome (outcome words files) old new status)
-  -- Where no call of the folder failed, nor a write to standard output, and memory was found, exactly what is legal is done: the words ask for
-  -- a command, no input is an output, each input that is read as a stream is there, no longer than allowed and well-formed, and the choices
-  -- are legal.
-  pub accepted : (files : Contents) → old.folder.files ≡ Told files → NoCallFailed old new → status ≢ 4 → ((status ≡ 0) ↔ IsLegal words files)
-  -- each output is there, by its name, well-formed, and its stream is exactly the frames that the job chooses of its inputs: part by part at
-  -- most one silent lead-in and then the frames, or the input's frames alone where only gains move
+  pub defined : status ≤ 2
+      → IfTold old.folder.files (λ files. IsOutcome (outcome words files) old new status)
+  -- Where no call of the folder failed, nor a write to standard output, and
+  -- memory was found, exactly what is legal is done: the words ask for a
+  -- command, no input is an output, each input that is read as a stream is
+  -- there, no longer than allowed and well-formed, and the choices are legal.
+  pub accepted : (files : Contents) → old.folder.files ≡ Told files → NoCallFailed old new
+      → status ≢ 4 → ((status ≡ 0) ↔ IsLegal words files)
+  -- each output is there, by its name, well-formed, and its stream is exactly the
+  -- frames that the job chooses of its inputs: part by part at most one silent
+  -- lead-in and then the frames, or the input's frames alone where only gains move
   pub streams : status ≡ 0 → HoldsAllStreams words old.folder.files new.folder.files
-  -- with `pack --best`, and where the folder tells its files, no file of the same frames in other slots, with a lead-in where this one has one
-  -- or with none, has fewer bytes
+  -- with `pack --best`, and where the folder tells its files, no file of the same frames
+  -- in other slots, with a lead-in where this one has one or with none, has fewer bytes
   pub fewest : status ≡ 0 → HasFewestBytes words old.folder.files new.folder.files
-  -- over every folder, told or not, no name but those of the outputs was touched: created, or written to
+  -- over every folder, told or not, no name but those
+  -- of the outputs was touched: created, or written to
   pub touches : OnlyTouches (outputs_asked (job_of words)) old.folder.files new.folder.files
   -- a refusal and want of memory leave the files, and touch no name
   pub kept : status ≢ 0 → status ≢ 3 → new.folder.files ≡ old.folder.files
-  -- no other status hides an absent input, a failed call of the folder or a file that became shorter
+  -- no other status hides an absent input, a failed
+  -- call of the folder or a file that became shorter
   pub failed : status ≢ 3 → new.folder.counts ≡ old.folder.counts
   -- a command that was done sends no line
   pub quiet : status ≡ 0 → new.err.sent ≡ old.err.sent
   -- standard output gets a text only where the command was done, or a write there failed
   pub silent : status ≢ 0 → status ≢ 3 → new.out.sent ≡ old.out.sent
-  -- some texts are the same whatever the files are, and are sent over every folder: those of `--help`, `--version` and `drill`, and the empty
-  -- ones of the commands that write files, except `salvage`
-  pub text : status ≡ 0 → IfSome (always_of (job_of words)) (λ text. new.out.sent ≡ sent_more old.out.sent text)
+  -- some texts are the same whatever the files are, and are sent over every
+  -- folder: those of `--help`, `--version` and `drill`, and the empty ones
+  -- of the commands that write files, except `salvage` and `join --seamless`
+  pub text : status ≡ 0
+      → IfSome (always_of (job_of words)) (λ text. new.out.sent ≡ sent_more old.out.sent text)
   -- the counts of what failed don't fall
   pub counts : NoneFell old.folder.counts new.folder.counts

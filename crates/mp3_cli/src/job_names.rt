@@ -72,10 +72,10 @@ pub(crate) fn outputs_of<'a>(job: &Job<'a>) -> Outputs<'a>
         | Job::CutExact { output, .. }
         | Job::Pack { output, .. }
         | Job::Fade { output, .. }
-        | Job::Join { output, .. }
         | Job::Salvage { output, .. } => Outputs::One(output),
         Job::SplitAt { prefix, .. } | Job::SplitExact { prefix, .. } => Outputs::Pieces(prefix),
-        // An arm of its own, since it has a proof of its own.
+        // Arms of their own, since each has a proof of its own.
         Job::SplitBy { prefix, .. } => Outputs::Pieces(prefix),
+        Job::Join { output, .. } => Outputs::One(output),
     }
 }

@@ -1,10 +1,10 @@
 //! All that the program does.
-ghost use Rattle.std.specs.Prelude.{◌≡◌, map, string_bytes, OnOk};
+ghost use Rattle.std.specs.Prelude.{◌≡◌, ◌≤◌, length, map, string_bytes, OnOk};
 ghost use Rattle.outside.specs.Counts.{NoneFell};
 ghost use Rattle.commands.specs.Command.{HoldsStreams};
 ghost use Rattle.commands.specs.Said.{fault_of};
 ghost use Rattle.commands.specs.Runs.{IsRunOf};
-ghost use Rattle.job_words.specs.Asked.{SplitBy};
+ghost use Rattle.job_words.specs.Asked.{SplitBy, Join};
 ghost use Rattle.job_words.specs.Words.{IsSound};
 ghost use Rattle.job_words.specs.Code.{asked};
 ghost use Rattle.program_texts.specs.Names.{names_in};
@@ -17,7 +17,7 @@ use cut_edits::{cut, cut_exact};
 use drill::drill;
 use gain_edits::{fade, gain, undo};
 use job_words::{Job, job};
-use join_edits::join;
+use join_edits::{join, join_seamless};
 use list_edits::{info, list};
 use outside::{Folder, Sink};
 use pack_edits::pack_with;
@@ -64,6 +64,35 @@ fn split_by_sheet<D: Folder>(
         split_exact(alloc, folder, input, &ExactPoints::Sheet(sheet), prefix)
     } else {
         split(alloc, folder, input, &Points::Sheet(sheet), prefix)
+    }
+}
+
+/// Joins the inputs, 1 to 64, with all their frames, or without those that only a piece needs. The refusals are those of the
+/// command's own call.
+fn join_files<D: Folder, T: Sink>(
+    alloc: Global,
+    folder: &mut D,
+    seamless: bool,
+    output: &str,
+    inputs: &[String],
+    out: &mut T,
+) -> Result<(), EditFault>
+    requires some { 1 ≤ length inputs.now }
+    requires few { length inputs.now ≤ 64 }
+    ensures ends { Ends (command_of (Join seamless output.now (map string_bytes inputs.now)))
+        (D.seen folder.old)
+        (D.seen folder.new)
+        (T.heard out.old) (T.heard out.new)
+        (fault_of result) }
+    ensures streams { OnOk result (HoldsStreams
+        (command_of (Join seamless output.now (map string_bytes inputs.now)))
+        (D.seen folder.old).files) }
+    ensures counts { NoneFell (D.seen folder.old).counts (D.seen folder.new).counts }
+{
+    if seamless {
+        join_seamless(alloc, folder, output, inputs, out)
+    } else {
+        join(alloc, folder, output, inputs)
     }
 }
 
@@ -136,7 +165,11 @@ fn do_job<D: Folder, T: Sink>(
             prefix,
             sheet,
         } => split_by_sheet(alloc, folder, exact, input, prefix, sheet),
-        Job::Join { output, inputs } => join(alloc, folder, output, inputs),
+        Job::Join {
+            seamless,
+            output,
+            inputs,
+        } => join_files(alloc, folder, seamless, output, inputs, out),
         Job::Drill { seed, count } => drill(alloc, seed, count, out),
         Job::Fade {
             back,

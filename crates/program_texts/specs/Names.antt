@@ -1,13 +1,14 @@
 -- The names of a command's files, by their places.
-use Rattle.std.specs.Prelude.{ℕ, List, [], ◌∷◌, slice_index_or}
-use Rattle.requests.specs.Names.{piece_names}
+use Rattle.std.specs.Prelude.{List, slice_index_or, ℕ, [], ◌∷◌}
 use Rattle.program_texts.specs.declared.output_names.Outputs.{Outputs}
 use Rattle.program_texts.specs.declared.output_names.Outputs.TheVariants.{None, One, Pieces}
+use Rattle.requests.specs.Names.{piece_names}
 
 -- the name at a place, counted from 0
 abbrev pub name_in : List (List ℕ) → ℕ → List ℕ
 name_in names place = slice_index_or names place []
 
+-- the names of all outputs
 abbrev pub names_in : Outputs → List (List ℕ)
 names_in None = []
 names_in (One name) = name.now ∷ []

@@ -41,7 +41,7 @@ pub fn status(fault: &EditFault) -> u8
 }
 
 /// What the program does, form by form, and the statuses.
-static HELP: [&str; 44] = [
+static HELP: [&str; 46] = [
     "usage: mp3edit COMMAND\n",
     "  list IN                say what stands in the MP3 file IN: tags, junk, head and frames\n",
     "  info IN                say in a few lines what IN is, and how many steps down and up its gains can move\n",
@@ -73,8 +73,10 @@ static HELP: [&str; 44] = [
     "                         the same with the samples between the places, as cut --exact writes them\n",
     "  split --exact IN PREFIX -c CUE\n",
     "                         the same with the samples of each track\n",
-    "  join OUT IN1 [IN2 to IN64]\n",
+    "  join [--seamless] OUT IN1 [IN2 to IN64]\n",
     "                         write the frames of IN1 to IN64, one file after another, to OUT\n",
+    "                         --seamless: leave out the frames that only a piece needs, so that pieces in order are\n",
+    "                         the whole again, and say of each input but the first what was left out\n",
     "  drill SEED COUNT       make COUNT frames from the number SEED, pack them in memory, and say how long both are\n",
     "  fade [--back] IN OUT SHEET\n",
     "                         write IN to OUT, each frame louder or quieter by the steps of 1.5 dB at its place\n",

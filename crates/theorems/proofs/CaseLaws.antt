@@ -1,32 +1,27 @@
 -- The commands that choose frames of one file.
-use Rattle.std.proofs.Common.{◌≡◌, ℕ, List, [], ◌∷◌, length, Ok, refl, sym, ap, subst, append-nil}
-use Rattle.std.specs.Prelude.{◌<◌, ◌≤◌, slice_range}
-use Rattle.frame_header.specs.Fields.{SlotFields, HeaderFields}
-use Rattle.frame_header.specs.Tables.{window_of}
-use Rattle.slot_plan.specs.declared.needs.Placed.{Placed}
-use Rattle.slot_plan.specs.Plans.{IsPlan}
-use Rattle.sync_survey.specs.MainData.{StreamFrame}
-use Rattle.sync_survey.specs.Faults.{SurveyFields, stream_of, stream_of_survey}
-use Rattle.sync_survey.specs.Survey.{survey_of}
-use Rattle.sync_survey.proofs.SurveyedFiles.{survey_of-parts}
-use Rattle.sync_survey.proofs.SurveyParts.{surveyed-stream}
-use Rattle.laying.specs.Surveys.{HasSurvey}
-use Rattle.laying.specs.Relaid.{Part, stream_in, IsPart, with_lead_ins}
-use Rattle.laying.proofs.ChosenFrames.{survey-had}
+use Rattle.std.proofs.Common.{ap, append-nil, length, List, Ok, refl, subst, sym, ℕ, [], ◌∷◌, ◌≡◌}
+use Rattle.std.specs.Prelude.{slice_range, ◌<◌, ◌≤◌}
 use Rattle.commands.specs.One.{most_frames}
-use Rattle.laying.specs.Laid.{stream_laid}
-use Rattle.cut_edits.specs.Chosen.{Chosen, AreUsual, needs_of, first_plan, laid_by, part_of}
 use Rattle.cut_edits.proofs.ChosenLaws.{the-plan}
-use Rattle.theorems.specs.Exact.{IsExactly}
-use Rattle.theorems.specs.Laws.{ChosenStreamsAreExact, ChosenPlansAreFirst}
-use Rattle.theorems.proofs.ExactLaws.{planned-exact}
+use Rattle.cut_edits.specs.Chosen.{AreUsual, Chosen, first_plan, laid_by, needs_of, part_of}
+use Rattle.frame_header.specs.{Fields.{HeaderFields, SlotFields}, Tables.window_of}
+use Rattle.laying.{proofs.ChosenFrames.survey-had, specs.Laid.stream_laid}
+use Rattle.laying.specs.{Relaid.{IsPart, Part, stream_in, with_lead_ins}, Surveys.HasSurvey}
+use Rattle.slot_plan.specs.{Plans.IsPlan, declared.needs.Placed.Placed}
+use Rattle.sync_survey.proofs.{SurveyParts.surveyed-stream, SurveyedFiles.survey_of-parts}
+use Rattle.sync_survey.specs.Faults.{stream_of, stream_of_survey, SurveyFields}
+use Rattle.sync_survey.specs.{MainData.StreamFrame, Survey.survey_of}
+use Rattle.theorems.{proofs.ExactLaws.planned-exact, specs.Exact.IsExactly}
+use Rattle.theorems.specs.Laws.{ChosenPlansAreFirst, ChosenStreamsAreExact}
 
 -- ---- frames of a file with a survey, whether or not it is one without fault
 
-module _ (chosen : Chosen) (file : List ℕ) (s : SurveyFields) (has : HasSurvey file s) (some : chosen.from < chosen.to) (within : chosen.to ≤ length s.frames) where
+module _ (chosen : Chosen) (file : List ℕ) (s : SurveyFields) (has : HasSurvey file s)
+    (some : chosen.from < chosen.to) (within : chosen.to ≤ length s.frames) where
   abbrev part : Part
   part = part_of chosen file s
 
+  -- the chosen frames of a survey that is had are a part
   pub had-part : IsPart s.class part
   had-part = record { has = has; class = refl; some = some; within = within }
 
@@ -34,37 +29,55 @@ module _ (chosen : Chosen) (file : List ℕ) (s : SurveyFields) (has : HasSurvey
     abbrev first : List Placed
     first = first_plan choices s.class (needs_of chosen s)
 
+    -- the first of all lists with a layout is their plan
     pub had-plan : IsPlan (window_of s.class.version) choices (needs_of chosen s ∷ []) first
     had-plan = the-plan chosen s has.placed some within choices usual
 
+    -- the stream by it is exactly the frames, behind at most one lead-in
     pub had-exact : IsExactly (stream_in part ∷ []) (with_lead_ins first (stream_in part))
     had-exact =
-        subst (λ (l : List StreamFrame). IsExactly (stream_in part ∷ []) (with_lead_ins first l)) (append-nil (stream_in part))
+        subst (λ (l : List StreamFrame). IsExactly (stream_in part ∷ []) (with_lead_ins first l))
+        (append-nil (stream_in part))
         (planned-exact s.class choices (part ∷ []) first (had-part, tt) had-plan)
 
 -- ---- of one without fault
 
--- its stream
-pub stream-is : (file : List ℕ) (allowed : ℕ) (s : SurveyFields) → survey_of file allowed ≡ Ok s → stream_of file ≡ stream_of_survey file s
-stream-is file allowed s is = (surveyed-stream file allowed s (survey_of-parts file allowed s is).1).stream_is
+-- the stream of a surveyed file is that of its survey
+pub stream-is : (file : List ℕ) (allowed : ℕ) (s : SurveyFields) → survey_of file allowed ≡ Ok s
+    → stream_of file ≡ stream_of_survey file s
+stream-is file allowed s is =
+    (surveyed-stream file allowed s (survey_of-parts file allowed s is).1).stream_is
 
-module _ (chosen : Chosen) (file : List ℕ) (s : SurveyFields) (is : survey_of file most_frames ≡ Ok s) (some : chosen.from < chosen.to) (within : chosen.to ≤ length s.frames) where
+module _ (chosen : Chosen) (file : List ℕ) (s : SurveyFields) (is : survey_of file most_frames
+    ≡ Ok s) (some : chosen.from < chosen.to) (within : chosen.to ≤ length s.frames) where
   abbrev had : HasSurvey file s
   had = survey-had file most_frames s is
 
+  -- so they are by any survey without fault
   pub chosen-part : IsPart s.class (part_of chosen file s)
   chosen-part = had-part chosen file s had some within
 
-  -- the stream of the file
-  pub own-stream : slice_range (stream_of file) chosen.from chosen.to ≡ stream_in (part_of chosen file s)
-  own-stream = ap (λ (l : List StreamFrame). slice_range l chosen.from chosen.to) (stream-is file most_frames s is)
+  -- the chosen frames are the stream of the part
+  pub own-stream : slice_range (stream_of file) chosen.from chosen.to
+      ≡ stream_in (part_of chosen file s)
+  own-stream = ap (λ (l : List StreamFrame). slice_range l chosen.from chosen.to)
+      (stream-is file most_frames s is)
 
-  pub chosen-exact_is : (choices : HeaderFields → List SlotFields) → AreUsual choices → IsExactly (slice_range (stream_of file) chosen.from chosen.to ∷ []) (stream_laid (laid_by chosen (first_plan choices s.class (needs_of chosen s))) file s)
+  -- their stream by a usual plan is exactly these, behind at most one lead-in
+  pub chosen-exact_is : (choices : HeaderFields → List SlotFields) → AreUsual choices
+      → IsExactly (slice_range (stream_of file) chosen.from chosen.to ∷ [])
+      (stream_laid (laid_by chosen (first_plan choices s.class (needs_of chosen s))) file s)
   chosen-exact_is choices usual =
-      subst (λ (l : List StreamFrame). IsExactly (l ∷ []) (with_lead_ins (first_plan choices s.class (needs_of chosen s)) (stream_in (part_of chosen file s)))) (sym own-stream) (had-exact chosen file s had some within choices usual)
+      subst (λ (l : List StreamFrame). IsExactly (l ∷ []) (with_lead_ins
+      (first_plan choices s.class (needs_of chosen s)) (stream_in (part_of chosen file s))))
+      (sym own-stream) (had-exact chosen file s had some within choices usual)
 
+-- the stream of chosen frames is exactly these, behind at most one lead-in
 pub chosen-exact : ChosenStreamsAreExact
-chosen-exact = λ choices chosen file s usual is some within. chosen-exact_is chosen file s is some within choices usual
+chosen-exact = λ choices chosen file s usual is some within. chosen-exact_is chosen file s is some
+    within choices usual
 
+-- their plan is the first of all lists with a layout
 pub plans-first : ChosenPlansAreFirst
-plans-first = λ choices chosen file s usual is some within. had-plan chosen file s (survey-had file most_frames s is) some within choices usual
+plans-first = λ choices chosen file s usual is some within. had-plan chosen file s
+    (survey-had file most_frames s is) some within choices usual

@@ -1,12 +1,12 @@
 -- What each command writes holds the frames that its job chooses.
 use Rattle.std.proofs.Common.{refl}
-use Rattle.theorems.specs.Laws.{StreamsAreChosen}
-use Rattle.theorems.proofs.ChosenCase.{cut-holds, pack-holds}
-use Rattle.theorems.proofs.SplitCase.{split_at-holds, split_by-holds, split_exact-holds, split_exact_by-holds}
+use Rattle.theorems.proofs.{ChosenCase.{cut-holds, pack-holds}, JoinCase.join-holds}
+use Rattle.theorems.proofs.{SalvageCase.salvage-holds, SeamlessCase.seamless-chosen}
 use Rattle.theorems.proofs.SpanCase.{exact-holds}
-use Rattle.theorems.proofs.JoinCase.{join-holds}
-use Rattle.theorems.proofs.SalvageCase.{salvage-holds}
+use Rattle.theorems.proofs.SplitCase.{split_at-holds, split_by-holds, split_exact-holds}
+use Rattle.theorems.{proofs.SplitCase.split_exact_by-holds, specs.Laws.StreamsAreChosen}
 
+-- what each command writes holds the frames that its job chooses
 pub streams-chosen : StreamsAreChosen
 streams-chosen = record {
   gain = λ shift tags input output files made e. (refl, tt);
@@ -19,6 +19,7 @@ streams-chosen = record {
   split_exact = split_exact-holds;
   split_exact_by = split_exact_by-holds;
   join = join-holds;
+  join_seamless = seamless-chosen;
   fade = λ back input output sheet files made e. (refl, tt);
   salvage = salvage-holds;
 }

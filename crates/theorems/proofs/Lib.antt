@@ -3,6 +3,7 @@ pub mod ExactLaws
 pub mod CaseLaws
 pub mod MenuCase
 pub mod JoinCase
+pub mod SeamlessCase
 pub mod SalvageCase
 pub mod ChosenCase
 pub mod SpanCase
@@ -15,3 +16,17 @@ pub mod CutRuns
 pub mod CutFrames
 pub mod CutStream
 pub mod CutLaws
+pub mod ApartFits
+pub mod SeamlessInputs
+pub mod SeamlessRun
+pub mod SeamlessFront
+pub mod SeamlessPlaces
+pub mod PieceHeads
+pub mod PieceParts
+pub mod SplitJoin
+pub mod SplitFull
+pub mod BareFrames
+pub mod FrontBlocks
+pub mod SplitFile
+pub mod SplitLaw
+pub mod SplitSteps

@@ -1,70 +1,70 @@
 -- A packing, in each of its modes.
-use Rattle.std.proofs.Common.{◌≡◌, ℕ, Bool, true, false, List, [], ◌∷◌, length, Ok, refl, sym, ◌∙◌, ap, subst, inr, arith}
-use Rattle.std.specs.Prelude.{◌<◌, ◌≤◌}
-use Rattle.frame_header.specs.Fields.{SlotFields, ClassFields, IsClass}
-use Rattle.frame_header.specs.Tables.{class_of, window_of}
-use Rattle.frame_header.specs.Slots.{all_slots}
-use Rattle.slot_plan.specs.declared.needs.Need.{Need}
-use Rattle.slot_plan.specs.declared.needs.Placed.{Placed}
-use Rattle.slot_plan.specs.Parts.{lead_in_of, AreOfClass}
-use Rattle.slot_plan.specs.Plans.{AreFor}
-use Rattle.laying.specs.NeedsFit.{any_choice, IsPlaced}
+use Rattle.std.proofs.Common.{ap, arith, Bool, false, inr, length, List, Ok, refl, subst, sym, true}
+use Rattle.std.{proofs.Common.{ℕ, [], ◌∙◌, ◌∷◌, ◌≡◌}, specs.Prelude.{◌<◌, ◌≤◌}}
 use Rattle.best_plan.specs.Best.{items_behind}
-use Rattle.rate_plan.specs.Menus.{from_menu, items_from, IsMenuPlan}
-use Rattle.rate_plan.specs.LeastMenuPlan.{least_menu_plan}
-use Rattle.rate_plan.proofs.LeastMenuPlan.{least_menu_plan-is}
-use Rattle.sync_survey.specs.MainData.{StreamFrame}
-use Rattle.sync_survey.specs.Faults.{SurveyFields}
-use Rattle.sync_survey.specs.Survey.{survey_of}
-use Rattle.sync_survey.proofs.PlacedRows.{surveyed-placed}
-use Rattle.sync_survey.proofs.SurveyedFiles.{survey_of-parts}
-use Rattle.laying.specs.Relaid.{stream_in, with_lead_ins}
-use Rattle.laying.proofs.ChosenFrames.{survey-had}
-use Rattle.commands.specs.One.{most_frames}
+use Rattle.commands.{proofs.RefusingLaws.{then_ok, unless_ok}, specs.One.most_frames}
 use Rattle.commands.specs.Refusing.{unless}
-use Rattle.commands.proofs.RefusingLaws.{unless_ok, then_ok}
-use Rattle.cut_edits.specs.Chosen.{Chosen, needs_of, first_plan, part_of}
+use Rattle.cut_edits.specs.Chosen.{Chosen, first_plan, needs_of, part_of}
+use Rattle.frame_header.specs.{Fields.{ClassFields, IsClass, SlotFields}, Slots.all_slots}
+use Rattle.frame_header.specs.Tables.{class_of, window_of}
+use Rattle.laying.{proofs.ChosenFrames.survey-had, specs.NeedsFit.{any_choice, IsPlaced}}
+use Rattle.laying.specs.Relaid.{stream_in, with_lead_ins}
+use Rattle.pack_edits.proofs.{BestLaws.best-is, MenuLaws.{menu-ascends, menu-some}}
+use Rattle.pack_edits.proofs.PlanLaws.{fitted-ok, needs-some, rows-same, rows-sound}
+use Rattle.pack_edits.specs.{Modes.plan_by, Rates.{fitted, menu_in, no_rate, rates_plan}}
+use Rattle.rate_plan.{proofs.LeastMenuPlan.least_menu_plan-is, specs.LeastMenuPlan.least_menu_plan}
+use Rattle.rate_plan.specs.Menus.{from_menu, IsMenuPlan, items_from}
 use Rattle.requests.specs.declared.mode.PackMode.{PackMode}
-use Rattle.requests.specs.declared.mode.PackMode.TheVariants.{Least, Best, Constant, Floor}
-use Rattle.pack_edits.specs.Rates.{menu_in, no_rate, fitted, rates_plan}
-use Rattle.pack_edits.specs.Modes.{plan_by}
-use Rattle.pack_edits.proofs.BestLaws.{best-is}
-use Rattle.pack_edits.proofs.MenuLaws.{menu-ascends, menu-some}
-use Rattle.pack_edits.proofs.PlanLaws.{rows-same, rows-sound, needs-some, fitted-ok}
-use Rattle.theorems.specs.Exact.{IsExactly}
-use Rattle.theorems.specs.Laws.{PackedStreamsAreExact}
-use Rattle.theorems.proofs.ExactLaws.{IsSized, part-sized, own-exact, led-exact}
-use Rattle.theorems.proofs.CaseLaws.{had-exact, chosen-part, own-stream}
+use Rattle.requests.specs.declared.mode.PackMode.TheVariants.{Best, Constant, Floor, Least}
+use Rattle.slot_plan.specs.{Parts.{AreOfClass, lead_in_of}, Plans.AreFor, declared.needs.Need.Need}
+use Rattle.slot_plan.specs.declared.needs.Placed.{Placed}
+use Rattle.sync_survey.proofs.{PlacedRows.surveyed-placed, SurveyedFiles.survey_of-parts}
+use Rattle.sync_survey.specs.{Faults.SurveyFields, MainData.StreamFrame, Survey.survey_of}
+use Rattle.theorems.proofs.CaseLaws.{chosen-part, had-exact, own-stream}
+use Rattle.theorems.proofs.ExactLaws.{IsSized, led-exact, own-exact, part-sized}
+use Rattle.theorems.specs.{Exact.IsExactly, Laws.PackedStreamsAreExact}
 
 -- ---- the plan from a menu
 
-rates-menu : (mode : PackMode) (class : ClassFields) (needs : List Need) (placed : List Placed) → IsClass class → AreOfClass class needs → 1 ≤ length needs → rates_plan mode class needs ≡ Ok placed
-    → IsMenuPlan (window_of class.version) (menu_in mode class) needs placed
+rates-menu : (mode : PackMode) (class : ClassFields) (needs : List Need) (placed : List Placed)
+    → IsClass class → AreOfClass class needs → 1 ≤ length needs → rates_plan mode class needs
+    ≡ Ok placed → IsMenuPlan (window_of class.version) (menu_in mode class) needs placed
 rates-menu mode class needs placed sound same some planned =
     let window = window_of class.version in
-    let made = then_ok (unless (no_rate mode class) (menu_in mode class)) (λ menu. fitted (least_menu_plan window menu needs)) placed planned in
+    let made = then_ok (unless (no_rate mode class) (menu_in mode class))
+    (λ menu. fitted (least_menu_plan window menu needs)) placed planned in
     let ok = unless_ok (no_rate mode class) (menu_in mode class) made.0 made.1 in
-    let is : least_menu_plan window (menu_in mode class) needs ≡ Ok placed = fitted-ok (least_menu_plan window (menu_in mode class) needs) placed (ap (λ menu. fitted (least_menu_plan window menu needs)) ok.1 ∙ made.2) in
-    ((least_menu_plan-is window class (menu_in mode class) needs same some (menu-ascends mode class sound) (menu-some mode class ok.0)).0 placed).1 is
+    let is : least_menu_plan window (menu_in mode class) needs ≡ Ok placed =
+    fitted-ok (least_menu_plan window (menu_in mode class) needs) placed
+    (ap (λ menu. fitted (least_menu_plan window menu needs)) ok.1 ∙ made.2) in
+    ((least_menu_plan-is window class (menu_in mode class) needs same some
+    (menu-ascends mode class sound) (menu-some mode class ok.0)).0 placed).1 is
 
 -- ---- its stream
 
-menu-exact : (lead_in : Bool) (menu : List SlotFields) (needs : List Need) (fs : List StreamFrame) (placed : List Placed) → IsSized needs fs → AreFor (items_from lead_in menu needs) placed
+menu-exact : (lead_in : Bool) (menu : List SlotFields) (needs : List Need) (fs : List StreamFrame)
+    (placed : List Placed) → IsSized needs fs → AreFor (items_from lead_in menu needs) placed
     → IsExactly (fs ∷ []) (with_lead_ins placed fs)
 unfolding items_from
-menu-exact false menu needs fs placed sized for_items = own-exact (from_menu menu) needs fs placed sized for_items
+menu-exact false menu needs fs placed sized for_items =
+    own-exact (from_menu menu) needs fs placed sized for_items
 menu-exact true menu [] fs placed sized for_items = absurd (omega (arith, sized.some))
-menu-exact true menu (first ∷ needs) fs placed sized for_items = led-exact (from_menu menu) (first ∷ needs) (lead_in_of (class_of first.header) menu) refl fs placed sized for_items
+menu-exact true menu (first ∷ needs) fs placed sized for_items = led-exact (from_menu menu)
+    (first ∷ needs) (lead_in_of (class_of first.header) menu) refl fs placed sized for_items
 
 -- that of a best plan is of the menu of all slots
-behind-exact : (lead_in : Bool) (needs : List Need) (fs : List StreamFrame) (placed : List Placed) → IsSized needs fs → AreFor (items_behind lead_in any_choice needs) placed
+behind-exact : (lead_in : Bool) (needs : List Need) (fs : List StreamFrame) (placed : List Placed)
+    → IsSized needs fs → AreFor (items_behind lead_in any_choice needs) placed
     → IsExactly (fs ∷ []) (with_lead_ins placed fs)
 unfolding items_behind
-behind-exact false needs fs placed sized for_items = own-exact any_choice needs fs placed sized for_items
+behind-exact false needs fs placed sized for_items =
+    own-exact any_choice needs fs placed sized for_items
 behind-exact true [] fs placed sized for_items = absurd (omega (arith, sized.some))
-behind-exact true (first ∷ needs) fs placed sized for_items = led-exact any_choice (first ∷ needs) (lead_in_of (class_of first.header) all_slots) refl fs placed sized for_items
+behind-exact true (first ∷ needs) fs placed sized for_items = led-exact any_choice (first ∷ needs)
+    (lead_in_of (class_of first.header) all_slots) refl fs placed sized for_items
 
-module _ (chosen : Chosen) (file : List ℕ) (s : SurveyFields) (is : survey_of file most_frames ≡ Ok s) (some : chosen.from < chosen.to) (within : chosen.to ≤ length s.frames) where
+module _ (chosen : Chosen) (file : List ℕ) (s : SurveyFields) (is : survey_of file most_frames
+    ≡ Ok s) (some : chosen.from < chosen.to) (within : chosen.to ≤ length s.frames) where
   abbrev placed_rows : IsPlaced s
   placed_rows = surveyed-placed file most_frames s (survey_of-parts file most_frames s is).1
 
@@ -74,21 +74,31 @@ module _ (chosen : Chosen) (file : List ℕ) (s : SurveyFields) (is : survey_of 
   abbrev fs : List StreamFrame
   fs = stream_in (part_of chosen file s)
 
-  rates-exact : (mode : PackMode) (placed : List Placed) → rates_plan mode s.class (needs_of chosen s) ≡ Ok placed → IsExactly (fs ∷ []) (with_lead_ins placed fs)
+  rates-exact : (mode : PackMode) (placed : List Placed)
+      → rates_plan mode s.class (needs_of chosen s) ≡ Ok placed
+      → IsExactly (fs ∷ []) (with_lead_ins placed fs)
   rates-exact mode placed planned =
-      let plan = rates-menu mode s.class (needs_of chosen s) placed (rows-sound chosen s placed_rows some within) (rows-same chosen s placed_rows some within) (needs-some chosen s placed_rows some within) planned in
-      menu-exact plan.lead_in (menu_in mode s.class) (needs_of chosen s) fs placed sized plan.whole.slots
+      let plan = rates-menu mode s.class (needs_of chosen s) placed
+      (rows-sound chosen s placed_rows some within) (rows-same chosen s placed_rows some within)
+      (needs-some chosen s placed_rows some within) planned in
+      menu-exact plan.lead_in (menu_in mode s.class)
+      (needs_of chosen s) fs placed sized plan.whole.slots
 
-  mode-exact : (mode : PackMode) (placed : List Placed) → plan_by mode s.class (needs_of chosen s) ≡ Ok placed → IsExactly (fs ∷ []) (with_lead_ins placed fs)
+  mode-exact : (mode : PackMode) (placed : List Placed) → plan_by mode s.class (needs_of chosen s)
+      ≡ Ok placed → IsExactly (fs ∷ []) (with_lead_ins placed fs)
   mode-exact Least placed planned =
       let same : first_plan any_choice s.class (needs_of chosen s) ≡ placed = cc in
-      subst (λ (l : List Placed). IsExactly (fs ∷ []) (with_lead_ins l fs)) same (had-exact chosen file s (survey-had file most_frames s is) some within any_choice (inr refl))
+      subst (λ (l : List Placed). IsExactly (fs ∷ []) (with_lead_ins l fs)) same
+      (had-exact chosen file s (survey-had file most_frames s is) some within any_choice (inr refl))
   mode-exact Best placed planned =
       let plan = best-is chosen s placed_rows some within placed planned in
       behind-exact plan.lead_in (needs_of chosen s) fs placed sized plan.whole.slots
   mode-exact (Constant rate) placed planned = rates-exact (Constant rate) placed planned
   mode-exact (Floor rate) placed planned = rates-exact (Floor rate) placed planned
 
+-- the stream of a packing is exactly the frames, behind at most one lead-in
 pub packed-exact : PackedStreamsAreExact
 packed-exact mode chosen file s placed is some within planned =
-    subst (λ (l : List StreamFrame). IsExactly (l ∷ []) (with_lead_ins placed l)) (sym (own-stream chosen file s is some within)) (mode-exact chosen file s is some within mode placed planned)
+    subst (λ (l : List StreamFrame). IsExactly (l ∷ []) (with_lead_ins placed l))
+    (sym (own-stream chosen file s is some within))
+    (mode-exact chosen file s is some within mode placed planned)

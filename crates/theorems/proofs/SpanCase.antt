@@ -1,80 +1,78 @@
 -- Exact pieces: the frames of their spans, by the survey whose head is set apart.
-use Rattle.std.proofs.Common.{◌≡◌, ℕ, ◌+◌, Bool, true, false, List, [], ◌∷◌, length, Option, Some, None, Result, Ok, refl, sym, ◌∙◌, ap, subst, inl, arith}
+use Rattle.std.proofs.Common.{ap, arith, Bool, false, inl, length, List, None, Ok, Option, refl}
+use Rattle.std.proofs.Common.{Some, subst, sym, true, ℕ, [], ◌+◌, ◌∙◌, ◌∷◌, ◌≡◌}
 use Rattle.std.specs.Prelude.{slice_get, slice_range, unwrap_or}
-use Rattle.outside.specs.Files.{Contents}
-use Rattle.info_header.specs.declared.fields.Info.{Info}
-use Rattle.exact_span.specs.declared.exact_place.ExactPlace.{ExactPlace}
-use Rattle.exact_span.specs.declared.played.Played.{Played}
-use Rattle.exact_span.specs.declared.span.Span.{Span}
-use Rattle.exact_span.specs.Places.{sample_at}
-use Rattle.exact_span.specs.PlayedPositions.{played_of, length_of_played}
-use Rattle.exact_span.specs.Spans.{span_of}
-use Rattle.frame_header.specs.Tables.{class_of, window_of}
-use Rattle.slot_plan.specs.declared.needs.Need.{Need}
-use Rattle.slot_plan.specs.declared.needs.Placed.{Placed}
-use Rattle.frame_header.specs.Slots.{all_slots}
-use Rattle.slot_plan.specs.Parts.{lead_in_of, led_items}
-use Rattle.slot_plan.specs.Plans.{AreFor}
-use Rattle.slot_plan.specs.LeastPlan.{led_plan}
-use Rattle.laying.specs.NeedsFit.{own_choice}
-use Rattle.sync_survey.specs.Row.{Row}
-use Rattle.sync_survey.specs.MainData.{StreamFrame}
-use Rattle.sync_survey.specs.Faults.{SurveyFields, surveyed_freely, stream_of_survey}
-use Rattle.sync_survey.specs.Survey.{survey_of}
-use Rattle.sync_survey.proofs.SurveyParts.{surveyed-allowed}
-use Rattle.sync_survey.proofs.SurveyedFiles.{survey_of-parts}
-use Rattle.laying.specs.Surveys.{HasSurvey}
-use Rattle.laying.specs.KeptFields.{fields_of_head}
-use Rattle.laying.specs.Laid.{Laid, stream_laid}
-use Rattle.laying.specs.Relaid.{stream_in, with_lead_ins}
+use Rattle.commands.proofs.{MadeLaws.{made-of, makes-parts}, RefusingLaws.unless_ok}
 use Rattle.commands.specs.One.{most_frames}
-use Rattle.commands.proofs.RefusingLaws.{unless_ok}
-use Rattle.commands.proofs.MadeLaws.{makes-parts, made-of}
-use Rattle.cut_edits.specs.Chosen.{Chosen, needs_of, part_of}
-use Rattle.cut_edits.specs.Exact.{samples_fault, span_in, IsSpanIn, apart, needs_in, plan_with, laid_span, sealed_from, piece_of, exact_making, stream_if, stream_by, exact_stream, exact_task, exact_command}
-use Rattle.cut_edits.proofs.SpanLaws.{led-is}
-use Rattle.cut_edits.proofs.PieceLaws.{span-there, span_apart, apart_had, piece-parts}
+use Rattle.cut_edits.proofs.PieceLaws.{apart_had, piece-parts, span-there, span_apart}
+use Rattle.cut_edits.{proofs.SpanLaws.led-is, specs.Chosen.{Chosen, needs_of, part_of}}
+use Rattle.cut_edits.specs.Exact.{apart, exact_command, exact_making, exact_stream, exact_task}
+use Rattle.cut_edits.specs.Exact.{IsSpanIn, laid_span, needs_in, piece_of, plan_with, samples_fault}
+use Rattle.cut_edits.specs.Exact.{sealed_from, span_in, stream_by, stream_if}
+use Rattle.exact_span.specs.{Places.sample_at, PlayedPositions.{length_of_played, played_of}}
+use Rattle.exact_span.specs.{Spans.span_of, declared.exact_place.ExactPlace.ExactPlace}
+use Rattle.exact_span.specs.declared.{played.Played.Played, span.Span.Span}
+use Rattle.frame_header.specs.{Slots.all_slots, Tables.{class_of, window_of}}
+use Rattle.info_header.specs.declared.fields.Info.{Info}
 use Rattle.job_words.specs.Asked.{CutExact}
-use Rattle.theorems.specs.Exact.{IsExactly}
-use Rattle.theorems.specs.Chosen.{bytes_of, frames_for, frames_needed, needed_by}
+use Rattle.laying.specs.{KeptFields.fields_of_head, Laid.{Laid, stream_laid}, NeedsFit.own_choice}
+use Rattle.laying.specs.{Relaid.{stream_in, with_lead_ins}, Surveys.HasSurvey}
+use Rattle.slot_plan.specs.{LeastPlan.led_plan, Parts.{lead_in_of, led_items}, Plans.AreFor}
+use Rattle.slot_plan.specs.declared.needs.{Need.Need, Placed.Placed}
+use Rattle.sync_survey.proofs.{SurveyParts.surveyed-allowed, SurveyedFiles.survey_of-parts}
+use Rattle.sync_survey.specs.Faults.{stream_of_survey, surveyed_freely, SurveyFields}
+use Rattle.sync_survey.specs.{MainData.StreamFrame, Row.Row, Survey.survey_of}
+use Rattle.theorems.proofs.CaseLaws.{had-exact, had-part}
+use Rattle.theorems.proofs.ExactLaws.{IsSized, led-exact, part-sized}
+use Rattle.theorems.specs.{Chosen.{bytes_of, frames_for, frames_needed, needed_by}, Exact.IsExactly}
 use Rattle.theorems.specs.Laws.{HoldsChosen}
-use Rattle.theorems.proofs.ExactLaws.{IsSized, part-sized, led-exact}
-use Rattle.theorems.proofs.CaseLaws.{had-part, had-exact}
 
 -- ---- in the slots of their plan
 
 -- frames after a lead-in
-led-frames : (needs : List Need) (fs : List StreamFrame) (placed : List Placed) → IsSized needs fs → AreFor (led_items own_choice needs) placed → IsExactly (fs ∷ []) (with_lead_ins placed fs)
+led-frames : (needs : List Need) (fs : List StreamFrame) (placed : List Placed) → IsSized needs fs
+    → AreFor (led_items own_choice needs) placed → IsExactly (fs ∷ []) (with_lead_ins placed fs)
 unfolding led_items
 led-frames [] fs placed sized for_items = absurd (omega (arith, sized.some))
-led-frames (first ∷ needs) fs placed sized for_items = led-exact own_choice (first ∷ needs) (lead_in_of (class_of first.header) all_slots) refl fs placed sized for_items
+led-frames (first ∷ needs) fs placed sized for_items = led-exact own_choice (first ∷ needs)
+    (lead_in_of (class_of first.header) all_slots) refl fs placed sized for_items
 
 -- the plan is that of the frames from one to before another
 abbrev frames_chosen : Span → Chosen
 frames_chosen span = record { from = span.first; to = span.last; quality = None; extension = [] }
 
-module _ (span : Span) (file : List ℕ) (s : SurveyFields) (had : HasSurvey file s) (there : IsSpanIn s span) where
+module _ (span : Span) (file : List ℕ) (s : SurveyFields) (had : HasSurvey file s)
+    (there : IsSpanIn s span) where
   abbrev chosen : Chosen
   chosen = frames_chosen span
 
   abbrev fs : List StreamFrame
   fs = stream_in (part_of chosen file s)
 
-  span-exact : (led : Bool) → IsExactly (fs ∷ []) (with_lead_ins (plan_with led s.class (needs_in span s)) fs)
+  span-exact : (led : Bool)
+      → IsExactly (fs ∷ []) (with_lead_ins (plan_with led s.class (needs_in span s)) fs)
   span-exact false = had-exact chosen file s had there.some there.within own_choice (inl refl)
   span-exact true =
       let needs = needs_of chosen s in
       let plan = led_plan (window_of s.class.version) own_choice needs in
-      led-frames needs fs plan (part-sized s.class (part_of chosen file s) (had-part chosen file s had there.some there.within)) ((led-is chosen s had.placed there.some there.within plan).1 refl).slots
+      led-frames needs fs plan (part-sized s.class (part_of chosen file s)
+      (had-part chosen file s had there.some there.within))
+      ((led-is chosen s had.placed there.some there.within plan).1 refl).slots
 
   -- music length and tag CRC leave the stream as it is
-  sealed-stream : (o : Option Row) (laid : Laid) → stream_laid (sealed_from o laid file s) file s ≡ stream_laid laid file s
+  sealed-stream : (o : Option Row) (laid : Laid)
+      → stream_laid (sealed_from o laid file s) file s ≡ stream_laid laid file s
   sealed-stream None laid = refl
   sealed-stream (Some first) laid = refl
 
-  pub piece-exact : (head : Option Info) → IsExactly (slice_range (stream_of_survey file s) span.first span.last ∷ []) (stream_laid (piece_of head span file s) file s)
+  -- the stream of a piece is exactly the frames of its span
+  pub piece-exact : (head : Option Info)
+      → IsExactly (slice_range (stream_of_survey file s) span.first span.last ∷ [])
+      (stream_laid (piece_of head span file s) file s)
   unfolding piece_of
-  piece-exact head = subst (λ (l : List StreamFrame). IsExactly (fs ∷ []) l) (sym (sealed-stream (slice_get s.frames span.first) (laid_span head span s))) (span-exact span.led)
+  piece-exact head = subst (λ (l : List StreamFrame). IsExactly (fs ∷ []) l)
+      (sym (sealed-stream (slice_get s.frames span.first) (laid_span head span s)))
+      (span-exact span.led)
 
 -- ---- the span of the samples
 
@@ -88,38 +86,55 @@ module _ (from to : ExactPlace) (file : List ℕ) (s : SurveyFields) where
   abbrev number : ExactPlace → ℕ
   number place = sample_at s.class (length_of_played played) place
 
-  span-is : (span : Span) → span_in from to head s ≡ Ok span → span_of s.class (played.start + number from) (played.start + number to) ≡ span
+  span-is : (span : Span) → span_in from to head s ≡ Ok span
+      → span_of s.class (played.start + number from) (played.start + number to) ≡ span
   unfolding span_in
-  span-is span e = (unless_ok (samples_fault (number from) (number to) (length_of_played played)) (span_of s.class (played.start + number from) (played.start + number to)) span e).1
+  span-is span e = (unless_ok (samples_fault (number from) (number to) (length_of_played played))
+      (span_of s.class (played.start + number from) (played.start + number to)) span e).1
 
-  pub frames-are : (span : Span) → span_in from to head s ≡ Ok span → frames_for from to file s ≡ slice_range (stream_of_survey file (apart s)) span.first span.last
-  frames-are span e = ap (λ (p : Span). slice_range (stream_of_survey file (apart s)) p.first p.last) (span-is span e)
+  -- the frames of the job are those of the span
+  pub frames-are : (span : Span) → span_in from to head s ≡ Ok span → frames_for from to file s
+      ≡ slice_range (stream_of_survey file (apart s)) span.first span.last
+  frames-are span e = ap
+      (λ (p : Span). slice_range (stream_of_survey file (apart s)) p.first p.last) (span-is span e)
 
-  pub needed-is : survey_of file most_frames ≡ Ok s → frames_needed from to file ≡ frames_for from to file s
+  -- and are those that are needed by the file's survey
+  pub needed-is : survey_of file most_frames ≡ Ok s
+      → frames_needed from to file ≡ frames_for from to file s
   needed-is is =
-      let freely : surveyed_freely file ≡ Ok s = surveyed-allowed file most_frames (length file + 1) s (omega arith) (survey_of-parts file most_frames s is).1 in
+      let freely : surveyed_freely file ≡ Ok s = surveyed-allowed file most_frames
+      (length file + 1) s (omega arith) (survey_of-parts file most_frames s is).1 in
       ap (needed_by from to file) freely
 
 -- ---- the command
 
-pub exact-holds : (input : List ℕ) (from to : ExactPlace) (output : List ℕ) → HoldsChosen (CutExact input from to output) (exact_command from to input output)
+-- an exact cut holds the frames of its span
+pub exact-holds : (input : List ℕ) (from to : ExactPlace) (output : List ℕ)
+    → HoldsChosen (CutExact input from to output) (exact_command from to input output)
 exact-holds input from to output files made e =
     let bytes = makes-parts (exact_task from to input) output files made e in
     let is = made-of (exact_making from to) files input bytes.1 bytes.2 in
     let by = piece-parts from to is.file is.survey is.bytes is.made in
     let head = fields_of_head is.file is.survey.head in
     let own = apart is.survey in
-    let there = span_apart is.survey by.span (span-there from to head is.survey by.span by.span_is) in
-    let exact = piece-exact by.span is.file own (apart_had is.file is.survey is.surveyed) there head in
-    let stream : (exact_task from to input).stream files ≡ stream_laid (piece_of head by.span is.file own) is.file own =
-    ap (λ (o : Option (List ℕ)). exact_stream from to (unwrap_or o [])) is.there ∙ ap (stream_by from to is.file) is.surveyed ∙ ap (stream_if is.file is.survey) by.laid in
-    let frames : slice_range (stream_of_survey is.file own) by.span.first by.span.last ≡ frames_needed from to (bytes_of files input) =
+    let there =
+    span_apart is.survey by.span (span-there from to head is.survey by.span by.span_is) in
+    let exact =
+    piece-exact by.span is.file own (apart_had is.file is.survey is.surveyed) there head in
+    let stream : (exact_task from to input).stream files
+    ≡ stream_laid (piece_of head by.span is.file own) is.file own =
+    ap (λ (o : Option (List ℕ)). exact_stream from to (unwrap_or o [])) is.there
+    ∙ ap (stream_by from to is.file) is.surveyed ∙ ap (stream_if is.file is.survey) by.laid in
+    let frames : slice_range (stream_of_survey is.file own) by.span.first by.span.last
+    ≡ frames_needed from to (bytes_of files input) =
     sym (
     ap (λ (o : Option (List ℕ)). frames_needed from to (unwrap_or o [])) is.there
     ∙ needed-is from to is.file is.survey is.surveyed
     ∙ frames-are from to is.file is.survey by.span by.span_is
     ) in (
-      subst (λ (l : List StreamFrame). IsExactly (l ∷ []) ((exact_task from to input).stream files)) frames
-          (subst (λ (l : List StreamFrame). IsExactly (slice_range (stream_of_survey is.file own) by.span.first by.span.last ∷ []) l) (sym stream) exact),
+      subst (λ (l : List StreamFrame). IsExactly (l ∷ []) ((exact_task from to input).stream files))
+          frames
+          (subst (λ (l : List StreamFrame). IsExactly (slice_range (stream_of_survey is.file own)
+          by.span.first by.span.last ∷ []) l) (sym stream) exact),
       tt,
     )

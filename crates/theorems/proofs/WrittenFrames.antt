@@ -1,147 +1,178 @@
 -- No frame of a written file is lost, whether its head is set apart or not.
-use Rattle.std.proofs.Common.{◌≡◌, ℕ, ◌+◌, Bool, List, [], ◌∷◌, length, Option, Some, None, Result, Ok, Err, refl, sym, ◌∙◌, ap, subst, inl, arith}
-use Rattle.std.specs.Prelude.{◌≤◌}
-use Rattle.std.specs.List.{range_with_len}
-use Rattle.std.proofs.lemmas.List.{length-map}
-use Rattle.std.proofs.lemmas.List.FromFn.{length-range_with_len}
-use Rattle.frame_header.specs.Fields.{ClassFields}
-use Rattle.outside.specs.Files.{Contents}
-use Rattle.cue_sheet.specs.declared.place.Place.{Place}
-use Rattle.exact_span.specs.declared.exact_place.ExactPlace.{ExactPlace}
-use Rattle.exact_span.specs.declared.span.Span.{Span}
-use Rattle.frame_writer.specs.Frames.{Frame}
-use Rattle.sync_survey.specs.declared.survey_fault.SurveyFault.{SurveyFault}
-use Rattle.sync_survey.specs.Row.{Row}
-use Rattle.sync_survey.specs.Faults.{SurveyFields}
-use Rattle.sync_survey.specs.Survey.{survey_of}
-use Rattle.laying.specs.KeptFields.{fields_of_head}
-use Rattle.laying.specs.NeedsFit.{own_choice}
-use Rattle.laying.specs.LaidFiles.{HasInfoSizes}
-use Rattle.laying.specs.Laid.{Laid, file_laid}
-use Rattle.laying.specs.LaidLaws.{LosesNoFrame}
-use Rattle.laying.specs.Relaid.{Part, AreParts}
-use Rattle.laying.specs.Written.{front_blocks, plain_info, table_entry}
-use Rattle.laying.proofs.ChosenFrames.{survey-had}
-use Rattle.laying.proofs.FittingFrames.{planned-frames-stay}
-use Rattle.laying.proofs.HoldLaws.{blocks-kept}
-use Rattle.laying.proofs.LaidLaws.{first-there, laid-loses-none}
+use Rattle.std.proofs.Common.{ap, arith, Bool, Err, inl, length, List, None, Ok, Option, refl}
+use Rattle.std.proofs.Common.{Result, Some, subst, sym, ℕ, [], ◌+◌, ◌∙◌, ◌∷◌, ◌≡◌}
+use Rattle.std.proofs.lemmas.List.{length-map, FromFn.length-range_with_len}
+use Rattle.std.specs.{List.range_with_len, Prelude.◌≤◌}
+use Rattle.commands.{proofs.{InputLaws.made_parts, RefusingLaws.then_ok}, specs.Command.Made}
+use Rattle.commands.specs.One.{clash_in, made_of, made_result, made_where, most_frames, one_command}
+use Rattle.commands.specs.{One.{Task, unless_clash}, Refusing.then_made, Telling.with_text}
 use Rattle.commands.specs.declared.fault.EditFault.{EditFault}
-use Rattle.commands.specs.Command.{Made}
-use Rattle.commands.specs.One.{most_frames, made_where, Task, clash_in, unless_clash, made_result, made_of, one_command}
-use Rattle.commands.specs.Refusing.{then_made}
-use Rattle.commands.specs.Telling.{with_text}
-use Rattle.commands.proofs.InputLaws.{made_parts}
-use Rattle.commands.proofs.RefusingLaws.{then_ok}
-use Rattle.cut_edits.specs.Chosen.{choices_by, Choosing, Planning, first_planning, laying_with, laying_task, laid_by, laid_of, chosen_file, cut_choice, all_choice, cut_refuses, cut_command}
-use Rattle.cut_edits.specs.Exact.{span_in, apart, piece_of, exact_laid, exact_making, exact_task, exact_command}
-use Rattle.cut_edits.proofs.ChosenLaws.{usual_slots, by_usual, plan-fitting, IsPlanning, first_is_planning, IsChoosing, laid-parts, cut_choosing, all_choosing}
-use Rattle.cut_edits.proofs.PieceLaws.{head_long, span-there, span_apart, apart_had, piece-loses-none, piece-parts}
-use Rattle.requests.specs.declared.mode.PackMode.{PackMode}
-use Rattle.pack_edits.specs.Modes.{plan_by, pack_task, pack_mode_command}
+use Rattle.cue_sheet.specs.declared.place.Place.{Place}
+use Rattle.cut_edits.proofs.ChosenLaws.{all_choosing, by_usual, cut_choosing, first_is_planning}
+use Rattle.cut_edits.proofs.ChosenLaws.{IsChoosing, IsPlanning, laid-parts, plan-fitting}
+use Rattle.cut_edits.proofs.ChosenLaws.{usual_slots}
+use Rattle.cut_edits.proofs.PieceLaws.{apart_had, head_long, piece-loses-none, piece-parts}
+use Rattle.cut_edits.proofs.PieceLaws.{span-there, span_apart}
+use Rattle.cut_edits.specs.Chosen.{all_choice, choices_by, Choosing, chosen_file, cut_choice}
+use Rattle.cut_edits.specs.Chosen.{cut_command, cut_refuses, first_planning, laid_by, laid_of}
+use Rattle.cut_edits.specs.Chosen.{laying_task, laying_with, Planning}
+use Rattle.cut_edits.specs.Exact.{apart, exact_command, exact_laid, exact_making, exact_task}
+use Rattle.cut_edits.specs.Exact.{piece_of, span_in}
+use Rattle.exact_span.specs.declared.{exact_place.ExactPlace.ExactPlace, span.Span.Span}
+use Rattle.frame_header.specs.Fields.{ClassFields}
+use Rattle.frame_writer.specs.Frames.{Frame}
+use Rattle.join_edits.proofs.RunFiles.{files-lose-none}
+use Rattle.join_edits.specs.Join.{join_command, join_task, joined_file, joined_frames, joined_from}
+use Rattle.join_edits.specs.Join.{parts_of, plan_of}
+use Rattle.join_edits.specs.Seamless.{seamless_command, seamless_file, seamless_task, text_if}
+use Rattle.laying.proofs.{ChosenFrames.survey-had, FittingFrames.planned-frames-stay}
+use Rattle.laying.proofs.{HoldLaws.blocks-kept, LaidLaws.{first-there, laid-loses-none}}
+use Rattle.laying.specs.{KeptFields.fields_of_head, Laid.{file_laid, Laid}, LaidFiles.HasInfoSizes}
+use Rattle.laying.specs.{LaidLaws.LosesNoFrame, NeedsFit.own_choice, Relaid.{AreParts, Part}}
+use Rattle.laying.specs.Written.{front_blocks, plain_info, table_entry}
+use Rattle.outside.specs.Files.{Contents}
 use Rattle.pack_edits.proofs.ModeLaws.{planning}
-use Rattle.split_edits.specs.Cutting.{Cutting, with_first, laid_from, laid_at, pieces_from, split_command}
-use Rattle.split_edits.specs.Split.{given, told_by, given_exact, told_exact_by, frames_between as between_laid}
-use Rattle.split_edits.proofs.CommandLaws.{first-parts}
-use Rattle.split_edits.proofs.PartsLaws.{split-parts}
-use Rattle.join_edits.specs.Join.{plan_of, joined_frames, joined_from, joined_file, parts_of, join_task, join_command}
-use Rattle.salvage.specs.Damaged.{DamagedFields, damaged_of}
-use Rattle.salvage.specs.Mended.{mended}
-use Rattle.salvage_edits.specs.Salvaged.{all_of, salvaged_file, made_by as read_made_by, made_where as read_made, text_where, salvage_task, salvage_command}
-use Rattle.theorems.specs.Laws.{AllLoseNoFrame, WritesAllFrames, WrittenFramesStay}
-use Rattle.theorems.proofs.ChosenCase.{packed-made}
-use Rattle.theorems.proofs.JoinCase.{join-plan, parts-join}
+use Rattle.pack_edits.specs.Modes.{pack_mode_command, pack_task, plan_by}
+use Rattle.requests.specs.declared.mode.PackMode.{PackMode}
+use Rattle.salvage.specs.{Damaged.{damaged_of, DamagedFields}, Mended.mended}
+use Rattle.salvage_edits.specs.Salvaged.{all_of, made_by as read_made_by, made_where as read_made}
+use Rattle.salvage_edits.specs.Salvaged.{salvage_command, salvage_task, salvaged_file, text_where}
+use Rattle.split_edits.proofs.{CommandLaws.first-parts, PartsLaws.split-parts}
+use Rattle.split_edits.specs.Cutting.{Cutting, laid_at, laid_from, pieces_from, split_command}
+use Rattle.split_edits.specs.Cutting.{with_first}
+use Rattle.split_edits.specs.Split.{frames_between as between_laid, given, given_exact, told_by}
+use Rattle.split_edits.specs.Split.{told_exact_by}
+use Rattle.sync_survey.specs.{Faults.SurveyFields, Row.Row, Survey.survey_of}
+use Rattle.sync_survey.specs.declared.survey_fault.SurveyFault.{SurveyFault}
+use Rattle.theorems.proofs.{ChosenCase.packed-made, JoinCase.{join-plan, parts-join}}
 use Rattle.theorems.proofs.SalvageCase.{left-had, left-some}
+use Rattle.theorems.specs.Laws.{AllLoseNoFrame, WritesAllFrames, WrittenFramesStay}
 
 -- ---- one output
 
-one-stays : (output : List ℕ) (clash : Option ℕ) (r : Result (List ℕ) EditFault) → ((bytes : List ℕ) → r ≡ Ok bytes → LosesNoFrame bytes) → (made : Made) → made_of output (unless_clash clash r) ≡ Ok made → AllLoseNoFrame made.outputs
+one-stays : (output : List ℕ) (clash : Option ℕ) (r : Result (List ℕ) EditFault)
+    → ((bytes : List ℕ) → r ≡ Ok bytes → LosesNoFrame bytes) → (made : Made)
+    → made_of output (unless_clash clash r) ≡ Ok made → AllLoseNoFrame made.outputs
 one-stays output (Some place) r stays made e = absurd cc
 one-stays output None (Err fault) stays made e = absurd cc
 one-stays output None (Ok bytes) stays made e =
-    let same : record { outputs = record { name = output; bytes = bytes } ∷ []; text = [] } ≡ made = cc in
+    let same : record { outputs = record { name = output; bytes = bytes } ∷ []; text = [] } ≡ made =
+    cc in
     subst (λ (m : Made). AllLoseNoFrame m.outputs) same (stays bytes refl, tt)
 
-one_writes : (task : Task) (output : List ℕ) → ((files : Contents) (bytes : List ℕ) → task.makes files ≡ Ok bytes → LosesNoFrame bytes) → WritesAllFrames (one_command task output)
+one_writes : (task : Task) (output : List ℕ)
+    → ((files : Contents) (bytes : List ℕ) → task.makes files ≡ Ok bytes → LosesNoFrame bytes)
+    → WritesAllFrames (one_command task output)
 unfolding made_result
-one_writes task output stays files made e = one-stays output (clash_in task output) (task.makes files) (stays files) made e
+one_writes task output stays files made e =
+    one-stays output (clash_in task output) (task.makes files) (stays files) made e
 
 -- ---- frames that are chosen from one file, in the slots of a plan
 
-module _ (choose : Choosing) (plan : Planning) (choosing : IsChoosing choose) (planned : IsPlanning plan) where
-  chosen-stay : (file : List ℕ) (s : SurveyFields) (made : List ℕ) → survey_of file most_frames ≡ Ok s → laying_with choose plan file s ≡ Ok made → LosesNoFrame made
+module _ (choose : Choosing) (plan : Planning) (choosing : IsChoosing choose)
+    (planned : IsPlanning plan) where
+  chosen-stay : (file : List ℕ) (s : SurveyFields) (made : List ℕ) → survey_of file most_frames
+      ≡ Ok s → laying_with choose plan file s ≡ Ok made → LosesNoFrame made
   chosen-stay file s made surveyed e =
       let by = laid-parts choose plan file s made e in
       let right = choosing.right file s by.chosen by.chose in
       let had = survey-had file most_frames s surveyed in
-      let fitting = planned.fitting by.chosen s had.placed right.some right.within by.placed by.planned in
-      subst LosesNoFrame by.is (laid-loses-none (laid_by by.chosen by.placed) file s had right.some right.within fitting right.extension)
+      let fitting =
+      planned.fitting by.chosen s had.placed right.some right.within by.placed by.planned in
+      subst LosesNoFrame by.is (laid-loses-none (laid_by by.chosen by.placed) file s had
+      right.some right.within fitting right.extension)
 
-  where-stay : (o : Option (List ℕ)) (made : List ℕ) → made_where (laying_with choose plan) o ≡ Ok made → LosesNoFrame made
+  where-stay : (o : Option (List ℕ)) (made : List ℕ)
+      → made_where (laying_with choose plan) o ≡ Ok made → LosesNoFrame made
   where-stay None made e = absurd cc
   where-stay (Some file) made e =
       let parts = made_parts (laying_with choose plan) file made e in
       chosen-stay file parts.0 made parts.1 parts.2
 
-cut-stay : (from to : Place) (least : Bool) (input output : List ℕ) → WritesAllFrames (cut_command from to least input output)
+cut-stay : (from to : Place) (least : Bool) (input output : List ℕ)
+    → WritesAllFrames (cut_command from to least input output)
 cut-stay from to least input output =
-    one_writes (laying_task (cut_choice from to) (first_planning (choices_by least)) cut_refuses input) output
-    (λ files bytes e. where-stay (cut_choice from to) (first_planning (choices_by least)) (cut_choosing from to) (first_is_planning (choices_by least) (by_usual least)) (files input) bytes e)
+    one_writes (laying_task (cut_choice from to)
+    (first_planning (choices_by least)) cut_refuses input) output
+    (λ files bytes e. where-stay (cut_choice from to) (first_planning (choices_by least))
+    (cut_choosing from to) (first_is_planning (choices_by least) (by_usual least))
+    (files input) bytes e)
 
-pack-stay : (mode : PackMode) (input output : List ℕ) → WritesAllFrames (pack_mode_command mode input output)
+pack-stay : (mode : PackMode) (input output : List ℕ)
+    → WritesAllFrames (pack_mode_command mode input output)
 pack-stay mode input output =
     one_writes (pack_task mode input) output
     (λ files bytes e.
     where-stay all_choice (plan_by mode) all_choosing (planning mode) (files input) bytes
-    (packed-made mode (files input) (made_where (laying_with all_choice (plan_by mode)) (files input)) bytes e))
+    (packed-made mode (files input)
+    (made_where (laying_with all_choice (plan_by mode)) (files input)) bytes e))
 
 -- ---- the frames that a decoder needs for some samples
 
-module _ (from to : ExactPlace) (file : List ℕ) (s : SurveyFields) (surveyed : survey_of file most_frames ≡ Ok s) where
-  span-stays : (span : Span) → span_in from to (fields_of_head file s.head) s ≡ Ok span → LosesNoFrame (file_laid (piece_of (fields_of_head file s.head) span file (apart s)) file (apart s))
+module _ (from to : ExactPlace) (file : List ℕ) (s : SurveyFields)
+    (surveyed : survey_of file most_frames ≡ Ok s) where
+  span-stays : (span : Span) → span_in from to (fields_of_head file s.head) s ≡ Ok span
+      → LosesNoFrame (file_laid (piece_of (fields_of_head file s.head) span file (apart s)) file
+      (apart s))
   span-stays span e =
       let head = fields_of_head file s.head in
-      piece-loses-none head (head_long file s.head) span file (apart s) (apart_had file s surveyed) (span_apart s span (span-there from to head s span e))
+      piece-loses-none head (head_long file s.head) span file (apart s) (apart_had file s surveyed)
+      (span_apart s span (span-there from to head s span e))
 
-  samples-stay : (laid : Laid) → exact_laid from to file s ≡ Ok laid → LosesNoFrame (file_laid laid file (apart s))
+  samples-stay : (laid : Laid) → exact_laid from to file s ≡ Ok laid
+      → LosesNoFrame (file_laid laid file (apart s))
   unfolding exact_laid
   samples-stay laid e =
       let head = fields_of_head file s.head in
-      let one = then_ok (span_in from to head s) (λ span. Ok (piece_of head span file (apart s))) laid e in
+      let one =
+      then_ok (span_in from to head s) (λ span. Ok (piece_of head span file (apart s))) laid e in
       let same : piece_of head one.0 file (apart s) ≡ laid = cc in
       subst (λ (l : Laid). LosesNoFrame (file_laid l file (apart s))) same (span-stays one.0 one.1)
 
-exact-stays : (from to : ExactPlace) (o : Option (List ℕ)) (made : List ℕ) → made_where (exact_making from to) o ≡ Ok made → LosesNoFrame made
+exact-stays : (from to : ExactPlace) (o : Option (List ℕ)) (made : List ℕ)
+    → made_where (exact_making from to) o ≡ Ok made → LosesNoFrame made
 exact-stays from to None made e = absurd cc
 exact-stays from to (Some file) made e =
     let parts = made_parts (exact_making from to) file made e in
     let by = piece-parts from to file parts.0 made parts.2 in
     subst LosesNoFrame by.is (span-stays from to file parts.0 parts.1 by.span by.span_is)
 
-exact-stay : (input : List ℕ) (from to : ExactPlace) (output : List ℕ) → WritesAllFrames (exact_command from to input output)
-exact-stay input from to output = one_writes (exact_task from to input) output (λ files bytes e. exact-stays from to (files input) bytes e)
+exact-stay : (input : List ℕ) (from to : ExactPlace) (output : List ℕ)
+    → WritesAllFrames (exact_command from to input output)
+exact-stay input from to output = one_writes (exact_task from to input) output
+    (λ files bytes e. exact-stays from to (files input) bytes e)
 
 -- ---- the pieces of a split
 
 -- the frames between two positions, in the slots of their plan
-range-stays : (from to : Place) (file : List ℕ) (s : SurveyFields) → survey_of file most_frames ≡ Ok s → (laid : Laid) → between_laid from to file s ≡ Ok laid → LosesNoFrame (file_laid laid file s)
+range-stays : (from to : Place) (file : List ℕ) (s : SurveyFields)
+    → survey_of file most_frames ≡ Ok s → (laid : Laid) → between_laid from to file s ≡ Ok laid
+    → LosesNoFrame (file_laid laid file s)
 range-stays from to file s surveyed laid e =
-    chosen-stay (cut_choice from to) (first_planning own_choice) (cut_choosing from to) (first_is_planning own_choice (inl refl)) file s (file_laid laid file s) surveyed
+    chosen-stay (cut_choice from to) (first_planning own_choice) (cut_choosing from to)
+    (first_is_planning own_choice (inl refl)) file s (file_laid laid file s) surveyed
     (ap (λ (r : Result Laid EditFault). then_made r (λ laid. Ok (file_laid laid file s))) e)
 
 module _ {P : Type 0} (cut : Cutting P) (prefix : List ℕ)
-    (stays : (from to : P) (file : List ℕ) (s : SurveyFields) → survey_of file most_frames ≡ Ok s → (laid : Laid) → cut.between from to file s ≡ Ok laid → LosesNoFrame (file_laid laid file (cut.survey s))) where
+    (stays : (from to : P) (file : List ℕ) (s : SurveyFields) → survey_of file most_frames ≡ Ok s
+    → (laid : Laid) → cut.between from to file s ≡ Ok laid
+    → LosesNoFrame (file_laid laid file (cut.survey s))) where
   module _ (file : List ℕ) (s : SurveyFields) (surveyed : survey_of file most_frames ≡ Ok s) where
     abbrev AllStay : ℕ → List Laid → Type 0
     AllStay k all = AllLoseNoFrame (pieces_from prefix k file (cut.survey s) all)
 
-    from-stay : (k : ℕ) (from : P) (places : List P) (all : List Laid) → laid_from cut file s from places ≡ Ok all → AllStay k all
+    from-stay : (k : ℕ) (from : P) (places : List P) (all : List Laid)
+        → laid_from cut file s from places ≡ Ok all → AllStay k all
     from-stay k from [] all e = let none : [] ≡ all = cc in subst (AllStay k) none tt
     from-stay k from (to ∷ places) all e =
-        let one = then_ok (cut.between from to file s) (λ first. with_first first (laid_from cut file s to places)) all e in
+        let one = then_ok (cut.between from to file s)
+        (λ first. with_first first (laid_from cut file s to places)) all e in
         let more = first-parts one.0 (laid_from cut file s to places) all one.2 in
-        subst (AllStay k) more.2 (stays from to file s surveyed one.0 one.1, from-stay (k + 1) to places more.0 more.1)
+        subst (AllStay k) more.2
+        (stays from to file s surveyed one.0 one.1, from-stay (k + 1) to places more.0 more.1)
 
-    pieces-stay : (places : List P) (all : List Laid) → laid_at cut file s places ≡ Ok all → AllStay 1 all
+    pieces-stay : (places : List P) (all : List Laid) → laid_at cut file s places ≡ Ok all
+        → AllStay 1 all
     pieces-stay [] all e = let none : [] ≡ all = cc in subst (AllStay 1) none tt
     pieces-stay (place ∷ places) all e = from-stay 1 place places all e
 
@@ -149,7 +180,8 @@ module _ {P : Type 0} (cut : Cutting P) (prefix : List ℕ)
   split-stays input files made e =
       let parts = (split-parts cut files prefix input made e).1 in
       let is = parts.0 in
-      subst (λ (m : Made). AllLoseNoFrame m.outputs) parts.1 (pieces-stay is.file is.survey is.surveyed is.found is.laid is.picked)
+      subst (λ (m : Made). AllLoseNoFrame m.outputs)
+      parts.1 (pieces-stay is.file is.survey is.surveyed is.found is.laid is.picked)
 
 -- ---- all frames of several files
 
@@ -161,7 +193,11 @@ module _ (first : Part) (more : List Part) (are : AreParts first.survey.class (f
   frames = joined_frames class (first ∷ more)
 
   info-sizes : HasInfoSizes (plain_info class frames)
-  info-sizes = record { table = length-map (range_with_len 0 100) (table_entry class frames) ∙ length-range_with_len 0 100; extension = refl }
+  info-sizes = record {
+    table = length-map (range_with_len 0 100) (table_entry class frames)
+        ∙ length-range_with_len 0 100;
+    extension = refl;
+  }
 
   joined-stays : LosesNoFrame (joined_file (first ∷ more))
   unfolding joined_file
@@ -170,16 +206,21 @@ module _ (first : Part) (more : List Part) (are : AreParts first.survey.class (f
       let found = first-there first.survey.frames 0 (omega (arith, part.some, part.within)) in
       let row = part.has.placed 0 found.0 found.1 in
       subst (λ (o : Option Row). LosesNoFrame (joined_from o first (first ∷ more))) (sym found.1)
-      (planned-frames-stay class own_choice (first ∷ more) (plan_of class (first ∷ more)) (omega arith) are (usual_slots own_choice (inl refl)) (join-plan first more are)
-      (front_blocks first.file first.survey) found.0.header (plain_info class frames) [] (blocks-kept first.file first.survey part.has).0 row.known row.class_is info-sizes tt)
+      (planned-frames-stay class own_choice (first ∷ more) (plan_of class (first ∷ more))
+      (omega arith) are (usual_slots own_choice (inl refl)) (join-plan first more are)
+      (front_blocks first.file first.survey) found.0.header (plain_info class frames) []
+      (blocks-kept first.file first.survey part.has).0 row.known row.class_is info-sizes tt)
 
-inputs-stay : (files : Contents) (inputs : List (List ℕ)) → 1 ≤ length inputs → (parts : List Part) → parts_of files inputs ≡ Ok parts → LosesNoFrame (joined_file parts)
+inputs-stay : (files : Contents) (inputs : List (List ℕ)) → 1 ≤ length inputs → (parts : List Part)
+    → parts_of files inputs ≡ Ok parts → LosesNoFrame (joined_file parts)
 inputs-stay files [] some parts e = absurd (omega (arith, some))
 inputs-stay files (name ∷ names) some parts e =
     let is = parts-join files name names parts e in
-    subst (λ (l : List Part). LosesNoFrame (joined_file l)) is.is (joined-stays is.first is.more is.all.are)
+    subst (λ (l : List Part). LosesNoFrame (joined_file l))
+    is.is (joined-stays is.first is.more is.all.are)
 
-join-stay : (output : List ℕ) (inputs : List (List ℕ)) → 1 ≤ length inputs → WritesAllFrames (join_command output inputs)
+join-stay : (output : List ℕ) (inputs : List (List ℕ)) → 1 ≤ length inputs
+    → WritesAllFrames (join_command output inputs)
 join-stay output inputs some =
     one_writes (join_task inputs) output
     (λ files bytes e.
@@ -189,33 +230,55 @@ join-stay output inputs some =
 
 -- ---- what is left of a damaged file
 
-left-stays : (file : List ℕ) (d : DamagedFields) → damaged_of file ≡ Ok d → LosesNoFrame (salvaged_file file d)
+left-stays : (file : List ℕ) (d : DamagedFields) → damaged_of file ≡ Ok d
+    → LosesNoFrame (salvaged_file file d)
 unfolding salvaged_file chosen_file
 left-stays file d read =
     let own = mended d.survey in
     let had = left-had file d read in
     let some = left-some file d read in
-    laid-loses-none (laid_of (all_of own) own) file own had some (omega arith) (plan-fitting (all_of own) own had.placed some (omega arith) own_choice (inl refl)) refl
+    laid-loses-none (laid_of (all_of own) own) file own had some (omega arith)
+    (plan-fitting (all_of own) own had.placed some (omega arith) own_choice (inl refl)) refl
 
 read-stays : (o : Option (List ℕ)) (bytes : List ℕ) → read_made o ≡ Ok bytes → LosesNoFrame bytes
 read-stays None bytes e = absurd cc
 read-stays (Some file) bytes e = at (damaged_of file) refl e
   where
-    at : (r : Result DamagedFields SurveyFault) → damaged_of file ≡ r → read_made_by file r ≡ Ok bytes → LosesNoFrame bytes
+    at : (r : Result DamagedFields SurveyFault) → damaged_of file ≡ r
+        → read_made_by file r ≡ Ok bytes → LosesNoFrame bytes
     at (Err fault) read e = absurd cc
-    at (Ok d) read e = let same : salvaged_file file d ≡ bytes = cc in subst LosesNoFrame same (left-stays file d read)
+    at (Ok d) read e = let same : salvaged_file file d ≡ bytes = cc in
+        subst LosesNoFrame same (left-stays file d read)
 
-text-stays : (text : List ℕ) (r : Result Made EditFault) → ((made : Made) → r ≡ Ok made → AllLoseNoFrame made.outputs) → (made : Made) → with_text text r ≡ Ok made → AllLoseNoFrame made.outputs
+text-stays : (text : List ℕ) (r : Result Made EditFault)
+    → ((made : Made) → r ≡ Ok made → AllLoseNoFrame made.outputs) → (made : Made)
+    → with_text text r ≡ Ok made → AllLoseNoFrame made.outputs
 text-stays text (Err fault) stays made e = absurd cc
-text-stays text (Ok m) stays made e = let same : record m { text = text } ≡ made = cc in subst (λ (m : Made). AllLoseNoFrame m.outputs) same (stays m refl)
+text-stays text (Ok m) stays made e = let same : record m { text = text } ≡ made = cc in
+    subst (λ (m : Made). AllLoseNoFrame m.outputs) same (stays m refl)
 
 salvage-stay : (input output : List ℕ) → WritesAllFrames (salvage_command input output)
 salvage-stay input output files made e =
     text-stays (text_where (files input)) ((one_command (salvage_task input) output).makes files)
-    (one_writes (salvage_task input) output (λ files bytes e. read-stays (files input) bytes e) files) made e
+    (one_writes (salvage_task input) output
+    (λ files bytes e. read-stays (files input) bytes e) files) made e
+
+-- ---- several files without seams
+
+seamless-stay : (output : List ℕ) (inputs : List (List ℕ)) → 1 ≤ length inputs
+    → WritesAllFrames (seamless_command output inputs)
+seamless-stay output inputs some files made e =
+    let task = seamless_task inputs in
+    let text = text_if inputs (parts_of files inputs) in
+    text-stays text ((one_command task output).makes files)
+    (one_writes task output (λ files bytes e.
+    let parts = then_ok (parts_of files inputs) (λ parts. Ok (seamless_file parts)) bytes e in
+    let same : seamless_file parts.0 ≡ bytes = cc in
+    subst LosesNoFrame same (files-lose-none files inputs parts.0 some parts.1)) files) made e
 
 -- ---- all commands
 
+-- no frame of a written file is lost
 pub frames-stay : WrittenFramesStay
 frames-stay = record {
   cut = cut-stay;
@@ -224,7 +287,9 @@ frames-stay = record {
   split_at = λ input prefix places. split-stays (given places) prefix range-stays input;
   split_by = λ input prefix sheet. split-stays (told_by sheet) prefix range-stays input;
   split_exact = λ input prefix places. split-stays (given_exact places) prefix samples-stay input;
-  split_exact_by = λ input prefix sheet. split-stays (told_exact_by sheet) prefix samples-stay input;
+  split_exact_by =
+      λ input prefix sheet. split-stays (told_exact_by sheet) prefix samples-stay input;
   join = join-stay;
+  join_seamless = seamless-stay;
   salvage = salvage-stay;
 }

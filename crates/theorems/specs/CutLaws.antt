@@ -1,9 +1,9 @@
 -- What is at fault in a file that was cut short.
-use Rattle.std.specs.Prelude.{◌≡◌, ℕ, ◌≤◌, List, ◌++◌, length, take, Result, Ok, Err}
-use Rattle.sync_survey.specs.declared.survey_fault.SurveyFault.{SurveyFault}
-use Rattle.sync_survey.specs.declared.survey_fault.SurveyFault.TheVariants.{NoFrame, LostSync, Truncated}
-use Rattle.sync_survey.specs.MainData.{StreamFrame}
-use Rattle.sync_survey.specs.Faults.{SurveyFields, surveyed, stream_of, IsWellFormed}
+use Rattle.std.specs.Prelude.{Err, length, List, Ok, Result, take, ℕ, ◌++◌, ◌≡◌, ◌≤◌}
+use Rattle.sync_survey.specs.Faults.{IsWellFormed, stream_of, surveyed, SurveyFields}
+use Rattle.sync_survey.specs.{MainData.StreamFrame, declared.survey_fault.SurveyFault.SurveyFault}
+use Rattle.sync_survey.specs.declared.survey_fault.SurveyFault.TheVariants.{LostSync, NoFrame}
+use Rattle.sync_survey.specs.declared.survey_fault.SurveyFault.TheVariants.{Truncated}
 
 -- the first frames of a stream, or all
 abbrev pub IsFrontOf : List StreamFrame → List StreamFrame → Type 0
@@ -16,15 +16,17 @@ IsCutFault (LostSync at) = Unit {0}
 IsCutFault (Truncated at) = Unit {0}
 IsCutFault _ = ⊥
 
--- what a survey says of a prefix of a file: one of these faults, or none, and then its stream is the first frames of the file's
+-- what a survey says of a prefix of a file: one of these faults,
+-- or none, and then its stream is the first frames of the file's
 abbrev pub IsCutAnswer : List ℕ → List ℕ → Result SurveyFields SurveyFault → Type 0
 IsCutAnswer file front (Ok s) = IsWellFormed front × IsFrontOf (stream_of front) (stream_of file)
 IsCutAnswer file front (Err fault) = IsCutFault fault
 
--- For every file without fault and without junk, and every number of bytes up to its length: the prefix of so many bytes has no fault, or
--- its first fault is that there is no frame, a frame or block that isn't whole, or lost synchronisation. As many frames are allowed as the
--- file has.
+-- For every file without fault and without junk, and every number of bytes up to its length: the
+-- prefix of so many bytes has no fault, or its first fault is that there is no frame, a frame or
+-- block that isn't whole, or lost synchronisation. As many frames are allowed as the file has.
 abbrev pub PrefixFault : Type 0
 PrefixFault =
-    (file : List ℕ) (allowed : ℕ) (s : SurveyFields) (count : ℕ) → surveyed file allowed ≡ Ok s → s.junk ≡ s.first → count ≤ length file
+    (file : List ℕ) (allowed : ℕ) (s : SurveyFields) (count : ℕ) → surveyed file allowed ≡ Ok s
+    → s.junk ≡ s.first → count ≤ length file
     → IsCutAnswer file (take count file) (surveyed (take count file) (length s.frames))

@@ -1,62 +1,63 @@
 -- What holds of the streams and plans of the commands that lay main data anew.
-use Rattle.std.specs.Prelude.{◌≡◌, ℕ, ◌<◌, ◌≤◌, Bool, true, false, List, [], ◌∷◌, map, flat_map, length, slice_get, slice_range, Some, Ok}
-use Rattle.outside.specs.Files.{Contents}
-use Rattle.frame_header.specs.Fields.{SlotFields, HeaderFields, ClassFields}
-use Rattle.frame_header.specs.Tables.{window_of}
-use Rattle.side_info.specs.Side.{no_side}
+use Rattle.std.specs.Prelude.{Bool, false, flat_map, length, List, map, Ok, slice_get, slice_range}
+use Rattle.std.specs.Prelude.{Some, true, ℕ, [], ◌<◌, ◌∷◌, ◌≡◌, ◌≤◌}
+use Rattle.commands.specs.{Command.{Command, Made, Output}, One.most_frames}
 use Rattle.cue_sheet.specs.declared.place.Place.{Place}
-use Rattle.slot_plan.specs.declared.needs.Placed.{Placed}
-use Rattle.slot_plan.specs.Plans.{IsPlan}
-use Rattle.laying.specs.Needs.{need_of}
-use Rattle.sync_survey.specs.Row.{Row}
-use Rattle.sync_survey.specs.MainData.{StreamFrame, no_slot, parts_of, part_lengths}
-use Rattle.sync_survey.specs.Faults.{SurveyFields, stream_of}
-use Rattle.sync_survey.specs.Survey.{survey_of}
-use Rattle.salvage.specs.Damaged.{DamagedFields, damaged_of}
-use Rattle.salvage.specs.Mended.{mended}
-use Rattle.salvage.specs.Stream.{salvaged_stream}
-use Rattle.join_edits.specs.Join.{plan_of as joined_plan, joined_stream, join_command}
-use Rattle.laying.specs.NeedsFit.{own_choice}
-use Rattle.laying.specs.Relaid.{Part, stream_in, AreParts, needs_in, with_lead_ins}
-use Rattle.commands.specs.Command.{Output, Made, Command}
-use Rattle.commands.specs.One.{most_frames}
-use Rattle.requests.specs.declared.shift.Shift.{Shift}
-use Rattle.gain_edits.specs.Gain.{gain_command}
-use Rattle.gain_edits.specs.Undo.{undo_command}
-use Rattle.gain_edits.specs.Fade.{fade_command}
-use Rattle.laying.specs.Laid.{stream_laid}
-use Rattle.laying.specs.LaidLaws.{LosesNoFrame}
-use Rattle.cut_edits.specs.Chosen.{Chosen, AreUsual, needs_of, first_plan, plan_of, laid_by, cut_command}
+use Rattle.cut_edits.specs.Chosen.{AreUsual, Chosen, cut_command, first_plan, laid_by, needs_of}
+use Rattle.cut_edits.specs.{Chosen.plan_of, Exact.exact_command}
 use Rattle.exact_span.specs.declared.exact_place.ExactPlace.{ExactPlace}
-use Rattle.cut_edits.specs.Exact.{exact_command}
-use Rattle.split_edits.specs.Split.{split_at_command, split_by_command, split_exact_at_command, split_exact_by_command}
+use Rattle.frame_header.specs.{Fields.{ClassFields, HeaderFields, SlotFields}, Tables.window_of}
+use Rattle.gain_edits.specs.{Fade.fade_command, Gain.gain_command, Undo.undo_command}
+use Rattle.job_words.specs.Asked.{Asked, Cut, CutExact, Fade, Gain, Join, Pack, Salvage, SplitAt}
+use Rattle.job_words.specs.Asked.{SplitBy, SplitExact, Undo}
+use Rattle.join_edits.specs.Join.{join_command, joined_stream, parts_of as input_parts}
+use Rattle.join_edits.specs.Join.{plan_of as joined_plan}
+use Rattle.join_edits.specs.Seamless.{brought_by, joined_by, run_plan, seamless_command}
+use Rattle.laying.specs.{Laid.stream_laid, LaidLaws.LosesNoFrame, Needs.need_of}
+use Rattle.laying.specs.NeedsFit.{own_choice}
+use Rattle.laying.specs.Relaid.{AreParts, needs_in, Part, stream_in, with_lead_ins}
+use Rattle.outside.specs.Files.{Contents}
+use Rattle.pack_edits.specs.Modes.{pack_mode_command, plan_by}
+use Rattle.requests.specs.declared.{mode.PackMode.PackMode, shift.Shift.Shift}
+use Rattle.salvage.specs.{Damaged.{damaged_of, DamagedFields}, Mended.mended}
+use Rattle.salvage.specs.Stream.{salvaged_stream}
 use Rattle.salvage_edits.specs.Salvaged.{all_of, left_stream, salvage_command}
-use Rattle.requests.specs.declared.mode.PackMode.{PackMode}
-use Rattle.pack_edits.specs.Modes.{plan_by, pack_mode_command}
-use Rattle.job_words.specs.Asked.{Asked, Gain, Undo, Cut, CutExact, Pack, SplitAt, SplitExact, SplitBy, Join, Fade, Salvage}
-use Rattle.theorems.specs.Exact.{IsExactly}
-use Rattle.theorems.specs.Chosen.{AllConsistOf, chosen_of}
+use Rattle.seam_plan.specs.{Frames.needs_of as run_needs, Seams.run_of}
+use Rattle.side_info.specs.Side.{no_side}
+use Rattle.slot_plan.specs.{Plans.IsPlan, declared.needs.Placed.Placed}
+use Rattle.split_edits.specs.Split.{split_at_command, split_by_command, split_exact_at_command}
+use Rattle.split_edits.specs.Split.{split_exact_by_command}
+use Rattle.sync_survey.specs.Faults.{stream_of, SurveyFields}
+use Rattle.sync_survey.specs.{MainData.{no_slot, part_lengths, parts_of, StreamFrame}, Row.Row}
+use Rattle.sync_survey.specs.Survey.{survey_of}
+use Rattle.theorems.specs.{Chosen.{AllConsistOf, chosen_of}, Exact.IsExactly}
 
--- Parts of well-formed files in the slots of their plan: the stream is exactly the frames of each part, as in a join.
+-- Parts of well-formed files in the slots of their plan: the
+-- stream is exactly the frames of each part, as in a join.
 abbrev pub PlannedStreamsAreExact : Type 0
 PlannedStreamsAreExact =
-    (class : ClassFields) (choices : HeaderFields → List SlotFields) (parts : List Part) (placed : List Placed)
-    → AreParts class parts → IsPlan (window_of class.version) choices (map needs_in parts) placed
+    (class : ClassFields) (choices : HeaderFields → List SlotFields) (parts : List Part)
+    (placed : List Placed) → AreParts class parts
+    → IsPlan (window_of class.version) choices (map needs_in parts) placed
     → IsExactly (map stream_in parts) (with_lead_ins placed (flat_map stream_in parts))
 
--- The output of a cut, of a packing with the least slots, and each piece of a split holds exactly the chosen frames of the stream of the input.
+-- The output of a cut, of a packing with the least slots, and each piece
+-- of a split holds exactly the chosen frames of the stream of the input.
 abbrev pub ChosenStreamsAreExact : Type 0
 ChosenStreamsAreExact =
     (choices : HeaderFields → List SlotFields) (chosen : Chosen) (file : List ℕ) (s : SurveyFields)
-    → AreUsual choices → survey_of file most_frames ≡ Ok s → chosen.from < chosen.to → chosen.to ≤ length s.frames
-    → IsExactly (slice_range (stream_of file) chosen.from chosen.to ∷ []) (stream_laid (laid_by chosen (first_plan choices s.class (needs_of chosen s))) file s)
+    → AreUsual choices → survey_of file most_frames ≡ Ok s → chosen.from < chosen.to
+    → chosen.to ≤ length s.frames → IsExactly (slice_range (stream_of file) chosen.from chosen.to
+    ∷ []) (stream_laid (laid_by chosen (first_plan choices s.class (needs_of chosen s))) file s)
 
--- Their plan is the first of all lists of slots, in the order of areas, into which the main data can be laid, with a lead-in only where there is none without.
+-- Their plan is the first of all lists of slots, in the order of areas, into which
+-- the main data can be laid, with a lead-in only where there is none without.
 abbrev pub ChosenPlansAreFirst : Type 0
 ChosenPlansAreFirst =
     (choices : HeaderFields → List SlotFields) (chosen : Chosen) (file : List ℕ) (s : SurveyFields)
-    → AreUsual choices → survey_of file most_frames ≡ Ok s → chosen.from < chosen.to → chosen.to ≤ length s.frames
-    → IsPlan (window_of s.class.version) choices (needs_of chosen s ∷ []) (first_plan choices s.class (needs_of chosen s))
+    → AreUsual choices → survey_of file most_frames ≡ Ok s → chosen.from < chosen.to
+    → chosen.to ≤ length s.frames → IsPlan (window_of s.class.version) choices
+    (needs_of chosen s ∷ []) (first_plan choices s.class (needs_of chosen s))
 
 -- The output of a packing, in whichever mode, holds exactly the frames of the stream of the input.
 abbrev pub PackedStreamsAreExact : Type 0
@@ -64,7 +65,8 @@ PackedStreamsAreExact =
     (mode : PackMode) (chosen : Chosen) (file : List ℕ) (s : SurveyFields) (placed : List Placed)
     → survey_of file most_frames ≡ Ok s → chosen.from < chosen.to → chosen.to ≤ length s.frames
     → plan_by mode s.class (needs_of chosen s) ≡ Ok placed
-    → IsExactly (slice_range (stream_of file) chosen.from chosen.to ∷ []) (with_lead_ins placed (slice_range (stream_of file) chosen.from chosen.to))
+    → IsExactly (slice_range (stream_of file) chosen.from chosen.to ∷ [])
+    (with_lead_ins placed (slice_range (stream_of file) chosen.from chosen.to))
 
 -- The output of a join holds exactly the frames of each part, which are all frames of an input.
 abbrev pub JoinedStreamsAreExact : Type 0
@@ -72,73 +74,118 @@ JoinedStreamsAreExact =
     (first : Part) (parts : List Part) → AreParts first.survey.class (first ∷ parts)
     → IsExactly (map stream_in (first ∷ parts)) (joined_stream (first ∷ parts))
 
--- Its plan is the first of all lists of the frames' own slots, with the lead-in that each part has alone.
+-- Its plan is the first of all lists of the frames' own
+-- slots, with the lead-in that each part has alone.
 abbrev pub JoinedPlansAreFirst : Type 0
 JoinedPlansAreFirst =
     (first : Part) (parts : List Part) → AreParts first.survey.class (first ∷ parts)
-    → IsPlan (window_of first.survey.class.version) own_choice (map needs_in (first ∷ parts)) (joined_plan first.survey.class (first ∷ parts))
+    → IsPlan (window_of first.survey.class.version) own_choice (map needs_in (first ∷ parts))
+    (joined_plan first.survey.class (first ∷ parts))
 
--- The output of a salvage holds exactly what is left of the damaged file: the frames of all runs, each sound one as it is, and each other one empty.
+-- The plan of a join without seams is that of one part: the first of all lists of the slots of the
+-- run's frames, which are their own, but for first frames of inputs that joined in greater ones.
+abbrev pub SeamlessPlansAreFirst : Type 0
+SeamlessPlansAreFirst =
+    (files : Contents) (inputs : List (List ℕ)) (first : Part) (parts : List Part)
+    → input_parts files inputs ≡ Ok (first ∷ parts)
+    → IsPlan (window_of first.survey.class.version) own_choice
+    (run_needs (run_of (brought_by first) (joined_by first parts)) ∷ []) (run_plan first parts)
+
+-- The output of a salvage holds exactly what is left of the damaged file:
+-- the frames of all runs, each sound one as it is, and each other one empty.
 abbrev pub SalvagedStreamsAreExact : Type 0
-SalvagedStreamsAreExact = (file : List ℕ) (d : DamagedFields) → damaged_of file ≡ Ok d → IsExactly (salvaged_stream file ∷ []) (left_stream file d)
+SalvagedStreamsAreExact = (file : List ℕ) (d : DamagedFields) → damaged_of file ≡ Ok d
+    → IsExactly (salvaged_stream file ∷ []) (left_stream file d)
 
--- Its plan is the first of all lists of the frames' own slots, as that of a cut of all frames, of which those that aren't sound have no main data.
+-- Its plan is the first of all lists of the frames' own slots, as that of
+-- a cut of all frames, of which those that aren't sound have no main data.
 abbrev pub SalvagedPlansAreFirst : Type 0
 SalvagedPlansAreFirst =
     (file : List ℕ) (d : DamagedFields) → damaged_of file ≡ Ok d
-    → IsPlan (window_of d.survey.class.version) own_choice (map need_of (mended d.survey).frames ∷ []) (plan_of (all_of (mended d.survey)) (mended d.survey))
+    → IsPlan (window_of d.survey.class.version) own_choice (map need_of (mended d.survey).frames
+    ∷ []) (plan_of (all_of (mended d.survey)) (mended d.survey))
 
--- Of a frame that is read this is left: its header, and its side information, or no side information and no main data if it isn't sound.
+-- Of a frame that is read this is left: its header, and its side
+-- information, or no side information and no main data if it isn't sound.
 pub record IsLeftOf (r : Row) (frame : StreamFrame) : Type 0 where
   pub header : frame.header ≡ record r.header { slot = no_slot }
   pub sound : r.lost ≡ false → frame.side ≡ record r.side { main_data_begin = 0 }
-  pub empty : r.lost ≡ true → (frame.side ≡ no_side) × (frame.payload ≡ parts_of (part_lengths r.header no_side) [])
+  pub empty : r.lost ≡ true
+      → (frame.side ≡ no_side) × (frame.payload ≡ parts_of (part_lengths r.header no_side) [])
 
 -- as many frames are left as are read, in their order
 pub record AreLeftOf (rows : List Row) (frames : List StreamFrame) : Type 0 where
   pub many : length frames ≡ length rows
-  pub each : (i : ℕ) (r : Row) → slice_get rows i ≡ Some r → (frame : StreamFrame) × (slice_get frames i ≡ Some frame) × IsLeftOf r frame
+  pub each : (i : ℕ) (r : Row) → slice_get rows i ≡ Some r
+      → (frame : StreamFrame) × (slice_get frames i ≡ Some frame) × IsLeftOf r frame
 
 -- each frame that is read is left, also one that isn't sound
 abbrev pub SalvagedFramesAreLeft : Type 0
-SalvagedFramesAreLeft = (file : List ℕ) (d : DamagedFields) → damaged_of file ≡ Ok d → AreLeftOf d.survey.frames (salvaged_stream file)
+SalvagedFramesAreLeft = (file : List ℕ) (d : DamagedFields) → damaged_of file ≡ Ok d
+    → AreLeftOf d.survey.frames (salvaged_stream file)
 
 -- What a command writes, where it isn't refused, holds exactly the frames that the job chooses.
 abbrev pub HoldsChosen : Asked → Command → Type 0
-HoldsChosen asked command = (files : Contents) (made : Made) → command.makes files ≡ Ok made → AllConsistOf (chosen_of asked files) (command.streams files)
+HoldsChosen asked command = (files : Contents) (made : Made) → command.makes files ≡ Ok made
+    → AllConsistOf (chosen_of asked files) (command.streams files)
 
 -- so it is of each command
 pub record StreamsAreChosen : Type 0 where
-  pub gain : (shift : Shift) (tags : Bool) (input output : List ℕ) → HoldsChosen (Gain shift tags input output) (gain_command shift tags input output)
+  pub gain : (shift : Shift) (tags : Bool) (input output : List ℕ)
+      → HoldsChosen (Gain shift tags input output) (gain_command shift tags input output)
   pub undo : (input output : List ℕ) → HoldsChosen (Undo input output) (undo_command input output)
-  pub cut : (from to : Place) (least : Bool) (input output : List ℕ) → HoldsChosen (Cut from to least input output) (cut_command from to least input output)
-  pub cut_exact : (input : List ℕ) (from to : ExactPlace) (output : List ℕ) → HoldsChosen (CutExact input from to output) (exact_command from to input output)
-  pub pack : (mode : PackMode) (input output : List ℕ) → HoldsChosen (Pack mode input output) (pack_mode_command mode input output)
-  pub split_at : (input prefix : List ℕ) (places : List Place) → HoldsChosen (SplitAt input prefix places) (split_at_command places input prefix)
-  pub split_by : (input prefix sheet : List ℕ) → HoldsChosen (SplitBy false input prefix sheet) (split_by_command input sheet prefix)
-  pub split_exact : (input prefix : List ℕ) (places : List ExactPlace) → HoldsChosen (SplitExact input prefix places) (split_exact_at_command places input prefix)
-  pub split_exact_by : (input prefix sheet : List ℕ) → HoldsChosen (SplitBy true input prefix sheet) (split_exact_by_command input sheet prefix)
-  pub join : (output : List ℕ) (inputs : List (List ℕ)) → HoldsChosen (Join output inputs) (join_command output inputs)
-  pub fade : (back : Bool) (input output sheet : List ℕ) → HoldsChosen (Fade back input output sheet) (fade_command sheet back input output)
-  pub salvage : (input output : List ℕ) → HoldsChosen (Salvage input output) (salvage_command input output)
+  pub cut : (from to : Place) (least : Bool) (input output : List ℕ)
+      → HoldsChosen (Cut from to least input output) (cut_command from to least input output)
+  pub cut_exact : (input : List ℕ) (from to : ExactPlace) (output : List ℕ)
+      → HoldsChosen (CutExact input from to output) (exact_command from to input output)
+  pub pack : (mode : PackMode) (input output : List ℕ)
+      → HoldsChosen (Pack mode input output) (pack_mode_command mode input output)
+  pub split_at : (input prefix : List ℕ) (places : List Place)
+      → HoldsChosen (SplitAt input prefix places) (split_at_command places input prefix)
+  pub split_by : (input prefix sheet : List ℕ)
+      → HoldsChosen (SplitBy false input prefix sheet) (split_by_command input sheet prefix)
+  pub split_exact : (input prefix : List ℕ) (places : List ExactPlace)
+      → HoldsChosen (SplitExact input prefix places) (split_exact_at_command places input prefix)
+  pub split_exact_by : (input prefix sheet : List ℕ)
+      → HoldsChosen (SplitBy true input prefix sheet) (split_exact_by_command input sheet prefix)
+  pub join : (output : List ℕ) (inputs : List (List ℕ))
+      → HoldsChosen (Join false output inputs) (join_command output inputs)
+  pub join_seamless : (output : List ℕ) (inputs : List (List ℕ))
+      → HoldsChosen (Join true output inputs) (seamless_command output inputs)
+  pub fade : (back : Bool) (input output sheet : List ℕ)
+      → HoldsChosen (Fade back input output sheet) (fade_command sheet back input output)
+  pub salvage : (input output : List ℕ)
+      → HoldsChosen (Salvage input output) (salvage_command input output)
 
--- each of these files is well-formed, and no frame of it is lost, whether its head is set apart or not
+-- each of these files is well-formed, and no frame of
+-- it is lost, whether its head is set apart or not
 abbrev pub AllLoseNoFrame : List Output → Type 0
 AllLoseNoFrame [] = Unit {0}
 AllLoseNoFrame (output ∷ outputs) = LosesNoFrame output.bytes × AllLoseNoFrame outputs
 
 -- so is each file that a command writes, where it isn't refused
 abbrev pub WritesAllFrames : Command → Type 0
-WritesAllFrames command = (files : Contents) (made : Made) → command.makes files ≡ Ok made → AllLoseNoFrame made.outputs
+WritesAllFrames command =
+    (files : Contents) (made : Made) → command.makes files ≡ Ok made → AllLoseNoFrame made.outputs
 
 -- so it is of each command that lays main data anew
 pub record WrittenFramesStay : Type 0 where
-  pub cut : (from to : Place) (least : Bool) (input output : List ℕ) → WritesAllFrames (cut_command from to least input output)
-  pub cut_exact : (input : List ℕ) (from to : ExactPlace) (output : List ℕ) → WritesAllFrames (exact_command from to input output)
-  pub pack : (mode : PackMode) (input output : List ℕ) → WritesAllFrames (pack_mode_command mode input output)
-  pub split_at : (input prefix : List ℕ) (places : List Place) → WritesAllFrames (split_at_command places input prefix)
-  pub split_by : (input prefix sheet : List ℕ) → WritesAllFrames (split_by_command input sheet prefix)
-  pub split_exact : (input prefix : List ℕ) (places : List ExactPlace) → WritesAllFrames (split_exact_at_command places input prefix)
-  pub split_exact_by : (input prefix sheet : List ℕ) → WritesAllFrames (split_exact_by_command input sheet prefix)
-  pub join : (output : List ℕ) (inputs : List (List ℕ)) → 1 ≤ length inputs → WritesAllFrames (join_command output inputs)
+  pub cut : (from to : Place) (least : Bool) (input output : List ℕ)
+      → WritesAllFrames (cut_command from to least input output)
+  pub cut_exact : (input : List ℕ) (from to : ExactPlace) (output : List ℕ)
+      → WritesAllFrames (exact_command from to input output)
+  pub pack : (mode : PackMode) (input output : List ℕ)
+      → WritesAllFrames (pack_mode_command mode input output)
+  pub split_at : (input prefix : List ℕ) (places : List Place)
+      → WritesAllFrames (split_at_command places input prefix)
+  pub split_by : (input prefix sheet : List ℕ)
+      → WritesAllFrames (split_by_command input sheet prefix)
+  pub split_exact : (input prefix : List ℕ) (places : List ExactPlace)
+      → WritesAllFrames (split_exact_at_command places input prefix)
+  pub split_exact_by : (input prefix sheet : List ℕ)
+      → WritesAllFrames (split_exact_by_command input sheet prefix)
+  pub join : (output : List ℕ) (inputs : List (List ℕ)) → 1 ≤ length inputs
+      → WritesAllFrames (join_command output inputs)
+  pub join_seamless : (output : List ℕ) (inputs : List (List ℕ)) → 1 ≤ length inputs
+      → WritesAllFrames (seamless_command output inputs)
   pub salvage : (input output : List ℕ) → WritesAllFrames (salvage_command input output)

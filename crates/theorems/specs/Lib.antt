@@ -3,3 +3,4 @@ pub mod Exact
 pub mod Chosen
 pub mod Laws
 pub mod CutLaws
+pub mod SeamlessLaws

@@ -1,5 +1,5 @@
 //! Laws of the definitions. Each function does nothing: a proof that needs its law calls it.
-ghost use Rattle.theorems.specs.Laws.{PlannedStreamsAreExact, ChosenStreamsAreExact, ChosenPlansAreFirst, PackedStreamsAreExact, JoinedStreamsAreExact, JoinedPlansAreFirst, SalvagedStreamsAreExact, SalvagedPlansAreFirst, SalvagedFramesAreLeft, StreamsAreChosen, WrittenFramesStay};
+ghost use Rattle.theorems.specs.Laws.{PlannedStreamsAreExact, ChosenStreamsAreExact, ChosenPlansAreFirst, PackedStreamsAreExact, JoinedStreamsAreExact, JoinedPlansAreFirst, SeamlessPlansAreFirst, SalvagedStreamsAreExact, SalvagedPlansAreFirst, SalvagedFramesAreLeft, StreamsAreChosen, WrittenFramesStay};
 
 /// The stream of parts of well-formed files, laid in the slots of their plan, is exactly the frames of each part, in order,
 /// each part after at most one lead-in: a frame without main data, with the header of the part's first frame, but
@@ -35,6 +35,12 @@ pub fn joined_streams_are_exact()
 /// where main data begin.
 pub fn joined_plans_are_first()
     ensures { JoinedPlansAreFirst }
+{}
+
+/// The plan of a join without seams is the first of all lists too, as that of one part: each frame of the run in its own slot,
+/// but for first frames of inputs that joined in greater ones.
+pub fn seamless_plans_are_first()
+    ensures { SeamlessPlansAreFirst }
 {}
 
 /// The output of a salvage holds exactly what is left of the damaged file, after at most one lead-in: the frames of all runs

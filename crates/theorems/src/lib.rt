@@ -4,6 +4,7 @@
 
 mod cut_laws;
 mod laws;
+mod seamless_laws;
 
 pub use cut_laws::prefix_fault;
 pub use laws::{
@@ -12,3 +13,4 @@ pub use laws::{
     salvaged_frames_are_left, salvaged_plans_are_first, salvaged_streams_are_exact,
     streams_are_chosen, written_frames_stay,
 };
+pub use seamless_laws::{following_samples, in_steps, split_then_seamless_join};

@@ -1,9 +1,7 @@
 -- The forms of the code are those of the definition.
-use Rattle.std.proofs.Common.{◌≡◌, map, string_bytes, subst, sym}
-use Rattle.job_words.specs.Code.{answer}
-use Rattle.job_words.specs.Words.{job_of}
-use Rattle.job_words.proofs.Places.{IsAnswer, job_is, code_is}
-use Rattle.job_words.proofs.Reading.{forms_are_readable}
+use Rattle.std.proofs.Common.{map, string_bytes, subst, sym, ◌≡◌}
+use Rattle.job_words.proofs.{Places.{code_is, IsAnswer, job_is}, Reading.forms_are_readable}
+use Rattle.job_words.specs.{Code.answer, Words.job_of}
 use Rattle.job_words.proofs.words.job.Goals as goal
 
 pub read_by-requires : goal.read_by-requires

@@ -1,33 +1,43 @@
--- A form that the words have ends the loop; else it goes on, and the place of the bad word stays known.
-use Rattle.std.proofs.Common.{◌≡◌, ◌∙◌, map, get_or, take, max, string_bytes, List, Err, sym, ap, subst, arith}
-use Rattle.std.proofs.lemmas.Grind.{common_steps}
-use Rattle.std.proofs.lemmas.List.{take_all, length-map, get_or-map}
-use Rattle.job_words.specs.Forms.{Form, help, shapes, shapes_of, IsReadable}
-use Rattle.job_words.specs.Words.{reading}
-use Rattle.job_words.specs.Code.{form_given, answer}
-use Rattle.job_words.proofs.Reading.{accepted, reading_more}
+-- A form that the words have ends the loop; else it
+-- goes on, and the place of the bad word stays known.
+use Rattle.std.proofs.Common.{ap, arith, Err, get_or, List, map, max, string_bytes, subst, sym}
+use Rattle.std.proofs.{Common.{take, ◌∙◌, ◌≡◌}, lemmas.Grind.common_steps}
+use Rattle.std.proofs.lemmas.List.{get_or-map, length-map, take_all}
+use Rattle.job_words.proofs.{Reading.{accepted, reading_more}, words.read_by.Goals.After-read}
+use Rattle.job_words.specs.Code.{answer, form_given}
+use Rattle.job_words.specs.{Forms.{Form, help, IsReadable, shapes, shapes_of}, Words.reading}
 use Rattle.job_words.proofs.words.read_by.Goals as goal
-use Rattle.job_words.proofs.words.read_by.Goals.{After-read}
 
 pub read-requires : goal.read-requires
 read-requires c =
-    subst IsReadable (get_or-map form_given c.args.forms.now c.loop-form.form-index _ help c.loop-form-test.true)
+    subst IsReadable
+    (get_or-map form_given c.args.forms.now c.loop-form.form-index _ help c.loop-form-test.true)
     (c.requires c.loop-form.form-index help (rw length-map c.loop-form-test.true))
 
 -- the answer of the form
-here : (c : After-read) → answer c.read.result ≡ reading (shapes_of (get_or (map form_given c.args.forms.now) c.loop-form.form-index help)) (map string_bytes c.args.words.now)
-here c = c.read.ensures.answer ∙ ap (λ (form : Form). reading (shapes_of form) (map string_bytes c.args.words.now)) (sym (get_or-map form_given c.args.forms.now c.loop-form.form-index _ help c.loop-form-test.true))
+here : (c : After-read) → answer c.read.result
+    ≡ reading (shapes_of (get_or (map form_given c.args.forms.now) c.loop-form.form-index help))
+    (map string_bytes c.args.words.now)
+here c = c.read.ensures.answer
+    ∙ ap (λ (form : Form). reading (shapes_of form) (map string_bytes c.args.words.now)) (sym
+    (get_or-map form_given c.args.forms.now c.loop-form.form-index _ help c.loop-form-test.true))
 
 pub returns-in-Ok : goal.returns-in-Ok
 returns-in-Ok c =
-    accepted (map form_given c.args.forms.now) (map string_bytes c.args.words.now) c.loop-form.form-index help c.loop-form.place (rw length-map c.loop-form-test.true) c.loop-form.invariant.0 _
+    accepted (map form_given c.args.forms.now)
+    (map string_bytes c.args.words.now) c.loop-form.form-index help
+    c.loop-form.place (rw length-map c.loop-form-test.true) c.loop-form.invariant.0 _
     (sym (ap answer c.in-Ok.is) ∙ here (goal.at.returns-in-Ok c).After-read)
 
 pub loop-form-preserved : goal.loop-form-preserved
 loop-form-preserved c =
-    let max-is : c.max-place.result ≡ max c.loop-form.place c.in-Err.bad = grind (arith, common_steps) in (
-      reading_more (map form_given c.args.forms.now) (map string_bytes c.args.words.now) c.loop-form.form-index help c.loop-form.place (rw length-map c.loop-form-test.true) c.loop-form.invariant.0 _
-          (sym (ap answer c.in-Err.is) ∙ here (goal.at.loop-form-preserved c).After-read) ∙ sym (ap Err max-is),
+    let max-is : c.max-place.result ≡ max c.loop-form.place c.in-Err.bad =
+    grind (arith, common_steps) in (
+      reading_more (map form_given c.args.forms.now)
+          (map string_bytes c.args.words.now) c.loop-form.form-index help
+          c.loop-form.place (rw length-map c.loop-form-test.true) c.loop-form.invariant.0 _
+          (sym (ap answer c.in-Err.is) ∙ here (goal.at.loop-form-preserved c).After-read)
+          ∙ sym (ap Err max-is),
       omega (arith, max-is, c.in-Err.ensures.few, c.loop-form.invariant.1),
       c.loop-form.invariant.2,
     )
@@ -35,5 +45,7 @@ loop-form-preserved c =
 pub returns : goal.returns
 returns c =
     let table = map form_given c.args.forms.now in
-    let whole : take c.loop-form.form-index table ≡ table = take_all c.loop-form.form-index table (rw length-map c.loop-form-test.false) in
-    sym c.loop-form.invariant.0 ∙ ap (λ (table : List Form). reading (shapes table) (map string_bytes c.args.words.now)) whole
+    let whole : take c.loop-form.form-index table ≡ table =
+    take_all c.loop-form.form-index table (rw length-map c.loop-form-test.false) in
+    sym c.loop-form.invariant.0
+    ∙ ap (λ (table : List Form). reading (shapes table) (map string_bytes c.args.words.now)) whole

@@ -1,6 +1,8 @@
 -- The names so far.
-use Rattle.std.proofs.Common.{◌≡◌, ◌≤◌, length, map, take, string_bytes}
+use Rattle.std.proofs.Common.{length, map, string_bytes, take, ◌≡◌, ◌≤◌}
 use Rattle.mp3_cli.proofs.job_names.names_of.Given as goal
 
 abbrev pub invariant-loop-word : goal.invariant-loop-word
-invariant-loop-word l = (map (λ name. name.now) l.names.items ≡ map string_bytes (take l.word-index l.words)) × (length l.names.items ≡ l.word-index) × (length l.words ≤ 64)
+invariant-loop-word l =
+    (map (λ name. name.now) l.names.items ≡ map string_bytes (take l.word-index l.words))
+    × (length l.names.items ≡ l.word-index) × (length l.words ≤ 64)

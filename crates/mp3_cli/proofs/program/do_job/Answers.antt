@@ -1,12 +1,14 @@
 -- Texts that are said, and commands without a text.
-use Rattle.std.proofs.Common.{◌≢◌, ℕ, Bool, true, false, List, [], Some, rules}
-use Rattle.split_edits.specs.Split.{told_by, told_exact_by, split_at_command, split_exact_at_command}
+use Rattle.std.proofs.Common.{Bool, false, List, rules, Some, true, ℕ, [], ◌≢◌}
+use Rattle.drill.{proofs.PackedLaws.drill_text-some, specs.Drilled.drill_text}
 use Rattle.job_words.specs.Asked.{SplitBy}
-use Rattle.drill.specs.Drilled.{drill_text}
-use Rattle.drill.proofs.PackedLaws.{drill_text-some}
+use Rattle.list_edits.specs.{InfoText.info_of, Listing.listing}
+use Rattle.mp3_cli.proofs.RunLaws.{IsSilent, one_silent, run_ends, said_ends, sent_alone}
+use Rattle.mp3_cli.{proofs.RunLaws.{split_silent, text_ends, told_ends}, specs.Run.command_of}
+use Rattle.outside.proofs.CountsLaws.{none_fell_by_reads}
 use Rattle.program_texts.specs.Texts.{help_text, version_text}
-use Rattle.mp3_cli.specs.Run.{command_of}
-use Rattle.mp3_cli.proofs.RunLaws.{IsSilent, said_ends, sent_alone, run_ends, told_ends, one_silent, split_silent}
+use Rattle.split_edits.specs.Split.{split_at_command, split_exact_at_command, told_by}
+use Rattle.split_edits.specs.Split.{told_exact_by}
 use Rattle.mp3_cli.proofs.program.do_job.Goals as goal
 
 some_help : Some help_text ≢ Some []
@@ -18,61 +20,93 @@ unfolding version_text
 some_version e = absurd cc
 
 -- to a frame or to a sample, a split by a sheet says nothing
-sheet_silent : (exact : Bool) (input prefix sheet : List ℕ) → IsSilent (command_of (SplitBy exact input prefix sheet))
+sheet_silent : (exact : Bool) (input prefix sheet : List ℕ)
+    → IsSilent (command_of (SplitBy exact input prefix sheet))
 sheet_silent false input prefix sheet = split_silent (told_by sheet) prefix input
 sheet_silent true input prefix sheet = split_silent (told_exact_by sheet) prefix input
 
 pub returns-in-Help-clause-ends : goal.returns-in-Help-clause-ends
 returns-in-Help-clause-ends g c =
-    rw c.in-Help.is (said_ends help_text some_help _ c.say_help.result _ _ (c.say_help.ensures.says (g.D.Folder.seen c.args.folder.now).files) (sent_alone c.say_help.result c.say_help.ensures.fault))
+    rw c.in-Help.is (said_ends help_text some_help _ c.say_help.result _ _
+    (c.say_help.ensures.says (g.D.Folder.seen c.args.folder.now).files)
+    (sent_alone c.say_help.result c.say_help.ensures.fault))
 
 pub returns-in-Version-clause-ends : goal.returns-in-Version-clause-ends
 returns-in-Version-clause-ends g c =
-    rw c.in-Version.is (said_ends version_text some_version _ c.say_version.result _ _ (c.say_version.ensures.says (g.D.Folder.seen c.args.folder.now).files) (sent_alone c.say_version.result c.say_version.ensures.fault))
+    rw c.in-Version.is (said_ends version_text some_version _ c.say_version.result _ _
+    (c.say_version.ensures.says (g.D.Folder.seen c.args.folder.now).files)
+    (sent_alone c.say_version.result c.say_version.ensures.fault))
 
 pub returns-in-Drill-clause-ends : goal.returns-in-Drill-clause-ends
 returns-in-Drill-clause-ends g c =
     rw c.in-Drill.is
-    (said_ends (drill_text c.in-Drill.seed c.in-Drill.count) (drill_text-some c.in-Drill.seed c.in-Drill.count) _ c.drill.result _ _ (c.drill.ensures.says (g.D.Folder.seen c.args.folder.now).files) c.drill.ensures.fault)
+    (said_ends (drill_text c.in-Drill.seed c.in-Drill.count)
+    (drill_text-some c.in-Drill.seed c.in-Drill.count) _ c.drill.result _ _
+    (c.drill.ensures.says (g.D.Folder.seen c.args.folder.now).files) c.drill.ensures.fault)
+
+pub returns-in-List-clause-ends : goal.returns-in-List-clause-ends
+returns-in-List-clause-ends g c =
+    rw c.in-List.is
+    (text_ends (λ file. listing) c.in-List.input.now c.list.result _ _ _ _ c.list.ensures)
+
+pub returns-in-Info-clause-ends : goal.returns-in-Info-clause-ends
+returns-in-Info-clause-ends g c =
+    rw c.in-Info.is (text_ends info_of c.in-Info.input.now c.info.result _ _ _ _ c.info.ensures)
 
 pub returns-in-Gain-clause-ends : goal.returns-in-Gain-clause-ends
-returns-in-Gain-clause-ends g c = rw c.in-Gain.is (run_ends _ (one_silent _ _) c.gain.result _ _ _ c.gain.ensures)
+returns-in-Gain-clause-ends g c =
+    rw c.in-Gain.is (run_ends _ (one_silent _ _) c.gain.result _ _ _ c.gain.ensures)
 
 pub returns-in-Undo-clause-ends : goal.returns-in-Undo-clause-ends
-returns-in-Undo-clause-ends g c = rw c.in-Undo.is (run_ends _ (one_silent _ _) c.undo.result _ _ _ c.undo.ensures)
+returns-in-Undo-clause-ends g c =
+    rw c.in-Undo.is (run_ends _ (one_silent _ _) c.undo.result _ _ _ c.undo.ensures)
 
 pub returns-in-Cut-clause-ends : goal.returns-in-Cut-clause-ends
-returns-in-Cut-clause-ends g c = rw c.in-Cut.is (run_ends _ (one_silent _ _) c.cut.result _ _ _ c.cut.ensures)
+returns-in-Cut-clause-ends g c =
+    rw c.in-Cut.is (run_ends _ (one_silent _ _) c.cut.result _ _ _ c.cut.ensures)
 
 pub returns-in-CutExact-clause-ends : goal.returns-in-CutExact-clause-ends
-returns-in-CutExact-clause-ends g c = rw c.in-CutExact.is (run_ends _ (one_silent _ _) c.cut_exact.result _ _ _ c.cut_exact.ensures)
+returns-in-CutExact-clause-ends g c =
+    rw c.in-CutExact.is (run_ends _ (one_silent _ _) c.cut_exact.result _ _ _ c.cut_exact.ensures)
 
 pub returns-in-Pack-clause-ends : goal.returns-in-Pack-clause-ends
-returns-in-Pack-clause-ends g c = rw c.in-Pack.is (run_ends _ (one_silent _ _) c.pack_with.result _ _ _ c.pack_with.ensures.run)
+returns-in-Pack-clause-ends g c =
+    rw c.in-Pack.is (run_ends _ (one_silent _ _) c.pack_with.result _ _ _ c.pack_with.ensures.run)
 
 pub returns-in-SplitAt-clause-ends : goal.returns-in-SplitAt-clause-ends
 returns-in-SplitAt-clause-ends g c =
     rw (c.in-SplitAt.is, ← c.as_slice.ensures.value)
-    (run_ends (split_at_command c.as_slice.result.now c.in-SplitAt.input.now c.in-SplitAt.prefix.now) (split_silent _ _ _) c.split.result _ _ _ c.split.ensures)
+    (run_ends (split_at_command c.as_slice.result.now c.in-SplitAt.input.now
+    c.in-SplitAt.prefix.now) (split_silent _ _ _) c.split.result _ _ _ c.split.ensures)
 
 pub returns-in-SplitExact-clause-ends : goal.returns-in-SplitExact-clause-ends
 returns-in-SplitExact-clause-ends g c =
     rw (c.in-SplitExact.is, ← c.as_slice-in-SplitExact.ensures.value)
-    (run_ends (split_exact_at_command c.as_slice-in-SplitExact.result.now c.in-SplitExact.input.now c.in-SplitExact.prefix.now) (split_silent _ _ _) c.split_exact.result _ _ _ c.split_exact.ensures)
+    (run_ends (split_exact_at_command c.as_slice-in-SplitExact.result.now c.in-SplitExact.input.now
+    c.in-SplitExact.prefix.now)
+    (split_silent _ _ _) c.split_exact.result _ _ _ c.split_exact.ensures)
 
 pub returns-in-SplitBy-clause-ends : goal.returns-in-SplitBy-clause-ends
 returns-in-SplitBy-clause-ends g c =
     rw c.in-SplitBy.is
-    (run_ends _ (sheet_silent c.in-SplitBy.exact c.in-SplitBy.input.now c.in-SplitBy.prefix.now c.in-SplitBy.sheet.now) c.split_by_sheet.result _ _ _ c.split_by_sheet.ensures)
+    (run_ends _ (sheet_silent c.in-SplitBy.exact c.in-SplitBy.input.now c.in-SplitBy.prefix.now
+    c.in-SplitBy.sheet.now) c.split_by_sheet.result _ _ _ c.split_by_sheet.ensures)
 
 pub returns-in-Join-clause-ends : goal.returns-in-Join-clause-ends
-returns-in-Join-clause-ends g c = rw c.in-Join.is (run_ends _ (one_silent _ _) c.join.result _ _ _ c.join.ensures)
+returns-in-Join-clause-ends g c = rw c.in-Join.is c.join_files.ensures.ends
 
 pub returns-in-Fade-clause-ends : goal.returns-in-Fade-clause-ends
-returns-in-Fade-clause-ends g c = rw c.in-Fade.is (run_ends _ (one_silent _ _) c.fade.result _ _ _ c.fade.ensures)
+returns-in-Fade-clause-ends g c =
+    rw c.in-Fade.is (run_ends _ (one_silent _ _) c.fade.result _ _ _ c.fade.ensures)
 
 pub returns-in-Salvage-clause-ends : goal.returns-in-Salvage-clause-ends
 returns-in-Salvage-clause-ends g c = rw c.in-Salvage.is (search (rules, told_ends))
+
+pub returns-in-List-clause-streams : goal.returns-in-List-clause-streams
+returns-in-List-clause-streams g c = rw c.in-List.is c.list.ensures.streams
+
+pub returns-in-Info-clause-streams : goal.returns-in-Info-clause-streams
+returns-in-Info-clause-streams g c = rw c.in-Info.is c.info.ensures.streams
 
 pub returns-in-Gain-clause-streams : goal.returns-in-Gain-clause-streams
 returns-in-Gain-clause-streams g c = rw c.in-Gain.is c.gain.ensures.streams
@@ -84,10 +118,12 @@ pub returns-in-Pack-clause-streams : goal.returns-in-Pack-clause-streams
 returns-in-Pack-clause-streams g c = rw c.in-Pack.is c.pack_with.ensures.run.streams
 
 pub returns-in-SplitAt-clause-streams : goal.returns-in-SplitAt-clause-streams
-returns-in-SplitAt-clause-streams g c = rw (c.in-SplitAt.is, ← c.as_slice.ensures.value) c.split.ensures.streams
+returns-in-SplitAt-clause-streams g c =
+    rw (c.in-SplitAt.is, ← c.as_slice.ensures.value) c.split.ensures.streams
 
 pub returns-in-SplitExact-clause-streams : goal.returns-in-SplitExact-clause-streams
-returns-in-SplitExact-clause-streams g c = rw (c.in-SplitExact.is, ← c.as_slice-in-SplitExact.ensures.value) c.split_exact.ensures.streams
+returns-in-SplitExact-clause-streams g c =
+    rw (c.in-SplitExact.is, ← c.as_slice-in-SplitExact.ensures.value) c.split_exact.ensures.streams
 
 pub returns-in-SplitBy-clause-streams : goal.returns-in-SplitBy-clause-streams
 returns-in-SplitBy-clause-streams g c = rw c.in-SplitBy.is c.split_by_sheet.ensures.streams
@@ -102,4 +138,10 @@ pub returns-in-CutExact-clause-streams : goal.returns-in-CutExact-clause-streams
 returns-in-CutExact-clause-streams g c = rw c.in-CutExact.is c.cut_exact.ensures.streams
 
 pub returns-in-Join-clause-streams : goal.returns-in-Join-clause-streams
-returns-in-Join-clause-streams g c = rw c.in-Join.is c.join.ensures.streams
+returns-in-Join-clause-streams g c = rw c.in-Join.is c.join_files.ensures.streams
+
+pub returns-in-List-clause-counts : goal.returns-in-List-clause-counts
+returns-in-List-clause-counts g c = none_fell_by_reads _ _ c.list.ensures.counts
+
+pub returns-in-Info-clause-counts : goal.returns-in-Info-clause-counts
+returns-in-Info-clause-counts g c = none_fell_by_reads _ _ c.info.ensures.counts

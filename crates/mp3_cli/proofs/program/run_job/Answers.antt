@@ -1,12 +1,13 @@
 -- The line names the files of the job, and the status is that of the fault.
-use Rattle.std.proofs.Common.{ℕ, List, map, Bor, sym, ap, ◌∙◌}
-use Rattle.mp3_cli.proofs.RunLaws.{done_where_zero}
+use Rattle.std.proofs.Common.{ap, Bor, List, map, sym, ℕ, ◌∙◌}
 use Rattle.commands.specs.Said.{fault_of}
+use Rattle.mp3_cli.proofs.RunLaws.{done_where_zero}
 use Rattle.mp3_cli.proofs.program.run_job.Goals as goal
 
 pub returns-clause-answers : goal.returns-clause-answers
 returns-clause-answers g c =
-    let inputs = ap (map (λ (name : Bor (List ℕ)). name.now)) c.as_slice.ensures.value ∙ c.inputs_of-inputs.ensures in
+    let inputs = ap (map (λ (name : Bor (List ℕ)). name.now)) c.as_slice.ensures.value
+    ∙ c.inputs_of-inputs.ensures in
     record {
       fault = fault_of c.do_job-done.result;
       ends = c.do_job-done.ensures.ends;
@@ -15,4 +16,5 @@ returns-clause-answers g c =
     }
 
 pub returns-clause-streams : goal.returns-clause-streams
-returns-clause-streams g c zero_is = done_where_zero c.do_job-done.result (sym c.report.ensures.status ∙ zero_is) c.do_job-done.ensures.streams
+returns-clause-streams g c zero_is = done_where_zero c.do_job-done.result
+    (sym c.report.ensures.status ∙ zero_is) c.do_job-done.ensures.streams

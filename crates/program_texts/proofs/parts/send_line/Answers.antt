@@ -3,4 +3,5 @@ use Rattle.program_texts.proofs.Lines.{got_either, spelled_parts}
 use Rattle.program_texts.proofs.parts.send_line.Goals as goal
 
 pub returns : goal.returns
-returns g c = rw (← spelled_parts c.args.parts.now) (got_either c.send_parts.result c.send_parts.ensures.later c.send_parts.ensures.whole c.send_parts.ensures.front)
+returns g c = rw (← spelled_parts c.args.parts.now) (got_either c.send_parts.result
+    c.send_parts.ensures.later c.send_parts.ensures.whole c.send_parts.ensures.front)

@@ -1,8 +1,9 @@
 -- The parts so far were sent.
-use Rattle.std.proofs.Common.{take, flat_map}
-use Rattle.program_texts.specs.Lines.{spelled_part, part_of}
-use Rattle.program_texts.specs.Texts.{GotWhole}
+use Rattle.std.proofs.Common.{flat_map, take}
+use Rattle.program_texts.specs.{Lines.{part_of, spelled_part}, Texts.GotWhole}
 use Rattle.program_texts.proofs.parts.send_parts.Given as goal
 
 abbrev pub invariant-loop-part : goal.invariant-loop-part
-invariant-loop-part g l = GotWhole (g.T.Sink.heard l.initial.sink).sent (g.T.Sink.heard l.sink).sent (g.T.Sink.heard l.initial.sink).faults (g.T.Sink.heard l.sink).faults (flat_map (λ part. spelled_part (part_of part)) (take l.part-index l.parts))
+invariant-loop-part g l = GotWhole (g.T.Sink.heard l.initial.sink).sent (g.T.Sink.heard l.sink).sent
+    (g.T.Sink.heard l.initial.sink).faults (g.T.Sink.heard l.sink).faults
+    (flat_map (λ part. spelled_part (part_of part)) (take l.part-index l.parts))

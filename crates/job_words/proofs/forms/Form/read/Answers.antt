@@ -1,23 +1,35 @@
 -- What is found of the form.
-use Rattle.std.proofs.Common.{◌≡◌, ◌<◌, ◌⊎◌, ◌∙◌, ◌-◌, List, length, drop, map, string_bytes, inl, inr, ap, refl, arith}
+use Rattle.std.proofs.Common.{ap, arith, drop, inl, inr, length, List, map, refl, string_bytes, ◌-◌}
+use Rattle.std.proofs.{Common.{◌<◌, ◌∙◌, ◌≡◌, ◌⊎◌}, lemmas.List.{length-drop, length-map}}
 use Rattle.std.specs.List.{drop-map}
-use Rattle.std.proofs.lemmas.List.{length-map, length-drop}
+use Rattle.job_words.proofs.Reading.{accepts, few, Found, refuses}
+use Rattle.job_words.proofs.forms.Form.read.Goals.{After-as_slice-values}
+use Rattle.job_words.proofs.forms.Form.read.Goals.{then-count-words-via-else-count-words+then-count-len}
+use Rattle.job_words.proofs.forms.Form.read.Goals.{then-count-words-via-then-count-words}
+use Rattle.job_words.specs.{Code.{asked, form_given, value_said, word_kind}, Kinds.values_of}
 use Rattle.job_words.specs.declared.kinds.WordKind.{WordKind}
-use Rattle.job_words.specs.Kinds.{values_of}
-use Rattle.job_words.specs.Code.{word_kind, value_said, form_given, asked}
-use Rattle.job_words.proofs.Reading.{Found, few, accepts, refuses}
 use Rattle.job_words.proofs.forms.Form.read.Goals as goal
-use Rattle.job_words.proofs.forms.Form.read.Goals.{After-as_slice-values, then-count-words-via-then-count-words, then-count-words-via-else-count-words+then-count-len}
 
 -- what was found of the form
-found : (c : After-as_slice-values) → Found (form_given c.args.self.now) (map string_bytes c.args.words.now) c.as_slice-given.result.now c.len-front.result (map word_kind c.append_behind.new.kinds.items) (map value_said c.as_slice-values.result.now)
+found : (c : After-as_slice-values) → Found (form_given c.args.self.now)
+    (map string_bytes c.args.words.now) c.as_slice-given.result.now c.len-front.result
+    (map word_kind c.append_behind.new.kinds.items) (map value_said c.as_slice-values.result.now)
 found c =
-    let left : c.saturating_sub.result ≡ length (map string_bytes c.args.words.now) - c.len-front.result = omega (arith, c.saturating_sub.ensures, length-map c.args.words.now string_bytes) in
+    let left : c.saturating_sub.result
+    ≡ length (map string_bytes c.args.words.now) - c.len-front.result =
+    omega (arith, c.saturating_sub.ensures, length-map c.args.words.now string_bytes) in
     record {
       given-is = c.as_slice-given.ensures.value ∙ c.given_in-flags.ensures.given;
-      front-is = omega (arith, c.len-front.ensures.value, length-map c.front_kinds-kinds.result.items word_kind, ap length c.front_kinds-kinds.ensures.items);
+      front-is = omega (
+        arith,
+        c.len-front.ensures.value,
+        length-map c.front_kinds-kinds.result.items word_kind,
+        ap length c.front_kinds-kinds.ensures.items,
+      );
       kinds-is = c.append_behind.ensures ∙ rw (c.front_kinds-kinds.ensures.items, left) refl;
-      values-is = ap (map value_said) c.as_slice-values.ensures.value ∙ c.follow-read.ensures ∙ ap (λ (kinds : List WordKind). values_of (map word_kind kinds) (map string_bytes c.args.words.now)) c.as_slice.ensures.value;
+      values-is = ap (map value_said) c.as_slice-values.ensures.value ∙ c.follow-read.ensures
+          ∙ ap (λ (kinds : List WordKind). values_of (map word_kind kinds)
+          (map string_bytes c.args.words.now)) c.as_slice.ensures.value;
     }
 
 pub returns-then-count-words-clause-answer : goal.returns-then-count-words-clause-answer
@@ -25,26 +37,56 @@ returns-then-count-words-clause-answer c =
     let words = map string_bytes c.args.words.now in
     let kinds = map word_kind c.append_behind.new.kinds.items in
     let values = map value_said c.as_slice-values.result.now in
-    let many : length values ≡ length c.as_slice-values.result.now = length-map c.as_slice-values.result.now value_said in
+    let many : length values ≡ length c.as_slice-values.result.now =
+    length-map c.as_slice-values.result.now value_said in
     let short : (length values < length words) ⊎ (length values < length kinds) =
     elim c.then-count-words.branch [
-      | then-count-words-via-then-count-words w ↦ inl (omega (arith, many, w.if-count-words.true, length-map c.args.words.now string_bytes))
-      | then-count-words-via-else-count-words+then-count-len w ↦ inr (omega (arith, many, w.if-count-len.true, w.len.ensures.value, length-map c.append_behind.new.kinds.items word_kind))
+      | then-count-words-via-then-count-words w ↦
+          inl (omega (arith, many, w.if-count-words.true, length-map c.args.words.now string_bytes))
+      | then-count-words-via-else-count-words+then-count-len w ↦ inr (omega (
+        arith,
+        many,
+        w.if-count-len.true,
+        w.len.ensures.value,
+        length-map c.append_behind.new.kinds.items word_kind,
+      ))
     ] in
-    rw (← many) (refuses _ c.requires words _ _ kinds values (found (goal.at.returns-then-count-words-clause-answer c).After-as_slice-values) short)
+    rw (← many) (refuses _ c.requires words _ _ kinds values
+    (found (goal.at.returns-then-count-words-clause-answer c).After-as_slice-values) short)
 
 pub job-requires : goal.job-requires
 job-requires c =
     let values = c.as_slice-values.result.now in
-    omega (arith, ap length c.behind.ensures, length-drop c.len-front.result values, length-drop c.len-front.result (map value_said values), length-map values value_said, few _ c.requires _ _ _ _ _ (found (goal.at.job-requires c).After-as_slice-values))
+    omega (
+      arith,
+      ap length c.behind.ensures,
+      length-drop c.len-front.result values,
+      length-drop c.len-front.result (map value_said values),
+      length-map values value_said,
+      few _ c.requires _ _ _ _ _ (found (goal.at.job-requires c).After-as_slice-values),
+    )
 
 pub returns-clause-answer : goal.returns-clause-answer
 returns-clause-answer c =
     let words = map string_bytes c.args.words.now in
     let values = map value_said c.as_slice-values.result.now in
-    let values-are : map value_said c.behind.result.now ≡ drop c.len-front.result values = rw (c.behind.ensures, drop-map) refl in
-    let words-are : map string_bytes c.behind-2.result.now ≡ drop c.len-front.result words = rw (c.behind-2.ensures, drop-map) refl in
-    accepts _ c.requires words _ _ _ values (found (goal.at.returns-clause-answer c).After-as_slice-values) (asked c.job.result)
-    (omega (arith, length-map c.args.words.now string_bytes, length-map c.as_slice-values.result.now value_said, c.if-count-words.false))
-    (omega (arith, length-map c.append_behind.new.kinds.items word_kind, length-map c.as_slice-values.result.now value_said, c.if-count-len.false, c.len.ensures.value))
+    let values-are : map value_said c.behind.result.now ≡ drop c.len-front.result values =
+    rw (c.behind.ensures, drop-map) refl in
+    let words-are : map string_bytes c.behind-2.result.now ≡ drop c.len-front.result words =
+    rw (c.behind-2.ensures, drop-map) refl in
+    accepts _ c.requires words _ _ _ values
+    (found (goal.at.returns-clause-answer c).After-as_slice-values) (asked c.job.result)
+    (omega (
+      arith,
+      length-map c.args.words.now string_bytes,
+      length-map c.as_slice-values.result.now value_said,
+      c.if-count-words.false,
+    ))
+    (omega (
+      arith,
+      length-map c.append_behind.new.kinds.items word_kind,
+      length-map c.as_slice-values.result.now value_said,
+      c.if-count-len.false,
+      c.len.ensures.value,
+    ))
     (c.job.ensures ∙ rw (values-are, words-are) refl)

@@ -1,0 +1,19 @@
+-- With the flag a text is sent, without it nothing.
+use Rattle.mp3_cli.proofs.RunLaws.{one_silent, run_ends, told_ends}
+use Rattle.mp3_cli.proofs.program.join_files.Goals as goal
+
+pub returns-then-seamless-clause-ends : goal.returns-then-seamless-clause-ends
+returns-then-seamless-clause-ends g c =
+    let is = c.join_seamless.ensures in
+    rw c.if-seamless.true
+    (told_ends _ c.join_seamless.result _ _ _ _ is.done is.left is.says is.numbers is.names)
+
+pub returns-then-seamless-clause-streams : goal.returns-then-seamless-clause-streams
+returns-then-seamless-clause-streams g c = rw c.if-seamless.true c.join_seamless.ensures.streams
+
+pub returns-else-seamless-clause-ends : goal.returns-else-seamless-clause-ends
+returns-else-seamless-clause-ends g c =
+    rw c.if-seamless.false (run_ends _ (one_silent _ _) c.join.result _ _ _ c.join.ensures)
+
+pub returns-else-seamless-clause-streams : goal.returns-else-seamless-clause-streams
+returns-else-seamless-clause-streams g c = rw c.if-seamless.false c.join.ensures.streams

@@ -1,0 +1,144 @@
+-- The head of a written file says the extension of its Info frame. One of zeros counts nothing.
+use Rattle.std.proofs.Common.{ap, append_assoc, arith, Bool, cond, drop, false, length, List, None}
+use Rattle.std.proofs.Common.{Option, refl, replicate, Some, sym, take, true, ℕ, ◌++◌, ◌-◌, ◌∙◌}
+use Rattle.std.proofs.{Common.{◌≡◌, ◌≤◌}, lemmas.Bool.{and_right, le-leb}}
+use Rattle.std.proofs.lemmas.List.{drop-drop, drop_at, length-append, length-replicate, length-take}
+use Rattle.std.{proofs.lemmas.List.{take-append-le, take_at}, specs.List.concat}
+use Rattle.std.specs.Prelude.{if◌then◌else◌, nat_le, option_map}
+use Rattle.bit_fields.specs.Bits.{bytes}
+use Rattle.byteorder.specs.Endian.{big_bytes, big_number}
+use Rattle.exact_span.proofs.SealLaws.{extension-there}
+use Rattle.exact_span.specs.Extensions.{counts_with, delay_in, has_encoder, padding_in}
+use Rattle.exact_span.specs.{Laws.AreWhole, PlayedPositions.{counted_by, counted_of, samples_in}}
+use Rattle.frame_header.specs.{Fields.{ClassFields, HeaderFields, IsHeader}, HeaderBits.header_bits}
+use Rattle.frame_header.specs.Tables.{area_of, class_of, length_of, side_size_of}
+use Rattle.frame_writer.specs.Frames.{Frame, frame_bytes}
+use Rattle.info_header.specs.HeadText.{low_place}
+use Rattle.info_header.specs.Info.{field_place, flags_in, info_bytes, info_in, number_or_zero}
+use Rattle.info_header.specs.Info.{padded, table_or_zeros, text_of}
+use Rattle.info_header.specs.InfoFrame.{info_frame, info_header_of, info_slot_of}
+use Rattle.info_header.specs.declared.fields.Info.{Info}
+use Rattle.laying.proofs.{EntryBytes.length-header, InfoBytes.{length-info, length-info_frame}}
+use Rattle.laying.specs.{KeptFields.fields_of_head, LaidFiles.{HasInfoSizes, head_at, laid_file}}
+use Rattle.laying.specs.Written.{head_info}
+use Rattle.sync_survey.specs.declared.places.Head.{Head}
+
+-- ---- the fields of an Info frame
+
+flags-by : (vbr : Bool) (rest : List ℕ)
+    → take 4 (drop 4 (text_of vbr ++ (big_bytes 4 15 ++ rest))) ≡ big_bytes 4 15
+flags-by true rest = refl
+flags-by false rest = refl
+
+module _ (first : HeaderFields) (info : Info) (known : IsHeader first) (whole : AreWhole info) where
+  abbrev c : ClassFields
+  c = class_of first
+
+  abbrev zeros : List ℕ
+  zeros = replicate (area_of c (info_slot_of c) false - 156) 0
+
+  abbrev fields : List ℕ
+  fields = info_bytes info ++ zeros
+
+  sizes : HasInfoSizes info
+  sizes = record { table = whole.table; extension = whole.extension }
+
+  fields-there : drop (low_place (info_header_of first)) (info_frame first info) ≡ fields
+  unfolding info_frame low_place
+  fields-there =
+      let four : List ℕ = bytes (header_bits (info_header_of first)) in
+      let side : List ℕ = replicate (side_size_of c) 0 in
+      sym (drop-drop (side_size_of c) 4 (four ++ (side ++ fields)))
+      ∙ ap (drop (side_size_of c))
+      (drop_at four (side ++ fields) 4 (length-header (info_header_of first)))
+      ∙ drop_at side fields (side_size_of c) (length-replicate (side_size_of c) 0)
+
+  fields-long : 8 ≤ length fields
+  fields-long = omega (arith, length-append (info_bytes info) zeros, length-info info sizes)
+
+  flags-is : flags_in fields ≡ 15
+  unfolding info_bytes
+  flags-is =
+      let behind : List ℕ =
+      big_bytes 4 (number_or_zero info.frames) ++ (big_bytes 4 (number_or_zero info.bytes)
+      ++ (table_or_zeros info.table ++
+      (big_bytes 4 (number_or_zero info.quality) ++ info.extension))) in
+      ap (λ b. cond b (big_number 4 (take 4 (drop 4 fields))) 0)
+      (le-leb 8 (length fields) fields-long)
+      ∙ ap (λ (l : List ℕ). big_number 4 (take 4 (drop 4 l)))
+      (append_assoc (text_of info.vbr) (big_bytes 4 15 ++ behind) zeros
+      ∙ ap (λ (l : List ℕ). text_of info.vbr ++ l) (append_assoc (big_bytes 4 15) behind zeros))
+      ∙ ap (big_number 4) (flags-by info.vbr (behind ++ zeros))
+
+  place-is : field_place 15 4 ≡ 120
+  unfolding field_place
+  place-is = refl
+
+  extension-at : take 36 (drop 120 fields) ≡ info.extension
+  unfolding low_place
+  extension-at =
+      ap (λ (l : List ℕ). take 36 (drop 120 l)) (sym fields-there)
+      ∙ ap (take 36) (drop-drop 120 (low_place (info_header_of first)) (info_frame first info))
+      ∙ extension-there first info whole
+
+  extension-in : (info_in fields).extension ≡ info.extension
+  unfolding info_in
+  extension-in =
+      let rest : List ℕ = drop 120 fields in
+      let long : 36 ≤ length rest =
+      omega (
+        arith,
+        ap (λ (l : List ℕ). length l) extension-at,
+        length-take 36 rest,
+        whole.extension,
+      ) in
+      ap (λ n. padded 36 (drop n fields)) (ap (λ flags. field_place flags 4) flags-is ∙ place-is)
+      ∙ take-append-le 36 rest (replicate 36 0) long ∙ extension-at
+
+  -- ---- in a file
+
+  module _ (front : List (List ℕ)) (frames : List Frame) (back : List (List ℕ)) where
+    abbrev file : List ℕ
+    file = laid_file front first info frames back
+
+    head-there : take (length_of (class_of (info_header_of first)) (info_slot_of c))
+        (drop (length (concat front)) file) ≡ info_frame first info
+    unfolding laid_file
+    head-there =
+        let behind : List ℕ = frame_bytes frames ++ concat back in
+        ap (take (length_of (class_of (info_header_of first)) (info_slot_of c)))
+        (drop_at (concat front) (info_frame first info ++ behind) (length (concat front)) refl)
+        ∙ take_at (info_frame first info) behind
+        (length_of (class_of (info_header_of first)) (info_slot_of c))
+        (length-info_frame first info known sizes)
+
+    -- the head of the file has the extension that it was laid with
+    pub laid-extension : (head_info file (Some (head_at (length (concat front)) first))).extension
+        ≡ info.extension
+    unfolding head_info
+    laid-extension =
+        ap (λ (l : List ℕ). (info_in (drop (low_place (info_header_of first)) l)).extension)
+        head-there
+        ∙ ap (λ (l : List ℕ). (info_in l).extension) fields-there ∙ extension-in
+
+-- ---- an extension without the name of an encoder
+
+none-counted : (info : Info) (frames : Option ℕ) → has_encoder info.extension ≡ false
+    → counts_with info frames ≡ None
+none-counted info None none = refl
+none-counted info (Some frames) none =
+    ap (λ b. if b then Some (record {
+      frames = frames;
+      delay = delay_in info.extension;
+      padding = padding_in info.extension;
+    }) else None) (and_right (nat_le 1 frames) (has_encoder info.extension) none)
+
+-- a head whose extension is all zeros counts nothing
+pub zero-counts : (file : List ℕ) (head : Head) (class : ClassFields) (frames : ℕ)
+    → (head_info file (Some head)).extension ≡ replicate 36 0
+    → counted_of (fields_of_head file (Some head)) class frames ≡ None
+unfolding counted_of has_encoder
+zero-counts file head class frames is =
+    let info : Info = head_info file (Some head) in
+    let none : has_encoder info.extension ≡ false = ap has_encoder is in
+    ap (option_map (counted_by (samples_in class) frames)) (none-counted info info.frames none)

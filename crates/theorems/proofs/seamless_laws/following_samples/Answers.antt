@@ -1,0 +1,6 @@
+-- Each sample of an input that follows is kept.
+use Rattle.theorems.proofs.SeamlessPlaces.{following}
+use Rattle.theorems.proofs.seamless_laws.following_samples.Goals as goal
+
+pub returns : goal.returns
+returns c = following

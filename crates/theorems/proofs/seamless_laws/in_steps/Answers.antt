@@ -1,0 +1,6 @@
+-- The file of the first step is a piece too.
+use Rattle.theorems.proofs.SplitSteps.{in-steps}
+use Rattle.theorems.proofs.seamless_laws.in_steps.Goals as goal
+
+pub returns : goal.returns
+returns c = in-steps
