@@ -15,6 +15,7 @@ mod pack;
 mod refused_inputs;
 mod refused_words;
 mod salvage_rows;
+mod seamless;
 mod shrinking;
 mod song;
 mod split;
@@ -114,6 +115,11 @@ fn splits(rt: HostRuntime) -> Result<(), Fail> {
 #[test]
 fn joins(rt: HostRuntime) -> Result<(), Fail> {
     expect_rows(&rt, &[join::ROWS])
+}
+
+#[test]
+fn joins_without_seams(rt: HostRuntime) -> Result<(), Fail> {
+    expect_rows(&rt, &[seamless::ROWS])
 }
 
 #[test]

@@ -58,6 +58,12 @@ split a p -c s t => bad word 6
 join => bad word 2
 join o => bad word 3
 join o a -b => bad word 4
+join --seamless => bad word 3
+join --seamless o => bad word 4
+join --seamless o a -b => bad word 5
+join --seamless --seamless o a => bad word 3
+join o --seamless a => bad word 3
+join --seam o a => bad word 2
 
 # Packings in a mode.
 pack --constant => bad word 3

@@ -38,8 +38,10 @@ const USAGE: &[u8] = b"usage: mp3edit COMMAND
                          the same with the samples between the places, as cut --exact writes them
   split --exact IN PREFIX -c CUE
                          the same with the samples of each track
-  join OUT IN1 [IN2 to IN64]
+  join [--seamless] OUT IN1 [IN2 to IN64]
                          write the frames of IN1 to IN64, one file after another, to OUT
+                         --seamless: leave out the frames that only a piece needs, so that pieces in order are
+                         the whole again, and say of each input but the first what was left out
   drill SEED COUNT       make COUNT frames from the number SEED, pack them in memory, and say how long both are
   fade [--back] IN OUT SHEET
                          write IN to OUT, each frame louder or quieter by the steps of 1.5 dB at its place

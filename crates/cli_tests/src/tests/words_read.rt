@@ -66,6 +66,10 @@ split a p -c s => SplitBy { exact: false, input: \"a\", prefix: \"p\", sheet: \"
 split --exact a p -c s => SplitBy { exact: true, input: \"a\", prefix: \"p\", sheet: \"s\" }
 split --exact a p 0s 0.1 EOF-0.0.005 => SplitExact { input: \"a\", prefix: \"p\", places: [Sample(0), Place(Time(100, 100)), Back(5)] }
 split a p 0.0 7 EOF => SplitAt { input: \"a\", prefix: \"p\", places: [Time(0, 100), Frame(7), End] }
+
+# Joins.
+join o a => Join { seamless: false, output: \"o\", inputs: [\"a\"] }
+join --seamless o a b => Join { seamless: true, output: \"o\", inputs: [\"a\", \"b\"] }
 ";
 
 #[test]
@@ -92,6 +96,7 @@ fn joins(rt: HostRuntime) -> Result<(), Fail> {
         let words = join_words(rt.alloc(), *count)?;
         assert_eq!(rt; words.len(), *count as usize + 2);
         let wanted = Job::Join {
+            seamless: false,
             output: "o",
             inputs: &words[2..],
         };
