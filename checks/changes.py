@@ -427,5 +427,6 @@ def commands(random, files):
     yield ["cut", "--exact", "x", *exact_places(random, data, found), "o"]
     yield ["split", "--exact", "x", "p", *exact_places(random, data, found, random.choice((2, 3, 3, 5)))]
     yield ["split", "--exact", "x", "p", "-c", "s"]
+    yield ["join", "--seamless", "o", *Random(zlib.crc32(data) + 2).choice((["x"], ["x", "y"], ["y", "x"], ["x", "x", "y"], ["y", "x", "y", "x"]))]
     others = ("salvage", "salvage x", "salvage x x", "salvage o x", "salvage none o", "salvage -w x o", "salvage s o", "salvage y o")
     yield Random(zlib.crc32(data)).choice(others).split()

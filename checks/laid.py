@@ -128,9 +128,9 @@ def placed(parts, slots, lead_in_slots, led=False):
     return found
 
 
-def has_room(areas, sizes, window):
-    """Whether main data of these sizes have room in these areas."""
-    free = 0
+def has_room(areas, sizes, window, free=0):
+    """Whether main data of these sizes have room in these areas, with so many bytes free before the first."""
+    free = min(window, free)
     for area, size in zip(areas, sizes):
         if free + area < size:
             return False

@@ -7,8 +7,8 @@ helps to check.
 
 The words are those of "Synopsis" in docs/MANUAL.md, the lines those of its "Messages", and their order is "The order of refusals" in
 docs/DECISIONS.md. Files are bytes by name. frames.py says what is in a file and moves gains, laid.py lays main data, fades.py reads
-positions and the sheets of fades, spans.py makes exact pieces, about.py says what a file is, drill.py draws streams from seeds, and
-damaged.py says what can be read of a damaged file.
+positions and the sheets of fades, spans.py makes exact pieces, seams.py joins without seams, about.py says what a file is, drill.py draws
+streams from seeds, and damaged.py says what can be read of a damaged file.
 """
 import re
 import sys
@@ -23,6 +23,7 @@ import drill as drills  # noqa: E402
 import fades  # noqa: E402
 import frames  # noqa: E402
 import laid  # noqa: E402
+import seams  # noqa: E402
 import spans  # noqa: E402
 from fades import frame_at, place  # noqa: E402
 
@@ -102,6 +103,7 @@ FORMS += [
     (["split", "--exact", name, name, is_exact_place, is_exact_place], 99),
     (["split", "--exact", name, name, "-c", name], 1),
     (["join", name, name], 64),
+    (["join", "--seamless", name, name], 64),
     (["fade", name, name, name], 1),
     (["fade", "--back", name, name, name], 1),
     (["salvage", name, name], 1),
@@ -314,15 +316,20 @@ def split(words, files):
 
 
 def join(words, files):
-    _, output, *sources = words
+    is_seamless = words[1] == "--seamless"
+    output, *sources = words[2:] if is_seamless else words[1:]
     judge_names(sources, [output])
     surveys = []
     for it in sources:
         surveys.append(surveyed(it, files))
         if surveys[-1].frames[0].kind != surveys[0].frames[0].kind:
             raise Answer(1, f"{it}: other class than the first input")
+    counts = [len(it.frames) for it in surveys]
+    if is_seamless:
+        new, out, lines = seams.joined_file([seams.Input(it, files[it], found) for it, found in zip(sources, surveys)])
+        return Result(text="".join(f"{it}\n" for it in lines), outputs={output: new}, chosen={output: list(zip(sources, out, counts))})
     new = laid.joined_file([files[it] for it in sources], surveys)[0]
-    return Result(outputs={output: new}, chosen={output: [(it, 0, len(found.frames)) for it, found in zip(sources, surveys)]})
+    return Result(outputs={output: new}, chosen={output: [(it, 0, count) for it, count in zip(sources, counts)]})
 
 
 def fade(words, files):

@@ -1,0 +1,180 @@
+#!/usr/bin/env python3
+"""Files joined without seams, as 'mp3edit join --seamless' joins them. It shares no code with the program that it helps to check.
+
+  seams.py join OUT IN..          writes OUT: the inputs joined in this order; and says of each input from the second on what of it is left out
+
+The frames are written as one part; the frames of a file whose main data begin in its head are lost, as spans.py has it. Of each input but
+the first there goes at the front what the frames before it make useless, by the first of these that holds. It follows: the heads of it and
+of the input before it count, and by them its first played position comes where the one behind the last of the other would, a whole number
+of frames from its front. Those frames go, if the last of them, from the one on in which its playing begins, but at least one, are alike the
+last frames that are written, and the others have room. Its lead-in goes: the first frame, whose side information is all 0, and which has
+the header that a lead-in of the other frames has, if these want one and have room without it. Else it is whole. The first frame that is
+written of an input may have a greater slot than its own, the least in which all have room where 511 bytes (MPEG-1) or 255 are free before
+the first of all. At last the lead-in of the first input goes, if the others want one, and comes again as the one of all.
+
+Frames are alike if only their slots, main_data_begin and gains differ. Delay and padding are such that the samples played begin with
+those of the first input and end with those of the last, if the head of the first counts and the delay has 12 bits.
+"""
+import sys
+from dataclasses import dataclass, replace
+
+sys.dont_write_bytecode = True
+import frames  # noqa: E402
+import laid  # noqa: E402
+import spans  # noqa: E402
+
+LONGEST_DELAY = 4095
+# Peak and ReplayGain in the extension of a head.
+LOUDNESS = slice(11, 19)
+
+
+@dataclass
+class Input:
+    """A file that is joined: its bytes, its survey with the lost frames of the head's area, and what each frame needs."""
+
+    name: str
+    data: bytes
+    found: frames.Survey
+
+    def __post_init__(self):
+        self.found = spans.apart(self.found)
+        self.needs = laid.main_data(self.data, self.found)
+        self.counts = spans.counts_of(self.data, self.found.head) is not None
+        self.start, end = spans.played(self.data, self.found)
+        self.rest = len(self.needs) * self.samples - end
+
+    @property
+    def samples(self):
+        return spans.samples_of(self.found)
+
+    def alike(self):
+        """What is compared of each frame."""
+        return [alike_part(need, frame) for need, frame in zip(self.needs, self.found.frames)]
+
+
+def alike_part(need, frame):
+    """The header but its slot, the side information but main_data_begin and gains, and the main data."""
+    side = need.side & (1 << 8 * frame.side_size - frame.version.begin_bits) - 1
+    for it in frame.granules:
+        side &= ~(0xFF << it.behind)
+    return need.header[:2] + bytes([need.header[2] & 0x0D]) + need.header[3:], side, need.data
+
+
+def window_of(needs):
+    return (1 << frames.Frame(needs[0].header, 0).version.begin_bits) - 1
+
+
+def fits(needs, free):
+    """Whether frames have room in their own slots, with so many bytes free before the first."""
+    areas = [it.shapes(None)[0].area for it in needs]
+    return not needs or laid.has_room(areas, [len(it.data) for it in needs], window_of(needs), free)
+
+
+def in_slot(need, slot):
+    return replace(need, header=laid.in_slot(need.header, slot, need.protected).header)
+
+
+def joining(run, needs):
+    """The frames as they join those that are written, the first in the least slot that leaves room; or nothing if none does."""
+    if not needs:
+        return []
+    for slot in laid.SLOTS[laid.SLOTS.index(laid.slot_of(needs[0].header)) :]:
+        moved = [in_slot(needs[0], slot), *needs[1:]]
+        if fits(run + moved, window_of(needs)):
+            return moved
+    return None
+
+
+def lead_in_header(needs):
+    """The header of the lead-in of some frames."""
+    shapes = (laid.in_slot(needs[0].header, slot, False) for slot in laid.SLOTS)
+    return next(it.header for it in shapes if fits(needs, it.area))
+
+
+def has_lead_in(source):
+    first, *others = source.needs
+    return bool(others) and source.found.frames[0].side == 0 and first.header == lead_in_header(others)
+
+
+def following(before, source, written):
+    """How many frames of an input go because it follows the one before it, or nothing. `written` is what is compared of all that is written."""
+    if not before.counts or not source.counts or (source.start + before.rest) % source.samples:
+        return None
+    count = (source.start + before.rest) // source.samples
+    first = min(source.start // source.samples, count - 1)
+    if count > len(source.needs) or count - first > len(written):
+        return None
+    return count if source.alike()[first:count] == written[len(written) - (count - first) :] else None
+
+
+def decided(before, source, run, written):
+    """Of an input behind the first what is said, how many frames go, and the others as they join."""
+    count = following(before, source, written)
+    moved = None if count is None else joining(run, source.needs[count:])
+    if moved is not None:
+        return f"follows, {count} frames left out", count, moved
+    if has_lead_in(source) and not fits(source.needs[1:], 0):
+        moved = joining(run, source.needs[1:])
+        if moved is not None:
+            return "lead-in left out", 1, moved
+    return "whole", 0, joining(run, source.needs)
+
+
+def run_of(inputs):
+    """The frames that are written; of each input how many go at its front; and the lines that say it."""
+    run, written, out, lines = list(inputs[0].needs), inputs[0].alike(), [0], []
+    for before, source in zip(inputs, inputs[1:]):
+        said, count, moved = decided(before, source, run, written)
+        run += moved
+        written += source.alike()[count:]
+        out.append(count)
+        lines.append(f"{source.name}: {said}")
+    if has_lead_in(inputs[0]) and not fits(run[1:], 0):
+        run, out[0] = run[1:], 1
+    return run, out, lines
+
+
+def extension_of(source):
+    return laid.head_fields(source.data, source.found.head)[1]
+
+
+def numbered(inputs, delay, padding):
+    """The extension of the first input with these numbers."""
+    old = extension_of(inputs[0])
+    if not all(it.counts and extension_of(it)[LOUDNESS] == old[LOUDNESS] for it in inputs):
+        old = old[: LOUDNESS.start] + bytes(8) + old[LOUDNESS.stop :]
+    return old[:21] + (delay << 12 | padding).to_bytes(3, "big") + old[24:28] + bytes(8)
+
+
+def joined_file(inputs):
+    """The file; of each input how many frames go at its front; and the lines."""
+    run, out, lines = run_of(inputs)
+    first = inputs[0]
+    places = laid.placed([run], None, laid.SLOTS)
+    written = laid.laid(places)
+    delay = first.start + (len(written) - len(run) - out[0]) * first.samples - spans.DECODER_DELAY
+    if first.counts and delay <= LONGEST_DELAY:
+        quality = laid.head_fields(first.data, first.found.head)[0]
+        extension = numbered(inputs, delay, inputs[-1].rest + spans.DECODER_DELAY)
+        info = spans.sealed(laid.info_frame(places, written, quality, extension), places[0][0].side_size)
+    else:
+        info = laid.info_frame(places, written, bytes(4), bytes(36))
+    parts = [first.data[it.offset : it.end] for it in laid.front_blocks(first.found)]
+    return b"".join([*parts, info, *written]), out, lines
+
+
+def main(words):
+    if len(words) < 3 or words[0] != "join":
+        sys.exit(__doc__)
+    files = [frames.bytes_of(name) for name in words[2:]]
+    new, _, lines = joined_file([Input(name, data, frames.survey_of(data)) for name, data in zip(words[2:], files)])
+    frames.write(words[1], new)
+    for it in lines:
+        print(it)
+
+
+if __name__ == "__main__":
+    try:
+        main(sys.argv[1:])
+    except frames.Refused as it:
+        sys.exit(f"refused: {it}")
