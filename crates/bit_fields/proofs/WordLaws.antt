@@ -69,24 +69,25 @@ module _ (above kept below left : ℕ) (few : kept < 64) (fits : below < 2 ^ (64
       ∙ bits_of-cat kept (64 - kept) (above % 2 ^ kept) (below / 2 ^ left) lower
       ∙ ap (λ cs. cs ++ bits_of (64 - kept) (below / 2 ^ left)) (bits_of-mod kept above)
 
--- a number whose highest bits end one word goes on in the next
-pub into_word : (word size high low n : ℕ) (cs bs : List ℕ) → size ≡ high + low
-    → bits_of 64 word ≡ cs ++ bits_of high (n / 2 ^ low)
-    → cs ++ (bits_of size n ++ bs) ≡ bits_of 64 word ++ (bits_of low n ++ bs)
-into_word word size high low n cs bs e is =
-    ap (λ w. cs ++ (bits_of w n ++ bs)) e
-    ∙ ap (λ ds. cs ++ (ds ++ bs)) (bits_of-add high low n)
-    ∙ ap (λ ds. cs ++ ds) (append_assoc (bits_of high (n / 2 ^ low)) (bits_of low n) bs)
-    ∙ sym (append_assoc cs (bits_of high (n / 2 ^ low)) (bits_of low n ++ bs))
-    ∙ ap (λ ds. ds ++ (bits_of low n ++ bs)) (sym is)
+module _ (word size high low n : ℕ) (cs : List ℕ) where
+  -- a number whose highest bits end one word goes on in the next
+  pub into_word : (bs : List ℕ) → size ≡ high + low
+      → bits_of 64 word ≡ cs ++ bits_of high (n / 2 ^ low)
+      → cs ++ (bits_of size n ++ bs) ≡ bits_of 64 word ++ (bits_of low n ++ bs)
+  into_word bs e is =
+      ap (λ w. cs ++ (bits_of w n ++ bs)) e
+      ∙ ap (λ ds. cs ++ (ds ++ bs)) (bits_of-add high low n)
+      ∙ ap (λ ds. cs ++ ds) (append_assoc (bits_of high (n / 2 ^ low)) (bits_of low n) bs)
+      ∙ sym (append_assoc cs (bits_of high (n / 2 ^ low)) (bits_of low n ++ bs))
+      ∙ ap (λ ds. ds ++ (bits_of low n ++ bs)) (sym is)
 
--- the same where nothing follows
-pub into_last : (word size high low n : ℕ) (cs : List ℕ) → size ≡ high + low → bits_of 64 word
-    ≡ cs ++ bits_of high (n / 2 ^ low) → cs ++ bits_of size n ≡ bits_of 64 word ++ bits_of low n
-into_last word size high low n cs e is =
-    ap (λ ds. cs ++ ds) (sym (append-nil (bits_of size n)))
-    ∙ into_word word size high low n cs [] e is
-    ∙ ap (λ ds. bits_of 64 word ++ ds) (append-nil (bits_of low n))
+  -- the same where nothing follows
+  pub into_last : size ≡ high + low → bits_of 64 word ≡ cs ++ bits_of high (n / 2 ^ low)
+      → cs ++ bits_of size n ≡ bits_of 64 word ++ bits_of low n
+  into_last e is =
+      ap (λ ds. cs ++ ds) (sym (append-nil (bits_of size n)))
+      ∙ into_word [] e is
+      ∙ ap (λ ds. bits_of 64 word ++ ds) (append-nil (bits_of low n))
 
 -- what was put follows what is before it
 pub put_next : (b0 b1 done : List ℕ) (at width value : ℕ) → take at b0 ≡ done

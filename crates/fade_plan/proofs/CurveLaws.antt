@@ -121,17 +121,6 @@ last_there xs p = (0 < length xs) × ((d : Point) → p ≡ get_or xs (length xs
 abbrev first_there : List Point → Point → Type 0
 first_there ys q = (0 < length ys) × ((d : Point) → q ≡ get_or ys 0 d)
 
-last_is : (frame : ℕ) (points xs ys : List Point) (p : Point) → AreParted frame points xs ys
-    → last_there xs p → find (up_to frame) (reverse xs) ≡ Some p
-last_is frame points xs ys p parted there =
-    last_passes (up_to frame) xs p there.0 parted.front ∙ ap Some (sym (there.1 p))
-
-first_is : (frame : ℕ) (points xs ys : List Point) (q : Point) → AreParted frame points xs ys
-    → first_there ys q → find (behind frame) ys ≡ Some q
-first_is frame points xs ys q parted there =
-    first_passes (behind frame) ys q there.0 (is_behind frame ys parted.back 0 q there.0)
-    ∙ ap Some (sym (there.1 q))
-
 empty_find : (p : Point → Bool) (xs : List Point) → length xs ≡ 0 → find p xs ≡ None
 empty_find p [] none = refl
 empty_find p (x ∷ xs) none = absurd (omega (arith, none))
@@ -139,34 +128,73 @@ empty_find p (x ∷ xs) none = absurd (omega (arith, none))
 no_last : (p : Point → Bool) (xs : List Point) → length xs ≡ 0 → find p (reverse xs) ≡ None
 no_last p xs none = empty_find p (reverse xs) (length-reverse xs ∙ none)
 
--- between two points the steps are those that the line from the one to the other has at the frame
-pub steps_of_two : (frame : ℕ) (points xs ys : List Point) (p q : Point)
-    → AreParted frame points xs ys → last_there xs p → first_there ys q
-    → steps_at (map in_curve points) frame ≡ steps_by (Some (in_curve p)) (Some (in_curve q)) frame
-steps_of_two frame points xs ys p q parted last first =
-    steps_of frame points xs ys parted
-    ∙ ap₂ (λ a b. steps_by (option_map in_curve a) (option_map in_curve b) frame)
-    (last_is frame points xs ys p parted last) (first_is frame points xs ys q parted first)
+module _ (frame : ℕ) (points xs ys : List Point) (q : Point)
+    (parted : AreParted frame points xs ys) where
+  first_is : first_there ys q → find (behind frame) ys ≡ Some q
+  first_is there =
+      first_passes (behind frame) ys q there.0 (is_behind frame ys parted.back 0 q there.0)
+      ∙ ap Some (sym (there.1 q))
 
--- after the last point the steps are its own
-pub steps_of_last : (frame : ℕ) (points xs ys : List Point) (p : Point)
-    → AreParted frame points xs ys → last_there xs p → length ys ≡ 0
-    → steps_at (map in_curve points) frame ≡ p.steps
-steps_of_last frame points xs ys p parted last none =
-    steps_of frame points xs ys parted
-    ∙ ap₂ (λ a b. steps_by (option_map in_curve a) (option_map in_curve b) frame)
-    (last_is frame points xs ys p parted last) (empty_find (behind frame) ys none)
+  -- before the first point the steps are its own
+  pub steps_of_first : length xs ≡ 0 → first_there ys q
+      → steps_at (map in_curve points) frame ≡ q.steps
+  steps_of_first none first =
+      steps_of frame points xs ys parted
+      ∙ ap₂ (λ a b. steps_by (option_map in_curve a) (option_map in_curve b) frame)
+      (no_last (up_to frame) xs none) (first_is first)
 
--- before the first point they are its own
-pub steps_of_first : (frame : ℕ) (points xs ys : List Point) (q : Point)
-    → AreParted frame points xs ys → length xs ≡ 0 → first_there ys q
-    → steps_at (map in_curve points) frame ≡ q.steps
-steps_of_first frame points xs ys q parted none first =
-    steps_of frame points xs ys parted
-    ∙ ap₂ (λ a b. steps_by (option_map in_curve a) (option_map in_curve b) frame)
-    (no_last (up_to frame) xs none) (first_is frame points xs ys q parted first)
+  -- the first point after a frame is kept, and is after it
+  pub first_kept : All IsKept points → first_there ys q → IsKept q × (frame < q.frame)
+  first_kept all there =
+      let first = there.1 q in
+      let size : length points ≡ length xs + length ys =
+      ap length parted.whole ∙ length-append xs ys in
+      let same : get_or points (length xs) q ≡ q =
+      ap (λ t. get_or t (length xs) q) parted.whole
+      ∙ get_or-append_right xs ys (length xs) (length xs) q refl (omega arith)
+      ∙ ap (λ n. get_or ys n q) (omega arith) ∙ sym first in (
+        subst IsKept same (all (length xs) q (omega (arith, there.0, size))),
+        leb-false q.frame frame (ap (up_to frame) first ∙ parted.back 0 q there.0),
+      )
 
--- without points they are those of no points
+module _ (frame : ℕ) (points xs ys : List Point) (p : Point) where
+  last_is : AreParted frame points xs ys → last_there xs p
+      → find (up_to frame) (reverse xs) ≡ Some p
+  last_is parted there =
+      last_passes (up_to frame) xs p there.0 parted.front ∙ ap Some (sym (there.1 p))
+
+  -- between two points the steps are those that the line from the one to the other has at the frame
+  pub steps_of_two : (q : Point) → AreParted frame points xs ys → last_there xs p → first_there ys q
+      → steps_at (map in_curve points) frame
+      ≡ steps_by (Some (in_curve p)) (Some (in_curve q)) frame
+  steps_of_two q parted last first =
+      steps_of frame points xs ys parted
+      ∙ ap₂ (λ a b. steps_by (option_map in_curve a) (option_map in_curve b) frame)
+      (last_is parted last) (first_is frame points xs ys q parted first)
+
+  -- after the last point the steps are its own
+  pub steps_of_last : AreParted frame points xs ys → last_there xs p → length ys ≡ 0
+      → steps_at (map in_curve points) frame ≡ p.steps
+  steps_of_last parted last none =
+      steps_of frame points xs ys parted
+      ∙ ap₂ (λ a b. steps_by (option_map in_curve a) (option_map in_curve b) frame)
+      (last_is parted last) (empty_find (behind frame) ys none)
+
+  -- the last point up to a frame is kept, and isn't after it
+  pub last_kept : AreParted frame points xs ys → All IsKept points → last_there xs p
+      → IsKept p × (p.frame ≤ frame)
+  last_kept parted all there =
+      let last = there.1 p in
+      let size : length points ≡ length xs + length ys =
+      ap length parted.whole ∙ length-append xs ys in
+      let within : length xs - 1 < length xs = omega (arith, there.0) in
+      let same : get_or points (length xs - 1) p ≡ p = ap (λ t. get_or t (length xs - 1) p)
+      parted.whole ∙ get_or-append xs ys p (length xs - 1) within ∙ sym last in (
+        subst IsKept same (all (length xs - 1) p (omega (arith, within, size))),
+        leb-true p.frame frame (ap (up_to frame) last ∙ parted.front (length xs - 1) p within),
+      )
+
+-- without points the steps are those of no points
 pub steps_of_none : (frame : ℕ) (points xs ys : List Point) → AreParted frame points xs ys
     → length xs ≡ 0 → length ys ≡ 0
     → steps_at (map in_curve points) frame ≡ steps_by None None frame
@@ -228,35 +256,6 @@ pub last_none : (xs : List Point) → None ≡ slice_get xs (length xs - 1) → 
 last_none [] is = refl
 last_none (x ∷ xs) is =
     absurd (none-some _ (is ∙ ap (slice_get (x ∷ xs)) (omega arith) ∙ some_at xs x))
-
--- the points that `steps_of_both` is called with
-pub last_kept : (frame : ℕ) (points xs ys : List Point) (p : Point) → AreParted frame points xs ys
-    → All IsKept points → last_there xs p → IsKept p × (p.frame ≤ frame)
-last_kept frame points xs ys p parted all there =
-    let last = there.1 p in
-    let size : length points ≡ length xs + length ys =
-    ap length parted.whole ∙ length-append xs ys in
-    let within : length xs - 1 < length xs = omega (arith, there.0) in
-    let same : get_or points (length xs - 1) p ≡ p = ap (λ t. get_or t (length xs - 1) p)
-    parted.whole ∙ get_or-append xs ys p (length xs - 1) within ∙ sym last in (
-      subst IsKept same (all (length xs - 1) p (omega (arith, within, size))),
-      leb-true p.frame frame (ap (up_to frame) last ∙ parted.front (length xs - 1) p within),
-    )
-
--- the first point after a frame is kept, and is after it
-pub first_kept : (frame : ℕ) (points xs ys : List Point) (q : Point) → AreParted frame points xs ys
-    → All IsKept points → first_there ys q → IsKept q × (frame < q.frame)
-first_kept frame points xs ys q parted all there =
-    let first = there.1 q in
-    let size : length points ≡ length xs + length ys =
-    ap length parted.whole ∙ length-append xs ys in
-    let same : get_or points (length xs) q ≡ q =
-    ap (λ t. get_or t (length xs) q) parted.whole
-    ∙ get_or-append_right xs ys (length xs) (length xs) q refl (omega arith)
-    ∙ ap (λ n. get_or ys n q) (omega arith) ∙ sym first in (
-      subst IsKept same (all (length xs) q (omega (arith, there.0, size))),
-      leb-false q.frame frame (ap (up_to frame) first ∙ parted.back 0 q there.0),
-    )
 
 -- ---- so many points of rising ones are up to a frame
 

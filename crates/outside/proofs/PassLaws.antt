@@ -26,17 +26,18 @@ pub record WritesUpTo (pass : Pass) (whole rest : List ℕ → List ℕ) (before
 
 -- ---- files, where the output got more bytes
 
--- the input stays
-pub input_holds : (old new : Files) (input output more file : List ℕ) → input ≢ output
-    → new ≡ appended old output more → Holds old input file → Holds new input file
-input_holds old new input output more file apart is holds = subst (λ f. Holds f input file) (sym is)
-    (appended_holds_other old output more input file apart holds)
+module _ (old new : Files) (input output more file : List ℕ) (apart : input ≢ output)
+    (is : new ≡ appended old output more) where
+  -- the input stays
+  pub input_holds : Holds old input file → Holds new input file
+  input_holds holds = subst (λ f. Holds f input file) (sym is)
+      (appended_holds_other old output more input file apart holds)
 
--- and it was so before
-pub input_held : (old new : Files) (input output more file : List ℕ) → input ≢ output
-    → new ≡ appended old output more → Holds new input file → Holds old input file
-input_held old new input output more file apart is holds =
-    appended_held_other old output more input file apart (subst (λ f. Holds f input file) is holds)
+  -- and it was so before
+  pub input_held : Holds new input file → Holds old input file
+  input_held holds =
+      appended_held_other old output more input file apart
+      (subst (λ f. Holds f input file) is holds)
 
 -- no name goes
 pub still_there : (old new : Files) (output more name : List ℕ) → new ≡ appended old output more

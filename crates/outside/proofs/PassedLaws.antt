@@ -36,14 +36,20 @@ pub passed_front : (name bytes : List ℕ) (n : ℕ) (f g : Files) → g ≡ app
 passed_front name bytes n f g is =
     record { passed = take n bytes; split = sym (take-append-drop n bytes); files = is }
 
--- more waits after
-pub passed_with : {name before after : List ℕ} {f g : Files} (piece : List ℕ)
-    → PassedOn name before after f g → PassedOn name (before ++ piece) (after ++ piece) f g
-passed_with {name} {before} {after} {f} {g} piece p = record {
-  passed = p.passed;
-  split = ap (λ (front : List ℕ). front ++ piece) p.split ∙ append_assoc p.passed after piece;
-  files = p.files;
-}
+module _ {name before after : List ℕ} {f g : Files} where
+  -- more waits after
+  pub passed_with : (piece : List ℕ) → PassedOn name before after f g
+      → PassedOn name (before ++ piece) (after ++ piece) f g
+  passed_with piece p = record {
+    passed = p.passed;
+    split = ap (λ (front : List ℕ). front ++ piece) p.split ∙ append_assoc p.passed after piece;
+    files = p.files;
+  }
+
+  -- the name is there afterwards, and no name goes
+  pub passed_there : PassedOn name before after f g → IsThere g name
+  passed_there p =
+      subst (λ files. IsThere files name) (sym p.files) (appended_there f name p.passed)
 
 -- something was passed on, and then more
 pub passed_then : {name before mid after : List ℕ} {f g h : Files} → PassedOn name before mid f g
@@ -66,34 +72,33 @@ pub passed_more : {name before mid after : List ℕ} {f g h : Files} (piece : Li
     → PassedOn name (before ++ piece) after f h
 passed_more piece p q = passed_then (passed_with piece p) q
 
--- what was passed on, and then a prefix of the rest, is a prefix of the whole
-pub passed_then_prefix : {name before mid : List ℕ} {f g h : Files} → PassedOn name before mid f g
-    → AppendedPrefix name mid g h → AppendedPrefix name before f h
-passed_then_prefix {name} {before} {mid} {f} {g} {h} p q = record {
-  count = length p.passed + q.count;
-  short = omega (arith, q.short, ap length p.split, length-append p.passed mid);
-  files =
-      q.files
-      ∙ ap (λ files. appended files name (take q.count mid)) p.files
-      ∙ appended_twice f name p.passed (take q.count mid)
-      ∙ ap (appended f name) (sym (take-append-add p.passed mid q.count)
-      ∙ ap (take (length p.passed + q.count)) (sym p.split));
-}
+module _ {name before mid : List ℕ} {f g h : Files} (p : PassedOn name before mid f g) where
+  -- what was passed on, and then a prefix of the rest, is a prefix of the whole
+  pub passed_then_prefix : AppendedPrefix name mid g h → AppendedPrefix name before f h
+  passed_then_prefix q = record {
+    count = length p.passed + q.count;
+    short = omega (arith, q.short, ap length p.split, length-append p.passed mid);
+    files =
+        q.files
+        ∙ ap (λ files. appended files name (take q.count mid)) p.files
+        ∙ appended_twice f name p.passed (take q.count mid)
+        ∙ ap (appended f name) (sym (take-append-add p.passed mid q.count)
+        ∙ ap (take (length p.passed + q.count)) (sym p.split));
+  }
 
--- so it is if of the second only a prefix was
+  -- what was passed on, and then all the rest, is the whole
+  pub passed_then_all : h ≡ appended g name mid → h ≡ appended f name before
+  passed_then_all all =
+      all
+      ∙ ap (λ files. appended files name mid) p.files
+      ∙ appended_twice f name p.passed mid
+      ∙ ap (appended f name) (sym p.split)
+
+-- if of the second of two pieces only a prefix was passed on, a prefix of both was
 pub passed_more_prefix : {name before mid : List ℕ} {f g h : Files} (piece : List ℕ)
     → PassedOn name before mid f g → AppendedPrefix name (mid ++ piece) g h
     → AppendedPrefix name (before ++ piece) f h
 passed_more_prefix piece p q = passed_then_prefix (passed_with piece p) q
-
--- what was passed on, and then all the rest, is the whole
-pub passed_then_all : {name before mid : List ℕ} {f g h : Files} → PassedOn name before mid f g
-    → h ≡ appended g name mid → h ≡ appended f name before
-passed_then_all {name} {before} {mid} {f} {g} {h} p all =
-    all
-    ∙ ap (λ files. appended files name mid) p.files
-    ∙ appended_twice f name p.passed mid
-    ∙ ap (appended f name) (sym p.split)
 
 -- a prefix of a prefix is a prefix of the whole
 pub prefix_of_front : {name bytes : List ℕ} {f g : Files} (n : ℕ)
@@ -111,26 +116,30 @@ pub piece_in_two : (waits piece : List ℕ) (n : ℕ)
 piece_in_two waits piece n = append_assoc waits (take n piece) (drop n piece)
     ∙ ap (λ (back : List ℕ). waits ++ back) (take-append-drop n piece)
 
--- what waited and a prefix of the piece were appended
-pub passed_waiting : (name waits piece : List ℕ) (n : ℕ) (f g : Files) → g
-    ≡ appended f name (waits ++ take n piece) → PassedOn name (waits ++ piece) (drop n piece) f g
-passed_waiting name waits piece n f g is =
-    record { passed = waits ++ take n piece; split = sym (piece_in_two waits piece n); files = is }
+module _ (name waits piece : List ℕ) (n : ℕ) (f g : Files) where
+  -- what waited and a prefix of the piece were appended
+  pub passed_waiting : g ≡ appended f name (waits ++ take n piece)
+      → PassedOn name (waits ++ piece) (drop n piece) f g
+  passed_waiting is = record {
+    passed = waits ++ take n piece;
+    split = sym (piece_in_two waits piece n);
+    files = is;
+  }
 
--- a prefix of what waited and of a prefix of the piece is one of both
-pub prefix_waiting : (name waits piece : List ℕ) (n : ℕ) (f g : Files)
-    → AppendedPrefix name (waits ++ take n piece) f g → AppendedPrefix name (waits ++ piece) f g
-prefix_waiting name waits piece n f g p = record {
-  count = p.count;
-  short = omega (
-    arith,
-    p.short,
-    ap length (piece_in_two waits piece n),
-    length-append (waits ++ take n piece) (drop n piece),
-  );
-  files = p.files ∙ ap (appended f name) (sym (take-append-le p.count (waits ++ take n piece)
-      (drop n piece) (omega (arith, p.short))) ∙ ap (take p.count) (piece_in_two waits piece n));
-}
+  -- a prefix of what waited and of a prefix of the piece is one of both
+  pub prefix_waiting : AppendedPrefix name (waits ++ take n piece) f g
+      → AppendedPrefix name (waits ++ piece) f g
+  prefix_waiting p = record {
+    count = p.count;
+    short = omega (
+      arith,
+      p.short,
+      ap length (piece_in_two waits piece n),
+      length-append (waits ++ take n piece) (drop n piece),
+    );
+    files = p.files ∙ ap (appended f name) (sym (take-append-le p.count (waits ++ take n piece)
+        (drop n piece) (omega (arith, p.short))) ∙ ap (take p.count) (piece_in_two waits piece n));
+  }
 
 -- a prefix of what waited and of a piece is one with another piece behind it
 pub prefix_in_front : {name : List ℕ} (waits front rest : List ℕ) {f g : Files}
@@ -143,9 +152,3 @@ prefix_in_front {name} waits front rest {f} {g} p =
       files = p.files ∙ ap (appended f name) (sym (take-append-le p.count (waits ++ front) rest
           (omega (arith, p.short))) ∙ ap (take p.count) whole);
     }
-
--- the name is there afterwards, and no name goes
-pub passed_there : {name before after : List ℕ} {f g : Files} → PassedOn name before after f g
-    → IsThere g name
-passed_there {name} {before} {after} {f} {g} p =
-    subst (λ files. IsThere files name) (sym p.files) (appended_there f name p.passed)

@@ -46,33 +46,32 @@ pub sent_more_on : {before mid after : List ℕ} {s t u : Sent} (piece : List �
     → SentOn before mid s t → SentOn (mid ++ piece) after t u → SentOn (before ++ piece) after s u
 sent_more_on piece p q = sent_then (sent_with piece p) q
 
--- what was sent, and then a prefix of the rest, is a prefix of the whole
-pub sent_then_prefix : {before mid : List ℕ} {s t u : Sent} → SentOn before mid s t
-    → SentPrefix mid t u → SentPrefix before s u
-sent_then_prefix {before} {mid} {s} {t} {u} p q = record {
-  count = length p.passed + q.count;
-  within = omega (arith, q.within, ap length p.split, length-append p.passed mid);
-  sent =
-      q.sent
-      ∙ ap (λ sent. sent_more sent (take q.count mid)) p.sent
-      ∙ sent_twice s p.passed (take q.count mid)
-      ∙ ap (sent_more s) (sym (take-append-add p.passed mid q.count)
-      ∙ ap (take (length p.passed + q.count)) (sym p.split));
-}
+module _ {before mid : List ℕ} {s t u : Sent} (p : SentOn before mid s t) where
+  -- what was sent, and then a prefix of the rest, is a prefix of the whole
+  pub sent_then_prefix : SentPrefix mid t u → SentPrefix before s u
+  sent_then_prefix q = record {
+    count = length p.passed + q.count;
+    within = omega (arith, q.within, ap length p.split, length-append p.passed mid);
+    sent =
+        q.sent
+        ∙ ap (λ sent. sent_more sent (take q.count mid)) p.sent
+        ∙ sent_twice s p.passed (take q.count mid)
+        ∙ ap (sent_more s) (sym (take-append-add p.passed mid q.count)
+        ∙ ap (take (length p.passed + q.count)) (sym p.split));
+  }
 
--- so it is if of the second only a prefix was
+  -- what was sent, and then all the rest, is the whole
+  pub sent_then_all : u ≡ sent_more t mid → u ≡ sent_more s before
+  sent_then_all all =
+      all
+      ∙ ap (λ sent. sent_more sent mid) p.sent
+      ∙ sent_twice s p.passed mid
+      ∙ ap (sent_more s) (sym p.split)
+
+-- if of the second of two pieces only a prefix was sent, a prefix of both was
 pub sent_more_prefix : {before mid : List ℕ} {s t u : Sent} (piece : List ℕ) → SentOn before mid s t
     → SentPrefix (mid ++ piece) t u → SentPrefix (before ++ piece) s u
 sent_more_prefix piece p q = sent_then_prefix (sent_with piece p) q
-
--- what was sent, and then all the rest, is the whole
-pub sent_then_all : {before mid : List ℕ} {s t u : Sent} → SentOn before mid s t
-    → u ≡ sent_more t mid → u ≡ sent_more s before
-sent_then_all {before} {mid} {s} {t} {u} p all =
-    all
-    ∙ ap (λ sent. sent_more sent mid) p.sent
-    ∙ sent_twice s p.passed mid
-    ∙ ap (sent_more s) (sym p.split)
 
 -- a prefix of the first bytes is a prefix of the whole
 pub sent_prefix_of : {bytes : List ℕ} {s t : Sent} (behind : List ℕ) → SentPrefix bytes s t

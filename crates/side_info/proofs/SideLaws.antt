@@ -198,46 +198,44 @@ nth version gs n h fits =
 abbrev GivesBack : ClassFields → Side → Type 0
 GivesBack c s = SideFits c s → side_at c (side_bits c s) ≡ s
 
-back_one_mono : (f m p a b : ℕ) (g h k l : Granule)
-    → GivesBack (class_with One f 1) (side_with m p a b g h k l)
-unfolding side_bits granules_in built
-back_one_mono f m p a b g h k l fits =
-    let gs : List Granule = g ∷ k ∷ [] in
-    back (class_with One f 1) (m ∷ p ∷ a ∷ b ∷ []) gs
-    (fits.main_data_begin, (fits.private_bits, (fits.scfsi 0, (fits.scfsi 1, tt)))) refl
-    ∙ (λ i. side_with m p a b (nth One gs 0 (omega arith) (fits.granules 0 0) i) (sym (fits.granules
-    0 1) i) (nth One gs 1 (omega arith) (fits.granules 1 0) i) (sym (fits.granules 1 1) i))
+module _ (f m p a b : ℕ) (g h k l : Granule) where
+  back_one_mono : GivesBack (class_with One f 1) (side_with m p a b g h k l)
+  unfolding side_bits granules_in built
+  back_one_mono fits =
+      let gs : List Granule = g ∷ k ∷ [] in
+      back (class_with One f 1) (m ∷ p ∷ a ∷ b ∷ []) gs
+      (fits.main_data_begin, (fits.private_bits, (fits.scfsi 0, (fits.scfsi 1, tt)))) refl
+      ∙ (λ i. side_with m p a b (nth One gs 0 (omega arith) (fits.granules 0 0) i)
+      (sym (fits.granules 0 1) i)
+      (nth One gs 1 (omega arith) (fits.granules 1 0) i) (sym (fits.granules 1 1) i))
 
-back_one_stereo : (f m p a b : ℕ) (g h k l : Granule)
-    → GivesBack (class_with One f 2) (side_with m p a b g h k l)
-unfolding side_bits granules_in built
-back_one_stereo f m p a b g h k l fits =
-    let gs : List Granule = g ∷ h ∷ k ∷ l ∷ [] in
-    back (class_with One f 2) (m ∷ p ∷ a ∷ b ∷ []) gs
-    (fits.main_data_begin, (fits.private_bits, (fits.scfsi 0, (fits.scfsi 1, tt)))) refl
-    ∙ (λ i. side_with m p a b (nth One gs 0 (omega arith) (fits.granules 0 0) i) (nth One gs 1
-    (omega arith) (fits.granules 0 1) i) (nth One gs 2 (omega arith) (fits.granules 1 0) i)
-    (nth One gs 3 (omega arith) (fits.granules 1 1) i))
+  back_one_stereo : GivesBack (class_with One f 2) (side_with m p a b g h k l)
+  unfolding side_bits granules_in built
+  back_one_stereo fits =
+      let gs : List Granule = g ∷ h ∷ k ∷ l ∷ [] in
+      back (class_with One f 2) (m ∷ p ∷ a ∷ b ∷ []) gs
+      (fits.main_data_begin, (fits.private_bits, (fits.scfsi 0, (fits.scfsi 1, tt)))) refl
+      ∙ (λ i. side_with m p a b (nth One gs 0 (omega arith) (fits.granules 0 0) i) (nth One gs 1
+      (omega arith) (fits.granules 0 1) i) (nth One gs 2 (omega arith) (fits.granules 1 0) i)
+      (nth One gs 3 (omega arith) (fits.granules 1 1) i))
 
-back_two_mono : (f m p a b : ℕ) (g h k l : Granule)
-    → GivesBack (class_with Two f 1) (side_with m p a b g h k l)
-unfolding side_bits granules_in built
-back_two_mono f m p a b g h k l fits =
-    let gs : List Granule = g ∷ [] in
-    back (class_with Two f 1) (m ∷ p ∷ a ∷ b ∷ []) gs
-    (fits.main_data_begin, (fits.private_bits, (fits.scfsi 0, (fits.scfsi 1, tt)))) refl
-    ∙ (λ i. side_with m p a b (nth Two gs 0 (omega arith) (fits.granules 0 0) i)
-    (sym (fits.granules 0 1) i) (sym (fits.granules 1 0) i) (sym (fits.granules 1 1) i))
+  back_two_mono : GivesBack (class_with Two f 1) (side_with m p a b g h k l)
+  unfolding side_bits granules_in built
+  back_two_mono fits =
+      let gs : List Granule = g ∷ [] in
+      back (class_with Two f 1) (m ∷ p ∷ a ∷ b ∷ []) gs
+      (fits.main_data_begin, (fits.private_bits, (fits.scfsi 0, (fits.scfsi 1, tt)))) refl
+      ∙ (λ i. side_with m p a b (nth Two gs 0 (omega arith) (fits.granules 0 0) i)
+      (sym (fits.granules 0 1) i) (sym (fits.granules 1 0) i) (sym (fits.granules 1 1) i))
 
-back_two_stereo : (f m p a b : ℕ) (g h k l : Granule)
-    → GivesBack (class_with Two f 2) (side_with m p a b g h k l)
-unfolding side_bits granules_in built
-back_two_stereo f m p a b g h k l fits =
-    let gs : List Granule = g ∷ h ∷ [] in
-    back (class_with Two f 2) (m ∷ p ∷ a ∷ b ∷ []) gs
-    (fits.main_data_begin, (fits.private_bits, (fits.scfsi 0, (fits.scfsi 1, tt)))) refl
-    ∙ (λ i. side_with m p a b (nth Two gs 0 (omega arith) (fits.granules 0 0) i) (nth Two gs 1
-    (omega arith) (fits.granules 0 1) i) (sym (fits.granules 1 0) i) (sym (fits.granules 1 1) i))
+  back_two_stereo : GivesBack (class_with Two f 2) (side_with m p a b g h k l)
+  unfolding side_bits granules_in built
+  back_two_stereo fits =
+      let gs : List Granule = g ∷ h ∷ [] in
+      back (class_with Two f 2) (m ∷ p ∷ a ∷ b ∷ []) gs
+      (fits.main_data_begin, (fits.private_bits, (fits.scfsi 0, (fits.scfsi 1, tt)))) refl
+      ∙ (λ i. side_with m p a b (nth Two gs 0 (omega arith) (fits.granules 0 0) i) (nth Two gs 1
+      (omega arith) (fits.granules 0 1) i) (sym (fits.granules 1 0) i) (sym (fits.granules 1 1) i))
 
 -- what fits MPEG-2.5 fits MPEG-2, and back
 fits_two : (f channels : ℕ) (s : Side) → SideFits (class_with TwoFive f channels) s
@@ -336,22 +334,6 @@ FitsAt c s granule channel =
     MatchBool (has_granule c granule channel) (GranuleFits c.version (granule_in s granule channel))
     (granule_in s granule channel ≡ no_granule)
 
--- each granule and channel fits where those of the arrays do
-pub granules_fit : (c : ClassFields) (m p a b : ℕ) (g h k l : Granule)
-    → FitsAt c (side_with m p a b g h k l) 0 0 → FitsAt c (side_with m p a b g h k l) 0 1
-    → FitsAt c (side_with m p a b g h k l) 1 0 → FitsAt c (side_with m p a b g h k l) 1 1
-    → (granule channel : ℕ) → FitsAt c (side_with m p a b g h k l) granule channel
-granules_fit c m p a b g h k l x0 x1 x2 x3 zero zero = x0
-granules_fit c m p a b g h k l x0 x1 x2 x3 zero (suc zero) = x1
-granules_fit c m p a b g h k l x0 x1 x2 x3 zero (suc (suc channel)) =
-    none_fits c.version (has_granule c zero (suc (suc channel)))
-granules_fit c m p a b g h k l x0 x1 x2 x3 (suc zero) zero = x2
-granules_fit c m p a b g h k l x0 x1 x2 x3 (suc zero) (suc zero) = x3
-granules_fit c m p a b g h k l x0 x1 x2 x3 (suc zero) (suc (suc channel)) =
-    none_fits c.version (has_granule c (suc zero) (suc (suc channel)))
-granules_fit c m p a b g h k l x0 x1 x2 x3 (suc (suc granule)) channel =
-    none_fits c.version (has_granule c (suc (suc granule)) channel)
-
 -- the scfsi of both channels fit where each does
 pub scfsi_fit : (c : ClassFields) (a b : ℕ) → a < 2 ^ front_width c 2 → b < 2 ^ front_width c 3
     → (channel : ℕ) → get_or (a ∷ b ∷ []) channel 0 < 2 ^ front_width c (2 + channel)
@@ -366,25 +348,40 @@ FrontFits c s = (s.main_data_begin < 2 ^ front_width c 0) × (s.private_bits < 2
 abbrev pub PairFits : ClassFields → Side → ℕ → Type 0
 PairFits c s granule = FitsAt c s granule 0 × FitsAt c s granule 1
 
-fits_with : (c : ClassFields) (m p a b : ℕ) (g h k l : Granule)
-    → FrontFits c (side_with m p a b g h k l) → PairFits c (side_with m p a b g h k l) 0
-    → PairFits c (side_with m p a b g h k l) 1 → SideFits c (side_with m p a b g h k l)
-fits_with c m p a b g h k l front first second = record {
-  main_data_begin = front.0;
-  private_bits = front.1;
-  scfsi = scfsi_fit c a b front.2 front.3;
-  granules = granules_fit c m p a b g h k l first.0 first.1 second.0 second.1;
-}
+module _ (c : ClassFields) (m p a b : ℕ) (g h k l : Granule) where
+  -- each granule and channel fits where those of the arrays do
+  pub granules_fit : FitsAt c (side_with m p a b g h k l) 0 0
+      → FitsAt c (side_with m p a b g h k l) 0 1 → FitsAt c (side_with m p a b g h k l) 1 0
+      → FitsAt c (side_with m p a b g h k l) 1 1 → (granule channel : ℕ)
+      → FitsAt c (side_with m p a b g h k l) granule channel
+  granules_fit x0 x1 x2 x3 zero zero = x0
+  granules_fit x0 x1 x2 x3 zero (suc zero) = x1
+  granules_fit x0 x1 x2 x3 zero (suc (suc channel)) =
+      none_fits c.version (has_granule c zero (suc (suc channel)))
+  granules_fit x0 x1 x2 x3 (suc zero) zero = x2
+  granules_fit x0 x1 x2 x3 (suc zero) (suc zero) = x3
+  granules_fit x0 x1 x2 x3 (suc zero) (suc (suc channel)) =
+      none_fits c.version (has_granule c (suc zero) (suc (suc channel)))
+  granules_fit x0 x1 x2 x3 (suc (suc granule)) channel =
+      none_fits c.version (has_granule c (suc (suc granule)) channel)
 
--- fields that fit in the front, and granules that fit
-fits_by : (c : ClassFields) (m p a b : ℕ) (g h k l : Granule)
-    → (m < 2 ^ front_width c 0) × ((p < 2 ^ front_width c 1)
-    × ((a < 2 ^ front_width c 2) × ((b < 2 ^ front_width c 3) × Unit {0})))
-    → FitsAt c (side_with m p a b g h k l) 0 0 → FitsAt c (side_with m p a b g h k l) 0 1
-    → FitsAt c (side_with m p a b g h k l) 1 0 → FitsAt c (side_with m p a b g h k l) 1 1
-    → SideFits c (side_with m p a b g h k l)
-fits_by c m p a b g h k l front x0 x1 x2 x3 =
-    fits_with c m p a b g h k l (front.0, front.1.0, front.1.1.0, front.1.1.1.0) (x0, x1) (x2, x3)
+  fits_with : FrontFits c (side_with m p a b g h k l) → PairFits c (side_with m p a b g h k l) 0
+      → PairFits c (side_with m p a b g h k l) 1 → SideFits c (side_with m p a b g h k l)
+  fits_with front first second = record {
+    main_data_begin = front.0;
+    private_bits = front.1;
+    scfsi = scfsi_fit c a b front.2 front.3;
+    granules = granules_fit first.0 first.1 second.0 second.1;
+  }
+
+  -- fields that fit in the front, and granules that fit
+  fits_by : (m < 2 ^ front_width c 0) × ((p < 2 ^ front_width c 1)
+      × ((a < 2 ^ front_width c 2) × ((b < 2 ^ front_width c 3) × Unit {0})))
+      → FitsAt c (side_with m p a b g h k l) 0 0 → FitsAt c (side_with m p a b g h k l) 0 1
+      → FitsAt c (side_with m p a b g h k l) 1 0 → FitsAt c (side_with m p a b g h k l) 1 1
+      → SideFits c (side_with m p a b g h k l)
+  fits_by front x0 x1 x2 x3 =
+      fits_with (front.0, front.1.0, front.1.1.0, front.1.1.1.0) (x0, x1) (x2, x3)
 
 fits_one_mono : (f : ℕ) (bs : List ℕ) → AreBits bs
     → SideFits (class_with One f 1) (side_at (class_with One f 1) bs)

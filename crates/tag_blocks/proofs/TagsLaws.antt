@@ -453,68 +453,62 @@ pub record AreFound (block : List ℕ) (items : List TagItem) (many long count :
   pub count_is : count ≡ ape_count block
   pub reserved : is_reserved block ≡ true
 
--- if not as many items were read as the header says, the fault is behind the last one
-pub count_fault : (block : List ℕ) (items : List TagItem) (many long count : ℕ)
-    → AreFound block items many long count → (many ≡ count → ⊥)
-    → tag_of block ≡ Err (TagFault.BadTag (32 + long))
-count_fault block items many long count found bad =
-    let same : many ≡ length (items_of block) = found.many_is ∙ ap length found.items_is in
-    tag_of-count block found.reserved (ne_eqb (length (items_of block)) (ape_count block)
-    (λ e. bad (same ∙ e ∙ sym found.count_is)))
-    ∙ ap (λ n. Err (TagFault.BadTag (32 + n)))
-    (sym (found.long_is ∙ ap items_length found.items_is))
+module _ (block : List ℕ) (items : List TagItem) (many long count : ℕ) where
+  -- if not as many items were read as the header says, the fault is behind the last one
+  pub count_fault : AreFound block items many long count → (many ≡ count → ⊥)
+      → tag_of block ≡ Err (TagFault.BadTag (32 + long))
+  count_fault found bad =
+      let same : many ≡ length (items_of block) = found.many_is ∙ ap length found.items_is in
+      tag_of-count block found.reserved (ne_eqb (length (items_of block)) (ape_count block)
+      (λ e. bad (same ∙ e ∙ sym found.count_is)))
+      ∙ ap (λ n. Err (TagFault.BadTag (32 + n)))
+      (sym (found.long_is ∙ ap items_length found.items_is))
 
-counted : (block : List ℕ) (items : List TagItem) (many long count : ℕ)
-    → AreFound block items many long count → many ≡ count
-    → length (items_of block) ≡ ape_count block
-counted block items many long count found good =
-    sym (found.many_is ∙ ap length found.items_is) ∙ good ∙ found.count_is
+  counted : AreFound block items many long count → many ≡ count
+      → length (items_of block) ≡ ape_count block
+  counted found good = sym (found.many_is ∙ ap length found.items_is) ∙ good ∙ found.count_is
 
--- if the footer isn't behind the items that were read, the fault is behind the last one
-pub place_fault : (block : List ℕ) (items : List TagItem) (many long count : ℕ)
-    → AreFound block items many long count → many ≡ count → (32 + long ≡ footer_place block → ⊥)
-    → tag_of block ≡ Err (TagFault.BadTag (32 + long))
-place_fault block items many long count found good bad =
-    let same : long ≡ items_length (items_of block) =
-    found.long_is ∙ ap items_length found.items_is in
-    tag_of-place block found.reserved (eq-eqb (length (items_of block)) (ape_count block)
-    (counted block items many long count found good))
-    (ne_eqb (32 + items_length (items_of block)) (footer_place block)
-    (λ e. bad (ap (λ n. 32 + n) same ∙ e)))
-    ∙ ap (λ n. Err (TagFault.BadTag (32 + n))) (sym same)
+  -- if the footer isn't behind the items that were read, the fault is behind the last one
+  pub place_fault : AreFound block items many long count → many ≡ count
+      → (32 + long ≡ footer_place block → ⊥) → tag_of block ≡ Err (TagFault.BadTag (32 + long))
+  place_fault found good bad =
+      let same : long ≡ items_length (items_of block) =
+      found.long_is ∙ ap items_length found.items_is in
+      tag_of-place block found.reserved
+      (eq-eqb (length (items_of block)) (ape_count block) (counted found good))
+      (ne_eqb (32 + items_length (items_of block)) (footer_place block)
+      (λ e. bad (ap (λ n. 32 + n) same ∙ e)))
+      ∙ ap (λ n. Err (TagFault.BadTag (32 + n))) (sym same)
 
-placed : (block : List ℕ) (items : List TagItem) (many long count : ℕ)
-    → AreFound block items many long count → 32 + long ≡ footer_place block
-    → 32 + items_length (items_of block) ≡ footer_place block
-placed block items many long count found good =
-    sym (ap (λ n. 32 + n) (found.long_is ∙ ap items_length found.items_is)) ∙ good
+  placed : AreFound block items many long count → 32 + long ≡ footer_place block
+      → 32 + items_length (items_of block) ≡ footer_place block
+  placed found good = sym (ap (λ n. 32 + n) (found.long_is ∙ ap items_length found.items_is)) ∙ good
 
--- if it isn't a footer of this header, the fault is at it
-pub footer_fault : (block : List ℕ) (items : List TagItem) (many long count : ℕ)
-    → AreFound block items many long count → many ≡ count → 32 + long ≡ footer_place block
-    → is_footer (ape_size block) (ape_count block) (drop (footer_place block) block) ≡ false
-    → tag_of block ≡ Err (TagFault.BadTag (footer_place block))
-footer_fault block items many long count found good place bad =
-    tag_of-footer block found.reserved (eq-eqb (length (items_of block)) (ape_count block)
-    (counted block items many long count found good))
-    (eq-eqb (32 + items_length (items_of block)) (footer_place block)
-    (placed block items many long count found place)) bad
+  -- if it isn't a footer of this header, the fault is at it
+  pub footer_fault : AreFound block items many long count → many ≡ count
+      → 32 + long ≡ footer_place block
+      → is_footer (ape_size block) (ape_count block) (drop (footer_place block) block) ≡ false
+      → tag_of block ≡ Err (TagFault.BadTag (footer_place block))
+  footer_fault found good place bad =
+      tag_of-footer block found.reserved
+      (eq-eqb (length (items_of block)) (ape_count block) (counted found good))
+      (eq-eqb (32 + items_length (items_of block)) (footer_place block) (placed found place)) bad
 
--- otherwise the block has no fault
-pub whole_found : (block : List ℕ) (items : List TagItem) (many long count : ℕ) → block_front block
-    ≡ Some (record { kind = Ape; length = length block }) → AreOctets block → length block ≤ 1048576
-    → AreFound block items many long count → many ≡ count → 32 + long ≡ footer_place block
-    → is_footer (ape_size block) (ape_count block) (drop (footer_place block) block) ≡ true
-    → IsWhole block
-whole_found block items many long count is octets most found good place footer = record {
-  is = block_front-is block is;
-  octets = octets;
-  most = most;
-  reserved = found.reserved;
-  count = counted block items many long count found good;
-  place = placed block items many long count found place;
-  footer = footer;
-}
+  -- otherwise the block has no fault
+  pub whole_found : block_front block ≡ Some (record { kind = Ape; length = length block })
+      → AreOctets block → length block ≤ 1048576 → AreFound block items many long count
+      → many ≡ count → 32 + long ≡ footer_place block
+      → is_footer (ape_size block) (ape_count block) (drop (footer_place block) block) ≡ true
+      → IsWhole block
+  whole_found is octets most found good place footer = record {
+    is = block_front-is block is;
+    octets = octets;
+    most = most;
+    reserved = found.reserved;
+    count = counted found good;
+    place = placed found place;
+    footer = footer;
+  }
 
 -- the tag of a block without fault is the one in it
 pub tag_of-in : (block : List ℕ) → IsWhole block → tag_of block ≡ Ok (tag_in block)
