@@ -32,39 +32,6 @@ pub played-within : (head : Option Info) (class : ClassFields) (frames : ℕ)
 unfolding played_of
 played-within head class frames = end_within (samples_in class) frames (counts_of head)
 
--- ---- spans of played positions
-
-last-within : (version : Version) (frames p q : ℕ) → p < q → q ≤ frames * samples_of version
-    → (first_frame (samples_of version) p < frames_before (samples_of version) q)
-    × (frames_before (samples_of version) q ≤ frames)
-last-within One frames p q some most = (omega arith, omega arith)
-last-within Two frames p q some most = (omega arith, omega arith)
-last-within TwoFive frames p q some most = (omega arith, omega arith)
-
-span-fits : (class : ClassFields) (frames p q leads : ℕ) → p < q → q ≤ frames * samples_in class
-    → AreLeads (span_of class p q) leads → SpanFits class frames leads (span_of class p q)
-unfolding span_of
-span-fits class frames p q leads some most are =
-    let in_range = numbers-in_range class p q leads are in
-    let within = last-within class.version frames p q some most in
-    record {
-      some = within.0;
-      most = within.1;
-      delay_least = in_range.delay_least;
-      delay_most = in_range.delay_most;
-      padding_least = in_range.padding_least;
-      padding_most = in_range.padding_most;
-    }
-
--- the span of played positions is within the frames, and its numbers are in range
-pub spans-fit : (head : Option Info) (class : ClassFields) (frames a b leads : ℕ)
-    → ArePlayed head class frames a b → AreLeads (span_in head class frames a b) leads
-    → SpanFits class frames leads (span_in head class frames a b)
-spans-fit head class frames a b leads played are =
-    let start = (played_of head class frames).start in
-    span-fits class frames (start + a) (start + b) leads (omega (arith, played.some))
-    (omega (arith, played.some, played.most, played-within head class frames)) are
-
 -- ---- the played positions of a piece
 
 counts-are : (piece : Info) (frames delay padding : ℕ) → piece.frames ≡ Some frames → 1 ≤ frames
@@ -161,29 +128,62 @@ kept-by class leads first a b piece file start end = record {
   samples = λ k _. sample-kept class leads first piece.start file.start a k start;
 }
 
--- the positions of a piece
-piece-kept : (class : ClassFields) (frames p q leads : ℕ) (piece : Info) → p < q
-    → SpanFits class frames leads (span_of class p q)
-    → IsHeadOf class leads (span_of class p q) piece →
-    let played =
-    played_of (Some piece) class (leads + ((span_of class p q).last - (span_of class p q).first)) in
-    let before = (span_of class p q).first * samples_in class in
-    (played.start + before ≡ p + leads * samples_in class)
-    × (played.end + before ≡ q + leads * samples_in class)
-unfolding span_of
-piece-kept class all p q leads piece some fits head =
-    let first = first_frame (samples_in class) p in
-    let last = frames_before (samples_in class) q in
-    let frames = leads + (last - first) in
-    let delay = leads * samples_in class + (p - first * samples_in class) - decoder_delay in
-    let padding = last * samples_in class - q + decoder_delay in
-    let is = piece-played class piece frames delay padding head.frames (omega (arith, fits.some))
-    (omega arith) head.numbers in (
-      ap (λ (played : Played). played.start + first * samples_in class) is
-          ∙ starts-at class.version leads p fits.delay_least,
-      ap (λ (played : Played). played.end + first * samples_in class) is
-          ∙ ends-at class.version leads p q some,
-    )
+-- ---- spans of played positions
+
+last-within : (version : Version) (frames p q : ℕ) → p < q → q ≤ frames * samples_of version
+    → (first_frame (samples_of version) p < frames_before (samples_of version) q)
+    × (frames_before (samples_of version) q ≤ frames)
+last-within One frames p q some most = (omega arith, omega arith)
+last-within Two frames p q some most = (omega arith, omega arith)
+last-within TwoFive frames p q some most = (omega arith, omega arith)
+
+module _ (class : ClassFields) (frames p q leads : ℕ) where
+  span-fits : p < q → q ≤ frames * samples_in class → AreLeads (span_of class p q) leads
+      → SpanFits class frames leads (span_of class p q)
+  unfolding span_of
+  span-fits some most are =
+      let in_range = numbers-in_range class p q leads are in
+      let within = last-within class.version frames p q some most in
+      record {
+        some = within.0;
+        most = within.1;
+        delay_least = in_range.delay_least;
+        delay_most = in_range.delay_most;
+        padding_least = in_range.padding_least;
+        padding_most = in_range.padding_most;
+      }
+
+  -- the positions of a piece
+  piece-kept : (piece : Info) → p < q → SpanFits class frames leads (span_of class p q)
+      → IsHeadOf class leads (span_of class p q) piece →
+      let played = played_of (Some piece) class
+      (leads + ((span_of class p q).last - (span_of class p q).first)) in
+      let before = (span_of class p q).first * samples_in class in
+      (played.start + before ≡ p + leads * samples_in class)
+      × (played.end + before ≡ q + leads * samples_in class)
+  unfolding span_of
+  piece-kept piece some fits head =
+      let first = first_frame (samples_in class) p in
+      let last = frames_before (samples_in class) q in
+      let count = leads + (last - first) in
+      let delay = leads * samples_in class + (p - first * samples_in class) - decoder_delay in
+      let padding = last * samples_in class - q + decoder_delay in
+      let is = piece-played class piece count delay padding head.frames (omega (arith, fits.some))
+      (omega arith) head.numbers in (
+        ap (λ (played : Played). played.start + first * samples_in class) is
+            ∙ starts-at class.version leads p fits.delay_least,
+        ap (λ (played : Played). played.end + first * samples_in class) is
+            ∙ ends-at class.version leads p q some,
+      )
+
+-- the span of played positions is within the frames, and its numbers are in range
+pub spans-fit : (head : Option Info) (class : ClassFields) (frames a b leads : ℕ)
+    → ArePlayed head class frames a b → AreLeads (span_in head class frames a b) leads
+    → SpanFits class frames leads (span_in head class frames a b)
+spans-fit head class frames a b leads played are =
+    let start = (played_of head class frames).start in
+    span-fits class frames (start + a) (start + b) leads (omega (arith, played.some))
+    (omega (arith, played.some, played.most, played-within head class frames)) are
 
 -- the played positions of a piece begin and end as far from its frames as those of the file do
 pub places-kept : (file : Option Info) (piece : Info) (class : ClassFields) (frames a b leads : ℕ)

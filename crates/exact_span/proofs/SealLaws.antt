@@ -102,52 +102,51 @@ tail-length info whole =
       table-length info.table whole.table,
     )
 
--- ---- the music length
+-- ---- the music length and the tag CRC
 
-put-length : (c : ClassFields) (front number tail extension rest : List ℕ)
-    → length front ≡ bytes_place c → length number ≡ 4 → length tail ≡ 104 → length extension ≡ 36 →
-    with_music_length c (front ++ (number ++ (tail ++ (extension ++ rest))))
-    ≡ front ++ (number ++ (tail ++ ((take 28 extension ++ (number ++ drop 32 extension)) ++ rest)))
-unfolding with_music_length
-put-length c front number tail extension rest at four middle long =
-    let whole = front ++ (number ++ (tail ++ (extension ++ rest))) in
-    let before : take (music_place c) whole ≡ front ++ (number ++ (tail ++ take 28 extension)) =
-    take-behind front _ 136 (music_place c) (omega (arith, at))
-    ∙ ap (λ (xs : List ℕ). front ++ xs) (take-behind number _ 132 136 (omega (arith, four))
-    ∙ ap (λ (xs : List ℕ). number ++ xs) (take-behind tail _ 28 132 (omega (arith, middle))
-    ∙ ap (λ (xs : List ℕ). tail ++ xs) (take-append-le 28 extension rest (omega (arith, long))))) in
-    let own : take 4 (drop (bytes_place c) whole) ≡ number =
-    ap (take 4) (drop_at front _ (bytes_place c) at) ∙ take_at number _ 4 four in
-    let behind : drop (music_place c + 4) whole ≡ drop 32 extension ++ rest =
-    drop-behind front _ 140 (music_place c + 4) (omega (arith, at))
-    ∙ drop-behind number _ 136 140 (omega (arith, four))
-    ∙ drop-behind tail _ 32 136 (omega (arith, middle))
-    ∙ drop-append-le 32 extension rest (omega (arith, long)) in
-    ap₂ (λ (xs ys : List ℕ). xs ++ ys) before (ap₂ (λ (xs ys : List ℕ). xs ++ ys) own behind)
-    ∙ simp append_assoc
+module _ (c : ClassFields) (front number tail extension rest : List ℕ)
+    (at : length front ≡ bytes_place c) (four : length number ≡ 4) (middle : length tail ≡ 104)
+    (long : length extension ≡ 36) where
+  put-length : with_music_length c (front ++ (number ++ (tail ++ (extension ++ rest)))) ≡ front
+      ++ (number ++ (tail ++ ((take 28 extension ++ (number ++ drop 32 extension)) ++ rest)))
+  unfolding with_music_length
+  put-length =
+      let whole = front ++ (number ++ (tail ++ (extension ++ rest))) in
+      let before : take (music_place c) whole ≡ front ++ (number ++ (tail ++ take 28 extension)) =
+      take-behind front _ 136 (music_place c) (omega (arith, at))
+      ∙ ap (λ (xs : List ℕ). front ++ xs) (take-behind number _ 132 136 (omega (arith, four))
+      ∙ ap (λ (xs : List ℕ). number ++ xs) (take-behind tail _ 28 132 (omega (arith, middle))
+      ∙ ap (λ (xs : List ℕ). tail ++ xs) (take-append-le 28 extension rest (omega (arith, long)))))
+      in
+      let own : take 4 (drop (bytes_place c) whole) ≡ number =
+      ap (take 4) (drop_at front _ (bytes_place c) at) ∙ take_at number _ 4 four in
+      let behind : drop (music_place c + 4) whole ≡ drop 32 extension ++ rest =
+      drop-behind front _ 140 (music_place c + 4) (omega (arith, at))
+      ∙ drop-behind number _ 136 140 (omega (arith, four))
+      ∙ drop-behind tail _ 32 136 (omega (arith, middle))
+      ∙ drop-append-le 32 extension rest (omega (arith, long)) in
+      ap₂ (λ (xs ys : List ℕ). xs ++ ys) before (ap₂ (λ (xs ys : List ℕ). xs ++ ys) own behind)
+      ∙ simp append_assoc
 
--- ---- the tag CRC
-
-put-crc : (c : ClassFields) (front number tail extension rest : List ℕ)
-    → length front ≡ bytes_place c → length number ≡ 4 → length tail ≡ 104 → length extension ≡ 36 →
-    let whole = front ++ (number ++ (tail ++ (extension ++ rest))) in
-    with_tag_crc c whole ≡ front ++ (number
-    ++ (tail ++ ((take 34 extension ++ big_bytes 2 (arc_of 0 (take (crc_place c) whole))) ++ rest)))
-unfolding with_tag_crc
-put-crc c front number tail extension rest at four middle long =
-    let whole = front ++ (number ++ (tail ++ (extension ++ rest))) in
-    let word = big_bytes 2 (arc_of 0 (take (crc_place c) whole)) in
-    let before : take (crc_place c) whole ≡ front ++ (number ++ (tail ++ take 34 extension)) =
-    take-behind front _ 142 (crc_place c) (omega (arith, at))
-    ∙ ap (λ (xs : List ℕ). front ++ xs) (take-behind number _ 138 142 (omega (arith, four))
-    ∙ ap (λ (xs : List ℕ). number ++ xs) (take-behind tail _ 34 138 (omega (arith, middle))
-    ∙ ap (λ (xs : List ℕ). tail ++ xs) (take-append-le 34 extension rest (omega (arith, long))))) in
-    let behind : drop (crc_place c + 2) whole ≡ rest =
-    drop-behind front _ 144 (crc_place c + 2) (omega (arith, at))
-    ∙ drop-behind number _ 140 144 (omega (arith, four))
-    ∙ drop-behind tail _ 36 140 (omega (arith, middle))
-    ∙ drop_at extension rest 36 long in
-    ap₂ (λ (xs ys : List ℕ). xs ++ (word ++ ys)) before behind ∙ simp append_assoc
+  put-crc : let whole = front ++ (number ++ (tail ++ (extension ++ rest))) in
+      with_tag_crc c whole ≡ front ++ (number ++ (tail
+      ++ ((take 34 extension ++ big_bytes 2 (arc_of 0 (take (crc_place c) whole))) ++ rest)))
+  unfolding with_tag_crc
+  put-crc =
+      let whole = front ++ (number ++ (tail ++ (extension ++ rest))) in
+      let word = big_bytes 2 (arc_of 0 (take (crc_place c) whole)) in
+      let before : take (crc_place c) whole ≡ front ++ (number ++ (tail ++ take 34 extension)) =
+      take-behind front _ 142 (crc_place c) (omega (arith, at))
+      ∙ ap (λ (xs : List ℕ). front ++ xs) (take-behind number _ 138 142 (omega (arith, four))
+      ∙ ap (λ (xs : List ℕ). number ++ xs) (take-behind tail _ 34 138 (omega (arith, middle))
+      ∙ ap (λ (xs : List ℕ). tail ++ xs) (take-append-le 34 extension rest (omega (arith, long)))))
+      in
+      let behind : drop (crc_place c + 2) whole ≡ rest =
+      drop-behind front _ 144 (crc_place c + 2) (omega (arith, at))
+      ∙ drop-behind number _ 140 144 (omega (arith, four))
+      ∙ drop-behind tail _ 36 140 (omega (arith, middle))
+      ∙ drop_at extension rest 36 long in
+      ap₂ (λ (xs ys : List ℕ). xs ++ (word ++ ys)) before behind ∙ simp append_assoc
 
 -- ---- both
 

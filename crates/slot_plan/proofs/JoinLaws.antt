@@ -39,26 +39,26 @@ lead-header window first needs slot header is gives =
 
 -- ---- frames that join others
 
--- With its first frame in a slot, a list fits where what
--- the others want and the main data of the first have room.
-pub slot-fits : (window free wanted : ℕ) (first : Need) (needs : List Need) (slot : SlotFields)
-    → free ≤ window → wanted ≤ window → IsWanted window needs wanted → first.bytes + wanted
-    ≤ free + own_area (in_slot slot first) → FitsBehind window free (in_slot slot first ∷ needs)
-slot-fits window free wanted first needs slot within most is room =
-    cons-fits window free (in_slot slot first) needs within (omega (arith, room))
-    (more-behind window wanted (free_behind window free first.bytes (own_area (in_slot slot first)))
-    needs (omega (arith, room, most)) is.fits)
+module _ (window free wanted : ℕ) (first : Need) (needs : List Need) (slot : SlotFields)
+    (within : free ≤ window) where
+  -- With its first frame in a slot, a list fits where what
+  -- the others want and the main data of the first have room.
+  pub slot-fits : wanted ≤ window → IsWanted window needs wanted → first.bytes + wanted
+      ≤ free + own_area (in_slot slot first) → FitsBehind window free (in_slot slot first ∷ needs)
+  slot-fits most is room =
+      cons-fits window free (in_slot slot first) needs within (omega (arith, room))
+      (more-behind window wanted
+      (free_behind window free first.bytes (own_area (in_slot slot first)))
+      needs (omega (arith, room, most)) is.fits)
 
--- a list with its first frame in a slot fits where that frame and what the others want have room
-pub fits-slot : (window free wanted : ℕ) (first : Need) (needs : List Need) (slot : SlotFields)
-    → free ≤ window → IsWanted window needs wanted
-    → FitsBehind window free (in_slot slot first ∷ needs)
-    → first.bytes + wanted ≤ free + own_area (in_slot slot first)
-fits-slot window free wanted first needs slot within is fits =
-    let parts = fits-cons window free (in_slot slot first) needs within fits in
-    let enough =
-    is.least (free_behind window free first.bytes (own_area (in_slot slot first))) parts.1 in
-    omega (arith, parts.0, enough)
+  -- a list with its first frame in a slot fits where that frame and what the others want have room
+  pub fits-slot : IsWanted window needs wanted → FitsBehind window free (in_slot slot first ∷ needs)
+      → first.bytes + wanted ≤ free + own_area (in_slot slot first)
+  fits-slot is fits =
+      let parts = fits-cons window free (in_slot slot first) needs within fits in
+      let enough =
+      is.least (free_behind window free first.bytes (own_area (in_slot slot first))) parts.1 in
+      omega (arith, parts.0, enough)
 
 module _ (window free wanted area : ℕ) (first : Need) (needs : List Need) (within : free ≤ window)
     (most : wanted ≤ window) (is : IsWanted window needs wanted)
@@ -199,33 +199,33 @@ first-of class free wanted first needs can same is gives =
           (fits-drop (window_of class.version) (window_of class.version) 1 needs fits);
     }
 
--- in its own area and two windows the first frame has room with what the others want
-pub first-room : (window free wanted area : ℕ) (first : Need) (needs : List Need)
-    → FirstOf window free wanted first needs → area ≡ own_area first
-    → first.bytes + wanted ≤ 2 * window + area
-first-room window free wanted area first needs of own =
-    let room = (fits-cons window window first (drop 1 needs) (omega arith) of.fits).0 in
-    omega (arith, room, of.most, own)
+module _ (window free wanted area : ℕ) (first : Need) (needs : List Need) where
+  -- in its own area and two windows the first frame has room with what the others want
+  pub first-room : FirstOf window free wanted first needs → area ≡ own_area first
+      → first.bytes + wanted ≤ 2 * window + area
+  first-room of own =
+      let room = (fits-cons window window first (drop 1 needs) (omega arith) of.fits).0 in
+      omega (arith, room, of.most, own)
 
--- the least slot with what is missing, but no less than its own area, is that in which frames join
-pub first-joins : (window free wanted area : ℕ) (first : Need) (needs : List Need)
-    (slot : SlotFields) → FirstOf window free wanted first needs
-    → area ≡ max ((first.bytes + wanted) - free) (own_area first)
-    → IsLeastSlot area (class_of first.header) first.header.protected all_slots slot
-    → IsJoin window free needs (Some slot)
-first-joins window free wanted area first needs slot of gives least =
-    subst (λ l. IsJoin window free l (Some slot)) (sym of.whole) (least-joins window free wanted
-    area first (drop 1 needs) of.within of.most of.wants gives slot least)
+  -- the least slot with what is missing, but no less
+  -- than its own area, is that in which frames join
+  pub first-joins : (slot : SlotFields) → FirstOf window free wanted first needs
+      → area ≡ max ((first.bytes + wanted) - free) (own_area first)
+      → IsLeastSlot area (class_of first.header) first.header.protected all_slots slot
+      → IsJoin window free needs (Some slot)
+  first-joins slot of gives least =
+      subst (λ l. IsJoin window free l (Some slot)) (sym of.whole) (least-joins window free wanted
+      area first (drop 1 needs) of.within of.most of.wants gives slot least)
 
--- if no slot has so much, they don't join
-pub first-none : (window free wanted area : ℕ) (first : Need) (needs : List Need)
-    → FirstOf window free wanted first needs
-    → area ≡ max ((first.bytes + wanted) - free) (own_area first)
-    → greatest (areas_with (class_of first.header) first.header.protected all_slots) < area
-    → IsJoin window free needs None
-first-none window free wanted area first needs of gives less =
-    subst (λ l. IsJoin window free l None) (sym of.whole)
-    (none-joins window free wanted area first (drop 1 needs) of.within of.most of.wants gives less)
+  -- if no slot has so much, they don't join
+  pub first-none : FirstOf window free wanted first needs
+      → area ≡ max ((first.bytes + wanted) - free) (own_area first)
+      → greatest (areas_with (class_of first.header) first.header.protected all_slots) < area
+      → IsJoin window free needs None
+  first-none of gives less =
+      subst (λ l. IsJoin window free l None) (sym of.whole)
+      (none-joins window free wanted area first
+      (drop 1 needs) of.within of.most of.wants gives less)
 
 -- ---- the lead-in of frames
 

@@ -141,36 +141,7 @@ first-least window class slot opens some is chosen most within enough least =
           ),
     )
 
--- the lead-in of a part is the first entry of the least list for a lead-in and its frames
-pub lead-least : (window : ℕ) (choices : HeaderFields → List SlotFields) (first : Need)
-    (part : List Need) (slot : SlotFields) → IsLeadIn window choices (first ∷ part) (Some slot)
-    → (rest : List ℕ) × IsLeast window (behind_any choices first part)
-    (area_of (class_of first.header) slot false ∷ rest)
-unfolding IsLeadIn items_of CanBeLaid
-lead-least window choices first part slot alone =
-    let class : ClassFields = class_of first.header in
-    let opens : List Open = opens_in choices (first ∷ part) in
-    let lead : Open = open_of (lead_in_of class (slot ∷ [])) in
-    let can = alone.1 in
-    let none = needed-can window (lead ∷ opens) can in
-    let enough : needed opens ≤ area_of class slot false =
-    omega (arith, none.0, lead-needed class slot opens) in
-    let within = within-tail window lead opens none.1 in
-    let some = chosen-tail lead opens can.0 can.1 in
-    first-least window class slot opens some.0 alone.2 some.1 within.0 within.1 enough
-    (λ other is fits.
-    elim (cases_lt (area_of class other false) (area_of class slot false))
-    as (λ _. area_of class slot false ≤ area_of class other false) [
-      | inl less ↦
-          absurd (alone.3 other is less
-          (can-needed window (open_of (lead_in_of class (other ∷ [])) ∷ opens)
-          (area_of class other false ∷ some.0) (lead-chosen class other opens some.0 some.1)
-          (omega (arith, lead-needed class other opens))
-          (lead-within window class other opens within.0 within.1)))
-      | inr most ↦ most
-    ])
-
--- ---- and back
+-- ---- from the least list to the definition
 with-slot : (window : ℕ) (class : ClassFields) (slot : SlotFields) (opens : List Open)
     (rest : List ℕ) → IsLeast window (open_of (lead_in_of class all_slots) ∷ opens)
     (area_of class slot false ∷ rest)
@@ -201,22 +172,50 @@ not-before window class slot other opens rest (area ∷ areas) least is less cho
       | inr at ↦ omega (arith, same, at.0)
     ]
 
-least-lead : (window : ℕ) (choices : HeaderFields → List SlotFields) (first : Need)
-    (part : List Need) (slot : SlotFields)
-    → (CanBeLaid window (map open_of (items_of choices (first ∷ part) None)) → ⊥)
-    → Contains all_slots slot → ((rest : List ℕ) × IsLeast window (behind_any choices first part)
-    (area_of (class_of first.header) slot false ∷ rest))
-    → IsLeadIn window choices (first ∷ part) (Some slot)
-unfolding IsLeadIn items_of CanBeLaid
-least-lead window choices first part slot never is (rest, least) =
-    let class : ClassFields = class_of first.header in
-    let opens : List Open = opens_in choices (first ∷ part) in (
-      never,
-      with-slot window class slot opens rest least,
-      is,
-      (λ other has less can. not-before window class slot other opens rest can.0 least has less
-          can.1 can.2),
-    )
+-- ---- both ways
+module _ (window : ℕ) (choices : HeaderFields → List SlotFields) (first : Need) (part : List Need)
+    (slot : SlotFields) where
+  -- the lead-in of a part is the first entry of the least list for a lead-in and its frames
+  pub lead-least : IsLeadIn window choices (first ∷ part) (Some slot) → (rest : List ℕ) × IsLeast
+      window (behind_any choices first part) (area_of (class_of first.header) slot false ∷ rest)
+  unfolding IsLeadIn items_of CanBeLaid
+  lead-least alone =
+      let class : ClassFields = class_of first.header in
+      let opens : List Open = opens_in choices (first ∷ part) in
+      let lead : Open = open_of (lead_in_of class (slot ∷ [])) in
+      let can = alone.1 in
+      let none = needed-can window (lead ∷ opens) can in
+      let enough : needed opens ≤ area_of class slot false =
+      omega (arith, none.0, lead-needed class slot opens) in
+      let within = within-tail window lead opens none.1 in
+      let some = chosen-tail lead opens can.0 can.1 in
+      first-least window class slot opens some.0 alone.2 some.1 within.0 within.1 enough
+      (λ other is fits.
+      elim (cases_lt (area_of class other false) (area_of class slot false))
+      as (λ _. area_of class slot false ≤ area_of class other false) [
+        | inl less ↦
+            absurd (alone.3 other is less
+            (can-needed window (open_of (lead_in_of class (other ∷ [])) ∷ opens)
+            (area_of class other false ∷ some.0) (lead-chosen class other opens some.0 some.1)
+            (omega (arith, lead-needed class other opens))
+            (lead-within window class other opens within.0 within.1)))
+        | inr most ↦ most
+      ])
+
+  least-lead : (CanBeLaid window (map open_of (items_of choices (first ∷ part) None)) → ⊥)
+      → Contains all_slots slot → ((rest : List ℕ) × IsLeast window (behind_any choices first part)
+      (area_of (class_of first.header) slot false ∷ rest))
+      → IsLeadIn window choices (first ∷ part) (Some slot)
+  unfolding IsLeadIn items_of CanBeLaid
+  least-lead never is (rest, least) =
+      let class : ClassFields = class_of first.header in
+      let opens : List Open = opens_in choices (first ∷ part) in (
+        never,
+        with-slot window class slot opens rest least,
+        is,
+        (λ other has less can. not-before window class slot other opens rest can.0 least has less
+            can.1 can.2),
+      )
 
 -- the same of every part that gets a lead-in
 pub lead-first : LeadInsComeFirst

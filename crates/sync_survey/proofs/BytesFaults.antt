@@ -71,22 +71,23 @@ data_of_bytes : (place ended : ℕ) (r : Row) → AreOfBytes (data_faults place 
 data_of_bytes place ended r = unless_of_bytes (lacks_data place ended r) (own_faults place ended r)
     (own_of_bytes place ended r)
 
-frame_of_bytes : (said : ℕ) (class : ClassFields) (allowed place ended count : ℕ) (r : Row)
-    → AreOfBytes (faults_at said class allowed place ended count r)
-unfolding faults_at
-frame_of_bytes said class allowed place ended count r =
-    both_of_bytes _ _
-    (both_of_bytes _ _ (both_of_bytes _ _ (one_of_bytes (not (same_class (class_of r.header) class))
-    _ tt) (one_of_bytes (has_wrong_word said r) _ tt)) (data_of_bytes place ended r))
-    (one_of_bytes (count == allowed) _ tt)
+module _ (said : ℕ) (class : ClassFields) (allowed place ended count : ℕ) (r : Row) where
+  frame_of_bytes : AreOfBytes (faults_at said class allowed place ended count r)
+  unfolding faults_at
+  frame_of_bytes =
+      both_of_bytes _ _
+      (both_of_bytes _ _
+      (both_of_bytes _ _ (one_of_bytes (not (same_class (class_of r.header) class)) _ tt)
+      (one_of_bytes (has_wrong_word said r) _ tt)) (data_of_bytes place ended r))
+      (one_of_bytes (count == allowed) _ tt)
 
--- so does the first fault of a frame
-pub frame_rightly : (said : ℕ) (class : ClassFields) (allowed place ended count : ℕ) (r : Row)
-    (fault : SurveyFault) → first_of (faults_at said class allowed place ended count r) ≡ Some fault
-    → RefusesRightly fault
-frame_rightly said class allowed place ended count r fault is =
-    of_bytes_rightly fault (first_of_bytes (faults_at said class allowed place ended count r) fault
-    (frame_of_bytes said class allowed place ended count r) is)
+  -- so does the first fault of a frame
+  pub frame_rightly : (fault : SurveyFault)
+      → first_of (faults_at said class allowed place ended count r) ≡ Some fault
+      → RefusesRightly fault
+  frame_rightly fault is =
+      of_bytes_rightly fault
+      (first_of_bytes (faults_at said class allowed place ended count r) fault frame_of_bytes is)
 
 -- ---- a file
 

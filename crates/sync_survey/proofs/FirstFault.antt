@@ -305,21 +305,19 @@ abbrev IsFirstOf : Files → List ℕ → ℕ → SurveyFault → Type 0
 IsFirstOf files name allowed fault = (bytes : List ℕ) → Holds files name bytes → (start : Start)
     → start_of bytes ≡ Ok start → NoneBefore (fault_place fault) (faults_from bytes allowed start)
 
-refusal_first : (name : List ℕ) (files : Files) (allowed : ℕ) (before after : Counts)
-    (fault : SurveyFault) → IsSurveyFault name files allowed before after fault
-    → (fault_place fault ≡ 0) ⊎ (kind_of fault ≡ IsRefused) → IsFirstOf files name allowed fault
-refusal_first name files allowed before after fault is (inl zero) =
-    λ bytes holds start begun. subst (λ n. NoneBefore n (faults_from bytes allowed start))
-    (sym zero) (none_at_all (faults_from bytes allowed start))
-refusal_first name files allowed before after fault is (inr kind) =
-    let refuses : RefusesBytes name files allowed before after fault =
-    subst (IsSurveyFaultBy name files allowed before after fault) kind is in
-    λ bytes holds start begun. of_file bytes allowed fault start begun (refuses.bytes bytes holds)
+module _ (name : List ℕ) (files : Files) (allowed : ℕ) (before after : Counts) where
+  refusal_first : (fault : SurveyFault) → IsSurveyFault name files allowed before after fault
+      → (fault_place fault ≡ 0) ⊎ (kind_of fault ≡ IsRefused) → IsFirstOf files name allowed fault
+  refusal_first fault is (inl zero) =
+      λ bytes holds start begun. subst (λ n. NoneBefore n (faults_from bytes allowed start))
+      (sym zero) (none_at_all (faults_from bytes allowed start))
+  refusal_first fault is (inr kind) =
+      let refuses : RefusesBytes name files allowed before after fault =
+      subst (IsSurveyFaultBy name files allowed before after fault) kind is in
+      λ bytes holds start begun. of_file bytes allowed fault start begun (refuses.bytes bytes holds)
 
--- a refusal of a file is the one with the smallest offset
-pub refused_first : (name : List ℕ) (files : Files) (allowed : ℕ) (before after : Counts)
-    (r : Result Survey SurveyFault) → IfErr r (IsRefusal name files allowed before after)
-    → IfErr r (IsFirstOf files name allowed)
-refused_first name files allowed before after (Ok s) is = tt
-refused_first name files allowed before after (Err fault) is =
-    refusal_first name files allowed before after fault is.cause (nowhere fault)
+  -- a refusal of a file is the one with the smallest offset
+  pub refused_first : (r : Result Survey SurveyFault)
+      → IfErr r (IsRefusal name files allowed before after) → IfErr r (IsFirstOf files name allowed)
+  refused_first (Ok s) is = tt
+  refused_first (Err fault) is = refusal_first fault is.cause (nowhere fault)

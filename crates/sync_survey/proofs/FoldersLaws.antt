@@ -17,7 +17,7 @@ use Rattle.sync_survey.specs.{Survey.survey_of, declared.places.Start.Start}
 use Rattle.sync_survey.specs.declared.survey_fault.SurveyFault.{SurveyFault}
 use Rattle.sync_survey.specs.declared.survey_fault.SurveyFault.TheVariants.{Memory, TooLong}
 
--- ---- by the length
+-- ---- the survey of a short file, and of one that is too long
 
 too_long : (file : List ℕ) (allowed size : ℕ) → size ≡ length file → longest_file < size
     → survey_of file allowed ≡ Err (TooLong size)
@@ -35,37 +35,9 @@ unfolding survey_of
 survey_of-short file allowed few = let short : ltb longest_file (length file) ≡ false =
     le-ltb longest_file (length file) few in rw short refl
 
--- a file that is too long is refused with its length
-pub long_refusal : (name : List ℕ) (files : Files) (allowed : ℕ) (before after : Counts) (size : ℕ)
-    → IsThere files name → ((bytes : List ℕ) → Holds files name bytes → size ≡ length bytes)
-    → longest_file < size → after ≡ before
-    → IsRefusal name files allowed before after (TooLong size)
-long_refusal name files allowed before after size there is long same =
-    record {
-      cause = record {
-        there = there;
-        bytes = λ bytes holds. too_long bytes allowed size (is bytes holds) long;
-        counts = same;
-      };
-      numbers = long;
-    }
-
 -- octets are bytes, as a list
 pub octets_bytes : (bytes : List ℕ) → AreOctets bytes → AreBytes bytes
 octets_bytes bytes all = AreBytes-from_slice bytes (λ i. record { fits = all i })
-
--- ---- by a read that ends early
-
--- a fault of reading refuses the file, with the cause of the fault
-pub read_refusal : (name : List ℕ) (files : Files) (allowed : ℕ) (before after : Counts) (size : ℕ)
-    (fault : ReadFault) → HasReadCause name size files before after fault
-    → IsRefusal name files allowed before after (of_read fault)
-read_refusal name files allowed before after size Failed cause =
-    record { cause = cause.0; numbers = tt }
-read_refusal name files allowed before after size (ShrunkRead first second) cause = record {
-  cause = record { nothing_told = cause.0; ended = cause.3; counts = cause.4 };
-  numbers = cause.2;
-}
 
 -- ---- what a look shows
 
@@ -85,21 +57,6 @@ shown file at left wanted size given whole is many bytes = record {
   front_is = bytes ∙ take_fewer look_size wanted (drop at file) (omega
       (arith, whole, is, many, length-drop at file)) (leb (length (drop at file)) look_size) refl;
   left_is = omega (arith, whole, is);
-}
-
--- ---- want of memory
-
--- want of memory may refuse any file
-pub memory_refusal : (name : List ℕ) (files : Files) (allowed : ℕ) (before after : Counts)
-    (size : ℕ) → HasLength files name size → after ≡ before
-    → IsRefusal name files allowed before after Memory
-memory_refusal name files allowed before after size known same = record {
-  cause = record {
-    there = known.there;
-    few = λ bytes holds. omega (arith, known.few, known.long bytes holds);
-    counts = same;
-  };
-  numbers = tt;
 }
 
 -- ---- after calls that left the files and all counts
@@ -156,44 +113,80 @@ pub only_reads_equal : {before after : Counts} → after ≡ before → OnlyRead
 only_reads_equal {before = before} same =
     subst (OnlyReads before) (sym same) (only_reads_same before)
 
--- ---- by the bytes
-
-kind_refusal : (name : List ℕ) (files : Files) (allowed : ℕ) (before after : Counts)
-    (fault : SurveyFault) → RefusesRightly fault
-    → RefusesBytes name files allowed before after fault
-    → IsRefusal name files allowed before after fault
-kind_refusal name files allowed before after fault rightly refuses = record {
-  cause = subst (IsSurveyFaultBy name files allowed before after fault) (sym rightly.0) refuses;
-  numbers = rightly.1;
-}
-
--- a fault of the file's bytes refuses it
-pub bytes_refusal : (name : List ℕ) (files : Files) (allowed : ℕ) (before after : Counts) (size : ℕ)
-    (fault : SurveyFault) → HasLength files name size → after ≡ before → RefusesRightly fault
-    → ((bytes : List ℕ) → Holds files name bytes → surveyed bytes allowed ≡ Err fault)
-    → IsRefusal name files allowed before after fault
-bytes_refusal name files allowed before after size fault known same rightly refused =
-    kind_refusal name files allowed before after fault rightly (record {
-      there = known.there;
-      bytes = λ bytes holds. survey_of-short bytes allowed
-          (omega (arith, known.few, known.long bytes holds)) ∙ refused bytes holds;
-      counts = same;
-    })
-
 -- the stream doesn't begin
 pub surveyed_by : (file : List ℕ) (allowed : ℕ) (fault : SurveyFault) → start_of file ≡ Err fault
     → surveyed file allowed ≡ Err fault
 unfolding surveyed
 surveyed_by file allowed fault is = ap (survey_by file allowed) is
 
--- so does a fault before its first frame
-pub start_refusal : (name : List ℕ) (files : Files) (allowed : ℕ) (before after : Counts) (size : ℕ)
-    (fault : SurveyFault) → HasLength files name size → after ≡ before → RefusesRightly fault
-    → ((bytes : List ℕ) → Holds files name bytes → start_of bytes ≡ Err fault)
-    → IsRefusal name files allowed before after fault
-start_refusal name files allowed before after size fault known same rightly none =
-    bytes_refusal name files allowed before after size fault known same rightly
-    (λ bytes holds. surveyed_by bytes allowed fault (none bytes holds))
+-- ---- the refusals
+
+module _ (name : List ℕ) (files : Files) (allowed : ℕ) (before after : Counts) where
+  -- a file that is too long is refused with its length
+  pub long_refusal : (size : ℕ) → IsThere files name
+      → ((bytes : List ℕ) → Holds files name bytes → size ≡ length bytes) → longest_file < size
+      → after ≡ before → IsRefusal name files allowed before after (TooLong size)
+  long_refusal size there is long same =
+      record {
+        cause = record {
+          there = there;
+          bytes = λ bytes holds. too_long bytes allowed size (is bytes holds) long;
+          counts = same;
+        };
+        numbers = long;
+      }
+
+  -- a fault of reading refuses the file, with the cause of the fault
+  pub read_refusal : (size : ℕ) (fault : ReadFault)
+      → HasReadCause name size files before after fault
+      → IsRefusal name files allowed before after (of_read fault)
+  read_refusal size Failed cause = record { cause = cause.0; numbers = tt }
+  read_refusal size (ShrunkRead first second) cause = record {
+    cause = record { nothing_told = cause.0; ended = cause.3; counts = cause.4 };
+    numbers = cause.2;
+  }
+
+  -- want of memory may refuse any file
+  pub memory_refusal : (size : ℕ) → HasLength files name size → after ≡ before
+      → IsRefusal name files allowed before after Memory
+  memory_refusal size known same = record {
+    cause = record {
+      there = known.there;
+      few = λ bytes holds. omega (arith, known.few, known.long bytes holds);
+      counts = same;
+    };
+    numbers = tt;
+  }
+
+  kind_refusal : (fault : SurveyFault) → RefusesRightly fault
+      → RefusesBytes name files allowed before after fault
+      → IsRefusal name files allowed before after fault
+  kind_refusal fault rightly refuses = record {
+    cause = subst (IsSurveyFaultBy name files allowed before after fault) (sym rightly.0) refuses;
+    numbers = rightly.1;
+  }
+
+  -- a fault of the file's bytes refuses it
+  pub bytes_refusal : (size : ℕ) (fault : SurveyFault) → HasLength files name size → after ≡ before
+      → RefusesRightly fault
+      → ((bytes : List ℕ) → Holds files name bytes → surveyed bytes allowed ≡ Err fault)
+      → IsRefusal name files allowed before after fault
+  bytes_refusal size fault known same rightly refused =
+      kind_refusal fault rightly (record {
+        there = known.there;
+        bytes = λ bytes holds. survey_of-short bytes allowed
+            (omega (arith, known.few, known.long bytes holds)) ∙ refused bytes holds;
+        counts = same;
+      })
+
+  -- so does a fault before its first frame
+  pub start_refusal : (size : ℕ) (fault : SurveyFault) → HasLength files name size → after ≡ before
+      → RefusesRightly fault
+      → ((bytes : List ℕ) → Holds files name bytes → start_of bytes ≡ Err fault)
+      → IsRefusal name files allowed before after fault
+  start_refusal size fault known same rightly none =
+      bytes_refusal size fault known same rightly
+      (λ bytes holds. surveyed_by bytes allowed fault (none bytes holds))
 
 -- the start, or why there is none
 pub start_ok : (r : Result Start SurveyFault) (files : Files) (name : List ℕ)

@@ -140,41 +140,40 @@ none-unless : (b : Bool) (xs : List SurveyFault) → (b ≡ false → xs ≡ [])
 none-unless true xs none = refl
 none-unless false xs none = none refl
 
--- a frame without fault is sound
-pub faults-none_sound : (said : ℕ) (class : ClassFields) (allowed place ended count : ℕ) (r : Row)
-    → faults_at said class allowed place ended count r ≡ []
-    → IsSound said class allowed place ended count r
-unfolding faults_at
-faults-none_sound said class allowed place ended count r none =
-    let all = empty_parts _ _ none in
-    let front = empty_parts _ _ all.0 in
-    let word = empty_parts _ _ front.0 in
-    record {
-      same = nothing_true _ _ word.0;
-      word = nothing_true _ _ word.1;
-      main = λ is. own-none_well place ended r
-          (unless-none (lacks_data place ended r) (own_faults place ended r) front.1 is);
-      few = nothing_true _ _ all.1;
-    }
+module _ (said : ℕ) (class : ClassFields) (allowed place ended count : ℕ) (r : Row) where
+  -- a frame without fault is sound
+  pub faults-none_sound : faults_at said class allowed place ended count r ≡ []
+      → IsSound said class allowed place ended count r
+  unfolding faults_at
+  faults-none_sound none =
+      let all = empty_parts _ _ none in
+      let front = empty_parts _ _ all.0 in
+      let word = empty_parts _ _ front.0 in
+      record {
+        same = nothing_true _ _ word.0;
+        word = nothing_true _ _ word.1;
+        main = λ is. own-none_well place ended r
+            (unless-none (lacks_data place ended r) (own_faults place ended r) front.1 is);
+        few = nothing_true _ _ all.1;
+      }
 
--- a sound frame has no fault
-pub sound-no_faults : (said : ℕ) (class : ClassFields) (allowed place ended count : ℕ) (r : Row)
-    → IsSound said class allowed place ended count r
-    → faults_at said class allowed place ended count r ≡ []
-unfolding faults_at
-sound-no_faults said class allowed place ended count r sound =
-    empty_both _ _
-    (empty_both _ _ (empty_both _ _ (nothing_false _ _ sound.same) (nothing_false _ _ sound.word))
-    (none-unless (lacks_data place ended r) (own_faults place ended r)
-    (λ is. well-no_own place ended r (sound.main is))))
-    (nothing_false _ _ sound.few)
+  -- a sound frame has no fault
+  pub sound-no_faults : IsSound said class allowed place ended count r
+      → faults_at said class allowed place ended count r ≡ []
+  unfolding faults_at
+  sound-no_faults sound =
+      empty_both _ _
+      (empty_both _ _ (empty_both _ _ (nothing_false _ _ sound.same) (nothing_false _ _ sound.word))
+      (none-unless (lacks_data place ended r) (own_faults place ended r)
+      (λ is. well-no_own place ended r (sound.main is))))
+      (nothing_false _ _ sound.few)
 
--- nor is its main data at fault
-pub sound-no_data : (said : ℕ) (class : ClassFields) (allowed place ended count : ℕ) (r : Row)
-    → IsSound said class allowed place ended count r → data_faults place ended r ≡ []
-sound-no_data said class allowed place ended count r sound =
-    none-unless (lacks_data place ended r) (own_faults place ended r)
-    (λ is. well-no_own place ended r (sound.main is))
+  -- nor is its main data at fault
+  pub sound-no_data : IsSound said class allowed place ended count r
+      → data_faults place ended r ≡ []
+  sound-no_data sound =
+      none-unless (lacks_data place ended r) (own_faults place ended r)
+      (λ is. well-no_own place ended r (sound.main is))
 
 -- main data without a fault are where they may be, unless the frame is lost
 pub data-none_well : (place ended : ℕ) (r : Row) → data_faults place ended r ≡ []
@@ -213,27 +212,27 @@ each_none each n (q ∷ rows) none =
     empty_both (each n q) _ (ap (λ m. each m q) (omega arith) ∙ none zero q refl)
     (each_none each (n + 1) rows (λ i r is. ap (λ m. each m r) (omega arith) ∙ none (suc i) r is))
 
--- frames without any fault are all sound
-pub all_faults-none_sound : (file : List ℕ) (head : Option Head) (class : ClassFields) (allowed : ℕ)
-    (rows : List Row) → all_faults file head class allowed rows ≡ []
-    → AreSound file head class allowed rows
-unfolding all_faults
-all_faults-none_sound file head class allowed rows none = λ i r is.
-    faults-none_sound (word_said (drop r.offset file)) class allowed (place head rows i)
-    (end_before head rows i) i r
-    (ap (λ m. frame_faults file head class allowed rows m r) (sym (zero-add i))
-    ∙ none_each (frame_faults file head class allowed rows) 0 rows none i r is)
+module _ (file : List ℕ) (head : Option Head) (class : ClassFields) (allowed : ℕ)
+    (rows : List Row) where
+  -- frames without any fault are all sound
+  pub all_faults-none_sound : all_faults file head class allowed rows ≡ []
+      → AreSound file head class allowed rows
+  unfolding all_faults
+  all_faults-none_sound none = λ i r is.
+      faults-none_sound (word_said (drop r.offset file)) class allowed (place head rows i)
+      (end_before head rows i) i r
+      (ap (λ m. frame_faults file head class allowed rows m r) (sym (zero-add i))
+      ∙ none_each (frame_faults file head class allowed rows) 0 rows none i r is)
 
--- sound frames have no fault
-pub sound-no_all_faults : (file : List ℕ) (head : Option Head) (class : ClassFields) (allowed : ℕ)
-    (rows : List Row) → AreSound file head class allowed rows
-    → all_faults file head class allowed rows ≡ []
-unfolding all_faults
-sound-no_all_faults file head class allowed rows sound =
-    each_none (frame_faults file head class allowed rows) 0 rows (λ i r is.
-    ap (λ m. frame_faults file head class allowed rows m r) (zero-add i)
-    ∙ sound-no_faults (word_said (drop r.offset file)) class allowed (place head rows i)
-    (end_before head rows i) i r (sound i r is))
+  -- sound frames have no fault
+  pub sound-no_all_faults : AreSound file head class allowed rows
+      → all_faults file head class allowed rows ≡ []
+  unfolding all_faults
+  sound-no_all_faults sound =
+      each_none (frame_faults file head class allowed rows) 0 rows (λ i r is.
+      ap (λ m. frame_faults file head class allowed rows m r) (zero-add i)
+      ∙ sound-no_faults (word_said (drop r.offset file)) class allowed (place head rows i)
+      (end_before head rows i) i r (sound i r is))
 
 -- ---- however many frames are allowed
 
