@@ -158,28 +158,29 @@ even-again later sums bytes even is free less =
 
 -- ---- as many bytes added to each sum
 
--- the sum that is next hasn't changed
-pub added-here : (bytes : ℕ) (xs ys : List ℕ) (i d : ℕ) → i < length xs
-    → ys ≡ map (λ n. n + bytes) (take i xs) ++ drop i xs → get_or ys i d ≡ get_or xs i d
-added-here bytes xs ys i d less is =
-    let size : length (map (λ n. n + bytes) (take i xs)) ≡ i =
-    length-map (take i xs) (λ n. n + bytes) ∙ length-take-le i xs (omega (arith, less)) in
-    ap (λ l. get_or l i d) is
-    ∙ get_or-append_right (map (λ n. n + bytes) (take i xs)) (drop i xs) i i d size (omega arith)
-    ∙ get_or-drop i xs (i - i) d ∙ ap (λ n. get_or xs n d) (omega arith)
+module _ (bytes : ℕ) (xs ys : List ℕ) (i d : ℕ) where
+  -- the sum that is next hasn't changed
+  pub added-here : i < length xs → ys ≡ map (λ n. n + bytes) (take i xs) ++ drop i xs
+      → get_or ys i d ≡ get_or xs i d
+  added-here less is =
+      let size : length (map (λ n. n + bytes) (take i xs)) ≡ i =
+      length-map (take i xs) (λ n. n + bytes) ∙ length-take-le i xs (omega (arith, less)) in
+      ap (λ l. get_or l i d) is
+      ∙ get_or-append_right (map (λ n. n + bytes) (take i xs)) (drop i xs) i i d size (omega arith)
+      ∙ get_or-drop i xs (i - i) d ∙ ap (λ n. get_or xs n d) (omega arith)
 
--- to add the main data to the sum at i is to have added them to one more
-pub added-more : (bytes : ℕ) (xs ys : List ℕ) (i d sum : ℕ) → i < length xs
-    → ys ≡ map (λ n. n + bytes) (take i xs) ++ drop i xs → sum ≡ get_or ys i d + bytes
-    → set ys i sum ≡ map (λ n. n + bytes) (take (i + 1) xs) ++ drop (i + 1) xs
-added-more bytes xs ys i d sum less is at =
-    let f : ℕ → ℕ = λ n. n + bytes in
-    let x : ℕ = get_or xs i d in
-    let size : length (map f (take i xs)) ≡ i =
-    length-map (take i xs) f ∙ length-take-le i xs (omega (arith, less)) in
-    ap₂ (λ (l : List ℕ) (n : ℕ). set l i n) is (at ∙ ap f (added-here bytes xs ys i d less is))
-    ∙ ap (λ t. set (map f (take i xs) ++ t) i (f x)) (drop_more xs i d less)
-    ∙ set_at (map f (take i xs)) x (drop (i + 1) xs) (f x) i size
-    ∙ sym (append_assoc (map f (take i xs)) (f x ∷ []) (drop (i + 1) xs))
-    ∙ ap (λ t. t ++ drop (i + 1) xs)
-    (sym (map-append f (take i xs) (x ∷ [])) ∙ ap (map f) (sym (take_more xs i d less)))
+  -- to add the main data to the sum at i is to have added them to one more
+  pub added-more : (sum : ℕ) → i < length xs → ys ≡ map (λ n. n + bytes) (take i xs) ++ drop i xs
+      → sum ≡ get_or ys i d + bytes
+      → set ys i sum ≡ map (λ n. n + bytes) (take (i + 1) xs) ++ drop (i + 1) xs
+  added-more sum less is at =
+      let f : ℕ → ℕ = λ n. n + bytes in
+      let x : ℕ = get_or xs i d in
+      let size : length (map f (take i xs)) ≡ i =
+      length-map (take i xs) f ∙ length-take-le i xs (omega (arith, less)) in
+      ap₂ (λ (l : List ℕ) (n : ℕ). set l i n) is (at ∙ ap f (added-here less is))
+      ∙ ap (λ t. set (map f (take i xs) ++ t) i (f x)) (drop_more xs i d less)
+      ∙ set_at (map f (take i xs)) x (drop (i + 1) xs) (f x) i size
+      ∙ sym (append_assoc (map f (take i xs)) (f x ∷ []) (drop (i + 1) xs))
+      ∙ ap (λ t. t ++ drop (i + 1) xs)
+      (sym (map-append f (take i xs) (x ∷ [])) ∙ ap (map f) (sym (take_more xs i d less)))

@@ -17,70 +17,103 @@ use Rattle.slot_plan.specs.Parts.{areas_with, Item, item_of, lead_in_of, own_are
 use Rattle.slot_plan.specs.{Reserve.{free_behind, opens_in, own_area_of}, declared.needs.Need.Need}
 use Rattle.slot_plan.specs.declared.needs.Placed.{Placed}
 
--- after a whole window the frames can keep their slots
-pub whole-sum : (window : ℕ) (choices : HeaderFields → List SlotFields) (needs : List Need)
-    (sums places : List ℕ) → length needs ≤ 200000 → IsFeasible window window (map own_frame needs)
-    → IsTable window choices needs sums places → get_or sums window 0 ≤ 288200000
-whole-sum window choices needs sums places few feasible table =
-    let own = table-own window choices needs sums places table in
-    let fit = subst (AllFit window window) (sym (frames-by choices own_area_of needs))
-    (fits-laid window window (map own_frame needs) feasible) in
-    let least = (table-sums window choices needs sums places table window (omega arith)).least
-    (map own_area needs) own fit in
-    let bound = table-bound window choices needs sums places (map own_area needs) table own in
-    omega (arith, least, bound, few)
+module _ (window : ℕ) (choices : HeaderFields → List SlotFields) (needs : List Need)
+    (sums places : List ℕ) where
+  -- after a whole window the frames can keep their slots
+  pub whole-sum : length needs ≤ 200000 → IsFeasible window window (map own_frame needs)
+      → IsTable window choices needs sums places → get_or sums window 0 ≤ 288200000
+  whole-sum few feasible table =
+      let own = table-own window choices needs sums places table in
+      let fit = subst (AllFit window window) (sym (frames-by choices own_area_of needs))
+      (fits-laid window window (map own_frame needs) feasible) in
+      let least = (table-sums window choices needs sums places table window (omega arith)).least
+      (map own_area needs) own fit in
+      let bound = table-bound window choices needs sums places (map own_area needs) table own in
+      omega (arith, least, bound, few)
 
--- so some lead-in does
-pub lead-some : (window : ℕ) (class : ClassFields) (sums : List ℕ) (cost place : ℕ)
-    → window ≤ area_of class largest_slot false
-    → All (λ n. n ≤ 1441) (areas_with class false all_slots) → get_or sums window 0 ≤ 288200000
+  -- where the table has a sum for no free bytes, the frames can be laid without a lead-in
+  pub can-sum : IsTable window choices needs sums places → get_or sums 0 0 < nothing
+      → CanBeLaid window (opens_in choices needs)
+  unfolding CanBeLaid
+  can-sum table some =
+      let found = (table-sums window choices needs sums places table 0 (omega arith)).some some in (
+        found.0,
+        found.1,
+        laid-fits window 0 (frames_of (opens_in choices needs) found.0) (omega arith) found.2,
+      )
+
+  -- and if it has none, they can't
+  pub cannot-sum : length needs ≤ 200000 → IsTable window choices needs sums places
+      → nothing ≤ get_or sums 0 0 → CanBeLaid window (opens_in choices needs) → ⊥
+  unfolding CanBeLaid
+  cannot-sum few table none can =
+      let least = (table-sums window choices needs sums places table 0 (omega arith)).least can.0
+      can.1 (fits-laid window 0 (frames_of (opens_in choices needs) can.0) can.2) in
+      omega
+      (arith, least, none, table-bound window choices needs sums places can.0 table can.1, few)
+
+  -- if the table has a sum for no free bytes, the walk from there is the best plan
+  pub plan-without : (old new placed : List Placed) → IsTable window choices needs sums places
+      → get_or sums 0 0 < nothing → old ≡ [] → Walks window choices 0 needs old new → placed ≡ new
+      → IsBestPlan window choices needs placed
+  unfolding items_behind
+  plan-without old new placed table some none walk is =
+      let all : walk.more ≡ placed = sym (is ∙ walk.appended ∙ ap (λ l. l ++ walk.more) none) in
+      record {
+        lead_in = false;
+        without = ((λ _. can-sum table some), (λ _. refl));
+        whole = subst (IsBestFor window 0 (map (item_of choices) needs)) all walk.best;
+      }
+
+  -- the first sum of the table is that for no free bytes
+  pub first-sum : (value : ℕ) → IsTable window choices needs sums places
+      → value ≡ get_or sums 0 value → get_or sums 0 0 ≡ value
+  first-sum value table is = get_or_default sums 0 0 value
+      (omega (arith, table-width window choices needs sums places table)) ∙ sym is
+
+-- the place of the least sum is that of a slot
+pub lead-within : (class : ClassFields) (sums : List ℕ) (window cost place : ℕ)
     → IsChoice window 0 0 (areas_with class false all_slots) sums cost place → cost < nothing
-lead-some window class sums cost place spanned most some is =
-    let has = Contains-area class false all_slots largest_slot
-    (Contains-all_slots largest_slot (omega arith, omega arith)) in
-    let areas : List ℕ = areas_with class false all_slots in
-    let area : ℕ = get_or areas has.0 0 in
-    let at : area ≡ area_of class largest_slot false =
-    get_or_default areas has.0 0 (area_of class largest_slot false) has.1 ∙ has.2 in
-    let full : free_behind window 0 0 area ≡ window = omega (arith, at, spanned) in
-    let low = is.least has.0 has.1 (omega arith) in
-    omega (arith, low, ap (λ n. get_or sums n 0) full, most has.0 0 has.1, some)
+    → place < length all_slots
+lead-within class sums window cost place is some =
+    omega (arith, is.within some, length-map all_slots (λ s. area_of class s false))
 
--- where the table has a sum for no free bytes, the frames can be laid without a lead-in
-pub can-sum : (window : ℕ) (choices : HeaderFields → List SlotFields) (needs : List Need)
-    (sums places : List ℕ) → IsTable window choices needs sums places → get_or sums 0 0 < nothing
-    → CanBeLaid window (opens_in choices needs)
-unfolding CanBeLaid
-can-sum window choices needs sums places table some =
-    let found = (table-sums window choices needs sums places table 0 (omega arith)).some some in (
-      found.0,
-      found.1,
-      laid-fits window 0 (frames_of (opens_in choices needs) found.0) (omega arith) found.2,
-    )
+module _ (window : ℕ) (class : ClassFields) (sums : List ℕ) (cost place : ℕ) where
+  -- if the frames have a sum after a whole window, they have one after some lead-in
+  pub lead-some : window ≤ area_of class largest_slot false
+      → All (λ n. n ≤ 1441) (areas_with class false all_slots) → get_or sums window 0 ≤ 288200000
+      → IsChoice window 0 0 (areas_with class false all_slots) sums cost place → cost < nothing
+  lead-some spanned most some is =
+      let has = Contains-area class false all_slots largest_slot
+      (Contains-all_slots largest_slot (omega arith, omega arith)) in
+      let areas : List ℕ = areas_with class false all_slots in
+      let area : ℕ = get_or areas has.0 0 in
+      let at : area ≡ area_of class largest_slot false =
+      get_or_default areas has.0 0 (area_of class largest_slot false) has.1 ∙ has.2 in
+      let full : free_behind window 0 0 area ≡ window = omega (arith, at, spanned) in
+      let low = is.least has.0 has.1 (omega arith) in
+      omega (arith, low, ap (λ n. get_or sums n 0) full, most has.0 0 has.1, some)
 
--- and if it has none, they can't
-pub cannot-sum : (window : ℕ) (choices : HeaderFields → List SlotFields) (needs : List Need)
-    (sums places : List ℕ) → length needs ≤ 200000 → IsTable window choices needs sums places
-    → nothing ≤ get_or sums 0 0 → CanBeLaid window (opens_in choices needs) → ⊥
-unfolding CanBeLaid
-cannot-sum window choices needs sums places few table none can =
-    let least = (table-sums window choices needs sums places table 0 (omega arith)).least can.0
-    can.1 (fits-laid window 0 (frames_of (opens_in choices needs) can.0) can.2) in
-    omega (arith, least, none, table-bound window choices needs sums places can.0 table can.1, few)
-
--- if the table has a sum for no free bytes, the walk from there is the best plan
-pub plan-without : (window : ℕ) (choices : HeaderFields → List SlotFields) (needs : List Need)
-    (sums places : List ℕ) (old new placed : List Placed) → IsTable window choices needs sums places
-    → get_or sums 0 0 < nothing → old ≡ [] → Walks window choices 0 needs old new → placed ≡ new
-    → IsBestPlan window choices needs placed
-unfolding items_behind
-plan-without window choices needs sums places old new placed table some none walk is =
-    let all : walk.more ≡ placed = sym (is ∙ walk.appended ∙ ap (λ l. l ++ walk.more) none) in
-    record {
-      lead_in = false;
-      without = ((λ _. can-sum window choices needs sums places table some), (λ _. refl));
-      whole = subst (IsBestFor window 0 (map (item_of choices) needs)) all walk.best;
-    }
+  -- the slot at the place of the least sum is the best lead-in by the table
+  pub lead-by : (slots : List SlotFields) (slot : SlotFields) (lead : Placed)
+      → IsChoice window 0 0 (areas_with class false all_slots) sums cost place → cost < nothing
+      → slots ≡ all_slots → slot ≡ get_or slots place slot → Ascend (areas_of class false)
+      → lead.slot ≡ slot → lead.lead_in ≡ true → lead.begin ≡ 0 → IsLeadInBy window class sums lead
+  lead-by slots slot lead choice some all at ascend is first begin =
+      let within = lead-within class sums window cost place choice some in
+      let here : slot ≡ get_or all_slots place slot = at ∙ ap (λ l. get_or l place slot) all in
+      record {
+        cost = cost;
+        place = place;
+        choice = choice;
+        some = some;
+        area = ap (λ s. area_of class s false) (is ∙ here)
+            ∙ sym (get_or-map (λ s. area_of class s false) all_slots place slot 0 within);
+        chosen = subst (Contains all_slots) (sym is) (place, within, sym here);
+        ascending = lead-ascend class all_slots refl ascend;
+        lead_in = first;
+        begin = begin;
+      }
 
 not-false : true ≡ false → ⊥
 not-false e = absurd cc
@@ -108,7 +141,7 @@ lead-whole window choices
     by.area by.chosen by.lead_in by.begin rest) in
     subst (λ k. IsBestFor window 0 (lead_in_of k all_slots ∷ items) (lead ∷ more)) is whole
 
--- if it has none, the walk after the best lead-in is the best plan
+-- if the table has no sum for no free bytes, the walk after the best lead-in is the best plan
 pub plan-behind : (window : ℕ) (choices : HeaderFields → List SlotFields) (needs : List Need)
     (d : Need) (class : ClassFields) (sums places : List ℕ) (lead : Placed) (free : ℕ)
     (old new placed : List Placed) → 0 < length needs → length needs ≤ 200000
@@ -147,39 +180,3 @@ lead-ready window room class sums areas slots cost place same are all spanned mo
       lead-some window class sums cost place (omega (arith, spanned, same))
           (subst (All (λ n. n ≤ 1441)) every most) some choice,
     )
-
--- its place is that of a slot
-pub lead-within : (class : ClassFields) (sums : List ℕ) (window cost place : ℕ)
-    → IsChoice window 0 0 (areas_with class false all_slots) sums cost place → cost < nothing
-    → place < length all_slots
-lead-within class sums window cost place is some =
-    omega (arith, is.within some, length-map all_slots (λ s. area_of class s false))
-
--- so the slot there is the best lead-in by the table
-pub lead-by : (window : ℕ) (class : ClassFields) (sums : List ℕ) (cost place : ℕ)
-    (slots : List SlotFields) (slot : SlotFields) (lead : Placed)
-    → IsChoice window 0 0 (areas_with class false all_slots) sums cost place → cost < nothing
-    → slots ≡ all_slots → slot ≡ get_or slots place slot → Ascend (areas_of class false)
-    → lead.slot ≡ slot → lead.lead_in ≡ true → lead.begin ≡ 0 → IsLeadInBy window class sums lead
-lead-by window class sums cost place slots slot lead choice some all at ascend is first begin =
-    let within = lead-within class sums window cost place choice some in
-    let here : slot ≡ get_or all_slots place slot = at ∙ ap (λ l. get_or l place slot) all in
-    record {
-      cost = cost;
-      place = place;
-      choice = choice;
-      some = some;
-      area = ap (λ s. area_of class s false) (is ∙ here)
-          ∙ sym (get_or-map (λ s. area_of class s false) all_slots place slot 0 within);
-      chosen = subst (Contains all_slots) (sym is) (place, within, sym here);
-      ascending = lead-ascend class all_slots refl ascend;
-      lead_in = first;
-      begin = begin;
-    }
-
--- the first sum of the table is that for no free bytes
-pub first-sum : (window : ℕ) (choices : HeaderFields → List SlotFields) (needs : List Need)
-    (sums places : List ℕ) (value : ℕ) → IsTable window choices needs sums places
-    → value ≡ get_or sums 0 value → get_or sums 0 0 ≡ value
-first-sum window choices needs sums places value table is = get_or_default sums 0 0 value
-    (omega (arith, table-width window choices needs sums places table)) ∙ sym is

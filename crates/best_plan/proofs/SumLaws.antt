@@ -63,41 +63,202 @@ at-place ns k within = (k, within, get_or_default ns k (get_or ns k 0) 0 within)
 placed-at : (ns : List ℕ) (n : ℕ) (has : Contains ns n) → get_or ns has.0 0 ≡ n
 placed-at ns n has = get_or_default ns has.0 0 n has.1 ∙ has.2
 
-least-more : (window free : ℕ) (o : Open) (opens : List Open) (later : List ℕ) (cost place : ℕ)
-    → IsChoice window free o.bytes o.areas later cost place
-    → ((left : ℕ) → left ≤ window → IsLeastSum window left opens (get_or later left 0))
-    → (others : List ℕ) → AreChosen (o ∷ opens) others
-    → AllFit window free (frames_of (o ∷ opens) others) → cost ≤ sum others
-unfolding AreChosen AllFit frames_of
-least-more window free o opens later cost place is behind [] chosen fit = absurd chosen
-least-more window free o opens later cost place is behind (area ∷ others) chosen fit =
-    let left : ℕ = free_behind window free o.bytes area in
-    let rest = (behind left (behind-within window free o.bytes area)).least others chosen.1 fit.1 in
-    let here : cost ≤ sum_with window free o.bytes later area =
-    subst (λ n. o.bytes ≤ free + n → cost ≤ sum_with window free o.bytes later n)
-    (placed-at o.areas area chosen.0) (is.least chosen.0.0 chosen.0.1) fit.0 in
-    omega (arith, here, rest, sum-cons area others)
+-- ---- the first of the least
 
--- the least sum over the areas of a frame, with those of the frames after it, is the least of all
-pub more-sums : (window free : ℕ) (o : Open) (opens : List Open) (later : List ℕ) (cost place : ℕ)
-    → IsChoice window free o.bytes o.areas later cost place
-    → ((left : ℕ) → left ≤ window → IsLeastSum window left opens (get_or later left 0))
-    → IsLeastSum window free (o ∷ opens) cost
-unfolding AreChosen AllFit frames_of
-more-sums window free o opens later cost place is behind = record {
-  least = least-more window free o opens later cost place is behind;
-  some = λ some.
-      let area : ℕ = get_or o.areas place 0 in
-      let left : ℕ = free_behind window free o.bytes area in
-      let found = is.found some in
-      let rest =
-      (behind left (behind-within window free o.bytes area)).some (omega (arith, some, found)) in (
-        area ∷ rest.0,
-        (at-place o.areas place (is.within some), rest.1),
-        (is.fits some, rest.2),
-        sum-cons area rest.0 ∙ ap (λ n. area + n) rest.3 ∙ sym found,
-      );
+-- of the lists that fit, the one with the least sum, and the first in order of these
+pub record IsFirst (window free : ℕ) (opens : List Open) (areas : List ℕ) : Type 0 where
+  pub chosen : AreChosen opens areas
+  pub fit : AllFit window free (frames_of opens areas)
+  pub shortest : (others : List ℕ) → AreChosen opens others
+      → AllFit window free (frames_of opens others) → sum areas ≤ sum others
+  pub first : (others : List ℕ) → AreChosen opens others
+      → AllFit window free (frames_of opens others) → sum others ≡ sum areas
+      → IsNotBehind areas others
+
+none : (others : List ℕ) → AreChosen [] others → IsNotBehind [] others
+unfolding AreChosen IsNotBehind
+none [] chosen = tt
+none (area ∷ others) chosen = absurd chosen
+
+-- of no frames the empty list is the first
+pub first-none : (window free : ℕ) → IsFirst window free [] []
+unfolding AreChosen AllFit frames_of IsNotBehind
+first-none window free = record {
+  chosen = tt;
+  fit = tt;
+  shortest = λ others _ _. omega arith;
+  first = λ others chosen _ _. none others chosen;
 }
+
+-- the first of the lists has the least sum
+sum-is : (window free : ℕ) (opens : List Open) (areas : List ℕ) (cost : ℕ)
+    → IsFirst window free opens areas → IsLeastSum window free opens cost → cost < nothing
+    → sum areas ≡ cost
+sum-is window free opens areas cost is sums some =
+    let found = sums.some some in
+    omega (arith, sums.least areas is.chosen is.fit, is.shortest found.0 found.1 found.2, found.3)
+
+-- a lesser area is before a greater one
+place-before : (ns : List ℕ) (j k : ℕ) → Ascend ns → j < length ns → k < length ns
+    → get_or ns j 0 < get_or ns k 0 → j < k
+place-before ns j k ascend within here less =
+    elim (cases_lt j k) as (λ _. j < k) [
+      | inl before ↦ before
+      | inr from ↦
+          elim (cases_lt k j) as (λ _. j < k) [
+            | inl behind ↦ absurd (omega (arith, less, ascend k j 0 behind within))
+            | inr till ↦
+                let at : j ≡ k = omega (arith, from, till) in
+                absurd (omega (arith, less, ap (λ n. get_or ns n 0) at))
+          ]
+    ]
+
+module _ (window free : ℕ) (o : Open) (opens : List Open) (later : List ℕ) (cost place : ℕ) where
+  least-more : IsChoice window free o.bytes o.areas later cost place
+      → ((left : ℕ) → left ≤ window → IsLeastSum window left opens (get_or later left 0))
+      → (others : List ℕ) → AreChosen (o ∷ opens) others
+      → AllFit window free (frames_of (o ∷ opens) others) → cost ≤ sum others
+  unfolding AreChosen AllFit frames_of
+  least-more is behind [] chosen fit = absurd chosen
+  least-more is behind (area ∷ others) chosen fit =
+      let left : ℕ = free_behind window free o.bytes area in
+      let rest =
+      (behind left (behind-within window free o.bytes area)).least others chosen.1 fit.1 in
+      let here : cost ≤ sum_with window free o.bytes later area =
+      subst (λ n. o.bytes ≤ free + n → cost ≤ sum_with window free o.bytes later n)
+      (placed-at o.areas area chosen.0) (is.least chosen.0.0 chosen.0.1) fit.0 in
+      omega (arith, here, rest, sum-cons area others)
+
+  -- the least sum over the areas of a frame, with those of the frames after it, is the least of all
+  pub more-sums : IsChoice window free o.bytes o.areas later cost place
+      → ((left : ℕ) → left ≤ window → IsLeastSum window left opens (get_or later left 0))
+      → IsLeastSum window free (o ∷ opens) cost
+  unfolding AreChosen AllFit frames_of
+  more-sums is behind = record {
+    least = least-more is behind;
+    some = λ some.
+        let area : ℕ = get_or o.areas place 0 in
+        let left : ℕ = free_behind window free o.bytes area in
+        let found = is.found some in
+        let rest =
+        (behind left (behind-within window free o.bytes area)).some (omega (arith, some, found))
+        in (
+          area ∷ rest.0,
+          (at-place o.areas place (is.within some), rest.1),
+          (is.fits some, rest.2),
+          sum-cons area rest.0 ∙ ap (λ n. area + n) rest.3 ∙ sym found,
+        );
+  }
+
+  -- no other list of that sum begins with a smaller area
+  not-before : (area other : ℕ) (others : List ℕ) → Ascend o.areas
+      → IsChoice window free o.bytes o.areas later cost place → cost < nothing
+      → ((left : ℕ) → left ≤ window → IsLeastSum window left opens (get_or later left 0))
+      → get_or o.areas place 0 ≡ area → Contains o.areas other → o.bytes ≤ free + other
+      → AreChosen opens others
+      → AllFit window (free_behind window free o.bytes other) (frames_of opens others)
+      → other + sum others ≡ cost → other < area → ⊥
+  not-before area other others ascend is some behind at has room chosen fit same less =
+      let there = placed-at o.areas other has in
+      let before = place-before o.areas has.0 place ascend has.1 (is.within some)
+      (omega (arith, there, at, less)) in
+      let more : cost < sum_with window free o.bytes later other =
+      subst (λ n. o.bytes ≤ free + n → cost < sum_with window free o.bytes later n) there
+      (is.first has.0 before some) room in
+      let rest = (behind (free_behind window free o.bytes other)
+      (behind-within window free o.bytes other)).least others chosen fit in
+      omega (arith, more, rest, same)
+
+  first-of : (area : ℕ) (areas : List ℕ) → Ascend o.areas
+      → IsChoice window free o.bytes o.areas later cost place → cost < nothing
+      → ((left : ℕ) → left ≤ window → IsLeastSum window left opens (get_or later left 0))
+      → get_or o.areas place 0 ≡ area
+      → IsFirst window (free_behind window free o.bytes area) opens areas → area + sum areas ≡ cost
+      → (others : List ℕ) → AreChosen (o ∷ opens) others
+      → AllFit window free (frames_of (o ∷ opens) others) → sum others ≡ cost
+      → IsNotBehind (area ∷ areas) others
+  unfolding AreChosen AllFit frames_of IsNotBehind
+  first-of area areas ascend is some behind at rest total [] chosen fit same = absurd chosen
+  first-of area areas ascend is some behind at rest total (other ∷ others) chosen fit same =
+      elim (cases_lt area other) as (λ _. (area < other)
+      ⊎ ((area ≡ other) × IsNotBehind areas others)) [
+        | inl before ↦ inl before
+        | inr from ↦
+            elim (cases_lt other area) as (λ _. (area < other)
+            ⊎ ((area ≡ other) × IsNotBehind areas others)) [
+              | inl less ↦ absurd (not-before area other others ascend is some behind at
+                  chosen.0 fit.0 chosen.1 fit.1 (omega (arith, same, sum-cons other others)) less)
+              | inr till ↦
+                  let here : area ≡ other = omega (arith, from, till) in
+                  let fits : AllFit window (free_behind window free o.bytes area)
+                  (frames_of opens others) = subst (λ n. AllFit window
+                  (free_behind window free o.bytes n) (frames_of opens others)) (sym here) fit.1 in
+                  inr (
+                    here,
+                    rest.first others chosen.1 fits
+                        (omega (arith, same, total, here, sum-cons other others)),
+                  )
+            ]
+      ]
+
+  -- the first area with the least sum, before the first list behind it, is the first list
+  pub first-more : (area : ℕ) (areas : List ℕ) → Ascend o.areas
+      → IsChoice window free o.bytes o.areas later cost place → cost < nothing
+      → ((left : ℕ) → left ≤ window → IsLeastSum window left opens (get_or later left 0))
+      → get_or o.areas place 0 ≡ area
+      → IsFirst window (free_behind window free o.bytes area) opens areas
+      → IsFirst window free (o ∷ opens) (area ∷ areas)
+  unfolding AreChosen AllFit frames_of
+  first-more area areas ascend is some behind at rest =
+      let left : ℕ = free_behind window free o.bytes area in
+      let found : cost ≡ sum_with window free o.bytes later area =
+      subst (λ n. cost ≡ sum_with window free o.bytes later n) at (is.found some) in
+      let total : area + sum areas ≡ cost =
+      omega (
+        arith,
+        found,
+        sum-is window left opens areas (get_or later left 0) rest
+            (behind left (behind-within window free o.bytes area)) (omega (arith, found, some)),
+      ) in
+      record {
+        chosen =
+            (subst (Contains o.areas) at (at-place o.areas place (is.within some)), rest.chosen);
+        fit = (subst (λ n. o.bytes ≤ free + n) at (is.fits some), rest.fit);
+        shortest = λ others chosen fit. omega (
+          arith,
+          sum-cons area areas,
+          total,
+          least-more is behind others chosen fit,
+        );
+        first = λ others chosen fit same. first-of area areas ascend is some behind at rest total
+            others chosen fit (omega (arith, same, total, sum-cons area areas));
+      }
+
+-- the first of the lists with the least sum is the shortest
+pub shortest-first : (window free : ℕ) (opens : List Open) (areas : List ℕ) → free ≤ window
+    → IsFirst window free opens areas → IsShortest window free opens areas
+shortest-first window free opens areas within is = record {
+  chosen = is.chosen;
+  feasible = laid-fits window free (frames_of opens areas) within is.fit;
+  shortest = λ others chosen feasible. is.shortest others chosen
+      (fits-laid window free (frames_of opens others) feasible);
+  first = λ others chosen feasible same. is.first others chosen
+      (fits-laid window free (frames_of opens others) feasible) same;
+}
+
+-- and the shortest, first in order, is that first one
+pub first-shortest : (window free : ℕ) (opens : List Open) (areas : List ℕ) → free ≤ window
+    → IsShortest window free opens areas → IsFirst window free opens areas
+first-shortest window free opens areas within is = record {
+  chosen = is.chosen;
+  fit = fits-laid window free (frames_of opens areas) is.feasible;
+  shortest = λ others chosen fit. is.shortest others chosen
+      (laid-fits window free (frames_of opens others) within fit);
+  first = λ others chosen fit same. is.first others chosen
+      (laid-fits window free (frames_of opens others) within fit) same;
+}
+
+-- ---- the sums of a table
 
 -- the sums of a table are the least
 pub table-sums : (window : ℕ) (choices : HeaderFields → List SlotFields) (needs : List Need)
@@ -132,167 +293,3 @@ unfolding IsTable AreChosen
 table-own window choices [] sums places table = tt
 table-own window choices (need ∷ needs) sums places table =
     (table.own, table-own window choices needs table.later table.before table.behind)
-
--- ---- the first of the least
-
--- of the lists that fit, the one with the least sum, and the first in order of these
-pub record IsFirst (window free : ℕ) (opens : List Open) (areas : List ℕ) : Type 0 where
-  pub chosen : AreChosen opens areas
-  pub fit : AllFit window free (frames_of opens areas)
-  pub shortest : (others : List ℕ) → AreChosen opens others
-      → AllFit window free (frames_of opens others) → sum areas ≤ sum others
-  pub first : (others : List ℕ) → AreChosen opens others
-      → AllFit window free (frames_of opens others) → sum others ≡ sum areas
-      → IsNotBehind areas others
-
-none : (others : List ℕ) → AreChosen [] others → IsNotBehind [] others
-unfolding AreChosen IsNotBehind
-none [] chosen = tt
-none (area ∷ others) chosen = absurd chosen
-
--- of no frames the empty list is the first
-pub first-none : (window free : ℕ) → IsFirst window free [] []
-unfolding AreChosen AllFit frames_of IsNotBehind
-first-none window free = record {
-  chosen = tt;
-  fit = tt;
-  shortest = λ others _ _. omega arith;
-  first = λ others chosen _ _. none others chosen;
-}
-
--- it has the least sum
-sum-is : (window free : ℕ) (opens : List Open) (areas : List ℕ) (cost : ℕ)
-    → IsFirst window free opens areas → IsLeastSum window free opens cost → cost < nothing
-    → sum areas ≡ cost
-sum-is window free opens areas cost is sums some =
-    let found = sums.some some in
-    omega (arith, sums.least areas is.chosen is.fit, is.shortest found.0 found.1 found.2, found.3)
-
--- a lesser area is before a greater one
-place-before : (ns : List ℕ) (j k : ℕ) → Ascend ns → j < length ns → k < length ns
-    → get_or ns j 0 < get_or ns k 0 → j < k
-place-before ns j k ascend within here less =
-    elim (cases_lt j k) as (λ _. j < k) [
-      | inl before ↦ before
-      | inr from ↦
-          elim (cases_lt k j) as (λ _. j < k) [
-            | inl behind ↦ absurd (omega (arith, less, ascend k j 0 behind within))
-            | inr till ↦
-                let at : j ≡ k = omega (arith, from, till) in
-                absurd (omega (arith, less, ap (λ n. get_or ns n 0) at))
-          ]
-    ]
-
--- no other list of that sum begins with a smaller area
-not-before : (window free : ℕ) (o : Open) (opens : List Open) (later : List ℕ)
-    (cost place area other : ℕ) (others : List ℕ) → Ascend o.areas
-    → IsChoice window free o.bytes o.areas later cost place → cost < nothing
-    → ((left : ℕ) → left ≤ window → IsLeastSum window left opens (get_or later left 0))
-    → get_or o.areas place 0 ≡ area → Contains o.areas other → o.bytes ≤ free + other
-    → AreChosen opens others
-    → AllFit window (free_behind window free o.bytes other) (frames_of opens others)
-    → other + sum others ≡ cost → other < area → ⊥
-not-before window free o opens later cost place area other others ascend is some behind at has room
-    chosen fit same less =
-    let there = placed-at o.areas other has in
-    let before = place-before o.areas has.0 place ascend has.1 (is.within some)
-    (omega (arith, there, at, less)) in
-    let more : cost < sum_with window free o.bytes later other =
-    subst (λ n. o.bytes ≤ free + n → cost < sum_with window free o.bytes later n) there
-    (is.first has.0 before some) room in
-    let rest = (behind (free_behind window free o.bytes other)
-    (behind-within window free o.bytes other)).least others chosen fit in
-    omega (arith, more, rest, same)
-
-first-of : (window free : ℕ) (o : Open) (opens : List Open) (later : List ℕ) (cost place area : ℕ)
-    (areas : List ℕ) → Ascend o.areas → IsChoice window free o.bytes o.areas later cost place → cost
-    < nothing → ((left : ℕ) → left ≤ window → IsLeastSum window left opens (get_or later left 0))
-    → get_or o.areas place 0 ≡ area
-    → IsFirst window (free_behind window free o.bytes area) opens areas → area + sum areas ≡ cost
-    → (others : List ℕ) → AreChosen (o ∷ opens) others
-    → AllFit window free (frames_of (o ∷ opens) others) → sum others ≡ cost
-    → IsNotBehind (area ∷ areas) others
-unfolding AreChosen AllFit frames_of IsNotBehind
-first-of window free o opens later cost place area areas ascend is some behind at rest total []
-    chosen fit same = absurd chosen
-first-of window free o opens later cost place area areas ascend is some behind at rest total
-    (other ∷ others) chosen fit same =
-    elim (cases_lt area other) as (λ _. (area < other)
-    ⊎ ((area ≡ other) × IsNotBehind areas others)) [
-      | inl before ↦ inl before
-      | inr from ↦
-          elim (cases_lt other area) as (λ _. (area < other)
-          ⊎ ((area ≡ other) × IsNotBehind areas others)) [
-            | inl less ↦ absurd (not-before window free o opens later cost place area other others
-                ascend is some behind at
-                chosen.0 fit.0 chosen.1 fit.1 (omega (arith, same, sum-cons other others)) less)
-            | inr till ↦
-                let here : area ≡ other = omega (arith, from, till) in
-                let fits : AllFit window (free_behind window free o.bytes area)
-                (frames_of opens others) = subst (λ n. AllFit window
-                (free_behind window free o.bytes n) (frames_of opens others)) (sym here) fit.1 in
-                inr (
-                  here,
-                  rest.first others chosen.1 fits
-                      (omega (arith, same, total, here, sum-cons other others)),
-                )
-          ]
-    ]
-
--- the first area with the least sum, before the first list behind it, is the first list
-pub first-more : (window free : ℕ) (o : Open) (opens : List Open) (later : List ℕ)
-    (cost place area : ℕ) (areas : List ℕ) → Ascend o.areas
-    → IsChoice window free o.bytes o.areas later cost place → cost < nothing
-    → ((left : ℕ) → left ≤ window → IsLeastSum window left opens (get_or later left 0))
-    → get_or o.areas place 0 ≡ area
-    → IsFirst window (free_behind window free o.bytes area) opens areas
-    → IsFirst window free (o ∷ opens) (area ∷ areas)
-unfolding AreChosen AllFit frames_of
-first-more window free o opens later cost place area areas ascend is some behind at rest =
-    let left : ℕ = free_behind window free o.bytes area in
-    let found : cost ≡ sum_with window free o.bytes later area =
-    subst (λ n. cost ≡ sum_with window free o.bytes later n) at (is.found some) in
-    let total : area + sum areas ≡ cost =
-    omega (
-      arith,
-      found,
-      sum-is window left opens areas (get_or later left 0) rest
-          (behind left (behind-within window free o.bytes area)) (omega (arith, found, some)),
-    ) in
-    record {
-      chosen = (subst (Contains o.areas) at (at-place o.areas place (is.within some)), rest.chosen);
-      fit = (subst (λ n. o.bytes ≤ free + n) at (is.fits some), rest.fit);
-      shortest = λ others chosen fit. omega (
-        arith,
-        sum-cons area areas,
-        total,
-        least-more window free o opens later cost place is behind others chosen fit,
-      );
-      first = λ others chosen fit same. first-of window free o opens later cost place area areas
-          ascend is some behind at rest total others chosen fit
-          (omega (arith, same, total, sum-cons area areas));
-    }
-
--- that is the shortest
-pub shortest-first : (window free : ℕ) (opens : List Open) (areas : List ℕ) → free ≤ window
-    → IsFirst window free opens areas → IsShortest window free opens areas
-shortest-first window free opens areas within is = record {
-  chosen = is.chosen;
-  feasible = laid-fits window free (frames_of opens areas) within is.fit;
-  shortest = λ others chosen feasible. is.shortest others chosen
-      (fits-laid window free (frames_of opens others) feasible);
-  first = λ others chosen feasible same. is.first others chosen
-      (fits-laid window free (frames_of opens others) feasible) same;
-}
-
--- and the shortest, first in order, is that first one
-pub first-shortest : (window free : ℕ) (opens : List Open) (areas : List ℕ) → free ≤ window
-    → IsShortest window free opens areas → IsFirst window free opens areas
-first-shortest window free opens areas within is = record {
-  chosen = is.chosen;
-  fit = fits-laid window free (frames_of opens areas) is.feasible;
-  shortest = λ others chosen fit. is.shortest others chosen
-      (laid-fits window free (frames_of opens others) within fit);
-  first = λ others chosen fit same. is.first others chosen
-      (laid-fits window free (frames_of opens others) within fit) same;
-}

@@ -100,50 +100,50 @@ gap_joined front payload n m k is =
     ∙ ap (λ (xs : List ℕ). front ++ xs) (sym (append_assoc (zeros n) (zeros m) payload)
     ∙ ap (λ (xs : List ℕ). xs ++ payload) (replicate-append-replicate n m 0 ∙ ap zeros is))
 
--- the main data of one frame more
-more_same : (given items payload : List ℕ) (begin free gap rest area : ℕ) (ps : List Piece) →
-    given ++ (items ++ zeros free) ≡ laid ps → free + data_end 0 0 ps ≤ areas_end 0 ps
-    → begin ≤ free → gap ≡ free - begin →
-    length payload ≤ begin + area → rest ≡ begin + area - length payload →
-    given ++ ((items ++ (zeros gap ++ payload)) ++ zeros rest)
-    ≡ laid (ps ++ record { payload = payload; begin = begin; area = area } ∷ [])
-more_same given items payload begin free gap rest area ps same within reach gaps fits rests =
-    let p : Piece = record { payload = payload; begin = begin; area = area } in
-    let end = data_end 0 0 ps in
-    let from = areas_end 0 ps in
-    let front : given ++ (items ++ (zeros gap ++ payload)) ≡ up_to 0 0 (ps ++ p ∷ []) =
-    sym (append_assoc given items (zeros gap ++ payload))
-    ∙ ap (λ (xs : List ℕ). xs ++ (zeros gap ++ payload)) (stored given items free ps same within)
-    ∙ gap_joined (up_to 0 0 ps) payload (from - end - free) gap (from - begin - end)
-    (omega (arith, within, reach, gaps))
-    ∙ sym (up_to-more 0 0 ps p) in
-    let behind : rest ≡ areas_end 0 (ps ++ p ∷ []) - data_end 0 0 (ps ++ p ∷ []) =
-    omega (arith, within, reach, fits, rests, areas_end-more 0 ps p, data_end-more 0 0 ps p) in
-    sym (append_assoc given (items ++ (zeros gap ++ payload)) (zeros rest))
-    ∙ ap₂ (λ (xs : List ℕ) n. xs ++ zeros n) front behind
-    ∙ sym (laid_up_to 0 0 (ps ++ p ∷ []))
-
 abbrev pub waits : List ℕ → ℕ → Waiting
 waits items free = record { bytes = items ++ zeros free; free = free }
 
--- main data laid after those before them are laid among all
-pub more-laid : (given items payload : List ℕ) (begin free gap rest area : ℕ) (ps : List Piece) →
-    begin ≤ free → gap ≡ free - begin → length payload ≤ begin + area
-    → rest ≡ begin + area - length payload →
-    AreLaid given (waits items free) ps → AreLaid given (waits (items ++ (zeros gap ++ payload))
-    rest) (ps ++ record { payload = payload; begin = begin; area = area } ∷ [])
-more-laid given items payload begin free gap rest area ps reach gaps fits rests are =
-    let p : Piece = record { payload = payload; begin = begin; area = area } in
-    record {
-      fit = fit-more 0 0 ps p are.fit (omega (arith, reach, are.free))
-          (omega (arith, reach, are.free, fits));
-      same = more_same given items payload begin free gap rest area ps are.same are.free reach gaps
-          fits rests;
-      free = omega
-          (arith, reach, are.free, fits, rests, areas_end-more 0 ps p, data_end-more 0 0 ps p);
-      room = omega
-          (arith, length-append (items ++ (zeros gap ++ payload)) (zeros rest), length-zeros rest);
-    }
+module _ (given items payload : List ℕ) (begin free gap rest area : ℕ) (ps : List Piece) where
+  -- the main data of one frame more
+  more_same : given ++ (items ++ zeros free) ≡ laid ps → free + data_end 0 0 ps ≤ areas_end 0 ps
+      → begin ≤ free → gap ≡ free - begin → length payload ≤ begin + area → rest
+      ≡ begin + area - length payload → given ++ ((items ++ (zeros gap ++ payload)) ++ zeros rest)
+      ≡ laid (ps ++ record { payload = payload; begin = begin; area = area } ∷ [])
+  more_same same within reach gaps fits rests =
+      let p : Piece = record { payload = payload; begin = begin; area = area } in
+      let end = data_end 0 0 ps in
+      let from = areas_end 0 ps in
+      let front : given ++ (items ++ (zeros gap ++ payload)) ≡ up_to 0 0 (ps ++ p ∷ []) =
+      sym (append_assoc given items (zeros gap ++ payload))
+      ∙ ap (λ (xs : List ℕ). xs ++ (zeros gap ++ payload)) (stored given items free ps same within)
+      ∙ gap_joined (up_to 0 0 ps) payload (from - end - free) gap (from - begin - end)
+      (omega (arith, within, reach, gaps))
+      ∙ sym (up_to-more 0 0 ps p) in
+      let behind : rest ≡ areas_end 0 (ps ++ p ∷ []) - data_end 0 0 (ps ++ p ∷ []) =
+      omega (arith, within, reach, fits, rests, areas_end-more 0 ps p, data_end-more 0 0 ps p) in
+      sym (append_assoc given (items ++ (zeros gap ++ payload)) (zeros rest))
+      ∙ ap₂ (λ (xs : List ℕ) n. xs ++ zeros n) front behind
+      ∙ sym (laid_up_to 0 0 (ps ++ p ∷ []))
+
+  -- main data laid after those before them are laid among all
+  pub more-laid : begin ≤ free → gap ≡ free - begin → length payload ≤ begin + area
+      → rest ≡ begin + area - length payload → AreLaid given (waits items free) ps
+      → AreLaid given (waits (items ++ (zeros gap ++ payload)) rest)
+      (ps ++ record { payload = payload; begin = begin; area = area } ∷ [])
+  more-laid reach gaps fits rests are =
+      let p : Piece = record { payload = payload; begin = begin; area = area } in
+      record {
+        fit = fit-more 0 0 ps p are.fit (omega (arith, reach, are.free))
+            (omega (arith, reach, are.free, fits));
+        same = more_same are.same are.free reach gaps fits rests;
+        free = omega
+            (arith, reach, are.free, fits, rests, areas_end-more 0 ps p, data_end-more 0 0 ps p);
+        room = omega (
+          arith,
+          length-append (items ++ (zeros gap ++ payload)) (zeros rest),
+          length-zeros rest,
+        );
+      }
 
 -- where the main data are put into the bytes that wait and a new area of zeros
 pub more-put : (items payload : List ℕ) (begin free gap rest area : ℕ) →

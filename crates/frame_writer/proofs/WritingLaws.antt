@@ -221,51 +221,49 @@ prefix-two {name} {mid} {f} {g} {h} before a b c is p q =
 
 -- ---- what waits in the buffer is written too
 
--- the bytes that were passed on into the buffer, and then all of it
-pub passed-sent : {name bytes : List ℕ} {f g h : Files} (new : Writing)
-    → PassedOn name bytes (waiting_bytes new) f g →
-    h ≡ appended g name new.unsent → PassedOn name bytes (held_bytes new.held) f h
-passed-sent {name} {bytes} {f} {g} {h} new p all = record {
-  passed = p.passed ++ new.unsent;
-  split = p.split ∙ sym (append_assoc p.passed new.unsent (held_bytes new.held));
-  files = all ∙ ap (λ files. appended files name new.unsent) p.files
-      ∙ appended_twice f name p.passed new.unsent;
-}
+module _ {name bytes : List ℕ} {f g h : Files} (new : Writing)
+    (p : PassedOn name bytes (waiting_bytes new) f g) where
+  -- the bytes that were passed on into the buffer, and then all of it
+  pub passed-sent : h ≡ appended g name new.unsent → PassedOn name bytes (held_bytes new.held) f h
+  passed-sent all = record {
+    passed = p.passed ++ new.unsent;
+    split = p.split ∙ sym (append_assoc p.passed new.unsent (held_bytes new.held));
+    files = all ∙ ap (λ files. appended files name new.unsent) p.files
+        ∙ appended_twice f name p.passed new.unsent;
+  }
 
--- a frame was given, and then the buffer was written
-pub writes-sent : {name : List ℕ} {fr : Frame} {old : Writing} {f g h : Files} (new : Writing)
-    → WritesOn name fr old new f g →
-    h ≡ appended g name new.unsent → WritesOn name fr old (writing new.held []) f h
-writes-sent {name} {fr} {old} {f} {g} {h} new on all = record {
-  passed = on.passed ++ new.unsent;
-  files = all ∙ ap (λ files. appended files name new.unsent) on.files
-      ∙ appended_twice f name on.passed new.unsent;
-  writer = λ base out fs are.
-      subst (λ (xs : List ℕ). AreBehind base xs new.held (fs ++ fr ∷ []))
-      (append_assoc out on.passed new.unsent ∙ sym (append-nil (out ++ (on.passed ++ new.unsent))))
-      (on.writer base out fs are);
-}
+  -- a prefix of what waits in the buffer is one of all that waits
+  pub unsent-prefix : AppendedPrefix name new.unsent g h → AppendedPrefix name bytes f h
+  unsent-prefix part =
+      passed_then_prefix p
+      (prefix-piece name [] new.unsent (waiting_bytes new) (held_bytes new.held) g h refl part)
 
--- if the buffer couldn't be written, a part of the frames was
-pub writes-unsent : {name : List ℕ} {fr : Frame} {old : Writing} {f g h : Files} (new : Writing)
-    → WritesOn name fr old new f g →
-    AppendedPrefix name new.unsent g h → WritesPart name fr old new.held f h
-writes-unsent {name} {fr} {old} {f} {g} {h} new on part = record {
-  settled = on.passed ++ new.unsent;
-  prefix = passed_then_prefix (record { passed = on.passed; split = refl; files = on.files }) part;
-  writer = λ base out fs are.
-      subst (λ (xs : List ℕ). AreBehind base xs new.held (fs ++ fr ∷ []))
-      (append_assoc out on.passed new.unsent)
-      (on.writer base out fs are);
-}
+module _ {name : List ℕ} {fr : Frame} {old : Writing} {f g h : Files} (new : Writing)
+    (on : WritesOn name fr old new f g) where
+  -- a frame was given, and then the buffer was written
+  pub writes-sent : h ≡ appended g name new.unsent → WritesOn name fr old (writing new.held []) f h
+  writes-sent all = record {
+    passed = on.passed ++ new.unsent;
+    files = all ∙ ap (λ files. appended files name new.unsent) on.files
+        ∙ appended_twice f name on.passed new.unsent;
+    writer = λ base out fs are.
+        subst (λ (xs : List ℕ). AreBehind base xs new.held (fs ++ fr ∷ []))
+        (append_assoc out on.passed new.unsent
+        ∙ sym (append-nil (out ++ (on.passed ++ new.unsent))))
+        (on.writer base out fs are);
+  }
 
--- a prefix of what waits in the buffer is one of all that waits
-pub unsent-prefix : {name bytes : List ℕ} {f g h : Files} (new : Writing)
-    → PassedOn name bytes (waiting_bytes new) f g →
-    AppendedPrefix name new.unsent g h → AppendedPrefix name bytes f h
-unsent-prefix {name} {bytes} {f} {g} {h} new p part =
-    passed_then_prefix p
-    (prefix-piece name [] new.unsent (waiting_bytes new) (held_bytes new.held) g h refl part)
+  -- if the buffer couldn't be written, a part of the frames was
+  pub writes-unsent : AppendedPrefix name new.unsent g h → WritesPart name fr old new.held f h
+  writes-unsent part = record {
+    settled = on.passed ++ new.unsent;
+    prefix =
+        passed_then_prefix (record { passed = on.passed; split = refl; files = on.files }) part;
+    writer = λ base out fs are.
+        subst (λ (xs : List ℕ). AreBehind base xs new.held (fs ++ fr ∷ []))
+        (append_assoc out on.passed new.unsent)
+        (on.writer base out fs are);
+  }
 
 -- in an open writer nothing waits in the buffer, and the first frame can't go yet
 pub is-open : (state : State) (held : Held) (unsent : List ℕ) → IsSettled state held unsent

@@ -248,67 +248,66 @@ next_frame menu needs i need within is =
     map_more (top_frame menu) needs i need within
     ∙ ap (λ n. map (top_frame menu) (take i needs) ++ top_frame menu n ∷ []) (sym is)
 
--- a frame that fits in the free bytes and its largest area is one more
-pub to-more : (window : ℕ) (class : ClassFields) (menu : List SlotFields) (needs : List Need)
-    (i : ℕ) (need : Need) (free next : ℕ) → i < length needs → need ≡ get_or needs i need
-    → need.bytes ≤ free + most_area menu need
-    → next ≡ free_behind window free need.bytes (most_area menu need)
-    → FitTo window class menu needs i free → FitTo window class menu needs (i + 1) next
-to-more window class menu needs i need free next within is room gives to =
-    let start : ℕ = start_of window class menu in
-    let frames : List Frame = map (top_frame menu) (take i needs) in
-    let more = next_frame menu needs i need within is in
-    record {
-      fit = subst (AllFit window start) (sym more) (fit-more window start frames
-          (top_frame menu need) to.fit (omega (arith, room, to.left)));
-      left = gives ∙ ap (λ n. free_behind window n need.bytes (most_area menu need)) to.left
-          ∙ sym (left-more window start frames (top_frame menu need))
-          ∙ ap (left_of window start) (sym more);
-    }
+module _ (window : ℕ) (class : ClassFields) (menu : List SlotFields) (needs : List Need)
+    (i : ℕ) where
+  -- a frame that fits in the free bytes and its largest area is one more
+  pub to-more : (need : Need) (free next : ℕ) → i < length needs → need ≡ get_or needs i need
+      → need.bytes ≤ free + most_area menu need
+      → next ≡ free_behind window free need.bytes (most_area menu need)
+      → FitTo window class menu needs i free → FitTo window class menu needs (i + 1) next
+  to-more need free next within is room gives to =
+      let start : ℕ = start_of window class menu in
+      let frames : List Frame = map (top_frame menu) (take i needs) in
+      let more = next_frame menu needs i need within is in
+      record {
+        fit = subst (AllFit window start) (sym more) (fit-more window start frames
+            (top_frame menu need) to.fit (omega (arith, room, to.left)));
+        left = gives ∙ ap (λ n. free_behind window n need.bytes (most_area menu need)) to.left
+            ∙ sym (left-more window start frames (top_frame menu need))
+            ∙ ap (left_of window start) (sym more);
+      }
 
--- if all of them fit, they have a layout
-pub to-all : (window : ℕ) (class : ClassFields) (menu : List SlotFields) (needs : List Need)
-    (i free : ℕ) → length needs ≤ i → AreOfClass class needs → 1 ≤ length needs → 1 ≤ length menu
-    → FitTo window class menu needs i free → CanBeLaidFrom window true menu needs
-to-all window class menu needs i free all same some slots to =
-    fit-laid window class menu needs same some slots (subst (λ l. AllFit window
-    (start_of window class menu) (map (top_frame menu) l)) (take_all i needs all) to.fit)
+  -- if all of them fit, they have a layout
+  pub to-all : (free : ℕ) → length needs ≤ i → AreOfClass class needs → 1 ≤ length needs → 1
+      ≤ length menu → FitTo window class menu needs i free → CanBeLaidFrom window true menu needs
+  to-all free all same some slots to =
+      fit-laid window class menu needs same some slots (subst (λ l. AllFit window
+      (start_of window class menu) (map (top_frame menu) l)) (take_all i needs all) to.fit)
 
--- a frame that doesn't fit is the first up to which no list has a layout
-pub to-unfit : (window : ℕ) (class : ClassFields) (menu : List SlotFields) (needs : List Need)
-    (i : ℕ) (need : Need) (free : ℕ) → i < length needs → need ≡ get_or needs i need
-    → free + most_area menu need < need.bytes → AreOfClass class needs → 1 ≤ length menu
-    → FitTo window class menu needs i free → IsUnfit window menu needs i
-to-unfit window class menu needs i need free within is small same slots to =
-    let start : ℕ = start_of window class menu in
-    let frames : List Frame = map (top_frame menu) (take i needs) in
-    let some : 1 ≤ length needs = omega (arith, within) in
-    let many : length (take (i + 1) needs) ≡ i + 1 =
-    length-take-le (i + 1) needs (omega (arith, within)) in
-    let never : AllFit window start (map (top_frame menu) (take (i + 1) needs)) → ⊥ =
-    λ fit. omega (
-      arith,
-      small,
-      to.left,
-      fit-last window start frames (top_frame menu need)
-          (subst (AllFit window start) (next_frame menu needs i need within is) fit),
-    ) in
-    let whole : AllFit window start (map (top_frame menu) needs) → ⊥ =
-    λ fit. never (fit-take window start menu needs (i + 1) fit) in
-    record {
-      never = λ lead_in. elim lead_in as (λ b. CanBeLaidFrom window b menu needs → ⊥) [
-        | true ↦ (λ can. whole (laid-fit window class menu needs same some can))
-        | false ↦ (λ can. whole (without-fit window class menu needs can))
-      ];
-      within = within;
-      here = λ can. never (laid-fit window class menu (take (i + 1) needs)
-          (class-take class needs (i + 1) same) (omega (arith, many)) can);
-      before = λ k lt.
-          let few : length (take (k + 1) needs) ≡ k + 1 =
-          length-take-le (k + 1) needs (omega (arith, within, lt)) in
-          let fit = fit-take window start menu (take i needs) (k + 1) to.fit in
-          fit-laid window class menu (take (k + 1) needs) (class-take class needs (k + 1) same)
-          (omega (arith, few)) slots
-          (subst (λ l. AllFit window start (map (top_frame menu) l))
-          (take-take (k + 1) i needs (omega (arith, lt))) fit);
-    }
+  -- a frame that doesn't fit is the first up to which no list has a layout
+  pub to-unfit : (need : Need) (free : ℕ) → i < length needs → need ≡ get_or needs i need
+      → free + most_area menu need < need.bytes → AreOfClass class needs → 1 ≤ length menu
+      → FitTo window class menu needs i free → IsUnfit window menu needs i
+  to-unfit need free within is small same slots to =
+      let start : ℕ = start_of window class menu in
+      let frames : List Frame = map (top_frame menu) (take i needs) in
+      let some : 1 ≤ length needs = omega (arith, within) in
+      let many : length (take (i + 1) needs) ≡ i + 1 =
+      length-take-le (i + 1) needs (omega (arith, within)) in
+      let never : AllFit window start (map (top_frame menu) (take (i + 1) needs)) → ⊥ =
+      λ fit. omega (
+        arith,
+        small,
+        to.left,
+        fit-last window start frames (top_frame menu need)
+            (subst (AllFit window start) (next_frame menu needs i need within is) fit),
+      ) in
+      let whole : AllFit window start (map (top_frame menu) needs) → ⊥ =
+      λ fit. never (fit-take window start menu needs (i + 1) fit) in
+      record {
+        never = λ lead_in. elim lead_in as (λ b. CanBeLaidFrom window b menu needs → ⊥) [
+          | true ↦ (λ can. whole (laid-fit window class menu needs same some can))
+          | false ↦ (λ can. whole (without-fit window class menu needs can))
+        ];
+        within = within;
+        here = λ can. never (laid-fit window class menu (take (i + 1) needs)
+            (class-take class needs (i + 1) same) (omega (arith, many)) can);
+        before = λ k lt.
+            let few : length (take (k + 1) needs) ≡ k + 1 =
+            length-take-le (k + 1) needs (omega (arith, within, lt)) in
+            let fit = fit-take window start menu (take i needs) (k + 1) to.fit in
+            fit-laid window class menu (take (k + 1) needs) (class-take class needs (k + 1) same)
+            (omega (arith, few)) slots
+            (subst (λ l. AllFit window start (map (top_frame menu) l))
+            (take-take (k + 1) i needs (omega (arith, lt))) fit);
+      }
