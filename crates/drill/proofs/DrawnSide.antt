@@ -41,30 +41,29 @@ abbrev side_by : ℕ → List ℕ → List ℕ → Side
 side_by begin ds es = side_with begin (map (λ draw. draw % (2 * room_of begin + 1)) ds)
     (map (λ draw. 100 + draw % 100) es)
 
-by-fits : (begin a b c d e f g h : ℕ) → begin ≤ 511
-    → SideFits (class_of drill_header) (side_by begin (a ∷ b ∷ c ∷ d ∷ []) (e ∷ f ∷ g ∷ h ∷ []))
-by-fits begin a b c d e f g h few =
-    SideFits-from_parts (class_of drill_header)
-    (side_by begin (a ∷ b ∷ c ∷ d ∷ []) (e ∷ f ∷ g ∷ h ∷ []))
-    (record { scfsi = refl; granules = refl; first = refl; second = refl })
-    (omega (arith, few), lit< tt, lit< tt, lit< tt) (
-      granule-fits _ _ (length-few begin a few) (gain-few e),
-      granule-fits _ _ (length-few begin b few) (gain-few f),
-    ) (
-      granule-fits _ _ (length-few begin c few) (gain-few g),
-      granule-fits _ _ (length-few begin d few) (gain-few h),
-    )
+module _ (begin a b c d e f g h : ℕ) where
+  by-fits : begin ≤ 511
+      → SideFits (class_of drill_header) (side_by begin (a ∷ b ∷ c ∷ d ∷ []) (e ∷ f ∷ g ∷ h ∷ []))
+  by-fits few =
+      SideFits-from_parts (class_of drill_header)
+      (side_by begin (a ∷ b ∷ c ∷ d ∷ []) (e ∷ f ∷ g ∷ h ∷ []))
+      (record { scfsi = refl; granules = refl; first = refl; second = refl })
+      (omega (arith, few), lit< tt, lit< tt, lit< tt) (
+        granule-fits _ _ (length-few begin a few) (gain-few e),
+        granule-fits _ _ (length-few begin b few) (gain-few f),
+      ) (
+        granule-fits _ _ (length-few begin c few) (gain-few g),
+        granule-fits _ _ (length-few begin d few) (gain-few h),
+      )
 
-by-room : (begin a b c d e f g h : ℕ)
-    → payload_bits (side_by begin (a ∷ b ∷ c ∷ d ∷ []) (e ∷ f ∷ g ∷ h ∷ [])) ≤ 8 * room_of begin
-unfolding payload_bits
-by-room begin a b c d e f g h = omega
-    (arith, length-most begin a, length-most begin b, length-most begin c, length-most begin d)
+  by-room : payload_bits (side_by begin (a ∷ b ∷ c ∷ d ∷ []) (e ∷ f ∷ g ∷ h ∷ []))
+      ≤ 8 * room_of begin
+  unfolding payload_bits
+  by-room = omega
+      (arith, length-most begin a, length-most begin b, length-most begin c, length-most begin d)
 
-by-pairs : (begin a b c d e f g h : ℕ)
-    → HasPairs (side_by begin (a ∷ b ∷ c ∷ d ∷ []) (e ∷ f ∷ g ∷ h ∷ []))
-by-pairs begin a b c d e f g h =
-    record { scfsi = refl; granules = refl; first = refl; second = refl }
+  by-pairs : HasPairs (side_by begin (a ∷ b ∷ c ∷ d ∷ []) (e ∷ f ∷ g ∷ h ∷ []))
+  by-pairs = record { scfsi = refl; granules = refl; first = refl; second = refl }
 
 -- ---- with those of the generator
 

@@ -190,21 +190,20 @@ made_apart false false output (Err fault) made e = absurd cc
 made_apart false false output (Ok bytes) made e =
     record { other = refl; bytes = bytes; makes = refl; is = made-same _ made e }
 
-done_apart : (sheet input output : List ℕ) (back : Bool) (files : Contents) (made : Made)
-    → (fade_command sheet back input output).makes files ≡ Ok made
-    → IsMadeApart (bytes_eq sheet output) output ((fade_task sheet back input).makes files) made
-unfolding made_result
-done_apart sheet input output back files made e = made_apart (bytes_eq input output)
-    (bytes_eq sheet output) output ((fade_task sheet back input).makes files) made e
+module _ (sheet input output : List ℕ) (back : Bool) (files : Contents) where
+  done_apart : (made : Made) → (fade_command sheet back input output).makes files ≡ Ok made
+      → IsMadeApart (bytes_eq sheet output) output ((fade_task sheet back input).makes files) made
+  unfolding made_result
+  done_apart made e = made_apart (bytes_eq input output) (bytes_eq sheet output) output
+      ((fade_task sheet back input).makes files) made e
 
-makes_apart : (sheet input output : List ℕ) (back : Bool) (files : Contents) → output ≢ input
-    → output ≢ sheet → (fade_command sheet back input output).makes files
-    ≡ made_of output ((fade_task sheet back input).makes files)
-unfolding made_result
-makes_apart sheet input output back files first second =
-    ap₂ (λ (a b : Bool). made_of output (unless_clash (cond (a || false) (Some 0)
-    (cond (b || false) (Some 1) None)) ((fade_task sheet back input).makes files)))
-    (bytes_eq_other input output first) (bytes_eq_other sheet output second)
+  makes_apart : output ≢ input → output ≢ sheet → (fade_command sheet back input output).makes files
+      ≡ made_of output ((fade_task sheet back input).makes files)
+  unfolding made_result
+  makes_apart first second =
+      ap₂ (λ (a b : Bool). made_of output (unless_clash (cond (a || false) (Some 0)
+      (cond (b || false) (Some 1) None)) ((fade_task sheet back input).makes files)))
+      (bytes_eq_other input output first) (bytes_eq_other sheet output second)
 
 -- so do the two commands
 pub command_back : FadeIsTakenBack

@@ -34,21 +34,18 @@ within-none : (from to frames : ℕ) → AreWithin from to frames → outside_fa
 within-none from to frames are = ap₂ (λ (a b : Bool). cond (a && b) None
     (Some (Range from to frames))) (lt-ltb from to are.0) (le-leb to frames are.1)
 
--- frames within a file are chosen
-pub within-ok : (quality : Option ℕ) (extension : List ℕ) (from to : ℕ) (frames : ℕ)
-    → AreWithin from to frames → chosen_with quality extension from to frames
-    ≡ Ok (record { from = from; to = to; quality = quality; extension = extension })
-within-ok quality extension from to frames are =
-    ap (λ o. unless o (record { from = from; to = to; quality = quality; extension = extension }))
-    (within-none from to frames are)
+module _ (quality : Option ℕ) (extension : List ℕ) (from to frames : ℕ)
+    (are : AreWithin from to frames) where
+  -- frames within a file are chosen
+  pub within-ok : chosen_with quality extension from to frames
+      ≡ Ok (record { from = from; to = to; quality = quality; extension = extension })
+  within-ok =
+      ap (λ o. unless o (record { from = from; to = to; quality = quality; extension = extension }))
+      (within-none from to frames are)
 
-within-chosen : (quality : Option ℕ) (extension : List ℕ) (from to : ℕ) (frames : ℕ)
-    → AreWithin from to frames
-    → (chosen : Chosen) × (chosen_with quality extension from to frames ≡ Ok chosen)
-within-chosen quality extension from to frames are = (
-  record { from = from; to = to; quality = quality; extension = extension },
-  within-ok quality extension from to frames are,
-)
+  within-chosen : (chosen : Chosen) × (chosen_with quality extension from to frames ≡ Ok chosen)
+  within-chosen =
+      (record { from = from; to = to; quality = quality; extension = extension }, within-ok)
 
 -- a cut that isn't refused is a range of the file
 pub cut-range : (from to : Place) (file : List ℕ) (s : SurveyFields) (chosen : Chosen)

@@ -92,36 +92,36 @@ AreMovedAt steps lost file new gap [] = Unit {0}
 AreMovedAt steps lost file new gap (p ∷ ps) =
     IsMovedAt steps lost file new gap p × AreMovedAt steps lost file new gap ps
 
-frame_more : (steps : ℕ → Steps) (lost : ℕ → Bool) (file new : List ℕ) (gap at : ℕ) (item : Item)
-    (rest : List ℕ) (frames : List PlacedFrame) → AreBytes file → item_at file at ≡ item
-    → at + size_of item ≤ length file → drop (at - gap) new
-    ≡ moved_item (steps at) (lost at) item (take (size_of item) (drop at file)) ++ rest
-    → AreMovedAt steps lost file new gap frames
-    → AreMovedAt steps lost file new gap (cons_option (frame_as at item) frames)
-frame_more steps lost file new gap at (Frame h) rest frames all is within stands later =
-    (record { whole = frame_whole file at h all is within; rest = rest; stands = stands }, later)
-frame_more steps lost file new gap at _ rest frames all is within stands later = later
+module _ (steps : ℕ → Steps) (lost : ℕ → Bool) (file new : List ℕ) (gap : ℕ) where
+  frame_more : (at : ℕ) (item : Item) (rest : List ℕ) (frames : List PlacedFrame) → AreBytes file
+      → item_at file at ≡ item → at + size_of item ≤ length file → drop (at - gap) new
+      ≡ moved_item (steps at) (lost at) item (take (size_of item) (drop at file)) ++ rest
+      → AreMovedAt steps lost file new gap frames
+      → AreMovedAt steps lost file new gap (cons_option (frame_as at item) frames)
+  frame_more at (Frame h) rest frames all is within stands later =
+      (record { whole = frame_whole file at h all is within; rest = rest; stands = stands }, later)
+  frame_more at _ rest frames all is within stands later = later
 
--- and the frames among them are those of the file with moved gains, so much nearer to the beginning
-pub frames_moved : (steps : ℕ → Steps) (lost : ℕ → Bool) (file new : List ℕ) (gap from at : ℕ)
-    (ps : List Placed) (to : ℕ) (behind : List ℕ) → AreBytes file
-    → AreEndToEnd Stream file from ps to → from ≡ at + gap → drop at new
-    ≡ moved_items steps lost file ps ++ behind → AreMovedAt steps lost file new gap (frames_of ps)
-frames_moved steps lost file new gap from at [] to behind all ends there is = tt
-frames_moved steps lost file new gap from at (p ∷ ps) to behind all ends there is =
-    let size = size_of p.item in
-    let own = moved_item (steps p.offset) (lost p.offset) p.item (bytes_in file p) in
-    let rest = moved_items steps lost file ps ++ behind in
-    let here = item_of-is Stream file p.offset p.item ends.1 in
-    let place : p.offset - gap ≡ at = omega (arith, ends.0, there) in
-    let stands : drop (p.offset - gap) new ≡ own ++ rest =
-    ap (λ n. drop n new) place ∙ is ∙ ap (λ (l : List ℕ). l ++ behind)
-    (moved-cons steps lost file p ps) ∙ append_assoc own (moved_items steps lost file ps) behind in
-    let next : drop (p.offset - gap + size) new ≡ rest =
-    sym (drop-drop size (p.offset - gap) new) ∙ ap (drop size) stands
-    ∙ drop_at own rest size (moved_own (steps p.offset)
-    (lost p.offset) file p.offset p.item all here.is here.belongs here.within).size in
-    frame_more steps lost file new gap p.offset p.item rest
-    (frames_of ps) all here.is here.within stands
-    (frames_moved steps lost file new gap (p.offset + size)
-    (p.offset - gap + size) ps to behind all ends.2 (omega (arith, place, ends.0, there)) next)
+  -- the frames among items with moved gains are those of the
+  -- file with moved gains, so much nearer to the beginning
+  pub frames_moved : (from at : ℕ) (ps : List Placed) (to : ℕ) (behind : List ℕ) → AreBytes file
+      → AreEndToEnd Stream file from ps to → from ≡ at + gap → drop at new
+      ≡ moved_items steps lost file ps ++ behind → AreMovedAt steps lost file new gap (frames_of ps)
+  frames_moved from at [] to behind all ends there is = tt
+  frames_moved from at (p ∷ ps) to behind all ends there is =
+      let size = size_of p.item in
+      let own = moved_item (steps p.offset) (lost p.offset) p.item (bytes_in file p) in
+      let rest = moved_items steps lost file ps ++ behind in
+      let here = item_of-is Stream file p.offset p.item ends.1 in
+      let place : p.offset - gap ≡ at = omega (arith, ends.0, there) in
+      let stands : drop (p.offset - gap) new ≡ own ++ rest =
+      ap (λ n. drop n new) place ∙ is ∙ ap (λ (l : List ℕ). l ++ behind)
+      (moved-cons steps lost file p ps)
+      ∙ append_assoc own (moved_items steps lost file ps) behind in
+      let next : drop (p.offset - gap + size) new ≡ rest =
+      sym (drop-drop size (p.offset - gap) new) ∙ ap (drop size) stands
+      ∙ drop_at own rest size (moved_own (steps p.offset)
+      (lost p.offset) file p.offset p.item all here.is here.belongs here.within).size in
+      frame_more p.offset p.item rest (frames_of ps) all here.is here.within stands
+      (frames_moved (p.offset + size) (p.offset - gap + size) ps to behind all ends.2
+      (omega (arith, place, ends.0, there)) next)

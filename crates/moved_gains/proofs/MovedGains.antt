@@ -210,39 +210,56 @@ pub record AreFree (left right : ℤ) (g h k l : Granule) : Type 0 where
   pub third : is_stuck left k ≡ false
   pub fourth : is_stuck right l ≡ false
 
--- where no gain is stuck, each of the four is free to move
-pub free-parts : (steps : Steps) (m p a b : ℕ) (g h k l : Granule) → steps.wrap ≡ false
-    → stuck_in steps (side_with m p a b g h k l) ≡ None → AreFree steps.left steps.right g h k l
-unfolding stuck_in
-free-parts steps m p a b g h k l strict free =
-    let s = side_with m p a b g h k l in
-    let all = none_each (stuck_at steps.left s 0 0) (option_or (stuck_at steps.right s 0 1)
-    (option_or (stuck_at steps.left s 1 0) (stuck_at steps.right s 1 1)))
-    (sym (ap (λ w. cond w None
-    (option_or (stuck_at steps.left s 0 0) (option_or (stuck_at steps.right s 0 1)
-    (option_or (stuck_at steps.left s 1 0) (stuck_at steps.right s 1 1))))) strict) ∙ free) in
-    let behind = none_each (stuck_at steps.right s 0 1)
-    (option_or (stuck_at steps.left s 1 0) (stuck_at steps.right s 1 1)) all.1 in
-    let last = none_each (stuck_at steps.left s 1 0) (stuck_at steps.right s 1 1) behind.1 in
-    record {
-      first = free_of _ _ all.0;
-      second = free_of _ _ behind.0;
-      third = free_of _ _ last.0;
-      fourth =
-          free_of _ _ last.1;
-    }
+module _ (steps : Steps) (m p a b : ℕ) (g h k l : Granule) where
+  -- where no gain is stuck, each of the four is free to move
+  pub free-parts : steps.wrap ≡ false → stuck_in steps (side_with m p a b g h k l) ≡ None
+      → AreFree steps.left steps.right g h k l
+  unfolding stuck_in
+  free-parts strict free =
+      let s = side_with m p a b g h k l in
+      let all = none_each (stuck_at steps.left s 0 0) (option_or (stuck_at steps.right s 0 1)
+      (option_or (stuck_at steps.left s 1 0) (stuck_at steps.right s 1 1)))
+      (sym (ap (λ w. cond w None
+      (option_or (stuck_at steps.left s 0 0) (option_or (stuck_at steps.right s 0 1)
+      (option_or (stuck_at steps.left s 1 0) (stuck_at steps.right s 1 1))))) strict) ∙ free) in
+      let behind = none_each (stuck_at steps.right s 0 1)
+      (option_or (stuck_at steps.left s 1 0) (stuck_at steps.right s 1 1)) all.1 in
+      let last = none_each (stuck_at steps.left s 1 0) (stuck_at steps.right s 1 1) behind.1 in
+      record {
+        first = free_of _ _ all.0;
+        second = free_of _ _ behind.0;
+        third = free_of _ _ last.0;
+        fourth =
+            free_of _ _ last.1;
+      }
 
--- and where each of the four is free, none is stuck
-pub free-whole : (steps : Steps) (m p a b : ℕ) (g h k l : Granule)
-    → AreFree steps.left steps.right g h k l → steps.wrap ≡ false
-    → stuck_in steps (side_with m p a b g h k l) ≡ None
-unfolding stuck_in
-free-whole steps m p a b g h k l free strict =
-    let s = side_with m p a b g h k l in
-    ap (λ w. cond w None (option_or (stuck_at steps.left s 0 0) (option_or (stuck_at steps.right s 0
-    1) (option_or (stuck_at steps.left s 1 0) (stuck_at steps.right s 1 1))))) strict
-    ∙ none_both _ _ (none_of _ _ free.first) (none_both _ _ (none_of _ _ free.second)
-    (none_both _ _ (none_of _ _ free.third) (none_of _ _ free.fourth)))
+  -- and where each of the four is free, none is stuck
+  pub free-whole : AreFree steps.left steps.right g h k l → steps.wrap ≡ false
+      → stuck_in steps (side_with m p a b g h k l) ≡ None
+  unfolding stuck_in
+  free-whole free strict =
+      let s = side_with m p a b g h k l in
+      ap (λ w. cond w None
+      (option_or (stuck_at steps.left s 0 0) (option_or (stuck_at steps.right s 0
+      1) (option_or (stuck_at steps.left s 1 0) (stuck_at steps.right s 1 1))))) strict
+      ∙ none_both _ _ (none_of _ _ free.first) (none_both _ _ (none_of _ _ free.second)
+      (none_both _ _ (none_of _ _ free.third) (none_of _ _ free.fourth)))
+
+  -- the gains of each granule and channel move by the steps of the channel
+  pub moved_with : moved_side steps (side_with m p a b g h k l) ≡ side_with m p a b
+      (moved steps.left g) (moved steps.right h) (moved steps.left k) (moved steps.right l)
+  unfolding moved_side
+  moved_with = refl
+
+  payload-with : payload_bits (moved_side steps (side_with m p a b g h k l))
+      ≡ payload_bits (side_with m p a b g h k l)
+  unfolding payload_bits moved_side
+  payload-with =
+      let gp = moved-payload steps.left g in
+      let hp = moved-payload steps.right h in
+      let kp = moved-payload steps.left k in
+      let lp = moved-payload steps.right l in
+      λ i. 0 + (0 + gp i + hp i) + (0 + kp i + lp i)
 
 -- with wrapping none is ever stuck
 pub wrapped-free : (steps : Steps) (s : Side) → steps.wrap ≡ true → stuck_in steps s ≡ None
@@ -250,13 +267,6 @@ unfolding stuck_in
 wrapped-free steps s wraps =
     ap (λ w. cond w None (option_or (stuck_at steps.left s 0 0) (option_or (stuck_at steps.right s 0
     1) (option_or (stuck_at steps.left s 1 0) (stuck_at steps.right s 1 1))))) wraps
-
--- the gains of each granule and channel move by the steps of the channel
-pub moved_with : (steps : Steps) (m p a b : ℕ) (g h k l : Granule)
-    → moved_side steps (side_with m p a b g h k l) ≡ side_with m p a b (moved steps.left g)
-    (moved steps.right h) (moved steps.left k) (moved steps.right l)
-unfolding moved_side
-moved_with steps m p a b g h k l = refl
 
 abbrev ThenGoal : Steps → Steps → Steps → Side → Type 0
 ThenGoal one two all s =
@@ -295,17 +305,6 @@ side_then one two all s shaped wraps left right first whole = by_wrap one.wrap a
     by_wrap _ _ e d = wrapped-free two (moved_side one s) (wraps ∙ ap₂ (λ (x y : Bool). x || y) e d)
 
 -- ---- what moved gains leave
-
-payload-with : (steps : Steps) (m p a b : ℕ) (g h k l : Granule)
-    → payload_bits (moved_side steps (side_with m p a b g h k l))
-    ≡ payload_bits (side_with m p a b g h k l)
-unfolding payload_bits moved_side
-payload-with steps m p a b g h k l =
-    let gp = moved-payload steps.left g in
-    let hp = moved-payload steps.right h in
-    let kp = moved-payload steps.left k in
-    let lp = moved-payload steps.right l in
-    λ i. 0 + (0 + gp i + hp i) + (0 + kp i + lp i)
 
 -- the main data have as many bits as before
 pub payload_bits-moved : (steps : Steps) (s : Side) → IsShaped s

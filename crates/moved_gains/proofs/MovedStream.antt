@@ -26,25 +26,24 @@ use Rattle.sync_survey.specs.declared.places.{PlacedFrame.PlacedFrame, Start.Sta
 
 -- ---- the main data
 
-area-moved : (steps : ℕ → Steps) (lost : ℕ → Bool) (file new : List ℕ) (gap : ℕ) (p : PlacedFrame)
-    → IsMovedAt steps lost file new gap p
-    → area_bytes new (p.offset - gap) p.header ≡ area_bytes file p.offset p.header
-area-moved steps lost file new gap p at =
-    let over = overhead_of (class_of p.header) p.header.protected in
-    let room : over ≤ length_of (class_of p.header) p.header.slot =
-    omega (arith, (whole_room p.header (frame_bytes file p) at.whole).0, at.whole.size) in
-    area-frame new (nearer_frame gap p) room
-    ∙ ap (drop over) (frame_there steps lost file new gap p at)
-    ∙ (to steps lost file new gap p at).same_area
-    ∙ sym (area-frame file p room)
+module _ (steps : ℕ → Steps) (lost : ℕ → Bool) (file new : List ℕ) (gap : ℕ) where
+  area-moved : (p : PlacedFrame) → IsMovedAt steps lost file new gap p
+      → area_bytes new (p.offset - gap) p.header ≡ area_bytes file p.offset p.header
+  area-moved p at =
+      let over = overhead_of (class_of p.header) p.header.protected in
+      let room : over ≤ length_of (class_of p.header) p.header.slot =
+      omega (arith, (whole_room p.header (frame_bytes file p) at.whole).0, at.whole.size) in
+      area-frame new (nearer_frame gap p) room
+      ∙ ap (drop over) (frame_there steps lost file new gap p at)
+      ∙ (to steps lost file new gap p at).same_area
+      ∙ sym (area-frame file p room)
 
-areas-moved : (steps : ℕ → Steps) (lost : ℕ → Bool) (file new : List ℕ) (gap : ℕ)
-    (ps : List PlacedFrame) → AreMovedAt steps lost file new gap ps → flat_map (λ (r : Row).
-    area_bytes new r.offset r.header) (map (moved_row steps gap) (rows_by lost file ps))
-    ≡ flat_map (λ (r : Row). area_bytes file r.offset r.header) (rows_by lost file ps)
-areas-moved steps lost file new gap [] at = refl
-areas-moved steps lost file new gap (p ∷ ps) at = ap₂ (λ (a b : List ℕ). a ++ b)
-    (area-moved steps lost file new gap p at.0) (areas-moved steps lost file new gap ps at.1)
+  areas-moved : (ps : List PlacedFrame) → AreMovedAt steps lost file new gap ps
+      → flat_map (λ (r : Row). area_bytes new r.offset r.header)
+      (map (moved_row steps gap) (rows_by lost file ps))
+      ≡ flat_map (λ (r : Row). area_bytes file r.offset r.header) (rows_by lost file ps)
+  areas-moved [] at = refl
+  areas-moved (p ∷ ps) at = ap₂ (λ (a b : List ℕ). a ++ b) (area-moved p at.0) (areas-moved ps at.1)
 
 -- ---- a frame of the stream
 
@@ -74,43 +73,42 @@ by_shaped lost file [] = tt
 by_shaped lost file (p ∷ ps) =
     (shaped-side_in p.header (drop p.offset file), by_shaped lost file ps)
 
-frame-moved : (steps : ℕ → Steps) (gap : ℕ) (main : List ℕ) (o : Option Head) (rows : List Row)
-    (i : ℕ) (r : Row) → IsShaped r.side
-    → stream_frame main (option_map (moved_head gap) o) (map (moved_row steps gap) rows) i
-    (moved_row steps gap r) ≡ moved_stream_frame (steps r.offset) (stream_frame main o rows i r)
-frame-moved steps gap main o rows i r shaped =
-    let begin = start-moved steps gap o rows i r in
-    let counts : side_of (moved_row steps gap r) ≡ moved_side (steps r.offset) (side_of r) =
-    counts-moved (steps r.offset) r.lost r.side in
-    let well = counts_shaped r.lost r.side shaped in
-    let side = ap (λ (s : Side). record s { main_data_begin = 0 }) counts
-    ∙ side-moved (steps r.offset) (side_of r) in
-    let lengths =
-    ap (part_lengths r.header) counts ∙ lengths-moved (steps r.offset) r.header (side_of r) well in
-    let payload = ap payload_bits counts ∙ payload_bits-moved (steps r.offset) (side_of r) well in
-    λ j. record (stream_frame main o rows i r) {
-      side = side j;
-      payload = parts_of (lengths j) (take (payload j) (drop (8 * begin j) (bits main)));
-    }
+module _ (steps : ℕ → Steps) (gap : ℕ) (main : List ℕ) (o : Option Head) (rows : List Row) where
+  frame-moved : (i : ℕ) (r : Row) → IsShaped r.side
+      → stream_frame main (option_map (moved_head gap) o) (map (moved_row steps gap) rows) i
+      (moved_row steps gap r) ≡ moved_stream_frame (steps r.offset) (stream_frame main o rows i r)
+  frame-moved i r shaped =
+      let begin = start-moved steps gap o rows i r in
+      let counts : side_of (moved_row steps gap r) ≡ moved_side (steps r.offset) (side_of r) =
+      counts-moved (steps r.offset) r.lost r.side in
+      let well = counts_shaped r.lost r.side shaped in
+      let side = ap (λ (s : Side). record s { main_data_begin = 0 }) counts
+      ∙ side-moved (steps r.offset) (side_of r) in
+      let lengths =
+      ap (part_lengths r.header) counts
+      ∙ lengths-moved (steps r.offset) r.header (side_of r) well in
+      let payload = ap payload_bits counts ∙ payload_bits-moved (steps r.offset) (side_of r) well in
+      λ j. record (stream_frame main o rows i r) {
+        side = side j;
+        payload = parts_of (lengths j) (take (payload j) (drop (8 * begin j) (bits main)));
+      }
 
-frames_moved : (steps : ℕ → Steps) (gap : ℕ) (main : List ℕ) (o : Option Head) (rows : List Row)
-    (n : ℕ) (more : List Row) → AreShaped more
-    → map (λ (p : ℕ × Row). stream_frame main (option_map (moved_head gap) o)
-    (map (moved_row steps gap) rows) p.0 p.1) (enumerate_from n (map (moved_row steps gap) more))
-    ≡ map (λ (p : ℕ × Row). moved_stream_frame (steps p.1.offset)
-    (stream_frame main o rows p.0 p.1)) (enumerate_from n more)
-frames_moved steps gap main o rows n [] shaped = refl
-frames_moved steps gap main o rows n (r ∷ more) shaped =
-    ap₂ (λ (f : StreamFrame) (fs : List StreamFrame). f ∷ fs) (frame-moved steps gap main o rows n r
-    shaped.0) (frames_moved steps gap main o rows (n + 1) more shaped.1)
+  frames_moved : (n : ℕ) (more : List Row) → AreShaped more
+      → map (λ (p : ℕ × Row). stream_frame main (option_map (moved_head gap) o)
+      (map (moved_row steps gap) rows) p.0 p.1) (enumerate_from n (map (moved_row steps gap) more))
+      ≡ map (λ (p : ℕ × Row). moved_stream_frame (steps p.1.offset)
+      (stream_frame main o rows p.0 p.1)) (enumerate_from n more)
+  frames_moved n [] shaped = refl
+  frames_moved n (r ∷ more) shaped =
+      ap₂ (λ (f : StreamFrame) (fs : List StreamFrame). f ∷ fs) (frame-moved n r shaped.0)
+      (frames_moved (n + 1) more shaped.1)
 
-all_moved : (steps : ℕ → Steps) (gap : ℕ) (main : List ℕ) (o : Option Head) (rows : List Row)
-    → AreShaped rows
-    → stream_frames main (option_map (moved_head gap) o) (map (moved_row steps gap) rows)
-    ≡ map (λ (p : ℕ × Row). moved_stream_frame (steps p.1.offset)
-    (stream_frame main o rows p.0 p.1)) (enumerate_from 0 rows)
-unfolding stream_frames
-all_moved steps gap main o rows shaped = frames_moved steps gap main o rows 0 rows shaped
+  all_moved : AreShaped rows
+      → stream_frames main (option_map (moved_head gap) o) (map (moved_row steps gap) rows)
+      ≡ map (λ (p : ℕ × Row). moved_stream_frame (steps p.1.offset)
+      (stream_frame main o rows p.0 p.1)) (enumerate_from 0 rows)
+  unfolding stream_frames
+  all_moved shaped = frames_moved 0 rows shaped
 
 -- ---- the stream
 

@@ -98,35 +98,34 @@ kept : (steps : ℕ → Steps) (lost : ℕ → Bool) (file : List ℕ) (frames :
 kept steps lost file frames at item behind =
     moved_from-later steps file at (size_of item) (rows_by lost file frames) behind
 
--- a frame
-frame_step : (steps : ℕ → Steps) (lost : ℕ → Bool) (part : Part) (file : List ℕ)
-    (frames : List PlacedFrame) (at : ℕ) (h : HeaderFields) → IsItemOf part file at (Frame h)
-    → moved_from steps file at (rows_by lost file (record { offset = at; header = h } ∷ frames))
-    ≡ moved_unless_lost (lost at) (steps at) h (item_bytes file at (Frame h))
-    ++ moved_from steps file (at + size_of (Frame h)) (rows_by lost file frames)
-frame_step steps lost part file frames at h here =
-    let row : Row =
-    record { offset = at; header = h; side = side_in h (drop at file); lost = lost at } in
-    let len = length_of (class_of h) h.slot in
-    let room = overhead-within h
-    (header_front-in_range (drop at file) h (stands-at file at (Frame h) here.is)) in
-    let none : at - at ≡ 0 = omega arith in
-    ap (λ n. take n (drop at file) ++ (moved_row_bytes (steps row.offset) file row
-    ++ moved_from steps file (row_end row) (rows_by lost file frames))) none
-    ∙ ap (λ (s : Side). cond (lost at) (item_bytes file at (Frame h))
-    (frame_with h (moved_side (steps at) s) (item_bytes file at (Frame h))) ++ moved_from steps file
-    (at + len) (rows_by lost file frames)) (sym (side_in-take h len (drop at file) room))
+module _ (steps : ℕ → Steps) (lost : ℕ → Bool) (part : Part) (file : List ℕ)
+    (frames : List PlacedFrame) (at : ℕ) where
+  -- a frame
+  frame_step : (h : HeaderFields) → IsItemOf part file at (Frame h)
+      → moved_from steps file at (rows_by lost file (record { offset = at; header = h } ∷ frames))
+      ≡ moved_unless_lost (lost at) (steps at) h (item_bytes file at (Frame h))
+      ++ moved_from steps file (at + size_of (Frame h)) (rows_by lost file frames)
+  frame_step h here =
+      let row : Row =
+      record { offset = at; header = h; side = side_in h (drop at file); lost = lost at } in
+      let len = length_of (class_of h) h.slot in
+      let room = overhead-within h
+      (header_front-in_range (drop at file) h (stands-at file at (Frame h) here.is)) in
+      let none : at - at ≡ 0 = omega arith in
+      ap (λ n. take n (drop at file) ++ (moved_row_bytes (steps row.offset) file row
+      ++ moved_from steps file (row_end row) (rows_by lost file frames))) none
+      ∙ ap (λ (s : Side). cond (lost at) (item_bytes file at (Frame h))
+      (frame_with h (moved_side (steps at) s) (item_bytes file at (Frame h)))
+      ++ moved_from steps file (at + len) (rows_by lost file frames))
+      (sym (side_in-take h len (drop at file) room))
 
-item_step : (steps : ℕ → Steps) (lost : ℕ → Bool) (part : Part) (file : List ℕ)
-    (frames : List PlacedFrame) (at : ℕ) (item : Item) → IsItemOf part file at item
-    → IsBehind (at + size_of item) (rows_by lost file frames)
-    → moved_from steps file at (rows_by lost file (option_to_list (frame_as at item) ++ frames))
-    ≡ moved_item (steps at) (lost at) item (item_bytes file at item)
-    ++ moved_from steps file (at + size_of item) (rows_by lost file frames)
-item_step steps lost part file frames at (Frame h) here behind =
-    frame_step steps lost part file frames at h here
-item_step steps lost part file frames at item here behind =
-    kept steps lost file frames at item behind
+  item_step : (item : Item) → IsItemOf part file at item
+      → IsBehind (at + size_of item) (rows_by lost file frames)
+      → moved_from steps file at (rows_by lost file (option_to_list (frame_as at item) ++ frames))
+      ≡ moved_item (steps at) (lost at) item (item_bytes file at item)
+      ++ moved_from steps file (at + size_of item) (rows_by lost file frames)
+  item_step (Frame h) here behind = frame_step h here
+  item_step item here behind = kept steps lost file frames at item behind
 
 -- items that follow end to end are written as the moved items
 pub moved_from-items : (steps : ℕ → Steps) (lost : ℕ → Bool) (part : Part) (file : List ℕ)
