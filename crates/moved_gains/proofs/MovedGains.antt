@@ -229,8 +229,7 @@ module _ (steps : Steps) (m p a b : ℕ) (g h k l : Granule) where
         first = free_of _ _ all.0;
         second = free_of _ _ behind.0;
         third = free_of _ _ last.0;
-        fourth =
-            free_of _ _ last.1;
+        fourth = free_of _ _ last.1;
       }
 
   -- and where each of the four is free, none is stuck
@@ -240,8 +239,8 @@ module _ (steps : Steps) (m p a b : ℕ) (g h k l : Granule) where
   free-whole free strict =
       let s = side_with m p a b g h k l in
       ap (λ w. cond w None
-      (option_or (stuck_at steps.left s 0 0) (option_or (stuck_at steps.right s 0
-      1) (option_or (stuck_at steps.left s 1 0) (stuck_at steps.right s 1 1))))) strict
+      (option_or (stuck_at steps.left s 0 0) (option_or (stuck_at steps.right s 0 1)
+      (option_or (stuck_at steps.left s 1 0) (stuck_at steps.right s 1 1))))) strict
       ∙ none_both _ _ (none_of _ _ free.first) (none_both _ _ (none_of _ _ free.second)
       (none_both _ _ (none_of _ _ free.third) (none_of _ _ free.fourth)))
 

@@ -134,13 +134,26 @@ module _ (steps : ℕ → Steps) (lost : ℕ → Bool) (file new : List ℕ) (ga
     right_word = right_cases (moved_unless (lost p.offset) (steps p.offset)
         (side_in p.header (drop p.offset file))) side_there p.header.protected refl
 
--- the rows of the edited file are those of the file, moved
-pub rows-moved : (steps : ℕ → Steps) (lost : ℕ → Bool) (file new : List ℕ) (gap : ℕ)
-    (ps : List PlacedFrame) → AreMovedAt steps lost file new gap ps
-    → rows_of new (map (nearer_frame gap) ps) ≡ map (moved_plain steps lost gap) (rows_of file ps)
-rows-moved steps lost file new gap [] at = refl
-rows-moved steps lost file new gap (p ∷ ps) at = ap₂ (λ (r : Row) (rs : List Row). r ∷ rs)
-    (row-moved steps lost file new gap p at.0) (rows-moved steps lost file new gap ps at.1)
+module _ (steps : ℕ → Steps) (lost : ℕ → Bool) (file new : List ℕ) (gap : ℕ) where
+  -- the rows of the edited file are those of the file, moved
+  pub rows-moved : (ps : List PlacedFrame) → AreMovedAt steps lost file new gap ps
+      → rows_of new (map (nearer_frame gap) ps) ≡ map (moved_plain steps lost gap) (rows_of file ps)
+  rows-moved [] at = refl
+  rows-moved (p ∷ ps) at = ap₂ (λ (r : Row) (rs : List Row). r ∷ rs)
+      (row-moved steps lost file new gap p at.0) (rows-moved ps at.1)
+
+  rows_right : (ps : List PlacedFrame) → AreMovedAt steps lost file new gap ps
+      → AreRight file (rows_of file ps) → (i : ℕ) (r : Row) → slice_get (rows_of file ps) i ≡ Some r
+      → has_wrong_word (word_said (drop (r.offset - gap) new)) (moved_plain steps lost gap r)
+      ≡ false
+  rows_right [] at right i r is = absurd cc
+  rows_right (p ∷ ps) at right zero r is =
+      let same : row_of file p ≡ r = cc in
+      subst (λ (x : Row).
+      has_wrong_word (word_said (drop (x.offset - gap) new)) (moved_plain steps lost gap x) ≡ false)
+      same (right_word steps lost file new gap p at.0 (right 0 (row_of file p) refl))
+  rows_right (p ∷ ps) at right (suc i) r is =
+      rows_right ps at.1 (λ i r is. right (suc i) r is) i r is
 
 -- ---- frames without fault
 
@@ -233,19 +246,6 @@ module _ (steps : ℕ → Steps) (lost : ℕ → Bool) (gap : ℕ) (o : Option H
   unfolding marked
   marked-moved agree =
       marks_moved 0 rows (λ i r is. agree i r is ∙ ap (λ m. is_lost o rows m r) (sym (zero-add i)))
-
-rows_right : (steps : ℕ → Steps) (lost : ℕ → Bool) (file new : List ℕ) (gap : ℕ)
-    (ps : List PlacedFrame) → AreMovedAt steps lost file new gap ps
-    → AreRight file (rows_of file ps) → (i : ℕ) (r : Row) → slice_get (rows_of file ps) i ≡ Some r
-    → has_wrong_word (word_said (drop (r.offset - gap) new)) (moved_plain steps lost gap r) ≡ false
-rows_right steps lost file new gap [] at right i r is = absurd cc
-rows_right steps lost file new gap (p ∷ ps) at right zero r is =
-    let same : row_of file p ≡ r = cc in
-    subst (λ (x : Row).
-    has_wrong_word (word_said (drop (x.offset - gap) new)) (moved_plain steps lost gap x) ≡ false)
-    same (right_word steps lost file new gap p at.0 (right 0 (row_of file p) refl))
-rows_right steps lost file new gap (p ∷ ps) at right (suc i) r is =
-    rows_right steps lost file new gap ps at.1 (λ i r is. right (suc i) r is) i r is
 
 -- ---- blocks
 
