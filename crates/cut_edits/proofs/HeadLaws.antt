@@ -1,8 +1,8 @@
 -- A head that could not be read; and a survey whose
 -- head is set apart is one by which frames can be laid.
-use Rattle.std.proofs.Common.{Bool, cond, false, length, List, map, None, Option, refl, Some, true}
-use Rattle.std.proofs.{Common.{ℕ, [], ◌+◌, ◌∙◌, ◌∷◌, ◌≡◌}, lemmas.List.length-map}
-use Rattle.std.{proofs.lemmas.List.FromFn.length-enumerate_from, specs.List.enumerate_from}
+use Rattle.std.proofs.Common.{Bool, cond, false, length, List, map, None, Option, Some, true, ℕ, []}
+use Rattle.std.proofs.{Common.{◌+◌, ◌∙◌, ◌∷◌, ◌≡◌}, lemmas.List.length-map}
+use Rattle.std.specs.List.{enumerate_from}
 use Rattle.commands.{proofs.WhyLaws.each_why, specs.Left.{IsOfInput, why_of}}
 use Rattle.commands.specs.{One.{IsInputFault, Making}, declared.fault.EditFault.EditFault}
 use Rattle.commands.specs.declared.fault.{EditFault.TheVariants.Input, Refusal.Refusal}
@@ -11,7 +11,7 @@ use Rattle.laying.proofs.ChosenFrames.{side_paired}
 use Rattle.laying.specs.Surveys.{AreWholeRows, HasSurvey, IsWholeRow}
 use Rattle.outside.specs.Seen.{Seen}
 use Rattle.side_info.specs.Side.{no_side}
-use Rattle.sync_survey.proofs.{ApartLaws.placed-apart, EmptiedLaws.placed-emptied}
+use Rattle.sync_survey.proofs.{ApartLaws.placed-apart, EmptiedLaws.{length_apart, placed-emptied}}
 use Rattle.sync_survey.specs.Faults.{SurveyFields}
 use Rattle.sync_survey.specs.{HeadApart.{apart_row, apart_rows, emptied_row, set_apart}, Row.Row}
 use Rattle.sync_survey.specs.{Survey.AreWellPlaced, declared.places.Head.Head}
@@ -52,21 +52,15 @@ row_whole : (file : List ℕ) (r : Row) (lost : Bool) → IsWholeRow file r
 row_whole file r true is = record { frame = is.frame; pairs = side_paired true r.side is.pairs }
 row_whole file r false is = is
 
-emptied_whole : (file : List ℕ) (rows : List Row) → AreWholeRows file rows
+-- so are those with lost frames as empty ones
+pub emptied_whole : (file : List ℕ) (rows : List Row) → AreWholeRows file rows
     → AreWholeRows file (map emptied_row rows)
 emptied_whole file [] are = tt
 emptied_whole file (r ∷ rows) are = (row_whole file r r.lost are.0, emptied_whole file rows are.1)
 
-set_length : (head : Option Head) (rows : List Row) → length (set_apart head rows) ≡ length rows
-unfolding apart_rows
-set_length None rows = refl
-set_length (Some head) rows =
-    length-map (enumerate_from 0 rows) (λ (p : ℕ × Row). apart_row rows p.0 p.1)
-    ∙ length-enumerate_from 0 rows
-
 -- it has as many frames
 pub apart-length : (s : SurveyFields) → length (apart s).frames ≡ length s.frames
-apart-length s = length-map (set_apart s.head s.frames) emptied_row ∙ set_length s.head s.frames
+apart-length s = length-map (set_apart s.head s.frames) emptied_row ∙ length_apart s.head s.frames
 
 -- their main data are where they may be
 pub apart-placed : (s : SurveyFields) → AreWellPlaced s.head s.class s.frames

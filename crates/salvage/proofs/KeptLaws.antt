@@ -6,6 +6,7 @@ use Rattle.salvage.specs.Judged.{before_next, judged_by, none_before}
 use Rattle.salvage.specs.Kept.{AreKeptTo, AreKeptWell, end_of_kept, IsKeptWell, kept_end}
 use Rattle.salvage.specs.Sound.{is_sound}
 use Rattle.side_info.specs.Side.{payload_bytes}
+use Rattle.sync_survey.proofs.ApartLaws.{Stands}
 use Rattle.sync_survey.proofs.FaultsLaws.{each_push, IsRuled, place-more, place-next, place-none}
 use Rattle.sync_survey.proofs.FaultsLaws.{ruled}
 use Rattle.sync_survey.specs.MainData.{end_of_data, head_area, is_silent, own_area, place}
@@ -13,31 +14,25 @@ use Rattle.sync_survey.specs.{Row.Row, declared.{places.Head.Head, rows.Before.B
 
 -- ---- a sound frame, by numbers
 
--- the main data of a frame begin after those before them, and end within its own area
-pub record IsWithin (place ended : ℕ) (r : Row) : Type 0 where
-  pub begins : r.side.main_data_begin ≤ place
-  pub apart : ended ≤ place - r.side.main_data_begin
-  pub ends : (place - r.side.main_data_begin) + payload_bytes r.side ≤ place + own_area r.header
-
--- those of a sound frame do
+-- the main data of a sound frame begin after those before them, and end within its own area
 pub sound_within : (place ended : ℕ) (r : Row) → is_sound place ended r ≡ true
-    → IsWithin place ended r
+    → Stands place ended r
 sound_within place ended r is =
     let parts = and_parts _ _ is in
     let front = and_parts _ _ parts.0 in
     record {
       begins = ltb-false _ _ (not-true _ front.0);
       apart = ltb-false _ _ (not-true _ front.1);
-      ends = ltb-false _ _ (not-true _ parts.1);
+      within = ltb-false _ _ (not-true _ parts.1);
     }
 
-within_sound : (place ended : ℕ) (r : Row) → IsWithin place ended r → is_sound place ended r ≡ true
+within_sound : (place ended : ℕ) (r : Row) → Stands place ended r → is_sound place ended r ≡ true
 within_sound place ended r is =
     ap₂ (λ (a b : Bool). a && b)
     (ap₂ (λ (a b : Bool). not a && not b) (le-ltb place r.side.main_data_begin is.begins)
     (le-ltb (place - r.side.main_data_begin) ended is.apart))
     (ap not (le-ltb (place + own_area r.header)
-    ((place - r.side.main_data_begin) + payload_bytes r.side) is.ends))
+    ((place - r.side.main_data_begin) + payload_bytes r.side) is.within))
 
 -- ---- one frame more
 
@@ -76,7 +71,7 @@ module _ (head : Option Head) where
       × (cond (not sound || silent) ended (end_of_data now r) ≤ now + own_area r.header)
   end_by base now ended b r true false is other at low high =
       let here = sound_within b.place b.ended r is in
-      (omega (arith, at, here.begins), omega (arith, at, here.begins, here.ends))
+      (omega (arith, at, here.begins), omega (arith, at, here.begins, here.within))
   end_by base now ended b r _ _ is other at low high = (low, omega (arith, high))
 
   module _ (rows : List Row) (b : Before) (kept : AreKeptTo head rows b) (r : Row) where
@@ -91,7 +86,7 @@ module _ (head : Option Head) where
         (record {
           begins = omega (arith, kept.place_is, here.begins);
           apart = omega (arith, kept.place_is, kept.ended_is, here.begins, here.apart);
-          ends = omega (arith, kept.place_is, here.begins, here.ends);
+          within = omega (arith, kept.place_is, here.begins, here.within);
         })
 
     last_kept : marked_one.lost ≡ false → is_sound (place head (rows ++ marked_one ∷ [])

@@ -163,7 +163,7 @@ fits_by : (size : ℕ) (b : Before) (r : Row) → not (is_sound b.place b.ended 
 unfolding payload_bytes
 fits_by size b r mark room =
     let here = sound_within b.place b.ended r (not-false _ mark) in
-    (here.begins, omega (arith, here.ends, room))
+    (here.begins, omega (arith, here.within, room))
 
 judged_fit : (size : ℕ) (b : Before) (rows : List Row) → b.place + areas rows ≤ size
     → AllFit size b.place (judged_from b rows)

@@ -1,15 +1,14 @@
 //! What is read of a damaged file, as it is written: its frames that aren't sound are empty.
-ghost use Rattle.std.specs.Prelude.{◌≡◌, ◌≤◌, false, ◌++◌, length, map, option_to_list, IfOk, OnOk};
-ghost use Rattle.side_info.specs.Side.{no_side};
+ghost use Rattle.std.specs.Prelude.{◌≡◌, ◌≤◌, ◌++◌, length, option_to_list, IfOk, OnOk};
 ghost use Rattle.sync_survey.specs.Faults.{tells};
+ghost use Rattle.sync_survey.specs.HeadApart.{emptied};
 ghost use Rattle.sync_survey.specs.Survey.{IsLaidOut as IsLaidSurvey};
 ghost use Rattle.salvage.specs.Damaged.{tells_of, most_frames};
 ghost use Rattle.salvage.specs.Progress.{IsLaidOut};
-ghost use Rattle.salvage.specs.Mended.{mended_row, mended, emptied_as, emptied_from};
+ghost use Rattle.salvage.specs.Mended.{emptied_as, emptied_from};
 
 use crate::damaged::Damaged;
 use crate::gap::Gap;
-use side_info::{FrameFront, Side};
 use std::alloc::{AllocError, Global};
 use sync_survey::{HasOffset, Row, Survey};
 
@@ -69,41 +68,13 @@ fn emptied_of(alloc: Global, rows: &[Row]) -> Result<Vec<Emptied>, AllocError>
     Ok(emptied)
 }
 
-/// Makes the frame an empty one.
-// It is apart, so that the loop over the frames is short.
-#[inline(never)]
-fn empty_row(row: &mut Row)
-    ensures { row.new ≡ record row.old { side = no_side; lost = false } }
-{
-    let front = FrameFront::new(&row.header(), &Side::empty());
-    *row = Row::new(row.offset(), false, front);
-}
-
-/// Makes the frame an empty one if it isn't sound.
-fn mend_row(row: &mut Row)
-    ensures { row.new ≡ mended_row row.old }
-{
-    if row.lost() {
-        empty_row(row);
-    }
-}
-
-/// Makes each frame that isn't sound an empty one.
-fn mend_rows(rows: &mut [Row])
-    ensures { rows.new ≡ map mended_row rows.old }
-{
-    for row in rows.iter_mut() {
-        mend_row(row);
-    }
-}
-
 /// Makes each frame that isn't sound an empty one. The frames that become empty ones are known.
-fn mend_known(rows: &mut [Row], emptied: &[Emptied])
-    requires { emptied.now ≡ emptied_from 0 rows.old }
-    ensures { rows.new ≡ map mended_row rows.old }
+fn empty_known(survey: &mut Survey, known: &[Emptied])
+    requires { known.now ≡ emptied_from 0 (tells survey.old).frames }
+    ensures { tells survey.new ≡ emptied (tells survey.old) }
 {
-    if !emptied.is_empty() {
-        mend_rows(rows);
+    if !known.is_empty() {
+        survey.empty_lost();
     }
 }
 
@@ -114,7 +85,7 @@ impl Damaged {
     /// Where there is no memory.
     pub fn mend(self, alloc: Global) -> Result<Mended, AllocError>
         requires { IsLaidOut (tells_of self) }
-        ensures survey { IfOk result (λ m. tells m.survey ≡ mended (tells_of self).survey) }
+        ensures survey { IfOk result (λ m. tells m.survey ≡ emptied (tells_of self).survey) }
         ensures laid { IfOk result (λ m. IsLaidSurvey (tells m.survey)) }
         ensures emptied { IfOk result (λ m. m.emptied.items
             ≡ emptied_from 0 (tells_of self).survey.frames) }
@@ -122,7 +93,7 @@ impl Damaged {
     {
         let Damaged { mut survey, gaps } = self;
         let emptied = emptied_of(alloc, &survey.frames)?;
-        mend_known(survey.frames.as_mut_slice(), &emptied);
+        empty_known(&mut survey, &emptied);
         Ok(Mended {
             survey,
             emptied,

@@ -23,8 +23,8 @@ use Rattle.outside.specs.{Files.{Told, Untold}, Seen.{Seen, seen}}
 use Rattle.salvage.proofs.{LaidOutLaws.damaged_of-is, ReadFaults.damaged_of-short}
 use Rattle.salvage.specs.Damaged.{counted, damaged, damaged_by, damaged_from, damaged_of}
 use Rattle.salvage.specs.Damaged.{DamagedFields, IsReadFault, IsReadOf, most_frames, RefusesDamaged}
-use Rattle.salvage.specs.{Damaged.unless_too_many, Mended.{emptied_from, mended_row}}
-use Rattle.salvage.specs.{Text.salvage_text, Walk.first_frame, declared.mended.Mended.Mended}
+use Rattle.salvage.specs.{Damaged.unless_too_many, Mended.emptied_from, Text.salvage_text}
+use Rattle.salvage.specs.{Walk.first_frame, declared.mended.Mended.Mended}
 use Rattle.salvage_edits.proofs.{HadLaws.damaged-had, OrderLaws.{report-text-same, reports-order}}
 use Rattle.salvage_edits.{proofs.StreamLaws.salvaged-holds, specs.Ordered.{IsInOrder, report_text}}
 use Rattle.salvage_edits.specs.Ready.{IsMended, IsReady, ReadsInput, Reports}
@@ -32,8 +32,8 @@ use Rattle.salvage_edits.specs.Salvaged.{all_of, left_stream, made_by, made_wher
 use Rattle.salvage_edits.specs.Salvaged.{salvage_task, salvaged_file, stream_by, stream_where}
 use Rattle.salvage_edits.specs.{Salvaged.{text_by, text_where}, declared.work.Work.Work}
 use Rattle.sync_survey.specs.Faults.{HoldsStream, longest_file, SurveyFields, tells}
-use Rattle.sync_survey.specs.{Kinds.HasRightNumbers, Row.Row, Start.front_end_of}
-use Rattle.sync_survey.specs.Survey.{HoldsOctets, IsLaidOut as IsLaidSurvey}
+use Rattle.sync_survey.specs.{HeadApart.emptied_row, Kinds.HasRightNumbers, Row.Row}
+use Rattle.sync_survey.specs.{Start.front_end_of, Survey.{HoldsOctets, IsLaidOut as IsLaidSurvey}}
 use Rattle.sync_survey.specs.declared.places.PlacedFrame.{PlacedFrame}
 use Rattle.sync_survey.specs.declared.survey_fault.SurveyFault.{SurveyFault}
 use Rattle.sync_survey.specs.declared.survey_fault.SurveyFault.TheVariants.{Absent}
@@ -244,7 +244,7 @@ module _ (input : List ℕ) where
 
     frames-same : length (tells work.laid.survey).frames ≡ length ready.of.survey.frames
     frames-same = ap (λ (s : SurveyFields). length s.frames) ready.survey
-        ∙ length-map ready.of.survey.frames mended_row
+        ∙ length-map ready.of.survey.frames emptied_row
 
     -- the text is that of what was read
     pub ready-text : (output all : List ℕ) → IsText (salvage_command input output) files all

@@ -3,24 +3,26 @@
 use Rattle.std.proofs.Common.{arith, Bool, cond, drop, false, length, List, ltb, map, None, Ok}
 use Rattle.std.proofs.Common.{Option, refl, Some, subst, suc, sym, true, zero, ℕ, [], ◌++◌, ◌+◌}
 use Rattle.std.{proofs.{Common.{◌∷◌, ◌≡◌, ◌≤◌}, lemmas.List.map-append}, specs.List.cons_option}
-use Rattle.frame_header.specs.{Fields.{ClassFields, IsHeader}, Tables.{class_of, length_of}}
+use Rattle.cut_edits.proofs.HeadLaws.{emptied_whole}
+use Rattle.frame_header.specs.{Fields.ClassFields, Tables.{class_of, length_of}}
 use Rattle.laying.proofs.ChosenFrames.{head-whole, shaped_pairs}
 use Rattle.laying.proofs.{KeptBlocks.{block_more, blocks-append, ends-blocks}, ReadLaws.laid-behind}
 use Rattle.laying.specs.LaidFiles.{block_bytes, HasPairs, IsBlocks}
-use Rattle.laying.specs.Surveys.{AreWholeRows, HasSurvey, IsWholeAt, IsWholeRow}
+use Rattle.laying.specs.Surveys.{AreWholeRows, HasSurvey, IsWholeAt}
 use Rattle.salvage.proofs.{LaidOutLaws.{damaged-from, first_frame-is}, MendedLaws.survey-mended}
 use Rattle.salvage.proofs.{SoundLaws.runs-left, WalkLaws.item_read-is}
 use Rattle.salvage.specs.Damaged.{damaged, damaged_from, DamagedFields, things_from}
-use Rattle.salvage.specs.{Judged.{before_here, rows_here, rows_left}, Mended.{mended, mended_row}}
+use Rattle.salvage.specs.Judged.{before_here, rows_here, rows_left}
 use Rattle.salvage.specs.{Progress.{AreOfClass, IsLaidOut}, Sound.{judged_runs, runs_of}}
 use Rattle.salvage.specs.Walk.{block_in, blocks_in, first_frame, IsItem, PlacedThing, size_of_thing}
 use Rattle.salvage.specs.Walk.{Thing, thing_at, thing_by, things, things_up_to}
 use Rattle.side_info.{proofs.FrameLaws.shaped-side_in, specs.Frame.side_in}
-use Rattle.sync_survey.proofs.{EmptiedLaws.empty_row, ItemsLaws.{header_front-in_range, stands-at}}
-use Rattle.sync_survey.{proofs.RunsLaws.{IsItemOf, run-ends}, specs.{MainData.head_area, Row.Row}}
-use Rattle.sync_survey.specs.{Runs.{blocks_of, run}, Start.front_end_of, Survey.AreLaid}
-use Rattle.sync_survey.specs.{Walk.head_of, declared.items.Item.{Item, TheVariants.Frame}}
-use Rattle.sync_survey.specs.declared.places.{Head.Head, Piece.Piece, PlacedFrame.PlacedFrame}
+use Rattle.sync_survey.proofs.ItemsLaws.{header_front-in_range, stands-at}
+use Rattle.sync_survey.{proofs.RunsLaws.{IsItemOf, run-ends}, specs.HeadApart.emptied}
+use Rattle.sync_survey.specs.{MainData.head_area, Row.Row, Runs.{blocks_of, run}}
+use Rattle.sync_survey.specs.{Start.front_end_of, Survey.AreLaid, Walk.head_of}
+use Rattle.sync_survey.specs.declared.{items.Item.{Item, TheVariants.Frame}, places.Head.Head}
+use Rattle.sync_survey.specs.declared.places.{Piece.Piece, PlacedFrame.PlacedFrame}
 use Rattle.sync_survey.specs.declared.{rows.Before.Before, runs.Part.TheVariants.{Front, Stream}}
 
 -- ---- the first frame
@@ -63,24 +65,19 @@ module _ (file : List ℕ) where
   runs-paired head ts = subst ArePaired (sym (runs-left file head ts))
       (left-paired (record { place = head_area head; ended = 0 }) ts)
 
-  row-whole : (r : Row) (lost : Bool) → IsHeader r.header
-      → r.offset + length_of (class_of r.header) r.header.slot ≤ length file → HasPairs r.side
-      → IsWholeRow file (cond lost (empty_row r) r)
-  row-whole r true known within pairs = record {
-    frame = record { header = known; within = within };
-    pairs = record { scfsi = refl; granules = refl; first = refl; second = refl };
-  }
-  row-whole r false known within pairs =
-      record { frame = record { header = known; within = within }; pairs = pairs }
-
   rows-whole : (class : ClassFields) (from to : ℕ) (rows : List Row) → to ≤ length file
       → AreOfClass class rows → AreLaid from rows to → ArePaired rows
-      → AreWholeRows file (map mended_row rows)
+      → AreWholeRows file rows
   rows-whole class from to [] within are laid pairs = tt
   rows-whole class from to (r ∷ rows) within are laid pairs =
       let size = length_of (class_of r.header) r.header.slot in (
-        row-whole r r.lost are.0
-            (omega (arith, within, laid-behind (r.offset + size) to rows laid.2)) pairs.0,
+        record {
+          frame = record {
+            header = are.0;
+            within = omega (arith, within, laid-behind (r.offset + size) to rows laid.2);
+          };
+          pairs = pairs.0;
+        },
         rows-whole class (r.offset + size) to rows within are.2 laid.2 pairs.1,
       )
 
@@ -136,7 +133,7 @@ module _ (file : List ℕ) where
 
   begun-had : (front_end : ℕ) (first : PlacedFrame) → IsWholeAt file first.offset first.header
       → IsLaidOut (damaged_from file front_end first)
-      → HasSurvey file (mended (damaged_from file front_end first).survey)
+      → HasSurvey file (emptied (damaged_from file front_end first).survey)
   unfolding damaged_from
   begun-had front_end first whole laid =
       let head = head_of file first in
@@ -144,17 +141,18 @@ module _ (file : List ℕ) where
       record {
         long = refl;
         head = head-whole file first whole;
-        rows = rows-whole (class_of first.header) first.offset (length file) rows
-            (omega arith) laid.class laid.frames (runs-paired head (things_from file first));
+        rows = emptied_whole file rows (rows-whole (class_of first.header) first.offset
+            (length file) rows (omega arith) laid.class laid.frames
+            (runs-paired head (things_from file first)));
         placed = (survey-mended (damaged_from file front_end first) laid).placed;
         blocks = all-blocks first;
       }
 
 -- what is left of a damaged file is in the file as its survey says
 pub damaged-had : (file : List ℕ) (d : DamagedFields) → damaged file ≡ Ok d → IsLaidOut d
-    → HasSurvey file (mended d.survey)
+    → HasSurvey file (emptied d.survey)
 damaged-had file d e laid =
     let is = damaged-from file d e in
-    subst (λ (c : DamagedFields). HasSurvey file (mended c.survey)) is.same
+    subst (λ (c : DamagedFields). HasSurvey file (emptied c.survey)) is.same
     (begun-had file (front_end_of file) is.first (first-whole file
     (front_end_of file) is.first is.first_is) (subst IsLaidOut (sym is.same) laid))

@@ -5,15 +5,15 @@ use Rattle.std.specs.{List.enumerate_from, Prelude.{flat_map, slice_range}}
 use Rattle.cut_edits.proofs.ChosenLaws.{chosen-holds}
 use Rattle.cut_edits.specs.Chosen.{chosen_file, chosen_stream, plan_of}
 use Rattle.laying.{proofs.PlacesLaws.range-whole, specs.Relaid.with_lead_ins}
-use Rattle.salvage.proofs.MendedLaws.{empty_row, place-same, survey-mended}
-use Rattle.salvage.proofs.StreamLaws.{payload_none, stream-told}
-use Rattle.salvage.specs.{Damaged.{damaged, DamagedFields}, Mended.{mended, mended_row}}
-use Rattle.salvage.specs.{Progress.IsLaidOut, Stream.salvaged_stream}
+use Rattle.salvage.proofs.{MendedLaws.survey-mended, StreamLaws.{payload_none, stream-told}}
+use Rattle.salvage.specs.{Damaged.{damaged, DamagedFields}, Progress.IsLaidOut}
+use Rattle.salvage.specs.Stream.{salvaged_stream}
 use Rattle.salvage_edits.proofs.HadLaws.{damaged-had}
 use Rattle.salvage_edits.specs.Salvaged.{all_of, left_stream, salvaged_file}
 use Rattle.side_info.specs.{Side.no_side, declared.side.Side.Side}
-use Rattle.sync_survey.proofs.SurveyParts.{stream-length}
+use Rattle.sync_survey.proofs.{EmptiedLaws.{empty_row, place-same}, SurveyParts.stream-length}
 use Rattle.sync_survey.specs.Faults.{HoldsStream, stream_of_survey, SurveyFields}
+use Rattle.sync_survey.specs.HeadApart.{emptied, emptied_row}
 use Rattle.sync_survey.specs.MainData.{area_bytes, head_bytes, main_bytes, no_slot, part_lengths}
 use Rattle.sync_survey.specs.MainData.{parts_of, payload_at, place, side_of, start_of_data}
 use Rattle.sync_survey.specs.{MainData.{stream_frame, stream_frames, StreamFrame}, Row.Row}
@@ -49,18 +49,18 @@ frame-by main at r true is =
     }) (sym none)
 
 frames-same : (main : List ℕ) (head : Option Head) (rows : List Row) (n : ℕ) (more : List Row)
-    → map (λ (p : ℕ × Row). stream_frame main head (map mended_row rows) p.0 p.1)
-    (enumerate_from n (map mended_row more))
+    → map (λ (p : ℕ × Row). stream_frame main head (map emptied_row rows) p.0 p.1)
+    (enumerate_from n (map emptied_row more))
     ≡ map (λ (p : ℕ × Row). stream_frame main head rows p.0 p.1) (enumerate_from n more)
 frames-same main head rows n [] = refl
 frames-same main head rows n (r ∷ more) =
     ap₂ (λ (f : StreamFrame) (l : List StreamFrame). f ∷ l)
-    (ap (λ m. frame_at main m (mended_row r)) (place-same head rows n)
+    (ap (λ m. frame_at main m (emptied_row r)) (place-same head rows n)
     ∙ frame-by main (place head rows n) r r.lost refl)
     (frames-same main head rows (n + 1) more)
 
 areas-same : (file : List ℕ) (rows : List Row)
-    → flat_map (λ (r : Row). area_bytes file r.offset r.header) (map mended_row rows)
+    → flat_map (λ (r : Row). area_bytes file r.offset r.header) (map emptied_row rows)
     ≡ flat_map (λ (r : Row). area_bytes file r.offset r.header) rows
 areas-same file [] = refl
 areas-same file (r ∷ rows) = ap₂ (λ (a b : List ℕ). a ++ b) (area-by r.lost) (areas-same file rows)
@@ -72,16 +72,16 @@ areas-same file (r ∷ rows) = ap₂ (λ (a b : List ℕ). a ++ b) (area-by r.lo
     area-by false = refl
 
 main-same : (file : List ℕ) (head : Option Head) (rows : List Row)
-    → main_bytes file head (map mended_row rows) ≡ main_bytes file head rows
+    → main_bytes file head (map emptied_row rows) ≡ main_bytes file head rows
 unfolding main_bytes
 main-same file head rows = ap (λ (l : List ℕ). head_bytes file head ++ l) (areas-same file rows)
 
 stream-same : (file : List ℕ) (s : SurveyFields)
-    → stream_of_survey file (mended s) ≡ stream_of_survey file s
+    → stream_of_survey file (emptied s) ≡ stream_of_survey file s
 unfolding stream_of_survey stream_frames
 stream-same file s =
-    ap (λ main. map (λ (p : ℕ × Row). stream_frame main s.head (map mended_row s.frames) p.0 p.1)
-    (enumerate_from 0 (map mended_row s.frames))) (main-same file s.head s.frames)
+    ap (λ main. map (λ (p : ℕ × Row). stream_frame main s.head (map emptied_row s.frames) p.0 p.1)
+    (enumerate_from 0 (map emptied_row s.frames))) (main-same file s.head s.frames)
     ∙ frames-same (main_bytes file s.head s.frames) s.head s.frames 0 s.frames
 
 -- ---- all frames
@@ -95,7 +95,7 @@ whole-stream file s =
 
 module _ (file : List ℕ) (d : DamagedFields) (is : damaged file ≡ Ok d) (laid : IsLaidOut d) where
   abbrev own : SurveyFields
-  own = mended d.survey
+  own = emptied d.survey
 
   -- all frames that are laid are what is left of the file
   pub laid-left : slice_range (stream_of_survey file own) 0 (length own.frames)

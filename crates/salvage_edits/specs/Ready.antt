@@ -4,11 +4,11 @@ use Rattle.commands.specs.{One.{IsEarlyFault, IsOfInputs}, declared.fault.EditFa
 use Rattle.cut_edits.specs.{Chosen.IsSelected, Layable.IsLayable}
 use Rattle.laying.specs.NeedsFit.{own_choice}
 use Rattle.outside.specs.{Counts.OnlyReads, Files.Files, Seen.Seen}
-use Rattle.salvage.specs.{Damaged.{DamagedFields, IsReadOf}, Mended.{emptied_from, mended}}
+use Rattle.salvage.specs.{Damaged.{DamagedFields, IsReadOf}, Mended.emptied_from}
 use Rattle.salvage.specs.{Progress.IsLaidOut, declared.mended.Mended.Mended}
 use Rattle.salvage_edits.specs.{Salvaged.{all_of, salvage_task}, declared.report.Report.Report}
 use Rattle.salvage_edits.specs.declared.work.Work.{Work}
-use Rattle.sync_survey.specs.{Faults.tells, Survey.HoldsOctets}
+use Rattle.sync_survey.specs.{Faults.tells, HeadApart.emptied, Survey.HoldsOctets}
 
 -- What a call leaves that reads the input before the output is created: the files stay, and only
 -- reads are counted, and nothing where it succeeds; a fault is one of the input, or want of memory.
@@ -30,7 +30,7 @@ pub record IsMended (name : List ℕ) (files : Files) (m : Mended) : Type 0 wher
   pub of : DamagedFields
   pub read : IsReadOf name files of
   pub laid : IsLaidOut of
-  pub survey : tells m.survey ≡ mended of.survey
+  pub survey : tells m.survey ≡ emptied of.survey
   pub emptied : m.emptied.items ≡ emptied_from 0 of.survey.frames
   pub gaps : m.gaps.items ≡ of.gaps
 
@@ -42,7 +42,7 @@ pub record IsReady (input : List ℕ) (files : Files) (work : Work) : Type 0 whe
   pub read : IsReadOf input files of
   pub laid : IsLaidOut of
   pub layable : IsLayable input work.laid files
-  pub survey : tells work.laid.survey ≡ mended of.survey
+  pub survey : tells work.laid.survey ≡ emptied of.survey
   pub selected : IsSelected own_choice (all_of (tells work.laid.survey))
       (tells work.laid.survey) work.laid.selected
   pub unsaid : work.sending ≡ []

@@ -6,9 +6,9 @@ use Rattle.commands.specs.{Command.Command, One.{one_command, Task}, Telling.tel
 use Rattle.commands.specs.declared.fault.{EditFault.{EditFault, TheVariants.Input}, Refusal.Refusal}
 use Rattle.cut_edits.specs.Chosen.{Chosen, chosen_file, plan_of}
 use Rattle.laying.specs.Relaid.{with_lead_ins}
-use Rattle.salvage.specs.{Damaged.{damaged_of, DamagedFields}, Mended.mended}
-use Rattle.salvage.specs.{Stream.salvaged_stream, Text.salvage_text}
-use Rattle.sync_survey.specs.{Faults.SurveyFields, MainData.StreamFrame}
+use Rattle.salvage.specs.{Damaged.{damaged_of, DamagedFields}, Stream.salvaged_stream}
+use Rattle.salvage.specs.Text.{salvage_text}
+use Rattle.sync_survey.specs.{Faults.SurveyFields, HeadApart.emptied, MainData.StreamFrame}
 use Rattle.sync_survey.specs.declared.survey_fault.SurveyFault.{SurveyFault, TheVariants.Absent}
 
 -- ---- the file
@@ -20,12 +20,12 @@ all_of s = record { from = 0; to = length s.frames; quality = None; extension = 
 -- What is left, laid as a cut lays it: the ID3v2 blocks before the first frame, an Info frame, all
 -- frames, and all other blocks that were read. A frame whose main data can't be used has none.
 unfoldable pub salvaged_file : List ℕ → DamagedFields → List ℕ
-salvaged_file file d = chosen_file (all_of (mended d.survey)) file (mended d.survey)
+salvaged_file file d = chosen_file (all_of (emptied d.survey)) file (emptied d.survey)
 
 -- its stream: the lead-ins of the plan, and what is left of the file, run by run
 unfoldable pub left_stream : List ℕ → DamagedFields → List StreamFrame
 left_stream file d =
-    with_lead_ins (plan_of (all_of (mended d.survey)) (mended d.survey)) (salvaged_stream file)
+    with_lead_ins (plan_of (all_of (emptied d.survey)) (emptied d.survey)) (salvaged_stream file)
 
 -- ---- the command
 

@@ -78,28 +78,17 @@ area_more (x ∷ xs) (suc i) r is =
     sum_by-cons area x (take (suc i) xs) ∙ ap (λ m. area x + m) (area_more xs i r is) ∙ apart
     ∙ ap (λ m. m + area r) (sym (sum_by-cons area x (take i xs)))
 
-area_none : (xs : List Row) (i : ℕ) → slice_get xs i ≡ None
-    → sum_by (λ (q : Row). own_area q.header) (take (suc i) xs)
-    ≡ sum_by (λ (q : Row). own_area q.header) (take i xs)
-area_none [] zero is = refl
-area_none [] (suc i) is = refl
-area_none (x ∷ xs) zero is = absurd cc
-area_none (x ∷ xs) (suc i) is =
-    let area = λ (q : Row). own_area q.header in
-    sum_by-cons area x (take (suc i) xs) ∙ ap (λ m. area x + m) (area_none xs i is)
-    ∙ sym (sum_by-cons area x (take i xs))
-
 -- the place after a frame is its own area further on
 pub area-more : (rows : List Row) (i : ℕ) (r : Row) → slice_get rows i ≡ Some r
     → place None rows (suc i) ≡ place None rows i + own_area r.header
 unfolding place
 area-more rows i r is = omega (arith, area_more rows i r is)
 
--- past the last frame the place doesn't move
-pub area-none : (rows : List Row) (i : ℕ) → slice_get rows i ≡ None
-    → place None rows (suc i) ≡ place None rows i
+-- with the head the place is its area further on
+pub place-apart : (head : Option Head) (rows : List Row) (i : ℕ)
+    → place head rows i ≡ head_area head + place None rows i
 unfolding place
-area-none rows i is = omega (arith, area_none rows i is)
+place-apart head rows i = omega arith
 
 -- ---- with the head and without it
 
@@ -173,15 +162,12 @@ module _ (head : Option Head) (class : ClassFields) (rows : List Row)
   abbrev at : ℕ → ℕ
   at i = place None rows i
 
-  place_apart : (i : ℕ) → place head rows i ≡ area + at i
-  unfolding place
-  place_apart i = omega arith
-
   stands_at : (i : ℕ) (r : Row) → slice_get rows i ≡ Some r
       → lacks_data (area + at i) (end_before head rows i) r ≡ false
       → Stands (area + at i) (end_before head rows i) r
   stands_at i r found kept =
-      let sound = subst (λ n. data_faults n (end_before head rows i) r ≡ []) (place_apart i)
+      let sound =
+      subst (λ n. data_faults n (end_before head rows i) r ≡ []) (place-apart head rows i)
       (placed i r found).sound in
       stands_by (area + at i) (end_before head rows i) r
       (data-none_well (area + at i) (end_before head rows i) r sound kept)
@@ -199,7 +185,8 @@ module _ (head : Option Head) (class : ClassFields) (rows : List Row)
   less_at zero = omega arith
   less_at (suc i) =
       subst (λ n. end_behind (at i) (end_before None rows i) (slice_get rows i)
-      ≤ end_behind n (end_before head rows i) (slice_get rows i) - area) (sym (place_apart i))
+      ≤ end_behind n (end_before head rows i) (slice_get rows i) - area)
+      (sym (place-apart head rows i))
       (less_next i (slice_get rows i) refl (less_at i))
 
   lost_far : (i : ℕ) (r : Row) → slice_get rows i ≡ Some r → at i < r.side.main_data_begin
@@ -218,7 +205,7 @@ module _ (head : Option Head) (class : ClassFields) (rows : List Row)
   or_same i r found true is =
       let had = lacks_parts (place head rows i) (end_before head rows i) r
       (sym (placed i r found).mark ∙ is) in
-      sym (lost_far i r found (omega (arith, had.far, place_apart i)))
+      sym (lost_far i r found (omega (arith, had.far, place-apart head rows i)))
   or_same i r found false is = refl
 
   placed_apart : (i : ℕ) (r : Row) → slice_get rows i ≡ Some r

@@ -9,7 +9,7 @@ use Rattle.std.{proofs.lemmas.Option.slice_get-map, specs.List.enumerate_from}
 use Rattle.frame_header.specs.{Fields.{ClassFields, IsHeader}, Tables.{class_of, length_of}}
 use Rattle.side_info.proofs.SideLaws.{SideFits-no_side}
 use Rattle.side_info.specs.Side.{no_side, payload_bits, payload_bytes, SideFits}
-use Rattle.sync_survey.proofs.ApartLaws.{area-more, area-none, placed-apart, sound-by, Stands}
+use Rattle.sync_survey.proofs.ApartLaws.{area-more, place-apart, placed-apart, sound-by, Stands}
 use Rattle.sync_survey.proofs.{ApartLaws.stands_by, SurveyParts.data-none_well}
 use Rattle.sync_survey.specs.Faults.{data_faults, SurveyFields}
 use Rattle.sync_survey.specs.HeadApart.{apart_row, apart_rows, emptied, emptied_row, head_apart}
@@ -47,62 +47,61 @@ pub no_bytes : payload_bytes no_side ≡ 0
 unfolding payload_bytes payload_bits
 no_bytes = refl
 
--- What is so before an area of the file, and before the same area among those that were counted
--- at first: `ended` and `other` are where the main data end, and the latter no further on.
-module _ (more at ended other : ℕ) (r : Row) (less : other ≤ more + ended) (before : ended ≤ at)
-    (mark : r.lost ≡ lacks_data at ended r)
-    (well : lacks_data at ended r ≡ false → Stands at ended r) where
-  stands_emptied_by : (lost : Bool) → r.lost ≡ lost → Stands (more + at) other (emptied_row r)
+-- A frame among frames that may be lost. Its header is of the standard and of the class, and its
+-- side fields are within their bits. The main data that are kept before it end before its own
+-- area; those of a frame that isn't lost begin after them and end within that area, and where
+-- those kept then end is no further on than `behind`.
+pub record IsKept (class : ClassFields) (place ended behind : ℕ) (r : Row) : Type 0 where
+  pub known : IsHeader r.header
+  pub class_is : class_of r.header ≡ class
+  pub fits : SideFits class r.side
+  pub before : ended ≤ place
+  pub stands : r.lost ≡ false → Stands place ended r
+  pub goes : cond (r.lost || is_silent r) ended (end_of_data place r) ≤ behind
+
+-- What is so of it as an empty frame if it is lost, where the
+-- main data before it end no further on than those that were kept.
+module _ (class : ClassFields) (at ended behind other : ℕ) (r : Row)
+    (kept : IsKept class at ended behind r) (less : other ≤ ended) where
+  stands_emptied_by : (lost : Bool) → r.lost ≡ lost → Stands at other (emptied_row r)
   stands_emptied_by true is =
-      subst (Stands (more + at) other) (sym (emptied_true r is)) (record {
+      subst (Stands at other) (sym (emptied_true r is)) (record {
         begins = omega arith;
-        apart = omega (arith, less, before);
+        apart = omega (arith, less, kept.before);
         within = omega (arith, no_bytes);
       })
   stands_emptied_by false is =
-      let stands = well (sym mark ∙ is) in
-      subst (Stands (more + at) other) (sym (emptied_false r is)) (record {
-        begins = omega (arith, stands.begins);
-        apart = omega (arith, less, stands.apart, stands.begins);
-        within = omega (arith, stands.within, stands.begins);
+      let stands = kept.stands is in
+      subst (Stands at other) (sym (emptied_false r is)) (record {
+        begins = stands.begins;
+        apart = omega (arith, less, stands.apart);
+        within = stands.within;
       })
 
-  stands_emptied : Stands (more + at) other (emptied_row r)
+  stands_emptied : Stands at other (emptied_row r)
   stands_emptied = stands_emptied_by r.lost refl
 
-  none_lost : lacks_data (more + at) other (emptied_row r) ≡ false
-  none_lost = and_right (other == 0) (points_too_far (more + at) (emptied_row r))
-      (le-ltb (more + at) (emptied_row r).side.main_data_begin stands_emptied.begins)
+  none_lost : lacks_data at other (emptied_row r) ≡ false
+  none_lost = and_right (other == 0) (points_too_far at (emptied_row r))
+      (le-ltb at (emptied_row r).side.main_data_begin stands_emptied.begins)
 
   kept_by : (lost : Bool) → r.lost ≡ lost → (emptied_row r).lost ≡ false
   kept_by true is = ap (λ (q : Row). q.lost) (emptied_true r is)
   kept_by false is = ap (λ (q : Row). q.lost) (emptied_false r is) ∙ is
 
-  abbrev Goes : (behind other_behind : ℕ) → Type 0
-  Goes behind other_behind = (other_behind ≤ more + behind) × (behind ≤ at + own_area r.header)
+  unmarked : (emptied_row r).lost ≡ lacks_data at other (emptied_row r)
+  unmarked = kept_by r.lost refl ∙ sym none_lost
 
   goes_by : (silent lost : Bool) → is_silent r ≡ silent → r.lost ≡ lost
-      → Goes (cond (silent || lost) ended (end_of_data at r))
-      (cond (is_silent (emptied_row r) || false) other (end_of_data (more + at) (emptied_row r)))
-  goes_by silent true is lost =
-      rw (emptied_true r lost, no_bits) (both_empty silent)
-    where
-      both_empty : (silent : Bool) → Goes (cond (silent || true) ended (end_of_data at r)) other
-      both_empty true = (less, omega (arith, before))
-      both_empty false = (less, omega (arith, before))
-  goes_by true false is lost = rw (emptied_false r lost, is) (less, omega (arith, before))
-  goes_by false false is lost =
-      let stands = well (sym mark ∙ lost) in
-      rw (emptied_false r lost, is) (omega (arith, stands.begins), omega (arith, stands.within))
+      → cond (lost || silent) ended (end_of_data at r) ≤ behind
+      → cond (is_silent (emptied_row r) || false) other (end_of_data at (emptied_row r)) ≤ behind
+  goes_by silent true is lost le = rw (emptied_true r lost, no_bits) (omega (arith, less, le))
+  goes_by true false is lost le = rw (emptied_false r lost, is) (omega (arith, less, le))
+  goes_by false false is lost le = rw (emptied_false r lost, is) le
 
-  goes : Goes (end_behind at ended (Some r)) (end_behind (more + at) other (Some (emptied_row r)))
-  goes =
-      subst (λ b. Goes (cond (is_silent r || b) ended (end_of_data at r))
-      (end_behind (more + at) other (Some (emptied_row r)))) mark
-      (subst (λ b. Goes (cond (is_silent r || r.lost) ended (end_of_data at r))
-      (cond (is_silent (emptied_row r) || b) other (end_of_data (more + at) (emptied_row r))))
-      (sym none_lost)
-      (goes_by (is_silent r) r.lost refl refl))
+  goes : end_behind at other (Some (emptied_row r)) ≤ behind
+  goes = subst (λ b. cond (is_silent (emptied_row r) || b) other (end_of_data at (emptied_row r))
+      ≤ behind) (sym none_lost) (goes_by (is_silent r) r.lost refl refl kept.goes)
 
 -- the side information of a frame still fits, whether or not it was emptied
 pub fits_by : (class : ClassFields) (r : Row) (lost : Bool) → r.lost ≡ lost → SideFits class r.side
@@ -129,83 +128,134 @@ areas_same (r ∷ rows) =
     sum_by-cons area (emptied_row r) (map emptied_row rows) ∙ ap₂ (λ h n. own_area h + n)
     (header_by r.lost r) (areas_same rows) ∙ sym (sum_by-cons area r rows)
 
+-- the place of each frame's main data is the same with empty frames
+pub place-same : (head : Option Head) (rows : List Row) (i : ℕ)
+    → place head (map emptied_row rows) i ≡ place head rows i
+unfolding place
+place-same head rows i =
+    ap (λ l. head_area head + sum_by (λ (q : Row). own_area q.header) l)
+    (take-map emptied_row i rows) ∙ ap (λ n. head_area head + n) (areas_same (take i rows))
+
+earlier : (rows : List Row) (i : ℕ) (r : Row) → slice_get rows (suc i) ≡ Some r
+    → (q : Row) × (slice_get rows i ≡ Some q)
+earlier [] i r found = absurd cc
+earlier (x ∷ rows) zero r found = (x, refl)
+earlier (x ∷ rows) (suc i) r found = earlier rows i r found
+
+-- Frames of which each is kept, by where the main data that are kept before it end.
+module _ (head : Option Head) (class : ClassFields) (rows : List Row) (ended : ℕ → ℕ)
+    (kept : (i : ℕ) (r : Row) → slice_get rows i ≡ Some r
+    → IsKept class (place head rows i) (ended i) (ended (suc i)) r) where
+  abbrev other : ℕ → ℕ
+  other i = end_before head (map emptied_row rows) i
+
+  less_at : (i : ℕ) (r : Row) → slice_get rows i ≡ Some r → other i ≤ ended i
+  unfolding end_before
+  less_at zero r found = omega arith
+  less_at (suc i) r found =
+      let own = earlier rows i r found in
+      subst (λ n. end_behind n (other i) (slice_get (map emptied_row rows) i) ≤ ended (suc i))
+      (sym (place-same head rows i))
+      (subst (λ o. end_behind (place head rows i) (other i) o ≤ ended (suc i))
+      (sym (slice_get-map emptied_row rows i ∙ ap (option_map emptied_row) own.1))
+      (goes class (place head rows i) (ended i) (ended (suc i)) (other i) own.0
+      (kept i own.0 own.1) (less_at i own.0 own.1)))
+
+  placed_at : (i : ℕ) (r : Row) → slice_get rows i ≡ Some r
+      → IsWellPlaced head class (map emptied_row rows) i (emptied_row r)
+  placed_at i r found =
+      let is = kept i r found in
+      let less = less_at i r found in
+      let at = place head rows i in
+      record {
+        known = subst IsHeader (sym (header_by r.lost r)) is.known;
+        class_is = ap class_of (header_by r.lost r) ∙ is.class_is;
+        fits = fits_by class r r.lost refl is.fits;
+        mark = unmarked class at (ended i) (ended (suc i)) (other i) r is less
+            ∙ ap (λ n. lacks_data n (other i) (emptied_row r)) (sym (place-same head rows i));
+        sound = ap (λ n. data_faults n (other i) (emptied_row r)) (place-same head rows i)
+            ∙ sound-by at (other i) (emptied_row r)
+            (lacks_data at (other i) (emptied_row r)) refl
+            (λ none. stands_emptied class at (ended i) (ended (suc i)) (other i) r is less);
+      }
+
+  -- with lost frames as empty ones they are well placed
+  pub placed-kept : AreWellPlaced head class (map emptied_row rows)
+  placed-kept i q found =
+      let own = some_row (slice_get rows i) q (sym (slice_get-map emptied_row rows i) ∙ found) in
+      subst (IsWellPlaced head class (map emptied_row rows) i) own.2 (placed_at i own.0 own.1)
+
 -- Frames that are well placed without a head.
 module _ (head : Option Head) (class : ClassFields) (rows : List Row)
     (placed : AreWellPlaced None class rows) where
   abbrev at : ℕ → ℕ
   at i = place None rows i
 
+  abbrev ended : ℕ → ℕ
+  ended i = end_before None rows i
+
   abbrev more : ℕ
   more = head_area head
 
-  place_emptied : (i : ℕ) → place head (map emptied_row rows) i ≡ more + at i
-  unfolding place
-  place_emptied i =
-      let area = λ (q : Row). own_area q.header in
-      let same : sum_by area (take i (map emptied_row rows)) ≡ sum_by area (take i rows) =
-      ap (sum_by area) (take-map emptied_row i rows) ∙ areas_same (take i rows) in
-      omega (arith, same)
+  stands_at : (i : ℕ) (r : Row) → slice_get rows i ≡ Some r → r.lost ≡ false
+      → Stands (at i) (ended i) r
+  stands_at i r found kept = stands_by (at i) (ended i) r
+      (data-none_well (at i) (ended i) r (placed i r found).sound
+      (sym (placed i r found).mark ∙ kept))
 
-  stands_at : (i : ℕ) (r : Row) → slice_get rows i ≡ Some r
-      → lacks_data (at i) (end_before None rows i) r ≡ false
-      → Stands (at i) (end_before None rows i) r
-  stands_at i r found kept = stands_by (at i) (end_before None rows i) r
-      (data-none_well (at i) (end_before None rows i) r (placed i r found).sound kept)
+  -- where the main data end after it, with so many bytes before the first area and without them
+  ends_by : (at ended : ℕ) (r : Row) (silent lost : Bool) → ended ≤ at
+      → (lost ≡ false → Stands at ended r)
+      → (cond (lost || silent) (more + ended) (end_of_data (more + at) r)
+      ≤ more + cond (silent || lost) ended (end_of_data at r))
+      × (cond (silent || lost) ended (end_of_data at r) ≤ at + own_area r.header)
+  ends_by at ended r false false before well = let stands = well refl in
+      (omega (arith, stands.begins), stands.within)
+  ends_by at ended r true true before well = (omega arith, omega (arith, before))
+  ends_by at ended r true false before well = (omega arith, omega (arith, before))
+  ends_by at ended r false true before well = (omega arith, omega (arith, before))
 
-  abbrev GoesTo : (at ended other : ℕ) → Type 0
-  GoesTo at ended other = (other ≤ more + ended) × (ended ≤ at)
-
-  goes_next : (i : ℕ) (o : Option Row) → slice_get rows i ≡ o
-      → GoesTo (at i) (end_before None rows i) (end_before head (map emptied_row rows) i)
-      → GoesTo (at (suc i)) (end_behind (at i) (end_before None rows i) o) (end_behind (more + at i)
-      (end_before head (map emptied_row rows) i) (option_map emptied_row o))
-  goes_next i None found to = (to.0, omega (arith, to.1, area-none rows i found))
-  goes_next i (Some r) found to =
-      let next = goes more (at i) (end_before None rows i) (end_before head
-      (map emptied_row rows) i) r to.0 to.1 (placed i r found).mark (stands_at i r found) in
-      (next.0, omega (arith, next.1, area-more rows i r found))
-
-  goes_at : (i : ℕ)
-      → GoesTo (at i) (end_before None rows i) (end_before head (map emptied_row rows) i)
+  ends_at : (i : ℕ) (r : Row) → slice_get rows i ≡ Some r → ended i ≤ at i
+      → (cond (r.lost || is_silent r) (more + ended i) (end_of_data (more + at i) r)
+      ≤ more + ended (suc i)) × (ended (suc i) ≤ at (suc i))
   unfolding end_before
-  goes_at zero = (omega arith, omega arith)
-  goes_at (suc i) =
-      subst (λ n. GoesTo (at (suc i)) (end_behind (at i) (end_before None rows i)
-      (slice_get rows i)) (end_behind n (end_before head (map emptied_row rows) i)
-      (slice_get (map emptied_row rows) i))) (sym (place_emptied i))
-      (subst (λ o. GoesTo (at (suc i)) (end_behind (at i) (end_before None rows i)
-      (slice_get rows i)) (end_behind (more + at i) (end_before head (map emptied_row rows) i) o))
-      (sym (slice_get-map emptied_row rows i))
-      (goes_next i (slice_get rows i) refl (goes_at i)))
+  ends_at i r found before =
+      let ends = ends_by (at i) (ended i) r (is_silent r) r.lost before (stands_at i r found) in
+      let same : ended (suc i) ≡ cond (is_silent r || r.lost) (ended i) (end_of_data (at i) r) =
+      ap (end_behind (at i) (ended i)) found
+      ∙ ap (λ b. cond (is_silent r || b) (ended i) (end_of_data (at i) r))
+      (sym (placed i r found).mark) in
+      (omega (arith, ends.0, same), omega (arith, ends.1, same, area-more rows i r found))
 
-  placed_at : (i : ℕ) (r : Row) → slice_get rows i ≡ Some r
-      → IsWellPlaced head class (map emptied_row rows) i (emptied_row r)
-  placed_at i r found =
+  before_at : (i : ℕ) (r : Row) → slice_get rows i ≡ Some r → ended i ≤ at i
+  unfolding end_before
+  before_at zero r found = omega arith
+  before_at (suc i) r found = let own = earlier rows i r found in
+      (ends_at i own.0 own.1 (before_at i own.0 own.1)).1
+
+  kept_at : (i : ℕ) (r : Row) → slice_get rows i ≡ Some r
+      → IsKept class (more + at i) (more + ended i) (more + ended (suc i)) r
+  kept_at i r found =
       let is = placed i r found in
-      let to = goes_at i in
-      let other = end_before head (map emptied_row rows) i in
-      let stands = stands_emptied more (at i)
-      (end_before None rows i) other r to.0 to.1 is.mark (stands_at i r found) in
-      let kept = none_lost more (at i)
-      (end_before None rows i) other r to.0 to.1 is.mark (stands_at i r found) in
-      let unmarked = kept_by more (at i)
-      (end_before None rows i) other r to.0 to.1 is.mark (stands_at i r found) r.lost refl in
+      let before = before_at i r found in
       record {
-        known = subst IsHeader (sym (header_by r.lost r)) is.known;
-        class_is = ap class_of (header_by r.lost r) ∙ is.class_is;
-        fits = fits_by class r r.lost refl is.fits;
-        mark = unmarked ∙ sym kept
-            ∙ ap (λ n. lacks_data n other (emptied_row r)) (sym (place_emptied i));
-        sound = ap (λ n. data_faults n other (emptied_row r)) (place_emptied i)
-            ∙ sound-by (more + at i) other (emptied_row r)
-            (lacks_data (more + at i) other (emptied_row r)) refl (λ none. stands);
+        known = is.known;
+        class_is = is.class_is;
+        fits = is.fits;
+        before = omega (arith, before);
+        stands = λ kept. let stands = stands_at i r found kept in record {
+          begins = omega (arith, stands.begins);
+          apart = omega (arith, stands.apart, stands.begins);
+          within = omega (arith, stands.within, stands.begins);
+        };
+        goes = (ends_at i r found before).0;
       }
 
   -- with lost frames as empty ones they are well placed with a head too
   pub placed-emptied : AreWellPlaced head class (map emptied_row rows)
-  placed-emptied i q found =
-      let own = some_row (slice_get rows i) q (sym (slice_get-map emptied_row rows i) ∙ found) in
-      subst (IsWellPlaced head class (map emptied_row rows) i) own.2 (placed_at i own.0 own.1)
+  placed-emptied = placed-kept head class rows (λ i. more + ended i) (λ i r found.
+      subst (λ n. IsKept class n (more + ended i) (more + ended (suc i)) r)
+      (sym (place-apart head rows i)) (kept_at i r found))
 
 -- ---- the survey
 
@@ -239,7 +289,9 @@ unfolding apart_rows
 laid_apart None from to rows laid = laid
 laid_apart (Some head) from to rows laid = laid_from rows 0 from to rows laid
 
-length_apart : (head : Option Head) (rows : List Row) → length (set_apart head rows) ≡ length rows
+-- frames that are set apart are as many
+pub length_apart : (head : Option Head) (rows : List Row)
+    → length (set_apart head rows) ≡ length rows
 unfolding apart_rows
 length_apart None rows = refl
 length_apart (Some head) rows =

@@ -11,14 +11,14 @@ use Rattle.laying.{proofs.PlacesLaws.range-whole, specs.{Needs.need_of, NeedsFit
 use Rattle.laying.specs.{Relaid.with_lead_ins, Surveys.HasSurvey}
 use Rattle.salvage.proofs.{LaidOutLaws.{damaged_of-is, read-laid}, MendedLaws.survey-mended}
 use Rattle.salvage.proofs.StreamLaws.{payload_none, tells_streams}
-use Rattle.salvage.specs.{Damaged.{damaged, damaged_of, DamagedFields}, Mended.mended}
-use Rattle.salvage.specs.{Progress.IsLaidOut, Stream.salvaged_stream}
+use Rattle.salvage.specs.{Damaged.{damaged, damaged_of, DamagedFields}, Progress.IsLaidOut}
+use Rattle.salvage.specs.Stream.{salvaged_stream}
 use Rattle.salvage_edits.proofs.{CommandLaws.read-where, HadLaws.damaged-had, StreamLaws.laid-left}
 use Rattle.salvage_edits.specs.Salvaged.{all_of, left_stream, salvage_command, salvage_task}
 use Rattle.salvage_edits.specs.Salvaged.{stream_by, stream_where, text_where}
 use Rattle.side_info.specs.{Side.no_side, declared.side.Side.Side}
 use Rattle.slot_plan.specs.Plans.{IsPlan}
-use Rattle.sync_survey.specs.Faults.{stream_of_survey, SurveyFields}
+use Rattle.sync_survey.specs.{Faults.{stream_of_survey, SurveyFields}, HeadApart.emptied}
 use Rattle.sync_survey.specs.MainData.{main_bytes, part_lengths, parts_of, payload_at, place}
 use Rattle.sync_survey.specs.MainData.{side_of, start_of_data, stream_frame, stream_frames}
 use Rattle.sync_survey.specs.{MainData.StreamFrame, Row.Row, declared.places.Head.Head}
@@ -29,7 +29,7 @@ use Rattle.theorems.specs.Laws.{SalvagedPlansAreFirst, SalvagedStreamsAreExact}
 
 module _ (file : List ℕ) (d : DamagedFields) (read : damaged_of file ≡ Ok d) where
   abbrev own : SurveyFields
-  own = mended d.survey
+  own = emptied d.survey
 
   whole : damaged file ≡ Ok d
   whole = (damaged_of-is file d read).1

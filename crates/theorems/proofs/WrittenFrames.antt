@@ -34,7 +34,7 @@ use Rattle.outside.specs.Files.{Contents}
 use Rattle.pack_edits.proofs.ModeLaws.{planning}
 use Rattle.pack_edits.specs.Modes.{pack_mode_command, pack_task, plan_by}
 use Rattle.requests.specs.declared.mode.PackMode.{PackMode}
-use Rattle.salvage.specs.{Damaged.{damaged_of, DamagedFields}, Mended.mended}
+use Rattle.salvage.specs.Damaged.{damaged_of, DamagedFields}
 use Rattle.salvage_edits.specs.Salvaged.{all_of, made_by as read_made_by, made_where as read_made}
 use Rattle.salvage_edits.specs.Salvaged.{salvage_command, salvage_task, salvaged_file, text_where}
 use Rattle.split_edits.proofs.{CommandLaws.first-parts, PartsLaws.split-parts}
@@ -42,7 +42,7 @@ use Rattle.split_edits.specs.Cutting.{Cutting, laid_at, laid_from, pieces_from, 
 use Rattle.split_edits.specs.Cutting.{with_first}
 use Rattle.split_edits.specs.Split.{frames_between as between_laid, given, given_exact, told_by}
 use Rattle.split_edits.specs.Split.{told_exact_by}
-use Rattle.sync_survey.specs.{Faults.SurveyFields, Row.Row, Survey.survey_of}
+use Rattle.sync_survey.specs.{Faults.SurveyFields, HeadApart.emptied, Row.Row, Survey.survey_of}
 use Rattle.sync_survey.specs.declared.survey_fault.SurveyFault.{SurveyFault}
 use Rattle.theorems.proofs.{ChosenCase.packed-made, JoinCase.{join-plan, parts-join}}
 use Rattle.theorems.proofs.SalvageCase.{left-had, left-some}
@@ -234,7 +234,7 @@ left-stays : (file : List ℕ) (d : DamagedFields) → damaged_of file ≡ Ok d
     → LosesNoFrame (salvaged_file file d)
 unfolding salvaged_file chosen_file
 left-stays file d read =
-    let own = mended d.survey in
+    let own = emptied d.survey in
     let had = left-had file d read in
     let some = left-some file d read in
     laid-loses-none (laid_of (all_of own) own) file own had some (omega arith)

@@ -19,15 +19,14 @@ use Rattle.laying.specs.Relaid.{AreParts, needs_in, Part, stream_in, with_lead_i
 use Rattle.outside.specs.Files.{Contents}
 use Rattle.pack_edits.specs.Modes.{pack_mode_command, plan_by}
 use Rattle.requests.specs.declared.{mode.PackMode.PackMode, shift.Shift.Shift}
-use Rattle.salvage.specs.{Damaged.{damaged_of, DamagedFields}, Mended.mended}
-use Rattle.salvage.specs.Stream.{salvaged_stream}
+use Rattle.salvage.specs.{Damaged.{damaged_of, DamagedFields}, Stream.salvaged_stream}
 use Rattle.salvage_edits.specs.Salvaged.{all_of, left_stream, salvage_command}
 use Rattle.seam_plan.specs.{Frames.needs_of as run_needs, Seams.run_of}
 use Rattle.side_info.specs.Side.{no_side}
 use Rattle.slot_plan.specs.{Plans.IsPlan, declared.needs.Placed.Placed}
 use Rattle.split_edits.specs.Split.{split_at_command, split_by_command, split_exact_at_command}
 use Rattle.split_edits.specs.Split.{split_exact_by_command}
-use Rattle.sync_survey.specs.Faults.{stream_of, SurveyFields}
+use Rattle.sync_survey.specs.{Faults.{stream_of, SurveyFields}, HeadApart.emptied}
 use Rattle.sync_survey.specs.{MainData.{no_slot, part_lengths, parts_of, StreamFrame}, Row.Row}
 use Rattle.sync_survey.specs.Survey.{survey_of}
 use Rattle.theorems.specs.{Chosen.{AllConsistOf, chosen_of}, Exact.IsExactly}
@@ -102,8 +101,8 @@ SalvagedStreamsAreExact = (file : List ℕ) (d : DamagedFields) → damaged_of f
 abbrev pub SalvagedPlansAreFirst : Type 0
 SalvagedPlansAreFirst =
     (file : List ℕ) (d : DamagedFields) → damaged_of file ≡ Ok d
-    → IsPlan (window_of d.survey.class.version) own_choice (map need_of (mended d.survey).frames
-    ∷ []) (plan_of (all_of (mended d.survey)) (mended d.survey))
+    → IsPlan (window_of d.survey.class.version) own_choice (map need_of (emptied d.survey).frames
+    ∷ []) (plan_of (all_of (emptied d.survey)) (emptied d.survey))
 
 -- Of a frame that is read this is left: its header, and its side
 -- information, or no side information and no main data if it isn't sound.

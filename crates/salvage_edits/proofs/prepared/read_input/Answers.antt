@@ -2,10 +2,10 @@
 use Rattle.std.proofs.{Common.{ap, ap₂, arith, length, subst, sym}, lemmas.List.length-map}
 use Rattle.commands.specs.One.{IsEarlyFault, IsOfInputs}
 use Rattle.outside.specs.Seen.{seen}
-use Rattle.salvage.specs.{Damaged.tells_of, Mended.mended_row}
+use Rattle.salvage.specs.Damaged.{tells_of}
 use Rattle.salvage_edits.proofs.CommandLaws.{early-fault, early-memory, early-numbers}
 use Rattle.salvage_edits.specs.Salvaged.{salvage_task}
-use Rattle.sync_survey.specs.Faults.{SurveyFields}
+use Rattle.sync_survey.specs.{Faults.SurveyFields, HeadApart.emptied_row}
 use Rattle.salvage_edits.proofs.prepared.read_input.Goals as goal
 
 pub returns-in-Err-clause-reads : goal.returns-in-Err-clause-reads
@@ -43,6 +43,6 @@ returns-in-Ok-mend-clause-few g c =
     omega (
       arith,
       ap (λ (s : SurveyFields). length s.frames) c.in-Ok-mend.ensures.survey,
-      length-map frames mended_row,
+      length-map frames emptied_row,
       c.in-Ok.ensures.laid.few,
     )
