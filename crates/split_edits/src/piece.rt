@@ -1,5 +1,5 @@
 //! Pieces that are ready to be written.
-ghost use Rattle.std.specs.Prelude.{◌≡◌, ◌⊎◌, ◌+◌, ◌≤◌, List, ℕ, length, map, Ok, Err, IfOk, MatchResult, string_bytes};
+ghost use Rattle.std.specs.Prelude.{◌≡◌, ◌⊎◌, ◌+◌, ◌≤◌, List, ℕ, length, map, Ok, Err, IfOk, IfErr, MatchResult, string_bytes};
 ghost use Rattle.sync_survey.specs.Faults.{tells, SurveyFields};
 ghost use Rattle.sync_survey.specs.Survey.{IsLaidOut};
 ghost use Rattle.laying.specs.Laid.{IsWritable};
@@ -23,38 +23,28 @@ pub(crate) struct Piece {
     pub selected: Selected,
 }
 
-/// The piece with this number, from one place of the input to another: refused as `Cut::select` says; `Memory`.
-fn make_piece<C: Cut>(
-    alloc: Global,
-    cut: &C,
-    source: &Source,
-    prefix: &str,
-    number: u8,
-    from: &C::Place,
-    to: &C::Place,
-) -> Result<Piece, EditFault>
-    requires from { C.IsSound from.now }
-    requires to { C.IsSound to.now }
-    requires laid { IsLaidOut (tells source.now.survey) }
-    requires few { length (tells source.now.survey).frames ≤ most_frames }
-    requires number { number ≤ 99 }
-    ensures name { IfOk result (λ piece. string_bytes piece.name ≡
-        piece_name_lem prefix.now number) }
-    ensures writable { IfOk result (λ piece. IsWritable (tells source.now.survey) piece.selected) }
-    ensures laid { MatchResult result
-        (λ piece. (file : List ℕ) (s : SurveyFields)
-        → IsSource (C.cutting cut.now) C.head source.now file s
-        → (C.cutting cut.now).between from.now to.now file s ≡ Ok (laid_of piece))
-        (λ fault. (fault ≡ EditFault.Memory) ⊎ (IsRefusal (C.cutting cut.now).refuses fault
-        × ((file : List ℕ) (s : SurveyFields)
-        → IsSource (C.cutting cut.now) C.head source.now file s
-        → (C.cutting cut.now).between from.now to.now file s ≡ Err fault))) }
-{
-    let selected = cut.select(alloc, source, from, to)?;
-    Ok(Piece {
-        name: piece_name(alloc, prefix, number)?,
-        selected,
-    })
+impl Piece {
+    /// These frames as the piece with this number, from 1 to 99.
+    ///
+    /// # Errors
+    /// `Memory`.
+    fn numbered(
+        alloc: Global,
+        prefix: &str,
+        number: u8,
+        selected: Selected,
+    ) -> Result<Piece, EditFault>
+        requires { number ≤ 99 }
+        ensures name { IfOk result (λ piece. string_bytes piece.name ≡
+            piece_name_lem prefix.now number) }
+        ensures selected { IfOk result (λ piece. piece.selected ≡ selected) }
+        ensures memory { IfErr result (λ fault. fault ≡ EditFault.Memory) }
+    {
+        Ok(Piece {
+            name: piece_name(alloc, prefix, number)?,
+            selected,
+        })
+    }
 }
 
 /// The pieces from each place to the next: refused as `Cut::select` says, for the first pair that is; `Memory`.
@@ -86,7 +76,8 @@ pub(crate) fn make_pieces<C: Cut>(
     let mut number = 0;
     for to in rest {
         number += 1;
-        let piece = make_piece(alloc, cut, source, prefix, number, from, to)?;
+        let selected = cut.select(alloc, source, from, to)?;
+        let piece = Piece::numbered(alloc, prefix, number, selected)?;
         pieces.push(piece)?;
         from = to;
     }

@@ -1,8 +1,9 @@
 -- A piece more.
-use Rattle.std.proofs.Common.{ap, arith, drop, length, length-append, List, map, subst, sym, take}
-use Rattle.std.proofs.{Common.{[], ◌+◌, ◌-◌, ◌∙◌, ◌∷◌, ◌≡◌}, lemmas.List.map-append}
+use Rattle.std.proofs.Common.{ap, arith, drop, length, length-append, List, map, Ok, subst, sym}
+use Rattle.std.proofs.{Common.{take, [], ◌+◌, ◌-◌, ◌∙◌, ◌∷◌, ◌≡◌}, lemmas.List.map-append}
 use Rattle.std.proofs.lemmas.List.Elements.{All-drop, All-take}
-use Rattle.laying.{proofs.RelayLaws.item-next, specs.Laid.Laid}
+use Rattle.laying.{proofs.RelayLaws.item-next, specs.Laid.{IsWritable, Laid, laid_in}}
+use Rattle.laying.specs.declared.selected.Selected.{Selected}
 use Rattle.split_edits.proofs.PiecesLaws.{fault-of-all, laid-is, laid_before, match_err}
 use Rattle.split_edits.proofs.PiecesLaws.{pieces-push, place-laid, place-refused, places-laid}
 use Rattle.split_edits.specs.{Cutting.laid_from, Steps.{ArePieces, laid_of}}
@@ -24,7 +25,8 @@ loop-to-preserved g c =
           (pieces-push c.args.prefix.now (tells c.args.source.now.survey) 1
           (at.number + 1) at.pieces.items piece
           at.invariant.pieces (omega (arith, at.invariant.many, at.invariant.number))
-          c.in_ok-piece.ensures.name c.in_ok-piece.ensures.writable);
+          c.in_ok-piece.ensures.name (subst (IsWritable (tells c.args.source.now.survey))
+          (sym c.in_ok-piece.ensures.selected) c.in_ok-selected.ensures.writable));
       many = omega
           (arith, at.invariant.many, ap length items, length-append at.pieces.items (piece ∷ []));
       number = omega (arith, at.invariant.number);
@@ -38,18 +40,19 @@ loop-to-preserved g c =
           ≡ laid_from cut file s c.index-places-0.result rest) (sym more)
           (place-laid cut file s at.to-index at.from.now rest (map laid_of at.pieces.items) _
           (at.invariant.laid file s is) to next (laid_of piece)
-          (c.in_ok-piece.ensures.laid file s is));
+          (c.in_ok-selected.ensures.laid file s is
+          ∙ ap (λ (x : Selected). Ok (laid_in x)) (sym c.in_ok-piece.ensures.selected)));
     }
 
-pub make_piece-requires-clause-to : goal.make_piece-requires-clause-to
-make_piece-requires-clause-to g c =
+pub select-requires-clause-to : goal.select-requires-clause-to
+select-requires-clause-to g c =
     subst g.C.Cut.IsSound (sym c.to-item.is)
     (All-take g.C.Cut.IsSound (length c.args.places.now - 1) (drop 1 c.args.places.now)
     (All-drop g.C.Cut.IsSound 1 c.args.places.now c.requires.places.0)
     c.loop-to.to-index c.to-item.result (omega (arith, c.loop-to-test.true)))
 
-pub returns-in_err-piece-clause-laid : goal.returns-in_err-piece-clause-laid
-returns-in_err-piece-clause-laid g c =
+pub returns-in_err-selected-clause-laid : goal.returns-in_err-selected-clause-laid
+returns-in_err-selected-clause-laid g c =
     let at = c.loop-to in
     let cut = g.C.Cut.cutting c.args.cut.now in
     let rest = take (length c.args.places.now - 1) (drop 1 c.args.places.now) in
@@ -62,7 +65,7 @@ returns-in_err-piece-clause-laid g c =
     c.index-places-0.result c.args.places.now c.requires.places.1 c.index-places-0.is
     ∙ place-refused cut file s at.to-index at.from.now rest (map laid_of at.pieces.items) _
     (at.invariant.laid file s known) to next _ (is file s known))
-    c.in_err-piece.ensures.laid)
+    c.in_err-selected.ensures.laid)
 
 pub returns-clause-laid : goal.returns-clause-laid
 returns-clause-laid g c = λ file s known.
