@@ -2,9 +2,9 @@
 use Rattle.std.proofs.Common.{ap, Bool, cond, Err, false, length, List, nat_lt, None, Ok, Option}
 use Rattle.std.proofs.Common.{refl, Some, subst, true, ℕ, ◌∙◌, ◌≡◌, ◌≤◌}
 use Rattle.std.proofs.lemmas.Bool.{le-ltb, ltb-false}
-use Rattle.commands.specs.Sheet.{longest_sheet, sheet_in}
-use Rattle.commands.specs.declared.fault.EditFault.TheVariants.{Refused}
+use Rattle.commands.specs.{Sheet.sheet_in, declared.fault.EditFault.TheVariants.Refused}
 use Rattle.commands.specs.declared.fault.Refusal.TheVariants.{SheetTooLarge}
+use Rattle.cue_sheet.specs.Limits.{longest_sheet}
 
 -- the sheet is there, and isn't longer than the longest
 pub record IsSheet (o : Option (List ℕ)) (bytes : List ℕ) : Type 0 where

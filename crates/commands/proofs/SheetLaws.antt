@@ -1,9 +1,10 @@
 -- What is read of a sheet.
 use Rattle.std.proofs.Common.{ap, cond, Err, false, IfErr, length, List, nat_lt, None, Ok, Option}
 use Rattle.std.proofs.Common.{refl, Some, subst, sym, true, ℕ, ◌∙◌, ◌≡◌}
-use Rattle.commands.specs.{Left.IsLate, Sheet.{IsOfSheet, IsSheetFault, longest_sheet, sheet_in}}
+use Rattle.commands.specs.{Left.IsLate, Sheet.{IsOfSheet, IsSheetFault, sheet_in}}
 use Rattle.commands.specs.declared.fault.EditFault.{EditFault, TheVariants.{Input, Refused}}
 use Rattle.commands.specs.declared.fault.Refusal.TheVariants.{SheetTooLarge}
+use Rattle.cue_sheet.specs.Limits.{longest_sheet}
 use Rattle.outside.specs.{Counts.{Counts, EndedAt, HappenedTo, NothingFailed}, Exact.HasReadCause}
 use Rattle.outside.specs.{Files.{Files, is_told}, Seen.seen, declared.exact.ReadFault.ReadFault}
 use Rattle.outside.specs.declared.exact.ReadFault.TheVariants.{Failed, Shrunk as ShrunkRead}

@@ -5,13 +5,10 @@ use Rattle.commands.specs.{Kinds.{HasRightNumbers, IsFromOutside}, Left.{by_why,
 use Rattle.commands.specs.One.{LosesInput, MissesAt, ReadsNothing}
 use Rattle.commands.specs.declared.fault.EditFault.{EditFault, TheVariants.{Input, Memory, Refused}}
 use Rattle.commands.specs.declared.fault.Refusal.{Refusal, TheVariants.SheetTooLarge}
+use Rattle.cue_sheet.specs.Limits.{longest_sheet}
 use Rattle.outside.specs.{Files.{Holds, IsThere}, Seen.Seen}
 use Rattle.sync_survey.specs.declared.survey_fault.SurveyFault.TheVariants.{Absent}
 use Rattle.sync_survey.specs.declared.survey_fault.SurveyFault.TheVariants.{Memory as NoRoom}
-
--- the greatest length of a sheet in bytes
-abbrev pub longest_sheet : ℕ
-longest_sheet = 65536
 
 -- the bytes of a sheet that isn't too large
 abbrev pub sheet_read : List ℕ → Result (List ℕ) EditFault

@@ -1,7 +1,7 @@
 //! The bytes of a sheet.
 ghost use Rattle.std.specs.Prelude.{◌≡◌, ◌≤◌, length, IfOk};
 ghost use Rattle.outside.specs.Seen.{OnFile};
-ghost use Rattle.commands.specs.Sheet.{longest_sheet};
+ghost use Rattle.cue_sheet.specs.Limits.{longest_sheet};
 ghost use Rattle.commands.specs.Answers.{SheetAnswer};
 
 use crate::fault::{EditFault, Refusal};

@@ -6,11 +6,12 @@ use Rattle.std.proofs.lemmas.Bool.{and_parts, both_ways, false_from_ne_true, le-
 use Rattle.std.specs.Prelude.{is_ok, IsTrue, slice_get, unsigned_abs, ◌-◌, ◌==◌}
 use Rattle.commands.proofs.RefusingLaws.{first-cons, first-nil}
 use Rattle.commands.specs.One.{made_by, made_file, most_frames}
-use Rattle.commands.specs.Refusing.{first_refusal, or_else, then_made, unless}
-use Rattle.commands.specs.{Sheet.{longest_sheet, sheet_read}, declared.fault.EditFault.EditFault}
-use Rattle.commands.specs.declared.fault.{EditFault.TheVariants.Refused, Refusal.Refusal}
+use Rattle.commands.specs.{Refusing.{first_refusal, or_else, then_made, unless}, Sheet.sheet_read}
+use Rattle.commands.specs.declared.fault.EditFault.{EditFault, TheVariants.Refused}
+use Rattle.commands.specs.declared.fault.Refusal.{Refusal}
 use Rattle.commands.specs.declared.fault.Refusal.TheVariants.{Joint, Mono, OutputTooLong}
 use Rattle.commands.specs.declared.fault.Refusal.TheVariants.{SheetTooLarge, TagTooLarge, UndoRange}
+use Rattle.cue_sheet.specs.Limits.{longest_sheet}
 use Rattle.fade_plan.proofs.WithinLaws.{steps_of_one, steps_within, within-opposite}
 use Rattle.fade_plan.specs.Curves.{curve_of, curve_point, CurvePoint, not_rising, steps_at}
 use Rattle.fade_plan.specs.{Curves.{steps_back, unless_at}, Sheets.{envelope_of, EnvelopePoint}}

@@ -2,9 +2,10 @@
 -- that move.
 use Rattle.std.specs.Prelude.{All, Bool, Err, false, if◌then◌else◌, is_ok, IsTrue, length, List}
 use Rattle.std.specs.Prelude.{None, not, Ok, Option, Result, Some, true, ℕ, ℤ, [], ◌∷◌, ◌≡◌, ◌≤◌}
-use Rattle.commands.specs.{One.most_frames, Sheet.longest_sheet, declared.fault.EditFault.EditFault}
+use Rattle.commands.specs.{One.most_frames, declared.fault.EditFault.EditFault}
 use Rattle.commands.specs.declared.fault.{EditFault.TheVariants.Refused, Refusal.Refusal}
 use Rattle.commands.specs.declared.fault.Refusal.TheVariants.{GainRange}
+use Rattle.cue_sheet.specs.Limits.{longest_sheet}
 use Rattle.fade_plan.specs.Sheets.{envelope_of, EnvelopePoint}
 use Rattle.gain_edits.specs.{Change.changed_file, Channels.apart_fault, Fade.fade_change}
 use Rattle.gain_edits.specs.Gain.{gain_change}

@@ -6,7 +6,7 @@ ghost use Rattle.sync_survey.specs.Faults.{tells};
 ghost use Rattle.sync_survey.specs.Survey.{IsLaidOut};
 ghost use Rattle.commands.specs.declared.fault.EditFault.TheVariants.{Memory};
 ghost use Rattle.commands.specs.Left.{IsRefusal};
-ghost use Rattle.commands.specs.Sheet.{longest_sheet};
+ghost use Rattle.cue_sheet.specs.Limits.{longest_sheet};
 ghost use Rattle.moved_gains.specs.Course.{steps_over};
 ghost use Rattle.moved_gains.specs.Change.{change_in};
 ghost use Rattle.gain_edits.specs.Fade.{points_in as points_in_lem, curve_by as curve_by_lem, choice_refuses, faded_by, fade_in as fade_in_lem, fade_of};

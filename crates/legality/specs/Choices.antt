@@ -2,9 +2,8 @@
 use Rattle.std.specs.Prelude.{Bool, Contains, false, length, List, map, Ok, pos, slice_get, Some}
 use Rattle.std.specs.Prelude.{suc, true, unsigned_abs, zero, ℕ, ℤ, ◌+ℤ◌, [], ◌++◌, ◌<◌, ◌∷◌, ◌≡◌}
 use Rattle.std.specs.Prelude.{◌≢◌, ◌≤◌, ◌⊎◌}
-use Rattle.commands.specs.Sheet.{longest_sheet}
-use Rattle.cue_sheet.specs.{Cues.cue_of, Places.frame_at, declared.place.Place.Place}
-use Rattle.cue_sheet.specs.declared.place.Place.TheVariants.{End}
+use Rattle.cue_sheet.specs.{Cues.cue_of, Limits.longest_sheet, Places.frame_at}
+use Rattle.cue_sheet.specs.declared.place.Place.{Place, TheVariants.End}
 use Rattle.exact_span.specs.{Places.sample_at, PlayedPositions.{length_of_played, played_of}}
 use Rattle.exact_span.specs.declared.exact_place.ExactPlace.{ExactPlace}
 use Rattle.exact_span.specs.declared.exact_place.ExactPlace.TheVariants.{Place as Position}

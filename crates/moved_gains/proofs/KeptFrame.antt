@@ -8,7 +8,7 @@ use Rattle.bit_fields.proofs.BitsLaws.{bits-append, bits-bytes, bits-nil, length
 use Rattle.bit_fields.proofs.{BitsLaws.length-bits_of, GroupsLaws.{length-spelled, sum-cons}}
 use Rattle.bit_fields.specs.{Bits.{AreBytes, bits, bits_of, bytes}, Groups.spelled}
 use Rattle.frame_header.specs.Fields.{ClassFields, HeaderFields, IsClass}
-use Rattle.frame_header.specs.HeaderBits.{header_widths}
+use Rattle.frame_header.specs.HeaderBits.{flag_of, header_widths}
 use Rattle.frame_header.specs.Tables.{class_of, overhead_of, side_size_of}
 use Rattle.frame_header.specs.declared.version.Version.{Version, TheVariants.{One, Two}}
 use Rattle.moved_gains.proofs.FramesThere.{frame_of, IsFrameOf}
@@ -26,8 +26,8 @@ use Rattle.side_info.proofs.GranuleLaws.{bits-parts}
 use Rattle.side_info.proofs.SideLaws.{AreBits-side_bits, each_class, each_shaped, IsShaped}
 use Rattle.side_info.{proofs.SideLaws.length-side_bits, specs.CheckWord.check_word_of}
 use Rattle.side_info.specs.Frame.{frame_with, side_in, side_part, side_place, word_part}
-use Rattle.side_info.specs.Granule.{bit_of, compress_width, granule_bits, preflag_width}
-use Rattle.side_info.specs.{Parts.class_with, Side.{front_widths, granules_in, side_bits}}
+use Rattle.side_info.specs.{Granule.{compress_width, granule_bits, preflag_width}, Parts.class_with}
+use Rattle.side_info.specs.Side.{front_widths, granules_in, side_bits}
 use Rattle.side_info.specs.declared.{granule.Granule.Granule, side.Side.Side}
 use Rattle.sync_survey.specs.Row.{Row}
 
@@ -71,8 +71,8 @@ other_gain : (version : Version) (g : Granule) (gain : ℕ) (fields : List Field
 other_gain version g gain fields old new silent later =
     let before = spelled (12 ∷ 9 ∷ []) (g.part2_3_length ∷ g.big_values ∷ []) in
     let widths : List ℕ = compress_width version ∷ 1 ∷ 22 ∷ preflag_width version ∷ 1 ∷ 1 ∷ [] in
-    let numbers : List ℕ = g.scalefac_compress ∷ bit_of g.window_switching ∷ g.detail
-    ∷ bit_of g.preflag ∷ bit_of g.scalefac_scale ∷ bit_of g.count1table_select ∷ [] in
+    let numbers : List ℕ = g.scalefac_compress ∷ flag_of g.window_switching ∷ g.detail
+    ∷ flag_of g.preflag ∷ flag_of g.scalefac_scale ∷ flag_of g.count1table_select ∷ [] in
     let behind = spelled widths numbers in
     let rest : AreSameBut (staying widths ++ fields) (behind ++ old) (behind ++ new) =
     staying_same widths behind fields old new (length-spelled widths numbers refl) later in

@@ -33,41 +33,41 @@ impl Default for Part<'_> {
 }
 
 /// The parts of a line, nine at most.
-pub(crate) type Line<'a> = ArrayVec<Part<'a>, 9>;
+pub(crate) type LineParts<'a> = ArrayVec<Part<'a>, 9>;
 
 /// A line of these parts.
-pub(crate) fn line<'a>(parts: &[Part<'a>]) -> Line<'a>
+pub(crate) fn line<'a>(parts: &[Part<'a>]) -> LineParts<'a>
     requires { length parts.now ≤ 9 }
     ensures { result.items ≡ parts.now }
 {
-    let mut line = Line::new();
+    let mut line = LineParts::new();
     line.try_extend_from_slice(parts).unwrap();
     line
 }
 
 /// A line that is this text.
-pub(crate) fn text_line(text: &str) -> Line<'_>
+pub(crate) fn text_line(text: &str) -> LineParts<'_>
     ensures { map part_of result.items ≡ Text text.now ∷ [] }
 {
     line(&[Part::Text(text)])
 }
 
 /// A line of a name and a text.
-pub(crate) fn name_line<'a>(name: &'a str, text: &'a str) -> Line<'a>
+pub(crate) fn name_line<'a>(name: &'a str, text: &'a str) -> LineParts<'a>
     ensures { map part_of result.items ≡ Name name.now ∷ Text text.now ∷ [] }
 {
     line(&[Part::Name(name), Part::Text(text)])
 }
 
 /// A line of a number between two texts.
-pub(crate) fn number_line<'a>(text: &'a str, number: u64, end: &'a str) -> Line<'a>
+pub(crate) fn number_line<'a>(text: &'a str, number: u64, end: &'a str) -> LineParts<'a>
     ensures { map part_of result.items ≡ Text text.now ∷ Number number ∷ Text end.now ∷ [] }
 {
     line(&[Part::Text(text), Part::Number(number), Part::Text(end)])
 }
 
 /// A line of a name, and a number between two texts.
-pub(crate) fn named_line<'a>(name: &'a str, text: &'a str, number: u64, end: &'a str) -> Line<'a>
+pub(crate) fn named_line<'a>(name: &'a str, text: &'a str, number: u64, end: &'a str) -> LineParts<'a>
     ensures { map part_of result.items
         ≡ Name name.now ∷ Text text.now ∷ Number number ∷ Text end.now ∷ [] }
 {

@@ -8,7 +8,7 @@ ghost use Rattle.commands.specs.Said.{Says, fault_of};
 
 use crate::output_names::Outputs;
 use crate::parts::{
-    Line, Part, line, name_line, named_line, number_line, send_line, send_text, text_line,
+    LineParts, Part, line, name_line, named_line, number_line, send_line, send_text, text_line,
 };
 use commands::{EditFault, Refusal, SHEET};
 use cue_sheet::CueFault;
@@ -133,7 +133,7 @@ pub fn say_version<T: Sink>(out: &mut T) -> Result<(), EditFault>
 }
 
 // The line of a check word at an offset that isn't the right one.
-fn check_word_line(name: &str, at: u64, said: u16, right: u16) -> Line<'_>
+fn check_word_line(name: &str, at: u64, said: u16, right: u16) -> LineParts<'_>
     ensures { map part_of result.items ≡ Name name.now
         ∷ input_parts_lem (SurveyFault.CheckWord at said right) }
 {
@@ -150,7 +150,7 @@ fn check_word_line(name: &str, at: u64, said: u16, right: u16) -> Line<'_>
 }
 
 // The line of a main_data_begin that is more than the bytes of main data that are there.
-fn back_pointer_line(name: &str, at: u64, begin: u32, present: u64) -> Line<'_>
+fn back_pointer_line(name: &str, at: u64, begin: u32, present: u64) -> LineParts<'_>
     ensures { map part_of result.items ≡ Name name.now
         ∷ input_parts_lem (SurveyFault.BackPointer at begin present) }
 {
@@ -167,7 +167,7 @@ fn back_pointer_line(name: &str, at: u64, begin: u32, present: u64) -> Line<'_>
 }
 
 // The line of main data that have more bits than there is room for.
-fn overrun_line(name: &str, at: u64, bits: u32, room: u32) -> Line<'_>
+fn overrun_line(name: &str, at: u64, bits: u32, room: u32) -> LineParts<'_>
     ensures { map part_of result.items ≡ Name name.now
         ∷ input_parts_lem (SurveyFault.Overrun at bits room) }
 {
@@ -184,7 +184,7 @@ fn overrun_line(name: &str, at: u64, bits: u32, room: u32) -> Line<'_>
 }
 
 // The line of a file that became shorter.
-fn shrunk_line(name: &str, first: u64, second: u64) -> Line<'_>
+fn shrunk_line(name: &str, first: u64, second: u64) -> LineParts<'_>
     ensures { map part_of result.items ≡ Name name.now
         ∷ input_parts_lem (SurveyFault.Shrunk first second) }
 {
@@ -199,7 +199,7 @@ fn shrunk_line(name: &str, first: u64, second: u64) -> Line<'_>
 }
 
 // The parts of the line of a fault of the input with this name. Want of memory isn't a fault of an input and never comes here.
-fn input_parts<'a>(name: &'a str, fault: &SurveyFault) -> Line<'a>
+fn input_parts<'a>(name: &'a str, fault: &SurveyFault) -> LineParts<'a>
     ensures { map part_of result.items ≡ Name name.now ∷ input_parts_lem fault.now }
 {
     match *fault {
@@ -231,7 +231,7 @@ fn name_in<'a>(names: &[&'a str], place: u32) -> &'a str
 }
 
 // The line of a gain that would leave its range.
-fn gain_line<'a>(offset: u64, granule: u8, channel: u8, gain: u8) -> Line<'a>
+fn gain_line<'a>(offset: u64, granule: u8, channel: u8, gain: u8) -> LineParts<'a>
     ensures { map part_of result.items ≡ refusal_parts_lem
         (Refusal.GainRange offset granule channel gain) [] }
 {
@@ -249,7 +249,7 @@ fn gain_line<'a>(offset: u64, granule: u8, channel: u8, gain: u8) -> Line<'a>
 }
 
 // The line of a sum of steps that an undo item can't have.
-fn undo_sum_line<'a>(sum: i32) -> Line<'a>
+fn undo_sum_line<'a>(sum: i32) -> LineParts<'a>
     ensures { map part_of result.items ≡ refusal_parts_lem (Refusal.UndoRange sum) [] }
 {
     line(&[
@@ -260,7 +260,7 @@ fn undo_sum_line<'a>(sum: i32) -> Line<'a>
 }
 
 // The line of two positions between which there is no frame, or of which one is after the end.
-fn range_line<'a>(from: u64, to: u64, frames: u64) -> Line<'a>
+fn range_line<'a>(from: u64, to: u64, frames: u64) -> LineParts<'a>
     ensures { map part_of result.items ≡ refusal_parts_lem (Refusal.Range from to frames) [] }
 {
     line(&[
@@ -275,7 +275,7 @@ fn range_line<'a>(from: u64, to: u64, frames: u64) -> Line<'a>
 }
 
 // The same of two places between which there is no sample.
-fn span_line<'a>(from: u64, to: u64, samples: u64) -> Line<'a>
+fn span_line<'a>(from: u64, to: u64, samples: u64) -> LineParts<'a>
     ensures { map part_of result.items ≡ refusal_parts_lem (Refusal.Span from to samples) [] }
 {
     line(&[
@@ -290,7 +290,7 @@ fn span_line<'a>(from: u64, to: u64, samples: u64) -> Line<'a>
 }
 
 // The parts of the line of a fault of the cue sheet with this name. Want of memory isn't a fault of a sheet and never comes here.
-fn sheet_parts<'a>(name: &'a str, fault: &CueFault) -> Line<'a>
+fn sheet_parts<'a>(name: &'a str, fault: &CueFault) -> LineParts<'a>
     ensures { map part_of result.items ≡ Name name.now ∷ sheet_parts_lem fault.now }
 {
     match *fault {
@@ -304,7 +304,7 @@ fn sheet_parts<'a>(name: &'a str, fault: &CueFault) -> Line<'a>
 }
 
 // Those of a fault of the sheet of a fade.
-fn curve_parts<'a>(name: &'a str, fault: &EnvelopeFault) -> Line<'a>
+fn curve_parts<'a>(name: &'a str, fault: &EnvelopeFault) -> LineParts<'a>
     ensures { map part_of result.items ≡ Name name.now ∷ curve_parts_lem fault.now }
 {
     match *fault {
@@ -315,7 +315,7 @@ fn curve_parts<'a>(name: &'a str, fault: &EnvelopeFault) -> Line<'a>
 }
 
 // The parts of the line of a refusal, by the names of the inputs.
-fn refusal_parts<'a>(refusal: &Refusal, inputs: &[&'a str]) -> Line<'a>
+fn refusal_parts<'a>(refusal: &Refusal, inputs: &[&'a str]) -> LineParts<'a>
     ensures { map part_of result.items ≡ refusal_parts_lem refusal.now
         (map (λ name. name.now) inputs.now) }
 {
@@ -352,7 +352,7 @@ fn refusal_parts<'a>(refusal: &Refusal, inputs: &[&'a str]) -> Line<'a>
 }
 
 // The parts of the line of a fault, by the names of the inputs and of the outputs.
-fn fault_parts<'a>(fault: &EditFault, inputs: &[&'a str], outputs: Outputs<'a>) -> Line<'a>
+fn fault_parts<'a>(fault: &EditFault, inputs: &[&'a str], outputs: Outputs<'a>) -> LineParts<'a>
     ensures { map part_of result.items ≡ fault_parts_lem fault.now
         (map (λ name. name.now) inputs.now) (names_in outputs.entry) }
 {

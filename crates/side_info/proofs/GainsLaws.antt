@@ -6,14 +6,14 @@ use Rattle.std.proofs.lemmas.List.{drop-drop, drop_at, length-take-le, take-take
 use Rattle.bit_fields.proofs.BitsLaws.{AreBelow-drop, AreBelow-take, bytes-bits, length-bits_of}
 use Rattle.bit_fields.proofs.GroupsLaws.{length-spelled}
 use Rattle.bit_fields.specs.{Bits.{AreBytes, bits, bits_of, bytes}, Groups.spelled}
-use Rattle.frame_header.specs.Fields.{ClassFields, HeaderFields, IsClass}
+use Rattle.frame_header.specs.{Fields.{ClassFields, HeaderFields, IsClass}, HeaderBits.flag_of}
 use Rattle.frame_header.specs.{Tables.{class_of, side_size_of}, declared.version.Version.Version}
 use Rattle.frame_header.specs.declared.version.Version.TheVariants.{One}
 use Rattle.side_info.proofs.FrameLaws.{frame_with-protected, frame_with-unprotected}
 use Rattle.side_info.proofs.GranuleLaws.{bits-parts, length-flat, length-granule_bits}
 use Rattle.side_info.proofs.{SideLaws.IsShaped, WriteLaws.{flat_one, flat_two, side_bits-parts}}
 use Rattle.side_info.specs.{CheckWord.check_word_of, Frame.frame_with}
-use Rattle.side_info.specs.Granule.{bit_of, compress_width, granule_bits, granule_size, no_granule}
+use Rattle.side_info.specs.Granule.{compress_width, granule_bits, granule_size, no_granule}
 use Rattle.side_info.specs.Granule.{preflag_width}
 use Rattle.side_info.specs.Parts.{AllAlike, front_size, pair_bits, PutsPair, second_bits}
 use Rattle.side_info.specs.Side.{front_widths_of, HasOtherGains, side_bits}
@@ -47,8 +47,8 @@ pub gain_put : (version : Version) (g : Granule) (gain at : ℕ) (before after o
 gain_put version g gain at before after old new put l e =
     let front : List ℕ = spelled (12 ∷ 9 ∷ []) (g.part2_3_length ∷ g.big_values ∷ []) in
     let rest : List ℕ = spelled (compress_width version ∷ 1 ∷ 22 ∷ preflag_width version ∷ 1 ∷ 1
-    ∷ []) (g.scalefac_compress ∷ bit_of g.window_switching ∷ g.detail ∷ bit_of g.preflag
-    ∷ bit_of g.scalefac_scale ∷ bit_of g.count1table_select ∷ []) in
+    ∷ []) (g.scalefac_compress ∷ flag_of g.window_switching ∷ g.detail ∷ flag_of g.preflag
+    ∷ flag_of g.scalefac_scale ∷ flag_of g.count1table_select ∷ []) in
     put
     ∙ put_between before front (bits_of 8 g.global_gain) rest after (bits_of 8 gain) old at l
     (length-spelled (12 ∷ 9 ∷ []) (g.part2_3_length ∷ g.big_values ∷ []) refl)

@@ -10,27 +10,28 @@ use Rattle.bit_fields.proofs.GroupsLaws.{AreBits-spelled, Fits-numbers_at, lengt
 use Rattle.bit_fields.proofs.GroupsLaws.{length-spelled, numbers_at-spelled_more, spelled-append}
 use Rattle.bit_fields.proofs.GroupsLaws.{spelled-cons, spelled-numbers_at_front}
 use Rattle.bit_fields.specs.{Bits.{AreBits, bits_of}, Groups.{Fits, numbers_at, spelled}}
-use Rattle.frame_header.specs.declared.version.Version.{Version, TheVariants.One}
-use Rattle.side_info.specs.Granule.{bit_of, compress_width, granule_at, granule_bits}
-use Rattle.side_info.specs.Granule.{granule_numbers, granule_of, granule_size, granule_widths}
-use Rattle.side_info.specs.Granule.{GranuleFits, is_set, no_granule, preflag_width}
-use Rattle.side_info.specs.{Side.nth_granule, declared.granule.Granule.Granule}
+use Rattle.frame_header.specs.{HeaderBits.flag_of, declared.version.Version.Version}
+use Rattle.frame_header.specs.declared.version.Version.TheVariants.{One}
+use Rattle.side_info.specs.Granule.{compress_width, granule_at, granule_bits, granule_numbers}
+use Rattle.side_info.specs.Granule.{granule_of, granule_size, granule_widths, GranuleFits, is_set}
+use Rattle.side_info.specs.{Granule.{no_granule, preflag_width}, Side.nth_granule}
+use Rattle.side_info.specs.declared.granule.Granule.{Granule}
 
 -- ---- one bit as a truth
 -- a flag as a bit is this flag
-pub is_set-bit_of : (flag : Bool) → is_set (bit_of flag) ≡ flag
-is_set-bit_of true = refl
-is_set-bit_of false = refl
+pub is_set-flag_of : (flag : Bool) → is_set (flag_of flag) ≡ flag
+is_set-flag_of true = refl
+is_set-flag_of false = refl
 
 -- a bit as a flag is this bit
-pub bit_of-is_set : (bit : ℕ) → bit < 2 → bit_of (is_set bit) ≡ bit
-bit_of-is_set (suc (suc bit)) h = absurd (omega arith)
-bit_of-is_set _ h = refl
+pub flag_of-is_set : (bit : ℕ) → bit < 2 → flag_of (is_set bit) ≡ bit
+flag_of-is_set (suc (suc bit)) h = absurd (omega arith)
+flag_of-is_set _ h = refl
 
 -- a flag as a bit is 0 or 1
-pub bit_of-below : (flag : Bool) → bit_of flag < 2
-bit_of-below true = omega arith
-bit_of-below false = omega arith
+pub flag_of-below : (flag : Bool) → flag_of flag < 2
+flag_of-below true = omega arith
+flag_of-below false = omega arith
 
 -- ---- fields and the numbers of the groups
 -- the fields of a granule that fits are within the widths of its groups
@@ -46,10 +47,10 @@ Fits-granule version g h = (
       (
         h.scalefac_compress,
         (
-          bit_of-below g.window_switching,
+          flag_of-below g.window_switching,
           (
             h.detail,
-            (h.preflag, (bit_of-below g.scalefac_scale, (bit_of-below g.count1table_select, tt))),
+            (h.preflag, (flag_of-below g.scalefac_scale, (flag_of-below g.count1table_select, tt))),
           ),
         ),
       ),
@@ -65,11 +66,11 @@ granule_of-numbers g = λ i. record {
   big_values = g.big_values;
   global_gain = g.global_gain;
   scalefac_compress = g.scalefac_compress;
-  window_switching = is_set-bit_of g.window_switching i;
+  window_switching = is_set-flag_of g.window_switching i;
   detail = g.detail;
-  preflag = is_set-bit_of g.preflag i;
-  scalefac_scale = is_set-bit_of g.scalefac_scale i;
-  count1table_select = is_set-bit_of g.count1table_select i;
+  preflag = is_set-flag_of g.preflag i;
+  scalefac_scale = is_set-flag_of g.scalefac_scale i;
+  count1table_select = is_set-flag_of g.count1table_select i;
 }
 
 -- preflag is at most one bit
@@ -81,9 +82,9 @@ numbers_same : (version : Version) (ns : List ℕ) → Fits (granule_widths vers
     → granule_numbers (granule_of ns) ≡ ns
 unfolding granule_of granule_numbers
 numbers_same version (a ∷ b ∷ c ∷ d ∷ e ∷ f ∷ g ∷ h ∷ k ∷ []) fit l =
-    λ i. a ∷ b ∷ c ∷ d ∷ bit_of-is_set e fit.1.1.1.1.0 i ∷ f
-    ∷ bit_of-is_set g (preflag-below version g fit.1.1.1.1.1.1.0) i
-    ∷ bit_of-is_set h fit.1.1.1.1.1.1.1.0 i ∷ bit_of-is_set k fit.1.1.1.1.1.1.1.1.0 i ∷ []
+    λ i. a ∷ b ∷ c ∷ d ∷ flag_of-is_set e fit.1.1.1.1.0 i ∷ f
+    ∷ flag_of-is_set g (preflag-below version g fit.1.1.1.1.1.1.0) i
+    ∷ flag_of-is_set h fit.1.1.1.1.1.1.1.0 i ∷ flag_of-is_set k fit.1.1.1.1.1.1.1.1.0 i ∷ []
 numbers_same version ns fit l = absurd (omega arith)
 
 -- numbers within the widths are those of the granule that they give
@@ -102,7 +103,7 @@ fields_fit version (a ∷ b ∷ c ∷ d ∷ e ∷ f ∷ g ∷ h ∷ k ∷ []) fi
   scalefac_compress = fit.1.1.1.0;
   detail = fit.1.1.1.1.1.0;
   preflag = subst (λ n. n < 2 ^ preflag_width version)
-      (sym (bit_of-is_set g (preflag-below version g fit.1.1.1.1.1.1.0))) fit.1.1.1.1.1.1.0;
+      (sym (flag_of-is_set g (preflag-below version g fit.1.1.1.1.1.1.0))) fit.1.1.1.1.1.1.0;
 }
 fields_fit version ns fit l = absurd (omega arith)
 
@@ -241,15 +242,15 @@ flat-granules_from version n (suc count) bs all h =
 pub bits-parts : (version : Version) (g : Granule)
     → granule_bits version g ≡ spelled (12 ∷ 9 ∷ []) (g.part2_3_length ∷ g.big_values ∷ [])
     ++ (bits_of 8 g.global_gain ++ spelled (compress_width version ∷ 1 ∷ 22 ∷ preflag_width version
-    ∷ 1 ∷ 1 ∷ []) (g.scalefac_compress ∷ bit_of g.window_switching ∷ g.detail ∷ bit_of g.preflag
-    ∷ bit_of g.scalefac_scale ∷ bit_of g.count1table_select ∷ []))
+    ∷ 1 ∷ 1 ∷ []) (g.scalefac_compress ∷ flag_of g.window_switching ∷ g.detail ∷ flag_of g.preflag
+    ∷ flag_of g.scalefac_scale ∷ flag_of g.count1table_select ∷ []))
 unfolding granule_bits granule_numbers
 bits-parts version g =
     spelled-append (12 ∷ 9 ∷ []) (8 ∷ compress_width version ∷ 1 ∷ 22 ∷ preflag_width version ∷ 1
     ∷ 1 ∷ []) (g.part2_3_length ∷ g.big_values ∷ [])
-    (g.global_gain ∷ g.scalefac_compress ∷ bit_of g.window_switching ∷ g.detail ∷ bit_of g.preflag
-    ∷ bit_of g.scalefac_scale ∷ bit_of g.count1table_select ∷ []) refl
+    (g.global_gain ∷ g.scalefac_compress ∷ flag_of g.window_switching ∷ g.detail ∷ flag_of g.preflag
+    ∷ flag_of g.scalefac_scale ∷ flag_of g.count1table_select ∷ []) refl
     ∙ ap (λ bs. spelled (12 ∷ 9 ∷ []) (g.part2_3_length ∷ g.big_values ∷ []) ++ bs)
     (spelled-cons 8 g.global_gain (compress_width version ∷ 1 ∷ 22 ∷ preflag_width version ∷ 1 ∷ 1
-    ∷ []) (g.scalefac_compress ∷ bit_of g.window_switching ∷ g.detail ∷ bit_of g.preflag
-    ∷ bit_of g.scalefac_scale ∷ bit_of g.count1table_select ∷ []))
+    ∷ []) (g.scalefac_compress ∷ flag_of g.window_switching ∷ g.detail ∷ flag_of g.preflag
+    ∷ flag_of g.scalefac_scale ∷ flag_of g.count1table_select ∷ []))

@@ -7,18 +7,19 @@ use Rattle.std.{proofs.lemmas.{Grind.flat_map-append, Nat.one_shl}, specs.List.f
 use Rattle.bit_fields.proofs.GroupsLaws.{joined, joined-below, spelled-joined}
 use Rattle.bit_fields.{proofs.WordLaws.{into_last, into_word, put_next}, specs.Bits.bits_of}
 use Rattle.bit_fields.specs.Groups.{spelled}
-use Rattle.frame_header.specs.{Fields.ClassFields, Tables.{granules_of, side_size_of}}
-use Rattle.frame_header.specs.declared.version.Version.{Version, TheVariants.{One, Two, TwoFive}}
-use Rattle.side_info.proofs.GranuleLaws.{bit_of-below, Fits-granule}
-use Rattle.side_info.specs.Granule.{bit_of, compress_width, granule_bits, granule_numbers}
-use Rattle.side_info.specs.Granule.{granule_size, granule_widths, GranuleFits, no_granule}
-use Rattle.side_info.specs.{Granule.preflag_width, Parts.{class_with, front_size, second_bits}}
+use Rattle.frame_header.specs.{Fields.ClassFields, HeaderBits.flag_of}
+use Rattle.frame_header.specs.{Tables.{granules_of, side_size_of}, declared.version.Version.Version}
+use Rattle.frame_header.specs.declared.version.Version.TheVariants.{One, Two, TwoFive}
+use Rattle.side_info.proofs.GranuleLaws.{Fits-granule, flag_of-below}
+use Rattle.side_info.specs.Granule.{compress_width, granule_bits, granule_numbers, granule_size}
+use Rattle.side_info.specs.Granule.{granule_widths, GranuleFits, no_granule, preflag_width}
+use Rattle.side_info.specs.Parts.{class_with, front_size, second_bits}
 use Rattle.side_info.specs.Side.{front_widths_of, granules_in, side_bits}
 use Rattle.side_info.specs.declared.{granule.Granule.Granule, side.Side.Side}
 use mir.Val.{bool_byte}
 
 -- a `bool` as a number is the flag as a bit
-pub bool_byte-is : (flag : Bool) → bool_byte flag ≡ bit_of flag
+pub bool_byte-is : (flag : Bool) → bool_byte flag ≡ flag_of flag
 bool_byte-is true = refl
 bool_byte-is false = refl
 
@@ -27,8 +28,8 @@ bool_byte-is false = refl
 granule_joined : (version : Version) (g : Granule)
     → ((g.part2_3_length * 131072 + g.big_values * 256 + g.global_gain) * 2
     ^ (compress_width version + 23) + (g.scalefac_compress * 8388608
-    + bit_of g.window_switching * 4194304 + g.detail)) * 2 ^ (preflag_width version + 2)
-    + (bit_of g.preflag * 4 + bit_of g.scalefac_scale * 2 + bit_of g.count1table_select)
+    + flag_of g.window_switching * 4194304 + g.detail)) * 2 ^ (preflag_width version + 2)
+    + (flag_of g.preflag * 4 + flag_of g.scalefac_scale * 2 + flag_of g.count1table_select)
     ≡ joined (granule_widths version) (granule_numbers g)
 unfolding joined granule_numbers
 granule_joined One g = omega arith
@@ -52,7 +53,7 @@ abbrev upper_of : Version → Granule → ℕ
 upper_of version g =
     (g.part2_3_length * 131072 + g.big_values * 256 + g.global_gain) * 2
     ^ (compress_width version + 23)
-    + (g.scalefac_compress * 8388608 + bit_of g.window_switching * 4194304 + g.detail)
+    + (g.scalefac_compress * 8388608 + flag_of g.window_switching * 4194304 + g.detail)
 
 upper_below : (version : Version) (g : Granule) → GranuleFits version g
     → upper_of version g < 2 ^ 64
@@ -63,7 +64,7 @@ upper_below One g fits = omega (
   fits.global_gain,
   fits.scalefac_compress,
   fits.detail,
-  bit_of-below g.window_switching,
+  flag_of-below g.window_switching,
 )
 upper_below _ g fits = omega (
   arith,
@@ -72,14 +73,14 @@ upper_below _ g fits = omega (
   fits.global_gain,
   fits.scalefac_compress,
   fits.detail,
-  bit_of-below g.window_switching,
+  flag_of-below g.window_switching,
 )
 
 -- the fields up to detail fit in a word of 64 bits
 pub upper_fits : (version : Version) (g : Granule) → GranuleFits version g
     → (compress first middle : ℕ) → compress ≡ compress_width version
     → first ≡ g.part2_3_length * 131072 + g.big_values * 256 + g.global_gain
-    → middle ≡ g.scalefac_compress * 8388608 + bit_of g.window_switching * 4194304 + g.detail
+    → middle ≡ g.scalefac_compress * 8388608 + flag_of g.window_switching * 4194304 + g.detail
     → first * (1 * 2 ^ (compress + 23) % 2 ^ 64) + middle < 2 ^ 64
 upper_fits version g fits compress first middle compress_is first_is middle_is =
     let above : 1 * 2 ^ (compress + 23) % 2 ^ 64 ≡ 2 ^ (compress_width version + 23) =
@@ -93,9 +94,9 @@ module _ (version : Version) (g : Granule) (fits : GranuleFits version g)
     (compress preflag first middle last : ℕ) (compress_is : compress ≡ compress_width version)
     (preflag_is : preflag ≡ preflag_width version) (first_is : first
     ≡ g.part2_3_length * 131072 + g.big_values * 256 + g.global_gain) (middle_is : middle
-    ≡ g.scalefac_compress * 8388608 + bit_of g.window_switching * 4194304 + g.detail)
+    ≡ g.scalefac_compress * 8388608 + flag_of g.window_switching * 4194304 + g.detail)
     (last_is : last
-    ≡ bit_of g.preflag * 4 + bit_of g.scalefac_scale * 2 + bit_of g.count1table_select) where
+    ≡ flag_of g.preflag * 4 + flag_of g.scalefac_scale * 2 + flag_of g.count1table_select) where
   word-joined : (first * (1 * 2 ^ (compress + 23) % 2 ^ 64) + middle)
       * (1 * 2 ^ (preflag + 2) % 2 ^ 64) + last
       ≡ joined (granule_widths version) (granule_numbers g)

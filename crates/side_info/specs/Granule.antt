@@ -1,9 +1,9 @@
 -- The side information of one granule and channel, as successive
 -- groups of bits (ISO/IEC 11172-3 and 13818-3, 2.4.1.7 and 2.4.2.7).
-use Rattle.std.specs.Prelude.{Bool, false, if◌then◌else◌, List, slice_index, sum, ℕ, [], ◌<◌, ◌==◌}
-use Rattle.std.specs.Prelude.{◌^◌, ◌∷◌, ◌≡◌}
+use Rattle.std.specs.Prelude.{Bool, false, List, slice_index, sum, ℕ, [], ◌<◌, ◌==◌, ◌^◌, ◌∷◌, ◌≡◌}
 use Rattle.bit_fields.specs.Groups.{numbers_at, spelled}
-use Rattle.frame_header.specs.declared.version.Version.{Version, TheVariants.{One, Two, TwoFive}}
+use Rattle.frame_header.specs.{HeaderBits.flag_of, declared.version.Version.Version}
+use Rattle.frame_header.specs.declared.version.Version.TheVariants.{One, Two, TwoFive}
 use Rattle.side_info.specs.declared.granule.Granule.{Granule}
 
 -- how many bits scalefac_compress has
@@ -33,10 +33,6 @@ granule_size version = sum (granule_widths version)
 -- a bit as a flag
 abbrev pub is_set : ℕ → Bool
 is_set bit = bit == 1
-
--- a flag as a bit
-abbrev pub bit_of : Bool → ℕ
-bit_of flag = if flag then 1 else 0
 
 -- all fields 0, as for a granule or channel that the class lacks
 abbrev pub no_granule : Granule
@@ -70,8 +66,8 @@ granule_of ns = record {
 unfoldable pub granule_numbers : Granule → List ℕ
 granule_numbers g =
     g.part2_3_length ∷ g.big_values ∷ g.global_gain ∷ g.scalefac_compress
-    ∷ bit_of g.window_switching ∷ g.detail ∷
-    bit_of g.preflag ∷ bit_of g.scalefac_scale ∷ bit_of g.count1table_select ∷ []
+    ∷ flag_of g.window_switching ∷ g.detail ∷
+    flag_of g.preflag ∷ flag_of g.scalefac_scale ∷ flag_of g.count1table_select ∷ []
 
 -- the granule with which these bits begin
 unfoldable pub granule_at : Version → List ℕ → Granule
@@ -88,7 +84,7 @@ pub record FieldsFit (compress_bits preflag_bits : ℕ) (g : Granule) : Type 0 w
   pub global_gain : g.global_gain < 2 ^ 8
   pub scalefac_compress : g.scalefac_compress < 2 ^ compress_bits
   pub detail : g.detail < 2 ^ 22
-  pub preflag : bit_of g.preflag < 2 ^ preflag_bits
+  pub preflag : flag_of g.preflag < 2 ^ preflag_bits
 
 -- each field is within its bits, and one that the version lacks is 0
 abbrev pub GranuleFits : Version → Granule → Type 0

@@ -3,9 +3,9 @@ use Rattle.std.proofs.Common.{ap, Err, length, List, None, Ok, Option, refl, Res
 use Rattle.std.proofs.Common.{[], ◌++◌, ◌∙◌, ◌∷◌, ◌≡◌, ◌≤◌}
 use Rattle.commands.proofs.{FoundSheet.{is-sheet, sheet-is}, RefusingLaws.then_ok}
 use Rattle.commands.specs.{Command.{clash_from, Made}, One.most_frames, Refusing.then_made}
-use Rattle.commands.specs.{Sheet.{longest_sheet, sheet_in}, declared.fault.EditFault.EditFault}
-use Rattle.cue_sheet.specs.{Cues.cue_of, declared.{cue_fault.CueFault.CueFault, place.Place.Place}}
-use Rattle.cue_sheet.specs.declared.place.Place.TheVariants.{End}
+use Rattle.commands.specs.{Sheet.sheet_in, declared.fault.EditFault.EditFault}
+use Rattle.cue_sheet.specs.{Cues.cue_of, Limits.longest_sheet, declared.cue_fault.CueFault.CueFault}
+use Rattle.cue_sheet.specs.declared.place.Place.{Place, TheVariants.End}
 use Rattle.laying.specs.Laid.{Laid}
 use Rattle.outside.specs.Files.{Contents}
 use Rattle.requests.specs.Names.{piece_names}

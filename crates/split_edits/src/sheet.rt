@@ -4,7 +4,7 @@ ghost use Rattle.outside.specs.Files.{IsThere};
 ghost use Rattle.outside.specs.Seen.{OnFile, OnlyRead};
 ghost use Rattle.split_edits.specs.Split.{places_in as places_in_lem, places_where, ArePositions};
 ghost use Rattle.split_edits.specs.Steps.{IsSheetFault, IsOfSheet};
-ghost use Rattle.commands.specs.Sheet.{longest_sheet};
+ghost use Rattle.cue_sheet.specs.Limits.{longest_sheet};
 
 use commands::{EditFault, Refusal, sheet_bytes};
 use cue_sheet::{Cue, CueFault, Place};

@@ -1,8 +1,8 @@
 -- The fields are joined to one number.
 use Rattle.std.proofs.Common.{arith, ◌%◌, ◌*◌, ◌+◌, ◌<◌, ◌^◌, ◌≡◌}
+use Rattle.frame_header.specs.HeaderBits.{flag_of}
 use Rattle.side_info.proofs.WriteLaws.{bool_byte-is, upper_fits, word_below, word_bits, word_fits}
 use Rattle.side_info.proofs.writing.granule_word.Goals.{After-compress_width, After-preflag_width}
-use Rattle.side_info.specs.Granule.{bit_of}
 use Rattle.side_info.proofs.writing.granule_word.Goals as goal
 
 first : (c : After-preflag_width) → c.from.result * 131072 + c.from-2.result * 256 + c.from-3.result
@@ -13,7 +13,7 @@ first c = omega (arith, c.from.ensures, c.from-2.ensures, c.from-3.ensures)
 middle : (c : After-preflag_width)
     → c.from-4.result * 8388608 + c.from-5.result * 4194304 + c.from-6.result
     ≡ c.args.granule.now.scalefac_compress * 8388608
-    + bit_of c.args.granule.now.window_switching * 4194304 + c.args.granule.now.detail
+    + flag_of c.args.granule.now.window_switching * 4194304 + c.args.granule.now.detail
 middle c = omega (
   arith,
   c.from-4.ensures,
@@ -23,8 +23,8 @@ middle c = omega (
 )
 
 last : (c : After-preflag_width) → c.from-7.result * 4 + c.from-8.result * 2 + c.from-9.result
-    ≡ bit_of c.args.granule.now.preflag * 4 + bit_of c.args.granule.now.scalefac_scale * 2
-    + bit_of c.args.granule.now.count1table_select
+    ≡ flag_of c.args.granule.now.preflag * 4 + flag_of c.args.granule.now.scalefac_scale * 2
+    + flag_of c.args.granule.now.count1table_select
 last c = omega (
   arith,
   c.from-7.ensures,
