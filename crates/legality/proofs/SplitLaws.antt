@@ -206,11 +206,11 @@ module _ {P : Type 0} (cut : Cutting P) (Right : Input → P → P → Type 0) (
       → Legal ↔ Makes (split_command cut input prefix) files
   split-law Legal parts whole = (
     (λ legal.
-        let apart = (parts legal).0 in
+        let names_apart = (parts legal).0 in
         let one = (parts legal).1 in
         let places = found one.input one.choice in
         let all = pieces-laid cut Right right one.input.bytes one.input.survey places.0 places.2 in
-        made-split (apart_no-clash (piece_names prefix) (input ∷ cut.more) 0 apart)
+        made-split (apart_no-clash (piece_names prefix) (input ∷ cut.more) 0 names_apart)
         (record {
           file = one.input.bytes;
           survey = one.input.survey;

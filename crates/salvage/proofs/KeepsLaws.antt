@@ -399,7 +399,7 @@ keeps_streams = λ file allowed s is few.
     (run-ends Stream file from) (subst (AreUsable file (class_from start)) (sym frames)
     (usable_all file (class_from start) (frames_from file start) fine)) past in
     let marks = judged-marked file head (class_from start) allowed rows sound in
-    let whole = told_read file start items (start-front file start read.start_is) are frames
+    let all_read = told_read file start items (start-front file start read.start_is) are frames
     (numbered-blocks file start head here) marks ∙ ap with_junk told in
     let some : s.frames ≡ [] → ⊥ = λ none. absurd (omega (
       arith,
@@ -409,5 +409,5 @@ keeps_streams = λ file allowed s is few.
       ap (λ (t : SurveyFields). length t.frames) told,
       ap length none,
     )) in
-    damaged_first file start.first first ∙ ap (with_number at) whole
+    damaged_first file start.first first ∙ ap (with_number at) all_read
     ∙ few_counted at s.frames (with_junk s) some few

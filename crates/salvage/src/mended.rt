@@ -57,7 +57,7 @@ fn push_emptied(emptied: &mut Vec<Emptied>, number: u32, row: &Row) -> Result<()
 /// Where there is no memory.
 fn emptied_of(alloc: Global, rows: &[Row]) -> Result<Vec<Emptied>, AllocError>
     requires few { length rows.now ≤ most_frames }
-    ensures { IfOk result (λ emptied. emptied.items ≡ emptied_from 0 rows.now) }
+    ensures { IfOk result (λ list. list.items ≡ emptied_from 0 rows.now) }
 {
     let mut emptied = Vec::new(alloc);
     let mut number = 0;

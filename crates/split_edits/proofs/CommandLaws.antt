@@ -107,7 +107,7 @@ module _ {X : Type 0} (cut : Cutting X) (proper : IsProper cut) where
   -- ---- the streams of the pieces
 
   module _ (prefix file : List ℕ) (s : SurveyFields) (octets : AreBytes file)
-      (surveyed : survey_of file most_frames ≡ Ok s) where
+      (survey_is : survey_of file most_frames ≡ Ok s) where
     abbrev Hold : ℕ → List Laid → Type 0
     Hold k ls = AreStreams (pieces_from prefix k file (cut.survey s) ls)
         (map (λ (l : Laid). stream_laid l file (cut.survey s)) ls)
@@ -120,7 +120,7 @@ module _ {X : Type 0} (cut : Cutting X) (proper : IsProper cut) where
         (λ first. with_first first (laid_from cut file s to tos)) ls e in
         let more = first-parts parts.0 (laid_from cut file s to tos) ls parts.2 in
         subst (Hold k) more.2 (
-          proper.streams from to file s parts.0 octets surveyed parts.1,
+          proper.streams from to file s parts.0 octets survey_is parts.1,
           from-hold (k + 1) to tos more.0 more.1,
         )
 
@@ -255,14 +255,14 @@ module _ {X : Type 0} (cut : Cutting X) (proper : IsProper cut) (input prefix : 
         no_memory = λ n. absurd n;
       })
 
-    module _ (s : SurveyFields) (old : Seen) (there : IsThere old.files input) (surveyed :
+    module _ (s : SurveyFields) (old : Seen) (there : IsThere old.files input) (survey_is :
         (bytes : List ℕ) → Holds old.files input bytes → survey_of bytes most_frames ≡ Ok s) where
       makes-then : (f : Contents) → old.files ≡ Told f
           → (bytes : List ℕ) × (f input ≡ Some bytes) × (survey_of bytes most_frames ≡ Ok s)
           × (command.makes f ≡ then_made (cut.places f) (made_at cut prefix bytes s))
       makes-then f told =
           let held = there_holds f input (rw told at there) in
-          let sound = surveyed held.0 (rw told held.1) in (
+          let sound = survey_is held.0 (rw told held.1) in (
             held.0,
             held.1,
             sound,

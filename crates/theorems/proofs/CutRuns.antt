@@ -230,9 +230,9 @@ module _ (file : List ℕ) (n : ℕ) (within : n ≤ length file) where
     -- it is whole
     still_there : at + size_of (Frame h) ≤ n → at ≡ front_end_of now → IsCutStart start
     still_there kept front =
-        let whole = item_of-whole Stream file at (Frame h) frame.is refl frame.within in
+        let there = item_of-whole Stream file at (Frame h) frame.is refl frame.within in
         let here = item_of-is Stream now at (Frame h)
-        (item-kept file n within Stream at (Frame h) whole kept) in
+        (item-kept file n within Stream at (Frame h) there kept) in
         let fit : fits now at (Frame h) ≡ true = le-leb (size_of (Frame h)) (length now - at)
         (omega (arith, kept, length-cut file n within)) in
         let same : Ok (record { front_end = at; first = start.first }) ≡ Ok start =

@@ -10,14 +10,14 @@ use Rattle.salvage_edits.proofs.prepared.read_input.Goals as goal
 
 pub returns-in-Err-clause-reads : goal.returns-in-Err-clause-reads
 returns-in-Err-clause-reads g c =
-    let seen = g.D.Folder.seen in
+    let state = g.D.Folder.seen in
     record {
       refused =
-          subst (IsEarlyFault (salvage_task c.args.input.now) (seen c.args.folder.now)
-          (seen c.read_damaged.new.folder)) (sym c.into.ensures)
-          (early-fault c.args.input.now (seen c.args.folder.now).files
-          (seen c.read_damaged.new.folder).files (seen c.args.folder.now).counts
-          (seen c.read_damaged.new.folder).counts c.read_damaged.ensures.files c.in-Err.fault
+          subst (IsEarlyFault (salvage_task c.args.input.now) (state c.args.folder.now)
+          (state c.read_damaged.new.folder)) (sym c.into.ensures)
+          (early-fault c.args.input.now (state c.args.folder.now).files
+          (state c.read_damaged.new.folder).files (state c.args.folder.now).counts
+          (state c.read_damaged.new.folder).counts c.read_damaged.ensures.files c.in-Err.fault
           c.in-Err.ensures.refused);
       numbers = subst (IsOfInputs (salvage_task c.args.input.now)) (sym c.into.ensures)
           (early-numbers c.args.input.now c.in-Err.fault c.in-Err.ensures.numbers);
