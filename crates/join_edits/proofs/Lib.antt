@@ -16,7 +16,6 @@ pub mod KnownLaws
 pub mod FrontLaws
 pub mod NumberLaws
 pub mod AlikeLaws
-pub mod AloneLaws
 pub mod RunPlans
 pub mod RunFiles
 pub mod SeamlessCommand

@@ -1,29 +1,18 @@
 -- Areas of an input that are read, and the main data of a frame, cut out of those up to its own.
-use Rattle.std.proofs.Common.{ap, ap₂, arith, false, get_or, length, List, None, refl, slice_get}
-use Rattle.std.proofs.Common.{Some, subst, sym, ℕ, [], ◌*◌, ◌+◌, ◌-◌, ◌/◌, ◌<◌, ◌∙◌, ◌≡◌, ◌≤◌}
+use Rattle.std.proofs.Common.{ap, ap₂, arith, false, length, List, None, refl, slice_get, Some}
+use Rattle.std.proofs.Common.{subst, sym, ℕ, [], ◌*◌, ◌+◌, ◌-◌, ◌/◌, ◌∙◌, ◌≡◌, ◌≤◌}
 use Rattle.bit_fields.specs.Bits.{AreBytes}
 use Rattle.frame_header.specs.Fields.{HeaderFields}
 use Rattle.join_edits.{proofs.FramePlaces.get-one, specs.Reading.{IsMainDataOf, ReadsArea}}
 use Rattle.laying.proofs.ReadLaws.{bits-least, bytes-are, cut-is, data-within, IsWithin, last-next}
 use Rattle.laying.proofs.ReadLaws.{main-first, place-first, place-next, window-holds}
-use Rattle.laying.{proofs.RelayLaws.found-at, specs.Passing.{IsOver, IsOverLast}}
-use Rattle.laying.specs.Relaid.{payload_of}
+use Rattle.laying.specs.{Passing.{IsOver, IsOverLast}, Relaid.payload_of}
 use Rattle.outside.specs.Files.{Files, Holds}
 use Rattle.reservoir.specs.Window.{ArePacked, IsWindowOver, main_bits}
 use Rattle.side_info.specs.Side.{payload_bits, payload_bytes}
 use Rattle.sync_survey.specs.Faults.{SurveyFields}
 use Rattle.sync_survey.specs.{MainData.{area_bytes, head_area, head_bytes, own_area}, Row.Row}
 use Rattle.sync_survey.specs.{Survey.IsLaidOut, declared.places.Head.Head}
-
--- ---- frames
-
--- a frame of a list that is another
-pub read-at : (rows frames : List Row) (at : ℕ) (row : Row) → at < length frames → rows ≡ frames
-    → row ≡ get_or rows at row
-    → slice_get frames at ≡ Some row
-read-at rows frames at row within same is =
-    let here : at < length rows = omega (arith, within, ap length same) in
-    ap (λ (l : List Row). slice_get l at) (sym same) ∙ found-at rows at row here is
 
 -- ---- before the first frame
 

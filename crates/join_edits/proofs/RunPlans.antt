@@ -12,12 +12,11 @@ use Rattle.frame_header.proofs.HeaderLaws.{IsClass-class_of}
 use Rattle.frame_header.specs.Fields.{ClassFields, HeaderFields, IsHeader, IsSlot}
 use Rattle.frame_header.specs.{Slots.all_slots, Tables.{area_of, class_of, window_of}}
 use Rattle.frame_writer.specs.Frames.{area_in as kept_area, Frame}
-use Rattle.join_edits.proofs.AloneLaws.{rows-alone}
 use Rattle.join_edits.specs.Seamless.{brought_by, joined_by, joined_frames, part_from, parts_by}
 use Rattle.join_edits.specs.Seamless.{run_frame, run_parts, run_plan, set_apart}
 use Rattle.laying.proofs.FitLaws.{AreHeaders, parts-fitting}
 use Rattle.laying.proofs.HoldLaws.{part-some, parts-entries, parts-needs, parts-stream}
-use Rattle.laying.proofs.PlacesLaws.{range-whole}
+use Rattle.laying.proofs.{NeedsFitLaws.rows-alone, PlacesLaws.range-whole}
 use Rattle.laying.proofs.PlannedFrames.{AreLaidFrom, AreNeedsOf, laid_more, next-entries, next-map}
 use Rattle.laying.proofs.PlannedFrames.{none_laid, one, one-entry, one-stream, one_in_stream}
 use Rattle.laying.proofs.PlannedFrames.{relaid-cons, slot_among, stream-cons}

@@ -15,9 +15,9 @@ use Rattle.commands.specs.declared.fault.EditFault.TheVariants.{Write}
 use Rattle.cut_edits.{proofs.HeadLaws.{apart-had, apart-length, apart-placed}, specs.Exact.apart}
 use Rattle.frame_header.specs.Fields.{ClassFields}
 use Rattle.frame_writer.specs.Frames.{frame_bytes}
-use Rattle.join_edits.proofs.{AloneLaws.rows-alone, InputLaws.{found-input, join-late, parts-all}}
-use Rattle.join_edits.proofs.{KnownLaws.begun-long, PlanLaws.alike-first}
-use Rattle.join_edits.proofs.{ReadFaults.{fault-later, read-early}, RunFiles.files-hold}
+use Rattle.join_edits.proofs.{InputLaws.{found-input, join-late, parts-all}, KnownLaws.begun-long}
+use Rattle.join_edits.proofs.{PlanLaws.alike-first, ReadFaults.{fault-later, read-early}}
+use Rattle.join_edits.proofs.RunFiles.{files-hold}
 use Rattle.join_edits.proofs.SeamlessLaws.{AllOf, AreHeads, seamless-written, text-same}
 use Rattle.join_edits.{proofs.SourceLaws.{sound, sources-inputs}, specs.Beginnings.AreBegun}
 use Rattle.join_edits.specs.Behind.{CanBeWritten, FitsWork, parts_behind, written_of}
@@ -31,8 +31,8 @@ use Rattle.join_edits.specs.Seamless.{seamless_command, seamless_file, seamless_
 use Rattle.join_edits.specs.{Seamless.{stream_if, text_if}, SeamlessReady.{IsMade, IsReady}}
 use Rattle.join_edits.specs.declared.{beginnings.Beginning.Beginning, seamless_file.Made.Made}
 use Rattle.join_edits.specs.declared.seamless_file.Ready.{Ready}
-use Rattle.laying.{proofs.ChosenFrames.survey-had, specs.Relaid.{frames_in, Part, relaid}}
-use Rattle.laying.specs.{Surveys.HasSurvey, Written.front_blocks}
+use Rattle.laying.proofs.{ChosenFrames.survey-had, NeedsFitLaws.rows-alone}
+use Rattle.laying.specs.{Relaid.{frames_in, Part, relaid}, Surveys.HasSurvey, Written.front_blocks}
 use Rattle.outside.{proofs.FilesLaws.there_holds, specs.Counts.NoneFell}
 use Rattle.outside.specs.Files.{Contents, Files, Holds, IfTold, OnlyTouches, Told, Untold}
 use Rattle.outside.specs.Seen.{Seen}

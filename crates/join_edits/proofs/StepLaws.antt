@@ -5,12 +5,11 @@ use Rattle.std.proofs.{Common.{◌≢◌, ◌≤◌}, lemmas.List.{drop-map, get
 use Rattle.std.specs.Prelude.{flat_map, slice_range, unwrap_or}
 use Rattle.frame_header.specs.{Fields.ClassFields, Tables.window_of}
 use Rattle.frame_writer.specs.{Frames.{Frame, IsNextSettled, reach_of}, Writing.{IsNew, Writing}}
-use Rattle.join_edits.proofs.BehindLaws.{from-length, needs-length}
 use Rattle.join_edits.proofs.SourceLaws.{source-holds, sources-beside}
-use Rattle.join_edits.specs.Behind.{AreWithin, frames_behind, part_behind, parts_behind}
-use Rattle.join_edits.specs.{Behind.{reach_behind, rows_behind, told_behind}, Inputs.told_in}
-use Rattle.join_edits.specs.Laying.{AreSources, IsSource}
-use Rattle.laying.proofs.{HoldLaws.needs-range, PassLaws.{lays_none, lays_then, part_then}}
+use Rattle.join_edits.specs.Behind.{AreWithin, part_behind, parts_behind, rows_behind, told_behind}
+use Rattle.join_edits.specs.{Inputs.told_in, Laying.{AreSources, IsSource}}
+use Rattle.laying.proofs.{FramesFromLemmas.{from-length, needs-length}, HoldLaws.needs-range}
+use Rattle.laying.proofs.PassLaws.{lays_none, lays_then, part_then}
 use Rattle.laying.proofs.{PlacesLaws.{fits-append, relaid-append}, PlannedFrames.AreNeedsOf}
 use Rattle.laying.proofs.RelayLaws.{begins-left, item-next, lays-all, LaysUpTo, part_more}
 use Rattle.laying.{proofs.RelayLaws.relaid-none, specs.Fits.{FitsFrom, last_reach}}
@@ -53,6 +52,16 @@ source-ready relay files fed source target long fed_from = record {
 }
 
 -- ---- their frames
+
+-- the frames from one on as they were planned
+abbrev frames_behind : ℕ → SurveyFields → List Placed → List ℕ → List Frame
+frames_behind from s placed file =
+    relaid (slice_range (all_frames file s) from (length s.frames)) placed
+
+-- how many bytes before the next area main data may begin after them
+abbrev reach_behind : ℕ → ℕ → SurveyFields → List Placed → ℕ
+reach_behind reach from s placed =
+    last_reach (window_of s.class.version) reach (needs_from s from (length s.frames)) placed
 
 needs-append : (needs more : List Need) (fs gs : List Frame) → AreNeedsOf needs fs
     → AreNeedsOf more gs → AreNeedsOf (needs ++ more) (fs ++ gs)
@@ -139,7 +148,6 @@ pub record IsLaidTo (class : ClassFields) (key output : List ℕ) (whole : List 
       begun now first files
 
 -- before the first input nothing was laid
--- none yet
 pub laid-none : {class : ClassFields} (key : List ℕ) {output : List ℕ} (w : Writing)
     {files : Files} {names : List (List ℕ)} {ss : List SurveyFields} {froms : List ℕ}
     {placed : List Placed} → AreSources class output files names ss → AreWithin ss froms
@@ -162,7 +170,6 @@ laid-none key {output} w {files} sources within target new fits = record {
 }
 
 -- behind the last all were laid
--- all of them
 pub laid-all : {class : ClassFields} {key output : List ℕ} {whole : List ℕ → List Frame}
     {begun now : Writing} {first files : Files} {names : List (List ℕ)} {ss : List SurveyFields}
     {froms : List ℕ} {placed : List Placed} → names ≡ []

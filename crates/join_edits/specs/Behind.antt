@@ -6,8 +6,8 @@ use Rattle.frame_header.specs.{Fields.ClassFields, Tables.window_of}
 use Rattle.frame_writer.specs.Frames.{Frame, frame_bytes}
 use Rattle.join_edits.specs.{Inputs.{class_in, told_in}, Laying.AreSources}
 use Rattle.join_edits.specs.declared.planned.Work.{Work}
-use Rattle.laying.specs.{Fits.{FitsFrom, last_reach}, Needs.needs_of, Passing.{IsFresh, needs_from}}
-use Rattle.laying.specs.{Relaid.{all_frames, frames_in, Part, relaid}, Written.front_blocks}
+use Rattle.laying.specs.{Fits.FitsFrom, Needs.needs_of, Passing.IsFresh}
+use Rattle.laying.specs.{Relaid.{frames_in, Part, relaid}, Written.front_blocks}
 use Rattle.outside.specs.Files.{Contents, Files}
 use Rattle.slot_plan.specs.{Plans.entries, declared.needs.Placed.Placed}
 use Rattle.sync_survey.specs.{Faults.SurveyFields, Row.Row}
@@ -17,16 +17,6 @@ use Rattle.sync_survey.specs.{Faults.SurveyFields, Row.Row}
 -- the frames from one on of a file with this survey
 abbrev pub part_behind : ℕ → List ℕ → SurveyFields → Part
 part_behind from file s = record { file = file; survey = s; from = from; to = length s.frames }
-
--- they are as they were planned
-abbrev pub frames_behind : ℕ → SurveyFields → List Placed → List ℕ → List Frame
-frames_behind from s placed file =
-    relaid (slice_range (all_frames file s) from (length s.frames)) placed
-
--- how many bytes before the next area main data may begin after them
-abbrev pub reach_behind : ℕ → ℕ → SurveyFields → List Placed → ℕ
-reach_behind reach from s placed =
-    last_reach (window_of s.class.version) reach (needs_from s from (length s.frames)) placed
 
 -- ---- all inputs
 

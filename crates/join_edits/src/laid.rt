@@ -9,7 +9,6 @@ ghost use Rattle.laying.specs.Fits.{FitsFrom};
 ghost use Rattle.join_edits.specs.Behind.{rows_behind, AreWithin, all_laid};
 ghost use Rattle.join_edits.specs.Laying.{IsJoin, AddsJoined};
 
-use crate::behind::lay_from;
 use crate::inputs::{known_at, name_at};
 use crate::stopped::Stopped;
 use laying::{Buffers, Relay};
@@ -64,7 +63,7 @@ pub(crate) fn lay_all<'a, D: Folder>(
         };
         let relay = Relay { pass, survey };
         buffers.feed.clear();
-        match lay_from(&relay, folder, from_at(froms, i), &placed[at..], buffers) {
+        match relay.lay_from(folder, from_at(froms, i), &placed[at..], buffers) {
             Ok(count) => at += count,
             Err(fault) => {
                 return Err(Stopped {

@@ -2,7 +2,6 @@
 #![tactic(auto)]
 
 mod beginnings;
-mod behind;
 mod decided;
 mod inputs;
 mod join_file;

@@ -9,6 +9,7 @@ ghost use Rattle.join_edits.specs.Reading.{IsHeld, ReadsInput, ReadsArea, IsMain
 
 use arrayvec::ArrayVec;
 use frame_header::Header;
+use laying::first_held;
 use outside::{Folder, PassFault, read_exact};
 use reservoir::Window;
 use sync_survey::{Row, Survey};
@@ -46,25 +47,6 @@ impl<'a> Source<'a> {
         read_exact(folder, self.name, self.survey.length(), at, area)?;
         window.push_area(area);
         Ok(())
-    }
-
-    /// The frame from which on a window has to be over the areas before frame `i`: these have at least
-    /// 2,048 bytes, or it is the first frame of all.
-    fn first_held(&self, i: usize) -> usize
-        requires within { i ≤ length (tells self.now.survey.now).frames }
-        ensures before { result ≤ i }
-        ensures held { (result ≡ 0) ⊎ (place (tells self.now.survey.now).head
-            (tells self.now.survey.now).frames result + window_size
-            ≤ place (tells self.now.survey.now).head (tells self.now.survey.now).frames i) }
-    {
-        let rows = self.survey.frames();
-        let mut first = i;
-        let mut bytes = 0;
-        while first > 0 && bytes < 2048 {
-            first -= 1;
-            bytes += rows[first].header().area();
-        }
-        first
     }
 
     /// Begins to read the areas of frames from this first one on: with that of the head, if it is the first
@@ -113,7 +95,7 @@ impl<'a> Source<'a> {
         ensures reads { ReadsInput self.now (D.seen folder.old) (D.seen folder.new) result }
     {
         window.clear();
-        let first = self.first_held(i);
+        let first = first_held(self.survey, i);
         self.begin_at(folder, first, window)?;
         let rows = self.survey.frames();
         let mut at = first;

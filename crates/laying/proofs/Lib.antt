@@ -13,6 +13,7 @@ pub mod CopyLaws
 pub mod FittingFrames
 pub mod LaidLaws
 pub mod PlacesLaws
+pub mod FramesFromLemmas
 pub mod LaidData
 pub mod EntryBytes
 pub mod InfoBytes

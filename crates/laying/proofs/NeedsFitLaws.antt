@@ -3,7 +3,7 @@
 -- those bytes are free before each frame that are after the main data before it, as far
 -- as the window shows them; also if silent and lost frames, which don't change where
 -- main data end, are between. After a whole window of free bytes no frame has fewer.
-use Rattle.std.proofs.Common.{ap, arith, Bool, cond, drop, false, List, map, Option, refl}
+use Rattle.std.proofs.Common.{ap, arith, Bool, cond, drop, false, List, map, None, Option, refl}
 use Rattle.std.proofs.Common.{slice_get, slice_range, Some, subst, suc, sum_by, sym, take, true}
 use Rattle.std.proofs.Common.{zero, ℕ, [], ◌+◌, ◌-◌, ◌||◌, ◌∙◌, ◌∷◌, ◌≡◌, ◌≤◌}
 use Rattle.std.proofs.lemmas.{Bool.{eqb-true, ltb-false}, List.{drop-map, take-map}}
@@ -12,10 +12,10 @@ use Rattle.frame_header.specs.{Fields.{ClassFields, IsHeader}, Tables.window_of}
 use Rattle.laying.{proofs.BeginLaws.begin-near, specs.{Needs.need_of, NeedsFit.IsPlaced}}
 use Rattle.laying.specs.NeedsLaws.{needs_between}
 use Rattle.side_info.specs.Side.{payload_bits, payload_bytes}
-use Rattle.slot_plan.proofs.PartLaws.{class-range}
+use Rattle.slot_plan.proofs.{BehindLaws.within-fit, PartLaws.class-range}
 use Rattle.slot_plan.proofs.ReserveLaws.{AllFit, fit-from, layout-fit, starts_of}
-use Rattle.slot_plan.specs.{Layouts.{Frame, IsFeasible}, Parts.{AreOfClass, own_frame}}
-use Rattle.slot_plan.specs.Reserve.{free_behind}
+use Rattle.slot_plan.specs.{Behind.FitsBehind, Layouts.{Frame, IsFeasible}}
+use Rattle.slot_plan.specs.{Parts.{AreOfClass, own_frame}, Reserve.free_behind}
 use Rattle.sync_survey.{proofs.SurveyParts.{data-none_well, StandWell}, specs.Faults.SurveyFields}
 use Rattle.sync_survey.specs.MainData.{end_before, end_behind, end_of_data, is_silent, lacks_data}
 use Rattle.sync_survey.specs.{MainData.{own_area, place}, Row.Row, Survey.AreWellPlaced}
@@ -156,6 +156,16 @@ module _ (head : Option Head) (class : ClassFields) (rows : List Row)
   fit_all : AllFit of_class of_class (map own_frame (map need_of rows))
   unfolding end_before
   fit_all = fit_from 0 rows of_class all_stand (omega arith) (omega arith)
+
+-- the frames of a stream fit behind no bytes where it has no head: none of them has main data
+-- before the first
+pub rows-alone : (class : ClassFields) (rows : List Row) → AreWellPlaced None class rows
+    → FitsBehind (window_of class.version) 0 (map need_of rows)
+unfolding end_before place
+rows-alone class rows placed =
+    within-fit (window_of class.version) 0 (map own_frame (map need_of rows)) (omega arith)
+    (fit_from None class rows placed 0 rows 0 (all_stand None class rows placed) (omega arith)
+    (omega arith))
 
 -- ---- a part of them
 

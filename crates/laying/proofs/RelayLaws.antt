@@ -41,6 +41,13 @@ pub found-at : {X : Type 0} (xs : List X) (i : ℕ) (x : X) → i < length xs �
     → slice_get xs i ≡ Some x
 found-at xs i x within is = slice_get-get_or xs i x within ∙ ap (λ y. Some y) (sym is)
 
+-- an item of a list is one of any list that is the same
+pub read-at : {X : Type 0} (xs ys : List X) (i : ℕ) (x : X) → i < length ys → xs ≡ ys
+    → x ≡ get_or xs i x → slice_get ys i ≡ Some x
+read-at {X} xs ys i x within same is =
+    let here : i < length xs = omega (arith, within, ap length same) in
+    ap (λ (l : List X). slice_get l i) (sym same) ∙ found-at xs i x here is
+
 -- what is left from a place on is the one there and those behind it
 pub item-next : {X : Type 0} (xs : List X) (i : ℕ) (x : X) → i < length xs → x ≡ get_or xs i x
     → drop i xs ≡ x ∷ drop (i + 1) xs

@@ -32,5 +32,5 @@ pub use laws::{
 };
 pub use needs_laws::{one_part_fits, part_fits, parts_fit};
 pub use parts::Parts;
-pub use relay::Relay;
+pub use relay::{Relay, first_held};
 pub use selected::Selected;

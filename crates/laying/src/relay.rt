@@ -18,6 +18,7 @@ ghost use Rattle.laying.specs.Fits.{bytes_at, area_at};
 ghost use Rattle.laying.specs.Calls.{Stands, StandsBefore, IsNext, Follows, ReadsOn, GivesArea, CanCut, TakesFrame, Gives, HandsOn, AddsMade};
 ghost use Rattle.laying.specs.Passing.{Reaches, IsReady, IsGiven, IsAreaOf, KeepsReach, IsOver, HoldsLast, HoldsWith, IsOverLast, moved_frame, placed_frame, planned_frames, own_reach, reach_at, reach_behind_all, FitsBehind, GivesFrames, GivesPart};
 ghost use Rattle.laying.specs.Laid.{selected_frames, IsWritable};
+ghost use Rattle.laying.specs.Places.{places_for as places_for_lem, own_places};
 ghost use Rattle.frame_header.specs.Limits.{most_back, most_frame_length};
 ghost use Rattle.outside.specs.Feed.{most_given};
 ghost use Rattle.frame_writer.specs.Laid.{most_waiting};
@@ -242,25 +243,6 @@ impl<'a> Relay<'a> {
         Ok(())
     }
 
-    /// The frame from which on a window has to be over the areas before frame `i`: these have at least
-    /// 2,048 bytes, or it is the first frame of all.
-    fn first_held(&self, i: usize) -> usize
-        requires within { i ≤ length (tells self.now.survey.now).frames }
-        ensures before { result ≤ i }
-        ensures held { (result ≡ 0) ⊎ (place (tells self.now.survey.now).head
-            (tells self.now.survey.now).frames result + window_size
-            ≤ place (tells self.now.survey.now).head (tells self.now.survey.now).frames i) }
-    {
-        let rows = self.survey.frames();
-        let mut first = i;
-        let mut bytes = 0;
-        while first > 0 && bytes < 2048 {
-            first -= 1;
-            bytes += rows[first].header().area();
-        }
-        first
-    }
-
     /// Begins to read the areas of frames from this first one on: with that of the head, if it is the first
     /// frame of all.
     ///
@@ -291,7 +273,7 @@ impl<'a> Relay<'a> {
     ///
     /// # Errors
     /// `Read` or `Shrunk` where the input can't be read.
-    pub fn read_before<D: Folder>(
+    fn read_before<D: Folder>(
         &self,
         folder: &mut D,
         i: usize,
@@ -305,7 +287,7 @@ impl<'a> Relay<'a> {
         ensures reads { ReadsOn self.now feed.new (D.seen folder.old) (D.seen folder.new) result }
     {
         window.clear();
-        let first = self.first_held(i);
+        let first = first_held(self.survey, i);
         self.begin_at(folder, first, feed, window)?;
         let rows = self.survey.frames();
         let mut at = first;
@@ -511,7 +493,7 @@ impl<'a> Relay<'a> {
     ///
     /// # Errors
     /// `Read` or `Shrunk` where the input can't be read, `Write` where a write failed.
-    pub fn frames<D: Folder>(
+    fn frames<D: Folder>(
         &self,
         folder: &mut D,
         from: usize,
@@ -546,6 +528,40 @@ impl<'a> Relay<'a> {
             reading = self.place(folder, &reading, &known, place, buffers)?;
         }
         Ok(())
+    }
+
+    /// Gives the frames of the input from frame `from` on to the writer as the first of these places say, and
+    /// answers how many places they take. The window may hold anything. It takes no memory.
+    ///
+    /// # Errors
+    /// As `frames`.
+    pub fn lay_from<D: Folder>(
+        &self,
+        folder: &mut D,
+        from: usize,
+        placed: &[Placed],
+        buffers: &mut Buffers,
+    ) -> Result<usize, PassFault>
+        requires stands { Stands self.now (D.seen folder.old).files buffers.old }
+        requires within { from ≤ length (tells self.now.survey.now).frames }
+        requires fits { FitsBehind (reach_of buffers.old.writer) self.now from
+            (length (tells self.now.survey.now).frames)
+            (own_places (length (tells self.now.survey.now).frames - from) placed.now) }
+        ensures gives { Gives self.now (planned_frames self.now from
+            (length (tells self.now.survey.now).frames) placed.now)
+            (reach_behind_all (reach_of buffers.old.writer) self.now from
+            (length (tells self.now.survey.now).frames) placed.now)
+            buffers.old buffers.new (D.seen folder.old) (D.seen folder.new) result }
+        ensures count { IfOk result (λ count. count
+            ≡ places_for_lem (length (tells self.now.survey.now).frames - from) placed.now) }
+        ensures within { IfOk result (λ count. count ≤ length placed.now) }
+        ensures stands { OnOk result (Stands self.now (D.seen folder.new).files buffers.new) }
+    {
+        self.read_before(folder, from, &mut buffers.feed, &mut buffers.window)?;
+        let rows = self.survey.frames();
+        let count = places_for(rows.len() - from, placed);
+        self.frames(folder, from, rows.len(), &placed[..count], buffers)?;
+        Ok(count)
     }
 
     /// Hands on all that waits in the writer to the buffer before the output. It takes no memory.
@@ -594,6 +610,43 @@ impl<'a> Relay<'a> {
         self.frames(folder, from, selected.to, selected.plan.placed(), buffers)?;
         self.finish(folder, &mut buffers.writer, &mut buffers.waiting)
     }
+}
+
+/// The frame of a survey from which on a window has to be over the areas before frame `i`: these have at
+/// least 2,048 bytes, or it is the first frame of all.
+pub fn first_held(survey: &Survey, i: usize) -> usize
+    requires within { i ≤ length (tells survey.now).frames }
+    ensures before { result ≤ i }
+    ensures held { (result ≡ 0) ⊎ (place (tells survey.now).head (tells survey.now).frames result
+        + window_size ≤ place (tells survey.now).head (tells survey.now).frames i) }
+{
+    let rows = survey.frames();
+    let mut first = i;
+    let mut bytes = 0;
+    while first > 0 && bytes < 2048 {
+        first -= 1;
+        bytes += rows[first].header().area();
+    }
+    first
+}
+
+/// How many places of a plan so many frames take, together with their lead-ins.
+fn places_for(frames: usize, placed: &[Placed]) -> usize
+    ensures places { result ≡ places_for_lem frames placed.now }
+    ensures within { result ≤ length placed.now }
+{
+    let mut left = frames;
+    let mut count = 0;
+    for place in placed {
+        if left == 0 {
+            return count;
+        }
+        if !place.lead_in {
+            left -= 1;
+        }
+        count += 1;
+    }
+    count
 }
 
 /// The main data of frame `i`, in as few bytes as hold them. A lost frame has none.

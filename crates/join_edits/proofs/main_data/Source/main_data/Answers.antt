@@ -1,8 +1,7 @@
 -- The areas up to its own are read, and the main data are cut out of them.
 use Rattle.std.proofs.Common.{ap, slice_get, Some, subst, sym, true, ◌∙◌, ◌≡◌}
-use Rattle.join_edits.proofs.FramePlaces.{get-one}
-use Rattle.join_edits.proofs.ReadingLaws.{data-ends, data-held, data-is, read-at}
-use Rattle.laying.proofs.ReadLaws.{lost-is}
+use Rattle.join_edits.proofs.{FramePlaces.get-one, ReadingLaws.{data-ends, data-held, data-is}}
+use Rattle.laying.proofs.{ReadLaws.lost-is, RelayLaws.read-at}
 use Rattle.sync_survey.specs.{Faults.tells, MainData.own_area, Row.Row}
 use Rattle.join_edits.proofs.main_data.Source.main_data.Goals as goal
 

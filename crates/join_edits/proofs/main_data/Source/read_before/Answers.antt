@@ -1,8 +1,9 @@
 -- One area more is read, up to frame i; then the last 2,048 bytes are there, or all.
 use Rattle.std.proofs.Common.{ap, arith, slice_get, Some, subst, ◌∙◌, ◌≡◌}
 use Rattle.frame_header.specs.Tables.{class_of, length_of}
-use Rattle.join_edits.proofs.ReadingLaws.{area-next, read-at}
-use Rattle.laying.{proofs.ReadLaws.{laid-within, last-whole}, specs.Passing.IsOverLast}
+use Rattle.join_edits.proofs.ReadingLaws.{area-next}
+use Rattle.laying.proofs.{ReadLaws.{laid-within, last-whole}, RelayLaws.read-at}
+use Rattle.laying.specs.Passing.{IsOverLast}
 use Rattle.sync_survey.specs.Faults.{tells}
 use Rattle.join_edits.proofs.main_data.Source.read_before.Goals as goal
 

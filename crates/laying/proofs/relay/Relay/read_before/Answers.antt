@@ -1,22 +1,15 @@
 -- One area more is read, up to frame i; then the last 2,048 bytes are there, or all.
-use Rattle.std.proofs.Common.{ap, arith, get_or, length, List, slice_get, Some, subst, sym, ℕ, ◌<◌}
-use Rattle.std.proofs.Common.{◌∙◌, ◌≡◌}
-use Rattle.laying.proofs.{ReadLaws.{last-next, last-whole}, RelayLaws.found-at}
+use Rattle.std.proofs.Common.{arith, List, slice_get, Some, subst, sym, ℕ, ◌∙◌, ◌≡◌}
+use Rattle.laying.proofs.{ReadLaws.{last-next, last-whole}, RelayLaws.read-at}
 use Rattle.laying.specs.Passing.{IsAreaOf, IsOverLast}
-use Rattle.sync_survey.specs.{Faults.tells, Row.Row}
+use Rattle.sync_survey.specs.Faults.{tells}
 use Rattle.laying.proofs.relay.Relay.read_before.Goals as goal
-
--- an element of a list that is another
-read-at : (rows frames : List Row) (at : ℕ) (row : Row) → at < length rows → rows ≡ frames
-    → row ≡ get_or rows at row → slice_get frames at ≡ Some row
-read-at rows frames at row within same is =
-    ap (λ (l : List Row). slice_get l at) (sym same) ∙ found-at rows at row within is
 
 pub fill_area-requires-clause-found : goal.fill_area-requires-clause-found
 fill_area-requires-clause-found g c =
     read-at c.frames-rows.result.now
     (tells c.args.self.now.survey.now).frames c.loop-at.at c.index-rows-at.result
-    (omega (arith, c.loop-at-test.true, c.requires.within, ap length c.frames-rows.ensures))
+    (omega (arith, c.loop-at-test.true, c.requires.within))
     c.frames-rows.ensures c.index-rows-at.is
 
 pub overflow_add-at : goal.overflow_add-at
@@ -32,7 +25,7 @@ loop-at-preserved g c =
     let row = c.index-rows-at.result in
     let found : slice_get s.frames at ≡ Some row =
     read-at c.frames-rows.result.now s.frames at row
-    (omega (arith, c.loop-at-test.true, c.requires.within, ap length c.frames-rows.ensures))
+    (omega (arith, c.loop-at-test.true, c.requires.within))
     c.frames-rows.ensures c.index-rows-at.is in
     record {
       early = omega (arith, c.loop-at-test.true);

@@ -1,11 +1,11 @@
 -- One place of the plan after another.
 use Rattle.std.proofs.Common.{ap, arith, drop, length, rules, [], ◌+◌, ◌-◌, ◌<◌, ◌∙◌, ◌∷◌, ◌≡◌}
 use Rattle.std.proofs.lemmas.List.{drop_all}
-use Rattle.join_edits.proofs.behind.places_for.Goals.{else-not-place, then-not-place}
 use Rattle.laying.proofs.PlacesLaws.{behind-frame, behind-lead, places-end, places-next}
 use Rattle.laying.proofs.{PlacesLaws.places-none, RelayLaws.item-next}
+use Rattle.laying.proofs.relay.places_for.Goals.{else-not-place, then-not-place}
 use Rattle.laying.specs.Places.{frames_behind, places_for}
-use Rattle.join_edits.proofs.behind.places_for.Goals as goal
+use Rattle.laying.proofs.relay.places_for.Goals as goal
 
 pub returns-then-left-eq0-clause-places : goal.returns-then-left-eq0-clause-places
 returns-then-left-eq0-clause-places c =

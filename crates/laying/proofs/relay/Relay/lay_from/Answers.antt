@@ -2,25 +2,26 @@
 use Rattle.std.proofs.Common.{ap, arith, length, rules, subst, sym, ◌-◌, ◌∙◌}
 use Rattle.frame_header.specs.Tables.{window_of}
 use Rattle.frame_writer.specs.Frames.{reach_of}
-use Rattle.join_edits.proofs.BehindLaws.{fits-from, from-begins, lays-from, part-from, reach-is}
-use Rattle.join_edits.specs.Behind.{frames_behind, reach_behind}
-use Rattle.laying.{proofs.PassLaws.part_none, specs.Passing.{GivesFrames, GivesPart, writing_in}}
-use Rattle.laying.specs.Places.{places_for}
+use Rattle.laying.proofs.FramesFromLemmas.{fits-from, from-begins, lays-from, part-from, reach-is}
+use Rattle.laying.proofs.PassLaws.{part_none}
+use Rattle.laying.specs.Passing.{GivesFrames, GivesPart, planned_frames, reach_behind_all}
+use Rattle.laying.specs.{Passing.writing_in, Places.places_for}
 use Rattle.outside.proofs.PassedLaws.{err_at}
 use Rattle.sync_survey.specs.Faults.{tells}
-use Rattle.join_edits.proofs.behind.lay_from.Goals as goal
+use Rattle.laying.proofs.relay.Relay.lay_from.Goals as goal
 
 pub returns-in_err-read_before-clause-gives : goal.returns-in_err-read_before-clause-gives
 returns-in_err-read_before-clause-gives g c = record {
   lays = search rules;
-  part = let relay = c.args.relay.now in
+  part = let relay = c.args.self.now in
       let from = c.args.from in
       let s = tells relay.survey.now in
+      let to = length s.frames in
       let b = c.args.buffers.now in
       let placed = c.args.placed.now in
       let old = (g.D.Folder.seen c.args.folder.now).files in
-      let made = frames_behind from s placed in
-      let reach = reach_behind (reach_of b.writer) from s placed in
+      let made = planned_frames relay from to placed in
+      let reach = reach_behind_all (reach_of b.writer) relay from to placed in
       err_at c.from_residual.result _ c.from_residual.ensures.1
       (subst (λ f. GivesPart relay made reach b old f c.in_err-read_before.field-0.0)
       (sym c.read_before.ensures.reads.files)
@@ -36,7 +37,7 @@ returns-in_err-read_before-clause-gives g c = record {
 
 pub frames-requires-clause-fits : goal.frames-requires-clause-fits
 frames-requires-clause-fits g c =
-    let s = tells c.args.relay.now.survey.now in
+    let s = tells c.args.self.now.survey.now in
     fits-from s c.args.placed.now c.args.from _ _ (ap length c.frames-rows.ensures)
     c.places_for-count.ensures.places (window_of s.class.version)
     (reach_of c.args.buffers.now.writer) c.requires.fits
@@ -44,15 +45,17 @@ frames-requires-clause-fits g c =
 pub returns-in_err-frames-clause-gives : goal.returns-in_err-frames-clause-gives
 returns-in_err-frames-clause-gives g c = record {
   lays = search rules;
-  part = let relay = c.args.relay.now in
+  part = let relay = c.args.self.now in
       let from = c.args.from in
       let s = tells relay.survey.now in
+      let to = length s.frames in
       let b = c.args.buffers.now in
       let placed = c.args.placed.now in
       let reach = reach_of b.writer in
       let after = (g.D.Folder.seen c.frames.new.folder).files in
       err_at c.from_residual-in_err-frames.result _ c.from_residual-in_err-frames.ensures.1
-      (subst (λ f. GivesPart relay (frames_behind from s placed) (reach_behind reach from s placed)
+      (subst (λ f. GivesPart relay (planned_frames relay from to placed)
+      (reach_behind_all reach relay from to placed)
       b f after c.in_err-frames.field-0.0) c.read_before.ensures.reads.files
       (part-from s placed from _ _ (ap length c.frames-rows.ensures)
       c.places_for-count.ensures.places relay.pass.input.now relay.pass.output.now (writing_in b)
@@ -65,14 +68,16 @@ returns-in_err-frames-clause-gives g c = record {
 
 pub returns-clause-gives : goal.returns-clause-gives
 returns-clause-gives g c = record {
-  lays = let relay = c.args.relay.now in
+  lays = let relay = c.args.self.now in
       let from = c.args.from in
       let s = tells relay.survey.now in
+      let to = length s.frames in
       let b = c.args.buffers.now in
       let placed = c.args.placed.now in
       let seen = g.D.Folder.seen in
       let after = (seen c.frames.new.folder).files in
-      subst (λ f. GivesFrames relay (frames_behind from s placed) b c.frames.new.buffers f after)
+      subst (λ f. GivesFrames relay
+      (planned_frames relay from to placed) b c.frames.new.buffers f after)
       c.read_before.ensures.reads.files
       (lays-from s placed from _ _ (ap length c.frames-rows.ensures)
       c.places_for-count.ensures.places relay.pass.input.now relay.pass.output.now (writing_in b)
@@ -80,7 +85,7 @@ returns-clause-gives g c = record {
       c.in_ok-frames.ensures.gives.lays);
   part = search rules;
   reach = c.in_ok-frames.ensures.gives.reach
-      ∙ reach-is (tells c.args.relay.now.survey.now) c.args.placed.now c.args.from _ _
+      ∙ reach-is (tells c.args.self.now.survey.now) c.args.placed.now c.args.from _ _
       (ap length c.frames-rows.ensures) c.places_for-count.ensures.places
       (reach_of c.args.buffers.now.writer);
   done = search rules;

@@ -1,13 +1,13 @@
 -- The bytes of the areas so far are those between the two frames.
 use Rattle.std.proofs.Common.{◌+◌, ◌≡◌, ◌≤◌}
 use Rattle.sync_survey.specs.{Faults.tells, MainData.place}
-use Rattle.laying.proofs.relay.Relay.first_held.Given as goal
+use Rattle.laying.proofs.relay.first_held.Given as goal
 
 abbrev pub invariant-loop-first : goal.invariant-loop-first
 invariant-loop-first l = record {
   early : l.first ≤ l.i;
-  bytes_are : place (tells l.self.survey.now).head (tells l.self.survey.now).frames l.first
-      + l.bytes ≡ place (tells l.self.survey.now).head (tells l.self.survey.now).frames l.i;
+  bytes_are : place (tells l.survey).head (tells l.survey).frames l.first
+      + l.bytes ≡ place (tells l.survey).head (tells l.survey).frames l.i;
 }
 
 abbrev pub decreases-loop-first : goal.decreases-loop-first

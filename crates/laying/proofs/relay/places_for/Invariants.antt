@@ -1,7 +1,7 @@
 -- The places before are counted, and the frames that are left take the others.
 use Rattle.std.proofs.Common.{drop, ◌+◌, ◌≡◌}
 use Rattle.laying.specs.Places.{places_for}
-use Rattle.join_edits.proofs.behind.places_for.Given as goal
+use Rattle.laying.proofs.relay.places_for.Given as goal
 
 abbrev pub invariant-loop-place : goal.invariant-loop-place
 invariant-loop-place l = record {

@@ -1,0 +1,137 @@
+-- The frames of an input from one on, in the first places of a plan.
+use Rattle.std.proofs.Common.{ap, append-nil, ap₂, arith, drop, length, List, refl, slice_range}
+use Rattle.std.proofs.Common.{subst, sym, take, ℕ, [], ◌++◌, ◌-◌, ◌∙◌, ◌≡◌, ◌≤◌}
+use Rattle.std.proofs.lemmas.List.{length-drop, length-map, length-take-le}
+use Rattle.frame_header.specs.Tables.{window_of}
+use Rattle.frame_writer.specs.{Frames.{Frame, pieces}, Laid.BeginsWithin, Writing.Writing}
+use Rattle.laying.proofs.{HoldLaws.{all-length, needs-range}, PassLaws.{begins_more, lays_as}}
+use Rattle.laying.proofs.{PlacesLaws.{last-own, relaid-own}, RelayLaws.{begins-left, part_more}}
+use Rattle.laying.specs.{Fits.{FitsFrom, last_reach}, Needs.need_of}
+use Rattle.laying.specs.{Passing.{Lays, LaysPart, needs_from}, Places.{own_places, places_for}}
+use Rattle.laying.specs.{Relaid.{all_frames, relaid}, Surveys.HasSurvey}
+use Rattle.outside.specs.{Files.Files, declared.pass.PassFault.PassFault}
+use Rattle.slot_plan.specs.declared.needs.{Need.Need, Placed.Placed}
+use Rattle.sync_survey.specs.Faults.{SurveyFields}
+
+-- the frames from one on in these places (`planned_frames`, by the survey)
+abbrev planned : ℕ → SurveyFields → List Placed → List ℕ → List Frame
+planned from s placed file = relaid (slice_range (all_frames file s) from (length s.frames)) placed
+
+-- how many bytes before the next area main data may begin after them
+abbrev reached : ℕ → ℕ → SurveyFields → List Placed → ℕ
+reached reach from s placed =
+    last_reach (window_of s.class.version) reach (needs_from s from (length s.frames)) placed
+
+-- ---- how many there are
+
+range-rest : {X : Type 0} (xs : List X) (from to : ℕ) → to ≡ length xs
+    → length (slice_range xs from to) ≡ to - from
+range-rest xs from to all =
+    length-take-le (to - from) (drop from xs) (omega (arith, all, length-drop from xs))
+
+-- from one frame on, a file has all frames of its survey but those before it
+pub from-length : (file : List ℕ) (from : ℕ) (s : SurveyFields)
+    → length (slice_range (all_frames file s) from (length s.frames)) ≡ length s.frames - from
+from-length file from s =
+    range-rest (all_frames file s) from (length s.frames) (sym (all-length file s))
+
+-- and there are as many needs
+pub needs-length : (from : ℕ) (s : SurveyFields)
+    → length (needs_from s from (length s.frames)) ≡ length s.frames - from
+needs-length from s =
+    length-map (slice_range s.frames from (length s.frames)) need_of
+    ∙ range-rest s.frames from (length s.frames) refl
+
+-- ---- the places that frames take
+
+frames-own : (file : List ℕ) (from : ℕ) (s : SurveyFields) (placed : List Placed)
+    → planned from s (own_places (length s.frames - from) placed) file
+    ≡ planned from s placed file
+frames-own file from s placed =
+    let frames = slice_range (all_frames file s) from (length s.frames) in
+    ap (λ n. relaid frames (own_places n placed)) (sym (from-length file from s))
+    ∙ relaid-own frames placed
+
+reach-own : (reach from : ℕ) (s : SurveyFields) (placed : List Placed)
+    → reached reach from s (own_places (length s.frames - from) placed)
+    ≡ reached reach from s placed
+reach-own reach from s placed =
+    let needs = needs_from s from (length s.frames) in
+    let window = window_of s.class.version in
+    ap (λ n. last_reach window reach needs (own_places n placed)) (sym (needs-length from s))
+    ∙ last-own window reach needs placed
+
+-- where they are told, they begin within reach
+pub from-begins : (file : List ℕ) (from : ℕ) (s : SurveyFields) (placed : List Placed)
+    (reach free : ℕ) (more : List Frame) → HasSurvey file s → reach ≤ free
+    → FitsFrom (window_of s.class.version) reach (needs_from s from (length s.frames))
+    (own_places (length s.frames - from) placed)
+    → BeginsWithin (reached reach from s placed) (pieces more)
+    → BeginsWithin free (pieces (planned from s placed file ++ more))
+from-begins file from s placed reach free more has within fits begins =
+    let to = length s.frames in
+    let own = own_places (to - from) placed in
+    let frames = slice_range (all_frames file s) from to in
+    begins_more reach free (pieces (planned from s placed file ++ more)) within
+    (subst (λ (fs : List Frame). BeginsWithin reach (pieces (fs ++ more)))
+    (frames-own file from s placed)
+    (begins-left (window_of s.class.version) reach (needs_from s from to) frames own more
+    (needs-range file s from to has) fits
+    (subst (λ n. BeginsWithin n (pieces more)) (sym (reach-own reach from s placed)) begins)))
+
+-- ---- the same, by how many frames and places there are
+
+module _ (s : SurveyFields) (placed : List Placed) (from n k : ℕ) (all : n ≡ length s.frames)
+    (own : k ≡ places_for (n - from) placed) where
+  taken : take k placed ≡ own_places (length s.frames - from) placed
+  taken = ap (λ m. take m placed) (own ∙ ap (λ m. places_for (m - from) placed) all)
+
+  needs-are : needs_from s from n ≡ needs_from s from (length s.frames)
+  needs-are = ap (λ m. needs_from s from m) all
+
+  -- frames that fit in their own places fit when these are counted so
+  pub fits-from : (window reach : ℕ)
+      → FitsFrom window reach (needs_from s from (length s.frames))
+      (own_places (length s.frames - from) placed)
+      → FitsFrom window reach (needs_from s from n) (take k placed)
+  fits-from window reach fits =
+      subst (λ (l : List Need). FitsFrom window reach l (take k placed)) (sym needs-are)
+      (subst (FitsFrom window reach (needs_from s from (length s.frames))) (sym taken) fits)
+
+  abbrev made : List ℕ → List Frame
+  made file = relaid (slice_range (all_frames file s) from n) (take k placed)
+
+  made-is : (file : List ℕ) → made file ≡ planned from s placed file
+  made-is file =
+      ap₂ (λ m (l : List Placed). relaid (slice_range (all_frames file s) from m) l) all taken
+      ∙ frames-own file from s placed
+
+  abbrev last : ℕ → ℕ
+  last reach = last_reach (window_of s.class.version) reach (needs_from s from n) (take k placed)
+
+  -- main data may begin as far before the next area
+  pub reach-is : (reach : ℕ) → last reach ≡ reached reach from s placed
+  reach-is reach =
+      ap₂ (λ (l : List Need) (ps : List Placed).
+      last_reach (window_of s.class.version) reach l ps) needs-are taken
+      ∙ reach-own reach from s placed
+
+  module _ (input output : List ℕ) (old : Writing) (before after : Files) where
+    -- laying these frames is laying those of the input from there on
+    pub lays-from : (new : Writing) → Lays input output made old new before after
+        → Lays input output (planned from s placed) old new before after
+    lays-from new =
+        lays_as input output made (planned from s placed) old new before after
+        (λ file holds. made-is file)
+
+    -- and laying a part of these is laying a part of those
+    pub part-from : (reach : ℕ) {fault : PassFault}
+        → LaysPart input output made (last reach) old before after fault
+        → LaysPart input output (planned from s placed) (reached reach from s placed)
+        old before after fault
+    part-from reach =
+        part_more input output made (λ file. []) (planned from s placed) (last reach)
+        (reached reach from s placed) old before after
+        (λ file holds more begins.
+        subst (λ m. BeginsWithin m (pieces more)) (sym (reach-is reach)) begins)
+        (λ file holds. append-nil (made file) ∙ made-is file)
