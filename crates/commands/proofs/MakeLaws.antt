@@ -1,8 +1,8 @@
 -- A command that makes one file: what it leaves by its steps.
-use Rattle.std.proofs.Common.{ap, arith, Bool, bytes_eq, cond, Err, false, IfErr, inl, inr, IsErrOf}
-use Rattle.std.proofs.Common.{length, List, None, Ok, OnOk, Option, refl, Result, slice_index_or}
-use Rattle.std.proofs.Common.{Some, subst, sym, true, ℕ, [], ◌||◌, ◌↔◌, ◌∙◌, ◌∷◌, ◌≡◌, ◌≢◌, ◌≤◌}
-use Rattle.std.specs.{List.list_any, Result.IsErrAnd}
+use Rattle.std.proofs.Common.{ap, ap₂, arith, Bool, bytes_eq, cond, Err, false, IfErr, inl, inr}
+use Rattle.std.proofs.Common.{IsErrOf, length, List, None, Ok, OnOk, Option, refl, Result}
+use Rattle.std.proofs.Common.{slice_index_or, Some, subst, sym, true, ℕ, [], ◌||◌, ◌↔◌, ◌∙◌, ◌∷◌}
+use Rattle.std.{proofs.Common.{◌≡◌, ◌≢◌, ◌≤◌}, specs.{List.list_any, Result.IsErrAnd}}
 use Rattle.bit_fields.specs.Bits.{AreBytes}
 use Rattle.commands.proofs.{NamedLaws.among_all, WhyLaws.each_why}
 use Rattle.commands.specs.Command.{AreSound, clash_from, clash_of, Command, Gives, HoldsStreams}
@@ -19,7 +19,7 @@ use Rattle.commands.specs.declared.inputs.Inputs.{Inputs}
 use Rattle.outside.proofs.FilesLaws.{bytes_eq_same, there_holds, touches_none}
 use Rattle.outside.specs.Counts.{HappenedTo, NoneFell}
 use Rattle.outside.specs.Files.{Contents, Files, Holds, IfTold, IsThere, OnlyTouches, Told, Untold}
-use Rattle.outside.specs.Seen.{Seen}
+use Rattle.outside.specs.Seen.{Seen, seen}
 use Rattle.sync_survey.specs.Faults.{HoldsStream, longest_file}
 
 abbrev pub ok_made : Made → Result Made EditFault
@@ -361,3 +361,23 @@ refused_run command old new (Err first) fault none is left numbers fell =
       streams = tt;
       counts = fell;
     }
+
+-- a command that is done was run without a fault, if its names don't clash and no count fell
+pub done-run : (command : Command) (old new : Seen) → clash_of command ≡ None
+    → IsDone command old new → HoldsStreams command old.files → NoneFell old.counts new.counts
+    → IsRunOf command old new (Ok tt)
+done-run command old new none done streams fell = record {
+  done = done;
+  left = tt;
+  numbers = tt;
+  names = λ place. ((λ e. absurd cc), λ clash. absurd cc);
+  streams = streams;
+  counts = fell;
+}
+
+-- a run from a moment is one from a moment before it, if no file and no count changed
+pub run-before : (command : Command) (old mid new : Seen) (r : Result (Unit {0}) EditFault)
+    → mid.files ≡ old.files → mid.counts ≡ old.counts → IsRunOf command mid new r
+    → IsRunOf command old new r
+run-before command old mid new r files counts ran =
+    subst (λ s. IsRunOf command s new r) (ap₂ seen files counts) ran

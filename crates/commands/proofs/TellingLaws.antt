@@ -1,12 +1,13 @@
 -- A command with a text leaves of the files what it leaves without.
-use Rattle.std.proofs.Common.{ap, Err, IfErr, inl, inr, List, Ok, refl, Result, subst, sym, ℕ, ◌∙◌}
-use Rattle.std.proofs.Common.{◌≡◌, ◌⊎◌}
+use Rattle.std.proofs.Common.{ap, Err, IfErr, inl, inr, length, List, Ok, refl, Result, subst, sym}
+use Rattle.std.proofs.Common.{take, ℕ, ◌∙◌, ◌≡◌, ◌≤◌, ◌⊎◌}
 use Rattle.commands.proofs.WhyLaws.{each_why}
 use Rattle.commands.specs.Command.{Command, Gives, HoldsStreams, Made, MakesStreams, written}
 use Rattle.commands.specs.Left.{IsDone, IsNotBefore, IsUnfinished, IsWrittenTo, Leaves, TakesMemory}
-use Rattle.commands.specs.{Left.why_of, Said.IsText, Telling.{telling, with_text}}
-use Rattle.commands.specs.declared.fault.EditFault.{EditFault}
-use Rattle.outside.specs.{Files.{Contents, Files, IfTold, Told, Untold}, Seen.Seen}
+use Rattle.commands.specs.{Left.why_of, Said.{IsText, SaysAll, SaysPrefix}}
+use Rattle.commands.specs.{Telling.{telling, with_text}, declared.fault.EditFault.EditFault}
+use Rattle.outside.specs.{Counts.Rose, Files.{Contents, Files, IfTold, sent_more, Told, Untold}}
+use Rattle.outside.specs.{Passed.SentPrefix, Seen.{Heard, Seen}}
 
 -- what is made with a text is made without it too
 pub text-parts : (text : List ℕ) (r : Result Made EditFault) (made : Made)
@@ -138,3 +139,25 @@ module _ (text : Contents → List ℕ) (command : Command) where
       at (Ok m) e = let same : (record m { text = text t.0 }) ≡ t.1 = cc in
           sym (ap (λ (x : Made). x.text) same)
       at (Err fault) e = absurd cc
+
+-- ---- a text that is sent
+
+module _ (command : Command) (files : Files) (old new : Heard) (text : List ℕ)
+    (same : (all : List ℕ) → IsText command files all → text ≡ all) where
+  -- with all of its text sent the command said all
+  pub says-all : new.sent ≡ sent_more old.sent text → new.faults ≡ old.faults
+      → SaysAll command files old new
+  says-all sent done = record {
+    text = λ all is. sent ∙ ap (sent_more old.sent) (same all is);
+    faults = done;
+  }
+
+  -- with a prefix of it sent the command said a prefix
+  pub says-prefix : SentPrefix text old.sent new.sent → Rose old.faults new.faults
+      → SaysPrefix command files old new
+  says-prefix part rose = record {
+    text = λ all is. subst (λ (t : List ℕ). (n : ℕ) × (n ≤ length t)
+        × (new.sent ≡ sent_more old.sent (take n t))) (same all is)
+        (part.count, part.within, part.sent);
+    rose = rose;
+  }

@@ -2,10 +2,11 @@
 -- packed file holds the frames that were drawn, and needs no lead-in.
 use Rattle.std.proofs.Common.{All, ap, arith, Bool, decimal, Err, false, inl, inr, length, List}
 use Rattle.std.proofs.Common.{map, nat_le, nat_lt, None, Ok, Option, refl, Result, rules}
-use Rattle.std.proofs.Common.{slice_range, Some, subst, suc, sym, take, true, ℕ, [], ◌&&◌, ◌++◌}
-use Rattle.std.proofs.{Common.{◌<◌, ◌∙◌, ◌∷◌, ◌≡◌, ◌≢◌, ◌≤◌}, lemmas.List.length-map}
+use Rattle.std.proofs.Common.{slice_range, Some, subst, suc, sym, true, ℕ, [], ◌&&◌, ◌++◌, ◌<◌, ◌∙◌}
+use Rattle.std.proofs.{Common.{◌∷◌, ◌≡◌, ◌≢◌, ◌≤◌}, lemmas.List.length-map}
 use Rattle.std.proofs.lemmas.{List.FromFn.length-map-range_with_len, Option.same_Some}
-use Rattle.commands.{proofs.InputLaws.made-survey, specs.Command.{Made, Output, written}}
+use Rattle.commands.proofs.{InputLaws.made-survey, TellingLaws.{says-all, says-prefix}}
+use Rattle.commands.specs.Command.{Made, Output, written}
 use Rattle.commands.specs.One.{clash_in, made_of, made_result, made_where, Making, most_frames}
 use Rattle.commands.specs.{One.unless_clash, Said.{IsText, SaysAll, SaysPrefix}}
 use Rattle.commands.specs.declared.fault.EditFault.{EditFault}
@@ -265,27 +266,19 @@ text_in (Err fault) = []
 
 module _ (seed count : ℕ) (files : Files) (old new : Heard) where
   text-is : (text : List ℕ) → IsText (drill_command seed count) files text
-      → text ≡ drill_text seed count
-  text-is text (inl always) = sym (same_Some (drill_text seed count) text always)
-  text-is text (inr told) = sym (ap text_in told.3 ∙ told.4)
+      → drill_text seed count ≡ text
+  text-is text (inl always) = same_Some (drill_text seed count) text always
+  text-is text (inr told) = ap text_in told.3 ∙ told.4
 
   -- with all of the line sent the command said what it says
   pub told-all : new.sent ≡ sent_more old.sent (drill_text seed count) → new.faults ≡ old.faults
       → SaysAll (drill_command seed count) files old new
-  told-all sent done = record {
-    text = λ text is. sent ∙ ap (sent_more old.sent) (sym (text-is text is));
-    faults = done;
-  }
+  told-all = says-all (drill_command seed count) files old new (drill_text seed count) text-is
 
   -- with a prefix of it sent the command said that prefix
   pub told-part : SentPrefix (drill_text seed count) old.sent new.sent → Rose old.faults new.faults
       → SaysPrefix (drill_command seed count) files old new
-  told-part part rose = record {
-    text = λ text is. subst (λ (t : List ℕ). (n : ℕ) × (n ≤ length t)
-        × (new.sent ≡ sent_more old.sent (take n t))) (sym (text-is text is))
-        (part.count, part.within, part.sent);
-    rose = rose;
-  }
+  told-part = says-prefix (drill_command seed count) files old new (drill_text seed count) text-is
 
 behind-some : (front rest : List ℕ) (x : ℕ) → Some (front ++ x ∷ rest) ≢ Some []
 behind-some [] rest x e = absurd cc

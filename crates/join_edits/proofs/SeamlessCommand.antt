@@ -5,11 +5,11 @@ use Rattle.std.proofs.{Common.{[], ◌++◌, ◌+◌, ◌-◌, ◌<◌, ◌∙�
 use Rattle.std.specs.{List.concat, Prelude.{flat_map, IfErr, IfSome, true}}
 use Rattle.commands.proofs.MakeLaws.{all_left, clash_left, early_left, one_done, one_streams}
 use Rattle.commands.proofs.TellingLaws.{telling-done, telling-left, telling-streams, telling-text}
-use Rattle.commands.specs.Command.{AreSound, clash_from, clash_of, Command, HoldsStreams}
+use Rattle.commands.specs.Command.{AreSound, clash_from, Command, HoldsStreams}
 use Rattle.commands.specs.Left.{HasNumbers, IsDone, IsLate, IsNotBefore, Leaves}
 use Rattle.commands.specs.One.{clash_in, first_input, holding, IsEarlyFault, IsMaking, IsPassFault}
 use Rattle.commands.specs.{One.{most_frames, NeedsMemory, one_command}, Refusing.then_made}
-use Rattle.commands.specs.{Runs.IsRunOf, Said.IsText, declared.fault.EditFault.EditFault}
+use Rattle.commands.specs.{Said.IsText, declared.fault.EditFault.EditFault}
 use Rattle.commands.specs.declared.fault.EditFault.TheVariants.{EqualNames, Input, Memory, Refused}
 use Rattle.commands.specs.declared.fault.EditFault.TheVariants.{Write}
 use Rattle.cut_edits.{proofs.HeadLaws.{apart-had, apart-length, apart-placed}, specs.Exact.apart}
@@ -33,7 +33,7 @@ use Rattle.join_edits.specs.declared.{beginnings.Beginning.Beginning, seamless_f
 use Rattle.join_edits.specs.declared.seamless_file.Ready.{Ready}
 use Rattle.laying.proofs.{ChosenFrames.survey-had, NeedsFitLaws.rows-alone}
 use Rattle.laying.specs.{Relaid.{frames_in, Part, relaid}, Surveys.HasSurvey, Written.front_blocks}
-use Rattle.outside.{proofs.FilesLaws.there_holds, specs.Counts.NoneFell}
+use Rattle.outside.proofs.FilesLaws.{there_holds}
 use Rattle.outside.specs.Files.{Contents, Files, Holds, IfTold, OnlyTouches, Told, Untold}
 use Rattle.outside.specs.Seen.{Seen}
 use Rattle.slot_plan.specs.Plans.{entries}
@@ -441,19 +441,6 @@ module _ (output : List ℕ) (names : List (List ℕ))
     where
       done : Result (Unit {0}) EditFault
       done = Ok tt
-
--- a command that is done was run without a fault, if its names don't clash and no count fell
-pub done-run : (command : Command) (old new : Seen) → clash_of command ≡ None
-    → IsDone command old new → HoldsStreams command old.files → NoneFell old.counts new.counts
-    → IsRunOf command old new (Ok tt)
-done-run command old new none done streams fell = record {
-  done = done;
-  left = tt;
-  numbers = tt;
-  names = λ place. ((λ e. absurd cc), λ clash. absurd cc);
-  streams = streams;
-  counts = fell;
-}
 
 -- ---- what the numbers of a fault say
 

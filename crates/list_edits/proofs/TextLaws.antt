@@ -1,10 +1,11 @@
 -- What a command leaves that sends a text of one file, by the survey of its input.
 use Rattle.std.proofs.Common.{ap, ap₂, arith, Err, inl, inr, length, List, Ok, refl, Result, Some}
 use Rattle.std.proofs.Common.{subst, sym, ℕ, [], ◌+◌, ◌∙◌, ◌∷◌, ◌≡◌, ◌≤◌}
-use Rattle.std.specs.{Prelude.{IfErr, OnErr, OnOk, take}, Result.IsErrAnd}
+use Rattle.std.specs.{Prelude.{IfErr, OnErr, OnOk}, Result.IsErrAnd}
 use Rattle.commands.proofs.{InputLaws.of_bytes_behind, MakeLaws.{made-same, ok_made}}
 use Rattle.commands.proofs.NamedLaws.{lost_name, missed_name, unread_name}
-use Rattle.commands.proofs.{RefusingLaws.before_first, WhyLaws.each_why}
+use Rattle.commands.proofs.{RefusingLaws.before_first, TellingLaws.{says-all, says-prefix}}
+use Rattle.commands.proofs.WhyLaws.{each_why}
 use Rattle.commands.specs.Command.{Command, Gives, HoldsStreams, Made, MakesStreams, written}
 use Rattle.commands.specs.Left.{HasNumbers, IsDone, IsOfSurvey, Leaves, TakesMemory, why_of}
 use Rattle.commands.specs.{One.{IsFileFault, most_frames}, Said.{fault_of, IsText, Says}}
@@ -193,16 +194,10 @@ module _ (text : List ℕ → SurveyFields → List ℕ) (input : List ℕ) wher
         told_by (λ r. OnOk r (new.sent ≡ sent_more old.sent said)
         → OnErr r (SentPrefix said old.sent new.sent) → HasCause old.faults new.faults r
         → Says (text_command text input) files old new (fault_of r))
-        (λ x sent part cause. record {
-          text = λ told it. sent ∙ ap (sent_more old.sent) (only_text told it);
-          faults = cause.done;
-        })
-        (λ sent part cause. record {
-          text = λ told it. subst (λ (t : List ℕ). (n : ℕ) × (n ≤ length t)
-              × (new.sent ≡ sent_more old.sent (take n t))) (only_text told it)
-              (part.count, part.within, part.sent);
-          rose = cause.failed;
-        })
+        (λ x sent part cause. says-all (text_command text input) files old new said only_text sent
+        cause.done)
+        (λ sent part cause. says-prefix (text_command text input) files old new said only_text part
+        cause.failed)
 
 -- ---- a call that is refused before anything is sent
 

@@ -6,10 +6,10 @@ use Rattle.bit_fields.specs.Bits.{AreBytes}
 use Rattle.commands.proofs.MakeLaws.{clash_left, early_left, one_done, one_left, one_streams}
 use Rattle.commands.proofs.RefusingLaws.{before_first}
 use Rattle.commands.proofs.TellingLaws.{telling-done, telling-left, telling-streams, telling-text}
-use Rattle.commands.specs.{Command.{AreSound, clash_of, Command, HoldsStreams}, Kinds.of_input}
+use Rattle.commands.specs.{Command.{AreSound, Command, HoldsStreams}, Kinds.of_input}
 use Rattle.commands.specs.Left.{HasNumbers, IsDone, IsLate, IsOfPass, Leaves}
 use Rattle.commands.specs.One.{clash_in, holding, IsEarlyFault, IsMaking, IsOfInputs, IsPassFault}
-use Rattle.commands.specs.{One.{NeedsMemory, one_command, Refuses}, Runs.IsRunOf, Said.IsText}
+use Rattle.commands.specs.{One.{NeedsMemory, one_command, Refuses}, Said.IsText}
 use Rattle.commands.specs.declared.fault.EditFault.{EditFault}
 use Rattle.commands.specs.declared.fault.EditFault.TheVariants.{EqualNames, Input, Memory, Refused}
 use Rattle.commands.specs.declared.fault.EditFault.TheVariants.{Write}
@@ -17,7 +17,7 @@ use Rattle.cut_edits.proofs.LaidPass.{file-is, work_layable}
 use Rattle.cut_edits.specs.{Chosen.{chosen_file, IsSelected}, Layable.{IsWorkOf, work_file}}
 use Rattle.laying.specs.{Laid.laid_in, NeedsFit.own_choice, Surveys.HasSurvey}
 use Rattle.laying.specs.declared.selected.Selected.{Selected}
-use Rattle.outside.{proofs.FilesLaws.there_holds, specs.Counts.{Counts, NoneFell}}
+use Rattle.outside.{proofs.FilesLaws.there_holds, specs.Counts.Counts}
 use Rattle.outside.specs.Files.{Contents, Files, Holds, IfTold, IsMissing, IsThere, OnlyTouches}
 use Rattle.outside.specs.{Files.{Told, Untold}, Seen.{Seen, seen}}
 use Rattle.salvage.proofs.{LaidOutLaws.damaged_of-is, ReadFaults.damaged_of-short}
@@ -352,16 +352,3 @@ module _ (input output : List ℕ) where
   numbers-pass (Input place fault) h = (omega (arith, h.0), h.1, h.2, inl h.0)
   numbers-pass (Write place) h = omega (arith, h)
   numbers-pass _ h = absurd h
-
--- where all was done
-pub done-run : (command : Command) (old new : Seen) → clash_of command ≡ None
-    → IsDone command old new → HoldsStreams command old.files → NoneFell old.counts new.counts
-    → IsRunOf command old new (Ok tt)
-done-run command old new none done streams fell = record {
-  done = done;
-  left = tt;
-  numbers = tt;
-  names = λ place. ((λ e. absurd cc), λ clash. absurd cc);
-  streams = streams;
-  counts = fell;
-}

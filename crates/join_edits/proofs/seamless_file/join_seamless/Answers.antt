@@ -1,8 +1,8 @@
 -- A clash of names, what was met before the output is created, and what follows.
-use Rattle.std.proofs.{Common.{ap₂, map, string_bytes, subst, sym, ◌∙◌}, lemmas.List.length-map}
-use Rattle.commands.{proofs.RefusingLaws.err_with, specs.{Runs.IsRunOf, Said.{fault_of, Says}}}
+use Rattle.std.proofs.{Common.{map, string_bytes, subst, sym, ◌∙◌}, lemmas.List.length-map}
+use Rattle.commands.proofs.{MakeLaws.run-before, RefusingLaws.err_with}
+use Rattle.commands.specs.Said.{fault_of, Says}
 use Rattle.join_edits.proofs.SeamlessCommand.{left-clash, left-early, seamless-numbers}
-use Rattle.join_edits.proofs.seamless_file.join_seamless.Goals.{After-write_and_tell}
 use Rattle.join_edits.specs.{Seamless.seamless_command, SeamlessReady.IsReady}
 use Rattle.outside.specs.Seen.{seen}
 use Rattle.join_edits.proofs.seamless_file.join_seamless.Given as given
@@ -34,42 +34,24 @@ write_and_tell-requires-clause-ready g c =
     (sym c.prepare_all.ensures.reads.files) c.in_ok-ready.ensures.ready
 
 -- it ran from the moment before
-ran : (g : given.Over) (c : After-write_and_tell g)
-    → IsRunOf (seamless_command c.args.output.now (map string_bytes c.args.inputs.now))
-    (g.D.Folder.seen c.args.folder.now)
-    (g.D.Folder.seen c.write_and_tell.new.folder) c.write_and_tell.result
-ran g c =
+pub returns : goal.returns
+returns g c =
+    let old = g.D.Folder.seen c.args.folder.now in
+    let mid = g.D.Folder.seen c.prepare_all.new.folder in
     let new = g.D.Folder.seen c.write_and_tell.new.folder in
-    subst (λ old. IsRunOf (seamless_command c.args.output.now (map string_bytes c.args.inputs.now))
-    old new c.write_and_tell.result)
-    (ap₂ seen c.prepare_all.ensures.reads.files c.in_ok-ready.ensures.reads.done)
-    c.write_and_tell.ensures.run
-
-pub returns-clause-done : goal.returns-clause-done
-returns-clause-done g c = (ran g (goal.at.returns-clause-done g c).After-write_and_tell).done
-
-pub returns-clause-left : goal.returns-clause-left
-returns-clause-left g c = (ran g (goal.at.returns-clause-left g c).After-write_and_tell).left
-
-pub returns-clause-numbers : goal.returns-clause-numbers
-returns-clause-numbers g c =
-    (ran g (goal.at.returns-clause-numbers g c).After-write_and_tell).numbers
-
-pub returns-clause-names : goal.returns-clause-names
-returns-clause-names g c = (ran g (goal.at.returns-clause-names g c).After-write_and_tell).names
-
-pub returns-clause-streams : goal.returns-clause-streams
-returns-clause-streams g c =
-    (ran g (goal.at.returns-clause-streams g c).After-write_and_tell).streams
-
-pub returns-clause-counts : goal.returns-clause-counts
-returns-clause-counts g c = (ran g (goal.at.returns-clause-counts g c).After-write_and_tell).counts
-
-pub returns-clause-says : goal.returns-clause-says
-returns-clause-says g c =
-    let sink = g.T.Sink in
-    let old = sink.heard c.args.out.now in
-    let new = sink.heard c.write_and_tell.new.out in
-    subst (λ f. Says (seamless_command c.args.output.now (map string_bytes c.args.inputs.now)) f old
-    new (fault_of c.write_and_tell.result)) c.prepare_all.ensures.reads.files
-    c.write_and_tell.ensures.says
+    let command = seamless_command c.args.output.now (map string_bytes c.args.inputs.now) in
+    let reads = c.prepare_all.ensures.reads in
+    let answer = c.write_and_tell.result in
+    let run = run-before command old mid new answer reads.files c.in_ok-ready.ensures.reads.done
+    c.write_and_tell.ensures.run in
+    record {
+      done = run.done;
+      left = run.left;
+      says = subst (λ f. Says command f (g.T.Sink.heard c.args.out.now)
+          (g.T.Sink.heard c.write_and_tell.new.out) (fault_of answer)) reads.files
+          c.write_and_tell.ensures.says;
+      numbers = run.numbers;
+      names = run.names;
+      streams = run.streams;
+      counts = run.counts;
+    }

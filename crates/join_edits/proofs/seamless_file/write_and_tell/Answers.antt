@@ -1,15 +1,16 @@
 -- The second pass, and the text.
 use Rattle.std.proofs.Common.{ap, ap₂, arith, drop, length, List, map, refl, string_bytes, subst}
-use Rattle.std.proofs.{Common.{sym, take, ℕ, ◌∙◌, ◌≡◌, ◌≤◌}, lemmas.List.length-map}
-use Rattle.commands.{proofs.MakeLaws.refused_run, specs.One.{holding, IsPassFault}}
+use Rattle.std.proofs.{Common.{sym, ℕ, ◌∙◌, ◌≡◌, ◌≤◌}, lemmas.List.length-map}
+use Rattle.commands.proofs.{MakeLaws.{done-run, refused_run}, TellingLaws.{says-all, says-prefix}}
+use Rattle.commands.specs.{Left.IsDone, One.{holding, IsPassFault}, Said.IsText}
 use Rattle.commands.specs.declared.fault.EditFault.TheVariants.{Sent}
-use Rattle.join_edits.proofs.SeamlessCommand.{done-run, joints-many, left-done, left-part}
-use Rattle.join_edits.proofs.SeamlessCommand.{left-streams, ready-text, ready-writable}
-use Rattle.join_edits.{proofs.SeamlessCommand.seamless-numbers, specs.Behind.written_of}
-use Rattle.join_edits.specs.{Lines.joint_lines, Seamless.seamless_command}
-use Rattle.outside.specs.Files.{sent_more}
+use Rattle.join_edits.proofs.SeamlessCommand.{joints-many, left-done, left-part, left-streams}
+use Rattle.join_edits.proofs.SeamlessCommand.{ready-text, ready-writable, seamless-numbers}
+use Rattle.join_edits.proofs.seamless_file.write_and_tell.Goals.{After-send_lines}
+use Rattle.join_edits.specs.{Behind.written_of, Lines.joint_lines, Seamless.seamless_command}
 use Rattle.seam_plan.specs.declared.run.Joint.{Joint}
 use Rattle.sync_survey.specs.{Faults.tells, declared.surveys.Survey.Survey}
+use Rattle.join_edits.proofs.seamless_file.write_and_tell.Given as given
 use Rattle.join_edits.proofs.seamless_file.write_and_tell.Goals as goal
 
 pub write_joined-requires-clause-can : goal.write_joined-requires-clause-can
@@ -51,80 +52,68 @@ send_lines-requires-clause-inputs g c =
       length-map c.args.inputs.now string_bytes,
     )
 
+-- the output is whole
+wrote : (g : given.Over) (c : After-send_lines g)
+    → IsDone (seamless_command c.args.output.now (map string_bytes c.args.inputs.now))
+    (g.D.Folder.seen c.args.folder.now) (g.D.Folder.seen c.write_joined.new.folder)
+wrote g c =
+    let old = g.D.Folder.seen c.args.folder.now in
+    let names = map string_bytes c.args.inputs.now in
+    let output = c.args.output.now in
+    let ready = c.args.ready.now in
+    left-done output names c.requires.free
+    (omega (arith, c.requires.some, length-map c.args.inputs.now string_bytes)) old
+    (g.D.Folder.seen c.write_joined.new.folder) ready c.requires.ready
+    c.write_joined.ensures.touches
+    (λ bytes holds.
+    c.in_ok-write_joined.ensures.written bytes holds
+    ∙ ap₂ (λ (l : List Survey) (m : List ℕ). holding old.files output
+    (written_of old.files names (map tells l) m ready.made.work bytes)) c.deref.ensures.value
+    (c.as_slice.ensures.value ∙ c.left_out-left_out.ensures))
+    c.in_ok-write_joined.ensures.done
+
 pub returns-in-Ok-clause-run : goal.returns-in-Ok-clause-run
 returns-in-Ok-clause-run g c =
     let old = g.D.Folder.seen c.args.folder.now in
-    let new = g.D.Folder.seen c.write_joined.new.folder in
     let names = map string_bytes c.args.inputs.now in
-    let output = c.args.output.now in
-    let ready = c.args.ready.now in
-    let some : 1 ≤ length names =
-    omega (arith, c.requires.some, length-map c.args.inputs.now string_bytes) in
-    done-run (seamless_command output names) old new c.requires.free
-    (left-done output names c.requires.free some old new ready
-    c.requires.ready c.write_joined.ensures.touches
-    (λ bytes holds.
-    c.in_ok-write_joined.ensures.written bytes holds
-    ∙ ap₂ (λ (l : List Survey) (m : List ℕ). holding old.files output
-    (written_of old.files names (map tells l) m ready.made.work bytes)) c.deref.ensures.value
-    (c.as_slice.ensures.value ∙ c.left_out-left_out.ensures))
-    c.in_ok-write_joined.ensures.done)
-    (left-streams output names c.requires.free some old.files ready c.requires.ready)
-    c.write_joined.ensures.counts
+    let said = (goal.at.returns-in-Ok-clause-run g c).After-send_lines in
+    done-run (seamless_command c.args.output.now names) old
+    (g.D.Folder.seen c.write_joined.new.folder) c.requires.free (wrote g said)
+    (left-streams c.args.output.now names c.requires.free
+    (omega (arith, c.requires.some, length-map c.args.inputs.now string_bytes)) old.files
+    c.args.ready.now c.requires.ready) c.write_joined.ensures.counts
+
+-- the text of the command is that of what was decided
+told : (g : given.Over) (c : After-send_lines g) (all : List ℕ)
+    → IsText (seamless_command c.args.output.now (map string_bytes c.args.inputs.now))
+    (g.D.Folder.seen c.args.folder.now).files all
+    → joint_lines (drop 1 (map string_bytes c.args.inputs.now)) c.as_slice-2.result.now ≡ all
+told g c all is =
+    let names = map string_bytes c.args.inputs.now in
+    ap (joint_lines (drop 1 names)) c.as_slice-2.ensures.value
+    ∙ ready-text names (omega (arith, c.requires.some, length-map c.args.inputs.now string_bytes))
+    (g.D.Folder.seen c.args.folder.now).files c.args.ready.now c.args.output.now all
+    c.requires.ready is
 
 pub returns-in-Ok-clause-says : goal.returns-in-Ok-clause-says
 returns-in-Ok-clause-says g c =
-    let names = map string_bytes c.args.inputs.now in
-    let ready = c.args.ready.now in
-    let some : 1 ≤ length names =
-    omega (arith, c.requires.some, length-map c.args.inputs.now string_bytes) in
-    record {
-      text = λ all is.
-          let told : joint_lines (drop 1 names) c.as_slice-2.result.now ≡ all =
-          ap (joint_lines (drop 1 names)) c.as_slice-2.ensures.value
-          ∙ ready-text names some (g.D.Folder.seen c.args.folder.now).files ready
-          c.args.output.now all c.requires.ready is in
-          c.in-Ok.ensures.sent ∙ ap (sent_more (g.T.Sink.heard c.args.out.now).sent) told;
-      faults = c.in-Ok.ensures.cause.done;
-    }
+    let said = (goal.at.returns-in-Ok-clause-says g c).After-send_lines in
+    says-all (seamless_command c.args.output.now (map string_bytes c.args.inputs.now))
+    (g.D.Folder.seen c.args.folder.now).files (g.T.Sink.heard c.args.out.now)
+    (g.T.Sink.heard c.send_lines.new.out) _ (told g said) c.in-Ok.ensures.sent
+    c.in-Ok.ensures.cause.done
 
 pub returns-in-Err-clause-run : goal.returns-in-Err-clause-run
 returns-in-Err-clause-run g c =
-    let old = g.D.Folder.seen c.args.folder.now in
-    let new = g.D.Folder.seen c.write_joined.new.folder in
-    let names = map string_bytes c.args.inputs.now in
-    let output = c.args.output.now in
-    let ready = c.args.ready.now in
-    let some : 1 ≤ length names =
-    omega (arith, c.requires.some, length-map c.args.inputs.now string_bytes) in
-    refused_run (seamless_command output names) old new _ Sent c.requires.free refl
-    (left-done output names c.requires.free some old new ready
-    c.requires.ready c.write_joined.ensures.touches
-    (λ bytes holds.
-    c.in_ok-write_joined.ensures.written bytes holds
-    ∙ ap₂ (λ (l : List Survey) (m : List ℕ). holding old.files output
-    (written_of old.files names (map tells l) m ready.made.work bytes)) c.deref.ensures.value
-    (c.as_slice.ensures.value ∙ c.left_out-left_out.ensures))
-    c.in_ok-write_joined.ensures.done)
-    (λ e. absurd cc) c.write_joined.ensures.counts
+    let said = (goal.at.returns-in-Err-clause-run g c).After-send_lines in
+    refused_run (seamless_command c.args.output.now (map string_bytes c.args.inputs.now))
+    (g.D.Folder.seen c.args.folder.now) (g.D.Folder.seen c.write_joined.new.folder) _ Sent
+    c.requires.free refl (wrote g said) (λ e. absurd cc) c.write_joined.ensures.counts
 
 pub returns-in-Err-clause-says : goal.returns-in-Err-clause-says
 returns-in-Err-clause-says g c =
-    let names = map string_bytes c.args.inputs.now in
-    let ready = c.args.ready.now in
-    let some : 1 ≤ length names =
-    omega (arith, c.requires.some, length-map c.args.inputs.now string_bytes) in
-    record {
-      text = λ all is.
-          let told : joint_lines (drop 1 names) c.as_slice-2.result.now ≡ all =
-          ap (joint_lines (drop 1 names)) c.as_slice-2.ensures.value
-          ∙ ready-text names some (g.D.Folder.seen c.args.folder.now).files ready
-          c.args.output.now all c.requires.ready is in
-          let part = c.in-Err.ensures.prefix in (
-            part.count,
-            subst (λ (l : List ℕ). part.count ≤ length l) told part.within,
-            part.sent ∙ ap (λ (l : List ℕ).
-                sent_more (g.T.Sink.heard c.args.out.now).sent (take part.count l)) told,
-          );
-      rose = c.in-Err.ensures.cause.failed;
-    }
+    let said = (goal.at.returns-in-Err-clause-says g c).After-send_lines in
+    says-prefix (seamless_command c.args.output.now (map string_bytes c.args.inputs.now))
+    (g.D.Folder.seen c.args.folder.now).files (g.T.Sink.heard c.args.out.now)
+    (g.T.Sink.heard c.send_lines.new.out) _ (told g said) c.in-Err.ensures.prefix
+    c.in-Err.ensures.cause.failed
