@@ -1,4 +1,4 @@
--- One file of the frames of several, without seams, which no command makes yet: the frames that
+-- One file of the frames of several, without seams, which `join --seamless` writes: the frames that
 -- only a piece needs are left out, and what is before an input serves as its bit reservoir. In
 -- every input the head is set apart, so none of its frames has main data that begin in it.
 use Rattle.std.specs.List.{concat, list_all}

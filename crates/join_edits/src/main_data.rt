@@ -63,8 +63,8 @@ impl<'a> Source<'a> {
         requires held { IsHeld (D.seen folder.old).files self.now.name.now
             (tells self.now.survey.now) }
         requires none { IsWindowOver window.old [] }
-        ensures over { OnOk result (IsOverLast window.new self.now.name.now (D.seen folder.old).files
-            (tells self.now.survey.now) first first) }
+        ensures over { OnOk result (IsOverLast window.new self.now.name.now
+            (D.seen folder.old).files (tells self.now.survey.now) first first) }
         ensures reads { ReadsInput self.now (D.seen folder.old) (D.seen folder.new) result }
     {
         if first > 0 {

@@ -7,7 +7,7 @@ use Rattle.std.proofs.lemmas.List.{map-append}
 use Rattle.std.proofs.lemmas.List.FromFn.{length-map-range_with_len, map-range_with_len_more}
 use Rattle.std.specs.List.{range_with_len}
 use Rattle.exact_span.proofs.SplitLaws.{ranges}
-use Rattle.seam_plan.specs.Decisions.{last_seven, place_of, places_from}
+use Rattle.seam_plan.specs.Decisions.{IsSlid, last_seven, place_of, places_from}
 use Rattle.seam_plan.specs.declared.run.FramePlace.{FramePlace}
 use Rattle.slot_plan.proofs.ReserveLaws.{max-is}
 
@@ -78,23 +78,21 @@ note-by old items new input from at after gives notes places is =
     (place_of input at ∷ []) ∙ ap (λ l. places ++ l) (sym (places-more input from at after)))
 
 -- what `slide` answers
-slid : (items new : List FramePlace) (p : FramePlace) → length items ≤ 7
-    → (length items < 7 → new ≡ items ++ p ∷ []) → (length items ≡ 7 → new ≡ drop 1 items ++ p ∷ [])
+slid : (items new : List FramePlace) (p : FramePlace) → IsSlid items p new
     → new ≡ last_seven (items ++ p ∷ [])
-slid items new p few room full =
+slid items new p is =
     elim (cases_lt (length items) 7) as (λ _. new ≡ last_seven (items ++ p ∷ [])) [
-      | inl less ↦ room less ∙ last-room items p less
-      | inr most ↦ let all : length items ≡ 7 = omega (arith, few, most) in
-          full all ∙ last-full items p all
+      | inl less ↦ is.room less ∙ last-room items p less
+      | inr most ↦ let all : length items ≡ 7 = omega (arith, is.few, most) in
+          is.full all ∙ last-full items p all
     ]
 
 -- a place that is added, in place of the first of seven, is noted
-pub note-slid : (old items new : List FramePlace) (input from at : ℕ) → from ≤ at → length items ≤ 7
-    → (length items < 7 → new ≡ items ++ place_of input at ∷ [])
-    → (length items ≡ 7 → new ≡ drop 1 items ++ place_of input at ∷ [])
-    → Notes old items input from at → Notes old new input from (at + 1)
-note-slid old items new input from at after few room full notes = note-by old items new input from
-    at after (slid items new (place_of input at) few room full) notes
+pub note-slid : (old items new : List FramePlace) (input from at : ℕ) → from ≤ at
+    → IsSlid items (place_of input at) new → Notes old items input from at
+    → Notes old new input from (at + 1)
+note-slid old items new input from at after is notes =
+    note-by old items new input from at after (slid items new (place_of input at) is) notes
 
 -- where the noting begins
 pub note-from : (from to first sub : ℕ) → first ≡ max from sub → sub ≡ to - 7 → from ≤ to

@@ -7,7 +7,7 @@ use Rattle.exact_span.specs.Overlaps.{IsOverlap}
 use Rattle.exact_span.specs.PlayedPositions.{AreCounted, longest_rest, rest_of}
 use Rattle.exact_span.specs.declared.overlap.Overlap.{Overlap}
 use Rattle.frame_header.specs.{Fields.{ClassFields, IsClass, SlotFields}, Tables.window_of}
-use Rattle.seam_plan.specs.Frames.{Brought, Frame, needs_of}
+use Rattle.seam_plan.specs.{Frames.{Brought, Frame, needs_of}, Joins.joining}
 use Rattle.seam_plan.specs.Seams.{compared, ends_alike, Joint, joint_of, joint_with, left_out}
 use Rattle.seam_plan.specs.{Seams.overlap_of, declared.input.Input.Input}
 use Rattle.seam_plan.specs.declared.run.{FramePlace.FramePlace, Joint.Joint as CodeJoint, Run.Run}
@@ -88,6 +88,13 @@ pub record IsJoint (joint : Joint) (result : CodeJoint) : Type 0 where
   pub seam : result.seam ≡ joint.seam
   pub slot : result.slot ≡ option_map (λ (f : Frame). f.need.header.slot) (slice_get joint.frames 0)
 
+-- a place comes behind the last seven, of which the first goes where there are seven
+pub record IsSlid (old : List FramePlace) (place : FramePlace) (new : List FramePlace)
+    : Type 0 where
+  pub few : length old ≤ 7
+  pub room : length old < 7 → new ≡ old ++ place ∷ []
+  pub full : length old ≡ 7 → new ≡ drop 1 old ++ place ∷ []
+
 -- the last of these places, so many; none where there are fewer
 abbrev pub last_of : List FramePlace → ℕ → Option (List FramePlace)
 last_of places count =
@@ -101,6 +108,20 @@ pub record Joins (class : ClassFields) (number : ℕ) (frames : List Frame) (pla
       let joint = joint_of class frames before brought in
       IsRun class (frames ++ joint.frames)
       (places ++ places_from number (left_out joint.seam) (length joint.frames)) brought run
+
+-- these frames with the first in this slot, if there is one
+abbrev pub moved_first : Option SlotFields → List Need → List Need
+moved_first None needs = needs
+moved_first (Some slot) needs = first_in slot needs
+
+-- the run goes on with the frames of the input that are left so, whatever they sound like
+abbrev pub RunGoesOn : ℕ → Input → CodeJoint → Run → Run → Type 0
+RunGoesOn number input joint old new =
+    (class : ClassFields) (frames more : List Frame) (places : List FramePlace)
+    (before brought : Brought) → IsRun class frames places before old → IsBrought input brought
+    → needs_of more ≡ moved_first joint.slot (drop (left_out joint.seam) input.needs.now)
+    → IsRun class (frames ++ more)
+    (places ++ places_from number (left_out joint.seam) (length more)) brought new
 
 -- The frames of an input that are added to a run fit behind what it
 -- leaves, each in its own slot but for the first, which has this one.
@@ -117,11 +138,6 @@ pub record FitsAs (class : ClassFields) (left : ℕ) (input : Input)
   pub out : left_out joint.seam ≤ length input.needs.now
   pub fit : FitIn class left (drop (left_out joint.seam) input.needs.now) joint.slot
 
--- these frames with the first in this slot, if there is one
-abbrev pub moved_first : Option SlotFields → List Need → List Need
-moved_first None needs = needs
-moved_first (Some slot) needs = first_in slot needs
-
 -- this is decided, or nothing
 abbrev pub AreJoint : Option Joint → Option CodeJoint → Type 0
 AreJoint None None = Unit {0}
@@ -131,3 +147,10 @@ AreJoint _ _ = ⊥
 -- frames join with this seam, or can't
 abbrev pub IsJoining : Seam → Option (List Frame) → Option CodeJoint → Type 0
 IsJoining seam frames result = AreJoint (option_map (joint_with seam) frames) result
+
+-- so it is with frames that are left of an input behind a run, which need this
+abbrev pub JoinRun : Seam → List Need → Run → Option CodeJoint → Type 0
+JoinRun seam needs run result =
+    (class : ClassFields) (frames rest : List Frame) (places : List FramePlace) (before : Brought)
+    → IsRun class frames places before run → needs ≡ needs_of rest
+    → IsJoining seam (joining (window_of class.version) frames rest) result

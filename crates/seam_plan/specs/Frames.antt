@@ -1,4 +1,4 @@
--- What inputs bring to a join without seams, which no command makes yet.
+-- What inputs bring to a join without seams: their frames, and what their heads say of them.
 use Rattle.std.specs.Prelude.{Bool, List, map, Option, ℕ}
 use Rattle.exact_span.specs.declared.played.Played.{Played}
 use Rattle.slot_plan.specs.declared.needs.Need.{Need}

@@ -6,9 +6,8 @@ ghost use Rattle.exact_span.specs.PlayedPositions.{rest_of as rest_of_lem, longe
 ghost use Rattle.slot_plan.specs.Parts.{AreOfClass};
 ghost use Rattle.slot_plan.specs.Behind.{FitsBehind, IsLeft, in_slot as in_slot_lem};
 ghost use Rattle.seam_plan.specs.Frames.{Frame, Brought, needs_of};
-ghost use Rattle.seam_plan.specs.Joins.{joining as joining_lem};
 ghost use Rattle.seam_plan.specs.Seams.{joint_of, left_out, overlap_of, following as following_lem, without_lead_in as without_lead_in_lem};
-ghost use Rattle.seam_plan.specs.Decisions.{CanBeJoined, IsBrought, IsRun, IsWithin, IsJoint, AreJoint, IsJoining, FitIn, FitsAs, IsSound, CanFollow, Joins, alike_overlap, last_of, last_seven, moved_first, places_from};
+ghost use Rattle.seam_plan.specs.Decisions.{CanBeJoined, IsBrought, IsRun, IsWithin, IsJoint, AreJoint, FitIn, FitsAs, IsSlid, IsSound, CanFollow, JoinRun, Joins, RunGoesOn, alike_overlap, last_of, last_seven, moved_first, places_from};
 
 use crate::input::{Input, behind};
 use crate::lead_ins::{fit_alone, has_lead_in};
@@ -65,9 +64,7 @@ fn in_slot(need: &Need, slot: Slot) -> Need
 
 /// Adds a place to the last seven, of which the first goes where there are seven.
 fn slide(last: &mut ArrayVec<FramePlace, 7>, place: FramePlace)
-    ensures few { length last.old.items ≤ 7 }
-    ensures room { length last.old.items < 7 → last.new.items ≡ last.old.items ++ place ∷ [] }
-    ensures full { length last.old.items ≡ 7 → last.new.items ≡ drop 1 last.old.items ++ place ∷ [] }
+    ensures { IsSlid last.old.items place last.new.items }
 {
     if last.is_full() {
         last.remove(0);
@@ -166,9 +163,7 @@ impl Run {
         requires same { AreOfClass self.now.class needs.now }
         requires fits { FitsBehind (window_of self.now.class.version)
             (window_of self.now.class.version) needs.now }
-        ensures joining { (class : ClassFields) (frames rest : List Frame) (places : List FramePlace)
-            (before : Brought) → IsRun class frames places before self.now → needs.now ≡ needs_of rest
-            → IsJoining seam (joining_lem (window_of class.version) frames rest) result }
+        ensures joining { JoinRun seam needs.now self.now result }
         ensures fit { IfSome result (λ j. FitIn self.now.class self.now.left needs.now j.slot) }
         ensures seam { IfSome result (λ j. j.seam ≡ seam) }
     {
@@ -268,12 +263,7 @@ impl Run {
             → Joins class number frames places before brought result self.new }
         // Whatever is alike.
         ensures fits { FitsAs self.old.class self.old.left input.now result }
-        ensures goes_on { (class : ClassFields) (frames more : List Frame) (places : List FramePlace)
-            (before brought : Brought) → IsRun class frames places before self.old
-            → IsBrought input.now brought → needs_of more
-            ≡ moved_first result.slot (drop (left_out result.seam) input.now.needs.now)
-            → IsRun class (frames ++ more)
-            (places ++ places_from number (left_out result.seam) (length more)) brought self.new }
+        ensures goes_on { RunGoesOn number input.now result self.old self.new }
         ensures sound { IsSound self.new }
         ensures class { self.new.class ≡ self.old.class }
     {

@@ -11,8 +11,7 @@ loop-frame-preserved c = record {
   last =
       note-slid c.args.self.now.last.items c.loop-frame.self.last.items _
       c.args.input c.max-first.result c.loop-frame.frame (omega (arith, c.loop-frame.auto.frame))
-      c.slide.ensures.few
-      c.slide.ensures.room c.slide.ensures.full c.loop-frame.invariant.last;
+      c.slide.ensures c.loop-frame.invariant.last;
 }
 
 pub returns-clause-last : goal.returns-clause-last
