@@ -119,13 +119,6 @@ class-moved class None needs same = same
 class-moved class (Some slot) [] same = tt
 class-moved class (Some slot) (n ∷ needs) same = (same.0, same.1)
 
--- two lists of needs of a class make one list of that class
-pub class-append : (class : ClassFields) (xs ys : List Need) → AreOfClass class xs
-    → AreOfClass class ys → AreOfClass class (xs ++ ys)
-unfolding AreOfClass
-class-append class [] ys first second = second
-class-append class (x ∷ xs) ys first second = (first.0, class-append class xs ys first.1 second)
-
 -- ---- frames that are alike
 
 -- whether the frames at these places sound as those of an input from one on

@@ -1,19 +1,17 @@
 -- One input more is decided.
-use Rattle.std.proofs.Common.{ap, append-nil, append_assoc, ap₂, arith, Bool, drop, false, length}
-use Rattle.std.proofs.Common.{length-append, List, map, None, Option, refl, slice_get, slice_range}
-use Rattle.std.proofs.Common.{Some, subst, suc, sym, take, true, unwrap_or, zero, ℕ, [], ◌++◌, ◌+◌}
-use Rattle.std.proofs.Common.{◌-◌, ◌<◌, ◌∙◌, ◌∷◌, ◌≡◌, ◌≤◌}
+use Rattle.std.proofs.Common.{ap, append-nil, append_assoc, ap₂, arith, drop, length, length-append}
+use Rattle.std.proofs.Common.{List, map, Option, refl, slice_get, slice_range, Some, subst, suc}
+use Rattle.std.proofs.Common.{sym, take, unwrap_or, zero, ℕ, [], ◌++◌, ◌+◌, ◌-◌, ◌∙◌, ◌∷◌, ◌≡◌, ◌≤◌}
 use Rattle.std.proofs.lemmas.List.{drop-map, drop_all, length-drop, length-map, length-take}
 use Rattle.std.proofs.lemmas.List.{map-append, take-append-le, take_all}
 use Rattle.std.proofs.lemmas.List.Elements.{All-append, All-cons, All-nil}
 use Rattle.std.proofs.lemmas.List.FromFn.{length-enumerate_from}
-use Rattle.std.specs.{List.{AllZip, enumerate_from}, Option.option_or}
-use Rattle.std.specs.Prelude.{if◌then◌else◌, option_and_then, option_map, zip}
+use Rattle.std.specs.{List.{AllZip, enumerate_from}, Prelude.zip}
 use Rattle.exact_span.specs.{PlayedPositions.counted_of, declared.overlap.Overlap.Overlap}
-use Rattle.frame_header.specs.{Fields.{ClassFields, SlotFields}, Tables.window_of}
-use Rattle.join_edits.proofs.DecideLaws.{class-append, class-moved, drop-cons, joints-next}
-use Rattle.join_edits.proofs.DecideLaws.{last-next, moved-append, moved-joined, outs-more, run-next}
-use Rattle.join_edits.proofs.DecideLaws.{sound-here, zip-more}
+use Rattle.frame_header.specs.{Fields.ClassFields, Tables.window_of}
+use Rattle.join_edits.proofs.DecideLaws.{class-moved, drop-cons, joints-next, last-next}
+use Rattle.join_edits.proofs.DecideLaws.{moved-append, moved-joined, outs-more, run-next}
+use Rattle.join_edits.proofs.{DecideLaws.{sound-here, zip-more}, FramePlaces.get-within}
 use Rattle.join_edits.specs.Behind.{AreWithin, rows_behind}
 use Rattle.join_edits.specs.Deciding.{AreMoved, BringsNeeds, brought_of, broughts_in, IsAlike}
 use Rattle.join_edits.specs.Deciding.{IsDecidedTo, IsDecidingTo, last_brought, needs_in, outs_of}
@@ -22,15 +20,14 @@ use Rattle.join_edits.specs.Sounds.{AreAt, frames_of, IsAt, sound_at}
 use Rattle.join_edits.specs.declared.{beginnings.Beginning.Beginning, decided.Deciding.Deciding}
 use Rattle.laying.specs.Needs.{need_of, needs_of as needs_of_rows}
 use Rattle.outside.specs.Files.{Contents, Files, IfTold, Told, Untold}
-use Rattle.seam_plan.proofs.SeamLaws.{joint-adds, length-moved}
+use Rattle.seam_plan.proofs.{FollowLaws.joining-sounds, RunSounds.class-append}
+use Rattle.seam_plan.proofs.SeamLaws.{joint-adds, joint-by, length-moved}
 use Rattle.seam_plan.specs.Decisions.{alike_overlap, IsBrought, IsJoint, IsRun, IsSound, Joins}
 use Rattle.seam_plan.specs.Decisions.{moved_first, place_of, places_from}
-use Rattle.seam_plan.specs.{Frames.{Brought, Frame, needs_of}, Joins.{join_slot, joining, moved_to}}
-use Rattle.seam_plan.specs.Seams.{compared, ends_alike, follow_by, following, Joint, joint_of}
-use Rattle.seam_plan.specs.Seams.{joint_with, joints_of, left_out, overlap_of, run_with, whole}
-use Rattle.seam_plan.specs.{Seams.without_lead_in, declared.input.Input.Input}
-use Rattle.seam_plan.specs.declared.run.{FramePlace.FramePlace, Joint.Joint as CodeJoint}
-use Rattle.seam_plan.specs.declared.seam.Seam.{Seam, TheVariants.{Follows, LeadIn}}
+use Rattle.seam_plan.specs.Frames.{Brought, Frame, needs_of}
+use Rattle.seam_plan.specs.Seams.{Joint, joint_of, joints_of, left_out, run_with}
+use Rattle.seam_plan.specs.declared.{input.Input.Input, run.FramePlace.FramePlace}
+use Rattle.seam_plan.specs.declared.run.Joint.{Joint as CodeJoint}
 use Rattle.slot_plan.{proofs.PartLaws.class-drop, specs.Parts.AreOfClass}
 use Rattle.slot_plan.specs.declared.needs.Need.{Need}
 use Rattle.sync_survey.specs.Faults.{stream_of_survey, SurveyFields}
@@ -98,71 +95,14 @@ abbrev Keeps : Brought → Joint → Type 0
 Keeps brought joint =
     map-sounds joint.frames ≡ map-sounds (drop (left_out joint.seam) brought.frames)
 
-abbrev KeepsIf : Brought → Option Joint → Type 0
-KeepsIf brought None = Unit {0}
-KeepsIf brought (Some joint) = Keeps brought joint
-
-abbrev KeepsAll : List Frame → Option (List Frame) → Type 0
-KeepsAll rest None = Unit {0}
-KeepsAll rest (Some frames) = map-sounds frames ≡ map-sounds rest
-
-joining-keeps : (window : ℕ) (run rest : List Frame) → KeepsAll rest (joining window run rest)
-unfolding joining
-joining-keeps window run [] = refl
-joining-keeps window run (f ∷ fs) = at (join_slot window (needs_of run) f.need (needs_of fs))
-  where
-    at : (o : Option SlotFields) → KeepsAll (f ∷ fs) (option_map (λ s. moved_to s f ∷ fs) o)
-    at None = tt
-    at (Some s) = refl
-
-keeps-with : (brought : Brought) (seam : Seam) (o : Option (List Frame))
-    → KeepsAll (drop (left_out seam) brought.frames) o
-    → KeepsIf brought (option_map (joint_with seam) o)
-keeps-with brought seam None keeps = tt
-keeps-with brought seam (Some frames) keeps = keeps
-
-following-keeps : (class : ClassFields) (run : List Frame) (before brought : Brought)
-    → KeepsIf brought (following class run before brought)
-unfolding following
-following-keeps class run before brought = at (overlap_of class before brought)
-  where
-    by : (overlap : Overlap) (b : Bool)
-        → KeepsIf brought (if b then option_map (joint_with (Follows overlap.frames))
-        (joining (window_of class.version) run (drop overlap.frames brought.frames)) else None)
-    by overlap true =
-        keeps-with brought (Follows overlap.frames)
-        (joining (window_of class.version) run (drop overlap.frames brought.frames))
-        (joining-keeps (window_of class.version) run (drop overlap.frames brought.frames))
-    by overlap false = tt
-
-    at : (o : Option Overlap) → KeepsIf brought (option_and_then (follow_by class run brought) o)
-    at None = tt
-    at (Some overlap) = by overlap (ends_alike run (compared overlap brought))
-
-without-keeps : (class : ClassFields) (run : List Frame) (brought : Brought)
-    → KeepsIf brought (without_lead_in class run brought)
-unfolding without_lead_in
-without-keeps class run brought = at _
-  where
-    at : (b : Bool) → KeepsIf brought (if b then option_map (joint_with LeadIn)
-        (joining (window_of class.version) run (drop 1 brought.frames)) else None)
-    at true =
-        keeps-with brought LeadIn (joining (window_of class.version) run (drop 1 brought.frames))
-        (joining-keeps (window_of class.version) run (drop 1 brought.frames))
-    at false = tt
-
 -- they are those of the frames that are left
 joint-keeps : (class : ClassFields) (run : List Frame) (before brought : Brought)
     → Keeps brought (joint_of class run before brought)
 joint-keeps class run before brought =
-    at (following class run before brought) (without_lead_in class run brought)
-    (following-keeps class run before brought) (without-keeps class run brought)
-  where
-    at : (x y : Option Joint) → KeepsIf brought x → KeepsIf brought y
-        → Keeps brought (unwrap_or (option_or x y) (whole brought))
-    at None None first second = refl
-    at None (Some joint) first second = second
-    at (Some joint) y first second = first
+    joint-by class run before brought (Keeps brought)
+    (λ seam frames is.
+    joining-sounds (window_of class.version) run (drop (left_out seam) brought.frames) frames is)
+    refl
 
 -- ---- lists with one more
 
@@ -231,13 +171,6 @@ places-sound lists number from count all has is = at count from all has is
         ap₂ (λ (x : List ℕ) (l : List (List ℕ)). x ∷ l) (sound-here lists number from all next.0 has
         next.1) (at count (from + 1) all has (omega (arith, is)))
         ∙ sym (ap map-sounds next.2)
-
--- the place of an item is less than the length of the list
-pub get-within : {X : Type 0} (xs : List X) (n : ℕ) (x : X) → slice_get xs n ≡ Some x
-    → n < length xs
-get-within [] n x is = absurd cc
-get-within (y ∷ xs) zero x is = omega arith
-get-within (y ∷ xs) (suc n) x is = omega (arith, get-within xs n x is)
 
 -- what the input with this number brings
 pub broughts-get : (f : Contents) (names : List (List ℕ)) (ss : List SurveyFields)

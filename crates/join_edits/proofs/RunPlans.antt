@@ -25,8 +25,9 @@ use Rattle.laying.specs.{LaidFiles.{AreEntries, entry_of}, Laws.AreLaidAs, Needs
 use Rattle.laying.specs.NeedsFit.{own_choice}
 use Rattle.laying.specs.Relaid.{AreParts, AreSlots, frames_in, IsPart, left_behind, needs_in, Part}
 use Rattle.laying.specs.{Relaid.{relaid, rows_in, stream_in, with_lead_ins}, Surveys.HasSurvey}
-use Rattle.seam_plan.proofs.RunFits.{AddOwn, AllFitAlone, AreMoved, FitsAlone, frames_added}
-use Rattle.seam_plan.proofs.RunFits.{inputs-joined, IsJoined, IsMoved, moved-append, moved-same}
+use Rattle.seam_plan.proofs.FollowLaws.{added}
+use Rattle.seam_plan.proofs.RunFits.{AddOwn, AllFitAlone, AreMoved, FitsAlone, inputs-joined}
+use Rattle.seam_plan.proofs.RunFits.{IsJoined, IsMoved, moved-append, moved-same}
 use Rattle.seam_plan.specs.Frames.{Frame as RunFrame, needs_of}
 use Rattle.seam_plan.specs.Seams.{Joined, Joint, left_out, run_of}
 use Rattle.slot_plan.{proofs.{AreaLaws.only_one, LeastPlan.least-plan-is}, specs.Behind.FitsBehind}
@@ -343,7 +344,7 @@ joints-are c (j ∷ joints) (p ∷ parts) are add =
 
 joints-moved : (c : ClassFields) (joints : List Joint) (parts : List Part) → AreWholeFiles c parts
     → AddOwn joints (map brought_by parts)
-    → AreMoved (flat_map needs_in (parts_by joints parts)) (needs_of (frames_added joints))
+    → AreMoved (flat_map needs_in (parts_by joints parts)) (needs_of (added joints))
 joints-moved c [] [] are add = tt
 joints-moved c [] (p ∷ parts) are add = absurd add
 joints-moved c (j ∷ joints) [] are add = absurd add
@@ -351,13 +352,13 @@ joints-moved c (j ∷ joints) (p ∷ parts) are add =
     let out = left_out j.seam in
     let own = needs_in (part_from out p) in
     let later = flat_map needs_in (parts_by joints parts) in
-    let added = frames_added joints in
+    let later_frames = added joints in
     let here : AreMoved own (needs_of j.frames) =
     subst (λ (l : List Need). AreMoved l (needs_of j.frames)) (sym (own-needs c p are.0 out))
-    add.0 in
+    add.0.moved in
     subst (AreMoved (own ++ later))
-    (sym (map-append (λ (f : RunFrame). f.need) j.frames added))
-    (moved-append own later (needs_of j.frames) (needs_of added) here
+    (sym (map-append (λ (f : RunFrame). f.need) j.frames later_frames))
+    (moved-append own later (needs_of j.frames) (needs_of later_frames) here
     (joints-moved c joints parts are.1 add.1))
 
 -- ---- the run
@@ -403,16 +404,16 @@ module _ (first : Part) (parts : List Part) (is : IsWholeFile first.survey.class
   run-moved : AreMoved (flat_map needs_in all) (needs_of run)
   run-moved =
       let front : List RunFrame = drop joined.front (brought_by first).frames in
-      let added = frames_added joined.joints in
-      let needs : needs_of run ≡ needs_of front ++ needs_of added =
-      ap needs_of run-joined.run ∙ map-append (λ (f : RunFrame). f.need) front added in
+      let others = added joined.joints in
+      let needs : needs_of run ≡ needs_of front ++ needs_of others =
+      ap needs_of run-joined.run ∙ map-append (λ (f : RunFrame). f.need) front others in
       let own = needs_in (part_from joined.front first) in
       let begins : AreMoved own (needs_of front) =
       subst (λ (l : List Need). AreMoved l (needs_of front))
       (sym (own-needs class first is joined.front)) (moved-same (needs_of front)) in
       let later = flat_map needs_in (parts_by joined.joints parts) in
       subst (AreMoved (flat_map needs_in all)) (sym needs)
-      (moved-append own later (needs_of front) (needs_of added) begins
+      (moved-append own later (needs_of front) (needs_of others) begins
       (joints-moved class joined.joints parts are run-joined.own))
 
   known : AreKnown class (needs_of run) (flat_map frames_in all)

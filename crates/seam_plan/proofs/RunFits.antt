@@ -1,21 +1,17 @@
 -- The run fits behind a whole window, and its frames are those of the inputs but for some at the
--- front of each, of which the first may be in another slot.
+-- front of each, of which the first may be in another slot: they sound the same.
 use Rattle.std.proofs.Common.{ap, append-nil, append_assoc, arith, Bool, cond, Contains, drop}
 use Rattle.std.proofs.Common.{false, inl, inr, length, List, None, Option, refl, Some, subst, suc}
 use Rattle.std.proofs.Common.{sym, true, zero, ℕ, [], ◌++◌, ◌<◌, ◌∙◌, ◌∷◌, ◌≡◌, ◌⊎◌}
 use Rattle.std.proofs.lemmas.{Bool.and_parts, List.{drop-append-le, map-append}}
-use Rattle.std.specs.Option.{option_or}
-use Rattle.std.specs.Prelude.{find, flat_map, not, option_and_then, option_map, unwrap_or, ◌&&◌}
-use Rattle.exact_span.specs.declared.overlap.Overlap.{Overlap}
+use Rattle.std.specs.Prelude.{find, not, option_map, ◌&&◌}
 use Rattle.frame_header.specs.{Fields.{ClassFields, SlotFields}, Slots.all_slots, Tables.window_of}
-use Rattle.seam_plan.proofs.{FitLaws.fits-tested, SeamLaws.{follow-is, follows_with}}
-use Rattle.seam_plan.specs.{Decisions.alike_overlap, Frames.{Brought, Frame, needs_of}}
+use Rattle.seam_plan.proofs.{FitLaws.fits-tested, FollowLaws.{added, sounds}, SeamLaws.joint-by}
+use Rattle.seam_plan.specs.Frames.{Brought, Frame, needs_of}
 use Rattle.seam_plan.specs.Joins.{fits_behind, has_lead_in, is_no_less, join_slot, joining}
 use Rattle.seam_plan.specs.Joins.{lead_in_header, leads_others, moved_to}
-use Rattle.seam_plan.specs.Seams.{following, front_left_out, Joined, joined_of, Joint, joint_of}
-use Rattle.seam_plan.specs.Seams.{joint_with, joints_from, joints_of, left_out, run_of, run_with}
-use Rattle.seam_plan.specs.{Seams.{whole, without_lead_in}, declared.seam.Seam.Seam}
-use Rattle.seam_plan.specs.declared.seam.Seam.TheVariants.{Follows, LeadIn}
+use Rattle.seam_plan.specs.Seams.{front_left_out, Joined, joined_of, Joint, joint_of, joints_from}
+use Rattle.seam_plan.specs.Seams.{joints_of, left_out, run_of, run_with, whole}
 use Rattle.slot_plan.proofs.BehindLaws.{fits-drop, more-behind, own-left, then-fits}
 use Rattle.slot_plan.specs.{Behind.{FitsBehind, in_slot, IsLeft}, declared.needs.Need.Need}
 
@@ -71,11 +67,16 @@ found-passes test (s ∷ slots) slot e =
 
 -- ---- frames that join a run
 
+-- these are frames of an input, of which the first may be in another slot
+pub record AreOwn (own frames : List Frame) : Type 0 where
+  pub moved : AreMoved (needs_of own) (needs_of frames)
+  pub sounding : sounds frames ≡ sounds own
+
 -- with them the run fits behind a whole window
 abbrev JoinIn : ℕ → List Frame → List Frame → Option (List Frame) → Type 0
 JoinIn window run rest None = Unit {0}
 JoinIn window run rest (Some frames) =
-    FitsBehind window window (needs_of (run ++ frames)) × AreMoved (needs_of rest) (needs_of frames)
+    FitsBehind window window (needs_of (run ++ frames)) × AreOwn rest frames
 
 abbrev joins_by : ℕ → List Frame → Frame → List Frame → SlotFields → Bool
 joins_by window run f fs slot =
@@ -86,8 +87,10 @@ joins-in : (window : ℕ) (run rest : List Frame) → FitsBehind window window (
     → JoinIn window run rest (joining window run rest)
 unfolding joining
 joins-in window run [] fits =
-    let same = sym (append-nil run) in
-    (subst (λ (l : List Frame). FitsBehind window window (needs_of l)) same fits, tt)
+    let same = sym (append-nil run) in (
+      subst (λ (l : List Frame). FitsBehind window window (needs_of l)) same fits,
+      record { moved = tt; sounding = refl },
+    )
 joins-in window run (f ∷ fs) fits = at (join_slot window (needs_of run) f.need (needs_of fs)) refl
   where
     at : (o : Option SlotFields) → join_slot window (needs_of run) f.need (needs_of fs) ≡ o
@@ -100,7 +103,10 @@ joins-in window run (f ∷ fs) fits = at (join_slot window (needs_of run) f.need
         let needs : needs_of (run ++ moved_to slot f ∷ fs) ≡ all =
         map-append (λ (g : Frame). g.need) run (moved_to slot f ∷ fs) in (
           subst (FitsBehind window window) (sym needs) ((fits-tested window window all).0 both.1),
-          (record { is = refl; slot = inr found.1 }, moved-same (needs_of fs)),
+          record {
+            moved = (record { is = refl; slot = inr found.1 }, moved-same (needs_of fs));
+            sounding = refl;
+          },
         )
 
 -- frames that fit behind nothing fit behind a run
@@ -128,47 +134,12 @@ FitsWindow class frames =
 pub record IsAdded (class : ClassFields) (run : List Frame) (input : Brought) (joint : Joint)
     : Type 0 where
   pub fits : FitsWindow class (run ++ joint.frames)
-  pub moved : AreMoved (needs_of (drop (left_out joint.seam) input.frames)) (needs_of joint.frames)
+  pub own : AreOwn (drop (left_out joint.seam) input.frames) joint.frames
 
 module _ (class : ClassFields) (run : List Frame) (before input : Brought)
     (fits : FitsWindow class run) where
   abbrev window : ℕ
   window = window_of class.version
-
-  abbrev AddedIf : Option Joint → Type 0
-  AddedIf None = Unit {0}
-  AddedIf (Some joint) = IsAdded class run input joint
-
-  abbrev behind : Seam → List Frame
-  behind seam = drop (left_out seam) input.frames
-
-  added-with : (seam : Seam) (o : Option (List Frame)) → JoinIn window run (behind seam) o
-      → AddedIf (option_map (joint_with seam) o)
-  added-with seam None joins = tt
-  added-with seam (Some frames) joins = record { fits = joins.0; moved = joins.1 }
-
-  added-if : (seam : Seam)
-      → AddedIf (option_map (joint_with seam) (joining window run (behind seam)))
-  added-if seam =
-      added-with seam (joining window run (behind seam)) (joins-in window run (behind seam) fits)
-
-  following-added : AddedIf (following class run before input)
-  following-added =
-      let same = follow-is class run before input in
-      subst AddedIf (sym same) (at (alike_overlap class run before input))
-    where
-      at : (o : Option Overlap) → AddedIf (option_and_then (follows_with class run input) o)
-      at None = tt
-      at (Some overlap) = added-if (Follows overlap.frames)
-
-  without-added : AddedIf (without_lead_in class run input)
-  unfolding without_lead_in
-  without-added = at _
-    where
-      at : (b : Bool) → AddedIf (cond b
-          (option_map (joint_with LeadIn) (joining window run (behind LeadIn))) None)
-      at true = added-if LeadIn
-      at false = tt
 
   whole-added : FitsAlone class input → IsAdded class run input (whole input)
   whole-added alone =
@@ -176,21 +147,18 @@ module _ (class : ClassFields) (run : List Frame) (before input : Brought)
       record {
         fits = subst (FitsBehind window window) (sym needs)
             (then-alone window (needs_of run) (needs_of input.frames) fits alone);
-        moved = moved-same (needs_of input.frames);
+        own = record { moved = moved-same (needs_of input.frames); sounding = refl };
       }
 
   -- an input that fits alone is added: the run with its frames still fits
   pub joint-added : FitsAlone class input
       → IsAdded class run input (joint_of class run before input)
   joint-added alone =
-      at (following class run before input) (without_lead_in class run input) following-added
-      without-added
-    where
-      at : (x y : Option Joint) → AddedIf x → AddedIf y
-          → IsAdded class run input (unwrap_or (option_or x y) (whole input))
-      at None None first second = whole-added alone
-      at None (Some joint) first second = second
-      at (Some joint) y first second = first
+      joint-by class run before input (IsAdded class run input)
+      (λ seam frames is.
+      let rest : List Frame = drop (left_out seam) input.frames in
+      let joins = subst (JoinIn window run rest) is (joins-in window run rest fits) in
+      record { fits = joins.0; own = joins.1 }) (whole-added alone)
 
 -- ---- all inputs
 
@@ -202,27 +170,23 @@ AllFitAlone class (input ∷ inputs) = FitsAlone class input × AllFitAlone clas
 abbrev pub AddOwn : List Joint → List Brought → Type 0
 AddOwn [] [] = Unit {0}
 AddOwn (joint ∷ joints) (input ∷ inputs) =
-    AreMoved (needs_of (drop (left_out joint.seam) input.frames)) (needs_of joint.frames)
-    × AddOwn joints inputs
+    AreOwn (drop (left_out joint.seam) input.frames) joint.frames × AddOwn joints inputs
 AddOwn _ _ = ⊥
 
--- what they add
-abbrev pub frames_added : List Joint → List Frame
-frames_added joints = flat_map (λ (j : Joint). j.frames) joints
-
-joints-added : (class : ClassFields) (run : List Frame) (before : Brought) (inputs : List Brought)
-    → FitsWindow class run → AllFitAlone class inputs
+-- the run with the frames of such inputs fits behind a whole window, and each adds its own
+pub joints-added : (class : ClassFields) (run : List Frame) (before : Brought)
+    (inputs : List Brought) → FitsWindow class run → AllFitAlone class inputs
     → AddOwn (joints_from class run before inputs) inputs
-    × FitsWindow class (run ++ frames_added (joints_from class run before inputs))
+    × FitsWindow class (run ++ added (joints_from class run before inputs))
 unfolding joints_from
 joints-added class run before [] fits alone =
     (tt, subst (FitsWindow class) (sym (append-nil run)) fits)
 joints-added class run before (input ∷ inputs) fits alone =
     let joint = joint_of class run before input in
-    let added = joint-added class run before input fits alone.0 in
-    let more = joints-added class (run ++ joint.frames) input inputs added.fits alone.1 in
-    let later = frames_added (joints_from class (run ++ joint.frames) input inputs) in (
-      (added.moved, more.0),
+    let here = joint-added class run before input fits alone.0 in
+    let more = joints-added class (run ++ joint.frames) input inputs here.fits alone.1 in
+    let later = added (joints_from class (run ++ joint.frames) input inputs) in (
+      (here.own, more.0),
       subst (FitsWindow class) (append_assoc run joint.frames later) more.1,
     )
 
@@ -262,7 +226,7 @@ pub record IsJoined (class : ClassFields) (first : Brought) (inputs : List Broug
     (joined : Joined) : Type 0 where
   pub front : joined.front < length first.frames
   pub own : AddOwn joined.joints inputs
-  pub run : run_of first joined ≡ drop joined.front first.frames ++ frames_added joined.joints
+  pub run : run_of first joined ≡ drop joined.front first.frames ++ added joined.joints
   pub fits : FitsWindow class (run_of first joined)
 
 -- inputs that fit alone are joined to a run that fits behind a whole window
@@ -273,16 +237,16 @@ unfolding joined_of
 inputs-joined class first inputs some alone all =
     let window = window_of class.version in
     let begins = more-behind window 0 window (needs_of first.frames) (omega arith) alone in
-    let added = joints-added class first.frames first inputs begins all in
+    let all_added = joints-added class first.frames first inputs begins all in
     let joints = joints_of class first inputs in
     let front = front_left_out class first (run_with first joints) in
     let within = front-within class first (run_with first joints) some in
     record {
       front = within;
-      own = added.0;
-      run = drop-append-le front first.frames (frames_added joints) (omega (arith, within));
+      own = all_added.0;
+      run = drop-append-le front first.frames (added joints) (omega (arith, within));
       fits = subst (FitsBehind window window) (needs-drop front (run_with first joints))
-          (fits-drop window window front (needs_of (run_with first joints)) added.1);
+          (fits-drop window window front (needs_of (run_with first joints)) all_added.1);
     }
   where
     needs-drop : (k : ℕ) (frames : List Frame) → drop k (needs_of frames) ≡ needs_of (drop k frames)

@@ -142,6 +142,55 @@ joint-last None None z result first second is = is
 joint-last None (Some joint) z result first second is = absurd second
 joint-last (Some joint) y z result first second is = absurd first
 
+-- ---- what holds of it
+
+module _ (class : ClassFields) (run : List Frame) (before brought : Brought) (P : Joint → Type 0)
+    (joins : (seam : Seam) (frames : List Frame)
+    → joining (window_of class.version) run (drop (left_out seam) brought.frames) ≡ Some frames
+    → P (joint_with seam frames)) (all : P (whole brought)) where
+  abbrev HoldsIf : Option Joint → Type 0
+  HoldsIf None = Unit {0}
+  HoldsIf (Some joint) = P joint
+
+  by-joining : (seam : Seam) (o : Option (List Frame))
+      → joining (window_of class.version) run (drop (left_out seam) brought.frames) ≡ o
+      → HoldsIf (option_map (joint_with seam) o)
+  by-joining seam None is = tt
+  by-joining seam (Some frames) is = joins seam frames is
+
+  of-following : HoldsIf (following class run before brought)
+  of-following = subst HoldsIf (sym (follow-is class run before brought))
+      (at (alike_overlap class run before brought))
+    where
+      at : (o : Option Overlap) → HoldsIf (option_and_then (follows_with class run brought) o)
+      at None = tt
+      at (Some overlap) =
+          by-joining (Follows overlap.frames)
+          (joining (window_of class.version) run (drop overlap.frames brought.frames)) refl
+
+  of-without : HoldsIf (without_lead_in class run brought)
+  unfolding without_lead_in
+  of-without = at _
+    where
+      at : (b : Bool) → HoldsIf (if b then option_map (joint_with LeadIn)
+          (joining (window_of class.version) run (drop 1 brought.frames)) else None)
+      at true =
+          by-joining LeadIn (joining (window_of class.version) run (drop 1 brought.frames)) refl
+      at false = tt
+
+  -- what holds of frames that join, with any seam, and of the whole input, holds of what becomes
+  -- of it
+  pub joint-by : P (joint_of class run before brought)
+  joint-by =
+      at (following class run before brought) (without_lead_in class run brought) of-following
+      of-without
+    where
+      at : (x y : Option Joint) → HoldsIf x → HoldsIf y
+          → P (unwrap_or (option_or x y) (whole brought))
+      at None None first second = all
+      at None (Some joint) first second = second
+      at (Some joint) y first second = first
+
 -- ---- the frames that are added
 
 -- what is decided adds the frames that are left, the first in its slot
@@ -149,10 +198,6 @@ abbrev pub Adds : Brought → Joint → Type 0
 Adds brought joint =
     (result : CodeJoint) → IsJoint joint result → needs_of joint.frames
     ≡ moved_first result.slot (drop (left_out joint.seam) (needs_of brought.frames))
-
-abbrev AddsIf : Brought → Option Joint → Type 0
-AddsIf brought None = Unit {0}
-AddsIf brought (Some joint) = Adds brought joint
 
 -- the frames that join, with any seam
 abbrev Moves : Seam → List Frame → Option (List Frame) → Type 0
@@ -170,39 +215,6 @@ joining-moves window seam run (f ∷ fs) = at (join_slot window (needs_of run) f
     at None = tt
     at (Some s) = λ result is. ap (λ o. moved_first o (f.need ∷ needs_of fs)) (sym is.slot)
 
-moves-adds : (brought : Brought) (seam : Seam) (o : Option (List Frame))
-    → Moves seam (drop (left_out seam) brought.frames) o
-    → AddsIf brought (option_map (joint_with seam) o)
-moves-adds brought seam None moves = tt
-moves-adds brought seam (Some frames) moves =
-    λ result is. moves result is ∙ ap (moved_first result.slot)
-    (sym (drop-map (λ (f : Frame). f.need) (left_out seam) brought.frames))
-
-following-adds : (class : ClassFields) (run : List Frame) (before brought : Brought)
-    → AddsIf brought (following class run before brought)
-following-adds class run before brought = subst (AddsIf brought)
-    (sym (follow-is class run before brought)) (at (alike_overlap class run before brought))
-  where
-    at : (o : Option Overlap) → AddsIf brought (option_and_then (follows_with class run brought) o)
-    at None = tt
-    at (Some overlap) =
-        moves-adds brought (Follows overlap.frames)
-        (joining (window_of class.version) run (drop overlap.frames brought.frames))
-        (joining-moves (window_of class.version) (Follows overlap.frames) run
-        (drop overlap.frames brought.frames))
-
-without-adds : (class : ClassFields) (run : List Frame) (brought : Brought)
-    → AddsIf brought (without_lead_in class run brought)
-unfolding without_lead_in
-without-adds class run brought = at _
-  where
-    at : (b : Bool) → AddsIf brought (if b then option_map (joint_with LeadIn)
-        (joining (window_of class.version) run (drop 1 brought.frames)) else None)
-    at true =
-        moves-adds brought LeadIn (joining (window_of class.version) run (drop 1 brought.frames))
-        (joining-moves (window_of class.version) LeadIn run (drop 1 brought.frames))
-    at false = tt
-
 all-moves : (frames : List Frame) (result : CodeJoint) → IsJoint (joint_with Whole frames) result
     → needs_of frames ≡ moved_first result.slot (needs_of frames)
 unfolding first_in
@@ -216,14 +228,13 @@ whole-adds brought = all-moves brought.frames
 pub joint-adds : (class : ClassFields) (run : List Frame) (before brought : Brought)
     → Adds brought (joint_of class run before brought)
 joint-adds class run before brought =
-    at (following class run before brought) (without_lead_in class run brought)
-    (following-adds class run before brought) (without-adds class run brought)
-  where
-    at : (x y : Option Joint) → AddsIf brought x → AddsIf brought y
-        → Adds brought (unwrap_or (option_or x y) (whole brought))
-    at None None first second = whole-adds brought
-    at None (Some joint) first second = second
-    at (Some joint) y first second = first
+    joint-by class run before brought (Adds brought)
+    (λ seam frames is result joined.
+    let rest : List Frame = drop (left_out seam) brought.frames in
+    let window = window_of class.version in
+    subst (Moves seam rest) is (joining-moves window seam run rest) result joined
+    ∙ ap (moved_first result.slot)
+    (sym (drop-map (λ (f : Frame). f.need) (left_out seam) brought.frames))) (whole-adds brought)
 
 -- as many as are left
 pub length-moved : (slot : Option SlotFields) (needs : List Need)
