@@ -10,11 +10,11 @@ ghost use Rattle.join_edits.specs.Behind.{rows_behind, AreWithin, all_laid};
 ghost use Rattle.join_edits.specs.Laying.{IsJoin, AddsJoined};
 
 use crate::inputs::{known_at, name_at};
+use crate::sounds::Sources;
 use crate::stopped::Stopped;
 use laying::{Buffers, Relay};
 use outside::{Folder, Pass};
 use slot_plan::Placed;
-use sync_survey::Survey;
 
 /// The number of the first frame of an input that is written, counted from 0.
 fn from_at(froms: &[u32], place: usize) -> usize
@@ -24,9 +24,16 @@ fn from_at(froms: &[u32], place: usize) -> usize
     froms[place] as usize
 }
 
-/// Adds to what waits for the output the frames of all inputs as they were planned, one input after the other, each from the
-/// frame on whose number is given. The writer is new. The clauses about the output speak of folders that tell the bytes of the
-/// first input.
+/// Which frames are laid: of each input those from the frame on whose number is given, in these places of their plan, one input
+/// after the other.
+#[derive(Clone, Copy)]
+pub(crate) struct LaidFrames<'a> {
+    pub froms: &'a [u32],
+    pub placed: &'a [Placed],
+}
+
+/// Adds to what waits for the output these frames of all inputs, one input after the other. The writer is new. The clauses about
+/// the output speak of folders that tell the bytes of the first input.
 ///
 /// # Errors
 /// Those of `Relay::frames`, with the number of the input. Then a prefix of what waited and the frames' bytes was appended,
@@ -34,36 +41,36 @@ fn from_at(froms: &[u32], place: usize) -> usize
 pub(crate) fn lay_all<'a, D: Folder>(
     first: &Relay<'a>,
     folder: &mut D,
-    inputs: &'a [String],
-    surveys: &'a [Survey],
-    froms: &[u32],
-    placed: &[Placed],
+    sources: &Sources<'a>,
+    laid: &LaidFrames<'_>,
     buffers: &mut Buffers,
 ) -> Result<(), Stopped>
-    requires few { length inputs.now ≤ 64 }
-    requires join { IsJoin first.now (map string_bytes inputs.now) (map tells surveys.now)
-        (D.seen folder.old).files }
-    requires within { AreWithin (map tells surveys.now) froms.now }
+    requires few { length sources.now.inputs.now ≤ 64 }
+    requires join { IsJoin first.now (map string_bytes sources.now.inputs.now)
+        (map tells sources.now.surveys.now) (D.seen folder.old).files }
+    requires within { AreWithin (map tells sources.now.surveys.now) laid.now.froms.now }
     requires new { IsNew (tells first.now.survey.now).class buffers.old.writer }
     requires fits { FitsFrom (window_of (tells first.now.survey.now).class.version)
         (reach_of buffers.old.writer)
-        (needs_of (rows_behind (map tells surveys.now) froms.now)) placed.now }
-    ensures { AddsJoined first.now (map string_bytes inputs.now)
-        (λ file. frame_bytes (all_laid (D.seen folder.old).files (map string_bytes inputs.now)
-        (map tells surveys.now) froms.now placed.now file))
+        (needs_of (rows_behind (map tells sources.now.surveys.now) laid.now.froms.now))
+        laid.now.placed.now }
+    ensures { AddsJoined first.now (map string_bytes sources.now.inputs.now)
+        (λ file. frame_bytes (all_laid (D.seen folder.old).files
+        (map string_bytes sources.now.inputs.now) (map tells sources.now.surveys.now)
+        laid.now.froms.now laid.now.placed.now file))
         buffers.old.waiting buffers.new.waiting (D.seen folder.old) (D.seen folder.new) result }
 {
     let mut at = 0;
-    for i in 0..inputs.len() {
-        let survey = known_at(surveys, i);
+    for i in 0..sources.inputs.len() {
+        let survey = known_at(sources.surveys, i);
         let pass = Pass {
-            input: name_at(inputs, i),
+            input: name_at(sources.inputs, i),
             output: first.pass.output,
             length: survey.length(),
         };
         let relay = Relay { pass, survey };
         buffers.feed.clear();
-        match relay.lay_from(folder, from_at(froms, i), &placed[at..], buffers) {
+        match relay.lay_from(folder, from_at(laid.froms, i), &laid.placed[at..], buffers) {
             Ok(count) => at += count,
             Err(fault) => {
                 return Err(Stopped {

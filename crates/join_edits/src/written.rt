@@ -13,8 +13,9 @@ ghost use Rattle.join_edits.specs.Behind.{written_of, CanBeWritten, FitsWork};
 ghost use Rattle.join_edits.specs.Laying.{IsJoin, AppendsJoined};
 
 use crate::inputs::{known_at, name_at};
-use crate::laid::lay_all;
+use crate::laid::{LaidFrames, lay_all};
 use crate::planned::Work;
+use crate::sounds::Sources;
 use crate::stopped::Stopped;
 use commands::EditFault;
 use laying::{Buffers, Relay};
@@ -77,15 +78,12 @@ fn append_joined<'a, D: Folder>(
     if let Err(fault) = append_front(first, folder, info.as_slice(), buffers) {
         return Err(Stopped { place: 0, fault });
     }
-    lay_all(
-        first,
-        folder,
-        inputs,
-        surveys,
+    let sources = Sources { inputs, surveys };
+    let laid = LaidFrames {
         froms,
-        plan.placed(),
-        buffers,
-    )?;
+        placed: plan.placed(),
+    };
+    lay_all(first, folder, &sources, &laid, buffers)?;
     match first.pass.finish(folder, &mut buffers.waiting) {
         Ok(()) => Ok(()),
         Err(fault) => Err(Stopped { place: 0, fault }),

@@ -30,8 +30,8 @@ known_at-survey-requires g c =
       arith,
       c.loop-i-test.true,
       AllZip-long _ _ _ c.requires.join.sources,
-      length-map c.args.inputs.now string_bytes,
-      length-map c.args.surveys.now tells,
+      length-map c.args.sources.now.inputs.now string_bytes,
+      length-map c.args.sources.now.surveys.now tells,
     )
 
 pub from_at-requires : goal.from_at-requires
@@ -41,12 +41,12 @@ from_at-requires g c =
       c.loop-i-test.true,
       AllZip-long _ _ _ c.requires.join.sources,
       within-long _ _ c.requires.within,
-      length-map c.args.inputs.now string_bytes,
+      length-map c.args.sources.now.inputs.now string_bytes,
     )
 
 pub lay_from-requires-clause-stands : goal.lay_from-requires-clause-stands
 lay_from-requires-clause-stands g c =
-    let left = sym (take_rest c.args.placed.now c.loop-i.at) in
+    let left = sym (take_rest c.args.laid.now.placed.now c.loop-i.at) in
     let laid = c.loop-i.invariant.laid in
     record {
       ready = source-ready _ _ _
@@ -59,12 +59,12 @@ lay_from-requires-clause-stands g c =
 pub lay_from-requires-clause-within : goal.lay_from-requires-clause-within
 lay_from-requires-clause-within g c =
     next-within c.name_at.ensures c.known_at-survey.ensures c.from_at.ensures
-    (sym (take_rest c.args.placed.now c.loop-i.at)) c.loop-i.invariant.laid
+    (sym (take_rest c.args.laid.now.placed.now c.loop-i.at)) c.loop-i.invariant.laid
 
 pub lay_from-requires-clause-fits : goal.lay_from-requires-clause-fits
 lay_from-requires-clause-fits g c =
     (both-fit c.name_at.ensures c.known_at-survey.ensures c.from_at.ensures
-    (sym (take_rest c.args.placed.now c.loop-i.at)) c.loop-i.invariant.laid).0
+    (sym (take_rest c.args.laid.now.placed.now c.loop-i.at)) c.loop-i.invariant.laid).0
 
 pub returns-in-Err : goal.returns-in-Err
 returns-in-Err g c =
@@ -72,10 +72,11 @@ returns-in-Err g c =
     let pass = c.args.first.now.pass in
     let seen = g.D.Folder.seen in
     let old = (seen c.args.folder.now).files in
-    let frames = all_laid old (map string_bytes c.args.inputs.now) (map tells c.args.surveys.now)
-    c.args.froms.now c.args.placed.now in
+    let frames = all_laid old (map string_bytes c.args.sources.now.inputs.now)
+    (map tells c.args.sources.now.surveys.now)
+    c.args.laid.now.froms.now c.args.laid.now.placed.now in
     let part = next-part c.name_at.ensures c.known_at-survey.ensures c.from_at.ensures
-    (sym (take_rest c.args.placed.now c.loop-i.at)) c.loop-i.invariant.laid
+    (sym (take_rest c.args.laid.now.placed.now c.loop-i.at)) c.loop-i.invariant.laid
     c.requires.join.apart (seen c.lay_from.new.folder).files c.in-Err.ensures.gives.part in
     let sofar = c.loop-i.invariant.laid.lays.lays in
     record {
@@ -85,7 +86,8 @@ returns-in-Err g c =
       done = tt;
       cause =
           record {
-            within = omega (arith, c.loop-i-test.true, length-map c.args.inputs.now string_bytes);
+            within = omega
+                (arith, c.loop-i-test.true, length-map c.args.sources.now.inputs.now string_bytes);
             size = _;
             cause = cause-named _ c.loop-i.i _ _ _ _ _ _ _ _ c.name_at.ensures
                 (cause_later _ _ _ pass.output.now sofar.passed _ _ _ c.in-Err.fault sofar.files
@@ -95,7 +97,7 @@ returns-in-Err g c =
 
 pub loop-i-preserved : goal.loop-i-preserved
 loop-i-preserved g c =
-    let placed = c.args.placed.now in
+    let placed = c.args.laid.now.placed.now in
     let at = c.loop-i.at in
     let count = c.in-Ok.count in
     let left = take_rest placed at in
@@ -123,15 +125,16 @@ module _ (g : given.Over) (c : After-finish g) where
   old = (g.D.Folder.seen c.args.folder.now).files
 
   abbrev frames : List ℕ → List Frame
-  frames = all_laid old (map string_bytes c.args.inputs.now) (map tells c.args.surveys.now)
-      c.args.froms.now c.args.placed.now
+  frames = all_laid old (map string_bytes c.args.sources.now.inputs.now)
+      (map tells c.args.sources.now.surveys.now)
+      c.args.laid.now.froms.now c.args.laid.now.placed.now
 
   laid_all : Lays c.args.first.now.pass.input.now c.args.first.now.pass.output.now frames
       (writing_in c.args.buffers.now) (writing_in c.loop-i.buffers) old
       (g.D.Folder.seen c.loop-i.folder).files
   laid_all =
-      laid-all (drop_all c.loop-i.i (map string_bytes c.args.inputs.now)
-      (omega (arith, c.loop-i-test.false, length-map c.args.inputs.now string_bytes)))
+      laid-all (drop_all c.loop-i.i (map string_bytes c.args.sources.now.inputs.now)
+      (omega (arith, c.loop-i-test.false, length-map c.args.sources.now.inputs.now string_bytes)))
       c.loop-i.invariant.laid
 
 pub returns-in-Ok-finish : goal.returns-in-Ok-finish

@@ -7,13 +7,14 @@ use Rattle.join_edits.proofs.laid.lay_all.Given as goal
 
 abbrev pub invariant-loop-i : goal.invariant-loop-i
 invariant-loop-i g l = record {
-  within : l.at ≤ length l.placed;
+  within : l.at ≤ length l.laid.placed.now;
   laid : IsLaidTo (tells l.first.survey.now).class l.first.pass.input.now
       l.first.pass.output.now
-      (all_laid (g.D.Folder.seen l.fn.folder).files (map string_bytes l.inputs)
-      (map tells l.surveys) l.froms l.placed)
+      (all_laid (g.D.Folder.seen l.fn.folder).files (map string_bytes l.sources.inputs.now)
+      (map tells l.sources.surveys.now) l.laid.froms.now l.laid.placed.now)
       (writing_in l.fn.buffers) (writing_in l.buffers) (g.D.Folder.seen l.fn.folder).files
-      (g.D.Folder.seen l.folder).files (drop l.i (map string_bytes l.inputs))
-      (drop l.i (map tells l.surveys)) (drop l.i l.froms) (drop l.at l.placed);
+      (g.D.Folder.seen l.folder).files (drop l.i (map string_bytes l.sources.inputs.now))
+      (drop l.i (map tells l.sources.surveys.now)) (drop l.i l.laid.froms.now)
+      (drop l.at l.laid.placed.now);
   counts : (g.D.Folder.seen l.folder).counts ≡ (g.D.Folder.seen l.fn.folder).counts;
 }
