@@ -9,4 +9,5 @@ mod lists;
 mod menus;
 mod parts;
 mod rows;
+mod runs;
 mod seams;

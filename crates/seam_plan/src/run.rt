@@ -79,6 +79,7 @@ impl Run {
         ensures run { (first : Brought) → IsBrought input.now first
             → IsRun class first.frames (places_from 0 0 (length first.frames)) first result }
         ensures sound { IsSound result }
+        ensures class { result.class ≡ class }
     {
         let window = class.window();
         let mut run = Run {
