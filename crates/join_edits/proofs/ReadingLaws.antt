@@ -61,6 +61,16 @@ area-next before after input files now s first i r offset h found stay at header
 
 -- ---- one frame
 
+-- where the area of a frame ends, a window holds its main data: so many bits, which begin so many
+-- bytes before the area
+pub record HoldsData (window input : List ℕ) (files : Files) (s : SurveyFields)
+    (i area begin count : ℕ) : Type 0 where
+  pub held : area ≤ 1441 → area + begin ≤ length window
+  pub ends : count ≤ 8 * (area + begin)
+  pub is : (bytes : List ℕ) → ((main : List ℕ) → IsWindowOver window main
+      → ArePacked bytes count (main_bits main (length main - area - begin) count)) → AreBytes bytes
+      → IsMainDataOf input files s i bytes
+
 module _ (window input : List ℕ) (files : Files) (s : SurveyFields) (i : ℕ) (r : Row)
     (found : slice_get s.frames i ≡ Some r) (kept : r.lost ≡ false) (laid : IsLaidOut s)
     (over : IsOver window input files s (i + 1)) (area begin count : ℕ)
@@ -73,31 +83,24 @@ module _ (window input : List ℕ) (files : Files) (s : SurveyFields) (i : ℕ) 
   least = subst (λ n. count ≤ 8 * n) (ap (λ n. (n + 7) / 8) count_is ∙ sym (bytes-are r.side))
       (bits-least count)
 
-  -- the window holds them
-  pub data-held : area ≤ 1441 → area + begin ≤ length window
-  data-held few =
-      omega (
-        arith,
-        window-holds window over.main over.held,
-        over.long,
-        place-next s.head s.frames i
-            r found,
-        area_is,
-        begin_is,
-        within.begins,
-        within.near,
-        few,
-      )
-
-  -- the main data ends no later than the area
-  pub data-ends : count ≤ 8 * (area + begin)
-  data-ends = omega (arith, within.ends, area_is, begin_is, least)
-
-  -- bytes cut from the window there are the main data of the frame
-  pub data-is : (bytes : List ℕ) → ((main : List ℕ) → IsWindowOver window main
-      → ArePacked bytes count (main_bits main (length main - area - begin) count)) → AreBytes bytes
-      → IsMainDataOf input files s i bytes
-  data-is bytes cut octets = λ file holds q is.
-      subst (λ (x : Row). bytes ≡ payload_of file s i x) (get-one s.frames i r q found is)
-      (cut-is file over.main bytes s i r area begin count found kept within over.long
-      (over.is file holds) area_is begin_is count_is least octets (cut over.main over.held))
+  -- a window over the areas up to its own holds the main data of a frame
+  pub holds-data : HoldsData window input files s i area begin count
+  holds-data = record {
+    held = λ few.
+        omega (
+          arith,
+          window-holds window over.main over.held,
+          over.long,
+          place-next s.head s.frames i r found,
+          area_is,
+          begin_is,
+          within.begins,
+          within.near,
+          few,
+        );
+    ends = omega (arith, within.ends, area_is, begin_is, least);
+    is = λ bytes cut octets file holds q is.
+        subst (λ (x : Row). bytes ≡ payload_of file s i x) (get-one s.frames i r q found is)
+        (cut-is file over.main bytes s i r area begin count found kept within over.long
+        (over.is file holds) area_is begin_is count_is least octets (cut over.main over.held));
+  }

@@ -1,10 +1,20 @@
 -- Two frames sound alike where header, side information and main data are the same.
 use Rattle.std.proofs.Common.{ap, ap₂, bytes_eq, map, string_bytes, subst, sym, ◌∙◌, ◌≡◌}
 use Rattle.join_edits.proofs.FramePlaces.{class-first, class-here, places-compared, places-differ}
+use Rattle.join_edits.proofs.sounds.Sources.sound_alike.Goals.{After-class-class}
 use Rattle.join_edits.specs.Sounds.{frames_of, payload_at_place, same_front, same_sounds}
 use Rattle.outside.specs.Files.{IfTold}
 use Rattle.sync_survey.specs.Faults.{tells}
+use Rattle.join_edits.proofs.sounds.Sources.sound_alike.Given as given
 use Rattle.join_edits.proofs.sounds.Sources.sound_alike.Goals as goal
+
+-- it is the class of all inputs
+of-one : (g : given.Over) (c : After-class-class g) → c.class-class.result ≡ c.requires.one.0
+of-one g c =
+    let one = c.requires.one in
+    c.class-class.ensures ∙ ap (λ s. (tells s).class) (sym c.index-self-first.is)
+    ∙ class-first tells c.args.self.now.surveys.now c.args.first one.0 c.index-self-first.result
+    one.1 c.requires.first c.index-self-first.is
 
 pub same_front-requires-clause-first : goal.same_front-requires-clause-first
 same_front-requires-clause-first g c =
@@ -12,10 +22,7 @@ same_front-requires-clause-first g c =
     let ss = map tells c.args.self.now.surveys.now in
     let files = (g.D.Folder.seen c.args.folder.now).files in
     let one = c.requires.one in
-    let class : c.class-class.result ≡ one.0 =
-    c.class-class.ensures ∙ ap (λ s. (tells s).class) (sym c.index-self-first.is)
-    ∙ class-first tells c.args.self.now.surveys.now c.args.first one.0 c.index-self-first.result
-    one.1 c.requires.first c.index-self-first.is in
+    let class = of-one g (goal.at.same_front-requires-clause-first g c).After-class-class in
     class-here files names ss c.args.first one.0 c.row.result.now c.requires.held one.1
     c.requires.first c.row.ensures
     ∙ sym class
@@ -26,10 +33,7 @@ same_front-requires-clause-second g c =
     let ss = map tells c.args.self.now.surveys.now in
     let files = (g.D.Folder.seen c.args.folder.now).files in
     let one = c.requires.one in
-    let class : c.class-class.result ≡ one.0 =
-    c.class-class.ensures ∙ ap (λ s. (tells s).class) (sym c.index-self-first.is)
-    ∙ class-first tells c.args.self.now.surveys.now c.args.first one.0 c.index-self-first.result
-    one.1 c.requires.first c.index-self-first.is in
+    let class = of-one g (goal.at.same_front-requires-clause-second g c).After-class-class in
     class-here files names ss c.args.second one.0 c.row-2.result.now c.requires.held one.1
     c.requires.second c.row-2.ensures
     ∙ sym class
@@ -40,10 +44,7 @@ returns-then-not-same_front-clause-same g c =
     let ss = map tells c.args.self.now.surveys.now in
     let files = (g.D.Folder.seen c.args.folder.now).files in
     let one = c.requires.one in
-    let class : c.class-class.result ≡ one.0 =
-    c.class-class.ensures ∙ ap (λ s. (tells s).class) (sym c.index-self-first.is)
-    ∙ class-first tells c.args.self.now.surveys.now c.args.first one.0 c.index-self-first.result
-    one.1 c.requires.first c.index-self-first.is in
+    let class = of-one g (goal.at.returns-then-not-same_front-clause-same g c).After-class-class in
     let differ =
     ap (λ k. same_front k c.row.result.now c.row-2.result.now) (sym class)
     ∙ sym c.same_front.ensures ∙ c.if-not-same_front.true in
@@ -57,10 +58,7 @@ returns-clause-same g c =
     let ss = map tells c.args.self.now.surveys.now in
     let files = (g.D.Folder.seen c.args.folder.now).files in
     let one = c.requires.one in
-    let class : c.class-class.result ≡ one.0 =
-    c.class-class.ensures ∙ ap (λ s. (tells s).class) (sym c.index-self-first.is)
-    ∙ class-first tells c.args.self.now.surveys.now c.args.first one.0 c.index-self-first.result
-    one.1 c.requires.first c.index-self-first.is in
+    let class = of-one g (goal.at.returns-clause-same g c).After-class-class in
     let same =
     ap (λ k. same_front k c.row.result.now c.row-2.result.now) (sym class)
     ∙ sym c.same_front.ensures ∙ c.if-not-same_front.false in
