@@ -30,3 +30,14 @@ pub mod FrontBlocks
 pub mod SplitFile
 pub mod SplitLaw
 pub mod SplitSteps
+pub mod LedPlanLemmas
+pub mod LaidInputLemmas
+pub mod ExactFileLemmas
+pub mod ExactSpanLemmas
+pub mod ExactRunLemmas
+pub mod ExactNumberLemmas
+pub mod ExactReadLemmas
+pub mod ExactCutLemmas
+pub mod ExactJoinLemmas
+pub mod InfoFieldLemmas
+pub mod ExactStepLemmas

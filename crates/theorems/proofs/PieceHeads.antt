@@ -1,12 +1,13 @@
 -- The head of a written file says the extension of its Info frame. One of zeros counts nothing.
 use Rattle.std.proofs.Common.{ap, append_assoc, arith, Bool, cond, drop, false, length, List, None}
-use Rattle.std.proofs.Common.{Option, refl, replicate, Some, sym, take, true, ℕ, ◌++◌, ◌-◌, ◌∙◌}
-use Rattle.std.proofs.{Common.{◌≡◌, ◌≤◌}, lemmas.Bool.{and_right, le-leb}}
+use Rattle.std.proofs.Common.{Option, refl, replicate, Some, sym, take, true, ℕ, [], ◌%◌, ◌++◌, ◌-◌}
+use Rattle.std.proofs.{Common.{◌<◌, ◌^◌, ◌∙◌, ◌≡◌, ◌≤◌}, lemmas.Bool.{and_right, le-leb}}
 use Rattle.std.proofs.lemmas.List.{drop-drop, drop_at, length-append, length-replicate, length-take}
 use Rattle.std.{proofs.lemmas.List.{take-append-le, take_at}, specs.List.concat}
-use Rattle.std.specs.Prelude.{if◌then◌else◌, nat_le, option_map}
+use Rattle.std.specs.Prelude.{IfSome, if◌then◌else◌, nat_le, option_map}
 use Rattle.bit_fields.specs.Bits.{bytes}
 use Rattle.byteorder.specs.Endian.{big_bytes, big_number}
+use Rattle.byteorder.specs.Numbers.{big_from-bytes, big_number-reads_back}
 use Rattle.exact_span.proofs.SealLaws.{extension-there}
 use Rattle.exact_span.specs.Extensions.{counts_with, delay_in, has_encoder, padding_in}
 use Rattle.exact_span.specs.{Laws.AreWhole, PlayedPositions.{counted_by, counted_of, samples_in}}
@@ -14,8 +15,8 @@ use Rattle.frame_header.specs.{Fields.{ClassFields, HeaderFields, IsHeader}, Hea
 use Rattle.frame_header.specs.Tables.{area_of, class_of, length_of, side_size_of}
 use Rattle.frame_writer.specs.Frames.{Frame, frame_bytes}
 use Rattle.info_header.specs.HeadText.{low_place}
-use Rattle.info_header.specs.Info.{field_place, flags_in, info_bytes, info_in, number_or_zero}
-use Rattle.info_header.specs.Info.{padded, table_or_zeros, text_of}
+use Rattle.info_header.specs.Info.{field_in, field_place, flags_in, info_bytes, info_in, number_of}
+use Rattle.info_header.specs.Info.{number_or_zero, padded, table_or_zeros, text_of}
 use Rattle.info_header.specs.InfoFrame.{info_frame, info_header_of, info_slot_of}
 use Rattle.info_header.specs.declared.fields.Info.{Info}
 use Rattle.laying.proofs.{EntryBytes.length-header, InfoBytes.{length-info, length-info_frame}}
@@ -95,6 +96,95 @@ module _ (first : HeaderFields) (info : Info) (known : IsHeader first) (whole : 
       ap (λ n. padded 36 (drop n fields)) (ap (λ flags. field_place flags 4) flags-is ∙ place-is)
       ∙ take-append-le 36 rest (replicate 36 0) long ∙ extension-at
 
+  -- the number of frames, which has four bytes
+  frames-by : (vbr : Bool) (n : ℕ) (rest : List ℕ)
+      → take 4 (drop 8 (text_of vbr ++ (big_bytes 4 15 ++ (big_bytes 4 n ++ rest))))
+      ≡ big_bytes 4 n
+  frames-by true n rest = refl
+  frames-by false n rest = refl
+
+  frames-long : 12 ≤ length fields
+  frames-long = omega (arith, length-append (info_bytes info) zeros, length-info info sizes)
+
+  frames-at : take 4 (drop 8 fields) ≡ big_bytes 4 (number_or_zero info.frames)
+  unfolding info_bytes
+  frames-at =
+      let four : List ℕ = big_bytes 4 (number_or_zero info.frames) in
+      let behind : List ℕ = big_bytes 4 (number_or_zero info.bytes)
+      ++ (table_or_zeros info.table
+      ++ (big_bytes 4 (number_or_zero info.quality) ++ info.extension)) in
+      ap (λ (l : List ℕ). take 4 (drop 8 l))
+      (append_assoc (text_of info.vbr) (big_bytes 4 15 ++ (four ++ behind)) zeros
+      ∙ ap (λ (l : List ℕ). text_of info.vbr ++ l)
+      (append_assoc (big_bytes 4 15) (four ++ behind) zeros
+      ∙ ap (λ (l : List ℕ). big_bytes 4 15 ++ l) (append_assoc four behind zeros)))
+      ∙ frames-by info.vbr (number_or_zero info.frames) (behind ++ zeros)
+
+  -- the number of frames of an Info frame is read again
+  frames-in : (n : ℕ) → info.frames ≡ Some n → n < 256 ^ 4 → (info_in fields).frames ≡ Some n
+  unfolding info_in field_in field_place
+  frames-in n is small =
+      ap (λ flags. number_of (field_in flags 0 fields)) flags-is
+      ∙ ap (λ b. number_of (cond b (Some (take 4 (drop 8 fields))) None))
+      (le-leb 12 (length fields) frames-long)
+      ∙ ap (λ (l : List ℕ). Some (big_number 4 l))
+      (frames-at ∙ ap (λ (o : Option ℕ). big_bytes 4 (number_or_zero o)) is)
+      ∙ ap Some (big_number-reads_back 4 n [] small)
+
+  -- the quality, behind the table
+  behind-by : (vbr : Bool) (m n : ℕ) (rest : List ℕ)
+      → drop 16
+      (text_of vbr ++ (big_bytes 4 15 ++ (big_bytes 4 m ++ (big_bytes 4 n ++ rest)))) ≡ rest
+  behind-by true m n rest = refl
+  behind-by false m n rest = refl
+
+  table-long : (table : Option (List ℕ)) → IfSome table (λ (t : List ℕ). length t ≡ 100)
+      → length (table_or_zeros table) ≡ 100
+  table-long None long = length-replicate {A = ℕ} 100 0
+  table-long (Some table) long = long
+
+  quality-at : take 4 (drop 116 fields) ≡ big_bytes 4 (number_or_zero info.quality)
+  unfolding info_bytes
+  quality-at =
+      let frames : List ℕ = big_bytes 4 (number_or_zero info.frames) in
+      let bytes : List ℕ = big_bytes 4 (number_or_zero info.bytes) in
+      let table : List ℕ = table_or_zeros info.table in
+      let four : List ℕ = big_bytes 4 (number_or_zero info.quality) in
+      let last : List ℕ = table ++ (four ++ info.extension) in
+      let rest : List ℕ = table ++ (four ++ (info.extension ++ zeros)) in
+      let assoc : fields
+      ≡ text_of info.vbr ++ (big_bytes 4 15 ++ (frames ++ (bytes ++ rest))) =
+      append_assoc (text_of info.vbr) (big_bytes 4 15 ++ (frames ++ (bytes ++ last))) zeros
+      ∙ ap (λ (l : List ℕ). text_of info.vbr ++ l)
+      (append_assoc (big_bytes 4 15) (frames ++ (bytes ++ last)) zeros
+      ∙ ap (λ (l : List ℕ). big_bytes 4 15 ++ l)
+      (append_assoc frames (bytes ++ last) zeros
+      ∙ ap (λ (l : List ℕ). frames ++ l)
+      (append_assoc bytes last zeros
+      ∙ ap (λ (l : List ℕ). bytes ++ l)
+      (append_assoc table (four ++ info.extension) zeros
+      ∙ ap (λ (l : List ℕ). table ++ l) (append_assoc four info.extension zeros))))) in
+      ap (λ (l : List ℕ). take 4 (drop 116 l)) assoc
+      ∙ ap (take 4)
+      (sym (drop-drop 100 16 (text_of info.vbr ++ (big_bytes 4 15 ++ (frames ++ (bytes ++ rest)))))
+      ∙ ap (drop 100)
+      (behind-by info.vbr (number_or_zero info.frames) (number_or_zero info.bytes) rest)
+      ∙ drop_at table (four ++ (info.extension ++ zeros)) 100 (table-long info.table whole.table))
+      ∙ take_at four (info.extension ++ zeros) 4 refl
+
+  quality-long : 120 ≤ length fields
+  quality-long = omega (arith, length-append (info_bytes info) zeros, length-info info sizes)
+
+  -- the quality of an Info frame is read again, as a number of four bytes
+  quality-in : (info_in fields).quality ≡ Some (number_or_zero info.quality % 256 ^ 4)
+  unfolding info_in field_in field_place
+  quality-in =
+      ap (λ flags. number_of (field_in flags 3 fields)) flags-is
+      ∙ ap (λ b. number_of (cond b (Some (take 4 (drop 116 fields))) None))
+      (le-leb 120 (length fields) quality-long)
+      ∙ ap (λ (l : List ℕ). Some (big_number 4 l)) quality-at
+      ∙ ap Some (big_from-bytes 4 (number_or_zero info.quality) [])
+
   -- ---- in a file
 
   module _ (front : List (List ℕ)) (frames : List Frame) (back : List (List ℕ)) where
@@ -120,6 +210,25 @@ module _ (first : HeaderFields) (info : Info) (known : IsHeader first) (whole : 
         ap (λ (l : List ℕ). (info_in (drop (low_place (info_header_of first)) l)).extension)
         head-there
         ∙ ap (λ (l : List ℕ). (info_in l).extension) fields-there ∙ extension-in
+
+    -- its number of frames too
+    pub laid-count : (n : ℕ) → info.frames ≡ Some n → n < 256 ^ 4
+        → (head_info file (Some (head_at (length (concat front)) first))).frames ≡ Some n
+    unfolding head_info
+    laid-count n is small =
+        ap (λ (l : List ℕ). (info_in (drop (low_place (info_header_of first)) l)).frames)
+        head-there
+        ∙ ap (λ (l : List ℕ). (info_in l).frames) fields-there ∙ frames-in n is small
+
+    -- and its quality
+    pub laid-quality
+        : (head_info file (Some (head_at (length (concat front)) first))).quality
+        ≡ Some (number_or_zero info.quality % 256 ^ 4)
+    unfolding head_info
+    laid-quality =
+        ap (λ (l : List ℕ). (info_in (drop (low_place (info_header_of first)) l)).quality)
+        head-there
+        ∙ ap (λ (l : List ℕ). (info_in l).quality) fields-there ∙ quality-in
 
 -- ---- an extension without the name of an encoder
 

@@ -209,6 +209,28 @@ empty-sound c main head rows i r none =
     no_bits
     ∙ no-parts (part_lengths r.header no_side))
 
+-- a frame without main data, by its header
+abbrev silent_frame : HeaderFields → StreamFrame
+silent_frame h =
+    record { header = h; side = no_side; payload = parts_of (part_lengths h no_side) [] }
+
+-- a frame whose side information is all 0, as it is in the stream
+empty-frame : (main : List ℕ) (head : Option Head) (rows : List Row) (i : ℕ)
+    (r : Row) → side_of r ≡ no_side
+    → stream_frame main head rows i r ≡ silent_frame (record r.header { slot = no_slot })
+empty-frame main head rows i r none =
+    let start : ℕ = start_of_data (place head rows i) r in
+    ap (λ (s : Side). record {
+      header = record r.header { slot = no_slot };
+      side = record s { main_data_begin = 0 };
+      payload = parts_of (part_lengths r.header s) (payload_at main start s);
+    }) none
+    ∙ ap (λ n. record {
+      header = record r.header { slot = no_slot };
+      side = no_side;
+      payload = parts_of (part_lengths r.header no_side) (take n (drop (8 * start) (bits main)));
+    }) no_bits
+
 silent-sound : (c : ClassFields) (f : StreamFrame)
     → sound_of c (silent_before f) ≡ silent_sound c (record f.header { protected = false })
 silent-sound c f =
@@ -313,3 +335,28 @@ module _ (first : Part) (parts : List Part) (are : AreInputs first.survey.class 
       ∙ ap (silent_sound c) (sym two.like)
       ∙ sym (empty-sound c main survey.head survey.frames 0 two.first first-none)
       ∙ sym sound
+
+  -- where the lead-in of the first input leaves the run, it is the one that the run gets again
+  pub front-silent : (f : StreamFrame) (fs : List StreamFrame) → stream first parts are ≡ f ∷ fs
+      → (more : List StreamFrame)
+      × (whole_stream first.survey.class first are.0 ≡ silent_before f ∷ more)
+  front-silent f fs streams =
+      let c : ClassFields = first.survey.class in
+      let both = stream-two first.file survey two.first two.second two.rest two.are in
+      let w : StreamFrame = stream_frame main survey.head survey.frames 0 two.first in
+      let v : StreamFrame = stream_frame main survey.head survey.frames both.0 two.second in
+      let k : ℕ = (joined first parts are).front in
+      let one : k ≡ 1 = omega (arith, out, front-few first parts are) in
+      let behind = flat_map stream_in (parts_by (joined first parts are).joints parts) in
+      let next : v ∷ both.1 ++ behind ≡ f ∷ fs =
+      ap (λ (l : List StreamFrame). l ++ behind)
+      (sym (stream-from c first are.0 k ∙ ap (λ n. drop n (whole_stream c first are.0)) one
+      ∙ ap (drop 1) both.2))
+      ∙ streams in
+      let second : v ≡ f = cc in
+      let silent : w ≡ silent_before v =
+      empty-frame main survey.head survey.frames 0 two.first first-none ∙ ap silent_frame two.like
+      in (
+        v ∷ both.1,
+        both.2 ∙ ap (λ (x : StreamFrame). x ∷ v ∷ both.1) (silent ∙ ap silent_before second),
+      )

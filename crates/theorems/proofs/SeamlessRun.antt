@@ -69,7 +69,8 @@ pub record HasLeads (window : ℕ) (needs : List Need) (placed : List Placed)
       → (f : StreamFrame) × (fs : List StreamFrame) × (stream ≡ f ∷ fs)
       × (leads ≡ silent_before f ∷ [])
 
-own-frames : (needs : List Need) (stream : List StreamFrame) (placed : List Placed)
+-- frames in their own slots are all there, and nothing else
+pub own-frames : (needs : List Need) (stream : List StreamFrame) (placed : List Placed)
     → length stream ≡ length needs → AreOwn needs placed
     → with_lead_ins placed stream ≡ stream
 own-frames needs stream placed same own =
@@ -80,7 +81,8 @@ own-frames needs stream placed same own =
     ∙ ap (λ (l : List StreamFrame). stream ++ l) (no-frames on.0)
     ∙ append-nil stream
 
-own-many : (needs : List Need) (placed : List Placed) → AreOwn needs placed
+-- they have as many places
+pub own-many : (needs : List Need) (placed : List Placed) → AreOwn needs placed
     → length placed ≡ length needs
 own-many needs placed own = for_length (map (item_of own_choice) needs) placed own
     ∙ length-map needs (item_of own_choice)
@@ -182,7 +184,8 @@ module _ (first : Part) (parts : List Part) (are : AreInputs first.survey.class 
     unfolding joined_of
     joints-are = refl
 
-    front-is : joined.front ≡ front_left_out class brought all
+    -- how many frames leave the run at last
+    pub front-is : joined.front ≡ front_left_out class brought all
     unfolding joined_of
     front-is = refl
 

@@ -19,8 +19,8 @@ use Rattle.laying.specs.{Surveys.HasSurvey, Written.{front_blocks, info_for}}
 use Rattle.seam_plan.specs.Seams.{Joint, left_out}
 use Rattle.sync_survey.specs.{Faults.{surveyed, SurveyFields}, MainData.StreamFrame, Row.Row}
 use Rattle.theorems.proofs.BareFrames.{bare-same, relaid-same}
-use Rattle.theorems.proofs.PieceParts.{front-row, front-same, FrontRow, IsPieceFile, uncounted}
-use Rattle.theorems.proofs.SeamlessInputs.{AreInputs, has-apart, IsInput}
+use Rattle.theorems.proofs.PieceParts.{front-blocks-same, front-row, FrontRow, IsPieceFile}
+use Rattle.theorems.proofs.{PieceParts.uncounted, SeamlessInputs.{AreInputs, has-apart, IsInput}}
 use Rattle.theorems.proofs.SplitJoin.{AreFiles, chosen_between, class-is, cut-last, cut-within}
 use Rattle.theorems.proofs.SplitJoin.{NoneAlike, one-run, plan-is, Rise, run-stream}
 use Rattle.theorems.specs.SeamlessLaws.{bare_file, bare_from}
@@ -45,19 +45,22 @@ entries-append c [] gs first second = second
 entries-append c (f ∷ fs) gs first second = (first.0, entries-append c fs gs first.1 second)
 
 -- frames that are read, and what they are in their stream
-record AreRead (c : ClassFields) (fs : List Frame) (stream : List StreamFrame) : Type 0 where
-  entries : AreEntries c fs
-  is : map entry_of fs ≡ stream
+pub record AreRead (c : ClassFields) (fs : List Frame) (stream : List StreamFrame) : Type 0
+  where
+    pub entries : AreEntries c fs
+    pub is : map entry_of fs ≡ stream
 
-read-append : (c : ClassFields) (fs gs : List Frame) (xs ys : List StreamFrame) → AreRead c fs xs
-    → AreRead c gs ys → AreRead c (fs ++ gs) (xs ++ ys)
+-- some and then others are read as one stream and then the other
+pub read-append : (c : ClassFields) (fs gs : List Frame) (xs ys : List StreamFrame)
+    → AreRead c fs xs → AreRead c gs ys → AreRead c (fs ++ gs) (xs ++ ys)
 read-append c fs gs xs ys first second = record {
   entries = entries-append c fs gs first.entries second.entries;
   is = map-append entry_of fs gs ∙ ap₂ (λ (x y : List StreamFrame). x ++ y) first.is second.is;
 }
 
 module _ (c : ClassFields) where
-  part-read : (p : Part) (is : IsInput c p) (k : ℕ)
+  -- all frames of an input but for some at its front are read as its stream without as many
+  pub part-read : (p : Part) (is : IsInput c p) (k : ℕ)
       → AreRead c (frames_in (part_from k p)) (stream_in (part_from k p))
   part-read p is k =
       let are = frames-of p.file (apart p.survey) (has-apart c p is) in
@@ -70,7 +73,8 @@ module _ (c : ClassFields) where
             ∙ ap (take (p.to - k)) (sym (drop-map entry_of k all) ∙ ap (drop k) are.stream_is);
       }
 
-  parts-read : (joints : List Joint) (parts : List Part) → AreInputs c parts
+  -- so it is with the inputs behind the first
+  pub parts-read : (joints : List Joint) (parts : List Part) → AreInputs c parts
       → AreRead c (flat_map frames_in (parts_by joints parts))
       (flat_map stream_in (parts_by joints parts))
   parts-read [] parts are = record { entries = tt; is = refl }
@@ -167,7 +171,8 @@ module _ (file : List ℕ) (s : SurveyFields) (allowed : ℕ) (e : surveyed file
 
   blocks-are : front_blocks first.file first.survey ≡ front_blocks file s
   blocks-are =
-      front-same (chosen_between a b) file s has are.0 are.1 refl made.row made.row_is made.back
+      front-blocks-same (chosen_between a b) file s has are.0 are.1 refl
+      made.row made.row_is made.back
       made.blocks s.class first own_inputs.0 made.file_is allowed e
 
   -- the join of the pieces is the file of the whole without the blocks behind its frames

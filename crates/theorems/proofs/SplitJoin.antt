@@ -35,8 +35,8 @@ use Rattle.split_edits.specs.{Recording.leads_laid, Split.{cutting_of, frames_be
 use Rattle.split_edits.specs.declared.points.Points.{Points}
 use Rattle.sync_survey.specs.{Faults.{stream_of_survey, SurveyFields}, MainData.StreamFrame}
 use Rattle.sync_survey.specs.Row.{Row}
-use Rattle.theorems.proofs.PieceParts.{frames-same, IsPieceFile, left-own, own_leads, piece-is}
-use Rattle.theorems.proofs.PieceParts.{same-class}
+use Rattle.theorems.proofs.LaidInputLemmas.{frames-same}
+use Rattle.theorems.proofs.PieceParts.{IsPieceFile, left-own, own_leads, piece-is, same-class}
 use Rattle.theorems.proofs.SeamlessInputs.{AreInputs, IsInput, more-inputs, run-needs, run-sounds}
 use Rattle.theorems.specs.SeamlessLaws.{is_look_alike, last_place}
 
@@ -167,7 +167,8 @@ module _ (file : List ℕ) (s : SurveyFields) where
     abbrev window : ℕ
     window = window_of s.class.version
 
-    stream-many : length all_stream ≡ length s.frames
+    -- the stream has as many frames as there are rows
+    pub stream-many : length all_stream ≡ length s.frames
     stream-many =
         let are = frames-of file s has in
         ap (λ (l : List StreamFrame). length l) (sym are.stream_is)
@@ -188,12 +189,14 @@ module _ (file : List ℕ) (s : SurveyFields) where
     between-needs a b =
         run-needs s.class (slice_range s.frames a b) (slice_range all_stream a b) (same-many a b)
 
-    between-sounds : (a b : ℕ)
+    -- and sound as the stream does
+    pub between-sounds : (a b : ℕ)
         → sounds (run_between a b) ≡ map (sound_of s.class) (slice_range all_stream a b)
     between-sounds a b =
         run-sounds s.class (slice_range s.frames a b) (slice_range all_stream a b) (same-many a b)
 
-    between-append : (a b c : ℕ) → a ≤ b → b ≤ c
+    -- neighbouring ones are those between the first number and the last
+    pub between-append : (a b c : ℕ) → a ≤ b → b ≤ c
         → run_between a b ++ run_between b c ≡ run_between a c
     between-append a b c first second =
         frames-same (run_between a b ++ run_between b c) (run_between a c)
@@ -227,12 +230,14 @@ module _ (file : List ℕ) (s : SurveyFields) where
     known-run (r ∷ rows) [] known = tt
     known-run (r ∷ rows) (f ∷ stream) known = (known.0, known-run rows stream known.1)
 
-    between-known : (a b : ℕ) → AreKnown (run_between a b)
+    -- their headers are the standard's
+    pub between-known : (a b : ℕ) → AreKnown (run_between a b)
     between-known a b =
         known-run (slice_range s.frames a b) (slice_range all_stream a b)
         (part-known s a b has.placed)
 
-    between-fits : (a b : ℕ) → fits_behind window window (run_needs (run_between a b)) ≡ true
+    -- and they fit behind a whole window
+    pub between-fits : (a b : ℕ) → fits_behind window window (run_needs (run_between a b)) ≡ true
     between-fits a b =
         (fits-tested window window (run_needs (run_between a b))).1
         (subst (FitsBehind window window) (sym (between-needs a b)) (part-fits s a b has.placed).1)

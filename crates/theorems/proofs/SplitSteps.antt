@@ -38,7 +38,7 @@ filter-few p (x ∷ xs) = at (p x) (filter-few p xs)
     at false few = omega (arith, few)
 
 -- none of its frames is empty
-none-empty : (c : ClassFields) (stream : List StreamFrame) (i : ℕ) (f : StreamFrame)
+pub none-empty : (c : ClassFields) (stream : List StreamFrame) (i : ℕ) (f : StreamFrame)
     → full_frames c stream ≡ stream → slice_get stream i ≡ Some f → is_empty c f ≡ true → ⊥
 none-empty c [] i f full found empty = absurd cc
 none-empty c (g ∷ stream) zero f full found empty =
@@ -66,7 +66,8 @@ none-empty c (g ∷ stream) (suc i) f full found empty =
           ap (λ (l : List StreamFrame). length l) kept,
         )
 
-first-of-range : (xs : List StreamFrame) (a b : ℕ) (f : StreamFrame) (fs : List StreamFrame)
+-- the first frame of a range is the frame at its first number
+pub first-of-range : (xs : List StreamFrame) (a b : ℕ) (f : StreamFrame) (fs : List StreamFrame)
     → a < b → slice_range xs a b ≡ f ∷ fs → slice_get xs a ≡ Some f
 first-of-range xs a b f fs some is =
     let many : b - a ≡ suc (b - a - 1) = omega (arith, some) in
@@ -148,7 +149,8 @@ module _ (file : List ℕ) (s : SurveyFields) (has : HasSurvey file s) (known : 
 
 -- ---- the pieces in two lists
 
-inputs-front : (c : ClassFields) (xs ys : List Part) → AreInputs c (xs ++ ys) → AreInputs c xs
+-- the first of some inputs are inputs
+pub inputs-front : (c : ClassFields) (xs ys : List Part) → AreInputs c (xs ++ ys) → AreInputs c xs
 inputs-front c [] ys are = tt
 inputs-front c (x ∷ xs) ys are = (are.0, inputs-front c xs ys are.1)
 

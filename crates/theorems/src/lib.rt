@@ -13,4 +13,7 @@ pub use laws::{
     salvaged_frames_are_left, salvaged_plans_are_first, salvaged_streams_are_exact,
     streams_are_chosen, written_frames_stay,
 };
-pub use seamless_laws::{following_samples, in_steps, split_then_seamless_join};
+pub use seamless_laws::{
+    exact_in_steps, exact_split_then_seamless_join, following_samples, in_steps,
+    split_then_seamless_join,
+};

@@ -1,0 +1,788 @@
+-- Exact pieces, joined in order, are the file that is cut from the first place to the last, but for
+-- its blocks behind, where the first piece doesn't begin with a look-alike.
+use Rattle.std.proofs.Common.{ap, ap₂, arith, Bool, cond, drop, false, find, flat_map, inl, inr}
+use Rattle.std.proofs.Common.{length, List, map, max, None, Ok, Option, refl, replicate, Some}
+use Rattle.std.proofs.Common.{subst, sym, take, true, zero, ℕ, [], ◌++◌, ◌+◌, ◌-◌, ◌∙◌, ◌∷◌, ◌≡◌}
+use Rattle.std.proofs.{Common.◌≤◌, lemmas.{Bool.{and_from, both_ways, cases_lt}, List.length-map}}
+use Rattle.std.proofs.lemmas.{Option.slice_get-map, Slice.Eq.bytes_eq-Decides}
+use Rattle.std.specs.List.{concat, list_all}
+use Rattle.std.specs.Prelude.{bytes_eq, is_some, option_map, slice_get, slice_range}
+use Rattle.commands.specs.One.{most_frames}
+use Rattle.cut_edits.proofs.ChosenLaws.{the-plan}
+use Rattle.cut_edits.proofs.PieceLaws.{head_long, plain-long, span_apart, span_chosen}
+use Rattle.cut_edits.{proofs.SpanLaws.led-is as led-plan-is, specs.Chosen.first_plan}
+use Rattle.cut_edits.specs.Exact.{IsSpanIn, leads_in, needs_in, piece_of, plan_with, quality_of}
+use Rattle.exact_span.specs.{Extensions.{extension_of, kept}, Spans.{delay_of, padding_of}}
+use Rattle.exact_span.specs.{TagWord.sealed_info, declared.exact_place.ExactPlace.ExactPlace}
+use Rattle.exact_span.specs.declared.span.Span.{Span}
+use Rattle.frame_header.proofs.HeaderLaws.{IsClass-class_of}
+use Rattle.frame_header.specs.Fields.{ClassFields, HeaderFields, IsClass, SlotFields}
+use Rattle.frame_header.specs.{Slots.all_slots, Tables.{area_of, class_of, window_of}}
+use Rattle.frame_writer.specs.Frames.{Frame, frame_bytes}
+use Rattle.info_header.specs.{Info.number_or_zero, InfoFrame.{info_frame, info_header_of}}
+use Rattle.info_header.specs.declared.fields.Info.{Info}
+use Rattle.join_edits.proofs.RunPlans.{front-within}
+use Rattle.join_edits.specs.Seamless.{brought_by, delay_of_run, gain_of, head_of, info_with}
+use Rattle.join_edits.specs.Seamless.{joined_by, joined_frames, padding_by, part_from, parts_by}
+use Rattle.join_edits.specs.Seamless.{replay_gain, run_extension, run_parts, run_plan, says_gain}
+use Rattle.join_edits.specs.Seamless.{seamless_file, seamless_from}
+use Rattle.laying.proofs.{HoldLaws.{part-entries, part-stream}, LaidLaws.{first-there, laid-slots}}
+use Rattle.laying.proofs.PlannedFrames.{one, one-entry, one-stream, relaid-cons, slot_among}
+use Rattle.laying.proofs.RelayLaws.{range-next}
+use Rattle.laying.specs.Laid.{frames_laid, info_laid, Laid, part_laid}
+use Rattle.laying.specs.{LaidFiles.{AreEntries, entry_of, laid_file}, Needs.need_of}
+use Rattle.laying.specs.NeedsFit.{own_choice}
+use Rattle.laying.specs.Relaid.{frames_in, IsPart, lead_in_to, left_behind, Part, relaid}
+use Rattle.laying.specs.{Relaid.{silent_before, stream_in}, Surveys.HasSurvey}
+use Rattle.laying.specs.Written.{front_blocks, info_for, slot_in}
+use Rattle.seam_plan.proofs.{FitLaws.fits-tested, LeadInLaws.lead-in-is, PieceRuns.front-fits}
+use Rattle.seam_plan.specs.Frames.{Frame as RunFrame, needs_of as run_needs}
+use Rattle.seam_plan.specs.Joins.{fits_behind, has_lead_in, lead_in_header, lead_in_slot}
+use Rattle.slot_plan.proofs.{BehindLaws.more-behind, LedLaws.led-needed}
+use Rattle.slot_plan.proofs.OwnLeadIn.{lead-where-wanted, own-none}
+use Rattle.slot_plan.specs.{Behind.{FitsBehind, IsLeadInHeader}, Laws.{AreLed, AreOwn}}
+use Rattle.slot_plan.specs.{Layouts.begins_of, LeastPlan.{least_plan, led_plan}, Lists.CanBeLaid}
+use Rattle.slot_plan.specs.{Parts.{items_of, open_of, own_frame}, Plans.{AreFor, IsLedPlan, IsPlan}}
+use Rattle.slot_plan.specs.declared.needs.{Need.Need, Placed.Placed}
+use Rattle.sync_survey.specs.{Faults.{surveyed, SurveyFields}, MainData.StreamFrame, Row.Row}
+use Rattle.theorems.proofs.BareFrames.{bare-same, relaid-same}
+use Rattle.theorems.proofs.ExactFileLemmas.{has-own, head, IsFound, IsLaidLed, IsLaidOwn, laid_by}
+use Rattle.theorems.proofs.ExactFileLemmas.{leads, own, own-leads, piece-by, plain, span-fitting}
+use Rattle.theorems.proofs.ExactFileLemmas.{span-long, span-ways}
+use Rattle.theorems.proofs.ExactNumberLemmas.{delay, delay-is, frames-many}
+use Rattle.theorems.proofs.ExactNumberLemmas.{led-same as span-led-same, many, padding-is}
+use Rattle.theorems.proofs.ExactNumberLemmas.{whole-file, whole-files, whole-first, whole-found}
+use Rattle.theorems.proofs.ExactNumberLemmas.{whole-last, whole_span}
+use Rattle.theorems.proofs.ExactRunLemmas.{AreExactFiles, brings, class-is, ends-later, first-ends}
+use Rattle.theorems.proofs.ExactRunLemmas.{FirstSpan, high, IsPiece, led-span, run-fits, run-frames}
+use Rattle.theorems.proofs.ExactRunLemmas.{run-stream, st, stays-fit}
+use Rattle.theorems.proofs.ExactSpanLemmas.{brought-own, has-own-span, has-span, read}
+use Rattle.theorems.proofs.ExactSpanLemmas.{read-extension, read-head, read-is, read-quality}
+use Rattle.theorems.proofs.InfoFieldLemmas.{gain-same, Keeps, keeps-by, made-again, made-front}
+use Rattle.theorems.proofs.InfoFieldLemmas.{quality-again, quality_bytes, sealed-front, sealed-same}
+use Rattle.theorems.proofs.LaidInputLemmas.{BringsLed, front-same}
+use Rattle.theorems.proofs.LedPlanLemmas.{IsLedAs, lead_need, led-as, own-same, OwnBegins}
+use Rattle.theorems.proofs.{LedPlanLemmas.plan-begins, SeamlessInputs.{AreInputs, IsInput}}
+use Rattle.theorems.proofs.SeamlessRun.{front-few, front-parts, run, run-planned, stream}
+use Rattle.theorems.proofs.SplitFile.{AreRead, part-read, parts-read, read-append}
+use Rattle.theorems.proofs.SplitJoin.{between-append, between-needs, range-append, run_between}
+use Rattle.theorems.specs.SeamlessLaws.{bare_file, bare_from, last_place}
+
+-- ---- lists
+
+find-same : {X : Type 0} (f g : X → Bool) (xs : List X) → ((x : X) → f x ≡ g x)
+    → find f xs ≡ find g xs
+find-same f g [] same = refl
+find-same f g (x ∷ xs) same =
+    ap₂ (λ (b : Bool) o. cond b (Some x) o) (same x) (find-same f g xs same)
+
+-- ---- lead-ins
+
+-- frames that fit behind no bytes and begin with the same frame have the same lead-in
+same-lead : (window : ℕ) (first : Need) (xs ys : List Need)
+    → fits_behind window 0 (first ∷ xs) ≡ true → fits_behind window 0 (first ∷ ys) ≡ true
+    → lead_in_header window (first ∷ xs) ≡ lead_in_header window (first ∷ ys)
+unfolding lead_in_header
+same-lead window first xs ys one two =
+    let all : (needs : List Need) → fits_behind window 0 needs ≡ true → (n : ℕ)
+    → fits_behind window n needs ≡ true =
+    λ needs fits n. (fits-tested window n needs).1
+    (more-behind window 0 n needs (omega arith) ((fits-tested window 0 needs).0 fits)) in
+    let class : ClassFields = class_of first.header in
+    ap (option_map (λ slot. record first.header { protected = false; slot = slot }))
+    (find-same
+    (λ slot. fits_behind window (area_of class slot false) (first ∷ xs))
+    (λ slot. fits_behind window (area_of class slot false) (first ∷ ys)) all_slots
+    (λ slot. all (first ∷ xs) one (area_of class slot false)
+    ∙ sym (all (first ∷ ys) two (area_of class slot false))))
+
+-- a lead-in has the header of the frame after it but for its slot and its check word
+lead-header : (window : ℕ) (first : Need) (needs : List Need) (h : HeaderFields)
+    → lead_in_header window (first ∷ needs) ≡ Some h
+    → info_header_of h ≡ info_header_of first.header
+unfolding lead_in_header
+lead-header window first needs h is =
+    at (lead_in_slot window (class_of first.header) (first ∷ needs)) is
+  where
+    at : (o : Option SlotFields)
+        → option_map (λ slot. record first.header { protected = false; slot = slot }) o ≡ Some h
+        → info_header_of h ≡ info_header_of first.header
+    at None none = absurd cc
+    at (Some slot) some =
+        let same : record first.header { protected = false; slot = slot } ≡ h = cc in
+        ap info_header_of (sym same)
+
+-- ---- the plan after a lead-in in any case
+
+-- what the plan of frames after a lead-in in any case is, and that of the lead-in and the frames
+record IsLedRun (window : ℕ) (first : Need) (needs : List Need) (led run : List Placed) : Type 0
+  where
+    lead : Placed
+    rest : List Placed
+    led_is : led ≡ lead ∷ rest
+    leads : lead.lead_in ≡ true
+    run_is : run ≡ record lead { lead_in = false } ∷ rest
+
+led-run : (window : ℕ) (first : Need) (needs : List Need) (led run : List Placed)
+    (is : IsLedAs window first needs led)
+    → AreOwn (lead_need first.header is.lead.slot ∷ first ∷ needs) run
+    → OwnBegins window (lead_need first.header is.lead.slot ∷ first ∷ needs) run
+    → IsLedRun window first needs led run
+unfolding AreFor AreLed
+led-run window first needs led run is own begins =
+    let lead : Placed = record is.lead { lead_in = false } in
+    let all : List Need = lead_need first.header is.lead.slot ∷ first ∷ needs in
+    let is_led = subst (AreLed window (first ∷ needs)) is.are is.led in
+    record {
+      lead = is.lead;
+      rest = is.rest;
+      led_is = is.are;
+      leads = is_led.0;
+      run_is =
+          own-same all run (lead ∷ is.rest) own (refl, (zero, omega arith, refl), is.own)
+          (begins ∙ sym is.begins ∙ ap (map (λ (p : Placed). p.begin)) is.are);
+    }
+
+-- frames with a lead-in in front, in the slots of that plan, are the frames after a lead-in
+led-relaid : (lead : Placed) (rest : List Placed) (f : Frame) (fs : List Frame)
+    → lead.lead_in ≡ true
+    → relaid (lead_in_to lead f ∷ f ∷ fs) (record lead { lead_in = false } ∷ rest)
+    ≡ relaid (f ∷ fs) (lead ∷ rest)
+led-relaid lead rest f fs leads =
+    relaid-cons (record lead { lead_in = false }) rest (lead_in_to lead f) (f ∷ fs)
+    ∙ sym (relaid-cons lead rest f fs
+    ∙ ap (λ b. one b lead f ∷ relaid (left_behind b f fs) rest) leads)
+
+-- ---- the first frame of the run
+
+-- it has this need
+row-need : (rows : List Row) (i : ℕ) (r : Row) (n : Need) → slice_get rows i ≡ Some r
+    → slice_get (map need_of rows) i ≡ Some n → need_of r ≡ n
+row-need rows i r n found is =
+    let both : Some (need_of r) ≡ Some n =
+    sym (slice_get-map need_of rows i ∙ ap (option_map need_of) found) ∙ is in
+    cc
+
+-- ---- what the heads of pieces keep
+
+module _ (file : List ℕ) (s : SurveyFields) (has : HasSurvey file s)
+    (few : length s.frames ≤ most_frames) where
+  abbrev read_of : (c : ClassFields) (from to : ExactPlace) (p : Part) → IsInput c p
+      → IsPiece file s has few from to p → Info
+  read_of c from to p is piece = read file s has few from to piece.0 piece.1 c p is piece.2
+
+  -- each keeps what a piece keeps of the head of the recording
+  piece-keeps : (c : ClassFields) (from to : ExactPlace) (p : Part) (is : IsInput c p)
+      (piece : IsPiece file s has few from to p)
+      → Keeps (head file s has) (read_of c from to p is piece).extension
+  piece-keeps c from to p is piece =
+      let span = piece.0 in
+      let row = piece.2.row in
+      let long = head_long file s.head in
+      let delay : ℕ = delay_of s.class (leads file s has span) span in
+      let info : Info = info_laid (plain file s has span) file (own file s has) in
+      let there = span_apart s span piece.1.there in
+      keeps-by (head file s has) long delay (padding_of span)
+      (read_of c from to p is piece).extension
+      (ap (take 28) (read-extension file s has few from to span piece.1 c p is piece.2)
+      ∙ sealed-front row.header info
+      (plain-long (head file s has) long span file (own file s has) (has-own file s has) there))
+      (read-head file s has few from to span piece.1 c p is piece.2).numbers.encoder
+
+  -- so all say the same of peak and gains
+  gains-are : (gain : List ℕ) → gain ≡ replay_gain (kept (head file s has))
+      → (c : ClassFields) (from : ExactPlace) (tos : List ExactPlace) (parts : List Part)
+      → AreInputs c parts → AreExactFiles file s has few from tos parts
+      → list_all (says_gain gain) parts ≡ true
+  gains-are gain is c from [] [] inputs files = refl
+  gains-are gain is c from [] (p ∷ parts) inputs files = absurd files
+  gains-are gain is c from (to ∷ tos) [] inputs files = refl
+  gains-are gain is c from (to ∷ tos) (p ∷ parts) inputs files =
+      let piece = files.0 in
+      let sp = has-span file s has few from to piece.0 piece.1 c p inputs.0 piece.2 in
+      let keeps = piece-keeps c from to p inputs.0 piece in
+      let own_gain : gain_of (head_of p) ≡ gain =
+      ap gain_of (read-is file s has few from to piece.0 piece.1 c p inputs.0 piece.2)
+      ∙ gain-same (read_of c from to p inputs.0 piece).extension (kept (head file s has))
+      keeps.front
+      ∙ sym is in
+      and_from (says_gain gain p) (list_all (says_gain gain) parts)
+      (and_from (is_some (brought_by p).played) (bytes_eq (gain_of (head_of p)) gain)
+      (ap is_some sp.spans.counted)
+      ((bytes_eq-Decides (gain_of (head_of p)) gain).1 own_gain))
+      (gains-are gain is c to tos parts inputs.1 files.1)
+
+-- ---- the join
+
+module _ (file : List ℕ) (s : SurveyFields) (has : HasSurvey file s)
+    (few : length s.frames ≤ most_frames) (known : IsClass s.class)
+    (place next : ExactPlace) (places : List ExactPlace) (first : Part) (parts : List Part)
+    (inputs : AreInputs first.survey.class (first ∷ parts))
+    (files : AreExactFiles file s has few place (next ∷ places) (first ∷ parts)) where
+  abbrev t : SurveyFields
+  t = own file s has
+
+  abbrev window : ℕ
+  window = window_of s.class.version
+
+  abbrev span : Span
+  span = whole_span file s has few known place next places first parts inputs files
+
+  abbrev piece : IsPiece file s has few place next first
+  piece = files.0
+
+  abbrev row : Row
+  row = piece.2.row
+
+  first-same : piece.0.first ≡ span.first
+  first-same = whole-first file s has few known place next places first parts inputs files
+
+  last-same : high file s has few known place next places first parts inputs files ≡ span.last
+  last-same = whole-last file s has few known place next places first parts inputs files
+
+  class-same : first.survey.class ≡ s.class
+  class-same = class-is file s has few known place next places first parts inputs files
+
+  found : IsFound file s has place (last_place next places) span
+  found = whole-found file s has few known place next places first parts inputs files
+
+  inside : IsSpanIn t span
+  inside = span_apart s span found.there
+
+  row-is : slice_get t.frames span.first ≡ Some row
+  row-is = ap (slice_get t.frames) (sym first-same) ∙ piece.2.row_is
+
+  abbrev whole : Laid
+  whole = laid_by file s has span row
+
+  abbrev part : Part
+  part = part_laid whole file t
+
+  abbrev needs : List Need
+  needs = needs_in span t
+
+  abbrev front : ℕ
+  front = (joined_by first parts).front
+
+  abbrev run_all : List RunFrame
+  run_all =
+      run_between file t piece.0.first
+      (high file s has few known place next places first parts inputs files)
+
+  abbrev stream_all : List StreamFrame
+  stream_all =
+      slice_range (st file s has few) piece.0.first
+      (high file s has few known place next places first parts inputs files)
+
+  run-needs : run_needs run_all ≡ needs
+  run-needs =
+      ap₂ (λ i j. run_needs (run_between file t i j)) first-same last-same
+      ∙ between-needs file t (has-own file s has) span.first span.last
+
+  part-is : IsPart s.class part
+  part-is = record {
+    has = has-own file s has;
+    class = refl;
+    some = inside.some;
+    within = inside.within;
+  }
+
+  part-streams : map entry_of (frames_in part) ≡ stream_all
+  part-streams =
+      part-stream s.class part part-is
+      ∙ ap₂ (λ i j. slice_range (st file s has few) i j) (sym first-same) (sym last-same)
+
+  own_inputs : AreInputs s.class (first ∷ parts)
+  own_inputs = subst (λ d. AreInputs d (first ∷ parts)) class-same inputs
+
+  abbrev run_frames_in : List Frame
+  run_frames_in = flat_map frames_in (run_parts first parts)
+
+  run-read : AreRead s.class run_frames_in (stream first parts inputs)
+  run-read =
+      read-append s.class (frames_in (part_from front first))
+      (flat_map frames_in (parts_by (joined_by first parts).joints parts))
+      (stream_in (part_from front first))
+      (flat_map stream_in (parts_by (joined_by first parts).joints parts))
+      (part-read s.class first own_inputs.0 front)
+      (parts-read s.class (joined_by first parts).joints parts own_inputs.1)
+
+  abbrev placed : List Placed
+  placed = (plain file s has span).placed
+
+  -- the frames of the join are those that are cut, and so is the header of its Info frame
+  pub record IsSame : Type 0 where
+    pub frames : joined_frames first parts ≡ relaid (frames_in part) placed
+    pub header : (r : Row) → slice_get first.survey.frames front ≡ Some r
+        → info_header_of r.header ≡ info_header_of row.header
+
+  -- ---- the plan
+
+  abbrev least : List Placed
+  least = first_plan own_choice s.class needs
+
+  never-laid : fits_behind window 0 needs ≡ false
+      → CanBeLaid window (map open_of (items_of own_choice needs None)) → ⊥
+  unfolding items_of
+  never-laid lacks can =
+      both_ways (fits_behind window 0 needs) lacks
+      ((fits-tested window 0 needs).1 (own-none window needs can))
+
+  plan-by : (led : Bool) → (led ≡ true → fits_behind window 0 needs ≡ false)
+      → plan_with led s.class needs ≡ least
+  plan-by false lacks = refl
+  plan-by true lacks =
+      let chosen = span_chosen (head file s has) span in
+      let plan =
+      the-plan chosen t (has-own file s has).placed inside.some inside.within own_choice
+      (inl refl) in
+      sym ((led-plan-is chosen t (has-own file s has).placed inside.some inside.within least).0
+      (led-needed window own_choice needs least (never-laid (lacks refl)) plan))
+
+  run-least : run_needs (run first parts inputs) ≡ needs → run_plan first parts ≡ least
+  run-least same =
+      ap₂ (λ (d : ClassFields) (ns : List Need).
+      least_plan (window_of d.version) own_choice (ns ∷ [])) class-same same
+
+  -- frames that are read as those that are cut are these
+  bare-frames : stream first parts inputs ≡ stream_all → run_plan first parts ≡ placed
+      → joined_frames first parts ≡ relaid (frames_in part) placed
+  bare-frames streams plans =
+      relaid-same run_frames_in (frames_in part) (run_plan first parts)
+      (bare-same s.class known run_frames_in (frames_in part) run-read.entries
+      (part-entries s.class part part-is)
+      (run-read.is ∙ streams ∙ sym part-streams))
+      ∙ ap (relaid (frames_in part)) plans
+
+  -- what the frames of the first piece need begins with the first of these
+  first-needs : slice_get (run_needs (run_between file t piece.0.first piece.0.last)) 0
+      ≡ Some (need_of row)
+  first-needs =
+      ap (λ (l : List Need). slice_get l 0)
+      (between-needs file t (has-own file s has) piece.0.first piece.0.last)
+      ∙ ap (λ (rows : List Row). slice_get (map need_of rows) 0)
+      (range-next t.frames piece.0.first piece.0.last row piece.2.row_is piece.1.there.some)
+
+  -- ---- without a lead-in
+
+  led-same : piece.0.led ≡ span.led
+  led-same = span-led-same file s has few known place next places first parts inputs files
+
+  module _ (ways : IsLaidOwn file s has piece.0 piece.1.there piece.2.row piece.2.row_is)
+      (stays : front ≡ 0) where
+    abbrev own-span : FirstSpan file s has few known place next places first parts inputs files
+    own-span =
+        has-own-span file s has few place next piece.0 piece.1 first.survey.class first inputs.0
+        piece.2 ways
+
+    same-own : IsSame
+    same-own =
+        let run_is : run_needs (run first parts inputs) ≡ needs =
+        ap run_needs
+        (run-frames file s has few known place next places first parts inputs files own-span
+        ∙ ap (λ n. drop n run_all) stays)
+        ∙ run-needs in
+        let streams : stream first parts inputs ≡ stream_all =
+        run-stream file s has few known place next places first parts inputs files own-span
+        ∙ ap (λ n. drop n stream_all) stays in
+        let brings =
+        brought-own file s has few place next piece.0 piece.1 first.survey.class first inputs.0
+        piece.2 ways in
+        let plans : plan_with span.led s.class needs ≡ least =
+        ap (λ b. plan_with b s.class needs) (sym led-same ∙ ways.1) in
+        record {
+          frames = bare-frames streams (run-least run_is ∙ sym plans);
+          header = λ r there.
+              ap (λ (n : Need). info_header_of n.header)
+              (row-need first.survey.frames front r (need_of row) there
+              (ap₂ (λ (ns : List Need) n. slice_get ns n) brings.rows_need stays
+              ∙ first-needs));
+        }
+
+  -- ---- after a lead-in
+
+  module _ (ways : IsLaidLed file s has piece.0 piece.1.there piece.2.row piece.2.row_is) where
+    abbrev with_lead : FirstSpan file s has few known place next places first parts inputs files
+    with_lead = led-span file s has few known place next places first parts inputs files ways
+
+    abbrev brought : BringsLed first.survey.class first inputs.0
+        (run_between file t piece.0.first piece.0.last)
+        (slice_range (st file s has few) piece.0.first piece.0.last)
+    brought = brings file s has few known place next places first parts inputs files ways
+
+    -- that leaves the run
+    same-again : front ≡ 1 → IsSame
+    same-again out =
+        let run_is : run_needs (run first parts inputs) ≡ needs =
+        ap run_needs
+        (run-frames file s has few known place next places first parts inputs files with_lead
+        ∙ ap (λ n. drop n (brought.lead_in ∷ run_all)) out)
+        ∙ run-needs in
+        let streams : stream first parts inputs ≡ stream_all =
+        run-stream file s has few known place next places first parts inputs files with_lead
+        ∙ ap (λ n. drop n (silent_before brought.first ∷ stream_all)) out in
+        let lacks : fits_behind window 0 needs ≡ false =
+        ap₂ (λ (d : ClassFields) (ns : List Need). fits_behind (window_of d.version) 0 ns)
+        (sym class-same) (sym run_is)
+        ∙ (front-parts first parts inputs (omega (arith, out))).1 in
+        record {
+          frames = bare-frames streams (run-least run_is ∙ sym (plan-by span.led (λ led. lacks)));
+          header = λ r there.
+              ap (λ (n : Need). info_header_of n.header)
+              (row-need first.survey.frames front r (need_of row) there
+              (ap₂ (λ (ns : List Need) n. slice_get ns n) brought.rows_need out
+              ∙ first-needs));
+        }
+
+    -- ---- or stays
+
+    module _ (stays : front ≡ 0) where
+      abbrev begin_at : ℕ
+      begin_at = piece.0.first
+
+      abbrev mid : ℕ
+      mid = piece.0.last
+
+      abbrev high_end : ℕ
+      high_end = high file s has few known place next places first parts inputs files
+
+      abbrev own_run : List RunFrame
+      own_run = run_between file t begin_at mid
+
+      abbrev more : List Need
+      more = map need_of (slice_range t.frames (span.first + 1) span.last)
+
+      abbrev own_more : List Need
+      own_more = map need_of (slice_range t.frames (begin_at + 1) mid)
+
+      needs-cons : needs ≡ need_of row ∷ more
+      needs-cons =
+          ap (map need_of) (range-next t.frames span.first span.last row row-is inside.some)
+
+      own-cons : run_needs own_run ≡ need_of row ∷ own_more
+      own-cons =
+          between-needs file t (has-own file s has) begin_at mid
+          ∙ ap (map need_of)
+          (range-next t.frames begin_at mid row piece.2.row_is piece.1.there.some)
+
+      ends : mid ≤ high_end
+      ends =
+          omega (
+            arith,
+            first-ends file s has few known place next places first parts inputs files,
+            ends-later file s has few known place next places first parts inputs files,
+          )
+
+      all-fit : fits_behind window 0 needs ≡ true
+      all-fit =
+          ap₂ (λ (d : ClassFields) (ns : List Need). fits_behind (window_of d.version) 0 ns)
+          (sym class-same) (sym run-needs)
+          ∙ stays-fit file s has few known place next places first parts inputs files ways stays
+
+      own-fit : fits_behind window 0 (run_needs own_run) ≡ true
+      own-fit =
+          front-fits window 0 own_run (run_between file t mid high_end)
+          (ap (λ (l : List RunFrame). fits_behind window 0 (run_needs l))
+          (between-append file t (has-own file s has) begin_at mid high_end
+          (omega (arith, piece.1.there.some)) ends)
+          ∙ ap (fits_behind window 0) run-needs ∙ all-fit)
+
+      is-led : span.led ≡ true
+      is-led =
+          sym led-same
+          ∙ elim ways.1 as (λ _. piece.0.led ≡ true) [
+            | inl led ↦ led
+            | inr lacks ↦
+                absurd (both_ways (fits_behind window 0 (run_needs own_run))
+                (ap (fits_behind window 0)
+                (between-needs file t (has-own file s has) begin_at mid) ∙ lacks.1) own-fit)
+          ]
+
+      abbrev led_places : List Placed
+      led_places = led_plan window own_choice needs
+
+      placed-led : placed ≡ led_places
+      placed-led = ap (λ b. plan_with b s.class needs) is-led
+
+      as-led : IsLedAs window (need_of row) more led_places
+      as-led =
+          let chosen = span_chosen (head file s has) span in
+          let plan =
+          (led-plan-is chosen t (has-own file s has).placed inside.some inside.within led_places).1
+          refl in
+          led-as window (need_of row) more led_places
+          (subst (λ (ns : List Need). IsLedPlan window own_choice ns led_places) needs-cons plan)
+
+      abbrev lead : Need
+      lead = lead_need row.header as-led.lead.slot
+
+      known-class : IsClass (class_of row.header)
+      known-class =
+          IsClass-class_of row.header ((has-own file s has).placed span.first row row-is).known
+
+      lead-found : lead_in_header window (need_of row ∷ more) ≡ Some lead.header
+      unfolding IsLeadInHeader
+      lead-found = lead-in-is window (need_of row) more lead.header known-class (as-led.slot, refl)
+
+      own-found : lead_in_header window (need_of row ∷ own_more)
+          ≡ Some brought.lead_in.need.header
+      own-found =
+          ap₂ (λ (d : ClassFields) (ns : List Need). lead_in_header (window_of d.version) ns)
+          (sym class-same) (sym own-cons)
+          ∙ brought.header
+
+      lead-is : brought.lead_in.need ≡ lead
+      lead-is =
+          let both : Some brought.lead_in.need.header ≡ Some lead.header =
+          sym own-found
+          ∙ same-lead window (need_of row) own_more more
+          (ap (fits_behind window 0) (sym own-cons) ∙ own-fit)
+          (ap (fits_behind window 0) (sym needs-cons) ∙ all-fit)
+          ∙ lead-found in
+          let header : brought.lead_in.need.header ≡ lead.header = cc in
+          ap₂ (λ (h : HeaderFields) (n : ℕ). record { header = h; bytes = n }) header brought.empty
+
+      run-all : run_needs (run first parts inputs) ≡ lead ∷ need_of row ∷ more
+      run-all =
+          ap run_needs
+          (run-frames file s has few known place next places first parts inputs files with_lead
+          ∙ ap (λ n. drop n (brought.lead_in ∷ run_all)) stays)
+          ∙ ap₂ (λ (n : Need) (ns : List Need). n ∷ ns) lead-is (run-needs ∙ needs-cons)
+
+      run-plan : IsPlan window own_choice ((lead ∷ need_of row ∷ more) ∷ [])
+          (run_plan first parts)
+      run-plan =
+          subst (λ (d : ClassFields).
+          IsPlan (window_of d.version) own_choice ((lead ∷ need_of row ∷ more) ∷ [])
+          (run_plan first parts)) class-same
+          (subst (λ (ns : List Need).
+          IsPlan (window_of first.survey.class.version) own_choice (ns ∷ [])
+          (run_plan first parts)) run-all
+          (run-planned first parts inputs))
+
+      run-fit : FitsBehind window 0 (lead ∷ need_of row ∷ more)
+      run-fit =
+          (fits-tested window 0 (lead ∷ need_of row ∷ more)).0
+          (ap₂ (λ (d : ClassFields) (ns : List Need). fits_behind (window_of d.version) 0 ns)
+          (sym class-same) (sym run-all)
+          ∙ run-fits file s has few known place next places first parts inputs files ways stays)
+
+      as-run : IsLedRun window (need_of row) more led_places (run_plan first parts)
+      as-run =
+          led-run window (need_of row) more led_places (run_plan first parts) as-led
+          ((lead-where-wanted window (lead ∷ need_of row ∷ more) (run_plan first parts)
+          run-plan).0 run-fit)
+          (plan-begins window (lead ∷ need_of row ∷ more) (run_plan first parts) run-plan run-fit)
+
+      lead-begins : as-led.lead.begin ≡ 0
+      unfolding begins_of
+      lead-begins =
+          let begins : as-led.lead.begin ∷ map (λ (p : Placed). p.begin) as-led.rest
+          ≡ begins_of window 0 0 (map own_frame (lead ∷ need_of row ∷ more)) =
+          ap (map (λ (p : Placed). p.begin)) (sym as-led.are) ∙ as-led.begins in
+          let first : as-led.lead.begin ≡ 0 - max 0 (0 - window) = cc in
+          omega (arith, first)
+
+      streams : stream first parts inputs ≡ silent_before brought.first ∷ stream_all
+      streams =
+          run-stream file s has few known place next places first parts inputs files with_lead
+          ∙ ap (λ n. drop n (silent_before brought.first ∷ stream_all)) stays
+
+      stream-first : stream_all
+          ≡ brought.first ∷ (brought.rest ++ slice_range (st file s has few) mid high_end)
+      stream-first =
+          sym (range-append (st file s has few) begin_at mid high_end
+          (omega (arith, piece.1.there.some)) ends)
+          ∙ ap (λ (l : List StreamFrame). l ++ slice_range (st file s has few) mid high_end)
+          brought.own_is
+
+      frames-by : (all : List Frame) → frames_in part ≡ all
+          → joined_frames first parts ≡ relaid (frames_in part) placed
+      unfolding as-run as-led led-run
+      frames-by [] are =
+          let none : [] ≡ brought.first
+          ∷ (brought.rest ++ slice_range (st file s has few) mid high_end) =
+          sym (ap (map entry_of) are) ∙ part-streams ∙ stream-first in
+          absurd cc
+      frames-by (f ∷ fs) are =
+          let entries = subst (AreEntries s.class) are (part-entries s.class part part-is) in
+          let all : entry_of f ∷ map entry_of fs ≡ stream_all =
+          sym (ap (map entry_of) are) ∙ part-streams in
+          let begins : entry_of f ∷ map entry_of fs
+          ≡ brought.first ∷ (brought.rest ++ slice_range (st file s has few) mid high_end) =
+          all ∙ stream-first in
+          let entry : entry_of f ≡ brought.first = cc in
+          let led_frame : Frame = lead_in_to as-run.lead f in
+          let near : as-led.lead.begin ≤ window = omega (arith, lead-begins) in
+          let own_entry =
+          one-entry s.class as-led.lead f (slot_among as-led.lead.slot as-led.slot.chosen) near
+          entries.0 true in
+          let heard : map entry_of (led_frame ∷ f ∷ fs)
+          ≡ silent_before brought.first ∷ stream_all =
+          ap₂ (λ (x : StreamFrame) (xs : List StreamFrame). x ∷ xs)
+          (one-stream true as-run.lead f ∙ ap silent_before entry) all in
+          relaid-same run_frames_in (led_frame ∷ f ∷ fs) (run_plan first parts)
+          (bare-same s.class known run_frames_in (led_frame ∷ f ∷ fs) run-read.entries
+          (own_entry, entries) (run-read.is ∙ streams ∙ sym heard))
+          ∙ ap (relaid (led_frame ∷ f ∷ fs)) as-run.run_is
+          ∙ led-relaid as-run.lead as-run.rest f fs as-run.leads
+          ∙ ap₂ (λ (xs : List Frame) (ps : List Placed). relaid xs ps) (sym are)
+          (sym (placed-led ∙ as-run.led_is))
+
+      same-led : IsSame
+      same-led = record {
+        frames = frames-by (frames_in part) refl;
+        header = λ r there.
+            ap (λ (n : Need). info_header_of n.header)
+            (row-need first.survey.frames front r brought.lead_in.need there
+            (ap₂ (λ (ns : List Need) n. slice_get ns n) brought.rows_need stays))
+            ∙ lead-header window (need_of row) own_more brought.lead_in.need.header own-found;
+      }
+
+  -- the frames are those that are cut, unless the first piece begins with a look-alike
+  pub is-same : (leads file s has piece.0 ≡ 0
+      → has_lead_in (window_of first.survey.class.version) (brought_by first) ≡ false) → IsSame
+  is-same none =
+      elim (span-ways file s has piece.0 piece.1.there piece.2.row piece.2.row_is)
+      as (λ _. IsSame) [
+        | inl ways ↦
+            elim (cases_lt 0 front) as (λ _. IsSame) [
+              | inl out ↦
+                  absurd (both_ways
+                  (has_lead_in (window_of first.survey.class.version) (brought_by first))
+                  (none
+                  (own-leads file s has piece.0 piece.1.there piece.2.row piece.2.row_is ways))
+                  (front-parts first parts inputs out).0)
+              | inr stays ↦ same-own ways (omega (arith, stays))
+            ]
+        | inr ways ↦
+            elim (cases_lt 0 front) as (λ _. IsSame) [
+              | inl out ↦
+                  same-again ways (omega (arith, out, front-few first parts inputs))
+              | inr stays ↦ same-led ways (omega (arith, stays))
+            ]
+      ]
+
+  -- ---- the Info frame
+
+  abbrev pieces_delay : ℕ
+  pieces_delay = delay file s has few known place next places first parts inputs files
+
+  abbrev cut_frames : List Frame
+  cut_frames = frames_laid whole file t
+
+  abbrev head_here : Option Info
+  head_here = head file s has
+
+  abbrev first_read : Info
+  first_read =
+      read file s has few place next piece.0 piece.1 first.survey.class first inputs.0 piece.2
+
+  first-read : head_of first ≡ Some first_read
+  first-read =
+      read-is file s has few place next piece.0 piece.1 first.survey.class first inputs.0 piece.2
+
+  abbrev made : List ℕ
+  made = extension_of (head_of first) pieces_delay (padding_by first parts)
+
+  made-is : made ≡ extension_of head_here pieces_delay (padding_of span)
+  made-is =
+      ap₂ (λ o n. extension_of o pieces_delay n) first-read
+      (padding-is file s has few known place next places first parts inputs files)
+      ∙ made-again head_here first_read pieces_delay (padding_of span)
+      (piece-keeps file s has few first.survey.class place next first inputs.0 piece)
+
+  -- peak and gains stay
+  run-made : run_extension pieces_delay first parts ≡ made
+  run-made =
+      let gain : replay_gain made ≡ replay_gain (kept head_here) =
+      gain-same made (kept head_here)
+      (ap (take 21) made-is
+      ∙ made-front head_here (head_long file s.head) pieces_delay (padding_of span)) in
+      ap (λ b. cond b made (take 11 made ++ (replicate 8 0 ++ drop 19 made)))
+      (gains-are file s has few (replay_gain made) gain first.survey.class next places parts
+      inputs.1 files.1)
+
+  leads-many : length (joined_frames first parts) ≡ length placed
+      → leads_in span placed ≡ many file s has few known place next places first parts inputs files
+  leads-many same =
+      omega (
+        arith,
+        same,
+        frames-many file s has few known place next places first parts inputs files,
+        inside.some,
+      )
+
+  placed-many : length cut_frames ≡ length placed
+  placed-many =
+      sym (length-map cut_frames slot_in)
+      ∙ ap (λ (l : List SlotFields). length l)
+      (laid-slots whole file t (has-own file s has) inside.some inside.within
+      (span-fitting file s has span found.there row row-is))
+      ∙ length-map placed (λ (p : Placed). p.slot)
+
+  quality-same : quality_bytes (quality_of (head_of first)) ≡ quality_bytes (quality_of head_here)
+  quality-same =
+      ap (λ o. quality_bytes (quality_of o)) first-read
+      ∙ ap quality_bytes
+      (read-quality file s has few place next piece.0 piece.1 first.survey.class first inputs.0
+      piece.2)
+      ∙ quality-again (number_or_zero (quality_of head_here))
+
+  module _ (is : IsSame) where
+    frames-are : joined_frames first parts ≡ cut_frames
+    frames-are = is.frames
+
+    extension-is : run_extension pieces_delay first parts ≡ (plain file s has span).extension
+    extension-is =
+        let many_is =
+        leads-many (ap (λ (l : List Frame). length l) frames-are ∙ placed-many) in
+        run-made ∙ made-is
+        ∙ ap (λ n. extension_of head_here (delay_of s.class n span) (padding_of span))
+        (sym many_is)
+
+    info-is : (r : Row) → slice_get first.survey.frames front ≡ Some r
+        → info_frame r.header (info_with (delay_of_run first parts) r first parts)
+        ≡ info_frame row.header (info_laid whole file t)
+    info-is r there =
+        let quality : Option ℕ = quality_of (head_of first) in
+        ap (λ o. info_frame r.header (info_with o r first parts))
+        (delay-is file s has few known place next places first parts inputs files)
+        ∙ ap (λ (e : List ℕ). info_frame r.header (sealed_info r.header
+        (info_for first.survey.class (joined_frames first parts) quality e))) extension-is
+        ∙ ap₂ (λ (d : ClassFields) (fs : List Frame). info_frame r.header (sealed_info r.header
+        (info_for d fs quality (plain file s has span).extension))) class-same frames-are
+        ∙ sealed-same s.class cut_frames quality (quality_of head_here) quality-same r.header
+        row.header (plain file s has span).extension (is.header r there)
+
+    -- ---- the file
+
+    module _ (most : ℕ) (e : surveyed file most ≡ Ok s) where
+      blocks-are : front_blocks first.file first.survey ≡ front_blocks file t
+      blocks-are =
+          let there = span_apart s piece.0 piece.1.there in
+          front-same (laid_by file s has piece.0 row) file t (has-own file s has) there.some
+          there.within (span-fitting file s has piece.0 piece.1.there row piece.2.row_is)
+          (span-long file s has piece.0 piece.1.there row piece.2.row_is) row piece.2.row_is
+          piece.2.back piece.2.blocks first.survey.class first inputs.0 piece.2.file_is most s e
+          refl
+
+      -- the join is what is cut, without the blocks behind
+      pub cut-file : seamless_file (first ∷ parts)
+          ≡ bare_file (piece_of head_here span file t) file t
+      unfolding seamless_file laid_file
+      cut-file =
+          let front_row =
+          first-there first.survey.frames front
+          (front-within first parts (whole-file first.survey.class first inputs.0)
+          (whole-files first.survey.class parts inputs.1)) in
+          let r : Row = front_row.0 in
+          ap (λ o. seamless_from o first parts) front_row.1
+          ∙ ap₂ (λ (blocks : List (List ℕ)) (i : List ℕ).
+          concat blocks ++ (i ++ (frame_bytes (joined_frames first parts) ++ [])))
+          blocks-are (info-is r front_row.1)
+          ∙ ap (λ (fs : List Frame).
+          concat (front_blocks file t)
+          ++ (info_frame row.header (info_laid whole file t) ++ (frame_bytes fs ++ []))) frames-are
+          ∙ sym (ap (λ (l : Laid). bare_file l file t) (piece-by file s has span row row-is)
+          ∙ ap (λ o. bare_from o whole file t) row-is)

@@ -1,0 +1,385 @@
+-- The file of an exact piece as an input of a seamless join: it brings frames of
+-- the recording after its lead-in, and its head counts the samples of its span.
+use Rattle.std.proofs.Common.{ap, arith, Bool, drop, false, inl, inr, IsTrue, length, List, map}
+use Rattle.std.proofs.Common.{None, Ok, Option, refl, Some, sym, take, true, ℕ, [], ◌&&◌, ◌+◌, ◌-◌}
+use Rattle.std.proofs.{Common.{◌<◌, ◌∙◌, ◌∷◌, ◌≡◌, ◌≤◌, ◌⊎◌}, lemmas.Bool.{both_ways, le-leb}}
+use Rattle.std.proofs.lemmas.List.{drop-map, length-drop, length-map, length-take-le, take-map}
+use Rattle.std.specs.List.{concat}
+use Rattle.std.specs.Prelude.{if◌then◌else◌, nat_le, nat_lt, option_map, slice_get, slice_range}
+use Rattle.commands.proofs.RefusingLaws.{unless_ok}
+use Rattle.cut_edits.proofs.{ChosenLaws.the-plan, HeadLaws.{apart-had, apart-placed}}
+use Rattle.cut_edits.proofs.PieceLaws.{head_long, plain-long, samples_there, span-there, span_apart}
+use Rattle.cut_edits.proofs.{PieceLaws.span_chosen, SealedLaws.for-whole}
+use Rattle.cut_edits.{proofs.SpanLaws.{led-is, with-fitting}, specs.Chosen.Chosen}
+use Rattle.cut_edits.specs.Exact.{apart, IsSpanIn, laid_span, leads_in, needs_in, piece_of}
+use Rattle.cut_edits.specs.Exact.{plan_with, samples_fault, sealed_from, span_in}
+use Rattle.exact_span.proofs.SealLaws.{sealed-whole}
+use Rattle.exact_span.specs.Extensions.{counts_of, counts_with, delay_in, has_encoder, padding_in}
+use Rattle.exact_span.specs.Laws.{IsHeadOf}
+use Rattle.exact_span.specs.PlayedPositions.{counted_by, counted_of, length_of_played, played_by}
+use Rattle.exact_span.specs.{PlayedPositions.{played_of, samples_in}, Spans.span_of}
+use Rattle.exact_span.specs.{TagWord.sealed_info, declared.exact_place.ExactPlace.ExactPlace}
+use Rattle.exact_span.specs.declared.{extensions.Counts.Counts, span.Span.Span}
+use Rattle.frame_header.specs.{Fields.ClassFields, Tables.window_of}
+use Rattle.info_header.specs.declared.fields.Info.{Info}
+use Rattle.join_edits.specs.Seamless.{head_of, sound_of}
+use Rattle.laying.proofs.{HoldLaws.blocks-kept, LaidLaws.first-there, PlacesLaws.range-whole}
+use Rattle.laying.specs.{Fits.IsFitting, KeptFields.fields_of_head}
+use Rattle.laying.specs.Laid.{file_from, file_laid, frames_laid, info_laid, Laid}
+use Rattle.laying.specs.{LaidFiles.{head_at, IsBlocks, laid_file}, Needs.need_of}
+use Rattle.laying.specs.{NeedsFit.own_choice, Relaid.Part, Surveys.HasSurvey}
+use Rattle.laying.specs.Written.{back_blocks, front_blocks, head_info}
+use Rattle.pack_edits.proofs.LimitLaws.{few-rows}
+use Rattle.seam_plan.proofs.{FitLaws.fits-tested, FollowLaws.sounds}
+use Rattle.seam_plan.specs.{Frames.{Frame as RunFrame, needs_of as run_needs}, Joins.fits_behind}
+use Rattle.slot_plan.{proofs.OwnLeadIn.lead-where-wanted, specs.Laws.{AreLed, AreOwn}}
+use Rattle.slot_plan.specs.{Plans.IsLedPlan, declared.needs.{Need.Need, Placed.Placed}}
+use Rattle.split_edits.specs.Recording.{input_played, sample_named}
+use Rattle.sync_survey.proofs.FaultsLaws.{marked-length}
+use Rattle.sync_survey.proofs.SurveyParts.{all_faults-none_sound, frames_from, surveyed-parts}
+use Rattle.sync_survey.specs.Faults.{class_from, surveyed, SurveyFields}
+use Rattle.sync_survey.specs.{MainData.{rows_of, StreamFrame}, Row.Row, Walk.head_of as head_found}
+use Rattle.theorems.proofs.LaidInputLemmas.{brings-led, brings-own, BringsLed, BringsOwn}
+use Rattle.theorems.proofs.LaidInputLemmas.{class-same, frames-same, head-is}
+use Rattle.theorems.proofs.{LedPlanLemmas.led-as, SeamlessInputs.IsInput, SeamlessRun.own-many}
+use Rattle.theorems.proofs.SplitJoin.{all_stream, between-needs, between-sounds, run_between}
+use Rattle.theorems.proofs.SplitJoin.{stream-many}
+
+-- ---- how many frames there are
+
+-- a survey has no more frames than are allowed
+pub frames-few : (file : List ℕ) (allowed : ℕ) (s : SurveyFields) → surveyed file allowed ≡ Ok s
+    → length s.frames ≤ allowed
+frames-few file allowed s e =
+    let parts = surveyed-parts file allowed s e in
+    let head = head_found file parts.0.first in
+    let rows = rows_of file (frames_from file parts.0) in
+    omega (
+      arith,
+      few-rows file head (class_from parts.0) allowed rows
+          (all_faults-none_sound file head (class_from parts.0) allowed rows parts.1.frames),
+      marked-length head rows,
+      ap (λ (t : SurveyFields). length t.frames) parts.2,
+    )
+
+-- ---- heads that count
+
+counts-there : (fields : Info) (many : ℕ) → fields.frames ≡ Some many → 1 ≤ many
+    → IsTrue (has_encoder fields.extension)
+    → (counts : Counts) × (counts_of (Some fields) ≡ Some counts)
+counts-there fields many is some encoder =
+    let counts : Counts =
+    record {
+      frames = many;
+      delay = delay_in fields.extension;
+      padding = padding_in fields.extension;
+    } in (
+      counts,
+      ap (counts_with fields) is
+          ∙ ap (λ b. if b && has_encoder fields.extension then Some counts else None)
+          (le-leb 1 many some)
+          ∙ ap (λ b. if true && b then Some counts else None) encoder,
+    )
+
+-- a head of a span counts what is played by it
+pub counted-is : (class : ClassFields) (leads : ℕ) (span : Span) (fields : Info) (frames : ℕ)
+    → span.first < span.last → IsHeadOf class leads span fields
+    → counted_of (Some fields) class frames ≡ Some (played_of (Some fields) class frames)
+unfolding counted_of played_of
+counted-is class leads span fields frames some is =
+    let counts =
+    counts-there fields (leads + (span.last - span.first)) is.frames (omega (arith, some))
+    is.numbers.encoder in
+    ap (option_map (counted_by (samples_in class) frames)) counts.1
+    ∙ ap (λ o. Some (played_by (samples_in class) frames o)) (sym counts.1)
+
+-- ---- a span of the recording
+
+module _ (file : List ℕ) (s : SurveyFields) (has : HasSurvey file s) where
+  abbrev pub head : Option Info
+  head = fields_of_head file s.head
+
+  -- the survey whose head is set apart
+  abbrev pub own : SurveyFields
+  own = apart s
+
+  -- frames can be laid by it
+  pub has-own : HasSurvey file own
+  has-own = apart-had file s has (apart-placed s has.placed)
+
+  -- the first position that is played
+  abbrev pub begin : ℕ
+  begin = (input_played file s).start
+
+  -- the number of the sample that a place names
+  abbrev pub sample : ExactPlace → ℕ
+  sample place = sample_named file s place
+
+  -- what is laid of a span, but for music length and tag CRC
+  abbrev pub plain : Span → Laid
+  plain span = laid_span head span own
+
+  -- the same with them, by the row of its first frame
+  abbrev pub laid_by : Span → Row → Laid
+  laid_by span row =
+      record (plain span) {
+        extension = (sealed_info row.header (info_laid (plain span) file own)).extension;
+      }
+
+  -- how many lead-ins it has
+  abbrev pub leads : Span → ℕ
+  leads span = leads_in span (plain span).placed
+
+  -- the span between two places: there is a sample, all are played, and its frames are there
+  pub record IsFound (from to : ExactPlace) (span : Span) : Type 0 where
+    pub some : sample from < sample to
+    pub within : sample to ≤ length_of_played (input_played file s)
+    pub is : span_of s.class (begin + sample from) (begin + sample to) ≡ span
+    pub there : IsSpanIn s span
+    pub found : span_in from to head s ≡ Ok span
+
+  -- a span that is found
+  pub span-found : (from to : ExactPlace) (span : Span) → span_in from to head s ≡ Ok span
+      → IsFound from to span
+  unfolding span_in
+  span-found from to span e =
+      let samples = length_of_played (input_played file s) in
+      let ok = unless_ok (samples_fault (sample from) (sample to) samples)
+      (span_of s.class (begin + sample from) (begin + sample to)) span e in
+      let inside =
+      samples_there (sample from) (sample to) samples
+      (nat_lt (sample from) (sample to) && nat_le (sample to) samples) refl ok.0 in
+      record {
+        some = inside.0;
+        within = inside.1;
+        is = ok.1;
+        there = span-there from to head s span e;
+        found = e;
+      }
+
+  -- the file of a piece, with any blocks behind its frames
+  pub record IsExactFile (span : Span) (bytes : List ℕ) : Type 0 where
+    pub row : Row
+    pub row_is : slice_get own.frames span.first ≡ Some row
+    pub back : List (List ℕ)
+    pub blocks : IsBlocks back
+    pub file_is : bytes
+        ≡ laid_file (front_blocks file own) row.header (info_laid (laid_by span row) file own)
+        (frames_laid (laid_by span row) file own) back
+
+  -- the piece by the row of its first frame
+  pub piece-by : (span : Span) (row : Row) → slice_get own.frames span.first ≡ Some row
+      → piece_of head span file own ≡ laid_by span row
+  unfolding piece_of
+  piece-by span row found = ap (λ o. sealed_from o (plain span) file own) found
+
+  -- a file that was laid is one
+  pub laid-exact : (span : Span) → IsSpanIn s span
+      → IsExactFile span (file_laid (piece_of head span file own) file own)
+  laid-exact span there =
+      let inside = span_apart s span there in
+      let first = first-there own.frames span.first (omega (arith, inside.some, inside.within)) in
+      record {
+        row = first.0;
+        row_is = first.1;
+        back = back_blocks file own;
+        blocks = (blocks-kept file own has-own).1;
+        file_is =
+            ap (λ (l : Laid). file_laid l file own) (piece-by span first.0 first.1)
+            ∙ ap (λ o. file_from o (laid_by span first.0) file own) first.1;
+      }
+
+  -- ---- the frames of the recording
+
+  -- all frames, as those of a run
+  abbrev pub all_run : List RunFrame
+  all_run = run_between file own 0 (length own.frames)
+
+  range-map : {X Y : Type 0} (f : X → Y) (from to : ℕ) (xs : List X)
+      → map f (slice_range xs from to) ≡ slice_range (map f xs) from to
+  range-map f from to xs =
+      sym (ap (take (to - from)) (drop-map f from xs) ∙ take-map f (to - from) (drop from xs))
+
+  all-needs : run_needs all_run ≡ map need_of own.frames
+  all-needs =
+      between-needs file own has-own 0 (length own.frames)
+      ∙ ap (map need_of) (range-whole own.frames)
+
+  all-sounds : sounds all_run ≡ map (sound_of s.class) (all_stream file own)
+  all-sounds =
+      between-sounds file own has-own 0 (length own.frames)
+      ∙ ap (λ n. map (sound_of s.class) (slice_range (all_stream file own) 0 n))
+      (sym (stream-many file own has-own))
+      ∙ ap (map (sound_of s.class)) (range-whole (all_stream file own))
+
+  -- there are as many as frames
+  pub all-many : length all_run ≡ length own.frames
+  all-many =
+      sym (length-map all_run (λ (f : RunFrame). f.need))
+      ∙ ap (λ (l : List Need). length l) all-needs ∙ length-map own.frames need_of
+
+  -- those between two numbers
+  pub all-range : (i j : ℕ) → slice_range all_run i j ≡ run_between file own i j
+  all-range i j =
+      frames-same (slice_range all_run i j) (run_between file own i j)
+      (range-map (λ (f : RunFrame). f.need) i j all_run
+      ∙ ap (λ (l : List Need). slice_range l i j) all-needs
+      ∙ sym (range-map need_of i j own.frames)
+      ∙ sym (between-needs file own has-own i j))
+      (range-map (λ (f : RunFrame). f.sound) i j all_run
+      ∙ ap (λ (l : List (List ℕ)). slice_range l i j) all-sounds
+      ∙ sym (range-map (sound_of s.class) i j (all_stream file own))
+      ∙ sym (between-sounds file own has-own i j))
+
+  -- ---- what is laid of a span
+
+  module _ (span : Span) (there : IsSpanIn s span) (row : Row)
+      (row_is : slice_get own.frames span.first ≡ Some row) where
+    abbrev window : ℕ
+    window = window_of s.class.version
+
+    abbrev needs : List Need
+    needs = needs_in span own
+
+    abbrev placed : List Placed
+    placed = (plain span).placed
+
+    abbrev chosen : Chosen
+    chosen = span_chosen head span
+
+    inside : IsSpanIn own span
+    inside = span_apart s span there
+
+    -- it can be laid
+    pub span-fitting : IsFitting window needs placed
+    span-fitting = with-fitting chosen own has-own.placed inside.some inside.within span.led
+
+    -- its extension is whole
+    pub span-long : length (laid_by span row).extension ≡ 36
+    span-long =
+        (sealed-whole row.header (info_laid (plain span) file own)
+        (for-whole s.class (frames_laid (plain span) file own) (plain span).quality
+        (plain span).extension
+        (plain-long head (head_long file s.head) span file own has-own inside))).extension
+
+    needs-many : length needs ≡ span.last - span.first
+    needs-many =
+        length-map (slice_range own.frames span.first span.last) need_of
+        ∙ length-take-le (span.last - span.first) (drop span.first own.frames)
+        (omega (arith, length-drop span.first own.frames, inside.within))
+
+    -- Either its frames are in their own slots without a lead-in, where it doesn't have to have one
+    -- and they fit behind no bytes; or they are after their lead-in, where one of these isn't so.
+    abbrev pub IsLaidOwn : Type 0
+    IsLaidOwn = AreOwn needs placed × (span.led ≡ false) × (fits_behind window 0 needs ≡ true)
+
+    abbrev pub IsLaidLed : Type 0
+    IsLaidLed =
+        AreLed window needs placed
+        × ((span.led ≡ true) ⊎ ((span.led ≡ false) × (fits_behind window 0 needs ≡ false)))
+
+    led-by : (needs : List Need) (ps : List Placed) → 0 < length needs
+        → IsLedPlan window own_choice needs ps → AreLed window needs ps
+    led-by [] ps some plan = absurd (omega (arith, some))
+    led-by (first ∷ needs) ps some plan = (led-as window first needs ps plan).led
+
+    abbrev placed_if : Bool → List Placed
+    placed_if led = plan_with led s.class needs
+
+    laid-ways : (led : Bool) (fits : Bool) → fits_behind window 0 needs ≡ fits
+        → (AreOwn needs (placed_if led) × (led ≡ false) × (fits_behind window 0 needs ≡ true))
+        ⊎ (AreLed window needs (placed_if led)
+        × ((led ≡ true) ⊎ ((led ≡ false) × (fits_behind window 0 needs ≡ false))))
+    laid-ways true fits test =
+        inr (
+          led-by needs (placed_if true) (omega (arith, needs-many, inside.some))
+              ((led-is chosen own has-own.placed inside.some inside.within (placed_if true)).1
+              refl),
+          inl refl,
+        )
+    laid-ways false true test =
+        inl (
+          (lead-where-wanted window needs (placed_if false)
+              (the-plan chosen own has-own.placed inside.some inside.within own_choice
+              (inl refl))).0
+              ((fits-tested window 0 needs).0 test),
+          refl,
+          test,
+        )
+    laid-ways false false test =
+        inr (
+          (lead-where-wanted window needs (placed_if false)
+              (the-plan chosen own has-own.placed inside.some inside.within own_choice
+              (inl refl))).1
+              (λ fits. both_ways (fits_behind window 0 needs) test
+              ((fits-tested window 0 needs).1 fits)),
+          inr (refl, test),
+        )
+
+    -- so it is laid in one of two ways
+    pub span-ways : IsLaidOwn ⊎ IsLaidLed
+    span-ways = laid-ways span.led (fits_behind window 0 needs) refl
+
+    led-more : (needs : List Need) (ps : List Placed) → AreLed window needs ps
+        → length ps ≡ length needs + 1
+    unfolding AreLed
+    led-more [] ps led = absurd led
+    led-more (need ∷ needs) [] led = absurd led
+    led-more (need ∷ needs) (p ∷ ps) led = omega (arith, own-many (need ∷ needs) ps led.2)
+
+    -- in the first way it has no lead-in
+    pub own-leads : IsLaidOwn → leads span ≡ 0
+    own-leads ways = omega (arith, own-many needs placed ways.0, needs-many)
+
+    -- in the second it has one
+    pub led-leads : IsLaidLed → leads span ≡ 1
+    led-leads ways = omega (arith, led-more needs placed ways.0, needs-many)
+
+    -- ---- its file as an input
+
+    module _ (back : List (List ℕ)) (blocks : IsBlocks back) (c : ClassFields) (p : Part)
+        (is : IsInput c p)
+        (same_file : p.file
+        ≡ laid_file (front_blocks file own) row.header (info_laid (laid_by span row) file own)
+        (frames_laid (laid_by span row) file own) back) where
+      abbrev made : List ℕ
+      made =
+          laid_file (front_blocks file own) row.header (info_laid (laid_by span row) file own)
+          (frames_laid (laid_by span row) file own) back
+
+      abbrev run : List RunFrame
+      run = run_between file own span.first span.last
+
+      abbrev stream : List StreamFrame
+      stream = slice_range (all_stream file own) span.first span.last
+
+      -- the class of the input is that of the recording
+      pub span-class : c ≡ s.class
+      span-class =
+          class-same (laid_by span row) file own has-own inside.some inside.within span-fitting
+          span-long row row_is back blocks c p is same_file
+
+      -- in the first way it brings the frames of the span
+      pub span-own : AreOwn needs placed → BringsOwn c p is run stream
+      span-own in_own =
+          brings-own (laid_by span row) file own has-own inside.some inside.within span-fitting
+          span-long row row_is back blocks c p is same_file in_own
+
+      -- in the second it brings them after its lead-in
+      pub span-led : AreLed window needs placed → BringsLed c p is run stream
+      span-led led =
+          brings-led (laid_by span row) file own has-own inside.some inside.within span-fitting
+          span-long row row_is back blocks c p is same_file led
+
+      abbrev read : Info
+      read = head_info made (Some (head_at (length (concat (front_blocks file own))) row.header))
+
+      -- the fields of its head
+      pub span-head : head_of p ≡ Some read
+      span-head =
+          ap (fields_of_head p.file)
+          (head-is (laid_by span row) file own has-own inside.some inside.within span-fitting
+          span-long row row_is back blocks c p is same_file)
+          ∙ ap (λ (f : List ℕ).
+          fields_of_head f
+          (Some (head_at (length (concat (front_blocks file own))) row.header))) same_file

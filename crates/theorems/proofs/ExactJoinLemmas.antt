@@ -1,0 +1,172 @@
+-- The law of exact pieces that are joined in order.
+use Rattle.std.proofs.Common.{ap, ap₂, Bool, false, length, List, map, None, not, Ok, Some, subst}
+use Rattle.std.proofs.Common.{sym, true, zip, ℕ, [], ◌&&◌, ◌++◌, ◌==◌, ◌∙◌, ◌∷◌, ◌≡◌, ◌≤◌}
+use Rattle.std.{proofs.lemmas.Bool.and_parts, specs.{List.list_all, Prelude.slice_range}}
+use Rattle.commands.specs.{One.most_frames, Refusing.then_made}
+use Rattle.cut_edits.specs.Exact.{apart, exact_laid, piece_of}
+use Rattle.exact_span.specs.declared.exact_place.ExactPlace.{ExactPlace}
+use Rattle.frame_header.specs.{Fields.IsClass, Tables.window_of}
+use Rattle.join_edits.{proofs.RunPlans.front-within, specs.Seamless.{brought_by, joined_by}}
+use Rattle.laying.proofs.{ChosenFrames.survey-had, LaidLaws.first-there}
+use Rattle.laying.specs.{Laid.{file_laid, Laid}, Relaid.Part, Surveys.HasSurvey}
+use Rattle.seam_plan.specs.Joins.{has_lead_in}
+use Rattle.split_edits.proofs.RecordingLaws.{pieces-recording}
+use Rattle.split_edits.specs.Recording.{leads_laid, PlayInTurn}
+use Rattle.sync_survey.{proofs.SurveyedFiles.survey_of-parts, specs.Faults.SurveyFields}
+use Rattle.sync_survey.specs.MainData.{StreamFrame}
+use Rattle.theorems.proofs.ExactCutLemmas.{cut-file, is-same}
+use Rattle.theorems.proofs.ExactFileLemmas.{frames-few, head, IsExactFile, laid-exact, laid_by}
+use Rattle.theorems.proofs.ExactFileLemmas.{leads, piece-by, span-found}
+use Rattle.theorems.proofs.ExactNumberLemmas.{delay, delay-is, delay-most, info-head, join-plays}
+use Rattle.theorems.proofs.ExactNumberLemmas.{padding-is, padding-least, padding-most, whole-file}
+use Rattle.theorems.proofs.ExactNumberLemmas.{whole-files, whole-first, whole-is, whole-last}
+use Rattle.theorems.proofs.{ExactNumberLemmas.whole_span, ExactReadLemmas.read-plays}
+use Rattle.theorems.proofs.ExactRunLemmas.{all-follow, AreExactFiles, first_leads, IsJoined}
+use Rattle.theorems.proofs.{ExactRunLemmas.{joined-is, st}, SeamlessInputs.{AreInputs, inputs-are}}
+use Rattle.theorems.proofs.{SplitJoin.{not-true, parts-files}, SplitLaw.class-of}
+use Rattle.theorems.specs.SeamlessLaws.{ExactSplitThenSeamlessJoin, has_no_look_alike, HasTheSpan}
+use Rattle.theorems.specs.SeamlessLaws.{is_look_alike, last_place, PlaysTheSpan}
+
+module _ (file : List ℕ) (s : SurveyFields) (has : HasSurvey file s)
+    (few : length s.frames ≤ most_frames) where
+  -- parts whose files are those of pieces laid are files from each place to the next
+  pub exact-files : (from : ExactPlace) (tos : List ExactPlace) (laid : List Laid)
+      (parts : List Part) → PlayInTurn file s from tos laid
+      → map (λ (p : Part). Some p.file) parts
+      ≡ map (λ (l : Laid). Some (file_laid l file (apart s))) laid
+      → AreExactFiles file s has few from tos parts
+  exact-files from [] [] [] are same = tt
+  exact-files from [] [] (p ∷ parts) are same = absurd cc
+  exact-files from [] (l ∷ laid) parts are same = absurd are
+  exact-files from (to ∷ tos) [] parts are same = absurd are
+  exact-files from (to ∷ tos) (l ∷ laid) [] are same = absurd cc
+  exact-files from (to ∷ tos) (l ∷ laid) (p ∷ parts) are same =
+      let here : p.file ≡ file_laid l file (apart s) = cc in
+      let more : map (λ (p : Part). Some p.file) parts
+      ≡ map (λ (l : Laid). Some (file_laid l file (apart s))) laid = cc in
+      let is = are.0 in
+      let found = span-found file s has from to is.span is.found in (
+        (
+          is.span,
+          found,
+          subst (IsExactFile file s has is.span)
+              (sym (here ∙ ap (λ (l : Laid). file_laid l file (apart s)) is.is))
+              (laid-exact file s has is.span found.there),
+        ),
+        exact-files to tos laid parts are.1 more,
+      )
+
+  -- where the first piece doesn't begin with a look-alike, it has no lead-in that it wasn't given
+  none-alike : (from to : ExactPlace) (tos : List ExactPlace) (laid : List Laid) (first : Part)
+      (parts : List Part) (are : PlayInTurn file s from (to ∷ tos) laid)
+      (same : map (λ (p : Part). Some p.file) (first ∷ parts)
+      ≡ map (λ (l : Laid). Some (file_laid l file (apart s))) laid)
+      → has_no_look_alike laid (first ∷ []) ≡ true
+      → leads file s has (exact-files from (to ∷ tos) laid (first ∷ parts) are same).0.0 ≡ 0
+      → has_lead_in (window_of first.survey.class.version) (brought_by first) ≡ false
+  unfolding exact-files
+  none-alike from to tos [] first parts are same none no_leads = absurd are
+  none-alike from to tos (l ∷ laid) first parts are same none no_leads =
+      let has_one : Bool = has_lead_in (window_of first.survey.class.version) (brought_by first) in
+      let files = exact-files from (to ∷ tos) (l ∷ laid) (first ∷ parts) are same in
+      let row = files.0.2.row in
+      let by : l ≡ laid_by file s has files.0.0 row =
+      are.0.is ∙ piece-by file s has files.0.0 row files.0.2.row_is in
+      let many : leads_laid l ≡ 0 = ap leads_laid by ∙ no_leads in
+      let others = list_all (λ (p : Laid × Part). not (is_look_alike p.0 p.1)) (zip laid []) in
+      let alike : is_look_alike l first ≡ false =
+      not-true (is_look_alike l first) (and_parts (not (is_look_alike l first)) others none).0 in
+      sym (ap (λ n. n == 0 && has_one) many) ∙ alike
+
+  module _ (known : IsClass s.class) (place next : ExactPlace) (places : List ExactPlace)
+      (first : Part) (parts : List Part)
+      (inputs : AreInputs first.survey.class (first ∷ parts))
+      (files : AreExactFiles file s has few place (next ∷ places) (first ∷ parts)) where
+    abbrev joined : IsJoined file s has few known place next places first parts inputs files
+        (first_leads file s has few known place next places first parts inputs files)
+    joined = joined-is file s has few known place next places first parts inputs files
+
+    has-span : HasTheSpan place (last_place next places) file s first parts
+    has-span = record {
+      span = whole_span file s has few known place next places first parts inputs files;
+      found = whole-is file s has few known place next places first parts inputs files;
+      follow = all-follow file s has few known place next places first parts inputs files;
+      leads = joined.leads;
+      one = joined.one;
+      empty = joined.empty;
+      stream =
+          joined.stream_is
+          ∙ ap (λ (l : List StreamFrame). joined.leads ++ l)
+          (ap₂ (λ i j. slice_range (st file s has few) i j)
+          (whole-first file s has few known place next places first parts inputs files)
+          (whole-last file s has few known place next places first parts inputs files));
+    }
+
+    -- what is cut from the first place to the last
+    whole-laid : exact_laid place (last_place next places) file s
+        ≡ Ok (piece_of (head file s has)
+        (whole_span file s has few known place next places first parts inputs files) file
+        (apart s))
+    unfolding exact_laid
+    whole-laid =
+        ap (λ r. then_made r (λ span. Ok (piece_of (head file s has) span file (apart s))))
+        (whole-is file s has few known place next places first parts inputs files)
+
+    plays-span : PlaysTheSpan place (last_place next places) file s first parts
+        (length joined.leads)
+        (whole_span file s has few known place next places first parts inputs files)
+    plays-span =
+        let front =
+        first-there first.survey.frames (joined_by first parts).front
+        (front-within first parts (whole-file first.survey.class first inputs.0)
+        (whole-files first.survey.class parts inputs.1)) in
+        let padding = padding-is file s has few known place next places first parts inputs files in
+        record {
+          row = front.0;
+          row_is = front.1;
+          delay = delay file s has few known place next places first parts inputs files;
+          delay_is = delay-is file s has few known place next places first parts inputs files;
+          delay_most = delay-most file s has few known place next places first parts inputs files;
+          padding_least =
+              subst (λ n. 529 ≤ n) (sym padding)
+              (padding-least file s has few known place next places first parts inputs files);
+          padding_most =
+              subst (λ n. n ≤ 1680) (sym padding)
+              (padding-most file s has few known place next places first parts inputs files);
+          head = info-head file s has few known place next places first parts inputs files front.0;
+          plays =
+              join-plays file s has few known place next places first parts inputs files front.0;
+          reads = read-plays file s has few known place next places first parts inputs files;
+        }
+
+-- the join of the pieces of an exact split joins the samples from the first place to the last
+pub exact-joins : ExactSplitThenSeamlessJoin
+unfolding has-span
+exact-joins points file s place next places laid first parts read e inputs =
+    let has = survey-had file most_frames s read in
+    let few = frames-few file most_frames s (survey_of-parts file most_frames s read).1 in
+    let known = class-of file s most_frames read in
+    let are = inputs-are inputs.files inputs.inputs first parts inputs.taken in
+    let turns =
+    (pieces-recording points file s place (next ∷ places) laid read e).each in
+    let same : map (λ (p : Part). Some p.file) (first ∷ parts)
+    ≡ map (λ (l : Laid). Some (file_laid l file (apart s))) laid =
+    sym (parts-files inputs.files 0 None most_frames inputs.inputs (first ∷ parts) inputs.taken)
+    ∙ inputs.are in
+    let files = exact-files file s has few place (next ∷ places) laid (first ∷ parts) turns same in
+    record {
+      frames = has-span file s has few known place next places first parts are files;
+      samples = plays-span file s has few known place next places first parts are files;
+      cut = record {
+        whole =
+            piece_of (head file s has)
+            (whole_span file s has few known place next places first parts are files) file
+            (apart s);
+        is = whole-laid file s has few known place next places first parts are files;
+        same = λ none.
+            cut-file file s has few known place next places first parts are files
+            (is-same file s has few known place next places first parts are files
+            (none-alike file s has few place next places laid first parts turns same none))
+            most_frames (survey_of-parts file most_frames s read).1;
+      };
+    }

@@ -1,0 +1,720 @@
+-- Exact pieces, joined in order: each follows the one before it, and
+-- the stream is at most one empty frame and then the frames of the
+-- recording from the first of the first piece to the last of the last.
+use Rattle.std.proofs.Common.{ap, append_assoc, ap₂, arith, Bool, cond, drop, false, flat_map, inl}
+use Rattle.std.proofs.Common.{inr, length, List, map, not, refl, Some, subst, suc, sym, take, true}
+use Rattle.std.proofs.Common.{zero, ℕ, [], ◌&&◌, ◌*◌, ◌++◌, ◌+◌, ◌-◌, ◌<◌, ◌∙◌, ◌∷◌, ◌≡◌, ◌≤◌}
+use Rattle.std.proofs.{Math.Seq.drop-append-add, lemmas.Bool.{and_from, and_parts, cases_lt}}
+use Rattle.std.proofs.lemmas.List.{drop-append-le, drop-drop, drop-take, length-append, length-drop}
+use Rattle.std.{proofs.lemmas.List.length-take-le, specs.List.list_all}
+use Rattle.std.specs.Prelude.{slice_get, slice_range}
+use Rattle.commands.specs.One.{most_frames}
+use Rattle.cut_edits.proofs.PieceLaws.{span_apart}
+use Rattle.exact_span.specs.PlayedPositions.{rest_of, samples_in}
+use Rattle.exact_span.specs.Spans.{first_frame, frames_before}
+use Rattle.exact_span.specs.declared.{exact_place.ExactPlace.ExactPlace, played.Played.Played}
+use Rattle.exact_span.specs.declared.span.Span.{Span}
+use Rattle.frame_header.specs.{Fields.{ClassFields, IsClass}, Tables.{samples_of, window_of}}
+use Rattle.frame_header.specs.declared.version.Version.{Version, TheVariants.{One, Two, TwoFive}}
+use Rattle.join_edits.specs.Seamless.{brought_by, joined_by, leads_of, part_from, parts_by}
+use Rattle.join_edits.specs.Seamless.{seamless_stream}
+use Rattle.laying.specs.{Relaid.{Part, silent_before, stream_in}, Surveys.HasSurvey}
+use Rattle.seam_plan.proofs.{FitLaws.fits-tested, FollowLaws.followers-on, SpanRuns.spans-one-run}
+use Rattle.seam_plan.specs.Frames.{Brought, Frame as RunFrame, needs_of as run_needs}
+use Rattle.seam_plan.specs.Joins.{fits_behind, has_lead_in}
+use Rattle.seam_plan.specs.Laws.{AreSpansOf, is_following, IsSpanOf, last_to}
+use Rattle.seam_plan.specs.Seams.{front_left_out, Joint, joint_of, joints_from, joints_of, left_out}
+use Rattle.seam_plan.specs.{Seams.run_with, declared.seam.Seam.Seam}
+use Rattle.seam_plan.specs.declared.seam.Seam.TheVariants.{Follows, LeadIn, Whole}
+use Rattle.slot_plan.{proofs.BehindLaws.{cons-fits, more-behind}, specs.Behind.FitsBehind}
+use Rattle.slot_plan.specs.{Parts.own_area, Reserve.free_behind, declared.needs.Need.Need}
+use Rattle.sync_survey.specs.{Faults.SurveyFields, MainData.StreamFrame}
+use Rattle.theorems.proofs.ExactFileLemmas.{all-range, all_run, begin, has-own, IsExactFile}
+use Rattle.theorems.proofs.ExactFileLemmas.{IsFound, IsLaidLed, leads, own, sample, span-ways}
+use Rattle.theorems.proofs.ExactSpanLemmas.{brought-led, first-early, first-is, first-rises}
+use Rattle.theorems.proofs.ExactSpanLemmas.{has-led-span, has-own-span, has-span, HasSpan}
+use Rattle.theorems.proofs.ExactSpanLemmas.{input-class, last-is, last-rises}
+use Rattle.theorems.proofs.{LaidInputLemmas.BringsLed, SeamlessFront.{front-silent, none-zero}}
+use Rattle.theorems.proofs.SeamlessInputs.{AreInputs, IsInput, stream-from}
+use Rattle.theorems.proofs.SeamlessRun.{front-few, front-is, front-parts, joints-are, leads-many}
+use Rattle.theorems.proofs.SeamlessRun.{run, run-is, run-leads, seamless-is, stream}
+use Rattle.theorems.proofs.SplitJoin.{all_stream, between-fits, between-known, range-append}
+use Rattle.theorems.proofs.SplitJoin.{range-none, run_between, stream-many}
+use Rattle.theorems.specs.SeamlessLaws.{is_empty, last_place}
+
+-- ---- lists
+
+-- what is behind so many items begins with an item
+next-of : {X : Type 0} (n : ℕ) (xs ys : List X) (y : X) → drop n xs ≡ y ∷ ys
+    → (slice_get xs n ≡ Some y) × (drop (suc n) xs ≡ ys)
+next-of zero [] ys y is = absurd cc
+next-of zero (x ∷ xs) ys y is = let here : x ≡ y = cc in
+    let more : xs ≡ ys = cc in (ap Some here, more)
+next-of (suc n) [] ys y is = absurd cc
+next-of (suc n) (x ∷ xs) ys y is = next-of n xs ys y is
+
+range-drop : {X : Type 0} (xs : List X) (from to k : ℕ) → k ≤ to - from
+    → drop k (slice_range xs from to) ≡ slice_range xs (from + k) to
+range-drop xs from to k few =
+    let many : to - from ≡ k + (to - (from + k)) = omega (arith, few) in
+    ap (λ n. drop k (take n (drop from xs))) many
+    ∙ drop-take k (to - (from + k)) (drop from xs)
+    ∙ ap (take (to - (from + k))) (drop-drop k from xs)
+
+-- ---- how many frames of a piece that follows are left out
+
+follows-by : (seam : Seam) → is_following seam ≡ true → (out : ℕ) × (seam ≡ Follows out)
+follows-by (Follows out) is = (out, refl)
+follows-by LeadIn is = absurd cc
+follows-by Whole is = absurd cc
+
+-- those before the last of the piece before it
+out-is : (v : Version) (start end leads leads_before from from_before last mid out : ℕ)
+    → start + from * samples_of v ≡ mid + leads * samples_of v
+    → end + from_before * samples_of v ≡ mid + leads_before * samples_of v
+    → mid ≤ last * samples_of v → from < last → from_before ≤ last
+    → start + ((leads_before + (last - from_before)) * samples_of v - end) ≡ out * samples_of v
+    → out ≡ leads + (last - from)
+out-is One start end leads leads_before from from_before last mid out starts ends most some before
+    meets = omega (arith, starts, ends, most, some, before, meets)
+out-is Two start end leads leads_before from from_before last mid out starts ends most some before
+    meets = omega (arith, starts, ends, most, some, before, meets)
+out-is TwoFive start end leads leads_before from from_before last mid out starts ends most some
+    before meets = omega (arith, starts, ends, most, some, before, meets)
+
+below-last : (v : Version) (from last mid : ℕ) → from * samples_of v < mid
+    → mid ≤ last * samples_of v → from < last
+below-last One from last mid early most = omega (arith, early, most)
+below-last Two from last mid early most = omega (arith, early, most)
+below-last TwoFive from last mid early most = omega (arith, early, most)
+
+-- ---- pieces of one recording
+
+module _ (file : List ℕ) (s : SurveyFields) (has : HasSurvey file s)
+    (few : length s.frames ≤ most_frames) where
+  -- the position of the sample that a place names
+  abbrev pub position : ExactPlace → ℕ
+  position place = begin file s has + sample file s has place
+
+  -- the frame after the last one that is needed before it
+  abbrev pub ended_at : ExactPlace → ℕ
+  ended_at place = frames_before (samples_in s.class) (position place)
+
+  -- the first frame that is needed from it on
+  abbrev pub begun_at : ExactPlace → ℕ
+  begun_at place = first_frame (samples_in s.class) (position place)
+
+  abbrev pub all : List RunFrame
+  all = all_run file s has
+
+  abbrev pub st : List StreamFrame
+  st = all_stream file (own file s has)
+
+  -- the file of the piece between two places
+  abbrev pub IsPiece : ExactPlace → ExactPlace → Part → Type 0
+  IsPiece from to p =
+      (span : Span) × IsFound file s has from to span × IsExactFile file s has span p.file
+
+  -- these files are the pieces from a place to the first of others, and from each of these to the
+  -- next
+  abbrev pub AreExactFiles : ExactPlace → List ExactPlace → List Part → Type 0
+  AreExactFiles from [] [] = Unit {0}
+  AreExactFiles from (to ∷ tos) (p ∷ parts) = IsPiece from to p × AreExactFiles to tos parts
+  AreExactFiles from _ _ = ⊥
+
+  -- a piece as an input
+  abbrev IsSpan : (c : ClassFields) (from to : ExactPlace) (p : Part) → IsInput c p
+      → IsPiece from to p → Type 0
+  IsSpan c from to p is piece = HasSpan file s has few from to piece.0 piece.1 c p is piece.2
+
+  span-of : (c : ClassFields) (from to : ExactPlace) (p : Part) (is : IsInput c p)
+      (piece : IsPiece from to p) → IsSpan c from to p is piece
+  span-of c from to p is piece = has-span file s has few from to piece.0 piece.1 c p is piece.2
+
+  -- where it begins and ends
+  piece-begins : (from to : ExactPlace) (p : Part) (piece : IsPiece from to p)
+      → piece.0.first ≡ begun_at from
+  piece-begins from to p piece = first-is s.class (position from) (position to) piece.0 piece.1.is
+
+  piece-ends : (from to : ExactPlace) (p : Part) (piece : IsPiece from to p)
+      → piece.0.last ≡ ended_at to
+  piece-ends from to p piece = last-is s.class (position from) (position to) piece.0 piece.1.is
+
+  -- no later piece ends earlier
+  ends-rise : (from : ExactPlace) (tos : List ExactPlace) (parts : List Part)
+      → AreExactFiles from tos parts → ended_at from ≤ ended_at (last_place from tos)
+  ends-rise from [] parts files = omega arith
+  ends-rise from (to ∷ tos) [] files = absurd files
+  ends-rise from (to ∷ tos) (p ∷ parts) files =
+      let rises =
+      last-rises s.class.version (position from) (position to) (omega (arith, files.0.1.some)) in
+      omega (arith, rises, ends-rise to tos parts files.1)
+
+  -- ---- spans, each from where the one before it ends
+
+  record AreSpans (low last : ℕ) (from : ExactPlace) (tos : List ExactPlace)
+      (inputs : List Brought) : Type 0 where
+    are : AreSpansOf s.class all low last (position from) inputs (map position tos)
+    to_is : last_to s.class all low last (position from) inputs (map position tos) are
+        ≡ ended_at (last_place from tos)
+
+  are-spans : (c : ClassFields) (low last : ℕ) (from : ExactPlace) (tos : List ExactPlace)
+      (parts : List Part) → AreInputs c parts → AreExactFiles from tos parts
+      → low ≤ begun_at from → 0 < position from → last ≡ ended_at from
+      → AreSpans low last from tos (map brought_by parts)
+  are-spans c low last from [] [] inputs files late some is = record { are = tt; to_is = is }
+  are-spans c low last from [] (p ∷ parts) inputs files late some is = absurd files
+  are-spans c low last from (to ∷ tos) [] inputs files late some is = absurd files
+  are-spans c low last from (to ∷ tos) (p ∷ parts) inputs files late some is =
+      let piece = files.0 in
+      let v : Version = s.class.version in
+      let sp = span-of c from to p inputs.0 piece in
+      let later : position from ≤ position to = omega (arith, piece.1.some) in
+      let first : sp.spans.from ≡ begun_at from =
+      sp.from_is ∙ piece-begins from to p piece in
+      let to_is : sp.spans.to ≡ ended_at to = sp.to_is ∙ piece-ends from to p piece in
+      let rises = first-rises v (position from) (position to) later in
+      let more =
+      are-spans c low sp.spans.to to tos parts inputs.1 files.1 (omega (arith, late, rises))
+      (omega (arith, piece.1.some)) to_is in
+      record {
+        are = (
+          sp.spans,
+          subst (λ n. low ≤ n) (sym first) late,
+          subst (λ n. n * samples_in s.class < position from) (sym first)
+              (first-early v (position from) some),
+          omega (arith, is, to_is, last-rises v (position from) (position to) later),
+          more.are,
+        );
+        to_is = more.to_is;
+      }
+
+  -- ---- the stream of the later pieces
+
+  module _ (c : ClassFields) (first : Brought) (inputs : List Brought) where
+    abbrev all_joints : List Joint
+    all_joints = joints_of s.class first inputs
+
+    abbrev following : List Joint → Type 0
+    following joints = list_all (λ (j : Joint). is_following j.seam) joints ≡ true
+
+    left-one : (number b : ℕ) (from to : ExactPlace) (before : Brought)
+        (sp : IsSpanOf s.class all b (position from) before) (p : Part) (is : IsInput c p)
+        (piece : IsPiece from to p) (joint : Joint)
+        → slice_get (first ∷ inputs) number ≡ Some before
+        → slice_get inputs number ≡ Some (brought_by p)
+        → slice_get all_joints number ≡ Some joint → is_following joint.seam ≡ true
+        → 0 < position from → sp.to ≡ ended_at from
+        → stream_in (part_from (left_out joint.seam) p)
+        ≡ slice_range st sp.to (ended_at to)
+    left-one number b from to before sp p is piece joint is_before is_input is_joint follow some
+        sp_to =
+        let v : Version = s.class.version in
+        let hs = span-of c from to p is piece in
+        let mine = hs.spans in
+        let out = follows-by joint.seam follow in
+        let goes =
+        followers-on s.class first inputs number before (brought_by p) joint out.0 is_before
+        is_input is_joint out.1 in
+        let ended : Some goes.ended ≡ Some sp.played = sym goes.ended_is ∙ sp.counted in
+        let played : Some goes.played ≡ Some mine.played = sym goes.played_is ∙ mine.counted in
+        let ended_is : goes.ended ≡ sp.played = cc in
+        let played_is : goes.played ≡ mine.played = cc in
+        let before_many : length before.frames ≡ length sp.lead_ins + (sp.to - sp.from) =
+        ap (λ (l : List RunFrame). length l) sp.frames_are
+        ∙ length-append sp.lead_ins (slice_range all sp.from sp.to)
+        ∙ ap (λ n. length sp.lead_ins + n)
+        (length-take-le (sp.to - sp.from) (drop sp.from all)
+        (omega (arith, length-drop sp.from all, sp.within))) in
+        let meets : mine.played.start
+        + ((length sp.lead_ins + (sp.to - sp.from)) * samples_in s.class - sp.played.end)
+        ≡ out.0 * samples_in s.class =
+        ap (λ n. mine.played.start + (n * samples_in s.class - sp.played.end)) (sym before_many)
+        ∙ ap₂ (λ (p q : Played). q.start + rest_of s.class (length before.frames) p)
+        (sym ended_is) (sym played_is)
+        ∙ goes.meets in
+        let from_is : mine.from ≡ begun_at from = hs.from_is ∙ piece-begins from to p piece in
+        let early : mine.from * samples_in s.class < position from =
+        subst (λ n. n * samples_in s.class < position from) (sym from_is)
+        (first-early v (position from) some) in
+        let inside : mine.from < sp.to = below-last v mine.from sp.to (position from) early
+        sp.behind in
+        let left : out.0 ≡ length mine.lead_ins + (sp.to - mine.from) =
+        out-is v mine.played.start sp.played.end (length mine.lead_ins) (length sp.lead_ins)
+        mine.from sp.from sp.to (position from) out.0 mine.start sp.ended sp.behind inside
+        (omega (arith, sp.some)) meets in
+        let lasts = last-rises v (position from) (position to) (omega (arith, piece.1.some)) in
+        let to_is : piece.0.last ≡ ended_at to = piece-ends from to p piece in
+        let at : mine.from + (sp.to - mine.from) ≡ sp.to = omega (arith, inside) in
+        let own_stream : List StreamFrame = slice_range st piece.0.first piece.0.last in
+        ap (λ (t : Seam). stream_in (part_from (left_out t) p)) out.1
+        ∙ stream-from c p is out.0
+        ∙ ap₂ (λ (n : ℕ) (l : List StreamFrame). drop n l)
+        (left ∙ ap (λ n. n + (sp.to - mine.from)) (sym hs.same)) hs.stream_is
+        ∙ drop-append-add hs.leads own_stream (sp.to - mine.from)
+        ∙ ap₂ (λ i j. drop (sp.to - mine.from) (slice_range st i j)) (sym hs.from_is) to_is
+        ∙ range-drop st mine.from (ended_at to) (sp.to - mine.from)
+        (omega (arith, inside, sp_to, lasts))
+        ∙ ap (λ n. slice_range st n (ended_at to)) at
+
+    left-all : (number : ℕ) (b : ℕ) (from : ExactPlace) (tos : List ExactPlace)
+        (before : Brought) (sp : IsSpanOf s.class all b (position from) before)
+        (parts : List Part) (so_far : List RunFrame)
+        → AreInputs c parts → AreExactFiles from tos parts
+        → slice_get (first ∷ inputs) number ≡ Some before
+        → drop number inputs ≡ map brought_by parts
+        → drop number all_joints ≡ joints_from s.class so_far before (map brought_by parts)
+        → following (joints_from s.class so_far before (map brought_by parts))
+        → 0 < position from → sp.to ≡ ended_at from
+        → flat_map stream_in
+        (parts_by (joints_from s.class so_far before (map brought_by parts)) parts)
+        ≡ slice_range st sp.to (ended_at (last_place from tos))
+    unfolding joints_from
+    left-all number b from [] before sp [] so_far are files is_before is_inputs is_joints follow
+        some
+        sp_to =
+        sym (ap (λ n. slice_range st sp.to n) (sym sp_to) ∙ range-none st sp.to)
+    left-all number b from [] before sp (p ∷ parts) so_far are files is_before is_inputs is_joints
+        follow some sp_to = absurd files
+    left-all number b from (to ∷ tos) before sp [] so_far are files is_before is_inputs is_joints
+        follow some sp_to = absurd files
+    left-all number b from (to ∷ tos) before sp (p ∷ parts) so_far are files is_before is_inputs
+        is_joints follow some sp_to =
+        let v : Version = s.class.version in
+        let piece = files.0 in
+        let joint : Joint = joint_of s.class so_far before (brought_by p) in
+        let later : List Joint =
+        joints_from s.class (so_far ++ joint.frames) (brought_by p) (map brought_by parts) in
+        let next_input = next-of number inputs (map brought_by parts) (brought_by p) is_inputs in
+        let next_joint = next-of number all_joints later joint is_joints in
+        let both =
+        and_parts (is_following joint.seam)
+        (list_all (λ (j : Joint). is_following j.seam) later) follow in
+        let hs = span-of c from to p are.0 piece in
+        let to_is : hs.spans.to ≡ ended_at to = hs.to_is ∙ piece-ends from to p piece in
+        let here =
+        left-one number b from to before sp p are.0 piece joint is_before next_input.0
+        next_joint.0 both.0 some sp_to in
+        let more =
+        left-all (suc number) (position from) to tos (brought_by p) hs.spans parts
+        (so_far ++ joint.frames) are.1 files.1 next_input.0 next_input.1 next_joint.1 both.1
+        (omega (arith, piece.1.some)) to_is in
+        let first_last = last-rises v (position from) (position to) (omega (arith, piece.1.some)) in
+        ap₂ (λ (x y : List StreamFrame). x ++ y) here
+        (more ∙ ap (λ n. slice_range st n (ended_at (last_place to tos))) to_is)
+        ∙ range-append st sp.to (ended_at to) (ended_at (last_place to tos))
+        (omega (arith, sp_to, first_last)) (ends-rise to tos parts files.1)
+
+-- ---- the join of all pieces
+
+no-front : (b : Bool) (n : ℕ) → cond b 1 0 ≡ n → n ≡ 0 → b ≡ false
+no-front true n is none = absurd (omega (arith, is, none))
+no-front false n is none = refl
+
+not-both : (x y : Bool) → (x && not y) ≡ false → x ≡ true → y ≡ true
+not-both true true is first = refl
+not-both true false is first = absurd cc
+not-both false y is first = absurd cc
+
+-- a frame without main data, and then frames that fit behind no bytes, fit behind none
+empty-before : (window : ℕ) (need : Need) (needs : List Need) → need.bytes ≡ 0
+    → FitsBehind window 0 needs → FitsBehind window 0 (need ∷ needs)
+empty-before window need needs empty fits =
+    cons-fits window 0 need needs (omega arith) (omega (arith, empty))
+    (more-behind window 0 (free_behind window 0 need.bytes (own_area need)) needs (omega arith)
+    fits)
+
+module _ (file : List ℕ) (s : SurveyFields) (has : HasSurvey file s)
+    (few : length s.frames ≤ most_frames) (known : IsClass s.class)
+    (place next : ExactPlace) (places : List ExactPlace) (first : Part) (parts : List Part)
+    (inputs : AreInputs first.survey.class (first ∷ parts))
+    (files : AreExactFiles file s has few place (next ∷ places) (first ∷ parts)) where
+  abbrev c : ClassFields
+  c = first.survey.class
+
+  abbrev pub piece : IsPiece file s has few place next first
+  piece = files.0
+
+  abbrev window : ℕ
+  window = window_of s.class.version
+
+  abbrev pub goal : ExactPlace
+  goal = last_place next places
+
+  -- the class of the inputs is that of the recording
+  pub class-is : first.survey.class ≡ s.class
+  class-is = input-class file s has few place next piece.0 piece.1 c first inputs.0 piece.2
+
+  -- the first piece, the span of the whole
+  abbrev pub low : ℕ
+  low = piece.0.first
+
+  abbrev pub high : ℕ
+  high = ended_at file s has few goal
+
+  low-is : low ≡ begun_at file s has few place
+  low-is = piece-begins file s has few place next first piece
+
+  -- the first piece ends where the next place is
+  pub first-ends : piece.0.last ≡ ended_at file s has few next
+  first-ends = piece-ends file s has few place next first piece
+
+  -- the first piece as a span
+  abbrev pub FirstSpan : Type 0
+  FirstSpan = HasSpan file s has few place next piece.0 piece.1 c first inputs.0 piece.2
+
+  -- the joints of all later pieces
+  abbrev joints : List Joint
+  joints = joints_of s.class (brought_by first) (map brought_by parts)
+
+  joints-here : (joined_by first parts).joints ≡ joints
+  joints-here =
+      joints-are first parts inputs
+      ∙ ap (λ (d : ClassFields). joints_of d (brought_by first) (map brought_by parts)) class-is
+
+  -- by the span of the first piece each later one
+  -- follows, and the run is its lead-ins and the frames
+  pub record IsOneRun (sp : FirstSpan) : Type 0 where
+    pub follow : list_all (λ (j : Joint). is_following j.seam) joints ≡ true
+    pub run_is : run_with (brought_by first) joints
+        ≡ sp.spans.lead_ins ++ run_between file (own file s has) low high
+
+  -- so it is
+  pub one-run : (sp : FirstSpan) → IsOneRun sp
+  one-run sp =
+      let all_is = all file s has few in
+      let v : Version = s.class.version in
+      let to_is : sp.spans.to ≡ ended_at file s has few next = sp.to_is ∙ first-ends in
+      let later : position file s has few place ≤ position file s has few next =
+      omega (arith, piece.1.some) in
+      let rises = first-rises v (position file s has few place) (position file s has few next)
+      later in
+      let spans =
+      are-spans file s has few c sp.spans.from sp.spans.to next places parts inputs.1 files.1
+      (omega (arith, sp.from_is, low-is, rises)) (omega (arith, piece.1.some)) to_is in
+      let own_rows : ℕ = length (own file s has).frames in
+      let both =
+      spans-one-run s.class all_is (position file s has few place)
+      (position file s has few next) (brought_by first) (map brought_by parts)
+      (map (position file s has few) places) sp.spans spans.are
+      (between-known file (own file s has) (has-own file s has) 0 own_rows)
+      (between-fits file (own file s has) (has-own file s has) 0 own_rows) in
+      record {
+        follow = both.0;
+        run_is =
+            both.1
+            ∙ ap (λ (l : List RunFrame). sp.spans.lead_ins ++ l)
+            (ap₂ (λ i j. slice_range all_is i j) sp.from_is spans.to_is
+            ∙ all-range file s has low high);
+      }
+
+  -- each later piece follows the one before it
+  pub all-follow : list_all (λ (j : Joint). is_following j.seam) (joined_by first parts).joints
+      ≡ true
+  all-follow =
+      ap (λ (js : List Joint). list_all (λ (j : Joint). is_following j.seam) js) joints-here
+      ∙ (one-run (has-span file s has few place next piece.0 piece.1 c first inputs.0
+      piece.2)).follow
+
+  -- ---- the stream of the run
+
+  abbrev pub whole : List StreamFrame
+  whole = slice_range (st file s has few) low high
+
+  abbrev front : ℕ
+  front = (joined_by first parts).front
+
+  -- no later than the last
+  pub ends-later : ended_at file s has few next ≤ high
+  ends-later = ends-rise file s has few next places parts files.1
+
+  later-stream : (sp : FirstSpan)
+      → flat_map stream_in (parts_by (joined_by first parts).joints parts)
+      ≡ slice_range (st file s has few) piece.0.last high
+  later-stream sp =
+      let to_is : sp.spans.to ≡ ended_at file s has few next = sp.to_is ∙ first-ends in
+      ap (λ (js : List Joint). flat_map stream_in (parts_by js parts)) joints-here
+      ∙ left-all file s has few c (brought_by first) (map brought_by parts) 0
+      (position file s has few place) next places (brought_by first) sp.spans parts
+      (brought_by first).frames inputs.1 files.1 refl refl refl (one-run sp).follow
+      (omega (arith, piece.1.some)) to_is
+      ∙ ap (λ n. slice_range (st file s has few) n high) sp.to_is
+
+  -- the first piece has a frame of the recording
+  pub first-some : 0 < length (slice_range (st file s has few) low piece.0.last)
+  first-some =
+      let there = span_apart s piece.0 piece.1.there in
+      omega (
+        arith,
+        length-take-le (piece.0.last - low) (drop low (st file s has few))
+            (omega (
+              arith,
+              length-drop low (st file s has few),
+              stream-many file (own file s has) (has-own file s has),
+              there.within,
+            )),
+        there.some,
+      )
+
+  -- the stream of the run is the lead-ins of the first piece and the
+  -- frames of the recording, but for what leaves the run at last
+  pub run-stream : (sp : FirstSpan) → stream first parts inputs ≡ drop front (sp.leads ++ whole)
+  run-stream sp =
+      let one_stream : List StreamFrame = slice_range (st file s has few) low piece.0.last in
+      let behind : List StreamFrame = slice_range (st file s has few) piece.0.last high in
+      let there = piece.1.there in
+      let few_front = front-few first parts inputs in
+      ap₂ (λ (x y : List StreamFrame). x ++ y)
+      (stream-from c first inputs.0 front ∙ ap (drop front) sp.stream_is) (later-stream sp)
+      ∙ sym (drop-append-le front (sp.leads ++ one_stream) behind
+      (omega (arith, few_front, first-some, length-append sp.leads one_stream)))
+      ∙ ap (drop front)
+      (append_assoc sp.leads one_stream behind
+      ∙ ap (λ (l : List StreamFrame). sp.leads ++ l)
+      (range-append (st file s has few) low piece.0.last high (omega (arith, there.some))
+      (omega (arith, first-ends, ends-later))))
+
+  -- the run is these frames too
+  pub run-frames : (sp : FirstSpan)
+      → run first parts inputs
+      ≡ drop front (sp.spans.lead_ins ++ run_between file (own file s has) low high)
+  run-frames sp =
+      run-is first parts inputs
+      ∙ ap (drop front)
+      (ap (λ (d : ClassFields).
+      run_with (brought_by first) (joints_of d (brought_by first) (map brought_by parts)))
+      class-is
+      ∙ (one-run sp).run_is)
+
+  -- ---- the stream of the join
+
+  -- The stream is at most one empty frame, and then the frames of the recording. There is one where
+  -- the first piece has a lead-in that stays, or the run gets one.
+  pub record IsJoined (first_leads : ℕ) : Type 0 where
+    pub leads : List StreamFrame
+    pub one : length leads ≤ 1
+    pub empty : list_all (is_empty s.class) leads ≡ true
+    pub stream_is : seamless_stream (first ∷ parts) ≡ leads ++ whole
+    pub many : length leads + front ≡ first_leads + leads_of first parts
+    pub led : first_leads ≤ length leads
+
+  silent-empty : (f : StreamFrame) → list_all (is_empty s.class) (silent_before f ∷ []) ≡ true
+  silent-empty f = and_from (is_empty s.class (silent_before f)) true (none-zero s.class known) refl
+
+  run-lead : (out : 0 < front) → (f : StreamFrame) × (fs : List StreamFrame)
+      × (stream first parts inputs ≡ f ∷ fs)
+      × ((run-leads first parts inputs).leads ≡ silent_before f ∷ [])
+  run-lead out = (run-leads first parts inputs).led (front-parts first parts inputs out).1
+
+  many-leads : leads_of first parts ≡ length (run-leads first parts inputs).leads
+  many-leads = leads-many first parts inputs
+
+  -- no lead-in was given, and none leaves the run
+  joined-own : (sp : FirstSpan) → sp.leads ≡ [] → front ≡ 0 → IsJoined 0
+  joined-own sp none stays =
+      by_fit (fits_behind (window_of c.version) 0 (run_needs (run first parts inputs))) refl
+    where
+      here : stream first parts inputs ≡ whole
+      here =
+          run-stream sp
+          ∙ ap₂ (λ (n : ℕ) (l : List StreamFrame). drop n (l ++ whole)) stays none
+
+      by_fit : (b : Bool)
+          → fits_behind (window_of c.version) 0 (run_needs (run first parts inputs)) ≡ b
+          → IsJoined 0
+      by_fit true fits =
+          let no_leads = (run-leads first parts inputs).own fits in
+          record {
+            leads = [];
+            one = omega arith;
+            led = omega arith;
+            empty = refl;
+            stream_is =
+                seamless-is first parts inputs
+                ∙ ap₂ (λ (x y : List StreamFrame). x ++ y) no_leads here;
+            many =
+                omega (
+                  arith,
+                  stays,
+                  many-leads,
+                  ap (λ (l : List StreamFrame). length l) no_leads,
+                );
+          }
+      by_fit false lacks =
+          let led = (run-leads first parts inputs).led lacks in
+          record {
+            leads = silent_before led.0 ∷ [];
+            one = omega arith;
+            led = omega arith;
+            empty = silent-empty led.0;
+            stream_is =
+                seamless-is first parts inputs
+                ∙ ap₂ (λ (x y : List StreamFrame). x ++ y) led.3 here;
+            many =
+                omega (
+                  arith,
+                  stays,
+                  many-leads,
+                  ap (λ (l : List StreamFrame). length l) led.3,
+                );
+          }
+
+  -- none was given, but a frame that looks like one leaves the run, which gets it again
+  joined-alike : (sp : FirstSpan) → sp.leads ≡ [] → 0 < front → IsJoined 0
+  joined-alike sp none out =
+      let led = run-lead out in
+      let one : front ≡ 1 = omega (arith, out, front-few first parts inputs) in
+      let silent = front-silent first parts inputs out led.0 led.1 led.2 in
+      let one_stream : List StreamFrame = slice_range (st file s has few) low piece.0.last in
+      let behind : List StreamFrame = slice_range (st file s has few) piece.0.last high in
+      let begins : one_stream ≡ silent_before led.0 ∷ silent.0 =
+      sym (sp.stream_is ∙ ap (λ (l : List StreamFrame). l ++ one_stream) none) ∙ silent.1 in
+      let whole_is : whole ≡ silent_before led.0 ∷ (silent.0 ++ behind) =
+      sym (range-append (st file s has few) low piece.0.last high
+      (omega (arith, piece.1.there.some)) (omega (arith, first-ends, ends-later)))
+      ∙ ap (λ (l : List StreamFrame). l ++ behind) begins in
+      let here : stream first parts inputs ≡ silent.0 ++ behind =
+      run-stream sp
+      ∙ ap₂ (λ (n : ℕ) (l : List StreamFrame). drop n (l ++ whole)) one none
+      ∙ ap (drop 1) whole_is in
+      record {
+        leads = [];
+        one = omega arith;
+        led = omega arith;
+        empty = refl;
+        stream_is =
+            seamless-is first parts inputs
+            ∙ ap₂ (λ (x y : List StreamFrame). x ++ y) led.3 here ∙ sym whole_is;
+        many =
+            omega (
+              arith,
+              one,
+              many-leads,
+              ap (λ (l : List StreamFrame). length l) led.3,
+            );
+      }
+
+  module _ (ways : IsLaidLed file s has piece.0 piece.1.there piece.2.row piece.2.row_is) where
+    -- with its lead-in the first piece is a span
+    abbrev pub led-span : FirstSpan
+    led-span = has-led-span file s has few place next piece.0 piece.1 c first inputs.0 piece.2 ways
+
+    -- and brings this
+    abbrev pub brings : BringsLed c first
+        inputs.0 (run_between file (own file s has) low piece.0.last)
+        (slice_range (st file s has few) low piece.0.last)
+    brings = brought-led file s has few place next piece.0 piece.1 c first inputs.0 piece.2 ways
+
+    abbrev run_frames : List RunFrame
+    run_frames = run_between file (own file s has) low high
+
+    abbrev all_frames : List RunFrame
+    all_frames = brings.lead_in ∷ run_frames
+
+    all-frames : run_with (brought_by first) (joints_of c (brought_by first)
+        (map brought_by parts)) ≡ all_frames
+    all-frames =
+        ap (λ (d : ClassFields).
+        run_with (brought_by first) (joints_of d (brought_by first) (map brought_by parts)))
+        class-is
+        ∙ (one-run led-span).run_is
+
+    -- where the lead-in stays, the frames after it want none
+    pub stays-fit : front ≡ 0 → fits_behind (window_of c.version) 0 (run_needs run_frames) ≡ true
+    unfolding front_left_out
+    stays-fit stays =
+        let fits : List RunFrame → Bool =
+        λ fs. fits_behind (window_of c.version) 0 (run_needs (drop 1 fs)) in
+        let leads_here : Bool = has_lead_in (window_of c.version) (brought_by first) in
+        not-both leads_here (fits all_frames)
+        (no-front (leads_here && not (fits all_frames)) front
+        (ap (λ (fs : List RunFrame). cond (leads_here && not (fits fs)) 1 0) (sym all-frames)
+        ∙ sym (front-is first parts inputs)) stays)
+        brings.has
+
+    run-whole : front ≡ 0 → run first parts inputs ≡ all_frames
+    run-whole stays =
+        run-is first parts inputs ∙ ap₂ (λ (n : ℕ) (fs : List RunFrame). drop n fs) stays all-frames
+
+    -- the run with its lead-in fits behind no bytes then
+    pub run-fits : front ≡ 0
+        → fits_behind (window_of c.version) 0 (run_needs (run first parts inputs)) ≡ true
+    run-fits stays =
+        ap (λ (fs : List RunFrame). fits_behind (window_of c.version) 0 (run_needs fs))
+        (run-whole stays)
+        ∙ (fits-tested (window_of c.version) 0 (run_needs all_frames)).1
+        (empty-before (window_of c.version) brings.lead_in.need (run_needs run_frames) brings.empty
+        ((fits-tested (window_of c.version) 0 (run_needs run_frames)).0 (stays-fit stays)))
+
+    -- a lead-in was given, and stays
+    joined-led : front ≡ 0 → IsJoined 1
+    joined-led stays =
+        let no_leads = (run-leads first parts inputs).own (run-fits stays) in
+        record {
+          leads = silent_before brings.first ∷ [];
+          one = omega arith;
+          led = omega arith;
+          empty = silent-empty brings.first;
+          stream_is =
+              seamless-is first parts inputs
+              ∙ ap₂ (λ (x y : List StreamFrame). x ++ y) no_leads
+              (run-stream led-span
+              ∙ ap (λ n. drop n (silent_before brings.first ∷ whole)) stays);
+          many =
+              omega (
+                arith,
+                stays,
+                many-leads,
+                ap (λ (l : List StreamFrame). length l) no_leads,
+              );
+        }
+
+    -- or leaves the run, which gets another
+    joined-again : 0 < front → IsJoined 1
+    joined-again out =
+        let led = run-lead out in
+        let one : front ≡ 1 = omega (arith, out, front-few first parts inputs) in
+        record {
+          leads = silent_before led.0 ∷ [];
+          one = omega arith;
+          led = omega arith;
+          empty = silent-empty led.0;
+          stream_is =
+              seamless-is first parts inputs
+              ∙ ap₂ (λ (x y : List StreamFrame). x ++ y) led.3
+              (run-stream led-span
+              ∙ ap (λ n. drop n (silent_before brings.first ∷ whole)) one);
+          many =
+              omega (
+                arith,
+                one,
+                many-leads,
+                ap (λ (l : List StreamFrame). length l) led.3,
+              );
+        }
+
+  abbrev pub first_leads : ℕ
+  first_leads = leads file s has piece.0
+
+  -- the join has the frames of the recording after at most one empty frame
+  pub joined-is : IsJoined first_leads
+  joined-is =
+      elim (span-ways file s has piece.0 piece.1.there piece.2.row piece.2.row_is)
+      as (λ _. IsJoined first_leads) [
+        | inl ways ↦
+            let sp =
+            has-own-span file s has few place next piece.0 piece.1 c first inputs.0 piece.2 ways in
+            let none : 0 ≡ first_leads = sp.many_is in
+            subst IsJoined none
+            (elim (cases_lt 0 front) as (λ _. IsJoined 0) [
+              | inl out ↦ joined-alike sp refl out
+              | inr stays ↦ joined-own sp refl (omega (arith, stays))
+            ])
+        | inr ways ↦
+            let one : 1 ≡ first_leads = (led-span ways).many_is in
+            subst IsJoined one
+            (elim (cases_lt 0 front) as (λ _. IsJoined 1) [
+              | inl out ↦ joined-again ways out
+              | inr stays ↦ joined-led ways (omega (arith, stays))
+            ])
+      ]

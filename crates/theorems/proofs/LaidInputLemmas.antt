@@ -1,0 +1,475 @@
+-- A file of laid frames as an input of a seamless join: it brings these frames, after the lead-in
+-- that their plan gives them.
+use Rattle.std.proofs.Common.{ap, ap₂, arith, Bool, cond, Contains, drop, false, length, List, map}
+use Rattle.std.proofs.Common.{Ok, refl, Some, subst, suc, sym, true, zip, ℕ, [], ◌+◌, ◌-◌, ◌<◌}
+use Rattle.std.proofs.{Common.{◌==◌, ◌∙◌, ◌∷◌, ◌≡◌, ◌≤◌}, lemmas.Bool.and_from}
+use Rattle.std.proofs.lemmas.List.{length-drop, length-map, length-take-le}
+use Rattle.std.proofs.lemmas.{List.FromFn.length-range_with_len, Slice.Eq.bytes_eq-Decides}
+use Rattle.std.specs.{List.{concat, list_all, range_with_len}, Prelude.{slice_get, slice_range}}
+use Rattle.cut_edits.specs.Exact.{apart}
+use Rattle.frame_header.proofs.HeaderLaws.{IsClass-class_of}
+use Rattle.frame_header.specs.Fields.{ClassFields, HeaderFields, IsClass, SlotFields}
+use Rattle.frame_header.specs.{HeaderBits.header_bits, Tables.{class_of, window_of}}
+use Rattle.frame_writer.specs.Frames.{Frame}
+use Rattle.info_header.specs.declared.fields.Info.{Info}
+use Rattle.join_edits.specs.Seamless.{begins_blank, brought_by, run_frame, sound_of}
+use Rattle.laying.proofs.FittingFrames.{fitting-laid}
+use Rattle.laying.proofs.HoldLaws.{blocks-kept, part-entries, part-needs, part-stream}
+use Rattle.laying.proofs.LaidFileLaws.{laid-frames-stay, laid-stream, laid-survey}
+use Rattle.laying.proofs.LaidLaws.{first-there, laid-slots}
+use Rattle.laying.proofs.PlannedFrames.{AreNeedsOf, one, relaid-cons}
+use Rattle.laying.specs.Fits.{FitsFrom, IsFitting}
+use Rattle.laying.specs.Laid.{frames_laid, info_laid, Laid, needs_laid, part_laid}
+use Rattle.laying.specs.LaidFiles.{AreEntries, frame_length, frames_place, head_at, IsBlocks}
+use Rattle.laying.specs.LaidFiles.{IsEntry, IsLaidFile, laid_fields, laid_file, rows_from}
+use Rattle.laying.specs.{LaidLaws.HasNoneLost, Laws.AreLaidAs, Needs.need_of, NeedsFit.own_choice}
+use Rattle.laying.specs.Relaid.{frames_in, IsPart, left_behind, moved_to, Part, relaid}
+use Rattle.laying.specs.{Relaid.{silent_before, stream_in, with_lead_ins}, Surveys.HasSurvey}
+use Rattle.laying.specs.Written.{front_blocks, slot_in, table_entry}
+use Rattle.seam_plan.proofs.{FollowLaws.sounds, LeadInLaws.lead-in-is}
+use Rattle.seam_plan.specs.Frames.{Frame as RunFrame, needs_of as run_needs}
+use Rattle.seam_plan.specs.Joins.{has_lead_in, is_header, lead_in_header, leads_others}
+use Rattle.side_info.specs.Side.{no_side, payload_bits, payload_bytes, side_bits}
+use Rattle.side_info.specs.declared.side.Side.{Side}
+use Rattle.slot_plan.{proofs.AreaLaws.only_one, specs.Behind.IsLeadInHeader}
+use Rattle.slot_plan.specs.{Laws.{AreLed, AreOwn}, Plans.AreFor, declared.needs.Need.Need}
+use Rattle.slot_plan.specs.declared.needs.Placed.{Placed}
+use Rattle.sync_survey.proofs.{EmptiedLaws.no_bytes, SurveyParts.surveyed-allowed}
+use Rattle.sync_survey.proofs.SurveyedFiles.{survey_of-parts}
+use Rattle.sync_survey.specs.Faults.{stream_of, stream_of_survey, surveyed, SurveyFields}
+use Rattle.sync_survey.specs.{HeadApart.{emptied, emptied_row}, MainData.StreamFrame, Row.Row}
+use Rattle.theorems.proofs.{CaseLaws.stream-is, ExactLaws.{one-on, part-sized}}
+use Rattle.theorems.proofs.{FrontBlocks.front-stays, SeamlessFront.none-zero}
+use Rattle.theorems.proofs.SeamlessInputs.{brought-needs, brought-sounds, IsInput, run-needs}
+use Rattle.theorems.proofs.SeamlessInputs.{run-sounds, whole_stream}
+use Rattle.theorems.proofs.SeamlessRun.{own-frames, own-many}
+
+-- ---- lists of frames
+
+-- frames with the same needs and the same sounds are the same
+pub frames-same : (xs ys : List RunFrame) → run_needs xs ≡ run_needs ys → sounds xs ≡ sounds ys
+    → xs ≡ ys
+frames-same [] [] needs sounding = refl
+frames-same [] (y ∷ ys) needs sounding =
+    absurd (omega (arith, ap (λ (l : List Need). length l) needs))
+frames-same (x ∷ xs) [] needs sounding =
+    absurd (omega (arith, ap (λ (l : List Need). length l) needs))
+frames-same (x ∷ xs) (y ∷ ys) needs sounding =
+    let need : x.need ≡ y.need = cc in
+    let sound : x.sound ≡ y.sound = cc in
+    let more_needs : run_needs xs ≡ run_needs ys = cc in
+    let more_sounds : sounds xs ≡ sounds ys = cc in
+    ap₂ (λ (f : RunFrame) (fs : List RunFrame). f ∷ fs)
+    (ap₂ (λ (n : Need) (s : List ℕ). record { need = n; sound = s }) need sound)
+    (frames-same xs ys more_needs more_sounds)
+
+-- rows of which none is lost stay when lost ones are emptied
+pub none-emptied : (rows : List Row)
+    → ((i : ℕ) (r : Row) → slice_get rows i ≡ Some r → r.lost ≡ false) → map emptied_row rows ≡ rows
+none-emptied [] kept = refl
+none-emptied (r ∷ rows) kept =
+    ap₂ (λ (x : Row) (xs : List Row). x ∷ xs)
+    (ap (λ b. cond b (record r { side = no_side; lost = false }) r) (kept 0 r refl))
+    (none-emptied rows (λ i q found. kept (suc i) q found))
+
+-- ---- what laid frames need
+
+-- what a frame needs as it is laid
+abbrev pub frame_need : Frame → Need
+frame_need f = record { header = f.kept.header; bytes = payload_bytes f.kept.side }
+
+-- rows of laid frames need what the frames do
+pub rows-needs : (at : ℕ) (fs : List Frame) → map need_of (rows_from at fs) ≡ map frame_need fs
+rows-needs at [] = refl
+rows-needs at (f ∷ fs) =
+    ap (λ (l : List Need). frame_need f ∷ l) (rows-needs (at + frame_length f) fs)
+
+begun-bytes : (s : Side) (begin : ℕ)
+    → payload_bytes (record s { main_data_begin = begin }) ≡ payload_bytes s
+unfolding payload_bytes payload_bits
+begun-bytes s begin = refl
+
+moved-need : (class : ClassFields) (need : Need) (f : Frame) (p : Placed) → IsEntry class f
+    → need.header ≡ f.kept.header
+    → need.bytes ≡ length f.payload → Contains (own_choice need.header) p.slot
+    → frame_need (moved_to p f) ≡ need
+moved-need class need f p entry header bytes slot =
+    let same : p.slot ≡ need.header.slot = sym (only_one need.header.slot p.slot slot) in
+    ap₂ (λ (h : HeaderFields) (n : ℕ). record { header = h; bytes = n })
+    (ap₂ (λ (s : SlotFields) (h : HeaderFields). record h { slot = s }) same (sym header))
+    (begun-bytes f.kept.side p.begin ∙ sym entry.size ∙ sym bytes)
+
+relaid-cons-by : (b : Bool) (p : Placed) (placed : List Placed) (f : Frame) (fs : List Frame)
+    → p.lead_in ≡ b
+    → relaid (f ∷ fs) (p ∷ placed) ≡ one b p f ∷ relaid (left_behind b f fs) placed
+relaid-cons-by b p placed f fs is =
+    relaid-cons p placed f fs
+    ∙ ap (λ lead_in. one lead_in p f ∷ relaid (left_behind lead_in f fs) placed) is
+
+-- frames that are laid in their own slots need what the plan was made for
+pub own-needs : (class : ClassFields) (needs : List Need) (fs : List Frame) (placed : List Placed)
+    → AreEntries class fs → AreNeedsOf needs fs
+    → AreOwn needs placed → map frame_need (relaid fs placed) ≡ needs
+unfolding AreFor relaid
+own-needs class [] [] placed entries are own = refl
+own-needs class [] (f ∷ fs) placed entries are own = absurd are
+own-needs class (need ∷ needs) [] placed entries are own = absurd are
+own-needs class (need ∷ needs) (f ∷ fs) [] entries are own = absurd own
+own-needs class (need ∷ needs) (f ∷ fs) (p ∷ placed) entries are own =
+    ap (map frame_need) (relaid-cons-by false p placed f fs own.0)
+    ∙ ap₂ (λ (x : Need) (xs : List Need). x ∷ xs)
+    (moved-need class need f p entries.0 are.0 are.1 own.1)
+    (own-needs class needs fs placed entries.1 are.2 own.2)
+
+-- what a lead-in and the frames after it need
+pub record LedNeeds (window : ℕ) (needs : List Need) (at : ℕ) (fs : List Frame) : Type 0 where
+  pub header : HeaderFields
+  pub are : map frame_need fs ≡ record { header = header; bytes = 0 } ∷ needs
+  pub lead : lead_in_header window needs ≡ Some header
+  pub blank : begins_blank (rows_from at fs) ≡ true
+
+-- frames that are laid after their lead-in need what it and they do
+pub led-needs : (class : ClassFields) (window at : ℕ) (needs : List Need) (fs : List Frame)
+    (placed : List Placed) → IsClass class → AreEntries class fs
+    → AreNeedsOf needs fs → AreLed window needs placed → FitsFrom window 0 needs placed
+    → LedNeeds window needs at (relaid fs placed)
+unfolding AreLed FitsFrom IsLeadInHeader
+led-needs class window at [] fs placed known entries are led fits = absurd led
+led-needs class window at (need ∷ needs) [] placed known entries are led fits = absurd are
+led-needs class window at (need ∷ needs) (f ∷ fs) [] known entries are led fits = absurd led
+led-needs class window at (need ∷ needs) (f ∷ fs) (p ∷ placed) known entries are led fits =
+    let header : HeaderFields = record need.header { protected = false; slot = p.slot } in
+    let of_class : IsClass (class_of f.kept.header) = subst IsClass (sym entries.0.class) known in
+    let cons = relaid-cons-by true p placed f fs led.0 in
+    let none : p.begin ≡ 0 = omega (arith, fits.0) in
+    record {
+      header = header;
+      are = ap (map frame_need) cons
+          ∙ ap₂ (λ (x : Need) (xs : List Need). x ∷ xs)
+          (ap₂ (λ (h : HeaderFields) (n : ℕ).
+          record { header = record h { protected = false; slot = p.slot }; bytes = n })
+          (sym are.0)
+          (begun-bytes no_side p.begin ∙ no_bytes))
+          (own-needs class (need ∷ needs) (f ∷ fs) placed entries are led.2);
+      lead = lead-in-is window need needs header
+          (subst (λ (h : HeaderFields). IsClass (class_of h)) (sym are.0) of_class) (led.1, refl);
+      blank = ap (λ (l : List Frame). begins_blank (rows_from at l)) cons
+          ∙ ap (λ n.
+          list_all (λ bit. bit == 0)
+          (side_bits (class_of f.kept.header) (record no_side { main_data_begin = n })))
+          none
+          ∙ none-zero (class_of f.kept.header) of_class;
+    }
+
+-- ---- one file
+
+placed-some : (window reach : ℕ) (needs : List Need) (placed : List Placed)
+    → FitsFrom window reach needs placed → 0 < length needs → 0 < length placed
+unfolding FitsFrom
+placed-some window reach [] placed fits some = absurd (omega (arith, some))
+placed-some window reach (need ∷ needs) [] fits some = absurd fits
+placed-some window reach (need ∷ needs) (p ∷ placed) fits some = omega arith
+
+-- the stream of frames after their lead-in
+led-frames : (window : ℕ) (needs : List Need) (placed : List Placed) (stream : List StreamFrame)
+    → length stream ≡ length needs → AreLed window needs placed
+    → (f : StreamFrame) × (fs : List StreamFrame) × (stream ≡ f ∷ fs)
+    × (with_lead_ins placed stream ≡ silent_before f ∷ stream)
+    × (length placed ≡ length needs + 1)
+unfolding AreLed
+led-frames window [] placed stream same led = absurd led
+led-frames window (need ∷ needs) [] stream same led = absurd led
+led-frames window (need ∷ needs) (p ∷ placed) [] same led = absurd (omega (arith, same))
+led-frames window (need ∷ needs) (p ∷ placed) (f ∷ fs) same led = (
+  f,
+  fs,
+  refl,
+  one-on true p placed f fs led.0
+      ∙ ap (λ (l : List StreamFrame). silent_before f ∷ l)
+      (own-frames (need ∷ needs) (f ∷ fs) placed same led.2),
+  omega (arith, own-many (need ∷ needs) placed led.2),
+)
+
+-- these frames and no lead-in
+pub record BringsOwn (class : ClassFields) (p : Part) (is : IsInput class p)
+    (frames : List RunFrame) (own : List StreamFrame) : Type 0 where
+  pub frames_are : (brought_by p).frames ≡ frames
+  pub rows_need : map need_of p.survey.frames ≡ run_needs frames
+  pub stream_is : whole_stream class p is ≡ own
+
+-- these frames after a lead-in, which the input has in front
+pub record BringsLed (class : ClassFields) (p : Part) (is : IsInput class p)
+    (frames : List RunFrame) (own : List StreamFrame) : Type 0 where
+  pub lead_in : RunFrame
+  pub frames_are : (brought_by p).frames ≡ lead_in ∷ frames
+  pub empty : lead_in.need.bytes ≡ 0
+  pub header : lead_in_header (window_of class.version) (run_needs frames)
+      ≡ Some lead_in.need.header
+  pub rows_need : map need_of p.survey.frames ≡ lead_in.need ∷ run_needs frames
+  pub has : has_lead_in (window_of class.version) (brought_by p) ≡ true
+  pub first : StreamFrame
+  pub rest : List StreamFrame
+  pub own_is : own ≡ first ∷ rest
+  pub stream_is : whole_stream class p is ≡ silent_before first ∷ own
+
+module _ (laid : Laid) (file : List ℕ) (s : SurveyFields) (has : HasSurvey file s)
+    (some : laid.from < laid.to) (within : laid.to ≤ length s.frames)
+    (fitting : IsFitting (window_of s.class.version) (needs_laid laid s) laid.placed)
+    (long : length laid.extension ≡ 36) where
+  abbrev window : ℕ
+  window = window_of s.class.version
+
+  abbrev needs : List Need
+  needs = needs_laid laid s
+
+  abbrev part : Part
+  part = part_laid laid file s
+
+  abbrev frames : List Frame
+  frames = frames_laid laid file s
+
+  abbrev own : List StreamFrame
+  own = stream_in part
+
+  -- its frames as those of a run
+  abbrev pub own_run : List RunFrame
+  own_run = map (run_frame s.class) (zip (slice_range s.frames laid.from laid.to) own)
+
+  abbrev info : Info
+  info = info_laid laid file s
+
+  part-is : IsPart s.class part
+  part-is = record { has = has; class = refl; some = some; within = within }
+
+  own-length : length own ≡ length needs
+  own-length = (part-sized s.class part part-is).same
+
+  -- there are as many needs as frames
+  pub needs-many : length needs ≡ laid.to - laid.from
+  needs-many =
+      length-map (slice_range s.frames laid.from laid.to) need_of
+      ∙ length-take-le (laid.to - laid.from) (drop laid.from s.frames)
+      (omega (arith, length-drop laid.from s.frames, within))
+
+  frames-some : 0 < length frames
+  frames-some =
+      omega (
+        arith,
+        placed-some window 0 needs laid.placed fitting.fits (omega (arith, needs-many, some)),
+        length-map frames slot_in,
+        ap (λ (l : List SlotFields). length l) (laid-slots laid file s has some within fitting),
+        length-map laid.placed (λ (p : Placed). p.slot),
+      )
+
+  -- they can be laid, and are the frames of their stream with the lead-ins of the plan
+  pub laid-as : AreLaidAs s.class frames (with_lead_ins laid.placed own)
+  laid-as =
+      let are = fitting-laid s.class part laid.placed part-is fitting in
+      record {
+        some = frames-some;
+        entries = are.entries;
+        fit = are.fit;
+        stream_is =
+            are.stream_is ∙ ap (with_lead_ins laid.placed) (part-stream s.class part part-is);
+      }
+
+  class-known : IsClass s.class
+  class-known =
+      let first = first-there s.frames laid.from (omega (arith, some, within)) in
+      let row = has.placed laid.from first.0 first.1 in
+      subst IsClass row.class_is (IsClass-class_of first.0.header row.known)
+
+  needs-are : AreNeedsOf needs (frames_in part)
+  needs-are = part-needs s.class part part-is
+
+  entries-are : AreEntries s.class (frames_in part)
+  entries-are = part-entries s.class part part-is
+
+  -- ---- as an input
+
+  -- the file, with any blocks behind its frames
+  module _ (row : Row) (row_is : slice_get s.frames laid.from ≡ Some row) (back : List (List ℕ))
+      (behind : IsBlocks back) where
+    abbrev pub made : List ℕ
+    made = laid_file (front_blocks file s) row.header info frames back
+
+    abbrev fields : SurveyFields
+    fields = laid_fields (front_blocks file s) row.header info frames back
+
+    made-laid : IsLaidFile s.class (front_blocks file s) row.header info frames back
+    made-laid =
+        let placed_row = has.placed laid.from row row_is in
+        record {
+          blocks_before = (blocks-kept file s has).0;
+          header = placed_row.known;
+          class = placed_row.class_is;
+          sizes = record {
+            table = length-map (range_with_len 0 100) (table_entry s.class frames)
+                ∙ length-range_with_len 0 100;
+            extension = long;
+          };
+          some = laid-as.some;
+          entries = laid-as.entries;
+          laid = laid-as.fit;
+          blocks_behind = behind;
+        }
+
+    module _ (c : ClassFields) (p : Part) (is : IsInput c p)
+        (same_file : p.file ≡ made) where
+      told : fields ≡ p.survey
+      told =
+          let many : ℕ = length made + length frames + 1 in
+          let e : surveyed made is.allowed ≡ Ok p.survey =
+          subst (λ l. surveyed l is.allowed ≡ Ok p.survey) same_file
+          (survey_of-parts p.file is.allowed p.survey is.surveyed).1 in
+          let one : Ok p.survey ≡ Ok fields =
+          sym (surveyed-allowed made is.allowed many p.survey (omega arith) e)
+          ∙ laid-survey s.class (front_blocks file s) row.header info frames back
+          many made-laid (omega arith) in
+          cc
+
+      -- the class of the input is that of the file
+      pub class-same : c ≡ s.class
+      unfolding laid_fields
+      class-same =
+          sym is.of_class ∙ ap (λ (t : SurveyFields). t.class) (sym told)
+          ∙ (has.placed laid.from row row_is).class_is
+
+      none-lost : HasNoneLost p.survey
+      none-lost =
+          (laid-frames-stay s.class (front_blocks file s) row.header info frames back
+          made-laid).none
+          is.allowed p.survey
+          (subst (λ l. surveyed l is.allowed ≡ Ok p.survey) same_file
+          (survey_of-parts p.file is.allowed p.survey is.surveyed).1)
+
+      apart-same : apart p.survey ≡ p.survey
+      apart-same =
+          ap emptied none-lost.apart
+          ∙ ap (λ (rows : List Row). record p.survey { frames = rows })
+          (none-emptied p.survey.frames none-lost.kept)
+
+      -- the stream of the input is that of its frames
+      pub input-stream : whole_stream c p is ≡ with_lead_ins laid.placed own
+      input-stream =
+          ap (λ (t : SurveyFields). stream_of_survey p.file t) apart-same
+          ∙ sym (stream-is p.file is.allowed p.survey is.surveyed)
+          ∙ ap stream_of same_file
+          ∙ (laid-stream s.class (front_blocks file s) row.header info frames back
+          made-laid).stream_is
+          ∙ laid-as.stream_is
+
+      abbrev at : ℕ
+      at = frames_place (front_blocks file s) row.header info
+
+      rows-are : p.survey.frames ≡ rows_from at frames
+      unfolding laid_fields
+      rows-are = ap (λ (t : SurveyFields). t.frames) (sym told)
+
+      -- its rows need what its frames do
+      pub input-rows : map need_of p.survey.frames ≡ map frame_need frames
+      input-rows = ap (map need_of) rows-are ∙ rows-needs at frames
+
+      -- and so do the frames that it brings
+      pub input-needs : run_needs (brought_by p).frames ≡ map frame_need frames
+      input-needs =
+          brought-needs c p is ∙ ap (λ (t : SurveyFields). map need_of t.frames) apart-same
+          ∙ input-rows
+
+      input-sounds : sounds (brought_by p).frames
+          ≡ map (sound_of s.class) (with_lead_ins laid.placed own)
+      input-sounds = brought-sounds c p is ∙ ap (map (sound_of c)) input-stream
+          ∙ ap (λ d. map (sound_of d) (with_lead_ins laid.placed own)) class-same
+
+      -- its head is the Info frame
+      pub head-is : p.survey.head
+          ≡ Some (head_at (length (concat (front_blocks file s))) row.header)
+      unfolding laid_fields
+      head-is = ap (λ (t : SurveyFields). t.head) (sym told)
+
+      -- its blocks in front are those of the file
+      pub front-same : (many : ℕ) (t : SurveyFields) → surveyed file many ≡ Ok t
+          → front_blocks file t ≡ front_blocks file s
+          → front_blocks p.file p.survey ≡ front_blocks file s
+      front-same many t e same =
+          ap₂ (λ (f : List ℕ) (t : SurveyFields). front_blocks f t) same_file (sym told)
+          ∙ ap (λ (front : List (List ℕ)).
+          front_blocks (laid_file front row.header info frames back)
+          (laid_fields front row.header info frames back)) (sym same)
+          ∙ front-stays file t many e row.header info frames back
+          ∙ same
+
+      own-run-needs : run_needs own_run ≡ needs
+      own-run-needs =
+          let rows : List Row = slice_range s.frames laid.from laid.to in
+          run-needs s.class rows own (own-length ∙ length-map rows need_of)
+
+      own-run-sounds : sounds own_run ≡ map (sound_of s.class) own
+      own-run-sounds =
+          let rows : List Row = slice_range s.frames laid.from laid.to in
+          run-sounds s.class rows own (own-length ∙ length-map rows need_of)
+
+      -- in their own slots it brings them alone
+      pub brings-own : AreOwn needs laid.placed → BringsOwn c p is own_run own
+      brings-own in_own =
+          let all : with_lead_ins laid.placed own ≡ own =
+          own-frames needs own laid.placed own-length in_own in
+          record {
+            frames_are =
+                frames-same (brought_by p).frames own_run
+                (input-needs
+                ∙ own-needs s.class needs (frames_in part) laid.placed entries-are needs-are in_own
+                ∙ sym own-run-needs)
+                (input-sounds ∙ ap (map (sound_of s.class)) all ∙ sym own-run-sounds);
+            rows_need =
+                input-rows
+                ∙ own-needs s.class needs (frames_in part) laid.placed entries-are needs-are in_own
+                ∙ sym own-run-needs;
+            stream_is = input-stream ∙ all;
+          }
+
+      -- after their lead-in it brings them after it
+      pub brings-led : AreLed window needs laid.placed → BringsLed c p is own_run own
+      unfolding has_lead_in
+      brings-led led =
+          let lead_needs =
+          led-needs s.class window at needs (frames_in part) laid.placed class-known entries-are
+          needs-are led fitting.fits in
+          let all = led-frames window needs laid.placed own own-length led in
+          let lead_need : Need = record { header = lead_needs.header; bytes = 0 } in
+          let lead_in : RunFrame =
+          record { need = lead_need; sound = sound_of s.class (silent_before all.0) } in
+          let all_needs : run_needs (brought_by p).frames ≡ lead_need ∷ needs =
+          input-needs ∙ lead_needs.are in
+          let leads : leads_others window (run_needs (brought_by p).frames) ≡ true =
+          ap (leads_others window) all_needs ∙ ap (is_header lead_needs.header) lead_needs.lead
+          ∙ (bytes_eq-Decides (header_bits lead_needs.header) (header_bits lead_needs.header)).1
+          refl in
+          record {
+            lead_in = lead_in;
+            frames_are =
+                frames-same (brought_by p).frames (lead_in ∷ own_run)
+                (all_needs ∙ ap (λ (l : List Need). lead_need ∷ l) (sym own-run-needs))
+                (input-sounds ∙ ap (map (sound_of s.class)) all.3
+                ∙ ap (λ (l : List (List ℕ)). sound_of s.class (silent_before all.0) ∷ l)
+                (sym own-run-sounds));
+            empty = refl;
+            header =
+                subst (λ (d : ClassFields).
+                lead_in_header (window_of d.version) (run_needs own_run) ≡ Some lead_needs.header)
+                (sym class-same)
+                (ap (lead_in_header window) own-run-needs ∙ lead_needs.lead);
+            rows_need =
+                input-rows ∙ lead_needs.are
+                ∙ ap (λ (l : List Need). lead_need ∷ l) (sym own-run-needs);
+            has = subst
+                (λ (d : ClassFields). has_lead_in (window_of d.version) (brought_by p) ≡ true)
+                (sym class-same)
+                (and_from (brought_by p).blank
+                (leads_others window (run_needs (brought_by p).frames))
+                (ap begins_blank rows-are ∙ lead_needs.blank) leads);
+            first = all.0;
+            rest = all.1;
+            own_is = all.2;
+            stream_is = input-stream ∙ all.3;
+          }
